@@ -1,0 +1,6 @@
+pub mod Items
+pub mod Sums
+pub mod Tables
+pub mod Validity
+pub mod Faults
+pub mod ShortLaws

@@ -1,0 +1,103 @@
+//! An item bank.
+
+ghost use Rattle.std.specs.Prelude.{◌≡◌, ◌≤◌, ◌<◌, Some, None, IfOk, IfErr};
+ghost use Rattle.bank_tables.specs.Tables.{size, stimulus, categories, quantity, info, loglik};
+ghost use Rattle.bank_tables.specs.Validity.{IsBank, IsLogLik};
+ghost use Rattle.bank_tables.specs.Sums.{greatest_below};
+ghost use Rattle.bank_tables.specs.Faults.{bank_fault};
+
+use crate::rows::{ItemRow, Rows};
+use std::marker::Model;
+
+/// An item bank: rows whose numbers are within their bounds.
+#[derive(Debug, Drop)]
+pub struct Bank {
+    rows: Rows,
+}
+
+impl Model for Bank {
+    ghost use Rattle.bank_tables.specs.Tables.{Tables};
+    ghost use Rattle.bank_tables.specs.Validity.{IsBank};
+
+    ghost Value = { Tables };
+
+    ghost view = { λ b. b.rows };
+
+    ghost invariant = { λ b. IsBank b.rows };
+}
+
+impl Bank {
+    /// The number of items, 1 to 512.
+    pub fn items(&self) -> u16
+        ensures items { result ≡ size self.now }
+        ensures bank { IsBank self.now }
+    {
+        self.rows.items.as_slice().len() as u16
+    }
+
+    /// The number of points of the ability grid, 1 to 61.
+    pub fn grid(&self) -> u8
+        ensures { result ≡ self.now.grid }
+    {
+        self.rows.grid as u8
+    }
+
+    /// The number of quantities, at most 8.
+    pub fn quantities(&self) -> u8
+        ensures { result ≡ self.now.quantities }
+    {
+        self.rows.quantities as u8
+    }
+
+    fn row(&self, item: u16) -> &ItemRow
+        requires { item < size self.now }
+        ensures { result.now ≡ Rattle.bank_tables.specs.Tables.item self.now item }
+    {
+        &self.rows.items.as_slice()[item as usize]
+    }
+
+    /// The stimulus of an item; 0 is none.
+    pub fn stimulus(&self, item: u16) -> u8
+        requires { item < size self.now }
+        ensures { result ≡ stimulus self.now item }
+    {
+        self.rows.items.as_slice()[item as usize].stimulus as u8
+    }
+
+    /// The number of response categories of an item, 2 to 5.
+    pub fn categories(&self, item: u16) -> u8
+        requires { item < size self.now }
+        ensures { result ≡ categories self.now item }
+    {
+        self.rows.items.as_slice()[item as usize].categories as u8
+    }
+
+    /// A quantity of an item.
+    pub fn quantity(&self, item: u16, which: u8) -> u32
+        requires item { item < size self.now }
+        requires which { which < self.now.quantities }
+        ensures { result ≡ quantity self.now item which }
+    {
+        self.rows.items.as_slice()[item as usize].quantities.as_slice()[which as usize]
+    }
+
+    /// The information of an item at a grid point.
+    pub fn info(&self, item: u16, point: u8) -> u32
+        requires item { item < size self.now }
+        requires point { point < self.now.grid }
+        ensures { result ≡ info self.now item point }
+    {
+        self.rows.items.as_slice()[item as usize].info.as_slice()[point as usize]
+    }
+
+    /// The log-likelihood of a response to an item at a grid point.
+    pub fn loglik(&self, item: u16, response: u8, point: u8) -> i32
+        requires item { item < size self.now }
+        requires response { response < categories self.now item }
+        requires point { point < self.now.grid }
+        ensures { result ≡ loglik self.now item response point }
+    {
+        let at = response as usize * self.rows.grid as usize + point as usize;
+        self.rows.items.as_slice()[item as usize].loglik.as_slice()[at]
+    }
+}

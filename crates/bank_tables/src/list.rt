@@ -1,0 +1,41 @@
+//! A list of values.
+
+ghost use Rattle.std.specs.Prelude.{◌≡◌};
+
+use std::marker::Model;
+
+/// A list, which contracts see as such: a thin type over `Vec` for the fields of plain types.
+#[derive(Debug, Drop)]
+pub struct List<T> {
+    items: Vec<T>,
+}
+
+impl<T> Model for List<T> {
+    ghost Value = { Rattle.std.specs.Prelude.List T };
+
+    ghost view = { λ l. l.items.items };
+}
+
+impl<T> List<T> {
+    /// The list of a vector's elements.
+    pub fn of(items: Vec<T>) -> List<T>
+        ensures { result ≡ items.items }
+    {
+        List { items }
+    }
+
+    /// Its elements.
+    pub fn as_slice(&self) -> &[T]
+        ensures { result.now ≡ self.now }
+    {
+        &self.items
+    }
+
+    /// The vector of its elements.
+    pub fn into_vec(self) -> Vec<T>
+        ensures { result.items ≡ self }
+    {
+        let List { items } = self;
+        items
+    }
+}

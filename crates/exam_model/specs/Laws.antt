@@ -1,0 +1,54 @@
+-- What the definitions imply, as the public laws state it.
+use Rattle.std.specs.Prelude.{◌≡◌, ℕ, ◌*◌, ◌<◌, List, ℤ, pos, ◌≤ℤ◌, true, false, IsTrue, IsFalse, Option, Some, None}
+use Rattle.bank_tables.specs.Items.{Set}
+use Rattle.bank_tables.specs.Tables.{Tables}
+use Rattle.exam_model.specs.declared.verdict.Verdict.{Verdict}
+use Rattle.exam_model.specs.declared.verdict.Verdict.TheVariants.{Optimal, NoForm}
+use Rattle.exam_model.specs.Problem.{Problem}
+use Rattle.exam_model.specs.Forms.{Form, Best, Firm, HasNoForm, objective}
+use Rattle.exam_model.specs.Paths.{Path, Under}
+use Rattle.exam_model.specs.Relaxed.{Multipliers, IsRelaxedMaximum}
+use Rattle.exam_model.specs.Counting.{is_impossible}
+use Rattle.exam_model.specs.ProofTrees.{ProofTree}
+use Rattle.exam_model.specs.Verdicts.{IsVerdict}
+use Rattle.exam_model.specs.Ability.{AnswerList, IsPosteriorMode}
+use Rattle.exam_model.specs.Serving.{IsNext}
+
+-- 256 times the objective of a form on a path is at most the relaxed maximum there, whatever the multipliers
+abbrev pub WeakDuality : Type 0
+WeakDuality = (P : Problem) (p : Path) (v : Multipliers) (r : ℤ) (X : Set) → IsRelaxedMaximum P p v false r → Under P p X → pos (256 * objective P X) ≤ℤ r
+
+-- a ray's relaxed maximum is not negative where a form is on the path
+abbrev pub RayIsNotNegative : Type 0
+RayIsNotNegative = (P : Problem) (p : Path) (v : Multipliers) (r : ℤ) (X : Set) → IsRelaxedMaximum P p v true r → Under P p X → pos 0 ≤ℤ r
+
+-- a row that is impossible by counting leaves no form on the path
+abbrev pub CountingIsSound : Type 0
+CountingIsSound = (P : Problem) (p : Path) (X : Set) (r : ℕ) → IsTrue (is_impossible P p r) → Under P p X → ⊥
+
+abbrev pub BestIsFirm : Type 0
+BestIsFirm = (P : Problem) (X : Set) → Best P X → Firm P X
+
+abbrev pub OptimalIsBest : Type 0
+OptimalIsBest = (P : Problem) (X : Set) (T : ProofTree) → IsVerdict P (Some X) T Optimal → Best P X
+
+abbrev pub NoFormIsNone : Type 0
+NoFormIsNone = (P : Problem) (T : ProofTree) → IsVerdict P None T NoForm → HasNoForm P
+
+-- a grid with points has one posterior mode
+abbrev pub SomeMode : Type 0
+SomeMode = (b : Tables) (prior : List ℤ) (answers : AnswerList) → 0 < b.grid → (point : ℕ) × IsPosteriorMode b prior answers point
+
+abbrev pub OneMode : Type 0
+OneMode = (b : Tables) (prior : List ℤ) (answers : AnswerList) (p q : ℕ) → IsPosteriorMode b prior answers p → IsPosteriorMode b prior answers q → p ≡ q
+
+-- a form with an item not yet given has one next item
+abbrev pub SomeNext : Type 0
+SomeNext = (P : Problem) (X : Set) (item : ℕ) → Form P X → IsTrue (X item) → IsFalse (P.given item) → (next : ℕ) × IsNext P X next
+
+abbrev pub OneNext : Type 0
+OneNext = (P : Problem) (X : Set) (i j : ℕ) → IsNext P X i → IsNext P X j → i ≡ j
+
+-- a tree has at most one verdict
+abbrev pub OneVerdict : Type 0
+OneVerdict = (P : Problem) (X : Option Set) (T : ProofTree) (v w : Verdict) → IsVerdict P X T v → IsVerdict P X T w → v ≡ w

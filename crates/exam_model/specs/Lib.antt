@@ -1,0 +1,15 @@
+pub mod Plan
+pub mod Problem
+pub mod Forms
+pub mod Breaches
+pub mod Paths
+pub mod Counting
+pub mod Relaxed
+pub mod ProofTrees
+pub mod Verdicts
+pub mod Spending
+pub mod Ability
+pub mod Serving
+pub mod Seats
+pub mod Validity
+pub mod Laws

@@ -1,0 +1,26 @@
+-- The numbers of a plan.
+use Rattle.std.specs.Prelude.{ℕ, ◌-◌, [], get_or}
+use Rattle.exam_model.specs.declared.draft.Draft.{Draft}
+use Rattle.exam_model.specs.declared.row.Row.{Row}
+use Rattle.exam_model.specs.declared.row.Row.TheVariants.{Count}
+use Rattle.exam_model.specs.declared.row.StimulusBound.{StimulusBound}
+
+-- a plan is the numbers of a draft; the base, if there is one, is the words of a set of items
+abbrev pub Plan : Type 0
+Plan = Draft
+
+-- what stands past the last row
+abbrev pub no_row : Row
+no_row = Count [] 0 0
+
+-- what stands past the last bound
+abbrev pub no_bound : StimulusBound
+no_bound = record { low = 0; high = 0 }
+
+-- row r of the plan, from 0 on
+abbrev pub row_at : Plan → ℕ → Row
+row_at plan r = get_or plan.rows r no_row
+
+-- the bounds of stimulus s, from 1 on
+abbrev pub bound_at : Plan → ℕ → StimulusBound
+bound_at plan s = get_or plan.bounds (s - 1) no_bound

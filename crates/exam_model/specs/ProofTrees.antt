@@ -1,0 +1,35 @@
+-- The shape of proof trees.
+use Rattle.std.specs.Prelude.{◌≡◌, ℕ, zero, suc, ◌+◌, ◌<◌, ◌≤◌, List, [], ◌∷◌, length, get_or, All}
+use Rattle.exam_model.specs.declared.node.Node.{Node}
+use Rattle.exam_model.specs.declared.node.Node.TheVariants.{BranchItem, BranchStimulus}
+use Rattle.exam_model.specs.Relaxed.{Multipliers}
+
+-- vectors of multipliers, and nodes in preorder
+pub record ProofTree : Type 0 where
+  pub vectors : List Multipliers
+  pub nodes : List Node
+
+abbrev pub vector_at : ProofTree → ℕ → Multipliers
+vector_at T v = get_or T.vectors v []
+
+-- sides strictly ascending from a number on, and multipliers from 1 to 2 ^ 24
+abbrev pub IsVector : ℕ → Multipliers → Type 0
+IsVector from [] = Unit {0}
+IsVector from (pair ∷ pairs) = (from ≤ pair.0) × (0 < pair.1) × (pair.1 ≤ 16777216) × IsVector (pair.0 + 1) pairs
+
+-- the nodes in preorder are so many whole binary trees
+abbrev pub AreTrees : ℕ → List Node → Type 0
+AreTrees zero [] = Unit {0}
+AreTrees (suc wait) [] = ⊥
+AreTrees zero (node ∷ nodes) = ⊥
+AreTrees (suc wait) (BranchItem i ∷ nodes) = AreTrees (suc (suc wait)) nodes
+AreTrees (suc wait) (BranchStimulus s ∷ nodes) = AreTrees (suc (suc wait)) nodes
+AreTrees (suc wait) (node ∷ nodes) = AreTrees wait nodes
+
+-- at most 32 vectors of sides below 384, and at most 4,095 nodes, which are one tree
+pub record IsProofTree (T : ProofTree) : Type 0 where
+  pub few_vectors : length T.vectors ≤ 32
+  pub vectors : (v : ℕ) → v < length T.vectors → IsVector 0 (vector_at T v)
+  pub sides : (v : ℕ) → v < length T.vectors → All (λ pair. pair.0 < 384) (vector_at T v)
+  pub few_nodes : length T.nodes ≤ 4095
+  pub one_tree : AreTrees 1 T.nodes
