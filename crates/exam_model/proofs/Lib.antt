@@ -1,0 +1,11 @@
+pub mod SumLaws
+pub mod Duality
+pub mod CountingLaws
+pub mod TreeLaws
+pub mod Reduced
+pub mod Greatest
+pub mod BreachLaws
+pub mod Bettering
+pub mod OneVerdict
+pub mod OneMode
+pub mod SomeMode

@@ -1,0 +1,4 @@
+use Rattle.exam_model.proofs.laws.some_next.Goals as goal
+
+pub returns : goal.returns
+returns c = ?

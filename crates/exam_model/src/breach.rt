@@ -1,0 +1,16 @@
+//! Why a set of items is no form.
+
+/// The first breach, with the value found.
+#[derive(Clone, Copy, Debug, PartialEq, Eq)]
+pub enum Breach {
+    /// The set hasn't as many items as the test, or has an item that the bank hasn't; its number of items.
+    Length(u32),
+    /// The row doesn't hold; what the set comes to on it.
+    Row(u8, u32),
+    /// The stimulus has a number of items out of its bounds; that number.
+    Stimulus(u8, u32),
+    /// The set lacks this item, which was given.
+    Given(u16),
+    /// The set has this item, which is barred.
+    Barred(u16),
+}

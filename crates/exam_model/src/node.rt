@@ -1,0 +1,20 @@
+//! The nodes of a proof tree.
+
+/// A node; a branch has two subtrees behind it in preorder, left first.
+#[derive(Clone, Copy, Debug, PartialEq, Eq)]
+pub enum Node {
+    /// Left, the item is in the form; right, it isn't.
+    BranchItem(u16),
+    /// Left, the stimulus has an item in the form; right, it hasn't.
+    BranchStimulus(u8),
+    /// No better form is here: the relaxed maximum of this vector is too low.
+    Bound(u8),
+    /// No form is here: with weights 0 the relaxed maximum of this vector is below 0.
+    Ray(u8),
+    /// No form is here: this row is impossible by counting.
+    Count(u8),
+    /// One set of items is left, and it is no better form.
+    Whole,
+    /// Nothing is shown.
+    Open,
+}
