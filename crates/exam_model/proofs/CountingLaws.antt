@@ -11,7 +11,7 @@ use Rattle.exam_model.specs.Paths.{Path, Under, is_chosen}
 use Rattle.exam_model.specs.Plan.{row_at, bound_at}
 use Rattle.exam_model.specs.Problem.{Problem}
 use Rattle.exam_model.proofs.SumLaws.{either, or_true, or_left, or_right, count_some, sum_in-le, either_lt}
-use Rattle.exam_model.proofs.Duality.{taken_or_free, used_chosen_or_open}
+use Rattle.exam_model.proofs.Duality.{held_is_taken_or_free, used_chosen_or_open}
 
 -- more items and more stimuli activity to more
 activity-le : (P : Problem) (row : Row) (X Y Z W : Set) → ((i : ℕ) → X i ≡ true → Y i ≡ true) → ((s : ℕ) → 0 < s → s ≤ stimuli_of P.bank → Z s ≡ true → W s ≡ true) → activity P.bank row X Z ≤ activity P.bank row Y W
@@ -22,10 +22,10 @@ activity-le P (Stimuli low high) X Y Z W items stimuli = sum_in-le (stimuli_of P
 
 module _ (P : Problem) (p : Path) (X : Set) (under : Under P p X) where
   pub in_may_hold : (i : ℕ) → X i ≡ true → taken_or_free P p i ≡ true
-  in_may_hold i e = elim (taken_or_free P p X under i e) [ inl taken ↦ or_left _ _ taken | inr free ↦ or_right _ _ free ]
+  in_may_hold i e = elim (held_is_taken_or_free P p X under i e) [ inl taken ↦ or_left _ _ taken | inr free ↦ or_right _ _ free ]
 
   in_may_use : (s : ℕ) → 0 < s → s ≤ stimuli_of P.bank → used P.bank X s ≡ true → chosen_or_open P p s ≡ true
-  in_may_use s first last e = elim (used_chosen_or_open P p X under s e) [ inl chosen ↦ or_left _ _ chosen | inr is_open ↦ or_right _ _ is_open ]
+  in_may_use s first last e = elim (used_chosen_or_open P p X under s e) [ inl chosen ↦ or_left _ _ chosen | inr opened ↦ or_right _ _ opened ]
 
   row_possible : (r : ℕ) → r < length P.plan.rows → row_impossible P p (row_at P.plan r) ≡ true → ⊥
   row_possible r within impossible =

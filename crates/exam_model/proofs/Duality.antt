@@ -19,8 +19,8 @@ rest_false false b e h = absurd (true≢false (sym e))
 
 module _ (P : Problem) (p : Path) (X : Set) (under : Under P p X) where
   -- an item of X is taken or free
-  pub taken_or_free : (i : ℕ) → X i ≡ true → (p.taken i ≡ true) ⊎ (is_free P p i ≡ true)
-  taken_or_free i has =
+  pub held_is_taken_or_free : (i : ℕ) → X i ≡ true → (p.taken i ≡ true) ⊎ (is_free P p i ≡ true)
+  held_is_taken_or_free i has =
       elim (either (p.taken i)) [
         | inl taken ↦ inl taken
         | inr not_taken ↦
@@ -39,7 +39,7 @@ module _ (P : Problem) (p : Path) (X : Set) (under : Under P p X) where
       elim (either (is_chosen P p s)) [
         | inl chosen ↦ inl chosen
         | inr not_chosen ↦
-            elim (taken_or_free i parts.0) [
+            elim (held_is_taken_or_free i parts.0) [
               | inl taken ↦ inl (or_right _ _ (and_from _ _ some (any_intro (size P.bank) (λ i. p.taken i && stimulus P.bank i == s) i within (and_from _ _ taken parts.1))))
               | inr free ↦ inr (and_from _ _ (ap not not_chosen) (and_from _ _ some (any_intro (size P.bank) (λ i. is_free P p i && stimulus P.bank i == s) i within (and_from _ _ free parts.1))))
             ]
@@ -50,7 +50,7 @@ module _ (P : Problem) (p : Path) (X : Set) (under : Under P p X) where
   form_fits = record {
     n_items = under.form.meets.right_length.n_items;
     holds_taken = under.holds_taken;
-    else_free = taken_or_free;
+    else_free = held_is_taken_or_free;
     holds_chosen = under.uses_chosen;
     else_open = λ s first last uses. used_chosen_or_open s uses;
   }

@@ -155,7 +155,7 @@ module _ (P : Problem) (p : Path) (v : Multipliers) (ray : Bool) (T : Set) (t : 
         holds_taken = λ i e. or_left (p.taken i) (T i) e;
         else_free = λ i e. elim (or_true (p.taken i) (T i) e) [ inl taken ↦ inl taken | inr new ↦ inr (top.free i new) ];
         holds_chosen = λ s first last e. or_left _ _ e;
-        else_open = λ s first last e. elim (or_true (is_chosen P p s) _ e) [ inl chosen ↦ inl chosen | inr is_open ↦ inr (and_parts (is_open P p s) _ is_open).0 ];
+        else_open = λ s first last e. elim (or_true (is_chosen P p s) _ e) [ inl chosen ↦ inl chosen | inr opened ↦ inr (and_parts (is_open P p s) _ opened).0 ];
       }
 
   reach_value : lagrangian P v ray filled (best_stimuli P p v ray) ≡ relaxed_by P p v ray T

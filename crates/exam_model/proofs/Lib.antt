@@ -9,3 +9,4 @@ pub mod Bettering
 pub mod OneVerdict
 pub mod OneMode
 pub mod SomeMode
+pub mod NextItems

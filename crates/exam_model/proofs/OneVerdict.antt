@@ -65,7 +65,7 @@ module _ (P : Problem) (X : Option Set) (T : ProofTree) (p : Path) where
   not_both (Count r) NoSide s u = u
   not_both (Count r) NotClosed s u = u
   not_both (Count r) NotNegative s u = u
-  not_both (Count r) RowPossible s u = true≢false (sym s.1 ∙ u s.0)
+  not_both (Count r) RowPossible s u = true≢false (sym s ∙ u)
   not_both (Count r) NotWhole s u = u
   not_both (Count r) Better s u = u
   not_both (Count r) OpenWhole s u = u

@@ -21,7 +21,7 @@ use Rattle.exam_model.specs.ProofTrees.{ProofTree, vector_at}
 use Rattle.exam_model.specs.Relaxed.{Multipliers}
 use Rattle.exam_model.specs.Verdicts.{only_candidate, MaximumIsAtMost, IsAtLeast, CandidateIsSettled, ClosesByBound, IsSound, below, open_leaf, verdict_of, GivesFrom}
 use Rattle.exam_model.proofs.SumLaws.{either, or_true, or_left, any_intro, any_elim, same_from_count}
-use Rattle.exam_model.proofs.Duality.{taken_or_free, weak_duality, weak_ray}
+use Rattle.exam_model.proofs.Duality.{held_is_taken_or_free, weak_duality, weak_ray}
 use Rattle.exam_model.proofs.CountingLaws.{in_may_hold, impossible_leaves_no_form}
 
 -- the items taken are of the bank
@@ -53,7 +53,7 @@ module _ (P : Problem) (p : Path) (X : Set) (under : Under P p X) (in_bank : InB
   no_free none =
       one_set p.taken X in_bank under.form.meets.right_length.in_bank (λ i within. elim (either (X i)) [
         | inl has ↦
-            elim (taken_or_free P p X under i has) [
+            elim (held_is_taken_or_free P p X under i has) [
               | inl taken ↦ taken ∙ sym has
               | inr free ↦ absurd (true≢false (sym (any_intro (size P.bank) (is_free P p) i within free) ∙ none))
             ]
@@ -221,7 +221,7 @@ all_closed P X T at met (node ∷ nodes) (p ∷ paths) verdict e gives =
     closes (BranchStimulus s) sound none rest = (stimulus_closed P X T p s sound.first rest.0 rest.1.0, rest.1.1)
     closes (Bound v) sound none rest = (bound_closed P X T p X (vector_at T v) sound.2, rest)
     closes (Ray v) sound none rest = (ray_closed P X T p (vector_at T v) sound.2, rest)
-    closes (Count r) sound none rest = (λ in_bank Y under. absurd (impossible_leaves_no_form P p Y under r sound.1), rest)
+    closes (Count r) sound none rest = (λ in_bank Y under. absurd (impossible_leaves_no_form P p Y under r sound), rest)
     closes Whole sound none rest = (λ in_bank Y under. settled_closed P p Y under in_bank X sound, rest)
     closes Open sound none rest = absurd (none (omega arith))
 

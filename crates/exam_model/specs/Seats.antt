@@ -1,5 +1,5 @@
 -- The problem of an examinee's seat.
-use Rattle.std.specs.Prelude.{◌≡◌, ℕ, ◌+◌, ◌-◌, ◌<◌, ◌≤◌, ◌⊎◌, Bool, true, false, not, ◌&&◌, ◌||◌, ◌==◌, nat_lt, List, length, slice_get, IsTrue, IsFalse, Option, Some, None, IsDistinct}
+use Rattle.std.specs.Prelude.{◌≡◌, ℕ, ◌+◌, ◌-◌, ◌<◌, ◌≤◌, ◌⊎◌, Bool, true, false, not, ◌&&◌, ◌||◌, ◌==◌, nat_lt, List, length, slice_get, IsTrue, IsFalse, Option, Some, None}
 use Rattle.std.specs.List.{list_any, zip}
 use Rattle.std.specs.Option.{option_map}
 use Rattle.bank_tables.specs.Items.{Set, has}
@@ -61,14 +61,10 @@ pub record IsPending (plan : Plan) (seat : Seat) : Type 0 where
   pub not_complete : length seat.responses < plan.length
   pub answered : length seat.shown ≡ length seat.responses
 
--- a response that the item shown with it has
-abbrev pub IsResponse : Tables → (ℕ × ℕ) → Type 0
-IsResponse b answer = answer.1 < categories b answer.0
-
 -- what a caller knows of a seat
 pub record IsSeat (b : Tables) (plan : Plan) (seat : Seat) : Type 0 where
   pub items : (i : ℕ) → IsTrue (is_shown seat i) → i < size b
-  pub once : IsDistinct seat.shown
+  pub once : (j k item : ℕ) → slice_get seat.shown j ≡ Some item → slice_get seat.shown k ≡ Some item → j ≡ k
   pub few : length seat.shown ≤ plan.length
   pub responses : (length seat.responses ≡ length seat.shown) ⊎ (length seat.responses + 1 ≡ length seat.shown)
   pub in_range : (k item response : ℕ) → slice_get seat.shown k ≡ Some item → slice_get seat.responses k ≡ Some response → response < categories b item

@@ -6,65 +6,54 @@ ghost use Rattle.exam_model.specs.Laws.{WeakDuality, RayIsNotNegative, CountingI
 /// relaxation; Geoffrion, Lagrangean Relaxation for Integer Programming, 1974).
 pub fn weak_duality()
     ensures { WeakDuality }
-{
-}
+{}
 
 /// A ray whose relaxed maximum is below 0 leaves no form on its path.
 pub fn ray_is_not_negative()
     ensures { RayIsNotNegative }
-{
-}
+{}
 
 /// A row that is impossible by counting leaves no form on its path.
 pub fn counting_is_sound()
     ensures { CountingIsSound }
-{
-}
+{}
 
 /// No exchange of one item betters a best form.
 pub fn best_is_firm()
     ensures { BestIsFirm }
-{
-}
+{}
 
 /// A tree whose verdict is Optimal shows that its form is best over all sets of items.
 pub fn optimal_is_best()
     ensures { OptimalIsBest }
-{
-}
+{}
 
 /// A tree whose verdict is NoForm shows that no set of items is a form.
 pub fn no_form_verdict_is_right()
     ensures { NoFormIsNone }
-{
-}
+{}
 
 /// A grid with points has a posterior mode.
 pub fn some_mode()
     ensures { SomeMode }
-{
-}
+{}
 
 /// It has only one.
 pub fn one_mode()
     ensures { OneMode }
-{
-}
+{}
 
 /// A form with an item not yet given has a next item.
 pub fn some_next()
     ensures { SomeNext }
-{
-}
+{}
 
 /// It has only one.
 pub fn one_next()
     ensures { OneNext }
-{
-}
+{}
 
 /// A tree has at most one verdict.
 pub fn one_verdict()
     ensures { OneVerdict }
-{
-}
+{}

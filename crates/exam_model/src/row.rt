@@ -6,7 +6,11 @@ use bank_tables::ItemSet;
 #[derive(Clone, Copy, Debug, PartialEq, Eq)]
 pub enum Row {
     /// Categorical: the number of items of a set lies between the bounds.
-    Count { set: ItemSet, low: u32, high: u32 },
+    Count {
+        set: ItemSet,
+        low: u32,
+        high: u32,
+    },
     /// Quantitative: the sum of a quantity over the items of a set lies between the bounds.
     Quantity {
         which: u8,
@@ -15,9 +19,14 @@ pub enum Row {
         high: u32,
     },
     /// Logical: at most one item of the set.
-    Enemies { set: ItemSet },
+    Enemies {
+        set: ItemSet,
+    },
     /// The number of stimuli with an item in the form lies between the bounds.
-    Stimuli { low: u32, high: u32 },
+    Stimuli {
+        low: u32,
+        high: u32,
+    },
 }
 
 /// The bounds on the number of items of one stimulus, where it has an item in the form.

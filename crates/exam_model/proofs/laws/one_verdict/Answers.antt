@@ -1,4 +1,5 @@
+use Rattle.exam_model.proofs.OneVerdict.{one_verdict}
 use Rattle.exam_model.proofs.laws.one_verdict.Goals as goal
 
 pub returns : goal.returns
-returns c = ?
+returns c = one_verdict

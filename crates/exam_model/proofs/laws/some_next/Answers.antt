@@ -1,4 +1,5 @@
+use Rattle.exam_model.proofs.NextItems.{some_next}
 use Rattle.exam_model.proofs.laws.some_next.Goals as goal
 
 pub returns : goal.returns
-returns c = ?
+returns c = some_next
