@@ -1,0 +1,10 @@
+#![tactic(auto)]
+
+mod information;
+mod problem;
+mod spec;
+
+pub use exam_model::{Breach, Draft, Rate, Row, StimulusBound};
+pub use information::objective;
+pub use problem::Problem;
+pub use spec::Spec;
