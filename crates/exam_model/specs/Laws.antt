@@ -1,9 +1,11 @@
 -- What the definitions imply, as the public laws state it.
 use Rattle.std.specs.Prelude.{◌≡◌, ℕ, ◌*◌, ◌<◌, List, ℤ, pos, ◌≤ℤ◌, true, false, IsTrue, IsFalse, Option, Some, None}
-use Rattle.bank_tables.specs.Items.{Set}
+use Rattle.bank_tables.specs.Items.{Set, has}
 use Rattle.bank_tables.specs.Tables.{Tables}
 use Rattle.exam_model.specs.declared.verdict.Verdict.{Verdict}
 use Rattle.exam_model.specs.declared.verdict.Verdict.TheVariants.{Optimal, NoForm}
+use Rattle.exam_model.specs.declared.seat.Seat.{Seat}
+use Rattle.exam_model.specs.Plan.{Plan}
 use Rattle.exam_model.specs.Problem.{Problem}
 use Rattle.exam_model.specs.Forms.{Form, Best, Firm, HasNoForm, objective}
 use Rattle.exam_model.specs.Paths.{Path, Under}
@@ -13,6 +15,7 @@ use Rattle.exam_model.specs.ProofTrees.{ProofTree}
 use Rattle.exam_model.specs.Verdicts.{IsVerdict}
 use Rattle.exam_model.specs.Ability.{AnswerList, IsPosteriorMode}
 use Rattle.exam_model.specs.Serving.{IsNext}
+use Rattle.exam_model.specs.Seats.{seat_problem, served_and_answered}
 
 -- 256 times the objective of a form on a path is at most the relaxed maximum there, whatever the multipliers
 abbrev pub WeakDuality : Type 0
@@ -52,3 +55,10 @@ OneNext = (P : Problem) (X : Set) (i j : ℕ) → IsNext P X i → IsNext P X j 
 -- a tree has at most one verdict
 abbrev pub OneVerdict : Type 0
 OneVerdict = (P : Problem) (X : Option Set) (T : ProofTree) (v w : Verdict) → IsVerdict P X T v → IsVerdict P X T w → v ≡ w
+
+-- a form that was served from stays a form of the seat's problem, at whatever estimate, once its item is answered
+abbrev pub LastFormStays : Type 0
+LastFormStays = (b : Tables) (plan : Plan) (session theta item response later : ℕ) (seat : Seat) (words : List ℕ) →
+    Form (seat_problem b plan session seat theta) (has words) →
+    IsNext (seat_problem b plan session seat theta) (has words) item →
+    Form (seat_problem b plan session (served_and_answered seat item words response) later) (has words)

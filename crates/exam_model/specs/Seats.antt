@@ -1,5 +1,5 @@
 -- The problem of an examinee's seat.
-use Rattle.std.specs.Prelude.{◌≡◌, ℕ, ◌+◌, ◌-◌, ◌<◌, ◌≤◌, ◌⊎◌, Bool, true, false, not, ◌&&◌, ◌||◌, ◌==◌, nat_lt, List, length, slice_get, IsTrue, IsFalse, Option, Some, None}
+use Rattle.std.specs.Prelude.{◌≡◌, ℕ, ◌+◌, ◌-◌, ◌<◌, ◌≤◌, ◌⊎◌, Bool, true, false, not, ◌&&◌, ◌||◌, ◌==◌, nat_lt, List, [], ◌∷◌, ◌++◌, length, slice_get, IsTrue, IsFalse, Option, Some, None}
 use Rattle.std.specs.List.{list_any, zip}
 use Rattle.std.specs.Option.{option_map}
 use Rattle.bank_tables.specs.Items.{Set, has}
@@ -54,6 +54,10 @@ pub record IsSeatProblem (b : Tables) (plan : Plan) (session : ℕ) (seat : Seat
   pub theta : ℕ
   pub mode : IsPosteriorMode b plan.prior (answers seat) theta
   pub is : P ≡ seat_problem b plan session seat theta
+
+-- the seat after an item was served from a form, and answered
+abbrev pub served_and_answered : Seat → ℕ → List ℕ → ℕ → Seat
+served_and_answered seat item words response = record seat { shown = seat.shown ++ item ∷ []; responses = seat.responses ++ response ∷ []; form = Some words }
 
 -- the seat waits for an item: it isn't closed, the test isn't complete, and each item shown is answered
 pub record IsPending (plan : Plan) (seat : Seat) : Type 0 where

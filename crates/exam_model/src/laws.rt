@@ -1,6 +1,6 @@
 //! What the definitions imply, for every problem, path, vector, tree and set of items.
 
-ghost use Rattle.exam_model.specs.Laws.{WeakDuality, RayIsNotNegative, CountingIsSound, BestIsFirm, OptimalIsBest, NoFormIsNone, SomeMode, OneMode, SomeNext, OneNext, OneVerdict};
+ghost use Rattle.exam_model.specs.Laws.{WeakDuality, RayIsNotNegative, CountingIsSound, BestIsFirm, OptimalIsBest, NoFormIsNone, SomeMode, OneMode, SomeNext, OneNext, OneVerdict, LastFormStays};
 
 /// No form on a path exceeds the relaxed maximum there, whatever the multipliers (weak duality of Lagrangian
 /// relaxation; Geoffrion, Lagrangean Relaxation for Integer Programming, 1974).
@@ -56,4 +56,9 @@ pub fn one_next()
 /// A tree has at most one verdict.
 pub fn one_verdict()
     ensures { OneVerdict }
+{}
+
+/// The form last served from stays a form: so a session that has begun never lacks one.
+pub fn last_form_stays()
+    ensures { LastFormStays }
 {}
