@@ -104,7 +104,7 @@ last_form_stays b plan session theta item response later seat words form next = 
             absurd (true≢false (sym (eq-eqb (stimulus b i) (stimulus b item) (same ∙ sym (eqb-true _ _ kept))) ∙ other))
 
     barred : (i : ℕ) → is_barred b after i ≡ true → has words i ≡ false
-    barred i e = by (or_true (is_of_stimulus_left_behind b after i) (not seat.aside && not (has seat.eligible i)) (and_true _ _ parts.1).1)
+    barred i e = by (or_true (is_of_stimulus_left_behind b after i) (not seat.aside && not (has seat.eligible i)) (and_true (not (is_shown after i)) (is_of_stimulus_left_behind b after i || (not seat.aside && not (has seat.eligible i))) parts.1).1)
       where
         parts : (nat_lt i (size b) ≡ true) × ((not (is_shown after i) && (is_of_stimulus_left_behind b after i || (not seat.aside && not (has seat.eligible i)))) ≡ true)
         parts = and_true (nat_lt i (size b)) _ e
