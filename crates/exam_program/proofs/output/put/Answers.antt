@@ -1,0 +1,32 @@
+use Rattle.std.proofs.Common.{◌≡◌, ℕ, ◌+◌, ◌≤◌, ◌++◌, List, length, take, drop, IsTrue, refl, sym, ◌∙◌, ap, subst, arith, append_assoc, rules}
+use Rattle.std.proofs.Math.Seq.{take-add}
+use Rattle.std.proofs.lemmas.List.{take-append-drop}
+use Rattle.std.proofs.Common.{true, length-drop}
+use Rattle.exam_program.specs.Writing.{WritesPart}
+use Rattle.exam_program.proofs.output.put.Goals as goal
+
+-- a piece written on top of what stood written of it
+joined : (old mid new piece : List ℕ) (done count : ℕ) → mid ≡ old ++ take done piece → new ≡ mid ++ take count (drop done piece) → new ≡ old ++ take (done + count) piece
+joined old mid new piece done count e f = f ∙ (ap (λ (xs : List ℕ). xs ++ take count (drop done piece)) e ∙ (append_assoc old (take done piece) (take count (drop done piece)) ∙ ap (λ (xs : List ℕ). old ++ xs) (sym (take-add done count piece))))
+
+pub piece-preserved : goal.piece-preserved
+piece-preserved g c =
+    record {
+      within = omega (arith, c.in-Ok.ensures.count, ap length c.split_at.ensures.back, length-drop c.piece.done c.args.piece.now);
+      written = λ told.
+          let there : g.O.Sink.tells c.piece.out ≡ true = c.piece.invariant.tells ∙ told in
+          joined _ _ _ _ _ _ (c.piece.invariant.written told) (c.in-Ok.ensures.written there ∙ ap (λ (xs : List ℕ). g.O.Sink.written c.piece.out ++ take c.in-Ok.count xs) c.split_at.ensures.back);
+      grows = search rules;
+      tells = search rules;
+      identity = search rules;
+    }
+
+pub returns-in-Err-clause-err : goal.returns-in-Err-clause-err
+returns-in-Err-clause-err g c = λ told.
+    let there : g.O.Sink.tells c.piece.out ≡ true = c.piece.invariant.tells ∙ told in
+    record {
+      part = take c.piece.done c.args.piece.now;
+      rest = drop c.piece.done c.args.piece.now;
+      written = c.in-Err.ensures.kept there ∙ c.piece.invariant.written told;
+      whole = sym (take-append-drop c.piece.done c.args.piece.now);
+    }

@@ -1,0 +1,5 @@
+#![tactic(auto)]
+
+mod command;
+mod output;
+mod script;
