@@ -101,7 +101,9 @@ impl Bank {
         requires which { which < self.now.quantities }
         ensures { result ≡ quantity self.now item which }
     {
-        self.rows.items.as_slice()[item as usize].quantities.as_slice()[which as usize]
+        self.rows.items.as_slice()[item as usize]
+            .quantities
+            .as_slice()[which as usize]
     }
 
     /// The information of an item at a grid point.
