@@ -10,3 +10,4 @@ pub mod OneVerdict
 pub mod OneMode
 pub mod SomeMode
 pub mod NextItems
+pub mod Undecided
