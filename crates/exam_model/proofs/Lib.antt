@@ -11,3 +11,4 @@ pub mod OneMode
 pub mod SomeMode
 pub mod NextItems
 pub mod Undecided
+pub mod OneBreach

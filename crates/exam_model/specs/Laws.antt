@@ -2,10 +2,12 @@
 use Rattle.std.specs.Prelude.{◌≡◌, ℕ, ◌+◌, ◌*◌, ◌^◌, ◌≤◌, ◌<◌, length, List, ℤ, pos, ◌≤ℤ◌, true, false, IsTrue, IsFalse, Option, Some, None}
 use Rattle.bank_tables.specs.Items.{Set}
 use Rattle.bank_tables.specs.Tables.{Tables}
+use Rattle.exam_model.specs.declared.breach.Breach.{Breach}
 use Rattle.exam_model.specs.declared.verdict.Verdict.{Verdict}
 use Rattle.exam_model.specs.declared.verdict.Verdict.TheVariants.{Optimal, NoForm, Partial}
 use Rattle.exam_model.specs.Problem.{Problem}
 use Rattle.exam_model.specs.Forms.{Form, Best, Firm, HasNoForm, objective}
+use Rattle.exam_model.specs.Breaches.{IsFirstBreach}
 use Rattle.exam_model.specs.Paths.{Path, root, undecided, Under}
 use Rattle.exam_model.specs.Relaxed.{Multipliers, IsRelaxedMaximum}
 use Rattle.exam_model.specs.Counting.{is_impossible}
@@ -65,3 +67,7 @@ PartialIsSmall = (P : Problem) (X : Option Set) (T : ProofTree) (k : ℕ) → Is
 -- a spent tree has at most one Open leaf more than the root has free items and open stimuli
 abbrev pub FewOpen : Type 0
 FewOpen = (P : Problem) (T : ProofTree) (budget : ℕ) → IsSpent P T budget → open_leaves T.nodes ≤ undecided P (root P) + 1
+
+-- a set of items has at most one first breach, and none where it is a form
+abbrev pub OneBreach : Type 0
+OneBreach = (P : Problem) (X : Set) (b c : Option Breach) → IsFirstBreach P X b → IsFirstBreach P X c → b ≡ c

@@ -1,6 +1,6 @@
 //! What the definitions imply, for every problem, path, vector, tree and set of items.
 
-ghost use Rattle.exam_model.specs.Laws.{WeakDuality, RayIsNotNegative, CountingIsSound, BestIsFirm, OptimalIsBest, NoFormIsNone, SomeMode, OneMode, SomeNext, OneNext, OneVerdict, PartialCountsOpen, PartialIsSmall, FewOpen};
+ghost use Rattle.exam_model.specs.Laws.{WeakDuality, RayIsNotNegative, CountingIsSound, BestIsFirm, OptimalIsBest, NoFormIsNone, SomeMode, OneMode, SomeNext, OneNext, OneVerdict, PartialCountsOpen, PartialIsSmall, FewOpen, OneBreach};
 
 /// No form on a path exceeds the relaxed maximum there, whatever the multipliers (weak duality of Lagrangian
 /// relaxation; Geoffrion, Lagrangean Relaxation for Integer Programming, 1974).
@@ -72,4 +72,9 @@ pub fn partial_is_small()
 /// A spent tree, searched depth first, leaves few leaves Open.
 pub fn few_open()
     ensures { FewOpen }
+{}
+
+/// A set of items has at most one first breach.
+pub fn one_breach()
+    ensures { OneBreach }
 {}
