@@ -8,7 +8,7 @@ ghost use Rattle.constraint_model.specs.Views.{problem_of};
 ghost use Rattle.constraint_model.specs.Countable.{IsCountable};
 ghost use Rattle.constraint_model.specs.FirstBreaches.{IsLengthBreach, IsRowBreach, IsStimulusBreach, IsFirstMissing, IsFirstCommon, IsPlanBreach};
 
-use crate::counts::{activity, items_of, lower_bound, stimuli_of, upper_bound};
+use crate::counts::{activity, items_of, lower_bound, upper_bound};
 use crate::problem::Problem;
 use bank_tables::{Bank, ItemSet};
 use exam_model::{Breach, Draft};
@@ -46,7 +46,7 @@ fn stimulus_breach(bank: &Bank, plan: &Draft, form: &ItemSet) -> Option<(u8, u32
     ensures { IsStimulusBreach bank.now plan.now (has form.now) result }
 {
     let bounds = plan.bounds.as_slice();
-    for k in 0..stimuli_of(bank) {
+    for k in 0..bank.stimuli() {
         let bound = bounds[k as usize];
         let found = items_of(bank, k + 1, form);
         if found > 0 && found < bound.low || found > bound.high {
@@ -60,26 +60,14 @@ fn stimulus_breach(bank: &Bank, plan: &Draft, form: &ItemSet) -> Option<(u8, u32
 fn first_missing(members: &ItemSet, of: &ItemSet) -> Option<u16>
     ensures { IsFirstMissing (has members.now) (has of.now) result }
 {
-    let _below = members.count();
-    for i in 0..512 {
-        if members.has(i) && !of.has(i) {
-            return Some(i);
-        }
-    }
-    None
+    members.minus(*of).first()
 }
 
 /// The first member that both sets have.
 fn first_common(members: &ItemSet, of: &ItemSet) -> Option<u16>
     ensures { IsFirstCommon (has members.now) (has of.now) result }
 {
-    let _below = members.count();
-    for i in 0..512 {
-        if members.has(i) && of.has(i) {
-            return Some(i);
-        }
-    }
-    None
+    members.meet(*of).first()
 }
 
 /// The first breach of a plan's length, rows and stimuli, or none where the set meets the plan.

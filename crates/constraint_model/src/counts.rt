@@ -68,23 +68,11 @@ fn uses(bank: &Bank, stimulus: u8, form: &ItemSet) -> bool
     0 < stimulus && found
 }
 
-/// The greatest stimulus of the bank.
-pub fn stimuli_of(bank: &Bank) -> u8
-    ensures { result ≡ stimuli_of bank.now }
-{
-    let items = bank.items();
-    let mut greatest = 0;
-    for i in 0..items {
-        greatest = greatest.max(bank.stimulus(i));
-    }
-    greatest
-}
-
 /// How many of the stimuli from 1 to the greatest have an item in the form.
 fn stimuli_in(bank: &Bank, form: &ItemSet) -> u32
     ensures { result ≡ stimuli_in (stimuli_of bank.now) (used bank.now (has form.now)) }
 {
-    let stimuli = stimuli_of(bank);
+    let stimuli = bank.stimuli();
     let mut n = 0;
     for k in 0..stimuli {
         if uses(bank, k + 1, form) {

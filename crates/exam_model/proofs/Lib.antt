@@ -11,3 +11,5 @@ pub mod OneMode
 pub mod SomeMode
 pub mod NextItems
 pub mod Staying
+pub mod Undecided
+pub mod OneBreach
