@@ -1,3 +1,4 @@
 pub mod Commands
 pub mod Writing
 pub mod Sessions
+pub mod Scripts
