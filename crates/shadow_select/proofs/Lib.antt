@@ -1,0 +1,3 @@
+pub mod ShownLaws
+pub mod NextLaws
+pub mod ProblemLaws

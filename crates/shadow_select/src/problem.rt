@@ -1,0 +1,51 @@
+//! The next problem of a seat.
+
+ghost use Rattle.std.specs.Prelude.{◌↔◌, IsTrue, IsSome, IfSome};
+ghost use Rattle.exam_model.specs.Seats.{IsSeat, IsPending, IsSeatProblem};
+ghost use Rattle.exam_model.specs.Validity.{IsPlanFor, IsWellMade};
+ghost use Rattle.constraint_model.specs.Views.{problem_of};
+
+use crate::bar::barred_items;
+use crate::estimate::sums_of;
+use crate::shown::{last_shown, shown_items};
+use bank_tables::Bank;
+use constraint_model::{Problem, Spec};
+use exam_model::Seat;
+
+/// Whether the seat waits for an item.
+fn is_pending(spec: &Spec, seat: &Seat) -> bool
+    ensures { IsTrue result ↔ IsPending spec.now seat.now }
+{
+    let answered = seat.responses.len();
+    !seat.closed && answered < spec.length() as usize && seat.shown.len() == answered
+}
+
+/// The problem of a seat that waits for an item, with the posterior mode of its answers as estimate; none where it doesn't
+/// wait for one.
+pub fn next_problem<'a>(bank: &'a Bank, spec: &'a Spec, session: u32, seat: &Seat) -> Option<Problem<'a>>
+    requires plan { IsPlanFor bank.now spec.now }
+    requires seat { IsSeat bank.now spec.now seat.now }
+    ensures pending { IsSome result ↔ IsPending spec.now seat.now }
+    ensures problem { IfSome result (λ p. IsSeatProblem bank.now spec.now session seat.now (problem_of p)) }
+    ensures well_made { IfSome result (λ p. IsWellMade (problem_of p)) }
+{
+    if !is_pending(spec, seat) {
+        return None;
+    }
+    prove!(bank.items() <= 512);
+    let given = shown_items(bank, seat);
+    let barred = barred_items(bank, seat, &given);
+    let theta = sums_of(bank, spec, seat).mode();
+    Some(Problem {
+        bank,
+        spec,
+        session,
+        step: seat.responses.len() as u16,
+        aside: seat.aside,
+        given,
+        barred,
+        theta,
+        last: last_shown(seat),
+        start: seat.form,
+    })
+}

@@ -1,0 +1,67 @@
+//! The items that a seat was shown.
+
+ghost use Rattle.std.specs.Prelude.{◌≡◌, ℕ, ◌<◌, ◌≤◌, ◌==◌, length, slice_get, IsTrue, IfSome, Some};
+ghost use Rattle.std.specs.List.{list_any};
+ghost use Rattle.bank_tables.specs.Items.{has};
+ghost use Rattle.bank_tables.specs.Tables.{size, stimulus};
+ghost use Rattle.exam_model.specs.Seats.{is_shown, last_shown};
+ghost use Rattle.exam_model.specs.Serving.{last_stimulus};
+
+use bank_tables::{Bank, ItemSet, Short};
+use exam_model::Seat;
+
+/// The number at a place of a short list.
+pub fn number_at(list: &Short, place: usize) -> u16
+    requires { place < length list.now }
+    ensures { slice_get list.now place ≡ Some result }
+{
+    match list.get(place) {
+        Some(number) => number,
+        None => unreachable!(),
+    }
+}
+
+/// The items shown.
+pub fn shown_items(bank: &Bank, seat: &Seat) -> ItemSet
+    requires { (i : ℕ) → IsTrue (is_shown seat.now i) → i < size bank.now }
+    ensures { (i : ℕ) → has result i ≡ is_shown seat.now i }
+{
+    prove!(bank.items() <= 512);
+    let mut items = ItemSet::empty();
+    for k in 0..seat.shown.len() {
+        items = items.with(number_at(&seat.shown, k));
+    }
+    items
+}
+
+/// The stimuli of the items shown, as a set of their numbers; 0, which is no stimulus, may be among them.
+pub fn entered_stimuli(bank: &Bank, seat: &Seat) -> ItemSet
+    requires { (i : ℕ) → IsTrue (is_shown seat.now i) → i < size bank.now }
+    ensures { (s : ℕ) → has result s ≡ list_any (λ item. stimulus bank.now item == s) seat.now.shown }
+{
+    prove!(bank.items() <= 512);
+    let mut stimuli = ItemSet::empty();
+    for k in 0..seat.shown.len() {
+        let item = number_at(&seat.shown, k);
+        stimuli = stimuli.with(bank.stimulus(item) as u16);
+    }
+    stimuli
+}
+
+/// The item shown last.
+pub fn last_shown(seat: &Seat) -> Option<u16>
+    ensures { result ≡ last_shown seat.now }
+{
+    seat.shown.get(seat.shown.len().saturating_sub(1))
+}
+
+/// The stimulus of the item given last, or 0.
+pub fn last_stimulus(bank: &Bank, last: Option<u16>) -> u8
+    requires { IfSome last (λ item. item < size bank.now) }
+    ensures { result ≡ last_stimulus bank.now last }
+{
+    match last {
+        None => 0,
+        Some(item) => bank.stimulus(item),
+    }
+}
