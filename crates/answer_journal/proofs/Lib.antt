@@ -1,0 +1,9 @@
+mod Adding
+mod Crash
+mod Filling
+mod Lasting
+mod Looking
+mod Mending
+mod OpeningMoments
+mod Reading
+mod Tidying

@@ -1,0 +1,51 @@
+use Rattle.std.proofs.Common.{◌≡◌, ℕ, Option, Some, unwrap_or, refl, sym, ◌∙◌, ap, subst}
+use Rattle.answer_journal.specs.Outcome.{mended_length}
+use Rattle.answer_journal.specs.Standing.{IsAtRest}
+use Rattle.answer_journal.specs.StandingLaws.{images_give}
+use Rattle.answer_journal.proofs.Lasting.{doubtful_still, doubtful_lasting}
+use Rattle.answer_journal.proofs.journal.Journal.mend.Goals as goal
+
+pub returns-in-Ok-clause-ready : goal.returns-in-Ok-clause-ready
+returns-in-Ok-clause-ready g c =
+    let j = c.args.self.now in
+    let a = c.in-Ok.adopted in
+    let ps = c.requires.0 in
+    let payload = c.requires.1 in
+    let d = c.requires.2 in
+    let size_is : mended_length a j.length d.with_it ≡ c.length_after-self.result =
+    ap (λ (o : Option ℕ). mended_length a j.length (unwrap_or o j.length)) (sym d.doubt) ∙ sym c.length_after-self.ensures in
+    record {
+      sure = refl;
+      rest = λ told1.
+          let told = sym c.resolve_record.ensures.tells ∙ told1 in
+          subst (λ (n : ℕ). IsAtRest (g.D.Disk.content c.resolve_record.new.disk) (g.D.Disk.accounts c.resolve_record.new.disk) n) size_is (c.in-Ok.ensures.rest told ps payload d.with_it (d.is told)).0;
+    }
+
+pub returns-in-Ok-clause-mended : goal.returns-in-Ok-clause-mended
+returns-in-Ok-clause-mended g c = λ told ps payload d. (c.in-Ok.ensures.rest told ps payload d.with_it (d.is told)).1
+
+pub returns-in-Ok-clause-images : goal.returns-in-Ok-clause-images
+returns-in-Ok-clause-images g c = λ told ps payload d file i.
+    let rest = c.in-Ok.ensures.rest told ps payload d.with_it (d.is told) in
+    images_give _ _ _ rest.0 file i ∙ ap Some rest.1
+
+pub returns-in-Ok-clause-moments : goal.returns-in-Ok-clause-moments
+returns-in-Ok-clause-moments g c = λ told ps payload d.
+    let j = c.args.self.now in
+    doubtful_lasting ps payload (g.D.Disk.accounts j.disk) (g.D.Disk.accounts c.resolve_record.new.disk) j.length d.with_it (d.is told) (c.resolve_record.ensures.moments told ps payload d.with_it (d.is told))
+
+pub returns-in-Err-clause-still : goal.returns-in-Err-clause-still
+returns-in-Err-clause-still g c = λ ps payload d.
+    let j = c.args.self.now in
+    record {
+      with_it = d.with_it;
+      doubt = d.doubt;
+      is = λ told1.
+          let told = sym c.resolve_record.ensures.tells ∙ told1 in
+          doubtful_still ps payload (g.D.Disk.accounts j.disk) (g.D.Disk.accounts c.resolve_record.new.disk) j.length d.with_it (d.is told) (c.resolve_record.ensures.moments told ps payload d.with_it (d.is told));
+    }
+
+pub returns-in-Err-clause-moments : goal.returns-in-Err-clause-moments
+returns-in-Err-clause-moments g c = λ told ps payload d.
+    let j = c.args.self.now in
+    doubtful_lasting ps payload (g.D.Disk.accounts j.disk) (g.D.Disk.accounts c.resolve_record.new.disk) j.length d.with_it (d.is told) (c.resolve_record.ensures.moments told ps payload d.with_it (d.is told))

@@ -1,0 +1,11 @@
+pub mod Frame
+pub mod FrameLaws
+pub mod Frames
+pub mod Journal
+pub mod OpenFault
+pub mod OpenFaultLaws
+pub mod Outcome
+pub mod Payload
+pub mod Reading
+pub mod Standing
+pub mod StandingLaws

@@ -1,0 +1,44 @@
+-- Frames as they are read: one, all of them, and a walk as far as it has come.
+use Rattle.std.specs.Prelude.{◌≡◌, ◌≢◌, Some, map, ℕ, ◌+◌, ◌-◌, ◌*◌, ◌<◌, ◌≤◌, true, false, ◌==◌, List, [], ◌∷◌, length, take, drop, get_or}
+use Rattle.std.specs.List.{AllByRecursion}
+use Rattle.std.specs.Int.{from_be_bytes, w32}
+use Rattle.answer_journal.specs.Frames.{OfNoLength, TooShort, Payload as BehindPayload, behind, Scan, with_payload, scan, begins, payloads, front, Fits}
+use Rattle.answer_journal.specs.Payload.{bytes_of, at_of, places_of, end_of}
+use Rattle.answer_journal.specs.declared.payload.Payload.{Payload}
+use Rattle.answer_journal.specs.declared.frames.Found.{Found}
+use Rattle.answer_journal.specs.declared.frames.Found.TheVariants.{Closed, NoLength, Short, Record}
+
+-- the number that the four bytes behind a gate spell
+abbrev pub length_at : List ℕ → ℕ → ℕ
+length_at bytes at = from_be_bytes w32 (get_or bytes (at + 1) 0 ∷ get_or bytes (at + 2) 0 ∷ get_or bytes (at + 3) 0 ∷ get_or bytes (at + 4) 0 ∷ [])
+
+abbrev pub IsFound : List ℕ → ℕ → Found → Type 0
+IsFound bytes at Closed = (get_or bytes at 0 == 1) ≡ false
+IsFound bytes at NoLength = ((get_or bytes at 0 == 1) ≡ true) × (behind (drop (at + 1) bytes) ≡ OfNoLength)
+IsFound bytes at Short = ((get_or bytes at 0 == 1) ≡ true) × (behind (drop (at + 1) bytes) ≡ TooShort)
+IsFound bytes at (Record n) = ((get_or bytes at 0 == 1) ≡ true) × (1 ≤ n) × (n ≤ 131072) × (at + 5 + n < length bytes) × (n ≡ length_at bytes at) × (behind (drop (at + 1) bytes) ≡ BehindPayload (take n (drop (at + 5) bytes)) (drop (at + 5 + n) bytes))
+
+-- payloads before what the rest says
+abbrev pub with_all : List (List ℕ) → Scan → Scan
+with_all [] rest = rest
+with_all (payload ∷ payloads) rest = with_payload payload (with_all payloads rest)
+
+-- frames read whole: their payloads, and the place of the closed gate that ends them
+pub record IsRead (bytes : List ℕ) (read : List Payload) (end : ℕ) : Type 0 where
+  pub gives : payloads bytes ≡ Some (map bytes_of read)
+  pub places : map at_of read ≡ places_of 8 (map bytes_of read)
+  pub in_file : end < length bytes
+  pub closed : get_or bytes end 0 ≢ 1
+  pub before : take end bytes ≡ front (map bytes_of read)
+  pub fits : AllByRecursion Fits (map bytes_of read)
+
+-- a walk that has read these payloads, and stands at the next gate
+pub record Walked (bytes : List ℕ) (read : List Payload) (at : ℕ) : Type 0 where
+  pub in_file : at < length bytes
+  pub count : 8 + 6 * length read ≤ at
+  pub places : map at_of read ≡ places_of 8 (map bytes_of read)
+  pub place : at ≡ end_of 8 (map bytes_of read)
+  pub header : begins bytes ≡ true
+  pub scanned : with_all (map bytes_of read) (scan (length bytes - length read) at (drop at bytes)) ≡ scan (length bytes) 8 (drop 8 bytes)
+  pub before : take at bytes ≡ front (map bytes_of read)
+  pub fits : AllByRecursion Fits (map bytes_of read)

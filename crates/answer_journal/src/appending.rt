@@ -1,0 +1,77 @@
+// The device calls that add a record, and those that resolve one in doubt.
+ghost use Rattle.std.specs.Prelude.{◌≡◌, ◌≤◌, ◌<◌, ◌+◌, ◌-◌, ◌↔◌, ◌==◌, [], ◌∷◌, ◌++◌, length, slice_index, IsTrue, IfOk, OnOk, OnErr};
+ghost use Rattle.exam_edge.specs.Faults.{Rose};
+ghost use Rattle.exam_edge.specs.Images.{AtEachMoment};
+ghost use Rattle.answer_journal.specs.Frames.{front};
+ghost use Rattle.answer_journal.specs.Outcome.{mended, mended_length};
+ghost use Rattle.answer_journal.specs.Standing.{held, IsAtRest, IsEither, IsInDoubt};
+
+use crate::frames::OPEN;
+use crate::{Adopted, Frame};
+use exam_edge::{Disk, Failed};
+
+/// Writes a record behind the closed gate that ends a file of this length, and opens that gate once the record is on the
+/// disk.
+pub fn write_record<D: Disk>(disk: &mut D, size: u64, frame: &Frame) -> Result<(), Failed>
+    requires some { 9 ≤ size }
+    requires rest { IsTrue (D.tells disk.old) → IsAtRest (D.content disk.old) (D.accounts disk.old) size }
+    ensures rest { OnOk result (IsTrue (D.tells disk.old) → IsAtRest (D.content disk.new) (D.accounts disk.new) (size + 5 + length frame.now)) }
+    ensures added { OnOk result (IsTrue (D.tells disk.old) → held (D.content disk.new) ≡ held (D.content disk.old) ++ frame.now ∷ []) }
+    ensures content { OnOk result (IsTrue (D.tells disk.old)
+        → D.content disk.new ≡ front (held (D.content disk.old) ++ frame.now ∷ []) ++ 0 ∷ []) }
+    ensures moments { IsTrue (D.tells disk.old)
+        → AtEachMoment (D.accounts disk.old) (D.accounts disk.new) (IsEither (held (D.content disk.old)) frame.now) }
+    ensures grows { D.faults disk.old ≤ D.faults disk.new }
+    ensures failed { OnErr result (Rose (D.faults disk.old) (D.faults disk.new)) }
+    ensures tells { D.tells disk.new ≡ D.tells disk.old }
+    ensures identity { D.identity disk.new ≡ D.identity disk.old }
+{
+    disk.write_at(size, frame.record_bytes())?;
+    disk.sync()?;
+    disk.write_at(size - 1, &[OPEN])?;
+    disk.sync()?;
+    // The gate stands open on the disk.
+    Ok(())
+}
+
+// Whether the byte at a place reads as an open gate.
+fn gate_reads_open<D: Disk>(disk: &mut D, at: u64) -> Result<bool, Failed>
+    ensures gate { IfOk result (λ answer. IsTrue (D.tells disk.old) → at < length (D.content disk.old)
+        → answer ≡ (slice_index (D.content disk.old) at == 1)) }
+    ensures content { IsTrue (D.tells disk.old) → D.content disk.new ≡ D.content disk.old }
+    ensures accounts { IsTrue (D.tells disk.old) → D.accounts disk.new ≡ D.accounts disk.old }
+    ensures grows { D.faults disk.old ≤ D.faults disk.new }
+    ensures failed { OnErr result (Rose (D.faults disk.old) (D.faults disk.new)) }
+    ensures tells { D.tells disk.new ≡ D.tells disk.old }
+    ensures identity { D.identity disk.new ≡ D.identity disk.old }
+{
+    let mut gate = [0u8; 1];
+    let count = disk.read(at, &mut gate)?;
+    Ok(count == 1 && gate[0] == OPEN)
+}
+
+/// Keeps the record in doubt behind a file of this length where its gate reads open, and else cuts it off.
+pub fn resolve_record<D: Disk>(disk: &mut D, size: u64) -> Result<Adopted, Failed>
+    requires some { 9 ≤ size }
+    requires doubt { IsTrue (D.tells disk.old) → (ps : _) × (payload : _) × (with_it : _) × IsInDoubt ps payload (D.accounts disk.old) size with_it }
+    ensures rest { IfOk result (λ adopted. IsTrue (D.tells disk.old) → (ps : _) (payload : _) (with_it : _)
+        → IsInDoubt ps payload (D.accounts disk.old) size with_it
+        → IsAtRest (D.content disk.new) (D.accounts disk.new) (mended_length adopted size with_it)
+        × (held (D.content disk.new) ≡ mended adopted ps payload)) }
+    ensures gate { IfOk result (λ adopted. IsTrue (D.tells disk.old) → IsTrue (slice_index (D.content disk.old) (size - 1) == 1) ↔ (adopted ≡ Adopted.Kept)) }
+    ensures moments { IsTrue (D.tells disk.old) → (ps : _) (payload : _) (with_it : _)
+        → IsInDoubt ps payload (D.accounts disk.old) size with_it
+        → AtEachMoment (D.accounts disk.old) (D.accounts disk.new) (IsEither ps payload) }
+    ensures grows { D.faults disk.old ≤ D.faults disk.new }
+    ensures failed { OnErr result (Rose (D.faults disk.old) (D.faults disk.new)) }
+    ensures tells { D.tells disk.new ≡ D.tells disk.old }
+    ensures identity { D.identity disk.new ≡ D.identity disk.old }
+{
+    disk.sync()?;
+    if gate_reads_open(disk, size - 1)? {
+        return Ok(Adopted::Kept);
+    }
+    disk.cut(size)?;
+    disk.sync()?;
+    Ok(Adopted::Dropped)
+}

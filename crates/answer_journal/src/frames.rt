@@ -1,0 +1,94 @@
+// The frames of a file in memory.
+ghost use Rattle.std.specs.Prelude.{◌≡◌, ◌<◌, ◌≤◌, ◌+◌, length, IfOk, IfErr};
+ghost use Rattle.answer_journal.specs.Frames.{begins};
+ghost use Rattle.answer_journal.specs.OpenFault.{IsRefused};
+ghost use Rattle.answer_journal.specs.Reading.{IsFound, IsRead};
+
+use crate::{OpenFault, Payload};
+use std::alloc::Global;
+
+/// The first bytes of a journal.
+pub const HEADER: [u8; 8] = [b'S', b'H', b'A', b'D', b'O', b'W', b'J', b'1'];
+
+/// A journal without a record: the header and a closed gate.
+pub const EMPTY_JOURNAL: [u8; 9] = [b'S', b'H', b'A', b'D', b'O', b'W', b'J', b'1', CLOSED];
+
+/// The gate of a record that counts. Every other value is a closed gate.
+pub const OPEN: u8 = 1;
+
+/// The closed gate that is written behind a record.
+pub const CLOSED: u8 = 0;
+
+/// The length of the longest payload, in bytes.
+pub const MAX_PAYLOAD: usize = 131_072;
+
+/// What stands at a gate.
+#[derive(Clone, Copy, Debug, PartialEq, Eq)]
+pub enum Found {
+    /// The gate is closed.
+    Closed,
+    /// The gate is open, and the length behind it is none that a payload has.
+    NoLength,
+    /// The gate is open, and the file ends before the next gate.
+    Short,
+    /// The gate is open, and behind it stand a payload of so many bytes and the next gate.
+    Record(usize),
+}
+
+/// Looks at a gate and at the frame behind it.
+pub fn frame_at(bytes: &[u8], at: usize) -> Found
+    requires { at < length bytes.now }
+    ensures { IsFound bytes.now at result }
+{
+    if bytes[at] != OPEN {
+        return Found::Closed;
+    }
+    if bytes.len() - at < 5 {
+        return Found::Short;
+    }
+    let count = u32::from_be_bytes([bytes[at + 1], bytes[at + 2], bytes[at + 3], bytes[at + 4]]);
+    let count = count as usize;
+    if count == 0 || count > MAX_PAYLOAD {
+        return Found::NoLength;
+    }
+    if bytes.len() - at - 5 <= count {
+        return Found::Short;
+    }
+    Found::Record(count)
+}
+
+// Whether a file begins with the header.
+fn has_header(bytes: &[u8]) -> bool
+    requires { 9 < length bytes.now }
+    ensures { result ≡ begins bytes.now }
+{
+    bytes[..8] == HEADER[..]
+}
+
+/// Reads the frames of a file of more than nine bytes, up to the first closed gate: their payloads, and its place.
+pub fn read_frames(alloc: Global, bytes: &[u8]) -> Result<(Vec<Payload>, usize), OpenFault>
+    requires { 9 < length bytes.now }
+    ensures ok { IfOk result (λ read. IsRead bytes.now read.0.items read.1) }
+    ensures err { IfErr result (IsRefused bytes.now) }
+{
+    if !has_header(bytes) {
+        return Err(OpenFault::Header);
+    }
+    let mut payloads = Vec::new(alloc);
+    let mut at = 8;
+    'walk: loop {
+        match frame_at(bytes, at) {
+            Found::Closed => return Ok((payloads, at)),
+            Found::NoLength => return Err(OpenFault::Length(at as u64)),
+            Found::Short => return Err(OpenFault::Cut(at as u64)),
+            Found::Record(count) => {
+                let payload = bytes[at + 5..at + 5 + count].to_vec(alloc)?;
+                payloads.push(Payload {
+                    at: at as u64,
+                    bytes: payload,
+                })?;
+                at += 5 + count;
+            }
+        }
+    }
+}

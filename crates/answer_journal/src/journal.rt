@@ -1,0 +1,228 @@
+// A journal over a disk.
+ghost use Rattle.std.specs.Prelude.{◌≡◌, ◌≢◌, ◌≤◌, ◌<◌, ◌+◌, ◌-◌, ◌↔◌, ◌==◌, List, ℕ, [], ◌∷◌, ◌++◌, length, slice_index, map, max, Some, None, IsTrue, is_some, unwrap_or, IfOk, IfErr, OnOk, OnErr};
+ghost use Rattle.std.specs.Option.{ForSome};
+ghost use Rattle.exam_edge.specs.Faults.{Rose};
+ghost use Rattle.exam_edge.specs.Images.{AllImages, AtEachMoment, IsSettled, latest};
+ghost use Rattle.answer_journal.specs.Frames.{front, payloads};
+ghost use Rattle.answer_journal.specs.OpenFault.{IsAnswerTo, first_fault};
+ghost use Rattle.answer_journal.specs.Outcome.{OnFull, OnDisk, mended, mended_length};
+ghost use Rattle.answer_journal.specs.Payload.{bytes_of, at_of, places_of};
+ghost use Rattle.answer_journal.specs.Standing.{IsBeforeOrWith, IsImageOrGives, tidied};
+
+use crate::appending::{resolve_record, write_record};
+use crate::opening::open_file;
+use crate::{Frame, OpenFault, Payload};
+use exam_edge::{Disk, Failed};
+use std::alloc::Global;
+
+/// What became of a record in doubt.
+#[derive(Clone, Copy, Debug, PartialEq, Eq)]
+pub enum Adopted {
+    /// Its gate read open: it is one of the journal's records.
+    Kept,
+    /// Its gate read closed: it was cut off.
+    Dropped,
+}
+
+/// Why no record was added.
+#[derive(Clone, Copy, Debug, PartialEq, Eq)]
+pub enum AppendFault {
+    /// The journal would have this length in bytes, above its limit. Nothing was written.
+    Full(u64),
+    /// A call of the disk failed, and the disk has counted that. The record is in doubt.
+    Disk,
+}
+
+// The length once the record in doubt was kept or dropped.
+fn length_after(adopted: Adopted, size: u64, doubt: Option<u64>) -> u64
+    ensures { result ≡ mended_length adopted size (unwrap_or doubt size) }
+{
+    match adopted {
+        Adopted::Kept => match doubt {
+            Some(with_it) => with_it,
+            None => size,
+        },
+        Adopted::Dropped => size,
+    }
+}
+
+/// A journal over a disk that nobody else writes: payloads, each durable before it is acknowledged. A record is written
+/// behind the closed gate that ends the file and synced, and counts once that gate is opened and synced again.
+pub struct Journal<D: Disk> {
+    disk: D,
+    length: u64,
+    limit: u64,
+    doubt: Option<u64>,
+    ghost some: { 9 ≤ length },
+    ghost within: { length ≤ max limit 9 },
+    ghost limited: { limit ≤ 536870912 },
+    ghost doubted: { ForSome doubt (λ n. (9 ≤ n) × (n ≤ limit)) },
+}
+
+impl<D: Disk> Journal<D> {
+    ghost use Rattle.answer_journal.specs.Journal.{disk_of, length_of, limit_of, doubt_of, tells_of, content_of, accounts_of, payloads_of, IsReady, IsDoubtful};
+
+    /// Opens a file, and gives its payloads with the places of their gates. It syncs first, makes a file of at most nine
+    /// bytes an empty journal, and cuts what stands behind the first closed gate of any other. The limit of the journal's
+    /// length is in bytes, at most 536,870,912. A refusal gives the disk back.
+    pub fn open(
+        alloc: Global,
+        disk: D,
+        limit: u64,
+    ) -> Result<(Journal<D>, Vec<Payload>), (D, OpenFault)>
+        requires { limit ≤ 536870912 }
+        ensures ready { IfOk result (λ opened. IsReady opened.0) }
+        ensures limit { IfOk result (λ opened. limit_of opened.0 ≡ limit) }
+        ensures gives { IfOk result (λ opened. IsTrue (D.tells disk) → payloads (D.content disk) ≡ Some (map bytes_of opened.1.items)) }
+        ensures keeps { IfOk result (λ opened. IsTrue (D.tells disk) → payloads_of opened.0 ≡ map bytes_of opened.1.items) }
+        ensures places { IfOk result (λ opened. map at_of opened.1.items ≡ places_of 8 (map bytes_of opened.1.items)) }
+        ensures content { IfOk result (λ opened. IsTrue (D.tells disk) → content_of opened.0 ≡ tidied (D.content disk) (length_of opened.0)) }
+
+        // The first thing that is wrong with the file, if anything is, unless memory or the disk failed.
+        ensures sound { IfOk result (λ opened. IsTrue (D.tells disk) → first_fault limit (D.content disk) ≡ None) }
+        ensures why { IfErr result (λ e. IsTrue (D.tells disk) → IsAnswerTo limit (D.content disk) e.1) }
+        ensures cause { IfErr result (λ e. e.1 ≡ OpenFault.Disk → Rose (D.faults disk) (D.faults e.0)) }
+        ensures untouched { IfErr result (λ e. e.1 ≢ OpenFault.Disk → IsTrue (D.tells disk) → D.content e.0 ≡ D.content disk) }
+
+        // At each moment of the call a crash leaves what it might have left before, or the same payloads.
+        ensures moments { IfOk result (λ opened. IsTrue (D.tells disk) → AtEachMoment (D.accounts disk) (accounts_of opened.0)
+            (IsImageOrGives (latest (D.accounts disk)) (D.content disk))) }
+        ensures moments_err { IfErr result (λ e. IsTrue (D.tells disk) → AtEachMoment (D.accounts disk) (D.accounts e.0)
+            (IsImageOrGives (latest (D.accounts disk)) (D.content disk))) }
+        ensures settled { IfOk result (λ opened. IsTrue (D.tells disk) → IsSettled (D.content disk) (D.accounts disk)
+            → AtEachMoment (D.accounts disk) (accounts_of opened.0) (λ file. payloads file ≡ payloads (D.content disk))) }
+        ensures settled_err { IfErr result (λ e. IsTrue (D.tells disk) → IsSettled (D.content disk) (D.accounts disk)
+            → AtEachMoment (D.accounts disk) (D.accounts e.0) (λ file. payloads file ≡ payloads (D.content disk))) }
+        ensures images { IfOk result (λ opened. IsTrue (D.tells disk)
+            → AllImages (λ file. payloads file ≡ Some (map bytes_of opened.1.items)) (latest (accounts_of opened.0))) }
+
+        ensures grows { IfOk result (λ opened. D.faults disk ≤ D.faults (disk_of opened.0)) }
+        ensures grows_err { IfErr result (λ e. D.faults disk ≤ D.faults e.0) }
+        ensures tells { IfOk result (λ opened. tells_of opened.0 ≡ D.tells disk) }
+        ensures tells_err { IfErr result (λ e. D.tells e.0 ≡ D.tells disk) }
+        ensures identity { IfOk result (λ opened. D.identity (disk_of opened.0) ≡ D.identity disk) }
+        ensures identity_err { IfErr result (λ e. D.identity e.0 ≡ D.identity disk) }
+    {
+        let mut disk = disk;
+        match open_file(alloc, &mut disk, limit) {
+            Ok((length, read)) => {
+                let journal = Journal {
+                    disk,
+                    length,
+                    limit,
+                    doubt: None,
+                };
+                Ok((journal, read))
+            }
+            Err(e) => Err((disk, e)),
+        }
+    }
+
+    /// Adds a record, by four calls of the disk: write, sync, open the gate, sync. No record may be in doubt before. At
+    /// `Ok` it is on the disk. `Full` exactly where the new length, 5 bytes and the payload more, exceeds the limit. At
+    /// `Disk` the record is in doubt. It takes no memory.
+    pub fn append(&mut self, frame: &Frame) -> Result<(), AppendFault>
+        requires { IsReady self.old }
+        ensures ready { OnOk result (IsReady self.new) }
+        ensures length { OnOk result (length_of self.new ≡ length_of self.old + 5 + length frame.now) }
+        ensures added { OnOk result (IsTrue (tells_of self.old)
+            → payloads_of self.new ≡ payloads_of self.old ++ frame.now ∷ []) }
+        ensures content { OnOk result (IsTrue (tells_of self.old)
+            → content_of self.new ≡ front (payloads_of self.old ++ frame.now ∷ []) ++ 0 ∷ []) }
+        ensures images { OnOk result (IsTrue (tells_of self.old)
+            → AllImages (λ file. payloads file ≡ Some (payloads_of self.old ++ frame.now ∷ [])) (latest (accounts_of self.new))) }
+        // At each moment of the call a crash leaves the payloads from before it, or those with the new one.
+        ensures moments { IsTrue (tells_of self.old)
+            → AtEachMoment (accounts_of self.old) (accounts_of self.new)
+            (IsBeforeOrWith (payloads_of self.old) frame.now) }
+
+        ensures full { IfErr result (λ e. OnFull e (λ n. (n ≡ length_of self.old + 5 + length frame.now) × (limit_of self.old < n) × (self.new ≡ self.old))) }
+        ensures fits { limit_of self.old < length_of self.old + 5 + length frame.now
+            → result ≡ Err (AppendFault.Full (length_of self.old + 5 + length frame.now)) }
+        ensures doubt { IfErr result (λ e. OnDisk e (IsDoubtful (payloads_of self.old) frame.now self.new)) }
+        ensures cause { IfErr result (λ e. OnDisk e (Rose (D.faults (disk_of self.old)) (D.faults (disk_of self.new)))) }
+        ensures length_err { OnErr result (length_of self.new ≡ length_of self.old) }
+
+        ensures limit { limit_of self.new ≡ limit_of self.old }
+        ensures grows { D.faults (disk_of self.old) ≤ D.faults (disk_of self.new) }
+        ensures tells { tells_of self.new ≡ tells_of self.old }
+        ensures identity { D.identity (disk_of self.new) ≡ D.identity (disk_of self.old) }
+    {
+        let with_it = self.length + frame.record_bytes().len() as u64;
+        if self.limit < with_it {
+            return Err(AppendFault::Full(with_it));
+        }
+        match write_record(&mut self.disk, self.length, frame) {
+            Ok(()) => {
+                self.length = with_it;
+                Ok(())
+            }
+            Err(_) => {
+                self.doubt = Some(with_it);
+                Err(AppendFault::Disk)
+            }
+        }
+    }
+
+    /// Whether a record is in doubt: a call of the disk failed while it was added, and it was not resolved since.
+    pub fn in_doubt(&self) -> bool
+        ensures { result ≡ is_some (doubt_of self.now) }
+    {
+        self.doubt.is_some()
+    }
+
+    /// Resolves the record in doubt: syncs, keeps it exactly where its gate reads open, and else cuts it off and syncs. At
+    /// `Failed` it stays in doubt, and the disk has counted a fault. It takes no memory.
+    pub fn mend(&mut self) -> Result<Adopted, Failed>
+        requires { (ps : _) × (payload : _) × IsDoubtful ps payload self.old }
+        ensures ready { OnOk result (IsReady self.new) }
+        ensures mended { IfOk result (λ adopted. IsTrue (tells_of self.old) → (ps : _) (payload : _) → IsDoubtful ps payload self.old
+            → payloads_of self.new ≡ mended adopted ps payload) }
+        ensures images { IfOk result (λ adopted. IsTrue (tells_of self.old) → (ps : _) (payload : _) → IsDoubtful ps payload self.old
+            → AllImages (λ file. payloads file ≡ Some (mended adopted ps payload)) (latest (accounts_of self.new))) }
+        ensures gate { IfOk result (λ adopted. IsTrue (tells_of self.old)
+            → IsTrue (slice_index (content_of self.old) (length_of self.old - 1) == 1) ↔ (adopted ≡ Adopted.Kept)) }
+        ensures length { IfOk result (λ adopted. length_of self.new ≡ mended_length adopted (length_of self.old) (unwrap_or (doubt_of self.old) (length_of self.old))) }
+        ensures moments { IsTrue (tells_of self.old) → (ps : _) (payload : _) → IsDoubtful ps payload self.old
+            → AtEachMoment (accounts_of self.old) (accounts_of self.new) (IsBeforeOrWith ps payload) }
+
+        ensures cause { OnErr result (Rose (D.faults (disk_of self.old)) (D.faults (disk_of self.new))) }
+        ensures length_err { OnErr result (length_of self.new ≡ length_of self.old) }
+        ensures still { OnErr result ((ps : _) (payload : _) → IsDoubtful ps payload self.old
+            → IsDoubtful ps payload self.new) }
+
+        ensures limit { limit_of self.new ≡ limit_of self.old }
+        ensures grows { D.faults (disk_of self.old) ≤ D.faults (disk_of self.new) }
+        ensures tells { tells_of self.new ≡ tells_of self.old }
+        ensures identity { D.identity (disk_of self.new) ≡ D.identity (disk_of self.old) }
+    {
+        match resolve_record(&mut self.disk, self.length) {
+            Ok(adopted) => {
+                self.length = length_after(adopted, self.length, self.doubt);
+                self.doubt = None;
+                Ok(adopted)
+            }
+            Err(e) => Err(e),
+        }
+    }
+
+    /// The length of the journal in bytes, without a record in doubt.
+    pub fn length(&self) -> u64
+        ensures { result ≡ length_of self.now }
+    {
+        self.length
+    }
+
+    /// The disk as it is.
+    pub fn into_disk(self) -> D
+        ensures { result ≡ disk_of self }
+    {
+        let Journal {
+            disk,
+            length: _,
+            limit: _,
+            doubt: _,
+        } = self;
+        disk
+    }
+}
