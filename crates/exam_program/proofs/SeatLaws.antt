@@ -1,23 +1,25 @@
 -- What stays true of a seat while a session goes on.
 use Rattle.std.proofs.Common.{◌≡◌, ℕ, zero, suc, ◌+◌, ◌-◌, ◌<◌, ◌≤◌, ◌⊎◌, inl, inr, Bool, true, false, cond, not, ◌&&◌, ◌||◌, ◌==◌, List, [], ◌∷◌, ◌++◌, length, get_or, Option, Some, None, IsTrue, IsFalse, refl, sym, ap, ◌∙◌, subst, arith}
-use Rattle.std.specs.Prelude.{slice_get, nat_lt}
-use Rattle.std.specs.List.{list_any}
+use Rattle.std.specs.Prelude.{slice_get, nat_lt, IfSome}
+use Rattle.std.specs.List.{list_any, zip}
 use Rattle.std.proofs.lemmas.Bool.{eqb-true, eq-eqb}
 use Rattle.std.proofs.lemmas.List.{length-append}
 use Rattle.std.proofs.lemmas.List.Folds.{list_any-append}
 use Rattle.std.proofs.Math.Bool.{true≢false}
 use Rattle.bank_tables.specs.Items.{Set, has}
-use Rattle.bank_tables.specs.Sums.{count_in, sum_in, any_below}
-use Rattle.bank_tables.specs.Tables.{Tables, size, categories}
+use Rattle.bank_tables.specs.Tables.{Tables, size, stimulus, categories}
 use Rattle.bank_tables.specs.Validity.{HoldsItems}
 use Rattle.exam_model.specs.declared.seat.Seat.{Seat}
 use Rattle.exam_model.specs.Plan.{Plan}
-use Rattle.exam_model.specs.Problem.{Problem}
-use Rattle.exam_model.specs.Forms.{Form, size_in}
-use Rattle.exam_model.specs.Serving.{IsNext, is_not_given, is_candidate}
-use Rattle.exam_model.specs.Seats.{is_shown, seat_problem, IsSeat, IsPending}
-use Rattle.exam_model.proofs.SumLaws.{either, and_true, both, or_true, any_elim, any_intro, sum_in-le}
-use Rattle.exam_program.specs.Sessions.{with_response, IsNewSeat, IsAwaited}
+use Rattle.exam_model.specs.Problem.{Problem, whole as whole_problem}
+use Rattle.exam_model.specs.Forms.{Form, HasNoForm}
+use Rattle.exam_model.specs.Serving.{IsNext}
+use Rattle.exam_model.specs.Seats.{answers, is_shown, is_of_stimulus_left_behind, is_barred, seat_problem, IsSeat, IsPending, IsSeatProblem}
+use Rattle.exam_model.specs.Ability.{AnswerList, IsPosteriorMode}
+use Rattle.exam_model.specs.Validity.{IsWhole}
+use Rattle.exam_model.proofs.SumLaws.{either, and_true, or_true}
+use Rattle.exam_model.proofs.Staying.{last_form_stays}
+use Rattle.exam_program.specs.Sessions.{with_response, IsNewSeat, IsAwaited, Serves, Session, begins, place_line}
 use Rattle.exam_program.specs.declared.script.Answer.{Answer}
 
 -- ---- lists by place
@@ -142,60 +144,73 @@ answered_seat b plan seat answer is awaited =
               subst (λ (r : ℕ). r < categories b v) (sym new.1) (subst (λ (i : ℕ). answer.response < categories b i) item awaited.in_range)
         ]
 
--- ---- a form of a pending seat has an item that isn't given
-count_one : (n x : ℕ) → count_in n (λ i. x == i) (λ _. true) ≤ 1
-count_one zero x = omega arith
-count_one (suc n) x =
-    elim (either (x == n)) [
-      | inl here ↦ rw here (let none = count_past n x (omega (arith, eqb-true x n here)) in omega (arith, none))
-      | inr there ↦ rw there (let rest = count_one n x in omega (arith, rest))
-    ]
+-- ---- the same from the problem of the seat
+pub served_from : (b : Tables) (plan : Plan) (session item : ℕ) (seat : Seat) (P : Problem) (words : List ℕ)
+    → IsSeat b plan seat
+    → IsPending plan seat
+    → IsSeatProblem b plan session seat P
+    → Form P (has words)
+    → IsNext P (has words) item
+    → IsSeat b plan (record seat { shown = seat.shown ++ item ∷ []; form = Some words; proved = true })
+served_from b plan session item seat P words is pending of form next =
+    served_seat b plan session of.theta item seat words is pending (subst (λ (Q : Problem). Form Q (has words)) of.is form) (subst (λ (Q : Problem). IsNext Q (has words) item) of.is next)
+
+-- a seat that was served from a form has a form at whatever estimate once it has an answer
+pub stays_a_form : (b : Tables) (plan : Plan) (before seat : Seat) (response later : ℕ)
+    → Serves b plan before seat
+    → (words : List ℕ) × Form (seat_problem b plan 0 (with_response seat response) later) (has words)
+stays_a_form b plan before seat response later serves =
+    (serves.form, subst (λ (s : Seat). Form (seat_problem b plan 0 (with_response s response) later) (has serves.form)) (sym serves.is) (last_form_stays b plan 0 serves.is_problem.theta serves.item response later before serves.form form next))
   where
-    count_past : (m y : ℕ) → m ≤ y → count_in m (λ i. y == i) (λ _. true) ≡ 0
-    count_past zero y w = refl
-    count_past (suc m) y w =
-        elim (either (y == m)) [
-          | inl here ↦ absurd (omega (arith, eqb-true y m here, w))
-          | inr there ↦ rw there (let rest = count_past m y (omega (arith, w)) in omega (arith, rest))
+    form : Form (seat_problem b plan 0 before serves.is_problem.theta) (has serves.form)
+    form = subst (λ (Q : Problem). Form Q (has serves.form)) serves.is_problem.is serves.best.form
+
+    next : IsNext (seat_problem b plan 0 before serves.is_problem.theta) (has serves.form) serves.item
+    next = subst (λ (Q : Problem). IsNext Q (has serves.form) serves.item) serves.is_problem.is serves.next
+
+-- ---- the seat of a session that begins has the forms of the whole problem
+barred_none : (left eligible : Bool) → left ≡ false → eligible ≡ true → (aside : Bool) → (left || (not aside && not eligible)) ≡ true → ⊥
+barred_none left eligible e f aside h = elim (or_true left (not aside && not eligible) h) [
+  | inl l ↦ true≢false (sym l ∙ e)
+  | inr r ↦ true≢false (sym (and_true (not aside) (not eligible) r).1 ∙ ap not f)
+]
+
+pub whole_has_none : (b : Tables) (plan : Plan) (empty : Seat) → IsNewSeat b empty → ((P : Problem) → IsSeatProblem b plan 0 empty P → HasNoForm P) → (P : Problem) → IsWhole b plan P → HasNoForm P
+whole_has_none b plan empty new none P whole = record { none = λ Y form. (none (seat_problem b plan 0 empty whole.theta) is).none Y (moved Y (subst (λ (Q : Problem). Form Q Y) whole.is form)) }
+  where
+    no_answers : answers empty ≡ []
+    no_answers = ap (λ (xs : List ℕ). zip xs empty.responses) new.shown
+
+    is : IsSeatProblem b plan 0 empty (seat_problem b plan 0 empty whole.theta)
+    is = record { theta = whole.theta; mode = subst (λ (list : AnswerList). IsPosteriorMode b plan.prior list whole.theta) (sym no_answers) whole.mode; is = refl }
+
+    none_shown : (i : ℕ) → is_shown empty i ≡ false
+    none_shown i = ap (list_any (λ item. item == i)) new.shown
+
+    none_left : (i : ℕ) → is_of_stimulus_left_behind b empty i ≡ false
+    none_left i =
+        elim (either (is_of_stimulus_left_behind b empty i)) [
+          | inl left ↦
+              let entered = (and_true (list_any (λ item. stimulus b item == stimulus b i) empty.shown) _ (and_true (not (stimulus b i == 0)) _ left).1).0 in
+              absurd (true≢false (sym entered ∙ ap (list_any (λ item. stimulus b item == stimulus b i)) new.shown))
+          | inr not_left ↦ not_left
         ]
 
-count_or : (n : ℕ) (A B : Set) → count_in n (λ i. A i || B i) (λ _. true) ≤ count_in n A (λ _. true) + count_in n B (λ _. true)
-count_or zero A B = omega arith
-count_or (suc n) A B =
-    let rest = count_or n A B in
-    elim (either (A n)) [
-      | inl in_A ↦ rw in_A (omega (arith, rest))
-      | inr not_A ↦ elim (either (B n)) [ inl in_B ↦ rw (not_A, in_B) (omega (arith, rest)) | inr not_B ↦ rw (not_A, not_B) (omega (arith, rest)) ]
-    ]
+    not_barred : (i : ℕ) → is_barred b empty i ≡ true → ⊥
+    not_barred i e =
+        let parts = and_true (nat_lt i (size b)) _ e in
+        let why = (and_true (not (is_shown empty i)) (is_of_stimulus_left_behind b empty i || (not empty.aside && not (has empty.eligible i))) parts.1).1 in
+        barred_none (is_of_stimulus_left_behind b empty i) (has empty.eligible i) (none_left i) (new.eligible i ∙ parts.0) empty.aside why
 
-count_none : (n : ℕ) → count_in n (λ i. false) (λ _. true) ≡ 0
-count_none zero = refl
-count_none (suc n) = let rest = count_none n in omega (arith, rest)
+    moved : (Y : Set) → Form (whole_problem b plan whole.theta) Y → Form (seat_problem b plan 0 empty whole.theta) Y
+    moved Y form = record { meets = form.meets; holds_given = λ i e. absurd (true≢false (sym e ∙ none_shown i)); holds_no_barred = λ i e. absurd (not_barred i e) }
 
-count_shown : (n : ℕ) (shown : List ℕ) → count_in n (λ i. list_any (λ item. item == i) shown) (λ _. true) ≤ length shown
-count_shown n [] = let none = count_none n in omega (arith, none)
-count_shown n (x ∷ shown) = let rest = count_shown n shown in let one = count_one n x in let sum = count_or n (λ i. x == i) (λ i. list_any (λ item. item == i) shown) in omega (arith, rest, one, sum)
+pub new_is_pending : (b : Tables) (plan : Plan) (empty : Seat) → IsNewSeat b empty → 0 < plan.length → IsPending plan empty
+new_is_pending b plan empty new some =
+    let n : length empty.shown ≡ 0 = ap length new.shown in
+    let m : length empty.responses ≡ 0 = ap length new.responses in
+    record { not_closed = new.not_closed; not_complete = omega arith; answered = n ∙ sym m }
 
-pub some_free : (b : Tables) (plan : Plan) (session theta : ℕ) (seat : Seat) (X : Set) → IsPending plan seat → Form (seat_problem b plan session seat theta) X → (i : ℕ) × (X i ≡ true) × (is_shown seat i ≡ false)
-some_free b plan session theta seat X pending form = by (either (any_below (size b) (λ i. X i && not (is_shown seat i))))
-  where
-    shown_is : (i : ℕ) → any_below (size b) (λ i. X i && not (is_shown seat i)) ≡ false → i < size b → X i ≡ true → is_shown seat i ≡ true
-    shown_is i none in_bank member =
-        elim (either (is_shown seat i)) [
-          | inl shown ↦ shown
-          | inr new ↦ absurd (true≢false (sym (any_intro (size b) (λ i. X i && not (is_shown seat i)) i in_bank (both (X i) (not (is_shown seat i)) member (subst (λ (b : Bool). not b ≡ true) (sym new) refl))) ∙ none))
-        ]
-
-    not_true : (b : Bool) → not b ≡ true → b ≡ false
-    not_true true e = absurd (true≢false (sym e))
-    not_true false e = refl
-
-    by : (any_below (size b) (λ i. X i && not (is_shown seat i)) ≡ true) ⊎ (any_below (size b) (λ i. X i && not (is_shown seat i)) ≡ false) → (i : ℕ) × (X i ≡ true) × (is_shown seat i ≡ false)
-    by (inl some) =
-        let found = any_elim (size b) (λ i. X i && not (is_shown seat i)) some in
-        let parts = and_true (X found.0) (not (is_shown seat found.0)) found.2 in
-        (found.0, parts.0, not_true _ parts.1)
-    by (inr none) =
-        let fewer : size_in b X ≤ size_in b (is_shown seat) = sum_in-le (size b) X (is_shown seat) (λ i. 1) (λ i w member. shown_is i none w member) in
-        let number = count_shown (size b) seat.shown in
-        absurd (omega (arith, fewer, number, form.meets.right_length.n_items, pending.not_complete, pending.answered))
+pub session_begins : (b : Tables) (plan : Plan) (empty : Seat) (seat : Option Seat) → IsNewSeat b empty → IfSome seat (Serves b plan empty) → IfSome seat (λ s. Session b plan [] s (place_line plan s))
+session_begins b plan empty None new serves = tt
+session_begins b plan empty (Some seat) new serves = begins empty seat new serves

@@ -2,3 +2,4 @@ pub mod Commands
 pub mod Writing
 pub mod Sessions
 pub mod Scripts
+pub mod Standing

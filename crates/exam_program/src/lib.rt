@@ -3,3 +3,4 @@
 mod command;
 mod output;
 mod script;
+mod session;
