@@ -1,6 +1,6 @@
 -- What stays true of a seat while a session goes on.
 use Rattle.std.proofs.Common.{◌≡◌, ℕ, zero, suc, ◌+◌, ◌-◌, ◌<◌, ◌≤◌, ◌⊎◌, inl, inr, Bool, true, false, cond, not, ◌&&◌, ◌||◌, ◌==◌, List, [], ◌∷◌, ◌++◌, length, get_or, Option, Some, None, IsTrue, IsFalse, refl, sym, ap, ◌∙◌, subst, arith}
-use Rattle.std.specs.Prelude.{slice_get, nat_lt, IfSome}
+use Rattle.std.specs.Prelude.{slice_get, nat_lt, IfSome, IfNone}
 use Rattle.std.specs.List.{list_any, zip}
 use Rattle.std.proofs.lemmas.Bool.{eqb-true, eq-eqb}
 use Rattle.std.proofs.lemmas.List.{length-append}
@@ -18,8 +18,10 @@ use Rattle.exam_model.specs.Seats.{answers, is_shown, is_of_stimulus_left_behind
 use Rattle.exam_model.specs.Ability.{AnswerList, IsPosteriorMode}
 use Rattle.exam_model.specs.Validity.{IsWhole}
 use Rattle.exam_model.proofs.SumLaws.{either, and_true, or_true}
+use Rattle.exam_model.proofs.SomeMode.{some_mode}
 use Rattle.exam_model.proofs.Staying.{last_form_stays}
-use Rattle.exam_program.specs.Sessions.{with_response, IsNewSeat, IsAwaited, Serves, Session, begins, place_line}
+use Rattle.exam_program.specs.Sessions.{with_response, IsNewSeat, IsAwaited, IsRefused, Serves, Session, begins, place_line}
+use Rattle.exam_program.specs.Standing.{IsStanding}
 use Rattle.exam_program.specs.declared.script.Answer.{Answer}
 
 -- ---- lists by place
@@ -33,6 +35,11 @@ get-within [] k v e = cc
 get-within (x ∷ xs) zero v e = omega arith
 get-within (x ∷ xs) (suc k) v e = let w = get-within xs k v e in omega arith
 
+pub get-none : (xs : List ℕ) (k : ℕ) → slice_get xs k ≡ None → length xs ≤ k
+get-none [] k e = omega arith
+get-none (x ∷ xs) zero e = cc
+get-none (x ∷ xs) (suc k) e = let w = get-none xs k e in omega (arith, w)
+
 -- an element of a list with one more is an old one at its place, or the new one at the end
 get-push : (xs : List ℕ) (x k v : ℕ) → slice_get (xs ++ x ∷ []) k ≡ Some v → (slice_get xs k ≡ Some v) ⊎ ((k ≡ length xs) × (v ≡ x))
 get-push [] x zero v e = inr (refl, cc)
@@ -40,7 +47,7 @@ get-push [] x (suc k) v e = cc
 get-push (y ∷ xs) x zero v e = inl e
 get-push (y ∷ xs) x (suc k) v e = elim (get-push xs x k v e) [ inl old ↦ inl old | inr new ↦ inr (omega (arith, new.0), new.1) ]
 
-any_of : (xs : List ℕ) (k v : ℕ) → slice_get xs k ≡ Some v → list_any (λ item. item == v) xs ≡ true
+pub any_of : (xs : List ℕ) (k v : ℕ) → slice_get xs k ≡ Some v → list_any (λ item. item == v) xs ≡ true
 any_of [] k v e = cc
 any_of (x ∷ xs) zero v e = or_left (x == v) _ (eq-eqb x v cc)
   where
@@ -116,7 +123,7 @@ served_seat b plan session theta item seat words is pending form next =
         ]
 
 -- ---- the seat with one more response
-get-get_or : (xs : List ℕ) (k v d : ℕ) → slice_get xs k ≡ Some v → get_or xs k d ≡ v
+pub get-get_or : (xs : List ℕ) (k v d : ℕ) → slice_get xs k ≡ Some v → get_or xs k d ≡ v
 get-get_or [] k v d e = cc
 get-get_or (x ∷ xs) zero v d e = cc
 get-get_or (x ∷ xs) (suc k) v d e = get-get_or xs k v d e
@@ -214,3 +221,39 @@ new_is_pending b plan empty new some =
 pub session_begins : (b : Tables) (plan : Plan) (empty : Seat) (seat : Option Seat) → IsNewSeat b empty → IfSome seat (Serves b plan empty) → IfSome seat (λ s. Session b plan [] s (place_line plan s))
 session_begins b plan empty None new serves = tt
 session_begins b plan empty (Some seat) new serves = begins empty seat new serves
+
+-- ---- a seat that stands, and an answer that it waits for
+pub stands_complete : (b : Tables) (plan : Plan) (seat : Seat) (answer : Answer)
+    → IsStanding b plan seat
+    → IsAwaited b seat answer
+    → length (seat.responses ++ answer.response ∷ []) ≡ plan.length
+    → IsStanding b plan (with_response seat answer.response)
+stands_complete b plan seat answer standing awaited complete = record { is_seat = answered_seat b plan seat answer standing.is_seat awaited; not_closed = standing.not_closed; place = inl complete }
+
+pub stands_served : (b : Tables) (plan : Plan) (next : Seat) (after : Option Seat)
+    → IsFalse next.closed
+    → IfSome after (Serves b plan next)
+    → IfSome after (IsSeat b plan)
+    → IfSome after (IsStanding b plan)
+stands_served b plan next None closed serves is = tt
+stands_served b plan next (Some seat) closed serves is =
+    record { is_seat = is; not_closed = subst (λ (s : Seat). s.closed ≡ false) (sym serves.is) closed; place = inr (next, serves) }
+
+pub never_without : (b : Tables) (plan : Plan) (seat : Seat) (answer : Answer) (after : Option Seat)
+    → 0 < b.grid
+    → IsStanding b plan seat
+    → IsAwaited b seat answer
+    → IfNone after ((P : Problem) → IsSeatProblem b plan 0 (with_response seat answer.response) P → HasNoForm P)
+    → IfNone after (IsRefused b seat answer)
+never_without b plan seat answer (Some next) points standing awaited none = tt
+never_without b plan seat answer None points standing awaited none = absurd (by standing.place)
+  where
+    next : Seat
+    next = with_response seat answer.response
+
+    by : (length seat.responses ≡ plan.length) ⊎ ((before : Seat) × Serves b plan before seat) → ⊥
+    by (inl complete) = omega (arith, complete, standing.is_seat.few, awaited.shown, awaited.step)
+    by (inr (before, serves)) =
+        let (theta, mode) = some_mode b plan.prior (answers next) points in
+        let (words, form) = stays_a_form b plan before seat answer.response theta serves in
+        (none (seat_problem b plan 0 next theta) (record { theta = theta; mode = mode; is = refl })).none (has words) form

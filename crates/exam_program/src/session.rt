@@ -7,9 +7,10 @@ ghost use Rattle.exam_model.specs.Problem.{Problem};
 ghost use Rattle.exam_model.specs.Forms.{HasNoForm};
 ghost use Rattle.exam_model.specs.Seats.{IsSeat, IsPending, IsSeatProblem};
 ghost use Rattle.exam_model.specs.Validity.{IsPlanFor, IsWhole};
-ghost use Rattle.exam_program.specs.Sessions.{IsNewSeat, Serves, Session, place_line};
+ghost use Rattle.exam_program.specs.Sessions.{IsNewSeat, Serves, Session, place_line, with_response, IsAwaited, IsRecorded, Answers, IsRefused};
 ghost use Rattle.exam_program.specs.Standing.{IsStanding};
 
+use crate::script::Answer;
 use bank_tables::{Bank, ItemSet, Short};
 use constraint_model::Spec;
 use exam_model::Seat;
@@ -77,4 +78,59 @@ pub(crate) fn begun<'a>(bank: &'a Bank, spec: &'a Spec) -> Option<Seat>
 {
     let empty = new_seat(bank);
     served(bank, spec, &empty)
+}
+
+fn is_awaited(bank: &Bank, spec: &Spec, seat: &Seat, answer: Answer) -> bool
+    requires { IsSeat bank.now spec.now seat.now }
+    ensures { IsTrue result ↔ IsAwaited bank.now seat.now answer }
+{
+    let step = answer.step as usize;
+    if step != seat.responses.len() || seat.shown.len() != step + 1 {
+        return false;
+    }
+    match seat.shown.get(step) {
+        Some(item) => {
+            prove!(item < bank.items());
+            answer.response < bank.categories(item)
+        }
+        None => false,
+    }
+}
+
+fn is_recorded(seat: &Seat, answer: Answer) -> bool
+    ensures { IsTrue result ↔ IsRecorded seat.now answer }
+{
+    seat.responses.get(answer.step as usize) == Some(answer.response as u16)
+}
+
+fn with_response(seat: &Seat, response: u8) -> Seat
+    requires { length seat.now.responses < 512 }
+    ensures { result ≡ with_response seat.now response }
+{
+    let mut after = *seat;
+    after.responses.push(response as u16);
+    after
+}
+
+/// The seat after an answer, where the session goes on by it; none where the answer is refused.
+pub(crate) fn answered<'a>(bank: &'a Bank, spec: &'a Spec, seat: &Seat, answer: Answer) -> Option<Seat>
+    requires small { size bank.now ≤ 16 }
+    requires plan { IsPlanFor bank.now spec.now }
+    requires standing { IsStanding bank.now spec.now seat.now }
+    ensures answers { IfSome result (λ after. Answers bank.now spec.now seat.now answer after) }
+    ensures standing { IfSome result (IsStanding bank.now spec.now) }
+    ensures refused { IfNone result (IsRefused bank.now seat.now answer) }
+{
+    if is_recorded(seat, answer) {
+        return Some(*seat);
+    }
+    if !is_awaited(bank, spec, seat, answer) {
+        return None;
+    }
+    prove!(bank.items() <= 512);
+    let next = with_response(seat, answer.response);
+    if next.responses.len() == spec.length() as usize {
+        return Some(next);
+    }
+    served(bank, spec, &next)
 }
