@@ -3,3 +3,4 @@ pub mod Writing
 pub mod Sessions
 pub mod Scripts
 pub mod Standing
+pub mod Texts

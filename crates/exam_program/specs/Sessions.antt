@@ -64,7 +64,7 @@ IsRefused b seat answer = (IsRecorded seat answer ⊎ IsAwaited b seat answer) �
 unfoldable pub place_line : Plan → Seat → List ℕ
 place_line plan seat =
     if length seat.responses == plan.length then codes "session 0 complete\n"
-    else codes "session 0 step " ++ decimal (length seat.responses) ++ codes " item " ++ decimal (get_or seat.shown (length seat.responses) 0) ++ codes " proved\n"
+    else codes "session 0 step " ++ (decimal (length seat.responses) ++ (codes " item " ++ (decimal (get_or seat.shown (length seat.responses) 0) ++ codes " proved\n")))
 
 -- a session after its answers so far, with its seat and what was printed: the first line tells the item served first,
 -- and each answer adds a line

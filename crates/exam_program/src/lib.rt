@@ -1,6 +1,7 @@
 #![tactic(auto)]
 
 mod command;
+mod lines;
 mod output;
 mod script;
 mod session;
