@@ -4,3 +4,4 @@ pub mod Sessions
 pub mod Scripts
 pub mod Standing
 pub mod Texts
+pub mod Replays

@@ -3,5 +3,6 @@
 mod command;
 mod lines;
 mod output;
+mod replay;
 mod script;
 mod session;
