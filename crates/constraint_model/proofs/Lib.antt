@@ -1,1 +1,4 @@
 pub mod SetLaws
+pub mod PlanLaws
+pub mod FaultLaws
+pub mod WholeLaws
