@@ -1,14 +1,15 @@
 -- Sets of items in words: no member, unknown members, first members.
-use Rattle.std.proofs.Common.{◌≡◌, ℕ, ◌+◌, ◌*◌, ◌/◌, ◌%◌, ◌<◌, ◌≤◌, ◌&&◌, ◌⊎◌, not, Bool, true, false, List, length, get_or, refl, sym, ◌∙◌, arith, inl, inr}
+use Rattle.std.proofs.Common.{◌≡◌, ℕ, zero, suc, cond, ap, ◌+◌, ◌*◌, ◌/◌, ◌%◌, ◌<◌, ◌≤◌, ◌&&◌, ◌⊎◌, not, Bool, true, false, List, length, get_or, refl, sym, ◌∙◌, arith, inl, inr}
 use Rattle.std.specs.Prelude.{IsTrue, nat_le, MatchOption, is_some, Option, Some, None, ◌↔◌}
 use Rattle.std.proofs.lemmas.List.{get_or_past}
 use Rattle.std.proofs.lemmas.Nat.Bits.{bit_at-zero}
 use Rattle.std.proofs.lemmas.Bool.{cases_lt, leb-true, le-leb, not-false, not-true, not_from_false, and_parts, and_from}
 use Rattle.std.proofs.Math.Bool.{true≢false}
-use Rattle.bank_tables.specs.Items.{has, IsLowest}
-use Rattle.bank_tables.specs.Sums.{any_below}
+use Rattle.bank_tables.specs.Items.{Set, has, IsLowest}
+use Rattle.bank_tables.specs.Sums.{any_below, count_in, size_of}
 use Rattle.bank_tables.specs.Tables.{Tables, size}
 use Rattle.bank_tables.specs.Validity.{HoldsItems}
+use Rattle.bank_tables.proofs.Bits.{size_of-below}
 use Rattle.exam_model.proofs.SumLaws.{either, any_intro, any_elim}
 use Rattle.constraint_model.specs.Faults.{is_empty, has_unknown}
 
@@ -75,3 +76,17 @@ unknown_by_below b words false h = elim (either (has_unknown b words)) [
   | inl some ↦ sym some
   | inr none ↦ absurd (true≢false (sym (h.1 (none_unknown b words none))))
 ]
+
+-- ---- the members that two sets share
+count-same : (n : ℕ) (X p both : Set) → ((i : ℕ) → both i ≡ (X i && p i)) → count_in n both (λ _. true) ≡ count_in n X p
+count-same zero X p both h = refl
+count-same (suc n) X p both h = rw (count-same n X p both h, h n) (ap (λ (k : ℕ). count_in n X p + k) (last (X n) (p n)))
+  where
+    last : (a b : Bool) → ◌≡◌ {A = ℕ} (cond (a && b) 1 0) (cond a (cond b 1 0) 0)
+    last true b = refl
+    last false b = refl
+
+pub count_of_both : (n : ℕ) (X p both : Set) → n ≤ 512 → ((i : ℕ) → X i ≡ true → i < n) → ((i : ℕ) → both i ≡ (X i && p i)) → size_of both ≡ count_in n X p
+count_of_both n X p both few below h =
+    size_of-below n both few (λ i past. not_true (both i) (λ e. let lt : i < n = below i (and_parts (X i) (p i) (sym (h i) ∙ e)).0 in omega arith))
+    ∙ count-same n X p both h

@@ -2,6 +2,7 @@
 
 ghost use Rattle.std.specs.Prelude.{◌≡◌};
 ghost use Rattle.bank_tables.specs.Items.{has};
+ghost use Rattle.bank_tables.specs.Validity.{HoldsItems};
 ghost use Rattle.exam_model.specs.Breaches.{IsFirstBreach};
 ghost use Rattle.exam_model.specs.Validity.{IsWellMade};
 ghost use Rattle.constraint_model.specs.Views.{problem_of};
@@ -27,7 +28,8 @@ fn wrong_length(bank: &Bank, plan: &Draft, form: &ItemSet) -> Option<u32>
 
 /// The first row that doesn't hold, with the activity found.
 fn row_breach(bank: &Bank, plan: &Draft, form: &ItemSet) -> Option<(u8, u32)>
-    requires { IsCountable bank.now plan.now }
+    requires plan { IsCountable bank.now plan.now }
+    requires items { HoldsItems bank.now (has form.now) }
     ensures { IsRowBreach bank.now plan.now (has form.now) result }
 {
     let rows = plan.rows.as_slice();

@@ -1,11 +1,12 @@
 //! The tests that a draft must pass to be a plan for an item bank.
 
-ghost use Rattle.std.specs.Prelude.{◌≡◌, ◌≤◌, length};
+ghost use Rattle.std.specs.Prelude.{◌≡◌, ◌≤◌, length, MatchOption};
 ghost use Rattle.std.specs.List.{list_all};
 ghost use Rattle.bank_tables.specs.Faults.{is_loglik};
 ghost use Rattle.exam_model.specs.Forms.{stimuli_of};
+ghost use Rattle.exam_model.specs.Validity.{IsPlanFor};
 ghost use Rattle.constraint_model.specs.Countable.{IsCountable};
-ghost use Rattle.constraint_model.specs.Faults.{is_empty, has_unknown, range_fault, set_fault, quantity_fault, row_fault, rows_fault, is_prior, front_fault, bound_fault, bounds_fault, is_rate, is_budget, limits_fault, IsBaseFault};
+ghost use Rattle.constraint_model.specs.Faults.{is_empty, has_unknown, range_fault, set_fault, quantity_fault, row_fault, rows_fault, is_prior, front_fault, bound_fault, bounds_fault, is_rate, is_budget, limits_fault, numbers_fault, IsBaseFault, IsSpecFault};
 
 use crate::breaches::plan_breach;
 use crate::spec_fault::SpecFault;
@@ -143,14 +144,13 @@ fn stimuli_of(bank: &Bank) -> u8
     ensures value { result ≡ stimuli_of bank.now }
     ensures few { result ≤ 64 }
 {
-    // What `items` promises says that the bank's numbers are within their bounds.
-    let _items = bank.items();
+    prove!(bank.items() > 0);
     bank.stimuli()
 }
 
 /// The first fault of the bounds of the stimuli: their number first.
 #[tactic(auto, unfolding(crate::specs::Faults::bounds_fault))]
-pub fn bounds_fault(bank: &Bank, draft: &Draft) -> Option<SpecFault>
+fn bounds_fault(bank: &Bank, draft: &Draft) -> Option<SpecFault>
     ensures { result ≡ bounds_fault bank.now draft.now }
 {
     let bounds = draft.bounds.as_slice();
@@ -183,7 +183,7 @@ fn is_budget(nodes: u32) -> bool
 
 /// The first fault of a draft's exposure rate, node budgets and limits.
 #[tactic(auto, unfolding(crate::specs::Faults::limits_fault))]
-pub fn limits_fault(draft: &Draft) -> Option<SpecFault>
+fn limits_fault(draft: &Draft) -> Option<SpecFault>
     ensures { result ≡ limits_fault draft.now }
 {
     if !is_rate(draft.rate) {
@@ -203,12 +203,38 @@ pub fn limits_fault(draft: &Draft) -> Option<SpecFault>
 }
 
 /// The first breach of a draft's base, if it names one.
-pub fn base_breach(bank: &Bank, draft: &Draft) -> Option<Breach>
+fn base_breach(bank: &Bank, draft: &Draft) -> Option<Breach>
     requires { IsCountable bank.now draft.now }
     ensures { IsBaseFault bank.now draft.now result }
 {
     match draft.base {
         Some(base) => plan_breach(bank, draft, &base),
+        None => None,
+    }
+}
+
+/// The first fault of all but the base.
+fn numbers_fault(bank: &Bank, draft: &Draft) -> Option<SpecFault>
+    ensures { result ≡ numbers_fault bank.now draft.now }
+{
+    if let Some(fault) = front_fault(bank, draft) {
+        return Some(fault);
+    }
+    if let Some(fault) = bounds_fault(bank, draft) {
+        return Some(fault);
+    }
+    limits_fault(draft)
+}
+
+/// The first fault of a draft, or none where it is a plan for the bank.
+pub fn first_fault(bank: &Bank, draft: &Draft) -> Option<SpecFault>
+    ensures { MatchOption result (IsPlanFor bank.now draft.now) (IsSpecFault bank.now draft.now) }
+{
+    if let Some(fault) = numbers_fault(bank, draft) {
+        return Some(fault);
+    }
+    match base_breach(bank, draft) {
+        Some(breach) => Some(SpecFault::BadBase(breach)),
         None => None,
     }
 }

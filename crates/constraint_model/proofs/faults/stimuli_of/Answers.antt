@@ -7,5 +7,5 @@ use Rattle.constraint_model.proofs.faults.stimuli_of.Goals as goal
 pub returns-clause-few : goal.returns-clause-few
 returns-clause-few c =
     let bank = c.args.bank.now in
-    let few : greatest_below (size bank) (stimulus bank) ≤ 64 = greatest_at_most (size bank) 64 (stimulus bank) c.items-items.ensures.bank.stimulus_high in
+    let few : greatest_below (size bank) (stimulus bank) ≤ 64 = greatest_at_most (size bank) 64 (stimulus bank) c.items.ensures.bank.stimulus_high in
     omega (arith, few, c.stimuli.ensures)
