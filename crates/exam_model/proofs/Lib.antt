@@ -12,3 +12,5 @@ pub mod SomeMode
 pub mod NextItems
 pub mod Undecided
 pub mod OneBreach
+pub mod Beyond
+pub mod Computed
