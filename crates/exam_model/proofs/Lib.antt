@@ -14,3 +14,4 @@ pub mod Undecided
 pub mod OneBreach
 pub mod Beyond
 pub mod Computed
+pub mod BankA
