@@ -67,6 +67,12 @@ these_below n (x ∷ xs) e i h =
     let parts = and_parts (nat_lt x n) _ e in
     elim (or_true (x == i) _ h) [ inl at ↦ omega (arith, eqb-true x i at, ltb-true x n parts.0) | inr rest ↦ these_below n xs parts.1 i rest ]
 
+pub these_in : (X : Set) (items : List ℕ) → list_all X items ≡ true → (i : ℕ) → these items i ≡ true → X i ≡ true
+these_in X [] e i h = absurd (true≢false (sym h))
+these_in X (x ∷ xs) e i h =
+    let parts = and_parts (X x) _ e in
+    elim (or_true (x == i) _ h) [ inl at ↦ ap X (sym (eqb-true x i at)) ∙ parts.0 | inr rest ↦ these_in X xs parts.1 i rest ]
+
 -- the words of a set of items below 64
 abbrev pub one_word : ℕ → List ℕ
 one_word word = word ∷ 0 ∷ 0 ∷ 0 ∷ 0 ∷ 0 ∷ 0 ∷ 0 ∷ []

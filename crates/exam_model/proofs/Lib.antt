@@ -15,3 +15,5 @@ pub mod OneBreach
 pub mod Beyond
 pub mod Computed
 pub mod BankA
+pub mod StepsOfA
+pub mod BankS
