@@ -17,3 +17,7 @@ pub mod Computed
 pub mod BankA
 pub mod StepsOfA
 pub mod BankS
+pub mod BankE
+pub mod BankQ
+pub mod Ties
+pub mod EveryRow
