@@ -125,7 +125,7 @@ unfolding problem_a
 whole_a = record { theta = 1; mode = prior_mode_a; is = refl }
 
 -- ---- a form of 23, and a better set that is no form, since items 2 and 5 are enemies
-form_123 : Form problem_a (these (1 ∷ 2 ∷ 3 ∷ []))
+pub form_123 : Form problem_a (these (1 ∷ 2 ∷ 3 ∷ []))
 unfolding problem_a bank_a item_a plan_of_rows plan_a has
 form_123 = form_is problem_a (these (1 ∷ 2 ∷ 3 ∷ [])) (these_below 6 (1 ∷ 2 ∷ 3 ∷ []) refl) (λ i e. absurd (cc)) refl
 
@@ -133,7 +133,7 @@ objective_123 : (objective problem_a (these (1 ∷ 2 ∷ 3 ∷ [])) ≡ 23) × (
 unfolding problem_a bank_a item_a
 objective_123 = (refl, refl)
 
-no_form_125 : Form problem_a (these (1 ∷ 2 ∷ 5 ∷ [])) → ⊥
+pub no_form_125 : Form problem_a (these (1 ∷ 2 ∷ 5 ∷ [])) → ⊥
 unfolding problem_a bank_a item_a plan_of_rows plan_a has
 no_form_125 = is_no_form problem_a (these (1 ∷ 2 ∷ 5 ∷ [])) refl
 
@@ -189,7 +189,7 @@ maximum_4096 : IsRelaxedMaximum problem_a (root problem_a) ((3, 4096) ∷ []) fa
 unfolding problem_a bank_a item_a plan_of_rows plan_a has relaxed_by best_stimulus reduced row_linear amount_linear item_part stimulus_part constant_form items_linear own_weight low_stimulus high_stimulus
 maximum_4096 = maximum_is problem_a (root problem_a) ((3, 4096) ∷ []) false (these (0 ∷ 1 ∷ 3 ∷ [])) (pos 1280) (pos 8960) (these_below 6 (0 ∷ 1 ∷ 3 ∷ []) refl) refl refl
 
-not_closed_a : IsVerdict problem_a (Some (these (1 ∷ 2 ∷ 3 ∷ []))) (one_bound ((3, 4096) ∷ [])) (Bad 0 NotClosed)
+pub not_closed_a : IsVerdict problem_a (Some (these (1 ∷ 2 ∷ 3 ∷ []))) (one_bound ((3, 4096) ∷ [])) (Bad 0 NotClosed)
 unfolding one_bound problem_a bank_a item_a plan_of_rows plan_a
 not_closed_a =
     inl (

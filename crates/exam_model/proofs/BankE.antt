@@ -95,11 +95,11 @@ unfoldable pub problem_e : Problem
 problem_e = record (whole bank_e plan_e 0) { start = Some (these (0 ∷ 3 ∷ [])) }
 
 -- ---- forms
-form_03 : Form problem_e (these (0 ∷ 3 ∷ []))
+pub form_03 : Form problem_e (these (0 ∷ 3 ∷ []))
 unfolding problem_e bank_e item_e plan_e has
 form_03 = form_is problem_e (these (0 ∷ 3 ∷ [])) (these_below 5 (0 ∷ 3 ∷ []) refl) (λ i e. absurd (cc)) refl
 
-form_24 : Form problem_e (these (2 ∷ 4 ∷ []))
+pub form_24 : Form problem_e (these (2 ∷ 4 ∷ []))
 unfolding problem_e bank_e item_e plan_e has
 form_24 = form_is problem_e (these (2 ∷ 4 ∷ [])) (these_below 5 (2 ∷ 4 ∷ []) refl) (λ i e. absurd (cc)) refl
 

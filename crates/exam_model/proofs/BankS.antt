@@ -214,7 +214,7 @@ eligible_s : (is_barred bank_s (few_eligible false) 3 ≡ true) × (is_barred ba
 unfolding few_eligible seat_0 seat_s bank_s item_s has
 eligible_s = (refl, refl, refl, refl)
 
-form_3 : Form problem_3 (these (0 ∷ 1 ∷ 3 ∷ 4 ∷ []))
+pub form_3 : Form problem_3 (these (0 ∷ 1 ∷ 3 ∷ 4 ∷ []))
 unfolding problem_3 seat_s bank_s item_s plan_s has
 form_3 = form_is problem_3 (these (0 ∷ 1 ∷ 3 ∷ 4 ∷ [])) (these_below 5 (0 ∷ 1 ∷ 3 ∷ 4 ∷ []) refl) (these_below 5 (0 ∷ 1 ∷ 3 ∷ []) refl) refl
 

@@ -17,7 +17,7 @@ use Rattle.exam_model.specs.Breaches.{IsFirstBreach}
 use Rattle.exam_model.specs.Paths.{Path, root, with_item, with_stimulus, is_free, is_chosen, is_open, undecided}
 use Rattle.exam_model.specs.Counting.{is_impossible, IsFirstImpossible}
 use Rattle.exam_model.specs.Relaxed.{lagrangian, multiplier}
-use Rattle.exam_model.specs.Verdicts.{only_candidate}
+use Rattle.exam_model.specs.Verdicts.{only_candidate, CandidateIsSettled}
 use Rattle.exam_model.proofs.Computed.{these, these_below, one_word, row_test, stimulus_test, row_is, row_from, stimulus_is, stimulus_from, form_is, meets_is, is_no_form}
 
 -- stimulus, quantity, information
@@ -245,6 +245,11 @@ candidates = (refl, refl, refl, refl, refl)
 candidate_members : (only_candidate problem_r (on 0 (on 1 (on 2 r))) ≡ Some (on 0 (on 1 (on 2 r))).taken) × (only_candidate problem_r (on 3 (off 0 (off 1 (off 2 r)))) ≡ Some (λ i. (on 3 (off 0 (off 1 (off 2 r)))).taken i || is_free problem_r (on 3 (off 0 (off 1 (off 2 r)))) i))
 unfolding r problem_r bank_r item_r plan_r
 candidate_members = (refl, refl)
+
+-- a candidate that is a form, but lacks the stimulus that a left branch chose, is settled: it belongs on the right side
+lacks_stimulus_2 : (let p = on 0 (on 1 (on 3 (with_stimulus problem_r r 2 true))) in CandidateIsSettled problem_r None p (only_candidate problem_r p))
+unfolding r problem_r bank_r item_r plan_r
+lacks_stimulus_2 = inr (inl (record { missing = 2; first = lit≤ tt; last = lit≤ tt; chosen = refl; unused = refl }))
 
 -- ---- the Lagrangian, every side at once
 -- items 0, 1 and 3, stimulus 1: 256 times 20 is 5,120. The slacks, low and high, are: Count 1 and 0; Quantity 10 and 30;

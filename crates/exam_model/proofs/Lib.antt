@@ -21,3 +21,5 @@ pub mod BankE
 pub mod BankQ
 pub mod Ties
 pub mod EveryRow
+pub mod Spent
+pub mod Reasons

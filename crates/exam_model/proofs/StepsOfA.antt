@@ -191,7 +191,7 @@ problem_three = whole bank_a plan_three 1
 unfoldable pub one_count : ℕ → ProofTree
 one_count r = record { vectors = []; nodes = CountLeaf r ∷ [] }
 
-first_impossible : IsFirstImpossible problem_three (root problem_three) (Some 1)
+pub first_impossible : IsFirstImpossible problem_three (root problem_three) (Some 1)
 unfolding problem_three bank_a item_a plan_of_rows plan_three has is_impossible
 first_impossible = (refl, before)
   where
