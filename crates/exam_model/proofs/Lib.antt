@@ -23,3 +23,4 @@ pub mod Ties
 pub mod EveryRow
 pub mod Spent
 pub mod Reasons
+pub mod ClosedFormLaws
