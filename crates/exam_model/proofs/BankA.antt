@@ -1,36 +1,33 @@
 -- Six items without stimuli: a bank, a plan, and a test of three items from its first form to its last.
-use Rattle.std.proofs.Common.{◌≡◌, ℕ, zero, suc, ◌+◌, ◌*◌, ◌≤◌, ◌<◌, inl, inr, false, ◌==◌, List, [], ◌∷◌, ℤ, pos, negsuc, None, Some, refl, arith}
+use Rattle.std.proofs.Common.{◌≡◌, ℕ, zero, suc, ◌+◌, ◌*◌, ◌<◌, inl, inr, false, List, [], ◌∷◌, ℤ, pos, negsuc, None, Some, refl, arith}
 use Rattle.std.specs.Prelude.{replicate}
 use Rattle.std.proofs.Math.Dec.{lit≤}
 use Rattle.bank_tables.specs.Items.{has}
 use Rattle.bank_tables.specs.Faults.{bank_fault, item_fault}
 use Rattle.bank_tables.specs.Tables.{Tables, Item}
-use Rattle.bank_tables.specs.Validity.{IsBank, HoldsItems}
+use Rattle.bank_tables.specs.Validity.{IsBank}
 use Rattle.bank_tables.proofs.BankLaws.{bank_is}
 use Rattle.exam_model.specs.declared.row.Row.{Row}
 use Rattle.exam_model.specs.declared.row.Row.TheVariants.{Count, Enemies}
 use Rattle.exam_model.specs.declared.breach.Breach.TheVariants.{Row as RowBreach, Length}
-use Rattle.exam_model.specs.declared.node.Node.TheVariants.{Bound, Count as CountLeaf}
+use Rattle.exam_model.specs.declared.node.Node.TheVariants.{Bound}
 use Rattle.exam_model.specs.declared.verdict.Reason.TheVariants.{NotClosed}
-use Rattle.exam_model.specs.declared.verdict.Verdict.TheVariants.{Optimal, NoForm, Bad}
-use Rattle.exam_model.specs.declared.seat.Seat.{Seat}
+use Rattle.exam_model.specs.declared.verdict.Verdict.TheVariants.{Optimal, Bad}
 use Rattle.exam_model.specs.Plan.{Plan, row_at}
 use Rattle.exam_model.specs.Problem.{Problem, whole}
-use Rattle.exam_model.specs.Forms.{Form, Best, HasNoForm, RowHolds, objective, activity, used}
+use Rattle.exam_model.specs.Forms.{Form, Best, RowHolds, objective}
 use Rattle.exam_model.specs.Breaches.{IsFirstBreach}
 use Rattle.exam_model.specs.Paths.{root}
-use Rattle.exam_model.specs.Counting.{is_impossible, IsFirstImpossible}
 use Rattle.exam_model.specs.Relaxed.{Multipliers, IsRelaxedMaximum}
 use Rattle.exam_model.specs.ProofTrees.{ProofTree}
-use Rattle.exam_model.specs.Verdicts.{IsVerdict, NamesOnlySides}
-use Rattle.exam_model.specs.Ability.{IsPosteriorMode, log_posterior}
+use Rattle.exam_model.specs.Verdicts.{IsVerdict}
+use Rattle.exam_model.specs.Ability.{IsPosteriorMode}
 use Rattle.exam_model.specs.Serving.{IsNext}
-use Rattle.exam_model.specs.Seats.{IsSeat, IsPending, IsSeatProblem, seat_problem}
-use Rattle.exam_model.specs.Validity.{IsRow, IsPlanFor, IsWhole, IsWellMade}
+use Rattle.exam_model.specs.Validity.{IsRow, IsPlanFor, IsWhole}
 use Rattle.exam_model.proofs.Computed.{these, these_below, one_word, word_below, logliks_are, form_is, is_no_form, maximum_is, not_at_most, at_most, names_sides, mode_is, next_is}
 use Rattle.exam_model.proofs.Reduced.{reduced, row_linear, amount_linear, item_part, stimulus_part, constant_form, items_linear, own_weight, low_stimulus, high_stimulus}
 use Rattle.exam_model.proofs.Greatest.{relaxed_by, best_stimulus}
-use Rattle.exam_model.proofs.TreeLaws.{optimal_is_best, no_form_is_none}
+use Rattle.exam_model.proofs.TreeLaws.{optimal_is_best}
 
 -- ---- the bank
 unfoldable pub item_a : List ℕ → List ℤ → Item
@@ -139,14 +136,13 @@ no_form_125 = is_no_form problem_a (these (1 ∷ 2 ∷ 5 ∷ [])) refl
 
 breach_125 : IsFirstBreach problem_a (these (1 ∷ 2 ∷ 5 ∷ [])) (Some (RowBreach 1 2))
 unfolding problem_a bank_a item_a plan_of_rows plan_a has
-breach_125 =
-    (
-      record { in_bank = these_below 6 (1 ∷ 2 ∷ 5 ∷ []) refl; n_items = refl },
-      before,
-      lit≤ tt,
-      λ holds. absurd (let high = holds.high in omega arith),
-      refl,
-    )
+breach_125 = (
+  record { in_bank = these_below 6 (1 ∷ 2 ∷ 5 ∷ []) refl; n_items = refl },
+  before,
+  lit≤ tt,
+  λ holds. absurd (let high = holds.high in omega arith),
+  refl,
+)
   where
     before : (q : ℕ) → q < 1 → RowHolds bank_a plan_a (these (1 ∷ 2 ∷ 5 ∷ [])) q
     before zero w = record { low = lit≤ tt; high = lit≤ tt }

@@ -1,11 +1,11 @@
 -- Five items of which the three best are enemies of one another: no multipliers close the root, a tree of branches does.
-use Rattle.std.proofs.Common.{◌≡◌, ℕ, zero, suc, ◌+◌, ◌*◌, ◌≤◌, ◌<◌, ◌⊎◌, inl, inr, Bool, true, false, ◌==◌, List, [], ◌∷◌, ℤ, pos, negsuc, ◌≤ℤ◌, None, Some, refl, sym, ◌∙◌, arith}
+use Rattle.std.proofs.Common.{◌≡◌, ℕ, zero, suc, ◌<◌, inl, inr, true, false, ◌==◌, [], ◌∷◌, ℤ, pos, negsuc, ◌≤ℤ◌, None, Some, refl, sym, arith}
 use Rattle.std.specs.Prelude.{replicate}
 use Rattle.std.proofs.lemmas.Int.{ints}
 use Rattle.std.proofs.Math.Dec.{lit≤}
 use Rattle.std.proofs.Math.Bool.{true≢false}
 use Rattle.std.proofs.lemmas.Bool.{eqb-true}
-use Rattle.bank_tables.specs.Items.{Set, has}
+use Rattle.bank_tables.specs.Items.{has}
 use Rattle.bank_tables.specs.Faults.{bank_fault, item_fault}
 use Rattle.bank_tables.specs.Tables.{Tables, Item}
 use Rattle.bank_tables.specs.Validity.{IsBank}
@@ -149,9 +149,49 @@ unfolding tree_e problem_e bank_e item_e plan_e has is_impossible
 optimal_e =
     inl (
       form_03,
-      inl (refl, inl (refl, inl (refl, inl (refl, inl (refl, inl (refl, inl (inr (inr (lit≤ tt)), inl (inr (inr (lit≤ tt)),
-      inl (refl, inl (refl, inl (refl, inl (refl, inl (inr (inr (lit≤ tt)), inl (inr (inr (lit≤ tt)),
-      inl (refl, inl (refl, inl (inr (inr (lit≤ tt)), inl (inr (inr (lit≤ tt)), inl (inr (inr (lit≤ tt)), refl))))))))))))))))))),
+      inl (
+        refl,
+        inl (
+          refl,
+          inl (
+            refl,
+            inl (
+              refl,
+              inl (
+                refl,
+                inl (
+                  refl,
+                  inl (
+                    inr (inr (lit≤ tt)),
+                    inl (
+                      inr (inr (lit≤ tt)),
+                      inl (
+                        refl,
+                        inl (
+                          refl,
+                          inl (
+                            refl,
+                            inl (
+                              refl,
+                              inl (
+                                inr (inr (lit≤ tt)),
+                                inl (
+                                  inr (inr (lit≤ tt)),
+                                  inl (refl, inl (refl, inl (inr (inr (lit≤ tt)), inl (inr (inr (lit≤ tt)), inl (inr (inr (lit≤ tt)), refl))))),
+                                ),
+                              ),
+                            ),
+                          ),
+                        ),
+                      ),
+                    ),
+                  ),
+                ),
+              ),
+            ),
+          ),
+        ),
+      ),
     )
 
 best_e : Best problem_e (these (0 ∷ 3 ∷ []))

@@ -1,5 +1,5 @@
 -- Four items of ten words each, and room for fifteen words in a test of two: a ray shows that there is no form.
-use Rattle.std.proofs.Common.{◌≡◌, ℕ, zero, suc, ◌+◌, ◌*◌, ◌≤◌, ◌<◌, inl, inr, true, false, ◌==◌, List, [], ◌∷◌, ℤ, pos, negsuc, None, Some, refl, arith}
+use Rattle.std.proofs.Common.{◌≡◌, ℕ, zero, suc, ◌<◌, inl, true, false, [], ◌∷◌, pos, negsuc, None, refl, arith}
 use Rattle.std.specs.Prelude.{replicate, All}
 use Rattle.std.proofs.Math.Dec.{lit≤}
 use Rattle.bank_tables.specs.Items.{has}

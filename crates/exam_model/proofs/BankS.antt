@@ -1,31 +1,29 @@
 -- Five items, three of them of one stimulus: the stimulus goes on before a better item is served, and is barred once it is left.
-use Rattle.std.proofs.Common.{◌≡◌, ℕ, zero, suc, ◌+◌, ◌*◌, ◌≤◌, ◌<◌, inl, inr, Bool, true, false, ◌==◌, List, [], ◌∷◌, ℤ, pos, negsuc, None, Some, refl, sym, ◌∙◌, arith}
-use Rattle.std.specs.Prelude.{replicate, is_some}
+use Rattle.std.proofs.Common.{◌≡◌, ℕ, zero, suc, ◌+◌, ◌*◌, ◌≤◌, ◌<◌, inl, inr, Bool, true, false, List, [], ◌∷◌, ℤ, pos, negsuc, None, Some, refl, sym, arith}
+use Rattle.std.specs.Prelude.{replicate}
 use Rattle.std.proofs.Math.Dec.{lit≤}
 use Rattle.std.proofs.Math.Bool.{true≢false}
 use Rattle.bank_tables.specs.Items.{has}
 use Rattle.bank_tables.specs.Faults.{bank_fault, item_fault}
 use Rattle.bank_tables.specs.Tables.{Tables, Item}
-use Rattle.bank_tables.specs.Validity.{IsBank, HoldsItems}
+use Rattle.bank_tables.specs.Validity.{IsBank}
 use Rattle.bank_tables.proofs.BankLaws.{bank_is}
 use Rattle.exam_model.specs.declared.breach.Breach.TheVariants.{Barred}
-use Rattle.exam_model.specs.declared.node.Node.TheVariants.{Bound, Whole}
+use Rattle.exam_model.specs.declared.node.Node.TheVariants.{Whole}
 use Rattle.exam_model.specs.declared.verdict.Verdict.TheVariants.{Optimal}
-use Rattle.exam_model.specs.declared.row.StimulusBound.{StimulusBound}
 use Rattle.exam_model.specs.declared.seat.Seat.{Seat}
 use Rattle.exam_model.specs.Plan.{Plan, bound_at}
 use Rattle.exam_model.specs.Problem.{Problem}
-use Rattle.exam_model.specs.Forms.{Form, Best, objective, stimuli_of}
+use Rattle.exam_model.specs.Forms.{Form, Best, objective}
 use Rattle.exam_model.specs.Breaches.{IsFirstBreach}
 use Rattle.exam_model.specs.Paths.{root}
 use Rattle.exam_model.specs.Relaxed.{IsRelaxedMaximum}
 use Rattle.exam_model.specs.ProofTrees.{ProofTree}
-use Rattle.exam_model.specs.Verdicts.{IsVerdict, only_candidate}
-use Rattle.exam_model.specs.Ability.{IsPosteriorMode}
+use Rattle.exam_model.specs.Verdicts.{IsVerdict}
 use Rattle.exam_model.specs.Serving.{IsNext, is_candidate, stimulus_goes_on}
 use Rattle.exam_model.specs.Seats.{IsSeatProblem, seat_problem, is_barred}
 use Rattle.exam_model.specs.Validity.{IsPlanFor}
-use Rattle.exam_model.proofs.Computed.{these, these_below, these_in, one_word, word_below, logliks_are, form_is, is_no_form, meets_is, maximum_is, at_most, names_sides, mode_is, next_is}
+use Rattle.exam_model.proofs.Computed.{these, these_below, these_in, one_word, logliks_are, form_is, meets_is, maximum_is, at_most, names_sides, mode_is, next_is}
 use Rattle.exam_model.proofs.Reduced.{reduced, row_linear, amount_linear, item_part, stimulus_part, constant_form, items_linear, own_weight, low_stimulus, high_stimulus}
 use Rattle.exam_model.proofs.Greatest.{relaxed_by, best_stimulus}
 use Rattle.exam_model.proofs.TreeLaws.{optimal_is_best}

@@ -1,10 +1,10 @@
 -- Past the last row number no row is impossible.
-use Rattle.std.proofs.Common.{◌≡◌, ℕ, zero, suc, ◌+◌, ◌≤◌, ◌<◌, inl, inr, true, length, arith, nat_lt}
+use Rattle.std.proofs.Common.{◌≡◌, ℕ, zero, suc, ◌+◌, ◌≤◌, inl, inr, true, length, arith, nat_lt}
 use Rattle.std.proofs.lemmas.Bool.{ltb-true, and_parts}
 use Rattle.exam_model.specs.Problem.{Problem}
 use Rattle.exam_model.specs.Forms.{stimuli_of}
 use Rattle.exam_model.specs.Paths.{Path}
-use Rattle.exam_model.specs.Counting.{is_impossible, stimulus_impossible}
+use Rattle.exam_model.specs.Counting.{is_impossible}
 use Rattle.exam_model.proofs.SumLaws.{either}
 
 pub impossible_within : (P : Problem) (p : Path) (r : ℕ) → is_impossible P p r ≡ true → r ≤ length P.plan.rows + stimuli_of P.bank

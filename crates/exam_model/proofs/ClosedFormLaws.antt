@@ -1,23 +1,23 @@
 -- The closed form is the relaxed maximum.
-use Rattle.std.proofs.Common.{◌≡◌, ℕ, zero, suc, ◌+◌, ◌-◌, ◌*◌, ◌≤◌, ◌<◌, ◌⊎◌, inl, inr, Bool, true, false, cond, ◌==◌, max, length, ℤ, pos, ◌+ℤ◌, ◌-ℤ◌, ◌*ℤ◌, ◌≤ℤ◌, refl, sym, ap, ◌∙◌, subst, arith}
+use Rattle.std.proofs.Common.{◌≡◌, ℕ, zero, suc, ◌-◌, ◌*◌, ◌≤◌, ◌<◌, ◌⊎◌, inl, inr, Bool, false, cond, ◌==◌, length, ℤ, pos, ◌+ℤ◌, ◌*ℤ◌, ◌≤ℤ◌, refl, sym, ap, ◌∙◌, subst, arith}
 use Rattle.std.specs.Prelude.{int_le, int_lt}
 use Rattle.std.specs.Int.{int_max}
 use Rattle.std.proofs.lemmas.Int.{ints}
 use Rattle.std.proofs.lemmas.Bool.{eqb-true, eqb-false, eq-eqb, ne_eqb}
 use Rattle.bank_tables.specs.Items.{Set}
 use Rattle.bank_tables.specs.Sums.{sum_in_z, total_z, greatest_below}
-use Rattle.bank_tables.specs.Tables.{Tables, size, stimulus}
+use Rattle.bank_tables.specs.Tables.{size, stimulus}
 use Rattle.exam_model.specs.declared.row.Row.{Row}
 use Rattle.exam_model.specs.declared.row.Row.TheVariants.{Count, Quantity, Enemies, Stimuli}
 use Rattle.exam_model.specs.Forms.{stimuli_of, lower_bound, upper_bound}
-use Rattle.exam_model.specs.Plan.{row_at, bound_at}
+use Rattle.exam_model.specs.Plan.{row_at}
 use Rattle.exam_model.specs.Problem.{Problem}
 use Rattle.exam_model.specs.Paths.{Path, is_chosen, is_open}
-use Rattle.exam_model.specs.Relaxed.{Multipliers, multiplier, IsRelaxedMaximum}
+use Rattle.exam_model.specs.Relaxed.{Multipliers, IsRelaxedMaximum}
 use Rattle.exam_model.specs.ClosedForm.{price, bounds_price, stimulus_side, item_activity, stimulus_activity, item_weight, stimulus_weight, rows_constant, IsGreatestFill, stimulus_gain, closed_form}
 use Rattle.exam_model.proofs.SumLaws.{either}
 use Rattle.exam_model.proofs.Reduced.{reduced, row_linear, amount_linear, item_part, stimulus_part, constant_form, items_linear, own_weight, low_stimulus, high_stimulus, total_z-same}
-use Rattle.exam_model.proofs.Greatest.{IsTop, relaxed_by, relaxed_is, best_stimulus}
+use Rattle.exam_model.proofs.Greatest.{relaxed_by, relaxed_is, best_stimulus}
 
 -- ---- sums with one term, or none
 last_or : (i n : ℕ) → i < suc n → (i < n) ⊎ (i ≡ n)

@@ -1,11 +1,11 @@
 -- Facts of the definitions by computing, for the worked rows.
 use Rattle.std.proofs.Common.{◌≡◌, ℕ, zero, suc, ◌+◌, ◌*◌, ◌/◌, ◌%◌, ◌^◌, ◌≤◌, ◌<◌, ◌⊎◌, inl, inr, Bool, true, false, not, ◌&&◌, ◌||◌, ◌==◌, List, [], ◌∷◌, length, get_or, ℤ, pos, ◌≤ℤ◌, ◌<ℤ◌, refl, sym, ap, ◌∙◌, subst, arith, nat_lt}
-use Rattle.std.specs.Prelude.{nat_le, int_le, int_lt, IsTrue, IsFalse}
+use Rattle.std.specs.Prelude.{nat_le, int_le, int_lt}
 use Rattle.std.specs.List.{list_any, list_all}
 use Rattle.std.specs.Int.{bit_at}
 use Rattle.std.proofs.lemmas.Int.{ints}
 use Rattle.std.proofs.lemmas.Nat.Bits.{bit_at_above, bit_at-zero}
-use Rattle.std.proofs.lemmas.Bool.{and_parts, and_from, lt-ltb, ltb-true, leb-true, le-leb, eqb-true, eq-eqb, not-true, cases_lt}
+use Rattle.std.proofs.lemmas.Bool.{and_parts, and_from, ltb-true, leb-true, le-leb, eqb-true, eq-eqb, not-true, cases_lt}
 use Rattle.std.proofs.Math.Bool.{true≢false}
 use Rattle.bank_tables.specs.Items.{Set, has}
 use Rattle.bank_tables.specs.Faults.{is_loglik}
@@ -13,9 +13,9 @@ use Rattle.bank_tables.specs.Tables.{Tables, size, info}
 use Rattle.bank_tables.specs.Validity.{HoldsItems, IsLogLik}
 use Rattle.exam_model.specs.Plan.{Plan, row_at, bound_at}
 use Rattle.exam_model.specs.Problem.{Problem}
-use Rattle.exam_model.specs.Forms.{activity, lower_bound, upper_bound, items_of, stimuli_of, size_in, used, RowHolds, StimulusHolds, Meets, Form, objective}
+use Rattle.exam_model.specs.Forms.{activity, lower_bound, upper_bound, items_of, stimuli_of, size_in, used, RowHolds, StimulusHolds, Meets, Form}
 use Rattle.exam_model.specs.Paths.{Path, is_free}
-use Rattle.exam_model.specs.Counting.{is_impossible, IsFirstImpossible}
+use Rattle.exam_model.specs.Counting.{is_impossible}
 use Rattle.exam_model.specs.Relaxed.{Multipliers, IsRelaxedMaximum}
 use Rattle.exam_model.specs.Verdicts.{MaximumIsAtMost, NamesOnlySides}
 use Rattle.exam_model.specs.Ability.{AnswerList, log_posterior, IsPosteriorMode}

@@ -1,24 +1,24 @@
 -- A bank with stimuli and a quantity, under a plan with a row of each kind: what holds and what fails, what is possible and what isn't, on each side.
-use Rattle.std.proofs.Common.{◌≡◌, ℕ, zero, suc, ◌+◌, ◌≤◌, ◌<◌, ◌⊎◌, inl, inr, Bool, true, false, not, ◌||◌, ◌==◌, List, [], ◌∷◌, length, ℤ, pos, negsuc, Option, None, Some, refl, sym, ◌∙◌, arith}
+use Rattle.std.proofs.Common.{◌≡◌, ℕ, zero, suc, ◌<◌, inl, inr, Bool, true, false, ◌||◌, ◌==◌, List, [], ◌∷◌, pos, negsuc, None, Some, refl, sym, ◌∙◌, arith}
 use Rattle.std.specs.Prelude.{is_some, replicate}
 use Rattle.std.proofs.Math.Dec.{lit≤}
 use Rattle.std.proofs.Math.Bool.{true≢false}
-use Rattle.bank_tables.specs.Items.{Set, has}
+use Rattle.bank_tables.specs.Items.{has}
 use Rattle.bank_tables.specs.Faults.{bank_fault, item_fault}
 use Rattle.bank_tables.specs.Tables.{Tables, Item, loglik}
 use Rattle.bank_tables.specs.Validity.{IsBank}
 use Rattle.bank_tables.proofs.BankLaws.{bank_is}
 use Rattle.exam_model.specs.declared.row.Row.TheVariants.{Count, Quantity, Enemies, Stimuli}
 use Rattle.exam_model.specs.declared.breach.Breach.TheVariants.{Stimulus, Given, Row as RowBreach}
-use Rattle.exam_model.specs.Plan.{Plan, row_at, bound_at, no_row}
+use Rattle.exam_model.specs.Plan.{Plan, row_at, no_row}
 use Rattle.exam_model.specs.Problem.{Problem, whole}
-use Rattle.exam_model.specs.Forms.{RowHolds, StimulusHolds, Form, stimuli_of, used, items_of, activity}
+use Rattle.exam_model.specs.Forms.{RowHolds, StimulusHolds, Form, stimuli_of, used, activity}
 use Rattle.exam_model.specs.Breaches.{IsFirstBreach}
 use Rattle.exam_model.specs.Paths.{Path, root, with_item, with_stimulus, is_free, is_chosen, is_open, undecided}
 use Rattle.exam_model.specs.Counting.{is_impossible, IsFirstImpossible}
 use Rattle.exam_model.specs.Relaxed.{lagrangian, multiplier}
 use Rattle.exam_model.specs.Verdicts.{only_candidate, CandidateIsSettled}
-use Rattle.exam_model.proofs.Computed.{these, these_below, one_word, row_test, stimulus_test, row_is, row_from, stimulus_is, stimulus_from, form_is, meets_is, is_no_form}
+use Rattle.exam_model.proofs.Computed.{these, these_below, one_word, row_test, stimulus_test, row_is, row_from, stimulus_is, stimulus_from, form_is, meets_is}
 
 -- stimulus, quantity, information
 unfoldable pub item_r : ℕ → ℕ → ℕ → Item
@@ -110,14 +110,13 @@ form_r = form_is problem_r (these (0 ∷ 1 ∷ 3 ∷ [])) (these_below 6 (0 ∷ 
 -- items 1, 2 and 5 come to 110 of the quantity, 10 too many
 breach_row : IsFirstBreach problem_r (these (1 ∷ 2 ∷ 5 ∷ [])) (Some (RowBreach 1 110))
 unfolding problem_r bank_r item_r plan_r has
-breach_row =
-    (
-      record { in_bank = these_below 6 (1 ∷ 2 ∷ 5 ∷ []) refl; n_items = refl },
-      before,
-      lit≤ tt,
-      λ h. let high = h.high in omega arith,
-      refl,
-    )
+breach_row = (
+  record { in_bank = these_below 6 (1 ∷ 2 ∷ 5 ∷ []) refl; n_items = refl },
+  before,
+  lit≤ tt,
+  λ h. let high = h.high in omega arith,
+  refl,
+)
   where
     before : (q : ℕ) → q < 1 → RowHolds bank_r plan_r (these (1 ∷ 2 ∷ 5 ∷ [])) q
     before zero w = row_is bank_r plan_r (these (1 ∷ 2 ∷ 5 ∷ [])) 0 refl
@@ -130,16 +129,15 @@ plan_bounds = record plan_r { rows = [] }
 
 breach_stimulus : IsFirstBreach (whole bank_r plan_bounds 0) (these (0 ∷ 3 ∷ 5 ∷ [])) (Some (Stimulus 1 1))
 unfolding bank_r item_r plan_r plan_bounds
-breach_stimulus =
-    (
-      record { in_bank = these_below 6 (0 ∷ 3 ∷ 5 ∷ []) refl; n_items = refl },
-      λ q w. absurd (omega arith),
-      λ t first before. absurd (omega arith),
-      lit≤ tt,
-      lit≤ tt,
-      λ h. elim h.low [ inl none ↦ omega arith | inr low ↦ omega arith ],
-      refl,
-    )
+breach_stimulus = (
+  record { in_bank = these_below 6 (0 ∷ 3 ∷ 5 ∷ []) refl; n_items = refl },
+  λ q w. absurd (omega arith),
+  λ t first before. absurd (omega arith),
+  lit≤ tt,
+  lit≤ tt,
+  λ h. elim h.low [ inl none ↦ omega arith | inr low ↦ omega arith ],
+  refl,
+)
 
 -- a set that meets the plan but lacks an item given
 breach_given : IsFirstBreach (record (whole bank_r plan_r 0) { given = these (4 ∷ []) }) (these (0 ∷ 1 ∷ 3 ∷ [])) (Some (Given 4))
@@ -237,7 +235,7 @@ unfolding r problem_r bank_r item_r
 left_to_decide = (refl, refl, refl, refl)
 
 -- ---- the only candidate: none at the root; the three in; the three in or free; where nothing is free; not with four in and items free
-candidates : (is_some (only_candidate problem_r r) ≡ false) × (is_some (only_candidate problem_r (on 0 (on 1 (on 2 r)))) ≡ true) × (is_some (only_candidate problem_r (off 0 (off 1 (off 2 r)))) ≡ true) × (is_some (only_candidate problem_r (on 0 (on 1 (on 2 (on 3 r))))) ≡ false) × (is_some (only_candidate problem_r (off 5 (off 4 (on 0 (on 1 (on 2 (on 3 r)))))) ) ≡ true)
+candidates : (is_some (only_candidate problem_r r) ≡ false) × (is_some (only_candidate problem_r (on 0 (on 1 (on 2 r)))) ≡ true) × (is_some (only_candidate problem_r (off 0 (off 1 (off 2 r)))) ≡ true) × (is_some (only_candidate problem_r (on 0 (on 1 (on 2 (on 3 r))))) ≡ false) × (is_some (only_candidate problem_r (off 5 (off 4 (on 0 (on 1 (on 2 (on 3 r))))))) ≡ true)
 unfolding r problem_r bank_r item_r plan_r
 candidates = (refl, refl, refl, refl, refl)
 

@@ -1,5 +1,5 @@
 -- Each reason for which a node is unsound.
-use Rattle.std.proofs.Common.{◌≡◌, ℕ, zero, suc, ◌+◌, ◌*◌, ◌≤◌, ◌<◌, inl, inr, true, false, ◌||◌, ◌==◌, List, [], ◌∷◌, ℤ, pos, negsuc, ◌<ℤ◌, None, Some, refl, sym, ◌∙◌, arith}
+use Rattle.std.proofs.Common.{◌≡◌, ℕ, ◌+◌, ◌*◌, ◌<◌, inl, inr, true, false, ◌||◌, ◌==◌, [], ◌∷◌, pos, negsuc, None, Some, refl, sym, arith}
 use Rattle.std.proofs.Math.Dec.{lit≤}
 use Rattle.std.proofs.Math.Bool.{true≢false}
 use Rattle.std.proofs.lemmas.Bool.{eqb-true}
@@ -7,16 +7,15 @@ use Rattle.bank_tables.specs.Items.{has}
 use Rattle.exam_model.specs.declared.node.Node.{Node}
 use Rattle.exam_model.specs.declared.node.Node.TheVariants.{BranchItem, BranchStimulus, Bound, Ray, Count, Whole, Open}
 use Rattle.exam_model.specs.declared.verdict.Reason.TheVariants.{NotForm, Determined, NoVector, NoSide, NotClosed, NotNegative, RowPossible, NotWhole, Better, OpenWhole}
-use Rattle.exam_model.specs.declared.verdict.Verdict.TheVariants.{Optimal, Partial, Bad}
-use Rattle.exam_model.specs.Problem.{Problem}
-use Rattle.exam_model.specs.Forms.{Form, objective}
+use Rattle.exam_model.specs.declared.verdict.Verdict.TheVariants.{Partial, Bad}
+use Rattle.exam_model.specs.Forms.{objective}
 use Rattle.exam_model.specs.Paths.{root, with_item}
 use Rattle.exam_model.specs.Counting.{is_impossible}
-use Rattle.exam_model.specs.Relaxed.{Multipliers, IsRelaxedMaximum}
+use Rattle.exam_model.specs.Relaxed.{IsRelaxedMaximum}
 use Rattle.exam_model.specs.ProofTrees.{ProofTree}
-use Rattle.exam_model.specs.Verdicts.{IsVerdict, NamesOnlySides, IsStimulusBranch, CandidateIsSettled, LacksChosen}
+use Rattle.exam_model.specs.Verdicts.{IsVerdict, NamesOnlySides}
 use Rattle.exam_model.proofs.SumLaws.{or_true}
-use Rattle.exam_model.proofs.Computed.{these, these_below, one_word, form_is, maximum_is, not_at_most, names_sides}
+use Rattle.exam_model.proofs.Computed.{these, these_below, form_is, maximum_is, not_at_most, names_sides}
 use Rattle.exam_model.proofs.Reduced.{reduced, row_linear, amount_linear, item_part, stimulus_part, constant_form, items_linear, own_weight, low_stimulus, high_stimulus}
 use Rattle.exam_model.proofs.Greatest.{relaxed_by, best_stimulus}
 use Rattle.exam_model.proofs.BankA.{item_a, bank_a, plan_of_rows, plan_a, problem_a, one_bound, form_123, no_form_125, not_closed_a}
@@ -133,19 +132,51 @@ taken_below i e =
 
 better : IsVerdict problem_e (Some (these (2 ∷ 4 ∷ []))) to_03 (Bad 2 Better)
 unfolding to_03 problem_e bank_e item_e plan_e has
-better = inl (form_24, inl (refl, inl (refl, inr (Better, ((λ e. absurd (cc)), λ settled. elim settled [
-  | inl no_form ↦ absurd (no_form (form_is problem_e (with_item (with_item (root problem_e) 0 true) 3 true).taken taken_below (λ i e. absurd (cc)) refl))
-  | inr (inl lacks) ↦ (let first = lacks.first in let last = lacks.last in omega arith)
-  | inr (inr no_better) ↦ (let n = no_better in omega arith)
-]), refl))))
+better = inl (
+  form_24,
+  inl (
+    refl,
+    inl (
+      refl,
+      inr (
+        Better,
+        (
+          (λ e. absurd (cc)),
+          λ settled. elim settled [
+            | inl no_form ↦ absurd (no_form (form_is problem_e (with_item (with_item (root problem_e) 0 true) 3 true).taken taken_below (λ i e. absurd (cc)) refl))
+            | inr (inl lacks) ↦ (let first = lacks.first in let last = lacks.last in omega arith)
+            | inr (inr no_better) ↦ (let n = no_better in omega arith)
+          ],
+        ),
+        refl,
+      ),
+    ),
+  ),
+)
 
 better_than_none : IsVerdict problem_e None to_03 (Bad 2 Better)
 unfolding to_03 problem_e bank_e item_e plan_e has
-better_than_none = inl (tt, inl (refl, inl (refl, inr (Better, ((λ e. absurd (cc)), λ settled. elim settled [
-  | inl no_form ↦ absurd (no_form (form_is problem_e (with_item (with_item (root problem_e) 0 true) 3 true).taken taken_below (λ i e. absurd (cc)) refl))
-  | inr (inl lacks) ↦ (let first = lacks.first in let last = lacks.last in omega arith)
-  | inr (inr no_better) ↦ no_better
-]), refl))))
+better_than_none = inl (
+  tt,
+  inl (
+    refl,
+    inl (
+      refl,
+      inr (
+        Better,
+        (
+          (λ e. absurd (cc)),
+          λ settled. elim settled [
+            | inl no_form ↦ absurd (no_form (form_is problem_e (with_item (with_item (root problem_e) 0 true) 3 true).taken taken_below (λ i e. absurd (cc)) refl))
+            | inr (inl lacks) ↦ (let first = lacks.first in let last = lacks.last in omega arith)
+            | inr (inr no_better) ↦ no_better
+          ],
+        ),
+        refl,
+      ),
+    ),
+  ),
+)
 
 -- with the form of items 0 and 3 itself the same nodes are sound, and two leaves are Open
 settled_03 : IsVerdict problem_e (Some (these (0 ∷ 3 ∷ []))) to_03 (Partial 2)

@@ -1,19 +1,18 @@
 -- Trees that spend their budget, and for each part of the rule one that breaks it alone.
-use Rattle.std.proofs.Common.{◌≡◌, ℕ, zero, suc, ◌+◌, ◌*◌, ◌≤◌, ◌<◌, inl, inr, true, false, List, [], ◌∷◌, ℤ, pos, negsuc, None, Some, refl, sym, ◌∙◌, arith}
+use Rattle.std.proofs.Common.{◌≡◌, ℕ, inl, true, false, [], ◌∷◌, pos, None, refl, sym, ◌∙◌, arith}
 use Rattle.std.proofs.lemmas.Int.{ints}
 use Rattle.std.proofs.Math.Dec.{lit≤}
 use Rattle.std.proofs.Math.Bool.{true≢false}
 use Rattle.bank_tables.specs.Items.{has}
 use Rattle.exam_model.specs.declared.node.Node.TheVariants.{BranchItem, BranchStimulus, Whole, Open}
 use Rattle.exam_model.specs.declared.verdict.Verdict.TheVariants.{Partial}
-use Rattle.exam_model.specs.Problem.{Problem}
 use Rattle.exam_model.specs.Forms.{Form}
 use Rattle.exam_model.specs.Paths.{Path, root, with_item}
 use Rattle.exam_model.specs.Counting.{is_impossible}
 use Rattle.exam_model.specs.Relaxed.{IsRelaxedMaximum}
 use Rattle.exam_model.specs.ProofTrees.{ProofTree}
 use Rattle.exam_model.specs.Verdicts.{IsVerdict}
-use Rattle.exam_model.specs.Spending.{IsSpent, IsDepthFirst, IsUnresolved, open_leaves}
+use Rattle.exam_model.specs.Spending.{IsSpent, IsDepthFirst, IsUnresolved}
 use Rattle.exam_model.proofs.Computed.{these, these_below, one_word, word_below, form_is, all_possible, maximum_is}
 use Rattle.exam_model.proofs.Reduced.{reduced, row_linear, amount_linear, item_part, stimulus_part, constant_form, items_linear, own_weight, low_stimulus, high_stimulus}
 use Rattle.exam_model.proofs.Greatest.{relaxed_by, best_stimulus}

@@ -1,5 +1,5 @@
 -- Bank A goes on: the estimate after each answer, the next problems of the seat, their forms and next items.
-use Rattle.std.proofs.Common.{◌≡◌, ℕ, zero, suc, ◌+◌, ◌*◌, ◌≤◌, ◌<◌, inl, inr, Bool, true, false, ◌==◌, List, [], ◌∷◌, length, ℤ, pos, negsuc, None, Some, refl, sym, ap, ◌∙◌, subst, arith}
+use Rattle.std.proofs.Common.{◌≡◌, ℕ, zero, suc, ◌+◌, ◌*◌, ◌<◌, inl, inr, true, false, List, [], ◌∷◌, pos, negsuc, None, Some, refl, sym, ap, ◌∙◌, subst, arith}
 use Rattle.std.specs.Prelude.{slice_get}
 use Rattle.std.proofs.Math.Dec.{lit≤}
 use Rattle.std.proofs.Math.Bool.{true≢false}
@@ -22,14 +22,12 @@ use Rattle.exam_model.specs.Pruning.{IsPruned}
 use Rattle.exam_model.specs.Verdicts.{IsVerdict}
 use Rattle.exam_model.specs.Ability.{IsPosteriorMode, log_posterior}
 use Rattle.exam_model.specs.Serving.{IsNext}
-use Rattle.exam_model.specs.Seats.{IsSeat, IsPending, IsSeatProblem, seat_problem, is_shown}
-use Rattle.exam_model.proofs.SumLaws.{or_true}
+use Rattle.exam_model.specs.Seats.{IsSeat, IsPending, IsSeatProblem, seat_problem}
 use Rattle.exam_model.proofs.Computed.{these, these_below, one_word, word_below, form_is, maximum_is, at_most, names_sides, mode_is, next_is}
 use Rattle.exam_model.proofs.Reduced.{reduced, row_linear, amount_linear, item_part, stimulus_part, constant_form, items_linear, own_weight, low_stimulus, high_stimulus}
 use Rattle.exam_model.proofs.Greatest.{relaxed_by, best_stimulus}
 use Rattle.exam_model.proofs.TreeLaws.{optimal_is_best, no_form_is_none}
-use Rattle.exam_model.proofs.OneVerdict.{one_verdict}
-use Rattle.exam_model.proofs.BankA.{item_a, sevens, bank_a, plan_of_rows, plan_a, problem_a, one_bound}
+use Rattle.exam_model.proofs.BankA.{item_a, sevens, bank_a, plan_of_rows, plan_a, one_bound}
 
 -- ---- item 2 is answered by response 1: -40, -15, -11, so the mode is point 2
 sums_1 : (log_posterior bank_a plan_a.prior ((2, 1) ∷ []) 0 ≡ negsuc 39) × (log_posterior bank_a plan_a.prior ((2, 1) ∷ []) 1 ≡ negsuc 14) × (log_posterior bank_a plan_a.prior ((2, 1) ∷ []) 2 ≡ negsuc 10)

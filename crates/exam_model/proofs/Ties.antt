@@ -1,5 +1,5 @@
 -- Ties: of the estimate, of the next item, and of the best form.
-use Rattle.std.proofs.Common.{◌≡◌, ℕ, zero, suc, ◌+◌, ◌*◌, ◌≤◌, ◌<◌, inl, inr, true, false, ◌==◌, List, [], ◌∷◌, ℤ, pos, negsuc, ◌<ℤ◌, None, Some, refl, arith}
+use Rattle.std.proofs.Common.{◌+◌, ◌*◌, inl, false, [], ◌∷◌, pos, negsuc, None, Some, refl, arith}
 use Rattle.std.specs.Prelude.{replicate}
 use Rattle.std.proofs.lemmas.Int.{ints}
 use Rattle.std.proofs.Math.Dec.{lit≤}
@@ -9,7 +9,6 @@ use Rattle.bank_tables.specs.Tables.{Tables, Item}
 use Rattle.bank_tables.specs.Validity.{IsBank}
 use Rattle.bank_tables.proofs.BankLaws.{bank_is}
 use Rattle.exam_model.specs.declared.row.Row.TheVariants.{Count}
-use Rattle.exam_model.specs.declared.node.Node.TheVariants.{Bound}
 use Rattle.exam_model.specs.declared.verdict.Verdict.TheVariants.{Optimal}
 use Rattle.exam_model.specs.Plan.{Plan}
 use Rattle.exam_model.specs.Problem.{Problem, whole}
