@@ -4,11 +4,14 @@
 //! judges what a tree shows.
 #![tactic(auto)]
 
+mod fault;
 mod memory;
+mod reading;
 mod tree;
 mod vector;
 
 pub use exam_model::Node;
+pub use fault::TreeFault;
 pub use memory::Memory;
 pub use tree::Tree;
 pub use vector::Vector;
