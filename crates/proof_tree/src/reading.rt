@@ -7,6 +7,9 @@ ghost use Rattle.proof_tree.specs.declared.fault.TreeFault.TheVariants.{Memory};
 ghost use Rattle.proof_tree.specs.Reading.{number_at, byte_at, pair_at, pairs_at, multipliers_at, vectors_at, item_branch_at, stimulus_branch_at, bound_at, ray_at, count_at, node_of_kind, node_at, nodes_at, read};
 
 use crate::fault::TreeFault;
+use crate::tree::{Tree, children};
+use crate::vector::Vector;
+use bank_tables::List;
 use exam_model::Node;
 use std::alloc::Global;
 
@@ -149,4 +152,90 @@ fn node_of(bytes: &[u8], at: usize) -> Result<(Node, usize), TreeFault>
     ensures there { IfOk result (λ node. node.1 ≤ length bytes.now) }
 {
     node_of_kind(bytes[at], bytes, at)
+}
+
+/// So many pairs, and the place behind them.
+fn pairs_of(alloc: Global, count: u16, bytes: &[u8], at: usize) -> Result<(Vec<(u16, u32)>, usize), TreeFault>
+    requires { at ≤ length bytes.now }
+    ensures pairs { Gives Memory (λ x. (x.0.items, x.1)) result (pairs_at count bytes.now at 0) }
+    ensures there { IfOk result (λ x. x.1 ≤ length bytes.now) }
+{
+    let mut pairs = Vec::new(alloc);
+    let mut low = 0;
+    let mut at = at;
+    for _ in 0..count {
+        let pair = pair_of(bytes, at, low)?;
+        pairs.push(pair)?;
+        low = pair.0 + 1;
+        at += 6;
+    }
+    Ok((pairs, at))
+}
+
+#[tactic(auto, unfolding(crate::specs::Reading::multipliers_at))]
+fn vector_of(alloc: Global, bytes: &[u8], at: usize) -> Result<(Vector, usize), TreeFault>
+    requires { at ≤ length bytes.now }
+    ensures vector { Gives Memory (λ x. x) result (multipliers_at bytes.now at) }
+    ensures there { IfOk result (λ x. x.1 ≤ length bytes.now) }
+{
+    let count = u16_of(bytes, at)?;
+    if 384 < count {
+        return Err(TreeFault::BadVector(at as u64));
+    }
+    let (pairs, next) = pairs_of(alloc, count, bytes, at + 2)?;
+    Ok((Vector::new(List::of(pairs)), next))
+}
+
+/// So many vectors, and the place behind them.
+fn vectors_of(alloc: Global, count: u8, bytes: &[u8], at: usize) -> Result<(Vec<Vector>, usize), TreeFault>
+    requires { at ≤ length bytes.now }
+    ensures vectors { Gives Memory (λ x. (x.0.items, x.1)) result (vectors_at count bytes.now at) }
+    ensures there { IfOk result (λ x. x.1 ≤ length bytes.now) }
+{
+    let mut vectors = Vec::new(alloc);
+    let mut at = at;
+    for _ in 0..count {
+        let (vector, next) = vector_of(alloc, bytes, at)?;
+        vectors.push(vector)?;
+        at = next;
+    }
+    Ok((vectors, at))
+}
+
+/// The nodes of one tree, and the place behind them.
+fn nodes_of(alloc: Global, bytes: &[u8], at: usize) -> Result<(Vec<Node>, usize), TreeFault>
+    requires { at ≤ length bytes.now }
+    ensures { Gives Memory (λ x. (x.0.items, x.1)) result (nodes_at 4095 1 bytes.now at) }
+{
+    let mut nodes = Vec::new(alloc);
+    let mut room: usize = 4095;
+    let mut waiting = 1;
+    let mut at = at;
+    while waiting > 0 {
+        if at == bytes.len() {
+            return Err(TreeFault::Unfinished(at as u64));
+        }
+        if room == 0 {
+            return Err(TreeFault::TooLong(at as u64));
+        }
+        let (node, next) = node_of(bytes, at)?;
+        waiting = waiting - 1 + children(&node);
+        nodes.push(node)?;
+        room -= 1;
+        at = next;
+    }
+    Ok((nodes, at))
+}
+
+#[tactic(auto, unfolding(crate::specs::Reading::read))]
+fn tree_of(alloc: Global, bytes: &[u8]) -> Result<(Tree, usize), TreeFault>
+    ensures { Gives Memory (λ x. x) result (read bytes.now) }
+{
+    let count = byte_of(bytes, 0)?;
+    if 32 < count {
+        return Err(TreeFault::BadVector(0));
+    }
+    let (vectors, next) = vectors_of(alloc, count, bytes, 1)?;
+    let (nodes, next) = nodes_of(alloc, bytes, next)?;
+    Ok((Tree::new(List::of(vectors), List::of(nodes)), next))
 }
