@@ -1,6 +1,6 @@
 -- Reading a proof tree from left to right, up to the first fault, which is told with the place of the field or node
 -- in which it stands.
-use Rattle.std.specs.Prelude.{ℕ, zero, suc, ◌+◌, not, ◌||◌, ◌&&◌, ◌==◌, nat_lt, nat_le, List, [], ◌∷◌, length, take, drop, slice_index, Result, Ok, Err, if◌then◌else◌}
+use Rattle.std.specs.Prelude.{ℕ, zero, suc, ◌+◌, ◌||◌, ◌==◌, nat_lt, nat_le, List, [], ◌∷◌, length, take, drop, slice_index, Result, Ok, Err, if◌then◌else◌}
 use Rattle.std.specs.Int.{Width, w16, w32, byte_len, from_be_bytes}
 use Rattle.exam_text.specs.First.{◌>>=◌, unless, fault_where}
 use Rattle.exam_model.specs.declared.node.Node.{Node}

@@ -1,5 +1,5 @@
 -- The one spelling of each proof tree in bytes; numbers are big-endian.
-use Rattle.std.specs.Prelude.{ℕ, List, [], ◌∷◌, ◌++◌, length}
+use Rattle.std.specs.Prelude.{◌≡◌, ℕ, List, [], ◌∷◌, ◌++◌, length}
 use Rattle.std.specs.List.{flat_map}
 use Rattle.std.specs.Int.{w16, w32, to_be_bytes}
 use Rattle.exam_model.specs.declared.node.Node.{Node}
@@ -28,3 +28,7 @@ node_bytes Open = 7 ∷ []
 -- the number of vectors in one byte, the vectors, and the nodes in preorder
 unfoldable pub bytes_of : ProofTree → List ℕ
 bytes_of T = length T.vectors ∷ (flat_map vector_bytes T.vectors ++ flat_map node_bytes T.nodes)
+
+-- the spelling of the tree, whatever follows it
+abbrev pub BeginsWith : List ℕ → ProofTree → Type 0
+BeginsWith bytes T = (rest : List ℕ) × (bytes ≡ bytes_of T ++ rest)

@@ -9,9 +9,12 @@ mod memory;
 mod reading;
 mod tree;
 mod vector;
+mod writing;
 
 pub use exam_model::Node;
 pub use fault::TreeFault;
 pub use memory::Memory;
+pub use reading::decode;
 pub use tree::Tree;
 pub use vector::Vector;
+pub use writing::encode;

@@ -1,8 +1,11 @@
 //! Reading a proof tree.
 
-ghost use Rattle.std.specs.Prelude.{◌≡◌, ◌+◌, ◌≤◌, ◌<◌, length, IfOk, OnOk};
+ghost use Rattle.std.specs.Prelude.{◌≡◌, ◌+◌, ◌≤◌, ◌<◌, length, IfOk, OnOk, Ok};
 ghost use Rattle.std.specs.Int.{w16, w32};
 ghost use Rattle.exam_text.specs.First.{Gives};
+ghost use Rattle.exam_model.specs.ProofTrees.{ProofTree};
+ghost use Rattle.proof_tree.specs.Shape.{IsTree};
+ghost use Rattle.proof_tree.specs.Spelling.{bytes_of, BeginsWith};
 ghost use Rattle.proof_tree.specs.declared.fault.TreeFault.TheVariants.{Memory};
 ghost use Rattle.proof_tree.specs.Reading.{number_at, byte_at, pair_at, pairs_at, multipliers_at, vectors_at, item_branch_at, stimulus_branch_at, bound_at, ray_at, count_at, node_of_kind, node_at, nodes_at, read};
 
@@ -155,7 +158,12 @@ fn node_of(bytes: &[u8], at: usize) -> Result<(Node, usize), TreeFault>
 }
 
 /// So many pairs, and the place behind them.
-fn pairs_of(alloc: Global, count: u16, bytes: &[u8], at: usize) -> Result<(Vec<(u16, u32)>, usize), TreeFault>
+fn pairs_of(
+    alloc: Global,
+    count: u16,
+    bytes: &[u8],
+    at: usize,
+) -> Result<(Vec<(u16, u32)>, usize), TreeFault>
     requires { at ≤ length bytes.now }
     ensures pairs { Gives Memory (λ x. (x.0.items, x.1)) result (pairs_at count bytes.now at 0) }
     ensures there { IfOk result (λ x. x.1 ≤ length bytes.now) }
@@ -187,7 +195,12 @@ fn vector_of(alloc: Global, bytes: &[u8], at: usize) -> Result<(Vector, usize), 
 }
 
 /// So many vectors, and the place behind them.
-fn vectors_of(alloc: Global, count: u8, bytes: &[u8], at: usize) -> Result<(Vec<Vector>, usize), TreeFault>
+fn vectors_of(
+    alloc: Global,
+    count: u8,
+    bytes: &[u8],
+    at: usize,
+) -> Result<(Vec<Vector>, usize), TreeFault>
     requires { at ≤ length bytes.now }
     ensures vectors { Gives Memory (λ x. (x.0.items, x.1)) result (vectors_at count bytes.now at) }
     ensures there { IfOk result (λ x. x.1 ≤ length bytes.now) }
@@ -238,4 +251,16 @@ fn tree_of(alloc: Global, bytes: &[u8]) -> Result<(Tree, usize), TreeFault>
     let (vectors, next) = vectors_of(alloc, count, bytes, 1)?;
     let (nodes, next) = nodes_of(alloc, bytes, next)?;
     Ok((Tree::new(List::of(vectors), List::of(nodes)), next))
+}
+
+/// The tree that the bytes begin with, and how many bytes it takes; what follows isn't looked at.
+pub fn decode(alloc: Global, bytes: &[u8]) -> Result<(Tree, usize), TreeFault>
+    // What is read is the one spelling of the tree.
+    ensures found { IfOk result (λ x. IsTree x.0 × BeginsWith bytes.now x.0 × (x.1 ≡ length (bytes_of x.0))) }
+    // What is spelled so is read, whatever follows, unless memory runs out.
+    ensures only { (T : ProofTree) → IsTree T → BeginsWith bytes.now T → Gives Memory (λ x. x) result (Ok (T, length (bytes_of T))) }
+    // Which fault it is, and where.
+    ensures exact { Gives Memory (λ x. x) result (read bytes.now) }
+{
+    tree_of(alloc, bytes)
 }
