@@ -1,0 +1,6 @@
+pub mod Shapes
+pub mod Loops
+pub mod Fields
+pub mod VectorLaws
+pub mod NodeLaws
+pub mod TreeLaws
