@@ -6,4 +6,5 @@ mod Looking
 mod Mending
 mod OpeningMoments
 mod Reading
+mod Syncing
 mod Tidying

@@ -1,11 +1,12 @@
 // The device calls that add a record, and those that resolve one in doubt.
 ghost use Rattle.std.specs.Prelude.{◌≡◌, ◌≤◌, ◌<◌, ◌+◌, ◌-◌, ◌↔◌, ◌==◌, [], ◌∷◌, ◌++◌, length, slice_index, IsTrue, IfOk, OnOk, OnErr};
 ghost use Rattle.exam_edge.specs.Faults.{Rose};
-ghost use Rattle.exam_edge.specs.Images.{AtEachMoment};
+ghost use Rattle.exam_edge.specs.Images.{AtEachMoment, Grows, IsSettled, latest};
 ghost use Rattle.answer_journal.specs.Frames.{front};
 ghost use Rattle.answer_journal.specs.Outcome.{mended, mended_length};
 ghost use Rattle.answer_journal.specs.Standing.{held, IsAtRest, IsEither, IsInDoubt};
 
+use crate::durable::{cut_durably, write_durably};
 use crate::frames::OPEN;
 use crate::{Adopted, Frame};
 use exam_edge::{Disk, Failed};
@@ -26,25 +27,25 @@ pub fn write_record<D: Disk>(disk: &mut D, size: u64, frame: &Frame) -> Result<(
     ensures tells { D.tells disk.new ≡ D.tells disk.old }
     ensures identity { D.identity disk.new ≡ D.identity disk.old }
 {
-    disk.write_at(size, frame.record_bytes())?;
-    disk.sync()?;
-    disk.write_at(size - 1, &[OPEN])?;
-    disk.sync()?;
+    write_durably(disk, size, frame.record_bytes())?;
+    write_durably(disk, size - 1, &[OPEN])?;
     // The gate stands open on the disk.
     Ok(())
 }
 
-// Whether the byte at a place reads as an open gate.
-fn gate_reads_open<D: Disk>(disk: &mut D, at: u64) -> Result<bool, Failed>
-    ensures gate { IfOk result (λ answer. IsTrue (D.tells disk.old) → at < length (D.content disk.old)
-        → answer ≡ (slice_index (D.content disk.old) at == 1)) }
+// Syncs, and says whether the byte at a place is an open gate.
+fn sync_and_read_gate<D: Disk>(disk: &mut D, at: u64) -> Result<bool, Failed>
+    ensures gate { IfOk result (λ is_open. IsTrue (D.tells disk.old) → at < length (D.content disk.old)
+        → is_open ≡ (slice_index (D.content disk.old) at == 1)) }
     ensures content { IsTrue (D.tells disk.old) → D.content disk.new ≡ D.content disk.old }
-    ensures accounts { IsTrue (D.tells disk.old) → D.accounts disk.new ≡ D.accounts disk.old }
+    ensures settled { OnOk result (IsTrue (D.tells disk.old) → IsSettled (D.content disk.new) (D.accounts disk.new)) }
+    ensures crash { IsTrue (D.tells disk.old) → Grows (latest (D.accounts disk.old)) (D.accounts disk.old) (D.accounts disk.new) }
     ensures grows { D.faults disk.old ≤ D.faults disk.new }
     ensures failed { OnErr result (Rose (D.faults disk.old) (D.faults disk.new)) }
     ensures tells { D.tells disk.new ≡ D.tells disk.old }
     ensures identity { D.identity disk.new ≡ D.identity disk.old }
 {
+    disk.sync()?;
     let mut gate = [0u8; 1];
     let count = disk.read(at, &mut gate)?;
     Ok(count == 1 && gate[0] == OPEN)
@@ -67,11 +68,9 @@ pub fn resolve_record<D: Disk>(disk: &mut D, size: u64) -> Result<Adopted, Faile
     ensures tells { D.tells disk.new ≡ D.tells disk.old }
     ensures identity { D.identity disk.new ≡ D.identity disk.old }
 {
-    disk.sync()?;
-    if gate_reads_open(disk, size - 1)? {
+    if sync_and_read_gate(disk, size - 1)? {
         return Ok(Adopted::Kept);
     }
-    disk.cut(size)?;
-    disk.sync()?;
+    cut_durably(disk, size)?;
     Ok(Adopted::Dropped)
 }

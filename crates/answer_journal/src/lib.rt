@@ -3,6 +3,7 @@
 #![tactic(auto)]
 
 mod appending;
+mod durable;
 mod frame;
 mod frames;
 mod journal;

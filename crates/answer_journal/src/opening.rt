@@ -1,13 +1,14 @@
 // The device calls that open a file.
 ghost use Rattle.std.specs.Prelude.{◌≡◌, ◌≢◌, ◌≤◌, ◌<◌, ◌+◌, ◌^◌, [], length, take, map, max, Some, IsTrue, IfOk, IfErr, OnOk, OnErr};
 ghost use Rattle.exam_edge.specs.Faults.{Rose};
-ghost use Rattle.exam_edge.specs.Images.{AtEachMoment, Grows, IsSettled, cut_to, latest};
+ghost use Rattle.exam_edge.specs.Images.{AtEachMoment, IsSettled, latest};
 ghost use Rattle.answer_journal.specs.Frames.{payloads};
 ghost use Rattle.answer_journal.specs.OpenFault.{IsOfDevice, IsFramesAnswer, IsAnswerTo};
 ghost use Rattle.answer_journal.specs.Payload.{bytes_of, at_of, places_of};
 ghost use Rattle.answer_journal.specs.Reading.{IsRead};
 ghost use Rattle.answer_journal.specs.Standing.{held, IsAtRest, IsImageOrGives, tidied};
 
+use crate::durable::{cut_tail, write_durably};
 use crate::frames::{EMPTY_JOURNAL, read_frames};
 use crate::{OpenFault, Payload};
 use exam_edge::{Disk, Failed};
@@ -70,32 +71,13 @@ fn write_header<D: Disk>(disk: &mut D) -> Result<(), Failed>
     ensures tells { D.tells disk.new ≡ D.tells disk.old }
     ensures identity { D.identity disk.new ≡ D.identity disk.old }
 {
-    disk.write_at(0, &EMPTY_JOURNAL)?;
-    disk.sync()?;
-    Ok(())
-}
-
-// Cuts a file of this length to another, if bytes stand behind that.
-fn cut_behind<D: Disk>(disk: &mut D, end: u64, size: u64) -> Result<(), Failed>
-    requires { IsTrue (D.tells disk.old) → (end ≤ size) × (size ≡ length (D.content disk.old)) }
-    ensures content { OnOk result (IsTrue (D.tells disk.old) → D.content disk.new ≡ take end (D.content disk.old)) }
-    ensures crash { IsTrue (D.tells disk.old)
-        → Grows (cut_to end (latest (D.accounts disk.old))) (D.accounts disk.old) (D.accounts disk.new) }
-    ensures grows { D.faults disk.old ≤ D.faults disk.new }
-    ensures failed { OnErr result (Rose (D.faults disk.old) (D.faults disk.new)) }
-    ensures tells { D.tells disk.new ≡ D.tells disk.old }
-    ensures identity { D.identity disk.new ≡ D.identity disk.old }
-{
-    if size <= end {
-        return Ok(());
-    }
-    disk.cut(end)?;
+    write_durably(disk, 0, &EMPTY_JOURNAL)?;
     Ok(())
 }
 
 // Brings a file of this length to rest: nothing stands behind its first closed gate, at the place `end`.
-fn cut_tail<D: Disk>(disk: &mut D, end: u64, size: u64, read: &[Payload]) -> Result<(), Failed>
-    requires few { end < 2 ^ 63 }
+fn end_file<D: Disk>(disk: &mut D, end: u64, size: u64, read: &[Payload]) -> Result<(), Failed>
+    requires few { end < size }
     requires read { IsTrue (D.tells disk.old) → IsRead (D.content disk.old) read.now end × IsSettled (D.content disk.old) (D.accounts disk.old) }
     requires all { IsTrue (D.tells disk.old) → size ≡ length (D.content disk.old) }
     ensures rest { OnOk result (IsTrue (D.tells disk.old) → IsAtRest (D.content disk.new) (D.accounts disk.new) (end + 1)
@@ -108,8 +90,7 @@ fn cut_tail<D: Disk>(disk: &mut D, end: u64, size: u64, read: &[Payload]) -> Res
     ensures identity { D.identity disk.new ≡ D.identity disk.old }
 {
     let _ = read.len();
-    cut_behind(disk, end + 1, size)?;
-    disk.sync()?;
+    cut_tail(disk, end + 1, size)?;
     Ok(())
 }
 
@@ -148,7 +129,7 @@ fn open_frames<D: Disk>(
         Ok(found) => found,
         Err(e) => return Err(e),
     };
-    match cut_tail(disk, end as u64, size, &read) {
+    match end_file(disk, end as u64, size, &read) {
         Ok(()) => Ok((end as u64 + 1, read)),
         Err(_) => Err(OpenFault::Disk),
     }
