@@ -1,0 +1,5 @@
+//! The separate checker of proof trees.
+#![tactic(auto)]
+
+mod cut;
+mod standing;
