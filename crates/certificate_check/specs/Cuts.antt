@@ -10,11 +10,10 @@ use Rattle.certificate_check.specs.declared.standing.Standing.{Standing}
 abbrev pub path_of : Cut → Path
 path_of c = record { taken = has c.taken; out = has c.out; branched_on = has c.branched_on }
 
--- what stands on the path p
-pub record IsStanding (P : Problem) (p : Path) (s : Standing) : Type 0 where
-  pub taken : has s.taken ≡ p.taken
-  pub free : has s.free ≡ is_free P p
-  pub may_hold : has s.may_hold ≡ taken_or_free P p
-  pub chosen : has s.chosen ≡ is_chosen P p
-  pub opened : has s.opened ≡ is_open P p
-  pub may_use : has s.may_use ≡ chosen_or_open P p
+-- what stands on a path of P
+pub record IsStanding (P : Problem) (s : Standing) : Type 0 where
+  pub free : has s.free ≡ is_free P (path_of s.cut)
+  pub may_hold : has s.may_hold ≡ taken_or_free P (path_of s.cut)
+  pub chosen : has s.chosen ≡ is_chosen P (path_of s.cut)
+  pub opened : has s.opened ≡ is_open P (path_of s.cut)
+  pub may_use : has s.may_use ≡ chosen_or_open P (path_of s.cut)

@@ -4,7 +4,7 @@ ghost use Rattle.std.specs.Prelude.{◌≡◌, ℕ, ◌<◌, ◌&&◌, ◌==◌}
 ghost use Rattle.bank_tables.specs.Items.{has};
 ghost use Rattle.bank_tables.specs.Tables.{stimulus};
 ghost use Rattle.bank_tables.specs.Validity.{HoldsItems};
-ghost use Rattle.exam_model.specs.Paths.{root, is_free, with_item, with_stimulus};
+ghost use Rattle.exam_model.specs.Paths.{root, with_item, with_stimulus};
 ghost use Rattle.constraint_model.specs.Views.{problem_of};
 ghost use Rattle.certificate_check.specs.Cuts.{path_of};
 
@@ -51,7 +51,7 @@ pub fn below_item(cut: &Cut, item: u16, taken: bool) -> Cut
 }
 
 /// The items of a set that have the stimulus.
-fn items_with(bank: &Bank, items: &ItemSet, which: u8) -> ItemSet
+pub fn items_with(bank: &Bank, items: &ItemSet, which: u8) -> ItemSet
     requires { HoldsItems bank.now (has items.now) }
     ensures { (i : ℕ) → has result i ≡ (has items.now i && stimulus bank.now i == which) }
 {

@@ -1,5 +1,8 @@
 //! The separate checker of proof trees.
 #![tactic(auto)]
 
+mod activity;
+mod branch;
+mod counting;
 mod cut;
 mod standing;

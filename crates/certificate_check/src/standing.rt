@@ -11,10 +11,10 @@ use crate::cut::Cut;
 use bank_tables::{Bank, ItemSet};
 use constraint_model::Problem;
 
-/// The items taken, free, and either; the stimuli chosen, open, and either.
+/// A path, the items free there, those taken or free, the stimuli chosen, open, and either.
 #[derive(Clone, Copy, Debug)]
 pub struct Standing {
-    pub taken: ItemSet,
+    pub cut: Cut,
     pub free: ItemSet,
     pub may_hold: ItemSet,
     pub chosen: ItemSet,
@@ -51,7 +51,8 @@ fn used_stimuli(bank: &Bank, items: &ItemSet) -> ItemSet
 
 /// What stands on a path.
 pub fn standing_on(problem: &Problem, cut: &Cut) -> Standing
-    ensures { IsStanding (problem_of problem.now) (path_of cut.now) result }
+    ensures cut { result.cut ≡ cut.now }
+    ensures standing { IsStanding (problem_of problem.now) result }
 {
     let free = free_items(problem, cut);
     let chosen = cut
@@ -59,7 +60,7 @@ pub fn standing_on(problem: &Problem, cut: &Cut) -> Standing
         .union(used_stimuli(problem.bank, &cut.taken));
     let opened = used_stimuli(problem.bank, &free).minus(chosen);
     Standing {
-        taken: cut.taken,
+        cut: *cut,
         free,
         may_hold: cut.taken.union(free),
         chosen,

@@ -8,8 +8,8 @@ use Rattle.certificate_check.specs.Cuts.{path_of}
 use Rattle.certificate_check.proofs.Collected.{both_tests}
 use Rattle.certificate_check.proofs.standing.standing_on.Goals as goal
 
-pub returns : goal.returns
-returns c =
+pub returns-clause-standing : goal.returns-clause-standing
+returns-clause-standing c =
     let P = problem_of c.args.problem.now in
     let p : Path = path_of c.args.cut.now in
     let free : has c.free_items-free.result ≡ is_free P p = fun_ext c.free_items-free.ensures in
@@ -20,7 +20,6 @@ returns c =
     fun_ext (λ (s : ℕ). c.minus-opened.ensures s
     ∙ both_tests _ _ _ _ (c.used_stimuli-2.ensures s ∙ ap (λ X. used P.bank X s) free) (ap (λ X. X s) chosen)) in
     record {
-      taken = refl;
       free = free;
       may_hold = fun_ext (λ (i : ℕ). c.union.ensures i ∙ ap (λ X. has c.args.cut.now.taken i || X i) free);
       chosen = chosen;
