@@ -1,0 +1,25 @@
+-- Which proof trees have a spelling.
+use Rattle.std.specs.Prelude.{ℕ, ◌<◌, ◌≤◌, All}
+use Rattle.exam_model.specs.declared.node.Node.{Node}
+use Rattle.exam_model.specs.declared.node.Node.TheVariants.{BranchItem, BranchStimulus, Bound, Ray, Count}
+use Rattle.exam_model.specs.ProofTrees.{ProofTree, IsProofTree}
+
+-- the number of a node is one that an item, a stimulus, a vector or a row may have
+abbrev pub IsNode : Node → Type 0
+IsNode (BranchItem i) = i < 512
+IsNode (BranchStimulus s) = (0 < s) × (s ≤ 64)
+IsNode (Bound v) = v < 256
+IsNode (Ray v) = v < 256
+IsNode (Count r) = r ≤ 192
+IsNode node = Unit {0}
+
+-- a proof tree whose nodes have such numbers
+pub record IsTree (T : ProofTree) : Type 0 where
+  pub shape : IsProofTree T
+  pub numbers : All IsNode T.nodes
+
+-- how many subtrees stand behind a node
+abbrev pub children : Node → ℕ
+children (BranchItem i) = 2
+children (BranchStimulus s) = 2
+children node = 0

@@ -1,0 +1,64 @@
+//! A vector of Lagrange multipliers.
+
+ghost use Rattle.std.specs.Prelude.{◌≡◌, ◌↔◌, IsTrue, IsSome, IfSome};
+ghost use Rattle.exam_model.specs.ProofTrees.{IsVector};
+
+use bank_tables::List;
+use std::marker::Model;
+
+/// The multiplier of each side of the constraints that it names: pairs of a side and a multiplier, sides strictly
+/// ascending, multipliers 1 to 16,777,216. A side that isn't named has the multiplier 0.
+#[derive(Debug, Drop)]
+pub struct Vector {
+    pairs: List<(u16, u32)>,
+}
+
+impl Model for Vector {
+    ghost use Rattle.exam_model.specs.Relaxed.{Multipliers};
+    ghost use Rattle.exam_model.specs.ProofTrees.{IsVector};
+
+    ghost Value = { Multipliers };
+
+    ghost view = { λ v. v.pairs };
+
+    ghost invariant = { λ v. IsVector 0 v.pairs };
+}
+
+/// The greatest multiplier.
+const MOST: u32 = 16_777_216;
+
+fn is_vector(pairs: &[(u16, u32)]) -> bool
+    ensures { IsTrue result ↔ IsVector 0 pairs.now }
+{
+    let mut from: u32 = 0;
+    for pair in pairs {
+        if (pair.0 as u32) < from || pair.1 == 0 || pair.1 > MOST {
+            return false;
+        }
+        from = pair.0 as u32 + 1;
+    }
+    true
+}
+
+impl Vector {
+    /// The vector of these pairs; None exactly where the sides don't ascend strictly or a multiplier is out of its
+    /// range.
+    pub fn of(pairs: List<(u16, u32)>) -> Option<Vector>
+        ensures some { IsSome result ↔ IsVector 0 pairs }
+        ensures pairs { IfSome result (λ v. v ≡ pairs) }
+    {
+        if is_vector(pairs.as_slice()) {
+            Some(Vector { pairs })
+        } else {
+            None
+        }
+    }
+
+    /// Its pairs of a side and a multiplier.
+    pub fn pairs(&self) -> &[(u16, u32)]
+        ensures pairs { result.now ≡ self.now }
+        ensures vector { IsVector 0 self.now }
+    {
+        self.pairs.as_slice()
+    }
+}
