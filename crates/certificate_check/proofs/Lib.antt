@@ -1,2 +1,4 @@
 pub mod Collected
 pub mod RowsByNumber
+pub mod SideLaws
+pub mod Candidates

@@ -3,6 +3,9 @@
 
 mod activity;
 mod branch;
+mod candidate;
 mod counting;
 mod cut;
+mod sides;
 mod standing;
+mod weights;

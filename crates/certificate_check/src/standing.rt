@@ -36,7 +36,7 @@ fn free_items(problem: &Problem, cut: &Cut) -> ItemSet
 }
 
 /// The stimuli with an item in the set.
-fn used_stimuli(bank: &Bank, items: &ItemSet) -> ItemSet
+pub fn used_stimuli(bank: &Bank, items: &ItemSet) -> ItemSet
     ensures { (s : ℕ) → has result s ≡ used bank.now (has items.now) s }
 {
     let mut found = ItemSet::empty();
