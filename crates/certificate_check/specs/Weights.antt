@@ -15,6 +15,13 @@ pub record IsWithin (top : ℕ) (z : ℤ) : Type 0 where
   pub low : neg_ℤ (pos top) ≤ℤ z
   pub high : z ≤ℤ pos top
 
+-- no weight of an item, and none of a stimulus, is further from 0
+abbrev pub item_top : ℕ
+item_top = 141835091722240
+
+abbrev pub stimulus_top : ℕ
+stimulus_top = 703676704358400
+
 abbrev pub at : List ℤ → ℕ → ℤ
 at xs i = get_or xs i (pos 0)
 
