@@ -3,3 +3,5 @@ pub mod RowsByNumber
 pub mod SideLaws
 pub mod Candidates
 pub mod Steps
+pub mod TopLaws
+pub mod Closed

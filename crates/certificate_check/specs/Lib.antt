@@ -1,3 +1,5 @@
 pub mod Cuts
 pub mod Sides
 pub mod Weights
+pub mod Tops
+pub mod Maximum

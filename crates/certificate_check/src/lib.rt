@@ -6,6 +6,8 @@ mod branch;
 mod candidate;
 mod counting;
 mod cut;
+mod relaxed;
 mod sides;
 mod standing;
+mod top;
 mod weights;
