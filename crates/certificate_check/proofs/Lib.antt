@@ -5,3 +5,4 @@ pub mod Candidates
 pub mod Steps
 pub mod TopLaws
 pub mod Closed
+pub mod MaximumLaws

@@ -1,9 +1,11 @@
 //! The relaxed maximum: an upper bound on the objective of each form on a path.
 
-ghost use Rattle.std.specs.Prelude.{◌≡◌, ℕ, suc, ◌*◌, ◌<◌, ◌≤◌, All, true, slice_index};
+ghost use Rattle.std.specs.Prelude.{◌≡◌, ℕ, suc, ◌+◌, ◌*◌, ◌<◌, ◌≤◌, All, true, slice_index};
+ghost use Rattle.bank_tables.specs.Items.{has};
 ghost use Rattle.bank_tables.specs.Sums.{total_z};
-ghost use Rattle.exam_model.specs.Forms.{stimuli_of};
+ghost use Rattle.exam_model.specs.Forms.{size_in, stimuli_of};
 ghost use Rattle.exam_model.specs.ProofTrees.{IsVector};
+ghost use Rattle.exam_model.specs.Relaxed.{IsRelaxedMaximum};
 ghost use Rattle.exam_model.specs.Validity.{IsWellMade};
 ghost use Rattle.constraint_model.specs.Views.{problem_of};
 ghost use Rattle.certificate_check.specs.Cuts.{path_of, IsStanding};
@@ -49,4 +51,44 @@ fn best_of_stimuli(problem: &Problem, standing: &Standing, sides: &[u32; 384]) -
         sum += best_of_stimulus(problem, standing, sides, k + 1);
     }
     sum
+}
+
+/// The constant, the weights of the items taken and of the greatest free ones, and what the stimuli add at most.
+fn value_with(problem: &Problem, standing: &Standing, vector: &[(u16, u32)], ray: bool, k: u32) -> i64
+    requires well_made { IsWellMade (problem_of problem.now) }
+    requires standing { IsStanding (problem_of problem.now) standing.now }
+    requires vector { IsVector 0 vector.now }
+    requires sides { All (λ pair. pair.0 < 384) vector.now }
+    requires enough { k ≤ size_in problem.now.bank.now (has standing.now.free) }
+    requires fills { size_in problem.now.bank.now (has standing.now.cut.taken) + k ≡ problem.now.spec.now.length }
+    ensures { IsRelaxedMaximum (problem_of problem.now) (path_of standing.now.cut) vector.now ray result }
+{
+    let sides = sides_of(vector);
+    let weights = item_weights(problem, &sides, ray);
+    let items = problem.bank.items();
+    let top = top_of(&weights, items, &standing.free, k);
+    let taken = sum_of(&weights, items, &standing.cut.taken);
+    let free = sum_of(&weights, items, &top);
+    constant_weight(problem, &sides)
+        + ((taken + free) + best_of_stimuli(problem, standing, &sides))
+}
+
+/// The relaxed maximum on a path; None where the length is impossible there.
+pub fn relaxed_maximum(problem: &Problem, standing: &Standing, vector: &[(u16, u32)], ray: bool) -> Option<i64>
+    requires well_made { IsWellMade (problem_of problem.now) }
+    requires standing { IsStanding (problem_of problem.now) standing.now }
+    requires vector { IsVector 0 vector.now }
+    requires sides { All (λ pair. pair.0 < 384) vector.now }
+    ensures { IsMaximum (problem_of problem.now) (path_of standing.now.cut) vector.now ray result }
+{
+    let length = problem.spec.length();
+    let taken = size_in(problem.bank, &standing.cut.taken);
+    let free = size_in(problem.bank, &standing.free);
+    if length < taken {
+        return None;
+    }
+    if taken + free < length {
+        return None;
+    }
+    Some(value_with(problem, standing, vector, ray, length - taken))
 }
