@@ -1,9 +1,14 @@
 -- The steps of sums of weights.
-use Rattle.std.proofs.Common.{◌≡◌, ℕ, zero, suc, ◌+◌, ◌*◌, ◌<◌, ◌≤◌, List, length, get_or, w64, to_z, of_z, refl, ap, ◌∙◌, arith}
+use Rattle.std.proofs.Common.{◌≡◌, ℕ, zero, suc, Bool, true, false, cond, ◌+◌, ◌*◌, ◌<◌, ◌≤◌, List, length, get_or, w64, to_z, of_z, refl, ap, ◌∙◌, arith}
 use Rattle.std.specs.Prelude.{ℤ, pos, ◌+ℤ◌, ◌≤ℤ◌, max}
 use Rattle.std.proofs.lemmas.Int.{ints}
 use Rattle.std.proofs.lemmas.List.{get_or_read_under}
-use Rattle.bank_tables.specs.Sums.{greatest_below}
+use Rattle.bank_tables.specs.Items.{Set}
+use Rattle.bank_tables.specs.Sums.{sum_in, greatest_below}
+use Rattle.bank_tables.specs.Tables.{size, info}
+use Rattle.bank_tables.specs.Validity.{IsBank}
+use Rattle.exam_model.specs.Forms.{objective}
+use Rattle.exam_model.specs.Problem.{Problem}
 use Rattle.exam_model.specs.declared.row.Row.{Row}
 use Rattle.exam_model.specs.Plan.{Plan, no_row, row_at}
 use Rattle.certificate_check.specs.Weights.{IsWithin}
@@ -37,3 +42,14 @@ three_summed a b d low high wb wd = omega (arith, ints)
 
 pub same_sums : (a b d a' b' d' : ℤ) → a ≡ a' → b ≡ b' → d ≡ d' → a +ℤ (b +ℤ d) ≡ a' +ℤ (b' +ℤ d')
 same_sums a b d a' b' d' e f g = cc
+
+pub sum_at_most : (n : ℕ) (X : Set) (f : ℕ → ℕ) → ((i : ℕ) → f i ≤ 1000000) → sum_in n X f ≤ n * 1000000
+sum_at_most zero X f h = omega arith
+sum_at_most (suc n) X f h = omega (arith, sum_at_most n X f h, one (X n))
+  where
+    one : (b : Bool) → cond b (f n) 0 ≤ 1000000
+    one true = h n
+    one false = omega arith
+
+pub objective_high : (P : Problem) (X : Set) → IsBank P.bank → objective P X ≤ 512000000
+objective_high P X bank = omega (arith, sum_at_most (size P.bank) X (λ i. info P.bank i P.theta) (λ i. bank.info_high i P.theta), bank.few)

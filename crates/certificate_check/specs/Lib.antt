@@ -3,3 +3,4 @@ pub mod Sides
 pub mod Weights
 pub mod Tops
 pub mod Maximum
+pub mod Answers

@@ -6,6 +6,8 @@ mod branch;
 mod candidate;
 mod counting;
 mod cut;
+mod leaf;
+mod node;
 mod relaxed;
 mod sides;
 mod standing;
