@@ -6,3 +6,4 @@ pub mod Steps
 pub mod TopLaws
 pub mod Closed
 pub mod MaximumLaws
+pub mod WalkSteps

@@ -4,3 +4,4 @@ pub mod Weights
 pub mod Tops
 pub mod Maximum
 pub mod Answers
+pub mod Walks

@@ -12,4 +12,5 @@ mod relaxed;
 mod sides;
 mod standing;
 mod top;
+mod walk;
 mod weights;
