@@ -1,0 +1,16 @@
+//! The separate checker of proof trees.
+#![tactic(auto)]
+
+mod activity;
+mod branch;
+mod candidate;
+mod counting;
+mod cut;
+mod leaf;
+mod node;
+mod relaxed;
+mod sides;
+mod standing;
+mod top;
+mod walk;
+mod weights;

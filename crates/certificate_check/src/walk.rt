@@ -1,0 +1,69 @@
+//! The walk through a proof tree.
+
+ghost use Rattle.std.specs.Prelude.{ℕ, suc, ◌≤◌, drop};
+ghost use Rattle.std.specs.Option.{option_map};
+ghost use Rattle.bank_tables.specs.Items.{has};
+ghost use Rattle.exam_model.specs.ProofTrees.{AreTrees};
+ghost use Rattle.exam_model.specs.Validity.{IsWellMade};
+ghost use Rattle.constraint_model.specs.Views.{problem_of};
+ghost use Rattle.certificate_check.specs.Cuts.{path_of};
+ghost use Rattle.certificate_check.specs.Walks.{IsWalk};
+
+use crate::branch::below_stimulus;
+use crate::cut::{Cut, below_item};
+use crate::node::node_fault;
+use crate::standing::standing_on;
+use bank_tables::ItemSet;
+use constraint_model::Problem;
+use exam_model::{Node, Reason};
+use proof_tree::Tree;
+
+/// Where a walk goes on: the number of the next node, and the Open leaves so far.
+#[derive(Clone, Copy, Debug)]
+pub struct Walked {
+    pub next: u16,
+    pub open_leaves: u16,
+}
+
+/// The first unsound node.
+#[derive(Clone, Copy, Debug)]
+pub struct Unsound {
+    pub node: u16,
+    pub reason: Reason,
+}
+
+/// Walks through the subtree at a node, which stands on the path.
+pub fn walk(problem: &Problem, form: &Option<ItemSet>, tree: &Tree, at: u16, open_leaves: u16, cut: &Cut) -> Result<Walked, Unsound>
+    requires well_made { IsWellMade (problem_of problem.now) }
+    requires tree { (wait : ℕ) × AreTrees (suc wait) (drop at tree.now.nodes) }
+    requires few { open_leaves ≤ at }
+    ensures { IsWalk (problem_of problem.now) (option_map has form.now) tree.now at open_leaves (path_of cut.now) result }
+{
+    let node = tree.nodes()[at as usize];
+    let standing = standing_on(problem, cut);
+    if let Some(reason) = node_fault(problem, form, tree, &standing, &node) {
+        return Err(Unsound { node: at, reason });
+    }
+    match node {
+        Node::BranchItem(item) => {
+            let left = below_item(cut, item, true);
+            let walked = walk(problem, form, tree, at + 1, open_leaves, &left)?;
+            let right = below_item(cut, item, false);
+            walk(problem, form, tree, walked.next, walked.open_leaves, &right)
+        }
+        Node::BranchStimulus(which) => {
+            let left = below_stimulus(problem, &standing, which, true);
+            let walked = walk(problem, form, tree, at + 1, open_leaves, &left)?;
+            let right = below_stimulus(problem, &standing, which, false);
+            walk(problem, form, tree, walked.next, walked.open_leaves, &right)
+        }
+        Node::Open => Ok(Walked {
+            next: at + 1,
+            open_leaves: open_leaves + 1,
+        }),
+        Node::Bound(_) | Node::Ray(_) | Node::Count(_) | Node::Whole => Ok(Walked {
+            next: at + 1,
+            open_leaves,
+        }),
+    }
+}

@@ -1,0 +1,219 @@
+//! The reduced weights: what each item and stimulus adds to the Lagrangian.
+
+ghost use Rattle.std.specs.Prelude.{◌≡◌, ◌+◌, ◌*◌, ◌-ℤ◌, ◌*ℤ◌, ◌<◌, ◌≤◌, ◌≤ℤ◌, pos, length, slice_index};
+ghost use Rattle.bank_tables.specs.Sums.{total_z};
+ghost use Rattle.bank_tables.specs.Tables.{size};
+ghost use Rattle.bank_tables.specs.Validity.{IsBank};
+ghost use Rattle.exam_model.specs.Forms.{stimuli_of};
+ghost use Rattle.exam_model.specs.Relaxed.{weight};
+ghost use Rattle.exam_model.specs.Validity.{IsRow, IsWellMade};
+ghost use Rattle.constraint_model.specs.Views.{problem_of};
+ghost use Rattle.certificate_check.specs.Sides.{AreMultipliers};
+ghost use Rattle.certificate_check.specs.Weights.{IsWithin, item_part, stimulus_part, net_multiplier, bounds_weight, row_item, row_stimulus, row_constant, stimulus_item, constant_weight, item_weight, item_top, stimulus_weight, stimulus_top};
+
+use crate::activity::{lower_bound, upper_bound};
+use bank_tables::Bank;
+use constraint_model::{Problem, Row};
+
+/// What an item adds to a row.
+fn item_part(bank: &Bank, row: &Row, item: u16) -> u32
+    requires item { item < size bank.now }
+    requires bank { IsBank bank.now }
+    requires row { IsRow bank.now row.now }
+    ensures part { result ≡ item_part bank.now row.now item }
+    ensures few { result ≤ 65535 }
+{
+    match row {
+        Row::Count {
+            set,
+            low: _,
+            high: _,
+        } => set.has(item) as u32,
+        Row::Quantity {
+            which,
+            set,
+            low: _,
+            high: _,
+        } => {
+            if set.has(item) {
+                bank.quantity(item, *which)
+            } else {
+                0
+            }
+        }
+        Row::Enemies { set } => set.has(item) as u32,
+        Row::Stimuli { low: _, high: _ } => 0,
+    }
+}
+
+/// What a stimulus adds to a row.
+fn stimulus_part(row: &Row) -> u32
+    ensures part { result ≡ stimulus_part row.now }
+    ensures few { result ≤ 1 }
+{
+    match row {
+        Row::Count {
+            set: _,
+            low: _,
+            high: _,
+        } => 0,
+        Row::Quantity {
+            which: _,
+            set: _,
+            low: _,
+            high: _,
+        } => 0,
+        Row::Enemies { set: _ } => 0,
+        Row::Stimuli { low: _, high: _ } => 1,
+    }
+}
+
+/// A multiplier less another, times a number.
+fn scaled(low: u32, high: u32, part: u32) -> i64
+    requires low { low ≤ 16777216 }
+    requires high { high ≤ 16777216 }
+    requires part { part ≤ 65535 }
+    ensures value { result ≡ (pos low -ℤ pos high) *ℤ pos part }
+    ensures within { IsWithin (16777216 * 65535) result }
+{
+    (low as i64 - high as i64) * part as i64
+}
+
+/// The multiplier of a low side less that of the high side behind it, times a number.
+fn net_times(sides: &[u32; 384], side: usize, part: u32) -> i64
+    requires sides { AreMultipliers (slice_index sides.now) }
+    requires side { side + 1 < 384 }
+    requires part { part ≤ 65535 }
+    ensures value { result ≡ net_multiplier (slice_index sides.now) side *ℤ pos part }
+    ensures within { IsWithin (16777216 * 65535) result }
+{
+    scaled(sides[side], sides[side + 1], part)
+}
+
+/// A multiplier times a bound.
+fn product(multiplier: u32, bound: u32) -> i64
+    requires multiplier { multiplier ≤ 16777216 }
+    requires bound { bound ≤ 33553920 }
+    ensures value { result ≡ pos multiplier *ℤ pos bound }
+    ensures low { pos 0 ≤ℤ result }
+    ensures high { result ≤ℤ pos (16777216 * 33553920) }
+{
+    (multiplier as u64 * bound as u64) as i64
+}
+
+/// The multiplier of the high side times the upper bound less that of the low side times the lower.
+fn bounds_weight(sides: &[u32; 384], side: usize, low: u32, high: u32) -> i64
+    requires sides { AreMultipliers (slice_index sides.now) }
+    requires side { side + 1 < 384 }
+    requires low { low ≤ 33553920 }
+    requires high { high ≤ 33553920 }
+    ensures value { result ≡ bounds_weight (slice_index sides.now) side low high }
+    ensures within { IsWithin (16777216 * 33553920) result }
+{
+    product(sides[side + 1], high) - product(sides[side], low)
+}
+
+/// What the rows add to the constant.
+pub fn constant_weight(problem: &Problem, sides: &[u32; 384]) -> i64
+    requires well_made { IsWellMade (problem_of problem.now) }
+    requires sides { AreMultipliers (slice_index sides.now) }
+    ensures value { result ≡ constant_weight (problem_of problem.now) (slice_index sides.now) }
+    ensures within { IsWithin (128 * (16777216 * 33553920)) result }
+{
+    let rows = problem.spec.rows();
+    let mut sum = 0i64;
+    for r in 0..rows.len() {
+        let row = &rows[r];
+        sum += bounds_weight(sides, 2 * r, lower_bound(row), upper_bound(row));
+    }
+    sum
+}
+
+/// What the rows add to the weight of an item.
+fn rows_item(problem: &Problem, sides: &[u32; 384], item: u16) -> i64
+    requires well_made { IsWellMade (problem_of problem.now) }
+    requires sides { AreMultipliers (slice_index sides.now) }
+    requires item { item < size problem.now.bank.now }
+    ensures value { result ≡ total_z (length problem.now.spec.now.rows) (row_item (problem_of problem.now) (slice_index sides.now) item) }
+    ensures within { IsWithin (128 * (16777216 * 65535)) result }
+{
+    let rows = problem.spec.rows();
+    let mut sum = 0i64;
+    for r in 0..rows.len() {
+        sum += net_times(sides, 2 * r, item_part(problem.bank, &rows[r], item));
+    }
+    sum
+}
+
+/// What the rows add to the weight of each stimulus.
+fn rows_stimulus(problem: &Problem, sides: &[u32; 384]) -> i64
+    requires well_made { IsWellMade (problem_of problem.now) }
+    requires sides { AreMultipliers (slice_index sides.now) }
+    ensures value { result ≡ total_z (length problem.now.spec.now.rows) (row_stimulus (problem_of problem.now) (slice_index sides.now)) }
+    ensures within { IsWithin (128 * (16777216 * 65535)) result }
+{
+    let rows = problem.spec.rows();
+    let mut sum = 0i64;
+    for r in 0..rows.len() {
+        sum += net_times(sides, 2 * r, stimulus_part(&rows[r]));
+    }
+    sum
+}
+
+/// What its stimulus adds to the weight of an item.
+fn stimulus_item(problem: &Problem, sides: &[u32; 384], which: u8) -> i64
+    requires well_made { IsWellMade (problem_of problem.now) }
+    requires sides { AreMultipliers (slice_index sides.now) }
+    requires which { which ≤ 64 }
+    ensures value { result ≡ stimulus_item (problem_of problem.now) (slice_index sides.now) which }
+    ensures within { IsWithin (16777216 * 65535) result }
+{
+    if which == 0 {
+        0
+    } else {
+        let side = 2 * problem.spec.rows().len() + 2 * (which as usize - 1);
+        net_times(sides, side, 1)
+    }
+}
+
+/// 256 times the information of an item at the estimate, or 0 for a ray.
+fn information(problem: &Problem, ray: bool, item: u16) -> i64
+    requires well_made { IsWellMade (problem_of problem.now) }
+    requires item { item < size problem.now.bank.now }
+    ensures value { result ≡ pos (weight (problem_of problem.now) ray item) }
+    ensures high { result ≤ℤ pos 256000000 }
+{
+    if ray {
+        0
+    } else {
+        (256 * problem.bank.info(item, problem.theta)) as i64
+    }
+}
+
+/// The weight of an item; of a ray without its information.
+pub fn item_weight(problem: &Problem, sides: &[u32; 384], ray: bool, item: u16) -> i64
+    requires well_made { IsWellMade (problem_of problem.now) }
+    requires sides { AreMultipliers (slice_index sides.now) }
+    requires item { item < size problem.now.bank.now }
+    ensures value { result ≡ item_weight (problem_of problem.now) (slice_index sides.now) ray item }
+    ensures within { IsWithin item_top result }
+{
+    information(problem, ray, item)
+        + (rows_item(problem, sides, item)
+            + stimulus_item(problem, sides, problem.bank.stimulus(item)))
+}
+
+/// The weight of a stimulus.
+pub fn stimulus_weight(problem: &Problem, sides: &[u32; 384], which: u8) -> i64
+    requires well_made { IsWellMade (problem_of problem.now) }
+    requires sides { AreMultipliers (slice_index sides.now) }
+    requires first { 0 < which }
+    requires last { which ≤ stimuli_of problem.now.bank.now }
+    ensures value { result ≡ stimulus_weight (problem_of problem.now) (slice_index sides.now) which }
+    ensures within { IsWithin stimulus_top result }
+{
+    let place = which as usize - 1;
+    let bound = problem.spec.bounds()[place];
+    let side = 2 * problem.spec.rows().len() + 2 * place;
+    bounds_weight(sides, side, bound.low, bound.high) + rows_stimulus(problem, sides)
+}
