@@ -1,13 +1,9 @@
-// A library with one function.
+//! A best form by plain enumeration: each set of as many items as the test has is tried, in banks of at most 16 items. Upward
+//! it promises the best form over all sets of items, or that no set is a form; it uses no bound, no branch and no memory, so
+//! it is what a search is compared with.
 #![tactic(auto)]
 
-ghost use Rattle.std.specs.Prelude.{◌≡◌};
-ghost use Rattle.plain_search.specs.Echo.{echo_of};
+mod enumeration;
+mod mask;
 
-// The `ensures` clause is the contract: what `echo` returns is `echo_of` of its argument, a definition
-// in `specs/Echo.antt`, which a caller's clause can cite too.
-pub fn echo(x: usize) -> usize
-    ensures { result ≡ echo_of x }
-{
-    x
-}
+pub use enumeration::best_form;
