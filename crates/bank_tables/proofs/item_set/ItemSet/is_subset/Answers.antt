@@ -14,7 +14,7 @@ returns-then-self-k c =
 
 pub returns : goal.returns
 returns c =
-    let e : length c.args.self.now ≡ 8 = subst (λ (ws : List ℕ). length ws ≡ 8) c.self.view_is c.self.invariant in (
+    let e : length c.args.self.now ≡ 8 = subst (λ (ws : List ℕ). length ws ≡ 8) c.self.view_is c.self.invariant.eight in (
       λ _ i h. elim (cases_lt i 512) [
         | inl within ↦ sub_words c.args.self.now c.args.other.now i (c.loop-k.invariant (i / 64) (omega arith)) h
         | inr past ↦ absurd (false≢true (sym (has_past c.args.self.now i e past) ∙ h))
