@@ -1,5 +1,5 @@
 -- What the definitions imply, as the public laws state it.
-use Rattle.std.specs.Prelude.{◌≡◌, ℕ, ◌+◌, ◌*◌, ◌^◌, ◌≤◌, ◌<◌, length, List, ℤ, pos, ◌≤ℤ◌, true, false, IsTrue, IsFalse, Option, Some, None}
+use Rattle.std.specs.Prelude.{◌≡◌, ℕ, ◌+◌, ◌*◌, ◌^◌, ◌≤◌, ◌<◌, length, List, ℤ, pos, ◌≤ℤ◌, Bool, true, false, IsTrue, IsFalse, Option, Some, None}
 use Rattle.bank_tables.specs.Items.{Set}
 use Rattle.bank_tables.specs.Tables.{Tables}
 use Rattle.exam_model.specs.declared.breach.Breach.{Breach}
@@ -10,6 +10,7 @@ use Rattle.exam_model.specs.Forms.{Form, Best, Firm, HasNoForm, objective}
 use Rattle.exam_model.specs.Breaches.{IsFirstBreach}
 use Rattle.exam_model.specs.Paths.{Path, root, undecided, Under}
 use Rattle.exam_model.specs.Relaxed.{Multipliers, IsRelaxedMaximum}
+use Rattle.exam_model.specs.ClosedForm.{IsGreatestFill, closed_form}
 use Rattle.exam_model.specs.Counting.{is_impossible}
 use Rattle.exam_model.specs.ProofTrees.{ProofTree}
 use Rattle.exam_model.specs.Verdicts.{IsVerdict}
@@ -71,3 +72,16 @@ FewOpen = (P : Problem) (T : ProofTree) (budget : ℕ) → IsSpent P T budget �
 -- a set of items has at most one first breach, and none where it is a form
 abbrev pub OneBreach : Type 0
 OneBreach = (P : Problem) (X : Set) (b c : Option Breach) → IsFirstBreach P X b → IsFirstBreach P X c → b ≡ c
+
+-- the relaxed maximum is its closed form, whatever free items of the greatest reduced weights fill the test
+abbrev pub ClosedFormIsMaximum : Type 0
+ClosedFormIsMaximum = (P : Problem) (p : Path) (v : Multipliers) (ray : Bool) (T : Set) (t : ℤ) → IsGreatestFill P p v ray T t → IsRelaxedMaximum P p v ray (closed_form P p v ray T)
+
+-- X isn't there, or its objective is at most that of Y
+abbrev pub IsNoBetter : Problem → Option Set → Set → Type 0
+IsNoBetter P None Y = Unit {0}
+IsNoBetter P (Some X) Y = objective P X ≤ objective P Y
+
+-- a form that is no worse leaves a Partial verdict as it is
+abbrev pub BetteringKeeps : Type 0
+BetteringKeeps = (P : Problem) (X : Option Set) (Y : Set) (T : ProofTree) (k : ℕ) → Form P Y → IsNoBetter P X Y → IsVerdict P X T (Partial k) → IsVerdict P (Some Y) T (Partial k)

@@ -1,5 +1,5 @@
 -- The shape of proof trees.
-use Rattle.std.specs.Prelude.{◌≡◌, ℕ, zero, suc, ◌+◌, ◌<◌, ◌≤◌, List, [], ◌∷◌, length, get_or, All}
+use Rattle.std.specs.Prelude.{ℕ, zero, suc, ◌+◌, ◌<◌, ◌≤◌, List, [], ◌∷◌, length, get_or, All}
 use Rattle.exam_model.specs.declared.node.Node.{Node}
 use Rattle.exam_model.specs.declared.node.Node.TheVariants.{BranchItem, BranchStimulus, Bound, Ray, Count}
 use Rattle.exam_model.specs.Relaxed.{Multipliers}
