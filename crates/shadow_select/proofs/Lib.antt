@@ -1,3 +1,4 @@
 pub mod ShownLaws
 pub mod NextLaws
 pub mod ProblemLaws
+pub mod StepLaws

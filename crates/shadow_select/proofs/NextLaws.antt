@@ -19,43 +19,39 @@ module _ (P : Problem) (X : Set) where
   -- the next number is no candidate
   pub passed_over : (n : ℕ) (best : Option ℕ) → is_candidate P X n ≡ false → IsNextBelow n P X best → IsNextBelow (n + 1) P X best
   passed_over n None fails next = λ i w. elim (last_or i n w) [ inl old ↦ next i old | inr new ↦ subst (λ (k : ℕ). is_candidate P X k ≡ false) (sym new) fails ]
-  passed_over n (Some item) fails next =
-      (
-        omega (arith, next.0),
-        next.1,
-        λ i w e. elim (last_or i n w) [ inl old ↦ next.2 i old e | inr new ↦ absurd (true≢false (sym e ∙ subst (λ (k : ℕ). is_candidate P X k ≡ false) (sym new) fails)) ],
-        next.3,
-      )
+  passed_over n (Some item) fails next = (
+    omega (arith, next.0),
+    next.1,
+    λ i w e. elim (last_or i n w) [ inl old ↦ next.2 i old e | inr new ↦ absurd (true≢false (sym e ∙ subst (λ (k : ℕ). is_candidate P X k ≡ false) (sym new) fails)) ],
+    next.3,
+  )
 
   -- it is the first one
   pub first_found : (n : ℕ) → is_candidate P X n ≡ true → IsNextBelow n P X None → IsNextBelow (n + 1) P X (Some n)
-  first_found n passes none =
-      (
-        omega arith,
-        passes,
-        λ i w e. elim (last_or i n w) [ inl old ↦ absurd (true≢false (sym e ∙ none i old)) | inr new ↦ subst (λ (k : ℕ). info P.bank k P.theta ≤ info P.bank n P.theta) (sym new) (omega arith) ],
-        λ i w e. absurd (true≢false (sym e ∙ none i w)),
-      )
+  first_found n passes none = (
+    omega arith,
+    passes,
+    λ i w e. elim (last_or i n w) [ inl old ↦ absurd (true≢false (sym e ∙ none i old)) | inr new ↦ subst (λ (k : ℕ). info P.bank k P.theta ≤ info P.bank n P.theta) (sym new) (omega arith) ],
+    λ i w e. absurd (true≢false (sym e ∙ none i w)),
+  )
 
   -- it has more information than the best
   pub bettered : (n old : ℕ) → is_candidate P X n ≡ true → info P.bank old P.theta < info P.bank n P.theta → IsNextBelow n P X (Some old) → IsNextBelow (n + 1) P X (Some n)
-  bettered n old passes more next =
-      (
-        omega arith,
-        passes,
-        λ i w e. elim (last_or i n w) [ inl before ↦ omega (arith, next.2 i before e, more) | inr new ↦ subst (λ (k : ℕ). info P.bank k P.theta ≤ info P.bank n P.theta) (sym new) (omega arith) ],
-        λ i w e. omega (arith, next.2 i w e, more),
-      )
+  bettered n old passes more next = (
+    omega arith,
+    passes,
+    λ i w e. elim (last_or i n w) [ inl before ↦ omega (arith, next.2 i before e, more) | inr new ↦ subst (λ (k : ℕ). info P.bank k P.theta ≤ info P.bank n P.theta) (sym new) (omega arith) ],
+    λ i w e. omega (arith, next.2 i w e, more),
+  )
 
   -- it has no more
   pub stayed : (n old : ℕ) → info P.bank n P.theta ≤ info P.bank old P.theta → IsNextBelow n P X (Some old) → IsNextBelow (n + 1) P X (Some old)
-  stayed n old least next =
-      (
-        omega (arith, next.0),
-        next.1,
-        λ i w e. elim (last_or i n w) [ inl before ↦ next.2 i before e | inr new ↦ subst (λ (k : ℕ). info P.bank k P.theta ≤ info P.bank old P.theta) (sym new) least ],
-        next.3,
-      )
+  stayed n old least next = (
+    omega (arith, next.0),
+    next.1,
+    λ i w e. elim (last_or i n w) [ inl before ↦ next.2 i before e | inr new ↦ subst (λ (k : ℕ). info P.bank k P.theta ≤ info P.bank old P.theta) (sym new) least ],
+    next.3,
+  )
 
   -- there is a candidate
   pub none_is_wrong : Form P X → HasFreeItem P X → ((i : ℕ) → i < size P.bank → IsFalse (is_candidate P X i)) → ⊥

@@ -12,7 +12,14 @@ use bank_tables::{Bank, ItemSet};
 use exam_model::Seat;
 
 /// Whether an item is barred, by the items shown, the stimuli entered and the stimulus of the item shown last.
-fn is_barred(bank: &Bank, seat: &Seat, shown: &ItemSet, entered: &ItemSet, last: u8, item: u16) -> bool
+fn is_barred(
+    bank: &Bank,
+    seat: &Seat,
+    shown: &ItemSet,
+    entered: &ItemSet,
+    last: u8,
+    item: u16,
+) -> bool
     requires item { item < size bank.now }
     requires shown { (i : ℕ) → has shown.now i ≡ is_shown seat.now i }
     requires entered { (s : ℕ) → has entered.now s ≡ list_any (λ item. stimulus bank.now item == s) seat.now.shown }

@@ -22,7 +22,12 @@ fn is_pending(spec: &Spec, seat: &Seat) -> bool
 
 /// The problem of a seat that waits for an item, with the posterior mode of its answers as estimate; none where it doesn't
 /// wait for one.
-pub fn next_problem<'a>(bank: &'a Bank, spec: &'a Spec, session: u32, seat: &Seat) -> Option<Problem<'a>>
+pub fn next_problem<'a>(
+    bank: &'a Bank,
+    spec: &'a Spec,
+    session: u32,
+    seat: &Seat,
+) -> Option<Problem<'a>>
     requires plan { IsPlanFor bank.now spec.now }
     requires seat { IsSeat bank.now spec.now seat.now }
     ensures pending { IsSome result ↔ IsPending spec.now seat.now }

@@ -1,0 +1,34 @@
+-- How a seat goes on.
+use Rattle.std.specs.Prelude.{◌≡◌, ℕ, ◌+◌, ◌<◌, Bool, List, [], ◌∷◌, ◌++◌, length, Option, Some, None}
+use Rattle.bank_tables.specs.Items.{has}
+use Rattle.bank_tables.specs.Tables.{Tables, categories}
+use Rattle.exam_model.specs.declared.seat.Seat.{Seat}
+use Rattle.exam_model.specs.Plan.{Plan}
+use Rattle.exam_model.specs.Problem.{Problem}
+use Rattle.exam_model.specs.Forms.{Form}
+use Rattle.exam_model.specs.Seats.{IsSeat, IsPending, IsSeatProblem, last_shown}
+use Rattle.exam_model.specs.Serving.{IsNext}
+
+-- the seat after an item of a form was shown
+abbrev pub with_item : Seat → List ℕ → Bool → ℕ → Seat
+with_item seat form proved item = record seat { shown = seat.shown ++ item ∷ []; form = Some form; proved = proved }
+
+-- the seat after a response
+abbrev pub with_response : Seat → ℕ → Seat
+with_response seat response = record seat { responses = seat.responses ++ response ∷ [] }
+
+-- a seat that was shown nothing is a seat
+abbrev pub NewSeatIsSeat : Type 0
+NewSeatIsSeat = (b : Tables) (plan : Plan) (seat : Seat) → seat.shown ≡ [] → seat.responses ≡ [] → seat.form ≡ None → IsSeat b plan seat
+
+-- a seat stays one where the next item of a form of its problem is shown
+abbrev pub ServedSeatIsSeat : Type 0
+ServedSeatIsSeat =
+    (b : Tables) (plan : Plan) (session : ℕ) (seat : Seat) (P : Problem) (form : List ℕ) (proved : Bool) (item : ℕ)
+    → IsSeat b plan seat → IsPending plan seat → IsSeatProblem b plan session seat P → Form P (has form) → IsNext P (has form) item → IsSeat b plan (with_item seat form proved item)
+
+-- a seat stays one where the item shown last is answered in range
+abbrev pub AnsweredSeatIsSeat : Type 0
+AnsweredSeatIsSeat =
+    (b : Tables) (plan : Plan) (seat : Seat) (item response : ℕ)
+    → IsSeat b plan seat → length seat.responses + 1 ≡ length seat.shown → last_shown seat ≡ Some item → response < categories b item → IsSeat b plan (with_response seat response)
