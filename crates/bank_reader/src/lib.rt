@@ -9,3 +9,4 @@ mod read;
 mod records;
 
 pub use fault::ReadFault;
+pub use read::read_bank;
