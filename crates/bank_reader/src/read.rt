@@ -1,6 +1,6 @@
 //! The bank of a text.
 
-ghost use Rattle.std.specs.Prelude.{◌≡◌, ◌≤◌, ◌⊎◌, map, get_or, length, [], IsTrue, IfOk, IfErr};
+ghost use Rattle.std.specs.Prelude.{◌≡◌, ℕ, ◌≤◌, ◌⊎◌, List, map, get_or, length, [], IsTrue, IfOk, IfErr};
 ghost use Rattle.csv.specs.Records.{fields_of};
 ghost use Rattle.exam_text.specs.First.{Gives};
 ghost use Rattle.exam_edge.specs.Faults.{Rose};
@@ -70,6 +70,7 @@ fn read_whole<S: Source>(alloc: Global, source: &mut S) -> Result<Bank, ReadFaul
     ensures reads { IsTrue (S.tells source.old) → Reads (S.left source.old) result }
     ensures whole { IfOk result (λ _. IsTrue (S.tells source.old) → S.left source.new ≡ []) }
     ensures failed { IfErr result (λ e. e ≡ fault.Source → Rose (S.faults source.old) (S.faults source.new)) }
+    ensures beside { IsTrue (S.tells source.old) → (name : List ℕ) → S.beside source.new name ≡ S.beside source.old name }
     ensures grows { S.faults source.old ≤ S.faults source.new }
     ensures tells { S.tells source.new ≡ S.tells source.old }
     ensures identity { S.identity source.new ≡ S.identity source.old }
@@ -96,6 +97,7 @@ pub fn read_bank<S: Source>(alloc: Global, source: &mut S) -> Result<Bank, ReadF
     ensures whole { IfOk result (λ _. IsTrue (S.tells source.old) → S.left source.new ≡ []) }
     ensures failed { IfErr result (λ e. e ≡ fault.Source → Rose (S.faults source.old) (S.faults source.new)) }
 
+    ensures beside { IsTrue (S.tells source.old) → (name : List ℕ) → S.beside source.new name ≡ S.beside source.old name }
     ensures grows { S.faults source.old ≤ S.faults source.new }
     ensures tells { S.tells source.new ≡ S.tells source.old }
     ensures identity { S.identity source.new ≡ S.identity source.old }

@@ -4,7 +4,7 @@
 //! source counted a fault. It gives the bytes no meaning.
 #![tactic(auto)]
 
-ghost use Rattle.std.specs.Prelude.{◌≡◌, ◌≤◌, ◌<◌, ◌^◌, [], IsTrue, IfOk, IfErr, length};
+ghost use Rattle.std.specs.Prelude.{◌≡◌, ℕ, ◌≤◌, ◌<◌, ◌^◌, List, [], IsTrue, IfOk, IfErr, length};
 ghost use Rattle.exam_edge.specs.Faults.{Rose};
 
 use exam_edge::{Failed, Source};
@@ -30,6 +30,7 @@ pub fn text_of<S: Source>(alloc: Global, source: &mut S, limit: usize) -> Result
     ensures too_long { IfErr result (λ e. e ≡ TextFault.TooLong → IsTrue (S.tells source.old) → limit < length (S.left source.old)) }
     ensures failed { IfErr result (λ e. e ≡ TextFault.Source → Rose (S.faults source.old) (S.faults source.new)) }
 
+    ensures beside { IsTrue (S.tells source.old) → (name : List ℕ) → S.beside source.new name ≡ S.beside source.old name }
     ensures grows { S.faults source.old ≤ S.faults source.new }
     ensures tells { S.tells source.new ≡ S.tells source.old }
     ensures identity { S.identity source.new ≡ S.identity source.old }

@@ -1,4 +1,4 @@
-use Rattle.std.proofs.Common.{◌≡◌, ◌-◌, ◌≤◌, ◌++◌, IsTrue, length}
+use Rattle.std.proofs.Common.{◌≡◌, ℕ, ◌-◌, ◌≤◌, ◌++◌, List, IsTrue, length}
 use Rattle.text_source.proofs.text_of.Given as goal
 
 abbrev pub invariant-text : goal.invariant-text
@@ -6,6 +6,7 @@ invariant-text g l = record {
   within : length l.text.items ≤ l.limit;
   size : length l.piece ≡ 4096;
   read : IsTrue (g.S.Source.tells l.fn.source) → l.text.items ++ g.S.Source.left l.source ≡ g.S.Source.left l.fn.source;
+  beside : IsTrue (g.S.Source.tells l.fn.source) → (name : List ℕ) → g.S.Source.beside l.source name ≡ g.S.Source.beside l.fn.source name;
   grows : g.S.Source.faults l.fn.source ≤ g.S.Source.faults l.source;
   tells : g.S.Source.tells l.source ≡ g.S.Source.tells l.fn.source;
   identity : g.S.Source.identity l.source ≡ g.S.Source.identity l.fn.source;
