@@ -5,3 +5,4 @@ pub mod Scripts
 pub mod Standing
 pub mod Texts
 pub mod Replays
+pub mod Halts

@@ -1,0 +1,91 @@
+//! The texts of files.
+
+ghost use Rattle.std.specs.Prelude.{◌≡◌, ℕ, ◌≤◌, List, length, IsTrue, IfOk, IfErr};
+ghost use Rattle.exam_edge.specs.Faults.{Rose};
+ghost use Rattle.bank_reader.specs.Reading.{bank_of};
+ghost use Rattle.exam_model.specs.Validity.{IsPlanFor};
+ghost use Rattle.exam_program.specs.Halts.{HaltsAtBank, IsPlanIn, HaltsAtPlan, longest_script, IsScript, HaltsAtScript};
+
+use crate::halt::Halt;
+use crate::script::{Script, ScriptFault, script_of};
+use bank_reader::{ReadFault, read_bank};
+use bank_tables::Bank;
+use constraint_model::Spec;
+use exam_edge::{FileSource, Files};
+use spec_reader::{PlanFault, read_plan};
+use std::alloc::Global;
+use text_source::{TextFault, text_of};
+
+/// The most bytes that a script has.
+const LONGEST_SCRIPT: usize = 16_777_216;
+
+/// The bank in the file of this name.
+pub(crate) fn bank_in<F: Files>(alloc: Global, files: &mut F, name: &str) -> Result<Bank, Halt>
+    ensures ok { IfOk result (λ bank. IsTrue (F.tells files.old) → bank_of (F.content files.old name.now) ≡ Ok bank) }
+    ensures err { IfErr result (λ halt. IsTrue (F.tells files.old) → HaltsAtBank (F.content files.old name.now) halt) }
+    ensures failed { result ≡ Err Halt.Files → Rose (F.faults files.old) (F.faults files.new) }
+    ensures content { IsTrue (F.tells files.old) → (file : List ℕ) → F.content files.new file ≡ F.content files.old file }
+    ensures grows { F.faults files.old ≤ F.faults files.new }
+    ensures tells { F.tells files.new ≡ F.tells files.old }
+{
+    let mut source = FileSource { files, name, at: 0 };
+    match read_bank(alloc, &mut source) {
+        Ok(bank) => Ok(bank),
+        Err(ReadFault::Source) => Err(Halt::Files),
+        Err(ReadFault::Memory) => Err(Halt::Memory),
+        Err(fault) => Err(Halt::Bank(fault)),
+    }
+}
+
+/// The plan in the file of this name.
+pub(crate) fn plan_in<F: Files>(alloc: Global, files: &mut F, bank: &Bank, name: &str) -> Result<Spec, Halt>
+    ensures ok { IfOk result (λ spec. IsTrue (F.tells files.old) → IsPlanIn bank.now (F.content files.old name.now) spec) }
+    ensures valid { IfOk result (λ spec. IsPlanFor bank.now spec) }
+    ensures err { IfErr result (λ halt. IsTrue (F.tells files.old) → HaltsAtPlan bank.now (F.content files.old name.now) halt) }
+    ensures failed { result ≡ Err Halt.Files → Rose (F.faults files.old) (F.faults files.new) }
+    ensures content { IsTrue (F.tells files.old) → (file : List ℕ) → F.content files.new file ≡ F.content files.old file }
+    ensures grows { F.faults files.old ≤ F.faults files.new }
+    ensures tells { F.tells files.new ≡ F.tells files.old }
+{
+    let mut source = FileSource { files, name, at: 0 };
+    match read_plan(alloc, bank, &mut source) {
+        Ok(spec) => Ok(spec),
+        Err(PlanFault::Source) => Err(Halt::Files),
+        Err(PlanFault::Memory) => Err(Halt::Memory),
+        Err(fault) => Err(Halt::Plan(fault)),
+    }
+}
+
+fn script_text<F: Files>(alloc: Global, files: &mut F, name: &str) -> Result<Vec<u8>, Halt>
+    ensures ok { IfOk result (λ text. IsTrue (F.tells files.old) → text.items ≡ F.content files.old name.now) }
+    ensures short { IfOk result (λ text. length text.items ≤ longest_script) }
+    ensures err { IfErr result (λ halt. IsTrue (F.tells files.old) → HaltsAtScript (F.content files.old name.now) halt) }
+    ensures failed { result ≡ Err Halt.Files → Rose (F.faults files.old) (F.faults files.new) }
+    ensures content { IsTrue (F.tells files.old) → (file : List ℕ) → F.content files.new file ≡ F.content files.old file }
+    ensures grows { F.faults files.old ≤ F.faults files.new }
+    ensures tells { F.tells files.new ≡ F.tells files.old }
+{
+    let mut source = FileSource { files, name, at: 0 };
+    match text_of(alloc, &mut source, LONGEST_SCRIPT) {
+        Ok(text) => Ok(text),
+        Err(TextFault::Source) => Err(Halt::Files),
+        Err(TextFault::TooLong) => Err(Halt::NotYet),
+        Err(TextFault::Memory) => Err(Halt::Memory),
+    }
+}
+
+/// The script in the file of this name.
+pub(crate) fn script_in<F: Files>(alloc: Global, files: &mut F, name: &str) -> Result<Script, Halt>
+    ensures ok { IfOk result (λ script. IsTrue (F.tells files.old) → IsScript (F.content files.old name.now) script) }
+    ensures err { IfErr result (λ halt. IsTrue (F.tells files.old) → HaltsAtScript (F.content files.old name.now) halt) }
+    ensures failed { result ≡ Err Halt.Files → Rose (F.faults files.old) (F.faults files.new) }
+    ensures grows { F.faults files.old ≤ F.faults files.new }
+    ensures tells { F.tells files.new ≡ F.tells files.old }
+{
+    let text = script_text(alloc, files, name)?;
+    match script_of(alloc, &text) {
+        Ok(script) => Ok(script),
+        Err(ScriptFault::OutOfForm) => Err(Halt::NotYet),
+        Err(ScriptFault::Memory) => Err(Halt::Memory),
+    }
+}
