@@ -21,6 +21,13 @@ impl Model for Spec {
 }
 
 impl Spec {
+    /// The numbers of the plan.
+    pub(crate) fn draft(&self) -> &Draft
+        ensures { result.now ≡ self.now }
+    {
+        &self.draft
+    }
+
     /// Items per test.
     pub fn length(&self) -> u32
         ensures { result ≡ self.now.length }

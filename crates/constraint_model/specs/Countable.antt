@@ -1,0 +1,17 @@
+-- What must be true of a plan before a set can be counted on it.
+use Rattle.std.specs.Prelude.{◌≡◌, ℕ, ◌<◌, ◌≤◌, length, cond}
+use Rattle.bank_tables.specs.Items.{Set}
+use Rattle.bank_tables.specs.Tables.{Tables, quantity}
+use Rattle.exam_model.specs.Plan.{Plan, row_at}
+use Rattle.exam_model.specs.Forms.{stimuli_of}
+use Rattle.exam_model.specs.Validity.{IsRow}
+
+-- the rows speak of the bank, and each of its stimuli has bounds
+pub record IsCountable (b : Tables) (plan : Plan) : Type 0 where
+  pub few_rows : length plan.rows ≤ 128
+  pub rows : (r : ℕ) → r < length plan.rows → IsRow b (row_at plan r)
+  pub each_stimulus : length plan.bounds ≡ stimuli_of b
+
+-- quantity `which` of an item of S, and 0 of another
+abbrev pub quantity_of : Tables → Set → ℕ → ℕ → ℕ
+quantity_of b S which i = cond (S i) (quantity b i which) 0

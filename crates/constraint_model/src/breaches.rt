@@ -1,0 +1,118 @@
+//! Whether a set of items is a form.
+
+ghost use Rattle.std.specs.Prelude.{◌≡◌};
+ghost use Rattle.bank_tables.specs.Items.{has};
+ghost use Rattle.exam_model.specs.Breaches.{IsFirstBreach};
+ghost use Rattle.exam_model.specs.Validity.{IsWellMade};
+ghost use Rattle.constraint_model.specs.Views.{problem_of};
+ghost use Rattle.constraint_model.specs.Countable.{IsCountable};
+ghost use Rattle.constraint_model.specs.FirstBreaches.{IsLengthBreach, IsRowBreach, IsStimulusBreach, IsFirstMissing, IsFirstCommon, IsPlanBreach};
+
+use crate::counts::{activity, items_of, lower_bound, stimuli_of, upper_bound};
+use crate::problem::Problem;
+use bank_tables::{Bank, ItemSet};
+use exam_model::{Breach, Draft};
+
+/// The number of items of the form, where it isn't the plan's or an item isn't of the bank.
+fn wrong_length(bank: &Bank, plan: &Draft, form: &ItemSet) -> Option<u32>
+    ensures { IsLengthBreach bank.now plan.now (has form.now) result }
+{
+    let found = form.count();
+    if form.all_below(bank.items()) && found == plan.length {
+        None
+    } else {
+        Some(found)
+    }
+}
+
+/// The first row that doesn't hold, with the activity found.
+fn row_breach(bank: &Bank, plan: &Draft, form: &ItemSet) -> Option<(u8, u32)>
+    requires { IsCountable bank.now plan.now }
+    ensures { IsRowBreach bank.now plan.now (has form.now) result }
+{
+    let rows = plan.rows.as_slice();
+    for (r, row) in rows.iter().enumerate() {
+        let found = activity(bank, row, form);
+        if found < lower_bound(row) || found > upper_bound(row) {
+            return Some((r as u8, found));
+        }
+    }
+    None
+}
+
+/// The first stimulus that doesn't hold, with its number of items.
+fn stimulus_breach(bank: &Bank, plan: &Draft, form: &ItemSet) -> Option<(u8, u32)>
+    requires { IsCountable bank.now plan.now }
+    ensures { IsStimulusBreach bank.now plan.now (has form.now) result }
+{
+    let bounds = plan.bounds.as_slice();
+    for k in 0..stimuli_of(bank) {
+        let bound = bounds[k as usize];
+        let found = items_of(bank, k + 1, form);
+        if found > 0 && found < bound.low || found > bound.high {
+            return Some((k + 1, found));
+        }
+    }
+    None
+}
+
+/// The first member of the one set that isn't in the other.
+fn first_missing(members: &ItemSet, of: &ItemSet) -> Option<u16>
+    ensures { IsFirstMissing (has members.now) (has of.now) result }
+{
+    let _below = members.count();
+    for i in 0..512 {
+        if members.has(i) && !of.has(i) {
+            return Some(i);
+        }
+    }
+    None
+}
+
+/// The first member that both sets have.
+fn first_common(members: &ItemSet, of: &ItemSet) -> Option<u16>
+    ensures { IsFirstCommon (has members.now) (has of.now) result }
+{
+    let _below = members.count();
+    for i in 0..512 {
+        if members.has(i) && of.has(i) {
+            return Some(i);
+        }
+    }
+    None
+}
+
+/// The first breach of a plan's length, rows and stimuli, or none where the set meets the plan.
+pub fn plan_breach(bank: &Bank, plan: &Draft, form: &ItemSet) -> Option<Breach>
+    requires { IsCountable bank.now plan.now }
+    ensures { IsPlanBreach bank.now plan.now (has form.now) result }
+{
+    if let Some(found) = wrong_length(bank, plan, form) {
+        return Some(Breach::Length(found));
+    }
+    if let Some((row, found)) = row_breach(bank, plan, form) {
+        return Some(Breach::Row(row, found));
+    }
+    if let Some((stimulus, found)) = stimulus_breach(bank, plan, form) {
+        return Some(Breach::Stimulus(stimulus, found));
+    }
+    None
+}
+
+/// The first breach of a set of items, in the order of length, rows, stimuli, items given and items barred, with the
+/// value found; none exactly where the set is a form of the problem.
+pub fn meets(problem: &Problem, form: &ItemSet) -> Option<Breach>
+    requires { IsWellMade (problem_of problem.now) }
+    ensures { IsFirstBreach (problem_of problem.now) (has form.now) result }
+{
+    if let Some(breach) = plan_breach(problem.bank, problem.spec.draft(), form) {
+        return Some(breach);
+    }
+    if let Some(item) = first_missing(&problem.given, form) {
+        return Some(Breach::Given(item));
+    }
+    if let Some(item) = first_common(&problem.barred, form) {
+        return Some(Breach::Barred(item));
+    }
+    None
+}
