@@ -1,13 +1,11 @@
-// A library with one function.
+//! The plan text both ways.
 #![tactic(auto)]
 
-ghost use Rattle.std.specs.Prelude.{◌≡◌};
-ghost use Rattle.spec_reader.specs.Echo.{echo_of};
+mod keyword;
+mod plan_fault;
+mod rule;
+mod rules;
+mod sets;
+mod words;
 
-// The `ensures` clause is the contract: what `echo` returns is `echo_of` of its argument, a definition
-// in `specs/Echo.antt`, which a caller's clause can cite too.
-pub fn echo(x: usize) -> usize
-    ensures { result ≡ echo_of x }
-{
-    x
-}
+pub use plan_fault::{Kind, Name, PlanFault};
