@@ -6,7 +6,7 @@ use Rattle.spec_reader.specs.declared.plan_fault.Name.{Name}
 use Rattle.spec_reader.specs.declared.plan_fault.Name.TheVariants as name
 use Rattle.spec_reader.specs.declared.plan_fault.PlanFault.{PlanFault}
 use Rattle.spec_reader.specs.declared.plan_fault.PlanFault.TheVariants.{Twice, Missing}
-use Rattle.spec_reader.specs.Words.{words_of}
+use Rattle.exam_text.specs.Words.{words_of}
 use Rattle.spec_reader.specs.Rules.{Said, Length, Prior, Rate, Key, Budget, BaseBudget, Sessions, Journal, Count, Quantity, Enemies, Stimuli, Stimulus, Base, line_of}
 
 -- an empty line, or one that begins with `#`

@@ -1,10 +1,10 @@
 -- What a line of a plan says.
-use Rattle.std.specs.Prelude.{ℕ, ◌+◌, ◌-◌, Bool, not, ◌&&◌, nat_lt, if◌then◌else◌, List, length, drop, bytes_eq, Option, Some, None, Result, Ok, Err, ℤ}
+use Rattle.std.specs.Prelude.{ℕ, ◌+◌, ◌-◌, Bool, not, ◌&&◌, if◌then◌else◌, List, length, drop, bytes_eq, Option, Some, None, Result, Ok, Err, ℤ}
 use Rattle.hex.specs.Hex.{encode_lower, decode_sized}
 use Rattle.hex.specs.declared.error.FromHexError.{FromHexError}
 use Rattle.bank_tables.specs.Items.{Set, has}
 use Rattle.exam_text.specs.Numbers.{number_of, signed_of}
-use Rattle.exam_text.specs.First.{fault_where, all_below, ◌>>=◌, or_fault, unless, each_below}
+use Rattle.exam_text.specs.First.{fault_where, ◌>>=◌, or_fault, unless, each_below}
 use Rattle.spec_reader.specs.declared.plan_fault.Kind.{Kind}
 use Rattle.spec_reader.specs.declared.plan_fault.Kind.TheVariants as kind
 use Rattle.spec_reader.specs.declared.plan_fault.PlanFault.{PlanFault}
@@ -18,7 +18,9 @@ use Rattle.spec_reader.specs.declared.keyword.Keyword.TheVariants as keyword
 use Rattle.spec_reader.specs.declared.rule.Rule.{Rule}
 use Rattle.spec_reader.specs.declared.rule.Rule.TheVariants as rule
 use Rattle.spec_reader.specs.Keywords.{keyword_of, fits_count}
-use Rattle.spec_reader.specs.Sets.{word, is_set, in_set}
+use Rattle.exam_text.specs.Words.{word, none_empty}
+use Rattle.exam_text.specs.Runs.{is_set}
+use Rattle.spec_reader.specs.Sets.{in_set}
 
 -- what a line says: a set of items is a test on them
 pub data Said : Type 0 where
@@ -52,10 +54,6 @@ said (rule.Enemies s) = Enemies (has s)
 said (rule.Stimuli low high) = Stimuli low high
 said (rule.Stimulus s low high) = Stimulus s low high
 said (rule.Base s) = Base (has s)
-
--- no word is empty: a space stands alone, and none at the end
-abbrev pub none_empty : List (List ℕ) → Bool
-none_empty words = all_below (length words) (λ i. nat_lt 0 (length (word words i)))
 
 -- a number at most `most` in word i
 abbrev pub number_in : ℕ → ℕ → ℕ → List (List ℕ) → Result ℕ PlanFault

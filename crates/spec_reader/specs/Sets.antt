@@ -1,63 +1,10 @@
--- A set of items in words: runs, ascending and apart.
-use Rattle.std.specs.Prelude.{◌≡◌, ℕ, ◌+◌, ◌<◌, ◌≤◌, Bool, ◌&&◌, ◌==◌, nat_lt, nat_le, if◌then◌else◌, List, [], ◌∷◌, ◌++◌, length, get_or, zero, suc, true, false, take, drop, map, Option, Some, None, position}
-use Rattle.std.specs.Option.{option_map, option_and_then}
+-- The items of a set in words.
+use Rattle.std.specs.Prelude.{ℕ, List, length}
+use Rattle.bank_tables.specs.Items.{Set}
 use Rattle.bank_tables.specs.Sums.{any_below}
-use Rattle.exam_text.specs.First.{all_below}
-use Rattle.std.specs.Fmt.{decimal}
-use Rattle.exam_text.specs.Numbers.{number_of}
-use Rattle.spec_reader.specs.declared.sets.Run.{Run}
+use Rattle.exam_text.specs.Words.{word}
+use Rattle.exam_text.specs.Runs.{run_of, in_run}
 
--- its word: `a` for one item, `a-b` for more
-abbrev pub run_word : Run → List ℕ
-run_word r = if (r.low == r.high) then decimal r.low else (decimal r.low ++ 45 ∷ decimal r.high)
-
-abbrev pub run_between : Option ℕ → Option ℕ → Option Run
-run_between None b = None
-run_between (Some low) None = None
-run_between (Some low) (Some high) = if nat_lt low high then Some (record { low = low; high = high }) else None
-
--- where the first dash stands
-abbrev pub dash_at : List ℕ → Option ℕ
-dash_at word = position (λ b. b == 45) word
-
--- the run of a word
-abbrev pub run_at : List ℕ → Option ℕ → Option Run
-run_at word None = option_map (λ n. record { low = n; high = n }) (number_of 511 word)
-run_at word (Some k) = run_between (number_of 511 (take k word)) (number_of 511 (drop (k + 1) word))
-
-unfoldable pub run_of : List ℕ → Option Run
-run_of word = run_at word (dash_at word)
-
-abbrev pub word : List (List ℕ) → ℕ → List ℕ
-word words i = get_or words i []
-
--- the run is there, and begins at `from` or later
-abbrev pub is_run_from : ℕ → Option Run → Bool
-is_run_from from None = false
-is_run_from from (Some r) = nat_le from r.low
-
--- the lowest item that may come behind a run
-abbrev pub behind_run : Option Run → ℕ
-behind_run None = 0
-behind_run (Some r) = r.high + 1
-
--- the lowest item that the run of word i may begin with
-abbrev pub behind : List (List ℕ) → ℕ → ℕ
-behind words zero = 0
-behind words (suc i) = behind_run (run_of (word words i))
-
--- word i is a run, behind the one before it
-abbrev pub fits : List (List ℕ) → ℕ → Bool
-fits words i = is_run_from (behind words i) (run_of (word words i))
-
-abbrev pub in_run : ℕ → Option Run → Bool
-in_run x None = false
-in_run x (Some r) = nat_le r.low x && nat_le x r.high
-
--- these words are a set of items: one or more runs, ascending and apart
-unfoldable pub is_set : List (List ℕ) → Bool
-is_set words = nat_lt 0 (length words) && all_below (length words) (fits words)
-
--- item x is in one of their runs
-unfoldable pub in_set : List (List ℕ) → ℕ → Bool
+-- item x is in one of the runs
+unfoldable pub in_set : List (List ℕ) → Set
 in_set words x = any_below (length words) (λ i. in_run x (run_of (word words i)))

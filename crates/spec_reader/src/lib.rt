@@ -6,6 +6,5 @@ mod plan_fault;
 mod rule;
 mod rules;
 mod sets;
-mod words;
 
 pub use plan_fault::{Kind, Name, PlanFault};

@@ -5,15 +5,16 @@ ghost use Rattle.bank_tables.specs.Items.{has};
 ghost use Rattle.exam_text.specs.First.{Gives};
 ghost use Rattle.exam_text.specs.Numbers.{number_of};
 ghost use Rattle.hex.specs.Hex.{encode_lower};
-ghost use Rattle.spec_reader.specs.Sets.{word};
+ghost use Rattle.exam_text.specs.Words.{word, none_empty};
 ghost use Rattle.spec_reader.specs.Keywords.{fits_setting, fits_constraint, fits_count};
-ghost use Rattle.spec_reader.specs.Rules.{said, none_empty, number_in, signeds_in, key_of, key_in, set_in, setting_said, constraint_said, rule_said, line_of};
+ghost use Rattle.spec_reader.specs.Rules.{said, number_in, signeds_in, key_of, key_in, set_in, setting_said, constraint_said, rule_said, line_of};
 ghost use Rattle.spec_reader.specs.declared.plan_fault.PlanFault.TheVariants.{Memory};
 
 use crate::keyword::{Constraint, Keyword, Setting, fits_count, keyword_of};
 use crate::plan_fault::{Kind, PlanFault};
-use crate::sets::{set_of, word_at};
+use crate::sets::set_of;
 use bank_tables::ItemSet;
+use exam_text::{none_empty, word_at};
 use std::alloc::Global;
 
 /// What a line says.
@@ -33,18 +34,6 @@ pub enum Rule {
     Stimuli(u32, u32),
     Stimulus(u8, u32, u32),
     Base(ItemSet),
-}
-
-#[tactic(auto, using(exam_text::proofs::Firsts::all_fails))]
-fn none_empty(words: &[&[u8]]) -> bool
-    ensures { result ≡ none_empty (map (λ w. w.now) words.now) }
-{
-    for i in 0..words.len() {
-        if word_at(words, i).is_empty() {
-            return false;
-        }
-    }
-    true
 }
 
 fn number_in(at: u64, most: u32, i: usize, words: &[&[u8]]) -> Result<u32, PlanFault>
@@ -78,8 +67,11 @@ fn known_key(word: &[u8], key: [u8; 32]) -> [u8; 32]
     ensures same { result ≡ key }
     ensures is { Some key ≡ key_of word.now }
 {
-    let _bytes = key.as_slice();
-    let _first = key[0];
+    let mut copy = [0u8; 32];
+    copy.copy_from_slice(&key);
+    let other = &key;
+    let _slice = other.as_slice();
+    let _first = other[0];
     key
 }
 

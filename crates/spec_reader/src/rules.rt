@@ -3,15 +3,14 @@
 ghost use Rattle.std.specs.Prelude.{◌≡◌, ℕ, ◌<◌, ◌+◌, length, map, Some, None, get_or, []};
 ghost use Rattle.std.specs.List.{list_any};
 ghost use Rattle.exam_text.specs.First.{Gives};
-ghost use Rattle.spec_reader.specs.Words.{lines_of};
+ghost use Rattle.exam_text.specs.Words.{lines_of};
 ghost use Rattle.spec_reader.specs.Rules.{said};
 ghost use Rattle.spec_reader.specs.Lines.{is_skipped, mark_of, is_mark, has_mark, stands, next_rule, rules_of, missing};
 ghost use Rattle.spec_reader.specs.declared.plan_fault.PlanFault.TheVariants.{Memory};
 
 use crate::plan_fault::{Name, PlanFault};
 use crate::rule::{Rule, line_in};
-use crate::sets::word_at;
-use crate::words::{lines_of, words_of};
+use exam_text::{lines_of, word_at, words_of};
 use std::alloc::Global;
 
 fn is_skipped(line: &[u8]) -> bool

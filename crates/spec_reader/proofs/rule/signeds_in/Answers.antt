@@ -6,7 +6,7 @@ use Rattle.exam_text.proofs.Firsts.{each_fails}
 use Rattle.spec_reader.specs.declared.plan_fault.Kind.TheVariants as kind
 use Rattle.spec_reader.specs.declared.plan_fault.PlanFault.{PlanFault}
 use Rattle.spec_reader.specs.declared.plan_fault.PlanFault.TheVariants.{Line}
-use Rattle.spec_reader.specs.Sets.{word}
+use Rattle.exam_text.specs.Words.{word}
 use Rattle.spec_reader.proofs.rule.signeds_in.Goals as goal
 
 pub returns-in-None : goal.returns-in-None

@@ -3,7 +3,7 @@ use Rattle.exam_text.specs.Numbers.{signed_of}
 use Rattle.exam_text.specs.First.{each_below, or_fault}
 use Rattle.spec_reader.specs.declared.plan_fault.Kind.TheVariants as kind
 use Rattle.spec_reader.specs.declared.plan_fault.PlanFault.TheVariants.{Line}
-use Rattle.spec_reader.specs.Sets.{word}
+use Rattle.exam_text.specs.Words.{word}
 use Rattle.spec_reader.proofs.rule.signeds_in.Given as goal
 
 abbrev pub invariant-loop-i : goal.invariant-loop-i

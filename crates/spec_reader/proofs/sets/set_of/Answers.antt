@@ -4,7 +4,8 @@ use Rattle.std.proofs.lemmas.Bool.{and_right, and_from, lt-ltb}
 use Rattle.std.proofs.lemmas.List.{length-map}
 use Rattle.exam_text.specs.First.{all_below}
 use Rattle.exam_text.proofs.Firsts.{all_fails}
-use Rattle.spec_reader.specs.Sets.{run_of, word, behind, fits, is_set}
+use Rattle.exam_text.specs.Words.{word}
+use Rattle.exam_text.specs.Runs.{run_of, behind, fits, is_set}
 use Rattle.spec_reader.proofs.sets.set_of.Goals as goal
 
 abbrev texts : List (Bor (List ℕ)) → List (List ℕ)
@@ -26,7 +27,7 @@ loop-i-preserved c =
     record {
       runs = rw k (and_from _ _ inv.runs (sym c.in-Some.ensures.fits));
       next = rw (k, c.in-Some.ensures.value) refl;
-      small = omega (arith, c.in-Some.ensures.order.1);
+      small = omega (arith, c.in-Some.ensures.run.high);
       members = λ x. rw (k, c.in-Some.ensures.value) (c.with_run-set.ensures x ∙ ap (λ (b : Bool). b || (nat_le r.low x && nat_le x r.high)) (inv.members x));
     }
 

@@ -2,7 +2,8 @@ use Rattle.std.proofs.Common.{◌≡◌, ◌≤◌, ℕ, List, true, map}
 use Rattle.bank_tables.specs.Items.{has}
 use Rattle.bank_tables.specs.Sums.{any_below}
 use Rattle.exam_text.specs.First.{all_below}
-use Rattle.spec_reader.specs.Sets.{run_of, word, behind, fits, in_run}
+use Rattle.exam_text.specs.Words.{word}
+use Rattle.exam_text.specs.Runs.{run_of, behind, fits, in_run}
 use Rattle.spec_reader.proofs.sets.set_of.Given as goal
 
 -- the words so far are runs, and the set has their items
