@@ -1,7 +1,9 @@
 //! The plan text both ways.
 #![tactic(auto)]
 
+mod bounds;
 mod keyword;
+mod outline;
 mod plan_fault;
 mod rule;
 mod rules;

@@ -61,17 +61,14 @@ fn signeds_in(alloc: Global, at: u64, words: &[&[u8]]) -> Result<Vec<i32>, PlanF
     Ok(values)
 }
 
-/// The key that the word writes: its 32 bytes are those of the type.
-fn known_key(word: &[u8], key: [u8; 32]) -> [u8; 32]
-    requires { word.now ≡ encode_lower key }
-    ensures same { result ≡ key }
-    ensures is { Some key ≡ key_of word.now }
+/// The key of these bytes, which the word writes.
+fn key_from(word: &[u8], bytes: &[u8]) -> [u8; 32]
+    requires count { length bytes.now ≡ 32 }
+    requires word { word.now ≡ encode_lower bytes.now }
+    ensures { key_of word.now ≡ Some result }
 {
-    let mut copy = [0u8; 32];
-    copy.copy_from_slice(&key);
-    let other = &key;
-    let _slice = other.as_slice();
-    let _first = other[0];
+    let mut key = [0u8; 32];
+    key.copy_from_slice(bytes);
     key
 }
 
@@ -79,7 +76,7 @@ fn key_of(word: &[u8]) -> Option<[u8; 32]>
     ensures { result ≡ key_of word.now }
 {
     match exam_text::read_key(word) {
-        Some(key) => Some(known_key(word, key)),
+        Some(key) => Some(key_from(word, &key)),
         None => None,
     }
 }
