@@ -33,9 +33,12 @@ line_words (Stimuli low high) = codes "stimuli" ∷ decimal low ∷ decimal high
 line_words (Stimulus s low high) = codes "stimulus" ∷ decimal s ∷ decimal low ∷ decimal high ∷ []
 line_words (Base s) = codes "base" ∷ set_words s
 
--- a line, with its line feed
-unfoldable pub line_text : Said → List ℕ
-line_text rule = spaced (line_words rule) ++ 10 ∷ []
+-- the line of these words, with its line feed
+unfoldable pub words_text : List (List ℕ) → List ℕ
+words_text words = spaced words ++ 10 ∷ []
+
+abbrev pub line_text : Said → List ℕ
+line_text rule = words_text (line_words rule)
 
 -- the lines of the first n stimuli
 abbrev pub bounds_below : ℕ → List StimulusBound → List Said
@@ -46,10 +49,12 @@ abbrev pub base_rules : Option Set → List Said
 base_rules None = []
 base_rules (Some s) = Base s ∷ []
 
+abbrev pub limit_rules : SaidPlan → List Said
+limit_rules plan = Budget plan.budget ∷ BaseBudget plan.base_budget ∷ Sessions plan.sessions ∷ Journal plan.journal ∷ []
+
 -- the lines that stand in each canonical text
 abbrev pub setting_rules : SaidPlan → List Said
-setting_rules plan =
-    Length plan.length ∷ Prior plan.prior ∷ Rate plan.rate.num plan.rate.den ∷ Key plan.key ∷ Budget plan.budget ∷ BaseBudget plan.base_budget ∷ Sessions plan.sessions ∷ Journal plan.journal ∷ []
+setting_rules plan = Length plan.length ∷ Prior plan.prior ∷ Rate plan.rate.num plan.rate.den ∷ Key plan.key ∷ limit_rules plan
 
 -- the settings, the rows, the bounds of each stimulus, and the base if there is one
 unfoldable pub canonical_rules : SaidPlan → List Said
