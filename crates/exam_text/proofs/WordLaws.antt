@@ -1,5 +1,5 @@
 -- Words that are written with spaces between them are read again, and so are lines.
-use Rattle.std.proofs.Common.{◌≡◌, ℕ, ◌+◌, ◌-◌, List, [], ◌∷◌, ◌++◌, length, get_or, take, eqb, refl, ap, ◌∙◌, arith}
+use Rattle.std.proofs.Common.{◌≡◌, ℕ, ◌-◌, List, [], ◌∷◌, ◌++◌, length, eqb, refl, ap, ◌∙◌, arith}
 use Rattle.std.proofs.lemmas.List.{take_at, get_or_at, length-append}
 use Rattle.std.proofs.lemmas.List.Splits.{slice_split_none, slice_split_at}
 use Rattle.exam_text.specs.Words.{parts_at, without_empty_last, words_of, lines_of, spaced, text_of_lines, NoneHas}

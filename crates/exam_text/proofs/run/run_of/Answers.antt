@@ -1,4 +1,4 @@
-use Rattle.std.proofs.Common.{◌≡◌, ℕ, ◌+◌, ◌∙◌, ap, ap₂, sym, List, take, drop, Option, Some}
+use Rattle.std.proofs.Common.{◌≡◌, ◌∙◌, ap, ap₂, sym, drop, Some}
 use Rattle.std.proofs.lemmas.List.{drop-drop}
 use Rattle.exam_text.specs.Numbers.{number_of}
 use Rattle.exam_text.specs.Runs.{run_of, run_between, dash_at}
