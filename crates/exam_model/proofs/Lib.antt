@@ -10,3 +10,5 @@ pub mod OneVerdict
 pub mod OneMode
 pub mod SomeMode
 pub mod NextItems
+pub mod Undecided
+pub mod OneBreach

@@ -7,6 +7,7 @@ pub mod Counting
 pub mod Relaxed
 pub mod ProofTrees
 pub mod Verdicts
+pub mod Pruning
 pub mod Spending
 pub mod Ability
 pub mod Serving
