@@ -39,7 +39,7 @@ pub set_line : (out w : List ℕ) (ns : List ℕ) (rs : List Run) → (((out ++ 
 unfolding words_text
 set_line out w ns rs =
     let e : spaced (w ∷ (map decimal ns ++ map run_word rs)) ≡ w ++ (flat_map (λ n. 32 ∷ decimal n) ns ++ flat_map (λ r. 32 ∷ run_word r) rs) =
-        spaced_flat w (map decimal ns ++ map run_word rs) ∙ ap (λ (rest : List ℕ). w ++ rest) (flat_map-append (λ v. 32 ∷ v) (map decimal ns) (map run_word rs) ∙ (rw (flat_map-map (λ v. 32 ∷ v) decimal ns, flat_map-map (λ v. 32 ∷ v) run_word rs) refl)) in
+    spaced_flat w (map decimal ns ++ map run_word rs) ∙ ap (λ (rest : List ℕ). w ++ rest) (flat_map-append (λ v. 32 ∷ v) (map decimal ns) (map run_word rs) ∙ (rw (flat_map-map (λ v. 32 ∷ v) decimal ns, flat_map-map (λ v. 32 ∷ v) run_word rs) refl)) in
     rw e (simp append_assoc)
 
 -- the canonical text is that of its parts

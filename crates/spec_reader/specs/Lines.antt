@@ -4,8 +4,8 @@ use Rattle.std.specs.List.{list_any}
 use Rattle.exam_text.specs.First.{fault_where, ◌orelse◌, ◌>>=◌, unless, steps_below}
 use Rattle.spec_reader.specs.declared.plan_fault.Name.{Name}
 use Rattle.spec_reader.specs.declared.plan_fault.Name.TheVariants as name
-use Rattle.spec_reader.specs.declared.plan_fault.PlanFault.{PlanFault}
-use Rattle.spec_reader.specs.declared.plan_fault.PlanFault.TheVariants.{Twice, Missing}
+use Rattle.spec_reader.specs.declared.line_fault.LineFault.{LineFault}
+use Rattle.spec_reader.specs.declared.line_fault.LineFault.TheVariants.{Twice}
 use Rattle.exam_text.specs.Words.{words_of}
 use Rattle.spec_reader.specs.Rules.{Said, Length, Prior, Rate, Key, Budget, BaseBudget, Sessions, Journal, Count, Quantity, Enemies, Stimuli, Stimulus, Base, line_of}
 
@@ -43,18 +43,18 @@ stands None rules = false
 stands (Some m) rules = has_mark m rules
 
 -- a line, behind those that were read
-unfoldable pub next_rule : ℕ → List ℕ → List Said → Result (List Said) PlanFault
+unfoldable pub next_rule : ℕ → List ℕ → List Said → Result (List Said) LineFault
 next_rule at line rules =
     if is_skipped line then Ok rules else
     line_of at (words_of line) >>= λ rule. unless (fault_where (stands (mark_of rule) rules) (Twice at)) (Ok (rules ++ rule ∷ []))
 
 -- what the lines of a text say, in their order, or the first faulty line's fault; lines count from 1
-unfoldable pub rules_of : List (List ℕ) → Result (List Said) PlanFault
+unfoldable pub rules_of : List (List ℕ) → Result (List Said) LineFault
 rules_of lines = steps_below (length lines) (λ i rules. next_rule (i + 1) (get_or lines i []) rules) []
 
 -- the first line that is missing; a key is, where there is a rate
-unfoldable pub missing : List Said → Option PlanFault
+unfoldable pub missing : List Said → Option Name
 missing rules =
-    fault_where (not (has_mark 0 rules)) (Missing name.Length)
-    orelse fault_where (not (has_mark 1 rules)) (Missing name.Prior)
-    orelse fault_where (has_mark 2 rules && not (has_mark 3 rules)) (Missing name.Key)
+    fault_where (not (has_mark 0 rules)) name.Length
+    orelse fault_where (not (has_mark 1 rules)) name.Prior
+    orelse fault_where (has_mark 2 rules && not (has_mark 3 rules)) name.Key

@@ -5,10 +5,10 @@ use Rattle.hex.specs.declared.error.FromHexError.{FromHexError}
 use Rattle.bank_tables.specs.Items.{Set, has}
 use Rattle.exam_text.specs.Numbers.{number_of, signed_of}
 use Rattle.exam_text.specs.First.{fault_where, ◌>>=◌, or_fault, unless, each_below}
-use Rattle.spec_reader.specs.declared.plan_fault.Kind.{Kind}
-use Rattle.spec_reader.specs.declared.plan_fault.Kind.TheVariants as kind
-use Rattle.spec_reader.specs.declared.plan_fault.PlanFault.{PlanFault}
-use Rattle.spec_reader.specs.declared.plan_fault.PlanFault.TheVariants.{Line}
+use Rattle.spec_reader.specs.declared.line_fault.Kind.{Kind}
+use Rattle.spec_reader.specs.declared.line_fault.Kind.TheVariants as kind
+use Rattle.spec_reader.specs.declared.line_fault.LineFault.{LineFault}
+use Rattle.spec_reader.specs.declared.line_fault.LineFault.TheVariants.{Line}
 use Rattle.spec_reader.specs.declared.keyword.Setting.{Setting}
 use Rattle.spec_reader.specs.declared.keyword.Setting.TheVariants as setting
 use Rattle.spec_reader.specs.declared.keyword.Constraint.{Constraint}
@@ -56,11 +56,11 @@ said (rule.Stimulus s low high) = Stimulus s low high
 said (rule.Base s) = Base (has s)
 
 -- a number at most `most` in word i
-abbrev pub number_in : ℕ → ℕ → ℕ → List (List ℕ) → Result ℕ PlanFault
+abbrev pub number_in : ℕ → ℕ → ℕ → List (List ℕ) → Result ℕ LineFault
 number_in at most i words = or_fault (number_of most (word words i)) (Line at kind.Number)
 
 -- signed numbers in the words behind the first
-abbrev pub signeds_in : ℕ → List (List ℕ) → Result (List ℤ) PlanFault
+abbrev pub signeds_in : ℕ → List (List ℕ) → Result (List ℤ) LineFault
 signeds_in at words = each_below (length words - 1) (λ i. or_fault (signed_of 999999999 (word words (i + 1))) (Line at kind.Number))
 
 abbrev pub key_where : List ℕ → Result (List ℕ) FromHexError → Option (List ℕ)
@@ -71,15 +71,15 @@ key_where text (Err e) = None
 unfoldable pub key_of : List ℕ → Option (List ℕ)
 key_of text = key_where text (decode_sized text 32)
 
-abbrev pub key_in : ℕ → List (List ℕ) → Result (List ℕ) PlanFault
+abbrev pub key_in : ℕ → List (List ℕ) → Result (List ℕ) LineFault
 key_in at words = or_fault (key_of (word words 1)) (Line at kind.Number)
 
 -- a set of items in the words from word `from` on
-abbrev pub set_in : ℕ → ℕ → List (List ℕ) → Result Set PlanFault
+abbrev pub set_in : ℕ → ℕ → List (List ℕ) → Result Set LineFault
 set_in at from words = if is_set (drop from words) then Ok (in_set (drop from words)) else Err (Line at kind.Set)
 
 -- what the words of such a line say
-unfoldable pub setting_said : ℕ → Setting → List (List ℕ) → Result Said PlanFault
+unfoldable pub setting_said : ℕ → Setting → List (List ℕ) → Result Said LineFault
 setting_said at setting.Length words = number_in at 999999999 1 words >>= λ n. Ok (Length n)
 setting_said at setting.Prior words = signeds_in at words >>= λ vs. Ok (Prior vs)
 setting_said at setting.Rate words = number_in at 999999999 1 words >>= λ n. number_in at 999999999 2 words >>= λ d. Ok (Rate n d)
@@ -90,19 +90,19 @@ setting_said at setting.Sessions words = number_in at 999999999 1 words >>= λ n
 setting_said at setting.Journal words = number_in at 999999999 1 words >>= λ n. Ok (Journal n)
 setting_said at setting.Base words = set_in at 1 words >>= λ s. Ok (Base s)
 
-unfoldable pub constraint_said : ℕ → Constraint → List (List ℕ) → Result Said PlanFault
+unfoldable pub constraint_said : ℕ → Constraint → List (List ℕ) → Result Said LineFault
 constraint_said at constraint.Count words = number_in at 999999999 1 words >>= λ low. number_in at 999999999 2 words >>= λ high. set_in at 3 words >>= λ s. Ok (Count low high s)
 constraint_said at constraint.Quantity words = number_in at 255 1 words >>= λ q. number_in at 999999999 2 words >>= λ low. number_in at 999999999 3 words >>= λ high. set_in at 4 words >>= λ s. Ok (Quantity q low high s)
 constraint_said at constraint.Enemies words = set_in at 1 words >>= λ s. Ok (Enemies s)
 constraint_said at constraint.Stimuli words = number_in at 999999999 1 words >>= λ low. number_in at 999999999 2 words >>= λ high. Ok (Stimuli low high)
 constraint_said at constraint.Stimulus words = number_in at 255 1 words >>= λ s. number_in at 999999999 2 words >>= λ low. number_in at 999999999 3 words >>= λ high. Ok (Stimulus s low high)
 
-abbrev pub rule_said : ℕ → Keyword → List (List ℕ) → Result Said PlanFault
+abbrev pub rule_said : ℕ → Keyword → List (List ℕ) → Result Said LineFault
 rule_said at (keyword.Setting s) words = setting_said at s words
 rule_said at (keyword.Constraint c) words = constraint_said at c words
 
 -- what a line of these words says, or the first of its four kinds of fault
-unfoldable pub line_of : ℕ → List (List ℕ) → Result Said PlanFault
+unfoldable pub line_of : ℕ → List (List ℕ) → Result Said LineFault
 line_of at words =
     or_fault (keyword_of (word words 0)) (Line at kind.Word) >>= λ first.
     unless (fault_where (not (fits_count first (length words) && none_empty words)) (Line at kind.Shape)) (rule_said at first words)

@@ -3,12 +3,17 @@
 
 mod bounds;
 mod keyword;
+mod line_fault;
 mod outline;
 mod plan_fault;
 mod print;
+mod read;
 mod rule;
 mod rules;
 mod runs;
 mod sets;
 
-pub use plan_fault::{Kind, Name, PlanFault};
+pub use line_fault::Kind;
+pub use plan_fault::{Name, PlanFault};
+pub use print::print_plan;
+pub use read::read_plan;

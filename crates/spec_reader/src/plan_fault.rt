@@ -2,21 +2,11 @@
 
 ghost use Rattle.std.specs.Prelude.{◌≡◌};
 ghost use Rattle.spec_reader.specs.declared.plan_fault.PlanFault.TheVariants.{Memory};
+ghost use Rattle.spec_reader.specs.Faults.{fault_of_line};
 
-use std::alloc::{AllocError, AllocFailed};
-
-/// What is wrong with a line; of several faults the first in this order.
-#[derive(Clone, Copy, Debug, PartialEq, Eq)]
-pub enum Kind {
-    /// The first word names no kind of line.
-    Word,
-    /// There is a wrong number of words, or a wrong space.
-    Shape,
-    /// A number, a signed number or the key is ill-formed.
-    Number,
-    /// A set of items is ill-formed.
-    Set,
-}
+use crate::line_fault::{Kind, LineFault};
+use constraint_model::SpecFault;
+use std::alloc::AllocError;
 
 /// A line that must stand.
 #[derive(Clone, Copy, Debug, PartialEq, Eq)]
@@ -40,6 +30,8 @@ pub enum PlanFault {
     Twice(u64),
     /// There is no such line.
     Missing(Name),
+    /// The lines say no plan for the bank.
+    Spec(SpecFault),
     /// Want of memory.
     Memory,
 }
@@ -52,10 +44,14 @@ impl From<AllocError> for PlanFault {
     }
 }
 
-impl<T: Drop> From<AllocFailed<T>> for PlanFault {
-    ghost from_gives = { λ _ e. e ≡ Memory };
+impl From<LineFault> for PlanFault {
+    ghost from_gives = { λ fault e. e ≡ fault_of_line fault };
 
-    fn from(_e: AllocFailed<T>) -> PlanFault {
-        PlanFault::Memory
+    fn from(fault: LineFault) -> PlanFault {
+        match fault {
+            LineFault::Line(at, kind) => PlanFault::Line(at, kind),
+            LineFault::Twice(at) => PlanFault::Twice(at),
+            LineFault::Memory => PlanFault::Memory,
+        }
     }
 }

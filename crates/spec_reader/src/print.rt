@@ -63,7 +63,12 @@ fn push_set(alloc: Global, out: &mut Vec<u8>, set: &ItemSet) -> Result<(), Alloc
 
 /// A line of numbers.
 #[tactic(auto, using(crate::proofs::PrintLaws::numbers_line))]
-fn push_line(alloc: Global, out: &mut Vec<u8>, keyword: &[u8], numbers: &[u64]) -> Result<(), AllocError>
+fn push_line(
+    alloc: Global,
+    out: &mut Vec<u8>,
+    keyword: &[u8],
+    numbers: &[u64],
+) -> Result<(), AllocError>
     ensures { OnOk result (out.new.items ≡ out.old.items ++ words_text (keyword.now ∷ map decimal numbers.now)) }
 {
     out.extend_from_slice(keyword)?;
@@ -74,7 +79,13 @@ fn push_line(alloc: Global, out: &mut Vec<u8>, keyword: &[u8], numbers: &[u64]) 
 
 /// A line of numbers and a set of items.
 #[tactic(auto, using(crate::proofs::PrintLaws::set_line))]
-fn push_set_line(alloc: Global, out: &mut Vec<u8>, keyword: &[u8], numbers: &[u64], set: &ItemSet) -> Result<(), AllocError>
+fn push_set_line(
+    alloc: Global,
+    out: &mut Vec<u8>,
+    keyword: &[u8],
+    numbers: &[u64],
+    set: &ItemSet,
+) -> Result<(), AllocError>
     ensures { OnOk result (out.new.items ≡ out.old.items ++ words_text (keyword.now ∷ (map decimal numbers.now ++ set_words (has set.now)))) }
 {
     out.extend_from_slice(keyword)?;
@@ -118,7 +129,12 @@ fn push_limits(alloc: Global, out: &mut Vec<u8>, spec: &Spec) -> Result<(), Allo
 fn push_rate(alloc: Global, out: &mut Vec<u8>, rate: Rate) -> Result<(), AllocError>
     ensures { OnOk result (out.new.items ≡ out.old.items ++ line_text (RateLine rate.num rate.den)) }
 {
-    push_line(alloc, out, b"rate", &[u64::from(rate.num), u64::from(rate.den)])
+    push_line(
+        alloc,
+        out,
+        b"rate",
+        &[u64::from(rate.num), u64::from(rate.den)],
+    )
 }
 
 /// The lines that stand in each canonical text.
@@ -139,7 +155,13 @@ fn push_row(alloc: Global, out: &mut Vec<u8>, row: &Row) -> Result<(), AllocErro
 {
     match row {
         Row::Count { set, low, high } => {
-            push_set_line(alloc, out, b"count", &[u64::from(*low), u64::from(*high)], set)
+            push_set_line(
+                alloc,
+                out,
+                b"count",
+                &[u64::from(*low), u64::from(*high)],
+                set,
+            )
         }
         Row::Quantity {
             which,
@@ -167,7 +189,12 @@ fn push_rows(alloc: Global, out: &mut Vec<u8>, rows: &[Row]) -> Result<(), Alloc
 }
 
 /// The line of the bounds of a stimulus.
-fn push_bound(alloc: Global, out: &mut Vec<u8>, stimulus: u64, bound: StimulusBound) -> Result<(), AllocError>
+fn push_bound(
+    alloc: Global,
+    out: &mut Vec<u8>,
+    stimulus: u64,
+    bound: StimulusBound,
+) -> Result<(), AllocError>
     ensures { OnOk result (out.new.items ≡ out.old.items ++ line_text (Stimulus stimulus bound.low bound.high)) }
 {
     let numbers = [stimulus, u64::from(bound.low), u64::from(bound.high)];

@@ -8,10 +8,10 @@ ghost use Rattle.hex.specs.Hex.{encode_lower};
 ghost use Rattle.exam_text.specs.Words.{word, none_empty};
 ghost use Rattle.spec_reader.specs.Keywords.{fits_setting, fits_constraint, fits_count};
 ghost use Rattle.spec_reader.specs.Rules.{said, number_in, signeds_in, key_of, key_in, set_in, setting_said, constraint_said, rule_said, line_of};
-ghost use Rattle.spec_reader.specs.declared.plan_fault.PlanFault.TheVariants.{Memory};
+ghost use Rattle.spec_reader.specs.declared.line_fault.LineFault.TheVariants.{Memory};
 
 use crate::keyword::{Constraint, Keyword, Setting, fits_count, keyword_of};
-use crate::plan_fault::{Kind, PlanFault};
+use crate::line_fault::{Kind, LineFault};
 use crate::sets::set_of;
 use bank_tables::ItemSet;
 use exam_text::{none_empty, word_at};
@@ -36,18 +36,18 @@ pub enum Rule {
     Base(ItemSet),
 }
 
-fn number_in(at: u64, most: u32, i: usize, words: &[&[u8]]) -> Result<u32, PlanFault>
+fn number_in(at: u64, most: u32, i: usize, words: &[&[u8]]) -> Result<u32, LineFault>
     requires { i < length words.now }
     ensures value { Gives Memory (λ n. n) result (number_in at most i (map (λ w. w.now) words.now)) }
     ensures most { IfOk result (λ n. n ≤ most) }
 {
     match exam_text::number(word_at(words, i), most as u64) {
         Some(n) => Ok(n as u32),
-        None => Err(PlanFault::Line(at, Kind::Number)),
+        None => Err(LineFault::Line(at, Kind::Number)),
     }
 }
 
-fn signeds_in(alloc: Global, at: u64, words: &[&[u8]]) -> Result<Vec<i32>, PlanFault>
+fn signeds_in(alloc: Global, at: u64, words: &[&[u8]]) -> Result<Vec<i32>, LineFault>
     requires { 0 < length words.now }
     ensures { Gives Memory (λ v. v.items) result (signeds_in at (map (λ w. w.now) words.now)) }
 {
@@ -55,7 +55,7 @@ fn signeds_in(alloc: Global, at: u64, words: &[&[u8]]) -> Result<Vec<i32>, PlanF
     for i in 0..words.len() - 1 {
         match exam_text::signed(word_at(words, i + 1)) {
             Some(value) => values.push(value)?,
-            None => return Err(PlanFault::Line(at, Kind::Number)),
+            None => return Err(LineFault::Line(at, Kind::Number)),
         }
     }
     Ok(values)
@@ -81,30 +81,30 @@ fn key_of(word: &[u8]) -> Option<[u8; 32]>
     }
 }
 
-fn key_in(at: u64, words: &[&[u8]]) -> Result<[u8; 32], PlanFault>
+fn key_in(at: u64, words: &[&[u8]]) -> Result<[u8; 32], LineFault>
     requires { 1 < length words.now }
     ensures { Gives Memory (λ k. k) result (key_in at (map (λ w. w.now) words.now)) }
 {
     match key_of(word_at(words, 1)) {
         Some(key) => Ok(key),
-        None => Err(PlanFault::Line(at, Kind::Number)),
+        None => Err(LineFault::Line(at, Kind::Number)),
     }
 }
 
-fn set_in(at: u64, from: usize, words: &[&[u8]]) -> Result<ItemSet, PlanFault>
+fn set_in(at: u64, from: usize, words: &[&[u8]]) -> Result<ItemSet, LineFault>
     requires { from ≤ length words.now }
     ensures { Gives Memory (λ s. has s) result (set_in at from (map (λ w. w.now) words.now)) }
 {
     match set_of(words.split_at(from).1) {
         Some(set) => Ok(set),
-        None => Err(PlanFault::Line(at, Kind::Set)),
+        None => Err(LineFault::Line(at, Kind::Set)),
     }
 }
 
 const MOST: u32 = 999_999_999;
 
 #[tactic(auto, unfolding(crate::specs::Rules::setting_said))]
-fn setting_in(alloc: Global, at: u64, setting: Setting, words: &[&[u8]]) -> Result<Rule, PlanFault>
+fn setting_in(alloc: Global, at: u64, setting: Setting, words: &[&[u8]]) -> Result<Rule, LineFault>
     requires { fits_setting setting (length words.now) ≡ true }
     ensures { Gives Memory said result (setting_said at setting (map (λ w. w.now) words.now)) }
 {
@@ -126,7 +126,7 @@ fn setting_in(alloc: Global, at: u64, setting: Setting, words: &[&[u8]]) -> Resu
 }
 
 #[tactic(auto, unfolding(crate::specs::Rules::constraint_said))]
-fn constraint_in(at: u64, constraint: Constraint, words: &[&[u8]]) -> Result<Rule, PlanFault>
+fn constraint_in(at: u64, constraint: Constraint, words: &[&[u8]]) -> Result<Rule, LineFault>
     requires { fits_constraint constraint (length words.now) ≡ true }
     ensures { Gives Memory said result (constraint_said at constraint (map (λ w. w.now) words.now)) }
 {
@@ -159,7 +159,7 @@ fn constraint_in(at: u64, constraint: Constraint, words: &[&[u8]]) -> Result<Rul
     }
 }
 
-fn rule_in(alloc: Global, at: u64, keyword: Keyword, words: &[&[u8]]) -> Result<Rule, PlanFault>
+fn rule_in(alloc: Global, at: u64, keyword: Keyword, words: &[&[u8]]) -> Result<Rule, LineFault>
     requires { fits_count keyword (length words.now) ≡ true }
     ensures { Gives Memory said result (rule_said at keyword (map (λ w. w.now) words.now)) }
 {
@@ -171,15 +171,15 @@ fn rule_in(alloc: Global, at: u64, keyword: Keyword, words: &[&[u8]]) -> Result<
 
 /// What a line of these words says.
 #[tactic(auto, unfolding(crate::specs::Rules::line_of))]
-pub fn line_in(alloc: Global, at: u64, words: &[&[u8]]) -> Result<Rule, PlanFault>
+pub fn line_in(alloc: Global, at: u64, words: &[&[u8]]) -> Result<Rule, LineFault>
     requires { 0 < length words.now }
     ensures { Gives Memory said result (line_of at (map (λ w. w.now) words.now)) }
 {
     let Some(keyword) = keyword_of(word_at(words, 0)) else {
-        return Err(PlanFault::Line(at, Kind::Word));
+        return Err(LineFault::Line(at, Kind::Word));
     };
     if !(fits_count(keyword, words.len()) && none_empty(words)) {
-        return Err(PlanFault::Line(at, Kind::Shape));
+        return Err(LineFault::Line(at, Kind::Shape));
     }
     rule_in(alloc, at, keyword, words)
 }

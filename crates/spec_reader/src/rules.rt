@@ -6,9 +6,10 @@ ghost use Rattle.exam_text.specs.First.{Gives};
 ghost use Rattle.exam_text.specs.Words.{lines_of};
 ghost use Rattle.spec_reader.specs.Rules.{said};
 ghost use Rattle.spec_reader.specs.Lines.{is_skipped, mark_of, is_mark, has_mark, stands, next_rule, rules_of, missing};
-ghost use Rattle.spec_reader.specs.declared.plan_fault.PlanFault.TheVariants.{Memory};
+ghost use Rattle.spec_reader.specs.declared.line_fault.LineFault.TheVariants.{Memory};
 
-use crate::plan_fault::{Name, PlanFault};
+use crate::line_fault::LineFault;
+use crate::plan_fault::Name;
 use crate::rule::{Rule, line_in};
 use exam_text::{lines_of, word_at, words_of};
 use std::alloc::Global;
@@ -71,7 +72,7 @@ fn stands(mark: Option<u32>, rules: &[Rule]) -> bool
 }
 
 #[tactic(auto, unfolding(crate::specs::Lines::next_rule))]
-fn next_rule(alloc: Global, at: u64, line: &[u8], rules: &mut Vec<Rule>) -> Result<(), PlanFault>
+fn next_rule(alloc: Global, at: u64, line: &[u8], rules: &mut Vec<Rule>) -> Result<(), LineFault>
     ensures { Gives Memory (λ _. map said rules.new.items) result (next_rule at line.now (map said rules.old.items)) }
 {
     if is_skipped(line) {
@@ -80,7 +81,7 @@ fn next_rule(alloc: Global, at: u64, line: &[u8], rules: &mut Vec<Rule>) -> Resu
     let words = words_of(alloc, line)?;
     let rule = line_in(alloc, at, &words)?;
     if stands(mark_of(&rule), rules) {
-        return Err(PlanFault::Twice(at));
+        return Err(LineFault::Twice(at));
     }
     rules.push(rule)?;
     Ok(())
@@ -88,7 +89,7 @@ fn next_rule(alloc: Global, at: u64, line: &[u8], rules: &mut Vec<Rule>) -> Resu
 
 /// The rules of lines.
 #[tactic(auto, unfolding(crate::specs::Lines::rules_of))]
-fn rules_of(alloc: Global, lines: &[&[u8]]) -> Result<Vec<Rule>, PlanFault>
+fn rules_of(alloc: Global, lines: &[&[u8]]) -> Result<Vec<Rule>, LineFault>
     ensures { Gives Memory (λ v. map said v.items) result (rules_of (map (λ w. w.now) lines.now)) }
 {
     let mut rules = Vec::new(alloc);
@@ -99,7 +100,7 @@ fn rules_of(alloc: Global, lines: &[&[u8]]) -> Result<Vec<Rule>, PlanFault>
 }
 
 /// The rules of a text in the order of their lines.
-pub fn rules_in(alloc: Global, text: &[u8]) -> Result<Vec<Rule>, PlanFault>
+pub fn rules_in(alloc: Global, text: &[u8]) -> Result<Vec<Rule>, LineFault>
     ensures { Gives Memory (λ v. map said v.items) result (rules_of (lines_of text.now)) }
 {
     let lines = lines_of(alloc, text)?;
@@ -108,17 +109,17 @@ pub fn rules_in(alloc: Global, text: &[u8]) -> Result<Vec<Rule>, PlanFault>
 
 /// The first line that is missing.
 #[tactic(auto, unfolding(crate::specs::Lines::missing))]
-pub fn missing(rules: &[Rule]) -> Option<PlanFault>
+pub fn missing(rules: &[Rule]) -> Option<Name>
     ensures { result ≡ missing (map said rules.now) }
 {
     if !has_mark(0, rules) {
-        return Some(PlanFault::Missing(Name::Length));
+        return Some(Name::Length);
     }
     if !has_mark(1, rules) {
-        return Some(PlanFault::Missing(Name::Prior));
+        return Some(Name::Prior);
     }
     if has_mark(2, rules) && !has_mark(3, rules) {
-        return Some(PlanFault::Missing(Name::Key));
+        return Some(Name::Key);
     }
     None
 }

@@ -1,8 +1,8 @@
 use Rattle.std.proofs.Common.{◌≡◌, ◌+◌, Ok, map, length}
 use Rattle.exam_text.specs.Numbers.{signed_of}
 use Rattle.exam_text.specs.First.{each_below, or_fault}
-use Rattle.spec_reader.specs.declared.plan_fault.Kind.TheVariants as kind
-use Rattle.spec_reader.specs.declared.plan_fault.PlanFault.TheVariants.{Line}
+use Rattle.spec_reader.specs.declared.line_fault.Kind.TheVariants as kind
+use Rattle.spec_reader.specs.declared.line_fault.LineFault.TheVariants.{Line}
 use Rattle.exam_text.specs.Words.{word}
 use Rattle.spec_reader.proofs.rule.signeds_in.Given as goal
 

@@ -4,7 +4,7 @@ use Rattle.std.proofs.lemmas.List.{length-map}
 use Rattle.exam_text.proofs.Firsts.{steps_fail_or}
 use Rattle.spec_reader.specs.Rules.{Said, said}
 use Rattle.spec_reader.specs.Lines.{next_rule, rules_of}
-use Rattle.spec_reader.specs.declared.plan_fault.PlanFault.TheVariants.{Memory}
+use Rattle.spec_reader.specs.declared.line_fault.LineFault.TheVariants.{Memory}
 use Rattle.spec_reader.proofs.rules.rules_of.Goals as goal
 
 pub returns-in_err-next_rule : goal.returns-in_err-next_rule
