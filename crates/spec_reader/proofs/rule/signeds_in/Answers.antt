@@ -1,0 +1,20 @@
+use Rattle.std.proofs.Common.{◌≡◌, ◌<◌, ◌+◌, ◌-◌, ◌∙◌, ℕ, List, Bor, None, map, length, sym, ap, refl, inr, ℤ, Result, Option, Err, arith}
+use Rattle.std.proofs.lemmas.List.{length-map}
+use Rattle.exam_text.specs.Numbers.{signed_of}
+use Rattle.exam_text.specs.First.{or_fault}
+use Rattle.exam_text.proofs.Firsts.{each_fails}
+use Rattle.spec_reader.specs.declared.line_fault.Kind.TheVariants as kind
+use Rattle.spec_reader.specs.declared.line_fault.LineFault.{LineFault}
+use Rattle.spec_reader.specs.declared.line_fault.LineFault.TheVariants.{Line}
+use Rattle.exam_text.specs.Words.{word}
+use Rattle.spec_reader.proofs.rule.signeds_in.Goals as goal
+
+pub returns-in-None : goal.returns-in-None
+returns-in-None c =
+    let words : List (List ℕ) = map (λ (w : Bor (List ℕ)). w.now) c.args.words.now in
+    let i = c.loop-i.i in
+    let fault = Line c.args.at kind.Number in
+    let lt : i < length words - 1 = rw length-map (omega (arith, c.loop-i-test.true)) in
+    let none : signed_of 999999999 (word words (i + 1)) ≡ None = ap (signed_of 999999999) (sym c.word_at.ensures) ∙ sym c.in-None.ensures in
+    let here : or_fault (signed_of 999999999 (word words (i + 1))) fault ≡ Err fault = ap (λ (o : Option ℤ). or_fault o fault) none in
+    inr (each_fails (length words - 1) i (λ i. or_fault (signed_of 999999999 (word words (i + 1))) fault) c.loop-i.values.items fault c.loop-i.invariant here lt)

@@ -1,0 +1,106 @@
+-- The plan that lines say.
+use Rattle.std.specs.Prelude.{ℕ, List, [], ◌∷◌, ◌++◌, map, replicate, Option, Some, None, ℤ}
+use Rattle.std.specs.Option.{option_map}
+use Rattle.std.specs.List.{fold}
+use Rattle.bank_tables.specs.Items.{Set, has}
+use Rattle.exam_model.specs.declared.draft.Rate.{Rate as Fraction}
+use Rattle.exam_model.specs.declared.row.Row.{Row}
+use Rattle.exam_model.specs.declared.row.Row.TheVariants as row
+use Rattle.exam_model.specs.declared.row.StimulusBound.{StimulusBound}
+use Rattle.exam_model.specs.Plan.{Plan}
+use Rattle.spec_reader.specs.declared.outline.Outline.{Outline}
+use Rattle.spec_reader.specs.Bounds.{any_bound, with_bound}
+use Rattle.spec_reader.specs.Rules.{Said, Length, Prior, Rate, Key, Budget, BaseBudget, Sessions, Journal, Count, Quantity, Enemies, Stimuli, Stimulus, Base}
+
+-- what a plan says: its sets are tests on items, and its rows what their lines say
+pub record SaidPlan : Type 0 where
+  pub length : ℕ
+  pub prior : List ℤ
+  pub rows : List Said
+  pub bounds : List StimulusBound
+  pub rate : Fraction
+  pub key : List ℕ
+  pub budget : ℕ
+  pub base_budget : ℕ
+  pub sessions : ℕ
+  pub journal : ℕ
+  pub base : Option Set
+
+abbrev pub row_said : Row → Said
+row_said (row.Count set low high) = Count low high (has set)
+row_said (row.Quantity which set low high) = Quantity which low high (has set)
+row_said (row.Enemies set) = Enemies (has set)
+row_said (row.Stimuli low high) = Stimuli low high
+
+abbrev pub plan_said : Plan → SaidPlan
+plan_said plan =
+    record {
+      length = plan.length;
+      prior = plan.prior;
+      rows = map row_said plan.rows;
+      bounds = plan.bounds;
+      rate = plan.rate;
+      key = plan.key;
+      budget = plan.budget;
+      base_budget = plan.base_budget;
+      sessions = plan.sessions;
+      journal = plan.journal;
+      base = option_map has plan.base;
+    }
+
+abbrev pub outline_said : Outline → SaidPlan
+outline_said o =
+    record {
+      length = o.length;
+      prior = o.prior.items;
+      rows = map row_said o.rows.items;
+      bounds = o.bounds.items;
+      rate = o.rate;
+      key = o.key;
+      budget = o.budget;
+      base_budget = o.base_budget;
+      sessions = o.sessions;
+      journal = o.journal;
+      base = option_map has o.base;
+    }
+
+-- what is said of a bank with so many stimuli where no line stands; the length and the prior have no default
+abbrev pub blank : ℕ → SaidPlan
+blank stimuli =
+    record {
+      length = 0;
+      prior = [];
+      rows = [];
+      bounds = replicate stimuli any_bound;
+      rate = record { num = 1; den = 1 };
+      key = replicate 32 0;
+      budget = 2001;
+      base_budget = 4095;
+      sessions = 1000;
+      journal = 67108864;
+      base = None;
+    }
+
+abbrev pub with_row : SaidPlan → Said → SaidPlan
+with_row plan rule = record plan { rows = plan.rows ++ rule ∷ [] }
+
+-- what one more line says
+unfoldable pub with_rule : SaidPlan → Said → SaidPlan
+with_rule plan (Length n) = record plan { length = n }
+with_rule plan (Prior vs) = record plan { prior = vs }
+with_rule plan (Rate n d) = record plan { rate = record { num = n; den = d } }
+with_rule plan (Key k) = record plan { key = k }
+with_rule plan (Budget n) = record plan { budget = n }
+with_rule plan (BaseBudget n) = record plan { base_budget = n }
+with_rule plan (Sessions n) = record plan { sessions = n }
+with_rule plan (Journal n) = record plan { journal = n }
+with_rule plan (Count low high s) = with_row plan (Count low high s)
+with_rule plan (Quantity q low high s) = with_row plan (Quantity q low high s)
+with_rule plan (Enemies s) = with_row plan (Enemies s)
+with_rule plan (Stimuli low high) = with_row plan (Stimuli low high)
+with_rule plan (Stimulus s low high) = record plan { bounds = with_bound plan.bounds s (record { low = low; high = high }) }
+with_rule plan (Base s) = record plan { base = Some s }
+
+-- the plan of these lines, for a bank with so many stimuli
+abbrev pub drafted : ℕ → List Said → SaidPlan
+drafted stimuli rules = fold with_rule (blank stimuli) rules

@@ -1,0 +1,119 @@
+//! The plan of a text.
+
+ghost use Rattle.std.specs.Prelude.{◌≡◌, ℕ, ◌⊎◌, ◌<◌, ◌≤◌, List, length, map, Some, None, IsTrue, IfOk, IfErr};
+ghost use Rattle.bank_tables.specs.Tables.{Tables};
+ghost use Rattle.exam_edge.specs.Faults.{Rose};
+ghost use Rattle.exam_model.specs.Forms.{stimuli_of};
+ghost use Rattle.exam_model.specs.Validity.{IsPlanFor};
+ghost use Rattle.constraint_model.specs.Faults.{IsSpecFault};
+ghost use Rattle.spec_reader.specs.Rules.{said};
+ghost use Rattle.spec_reader.specs.Plans.{plan_said, drafted};
+ghost use Rattle.spec_reader.specs.Reading.{rule_at, number_fault, numbers_fault, IsDraft, IsPlanText, early_fault, IsFirstFault, IsPlanFault, most_bytes, IsReadFault};
+ghost use Rattle.spec_reader.specs.declared.plan_fault.PlanFault.TheVariants as fault;
+
+use crate::outline::Outline;
+use crate::plan_fault::PlanFault;
+use crate::rule::Rule;
+use crate::rules::{missing, rules_in};
+use bank_tables::Bank;
+use constraint_model::{Spec, SpecFault, front_fault};
+use exam_edge::Source;
+use exam_model::Draft;
+use std::alloc::Global;
+use text_source::{TextFault, text_of};
+
+fn number_fault(rule: &Rule, stimuli: u8) -> Option<SpecFault>
+    ensures { result ≡ number_fault stimuli (said rule.now) }
+{
+    match rule {
+        Rule::Stimulus(s, _, _) => {
+            if *s == 0 || *s > stimuli {
+                Some(SpecFault::BadStimulus(*s))
+            } else {
+                None
+            }
+        }
+        _ => None,
+    }
+}
+
+fn fault_at(rules: &[Rule], stimuli: u8, i: usize) -> Option<SpecFault>
+    requires { i < length rules.now }
+    ensures { result ≡ number_fault stimuli (rule_at (map said rules.now) i) }
+{
+    number_fault(&rules[i], stimuli)
+}
+
+/// The first line that bounds a stimulus which the bank hasn't.
+#[tactic(auto, unfolding(crate::specs::Reading::numbers_fault))]
+fn numbers_fault(rules: &[Rule], stimuli: u8) -> Option<SpecFault>
+    ensures { result ≡ numbers_fault stimuli (map said rules.now) }
+{
+    for i in 0..rules.len() {
+        if let Some(fault) = fault_at(rules, stimuli, i) {
+            return Some(fault);
+        }
+    }
+    None
+}
+
+fn early_fault(bank: &Bank, rules: &[Rule], draft: &Draft) -> Option<SpecFault>
+    ensures { result ≡ early_fault bank.now (map said rules.now) draft.now }
+{
+    if let Some(fault) = front_fault(bank, draft) {
+        return Some(fault);
+    }
+    numbers_fault(rules, bank.stimuli())
+}
+
+/// The plan that the rules say, or its first fault.
+fn spec_of(alloc: Global, bank: &Bank, rules: &[Rule], draft: Draft) -> Result<Spec, SpecFault>
+    ensures same { IfOk result (λ spec. spec ≡ draft) }
+    ensures valid { IfOk result (λ spec. IsPlanFor bank.now spec) }
+    ensures stimuli { IfOk result (λ _. numbers_fault (stimuli_of bank.now) (map said rules.now) ≡ None) }
+    ensures fault { IfErr result (IsFirstFault bank.now (map said rules.now) draft) }
+{
+    match early_fault(bank, rules, &draft) {
+        Some(fault) => Err(fault),
+        None => Spec::of(alloc, bank, draft),
+    }
+}
+
+/// The plan of a text, or its first fault.
+fn plan_in(alloc: Global, bank: &Bank, text: &[u8]) -> Result<Spec, PlanFault>
+    ensures found { IfOk result (IsPlanText bank.now text.now) }
+    ensures valid { IfOk result (IsPlanFor bank.now) }
+    ensures fault { IfErr result (λ e. (e ≡ fault.Memory) ⊎ IsPlanFault bank.now text.now e) }
+{
+    let rules = rules_in(alloc, text)?;
+    if let Some(name) = missing(&rules) {
+        return Err(PlanFault::Missing(name));
+    }
+    let draft = Outline::of(alloc, &rules, bank.stimuli())?.into_draft();
+    match spec_of(alloc, bank, &rules, draft) {
+        Ok(spec) => Ok(spec),
+        Err(fault) => Err(PlanFault::Spec(fault)),
+    }
+}
+
+/// The plan that the text of a source says for an item bank, valid for it. The text has at most 1,048,576 bytes, and is read
+/// to its end. Of several faults the first is given: the first faulty line, then what is missing, then the faults of the
+/// plan. `Source` comes only where the source's count of faults rose.
+pub fn read_plan<S: Source>(alloc: Global, bank: &Bank, source: &mut S) -> Result<Spec, PlanFault>
+    ensures found { IfOk result (λ spec. IsTrue (S.tells source.old) → IsPlanText bank.now (S.left source.old) spec) }
+    ensures within { IfOk result (λ _. IsTrue (S.tells source.old) → length (S.left source.old) ≤ most_bytes) }
+    ensures valid { IfOk result (IsPlanFor bank.now) }
+    ensures fault { IfErr result (λ e. IsTrue (S.tells source.old) → IsReadFault bank.now (S.left source.old) e) }
+    ensures failed { IfErr result (λ e. e ≡ fault.Source → Rose (S.faults source.old) (S.faults source.new)) }
+
+    ensures grows { S.faults source.old ≤ S.faults source.new }
+    ensures tells { S.tells source.new ≡ S.tells source.old }
+    ensures identity { S.identity source.new ≡ S.identity source.old }
+{
+    match text_of(alloc, source, 1_048_576) {
+        Ok(text) => plan_in(alloc, bank, &text),
+        Err(TextFault::Source) => Err(PlanFault::Source),
+        Err(TextFault::TooLong) => Err(PlanFault::TooLong),
+        Err(TextFault::Memory) => Err(PlanFault::Memory),
+    }
+}
