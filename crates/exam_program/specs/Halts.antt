@@ -1,6 +1,6 @@
 -- Why a text of a file isn't read.
 use Rattle.std.specs.Prelude.{◌≡◌, ℕ, ◌⊎◌, ◌<◌, ◌≤◌, List, length, Result, Ok, Err}
-use Rattle.bank_tables.specs.Tables.{Tables}
+use Rattle.bank_tables.specs.Tables.{Tables, size}
 use Rattle.bank_reader.specs.Reading.{bank_of}
 use Rattle.exam_model.specs.Plan.{Plan as Numbers}
 use Rattle.exam_model.specs.Validity.{IsPlanFor}
@@ -10,7 +10,9 @@ use Rattle.spec_reader.specs.Reading.{IsPlanText, IsReadFault, most_bytes}
 use Rattle.exam_program.specs.declared.script.Script.{Script}
 use Rattle.exam_program.specs.declared.script.ScriptFault.TheVariants.{OutOfForm}
 use Rattle.exam_program.specs.declared.halt.Halt.{Halt}
-use Rattle.exam_program.specs.declared.halt.Halt.TheVariants.{Bank, Plan, NotYet, Files, Memory}
+use Rattle.exam_program.specs.declared.halt.Halt.TheVariants.{Bank, Plan, NotYet, NoForm, Files, Sink, Memory}
+use Rattle.exam_program.specs.declared.replay.Stop.{Stop}
+use Rattle.exam_program.specs.declared.replay.Stop.TheVariants as stop
 use Rattle.exam_program.specs.Scripts.{script_of}
 
 -- the bank text is refused with this fault, unless its files failed or memory ran out
@@ -19,6 +21,18 @@ HaltsAtBank text (Bank fault) = bank_of text ≡ Err fault
 HaltsAtBank text Files = Unit {0}
 HaltsAtBank text Memory = Unit {0}
 HaltsAtBank text halt = ⊥
+
+-- the same of a replay, which isn't built yet for more than 16 items
+abbrev pub HaltsAtSmallBank : List ℕ → Halt → Type 0
+HaltsAtSmallBank text NotYet = (b : Tables) × (bank_of text ≡ Ok b) × (16 < size b)
+HaltsAtSmallBank text halt = HaltsAtBank text halt
+
+-- why the command of a session that stopped halts
+abbrev pub halt_of : Stop → Halt
+halt_of stop.NoForm = NoForm
+halt_of stop.Refused = NotYet
+halt_of stop.Memory = Memory
+halt_of stop.Sink = Sink
 
 -- the text is a plan text for the bank, and says this plan, which is valid for it
 pub record IsPlanIn (b : Tables) (text : List ℕ) (plan : Numbers) : Type 0 where
@@ -40,7 +54,7 @@ HaltsAtPlan b text Memory = Unit {0}
 HaltsAtPlan b text halt = ⊥
 
 -- the most bytes that a script has
-unfoldable pub longest_script : ℕ
+abbrev pub longest_script : ℕ
 longest_script = 16777216
 
 -- the text is a script, and says this one

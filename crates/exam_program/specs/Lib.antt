@@ -6,3 +6,4 @@ pub mod Standing
 pub mod Texts
 pub mod Replays
 pub mod Halts
+pub mod Outcomes

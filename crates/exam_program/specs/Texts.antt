@@ -9,8 +9,8 @@ use Rattle.constraint_model.specs.declared.spec_fault.SpecFault.{SpecFault}
 use Rattle.constraint_model.specs.declared.spec_fault.SpecFault.TheVariants as draft
 use Rattle.spec_reader.specs.declared.plan_fault.PlanFault.{PlanFault}
 use Rattle.spec_reader.specs.declared.plan_fault.PlanFault.TheVariants as plan
-use Rattle.spec_reader.specs.declared.plan_fault.Kind.{Kind}
-use Rattle.spec_reader.specs.declared.plan_fault.Kind.TheVariants as kind
+use Rattle.spec_reader.specs.declared.line_fault.Kind.{Kind}
+use Rattle.spec_reader.specs.declared.line_fault.Kind.TheVariants as kind
 use Rattle.spec_reader.specs.declared.plan_fault.Name.TheVariants as name
 use Rattle.exam_model.specs.Forms.{stimuli_of}
 

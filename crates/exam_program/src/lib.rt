@@ -9,4 +9,5 @@ mod plan_faults;
 mod reading;
 mod replay;
 mod script;
+mod work;
 mod session;

@@ -106,6 +106,7 @@ pub fn read_plan<S: Source>(alloc: Global, bank: &Bank, source: &mut S) -> Resul
     ensures fault { IfErr result (λ e. IsTrue (S.tells source.old) → IsReadFault bank.now (S.left source.old) e) }
     ensures failed { IfErr result (λ e. e ≡ fault.Source → Rose (S.faults source.old) (S.faults source.new)) }
 
+    ensures beside { IsTrue (S.tells source.old) → (name : List ℕ) → S.beside source.new name ≡ S.beside source.old name }
     ensures grows { S.faults source.old ≤ S.faults source.new }
     ensures tells { S.tells source.new ≡ S.tells source.old }
     ensures identity { S.identity source.new ≡ S.identity source.old }
