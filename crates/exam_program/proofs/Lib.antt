@@ -1,3 +1,4 @@
+pub mod OutcomeLaws
 pub mod ReplayLaws
 pub mod SeatLaws
 pub mod WordLaws

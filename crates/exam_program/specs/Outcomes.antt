@@ -1,5 +1,5 @@
 -- What the program answers: its status, and what it prints.
-use Rattle.std.specs.Prelude.{◌≡◌, ℕ, ◌<◌, ◌≤◌, ◌⊎◌, List, [], ◌∷◌, ◌++◌, Result, Ok, Err, Option, Some, None}
+use Rattle.std.specs.Prelude.{◌≡◌, ℕ, ◌<◌, ◌≤◌, ◌⊎◌, List, [], ◌∷◌, ◌++◌, Result, Ok, Err, Option, Some, None, Contains}
 use Rattle.bank_tables.specs.Tables.{Tables, size}
 use Rattle.bank_reader.specs.declared.fault.ReadFault.{ReadFault}
 use Rattle.bank_reader.specs.Reading.{bank_of}
@@ -97,3 +97,17 @@ Halts words content old new halt.NoForm = PrintsBefore words content old new 11 
 Halts words content old new halt.Files = PrintsBefore words content old new 7 files_failed
 Halts words content old new halt.Memory = PrintsBefore words content old new 10 no_memory
 Halts words content old new halt.Sink = PrintsPart words content old new
+
+-- the status of a halt; want of memory may come while a fault's text is made
+abbrev pub EndsBy : Halt → ℕ → Type 0
+EndsBy (halt.Bank fault) status = (status ≡ 3) ⊎ (status ≡ 10)
+EndsBy (halt.Plan fault) status = (status ≡ 4) ⊎ (status ≡ 10)
+EndsBy halt.NotYet status = status ≡ 15
+EndsBy halt.NoForm status = status ≡ 11
+EndsBy halt.Files status = status ≡ 7
+EndsBy halt.Memory status = status ≡ 10
+EndsBy halt.Sink status = status ≡ 8
+
+-- the statuses that there are
+abbrev pub IsStatus : ℕ → Type 0
+IsStatus status = Contains (0 ∷ 2 ∷ 3 ∷ 4 ∷ 7 ∷ 8 ∷ 10 ∷ 11 ∷ 15 ∷ []) status

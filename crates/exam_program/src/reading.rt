@@ -1,6 +1,6 @@
 //! The texts of files.
 
-ghost use Rattle.std.specs.Prelude.{◌≡◌, ℕ, ◌≤◌, List, length, IsTrue, IfOk, IfErr};
+ghost use Rattle.std.specs.Prelude.{◌≡◌, ◌≢◌, ℕ, ◌≤◌, List, length, IsTrue, IfOk, IfErr};
 ghost use Rattle.exam_edge.specs.Faults.{Rose};
 ghost use Rattle.bank_reader.specs.Reading.{bank_of};
 ghost use Rattle.exam_model.specs.Validity.{IsPlanFor};
@@ -24,6 +24,7 @@ pub(crate) fn bank_in<F: Files>(alloc: Global, files: &mut F, name: &str) -> Res
     ensures ok { IfOk result (λ bank. IsTrue (F.tells files.old) → bank_of (F.content files.old name.now) ≡ Ok bank) }
     ensures err { IfErr result (λ halt. IsTrue (F.tells files.old) → HaltsAtBank (F.content files.old name.now) halt) }
     ensures failed { result ≡ Err Halt.Files → Rose (F.faults files.old) (F.faults files.new) }
+    ensures no_sink { result ≢ Err Halt.Sink }
     ensures content { IsTrue (F.tells files.old) → (file : List ℕ) → F.content files.new file ≡ F.content files.old file }
     ensures grows { F.faults files.old ≤ F.faults files.new }
     ensures tells { F.tells files.new ≡ F.tells files.old }
@@ -43,6 +44,7 @@ pub(crate) fn plan_in<F: Files>(alloc: Global, files: &mut F, bank: &Bank, name:
     ensures valid { IfOk result (λ spec. IsPlanFor bank.now spec) }
     ensures err { IfErr result (λ halt. IsTrue (F.tells files.old) → HaltsAtPlan bank.now (F.content files.old name.now) halt) }
     ensures failed { result ≡ Err Halt.Files → Rose (F.faults files.old) (F.faults files.new) }
+    ensures no_sink { result ≢ Err Halt.Sink }
     ensures content { IsTrue (F.tells files.old) → (file : List ℕ) → F.content files.new file ≡ F.content files.old file }
     ensures grows { F.faults files.old ≤ F.faults files.new }
     ensures tells { F.tells files.new ≡ F.tells files.old }
@@ -61,6 +63,7 @@ fn script_text<F: Files>(alloc: Global, files: &mut F, name: &str) -> Result<Vec
     ensures short { IfOk result (λ text. length text.items ≤ longest_script) }
     ensures err { IfErr result (λ halt. IsTrue (F.tells files.old) → HaltsAtScript (F.content files.old name.now) halt) }
     ensures failed { result ≡ Err Halt.Files → Rose (F.faults files.old) (F.faults files.new) }
+    ensures no_sink { result ≢ Err Halt.Sink }
     ensures content { IsTrue (F.tells files.old) → (file : List ℕ) → F.content files.new file ≡ F.content files.old file }
     ensures grows { F.faults files.old ≤ F.faults files.new }
     ensures tells { F.tells files.new ≡ F.tells files.old }
@@ -79,6 +82,7 @@ pub(crate) fn script_in<F: Files>(alloc: Global, files: &mut F, name: &str) -> R
     ensures ok { IfOk result (λ script. IsTrue (F.tells files.old) → IsScript (F.content files.old name.now) script) }
     ensures err { IfErr result (λ halt. IsTrue (F.tells files.old) → HaltsAtScript (F.content files.old name.now) halt) }
     ensures failed { result ≡ Err Halt.Files → Rose (F.faults files.old) (F.faults files.new) }
+    ensures no_sink { result ≢ Err Halt.Sink }
     ensures grows { F.faults files.old ≤ F.faults files.new }
     ensures tells { F.tells files.new ≡ F.tells files.old }
 {

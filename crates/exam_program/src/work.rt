@@ -1,6 +1,6 @@
 //! The commands.
 
-ghost use Rattle.std.specs.Prelude.{◌≡◌, ℕ, ◌≤◌, ◌++◌, List, map, Some, OnOk, IsTrue, IfSome, IfOk, IfErr};
+ghost use Rattle.std.specs.Prelude.{◌≡◌, ◌≢◌, ℕ, ◌≤◌, ◌++◌, List, map, Some, OnOk, IsTrue, IfSome, IfOk, IfErr};
 ghost use Rattle.exam_edge.specs.Faults.{Rose};
 ghost use Rattle.exam_model.specs.Plan.{Plan};
 ghost use Rattle.exam_program.specs.Commands.{Check, Replay, command_of};
@@ -84,6 +84,7 @@ fn small_bank_in<F: Files>(alloc: Global, files: &mut F, name: &str) -> Result<B
     ensures ok { IfOk result (λ bank. IsTrue (F.tells files.old) → bank_of (F.content files.old name.now) ≡ Ok bank) }
     ensures small { IfOk result (λ bank. size bank ≤ 16) }
     ensures err { IfErr result (λ halt. IsTrue (F.tells files.old) → HaltsAtSmallBank (F.content files.old name.now) halt) }
+    ensures no_sink { result ≢ Err Halt.Sink }
     ensures failed { result ≡ Err Halt.Files → Rose (F.faults files.old) (F.faults files.new) }
     ensures content { IsTrue (F.tells files.old) → (file : List ℕ) → F.content files.new file ≡ F.content files.old file }
     ensures grows { F.faults files.old ≤ F.faults files.new }

@@ -1,0 +1,53 @@
+//! How a command ends: the text of its halt, and the status.
+
+ghost use Rattle.std.specs.Prelude.{◌≡◌, ◌≢◌, ℕ, ◌≤◌, ◌⊎◌, List, IsTrue, IfSome, string_bytes, codes};
+ghost use Rattle.exam_edge.specs.Faults.{Rose};
+ghost use Rattle.exam_program.specs.Outcomes.{Answers, Halts, PrintsBefore, EndsBy};
+ghost use Rattle.exam_program.specs.Texts.{bank_text, plan_text, no_memory};
+
+use crate::bank_faults::bank_text;
+use crate::halt::Halt;
+use crate::output::put;
+use crate::plan_faults::plan_text;
+use exam_edge::Sink;
+use std::alloc::Global;
+
+/// Prints the last text, and gives the status to end with: 8 where the sink fails.
+pub(crate) fn print<O: Sink>(out: &mut O, text: &[u8], status: u8) -> u8
+    ensures answers { IsTrue (O.tells out.old) → (words : List (List ℕ)) (content : List ℕ → List ℕ) (first : List ℕ)
+        → PrintsBefore words content first (O.written out.old) status text.now → Answers words content first (O.written out.new) result }
+    ensures status { (result ≡ status) ⊎ ((result ≡ 8) × Rose (O.faults out.old) (O.faults out.new)) }
+    ensures grows { O.faults out.old ≤ O.faults out.new }
+    ensures tells { O.tells out.new ≡ O.tells out.old }
+{
+    match put(out, text) {
+        Ok(()) => status,
+        Err(_) => 8,
+    }
+}
+
+/// Ends a command that met a fault.
+#[tactic(auto, unfolding(crate::specs::Texts::not_yet, crate::specs::Texts::no_form, crate::specs::Texts::files_failed, crate::specs::Texts::no_memory))]
+pub(crate) fn report<O: Sink>(alloc: Global, out: &mut O, halt: Halt) -> u8
+    ensures answers { IsTrue (O.tells out.old) → (words : List (List ℕ)) (content : List ℕ → List ℕ) (first : List ℕ)
+        → Halts words content first (O.written out.old) halt → Answers words content first (O.written out.new) result }
+    ensures status { EndsBy halt result ⊎ ((result ≡ 8) × Rose (O.faults out.old) (O.faults out.new)) }
+    ensures grows { O.faults out.old ≤ O.faults out.new }
+    ensures tells { O.tells out.new ≡ O.tells out.old }
+{
+    match halt {
+        Halt::Bank(fault) => match bank_text(alloc, fault) {
+            Ok(text) => print(out, text.as_bytes(), 3),
+            Err(_) => print(out, b"no memory\n", 10),
+        },
+        Halt::Plan(fault) => match plan_text(alloc, fault) {
+            Ok(text) => print(out, text.as_bytes(), 4),
+            Err(_) => print(out, b"no memory\n", 10),
+        },
+        Halt::NotYet => print(out, b"not yet\n", 15),
+        Halt::NoForm => print(out, b"no form\n", 11),
+        Halt::Files => print(out, b"files failed\n", 7),
+        Halt::Memory => print(out, b"no memory\n", 10),
+        Halt::Sink => 8,
+    }
+}
