@@ -1,5 +1,5 @@
 -- What the parts of a command say of its outcome.
-use Rattle.std.proofs.Common.{◌≡◌, ℕ, ◌<◌, ◌≤◌, ◌⊎◌, List, [], ◌∷◌, ◌++◌, Some, Ok, Err, refl, sym, ◌∙◌, ap, subst, append_assoc}
+use Rattle.std.proofs.Common.{◌≡◌, ℕ, ◌<◌, ◌≤◌, ◌⊎◌, List, [], ◌∷◌, ◌++◌, inl, inr, Some, None, Ok, Err, arith, refl, sym, ◌∙◌, ap, subst, append_assoc}
 use Rattle.std.proofs.lemmas.List.{append-nil}
 use Rattle.bank_tables.specs.Tables.{Tables, size}
 use Rattle.bank_reader.specs.Reading.{bank_of}
@@ -14,8 +14,8 @@ use Rattle.exam_program.specs.Commands.{Command, Check, Replay, command_of, bank
 use Rattle.exam_program.specs.Halts.{HaltsAtBank, HaltsAtSmallBank, HaltsAtPlan, HaltsAtScript, halt_of}
 use Rattle.exam_program.specs.Writing.{WritesPart}
 use Rattle.exam_program.specs.Replays.{Finishes, Stops}
-use Rattle.exam_program.specs.Texts.{bank_line, no_memory}
-use Rattle.exam_program.specs.Outcomes.{IsServed, Reads, ReadsAll, Outcome, bank_refused, plan_refused, checked, large_bank, other_script, without_form, replayed, answer_refused, without_files, without_memory, without_more_memory, Prints, PrintsPart, PrintsBefore, Halts}
+use Rattle.exam_program.specs.Texts.{bank_line, no_memory, usage}
+use Rattle.exam_program.specs.Outcomes.{IsServed, Reads, ReadsAll, Outcome, faulty_words, bank_refused, plan_refused, checked, large_bank, other_script, without_form, replayed, answer_refused, without_files, without_memory, without_more_memory, Prints, PrintsPart, PrintsBefore, Halts, EndsBy, IsStatus}
 
 -- nothing was printed before
 nothing_before : (words : List (List ℕ)) (content : List ℕ → List ℕ) (old : List ℕ) (status : ℕ) (last : List ℕ) → Outcome words content status last → PrintsBefore words content old old status last
@@ -120,3 +120,32 @@ halts_replayed words content old new bank plan name b p script stop.Sink e reads
       written = is.written;
       outcome = subst (λ (t : List ℕ). Outcome words content 10 t) (append_assoc is.text is.rest no_memory) (without_more_memory bank plan name b p script (is.text ++ is.rest) e reads is.printed);
     }
+
+-- ---- the statuses
+pub is_2 : IsStatus 2
+is_2 = (1, omega arith, refl)
+
+pub is_8 : IsStatus 8
+is_8 = (5, omega arith, refl)
+
+is_10 : IsStatus 10
+is_10 = (6, omega arith, refl)
+
+-- a status that is one of them
+pub also : (n status : ℕ) → status ≡ n → IsStatus n → IsStatus status
+also n status e is = subst (λ (s : ℕ). IsStatus s) (sym e) is
+
+pub ends_by : (h : Halt) (status : ℕ) → EndsBy h status → IsStatus status
+ends_by (halt.Bank fault) status (inl e) = also 3 status e (2, omega arith, refl)
+ends_by (halt.Bank fault) status (inr e) = also 10 status e is_10
+ends_by (halt.Plan fault) status (inl e) = also 4 status e (3, omega arith, refl)
+ends_by (halt.Plan fault) status (inr e) = also 10 status e is_10
+ends_by halt.NotYet status e = also 15 status e (8, omega arith, refl)
+ends_by halt.NoForm status e = also 11 status e (7, omega arith, refl)
+ends_by halt.Files status e = also 7 status e (4, omega arith, refl)
+ends_by halt.Sink status e = also 8 status e is_8
+ends_by halt.Memory status e = also 10 status e is_10
+
+-- the usage is printed where the words are faulty
+pub before_usage : (words : List (List ℕ)) (content : List ℕ → List ℕ) (old : List ℕ) → command_of words ≡ None → PrintsBefore words content old old 2 usage
+before_usage words content old e = nothing_before words content old 2 usage (faulty_words e)
