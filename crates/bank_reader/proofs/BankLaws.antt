@@ -82,8 +82,7 @@ unfolding items_at
 records_fault rows s e header h =
     let read : ℕ → Result Item ReadFault = λ i. item_at s (i + 1) (get_or rows (i + 1) []) in
     let first = each_err (length rows - 1) read e h in
-    let each = each_is first.at read first.before.0 first.before.1 in
-    (
+    let each = each_is first.at read first.before.0 first.before.1 in (
       first.at + 1,
       record {
         shape = s;

@@ -46,9 +46,9 @@ each_err {A} {F} (suc n) f fault e = elim (bind_err (each_below n f) (λ xs. f n
   | inl early ↦ (let r = each_err n f fault early in
       record { at = r.at; below = omega (arith, r.below); here = r.here; before = r.before })
   | inr late ↦ (elim (bind_err (f n) (λ x. Ok (late.0 ++ x ∷ [])) fault late.2) [
-      | inl here ↦ record { at = n; below = omega arith; here = here; before = (late.0, late.1) }
-      | inr past ↦ absurd (ok_err (late.0 ++ past.0 ∷ []) fault past.2)
-    ])
+    | inl here ↦ record { at = n; below = omega arith; here = here; before = (late.0, late.1) }
+    | inr past ↦ absurd (ok_err (late.0 ++ past.0 ∷ []) fault past.2)
+  ])
 ]
   where
     ok_err : (x : List A) (e : F) → (let r : Result (List A) F = Ok x in r ≡ Err e) → ⊥

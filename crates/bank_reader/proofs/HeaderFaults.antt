@@ -37,13 +37,13 @@ lead_fails zero p lt = absurd (omega (arith, lt))
 lead_fails (suc n) p lt = elim (cases_Bool (eqb (lead n p) n && p n)) [
   | inl more ↦ (let all : n + 1 < suc n = rw more at lt in absurd (omega (arith, all)))
   | inr rest ↦ rw rest (elim (cases_lt (lead n p) n) [
-      | inl less ↦ lead_fails n p less
-      | inr past ↦ (let same : lead n p ≡ n = omega (arith, past, lead_le n p) in
-          elim (cases_Bool (p n)) [
-            | inr fails ↦ rw same fails
-            | inl passes ↦ absurd (false≢true (sym rest ∙ and_from (eqb (lead n p) n) (p n) (eq-eqb (lead n p) n same) passes))
-          ])
-    ])
+    | inl less ↦ lead_fails n p less
+    | inr past ↦ (let same : lead n p ≡ n = omega (arith, past, lead_le n p) in
+        elim (cases_Bool (p n)) [
+          | inr fails ↦ rw same fails
+          | inl passes ↦ absurd (false≢true (sym rest ∙ and_from (eqb (lead n p) n) (p n) (eq-eqb (lead n p) n same) passes))
+        ])
+  ])
 ]
 
 is_name : (cols : List (List ℕ)) (c : ℕ) (name : List ℕ) → field cols c ≡ name → is_named cols c name ≡ true
@@ -255,11 +255,11 @@ no_points_fault cols fixed empty none =
         logliks = λ k lt. absurd (omega (arith, lt));
       });
       here = λ s is h.
-        let kinds : AreNamed cols s (3 + q + 1) = kinds_of cols s (3 + q + 1) h in
-        let same : s.quantities ≡ q = same_quantities cols s (3 + q + 1) q is kinds (omega arith) refl in
-        let point : field cols (3 + q + 0) ≡ point_name 0 = subst (λ (m : ℕ). field cols (3 + m + 0) ≡ point_name 0) same (kinds.points 0 (omega (arith, is.grid_low)) (omega (arith, same))) in
-        let ends : field cols (3 + q + 0) ≡ point_name 0 → ⊥ = subst (λ (k : ℕ). field cols (3 + q + k) ≡ point_name k → ⊥) empty (points_end cols (3 + q) (omega (arith, empty))) in
-        ends point;
+          let kinds : AreNamed cols s (3 + q + 1) = kinds_of cols s (3 + q + 1) h in
+          let same : s.quantities ≡ q = same_quantities cols s (3 + q + 1) q is kinds (omega arith) refl in
+          let point : field cols (3 + q + 0) ≡ point_name 0 = subst (λ (m : ℕ). field cols (3 + m + 0) ≡ point_name 0) same (kinds.points 0 (omega (arith, is.grid_low)) (omega (arith, same))) in
+          let ends : field cols (3 + q + 0) ≡ point_name 0 → ⊥ = subst (λ (k : ℕ). field cols (3 + q + k) ≡ point_name k → ⊥) empty (points_end cols (3 + q) (omega (arith, empty))) in
+          ends point;
     }
 
 -- the likelihoods' columns stop, or are not all
@@ -284,15 +284,15 @@ logliks_fault cols fixed none some =
         logliks = λ k lt. logliks_named cols (3 + q + g) g k (omega (arith, lt));
       });
       here = λ t is h.
-        let kinds : AreNamed cols t (n + 1) = kinds_of cols t (n + 1) h in
-        let same : t.quantities ≡ q = same_quantities cols t (n + 1) q is kinds (omega (arith, some)) refl in
-        let points : t.grid ≡ g = same_points cols t (n + 1) q g is kinds same (omega arith) refl in
-        let high : t.responses * t.grid ≤ 5 * t.grid = mul-le-mul_right t.grid is.responses in
-        let fewer : l < 5 * g = omega (arith, h.within, same, points, high) in
-        let at : first_loglik t + l ≡ 3 + q + g + l = omega (arith, same, points) in
-        let here : field cols (first_loglik t + l) ≡ loglik_name (l / t.grid) (l % t.grid) = kinds.logliks l (omega (arith, at)) in
-        let there : field cols (3 + q + g + l) ≡ loglik_name (l / g) (l % g) = subst (λ (m : ℕ). field cols (3 + q + g + l) ≡ loglik_name (l / m) (l % m)) points (subst (λ (c : ℕ). field cols c ≡ loglik_name (l / t.grid) (l % t.grid)) at here) in
-        logliks_end cols (3 + q + g) g fewer there;
+          let kinds : AreNamed cols t (n + 1) = kinds_of cols t (n + 1) h in
+          let same : t.quantities ≡ q = same_quantities cols t (n + 1) q is kinds (omega (arith, some)) refl in
+          let points : t.grid ≡ g = same_points cols t (n + 1) q g is kinds same (omega arith) refl in
+          let high : t.responses * t.grid ≤ 5 * t.grid = mul-le-mul_right t.grid is.responses in
+          let fewer : l < 5 * g = omega (arith, h.within, same, points, high) in
+          let at : first_loglik t + l ≡ 3 + q + g + l = omega (arith, same, points) in
+          let here : field cols (first_loglik t + l) ≡ loglik_name (l / t.grid) (l % t.grid) = kinds.logliks l (omega (arith, at)) in
+          let there : field cols (3 + q + g + l) ≡ loglik_name (l / g) (l % g) = subst (λ (m : ℕ). field cols (3 + q + g + l) ≡ loglik_name (l / m) (l % m)) points (subst (λ (c : ℕ). field cols c ≡ loglik_name (l / t.grid) (l % t.grid)) at here) in
+          logliks_end cols (3 + q + g) g fewer there;
     }
 
 ok_or_err : {A F : Type 0} (x : A) (e : F) → (let r : Result A F = Ok x in r ≡ Err e) → ⊥

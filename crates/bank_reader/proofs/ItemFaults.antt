@@ -74,10 +74,10 @@ loglik_fine s k n i z fields has lt h = record {
   number = λ _ below. absurd (omega (arith, below));
   loglik = λ m j _ e _. (z, h);
   empty = λ m j other e past.
-    let same : m ≡ n = one_number fields 2 m n other has in
-    let at : i ≡ j = omega (arith, e) in
-    let none : n * s.grid ≤ i = subst (λ (x : ℕ). x * s.grid ≤ i) same (omega (arith, past, at)) in
-    absurd (omega (arith, none, lt));
+      let same : m ≡ n = one_number fields 2 m n other has in
+      let at : i ≡ j = omega (arith, e) in
+      let none : n * s.grid ≤ i = subst (λ (x : ℕ). x * s.grid ≤ i) same (omega (arith, past, at)) in
+      absurd (omega (arith, none, lt));
 }
 
 empty_fine : (s : Shape) (k n i : ℕ) (fields : List (List ℕ)) → IsNumber fields 2 n → n * s.grid ≤ i → field fields (first_loglik s + i) ≡ [] → IsColumn s k fields (first_loglik s + i)
@@ -85,10 +85,10 @@ empty_fine s k n i fields has past h = record {
   item = λ e. absurd (omega (arith, e));
   number = λ _ below. absurd (omega (arith, below));
   loglik = λ m j other e lt.
-    let same : m ≡ n = one_number fields 2 m n other has in
-    let at : i ≡ j = omega (arith, e) in
-    let some : i < n * s.grid = subst (λ (x : ℕ). i < x * s.grid) same (omega (arith, lt, at)) in
-    absurd (omega (arith, some, past));
+      let same : m ≡ n = one_number fields 2 m n other has in
+      let at : i ≡ j = omega (arith, e) in
+      let some : i < n * s.grid = subst (λ (x : ℕ). i < x * s.grid) same (omega (arith, lt, at)) in
+      absurd (omega (arith, some, past));
   empty = λ m j _ e _. h;
 }
 
@@ -172,6 +172,7 @@ empty_fault s k n fields e wide has before h =
   where
     zero_of : (m : ℕ) → m ≤ 0 → m ≡ 0
     zero_of m h = omega arith
+
     not_none : (x : List ℕ) → 0 < length x → x ≡ [] → ⊥
     not_none x some e = let z : length x ≡ 0 = ap (λ (y : List ℕ). length y) e in omega arith
 
@@ -184,7 +185,7 @@ values_at s k fields = do
   info ← numbers_at k (3 + s.quantities) s.grid fields
   loglik ← signeds_at k (first_loglik s) (min categories s.responses * s.grid) fields
   unless (not_empty_at k (first_loglik s + min categories s.responses * s.grid) ((s.responses - min categories s.responses) * s.grid) fields)
-    (Ok (record { stimulus = stimulus; categories = categories; quantities = quantities; info = info; loglik = loglik }))
+      (Ok (record { stimulus = stimulus; categories = categories; quantities = quantities; info = info; loglik = loglik }))
 
 values_fault : (s : Shape) (k : ℕ) (fields : List (List ℕ)) (e : ReadFault) → length fields ≡ width s → FineBelow s k fields 1 → values_at s k fields ≡ Err e → IsItemFault s k fields e
 values_fault s k fields e wide fine h = elim (bind_err (number_at k 1 fields) _ e h) [

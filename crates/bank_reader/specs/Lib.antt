@@ -2,3 +2,4 @@ pub mod Columns
 pub mod Grammar
 pub mod Reading
 pub mod TextFaults
+pub mod CsvErrors
