@@ -11,28 +11,29 @@ use Rattle.bank_reader.specs.declared.fault.ReadFault.{ReadFault}
 use Rattle.bank_reader.specs.declared.fault.ReadFault.TheVariants.{Csv, Field}
 use Rattle.bank_reader.specs.declared.item.Shape.{Shape}
 use Rattle.bank_tables.specs.Tables.{Item}
-use Rattle.bank_reader.specs.Items.{field, nine_digits, number_at, signed_at, numbers_at, signeds_at, not_empty_at, first_loglik, width, item_at}
+use Rattle.bank_reader.specs.Columns.{field, nine_digits, first_loglik, width}
 use Rattle.bank_reader.specs.Grammar.{IsNumber, IsSigned, IsItem}
+use Rattle.bank_reader.specs.Reading.{number_at, signed_at, numbers_at, signeds_at, not_empty_at, item_at}
 
-column_is : (k c n : ℕ) (fields : List (List ℕ)) → number_at k c fields ≡ Ok n → IsNumber fields c n
+pub column_is : (k c n : ℕ) (fields : List (List ℕ)) → number_at k c fields ≡ Ok n → IsNumber fields c n
 unfolding number_at
 column_is k c n fields e =
     let q = number_is nine_digits (field fields c) n (omega arith) (or_fault_ok (number_of nine_digits (field fields c)) (Field k c) n e) in
     record { small = q.0; text = q.1 }
 
-column_again : (k c n : ℕ) (fields : List (List ℕ)) → IsNumber fields c n → number_at k c fields ≡ Ok n
+pub column_again : (k c n : ℕ) (fields : List (List ℕ)) → IsNumber fields c n → number_at k c fields ≡ Ok n
 unfolding number_at
 column_again k c n fields h =
     let read : number_of nine_digits (field fields c) ≡ Some n = ap (number_of nine_digits) h.text ∙ number_again nine_digits n (omega arith) h.small in
     ap (λ (o : Option ℕ). or_fault o (Field k c)) read
 
-signed_column_is : (k c : ℕ) (z : ℤ) (fields : List (List ℕ)) → signed_at k c fields ≡ Ok z → IsSigned fields c z
+pub signed_column_is : (k c : ℕ) (z : ℤ) (fields : List (List ℕ)) → signed_at k c fields ≡ Ok z → IsSigned fields c z
 unfolding signed_at
 signed_column_is k c z fields e =
     let q = signed_is nine_digits (field fields c) z (omega arith) (or_fault_ok (signed_of nine_digits (field fields c)) (Field k c) z e) in
     record { small = q.0; text = q.1 }
 
-signed_column_again : (k c : ℕ) (z : ℤ) (fields : List (List ℕ)) → IsSigned fields c z → signed_at k c fields ≡ Ok z
+pub signed_column_again : (k c : ℕ) (z : ℤ) (fields : List (List ℕ)) → IsSigned fields c z → signed_at k c fields ≡ Ok z
 unfolding signed_at
 signed_column_again k c z fields h =
     let read : signed_of nine_digits (field fields c) ≡ Some z = ap (signed_of nine_digits) h.text ∙ signed_again nine_digits z (omega arith) h.small in

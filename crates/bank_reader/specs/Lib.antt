@@ -1,3 +1,5 @@
-pub mod Items
-pub mod Header
+pub mod Columns
 pub mod Grammar
+pub mod Reading
+pub mod TextFaults
+pub mod CsvErrors

@@ -1,10 +1,12 @@
 //! Why a bank text is no bank.
 
 ghost use Rattle.std.specs.Prelude.{◌≡◌};
+ghost use Rattle.bank_reader.specs.TextFaults.{fault_of};
 ghost use Rattle.bank_reader.specs.declared.fault.ReadFault.TheVariants.{Memory};
 
 use bank_tables::BankFault;
 use std::alloc::{AllocError, AllocFailed};
+use text_source::TextFault;
 
 /// The first fault of a bank text, from its front on. Record 0 is the header, record k is item k - 1; records count without
 /// empty lines, columns count from 0.
@@ -39,5 +41,17 @@ impl<T: Drop> From<AllocFailed<T>> for ReadFault {
 
     fn from(_e: AllocFailed<T>) -> ReadFault {
         ReadFault::Memory
+    }
+}
+
+impl From<TextFault> for ReadFault {
+    ghost from_gives = { λ t e. e ≡ fault_of t };
+
+    fn from(fault: TextFault) -> ReadFault {
+        match fault {
+            TextFault::Source => ReadFault::Source,
+            TextFault::TooLong => ReadFault::TooLong,
+            TextFault::Memory => ReadFault::Memory,
+        }
     }
 }

@@ -3,7 +3,8 @@
 ghost use Rattle.std.specs.Prelude.{◌≡◌, ℕ, ◌+◌, ◌<◌, ◌^◌, length, Some, None, IfSome};
 ghost use Rattle.csv.specs.Records.{fields_of};
 ghost use Rattle.exam_text.specs.First.{Gives};
-ghost use Rattle.bank_reader.specs.Items.{field, number_at, signed_at, numbers_at, signeds_at, not_empty_at};
+ghost use Rattle.bank_reader.specs.Columns.{field};
+ghost use Rattle.bank_reader.specs.Reading.{number_at, signed_at, numbers_at, signeds_at, not_empty_at};
 ghost use Rattle.bank_reader.specs.declared.fault.ReadFault.TheVariants.{Memory};
 
 use crate::fault::ReadFault;
@@ -19,7 +20,7 @@ pub fn text_at(row: &ByteRecord, column: usize) -> &[u8]
     }
 }
 
-#[tactic(auto, unfolding(crate::specs::Items::number_at))]
+#[tactic(auto, unfolding(crate::specs::Reading::number_at))]
 pub fn number_in(row: &ByteRecord, rec: u64, column: usize) -> Result<u32, ReadFault>
     ensures { Gives Memory (λ n. n) result (number_at rec column (fields_of row.now)) }
 {
@@ -29,7 +30,7 @@ pub fn number_in(row: &ByteRecord, rec: u64, column: usize) -> Result<u32, ReadF
     }
 }
 
-#[tactic(auto, unfolding(crate::specs::Items::signed_at))]
+#[tactic(auto, unfolding(crate::specs::Reading::signed_at))]
 fn signed_in(row: &ByteRecord, rec: u64, column: usize) -> Result<i32, ReadFault>
     ensures { Gives Memory (λ n. n) result (signed_at rec column (fields_of row.now)) }
 {

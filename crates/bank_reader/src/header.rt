@@ -4,8 +4,8 @@ ghost use Rattle.std.specs.Prelude.{◌≡◌, ℕ, ◌+◌, ◌*◌, ◌<◌, �
 ghost use Rattle.std.specs.Fmt.{decimal};
 ghost use Rattle.csv.specs.Records.{fields_of};
 ghost use Rattle.exam_text.specs.First.{Gives};
-ghost use Rattle.bank_reader.specs.Header.{leading_fixed, leading_quantities, leading_points, leading_loglik, header_of};
-ghost use Rattle.bank_reader.specs.Items.{IsShape};
+ghost use Rattle.bank_reader.specs.Columns.{IsShape};
+ghost use Rattle.bank_reader.specs.Reading.{leading_fixed, leading_quantities, leading_points, leading_loglik, header_of};
 ghost use Rattle.bank_reader.specs.declared.fault.ReadFault.TheVariants.{Memory};
 
 use crate::fault::ReadFault;
@@ -49,7 +49,7 @@ fn leading_fixed(row: &ByteRecord) -> u32
     }
 }
 
-#[tactic(auto, using(crate::proofs::Leads::lead_stops), unfolding(crate::specs::Header::leading_quantities))]
+#[tactic(auto, using(crate::proofs::Leads::lead_stops), unfolding(crate::specs::Reading::leading_quantities))]
 fn leading_quantities(row: &ByteRecord, most: u32) -> u32
     requires { most ≤ 8 }
     ensures value { result ≡ leading_quantities (fields_of row.now) most }
@@ -63,7 +63,7 @@ fn leading_quantities(row: &ByteRecord, most: u32) -> u32
     most
 }
 
-#[tactic(auto, using(crate::proofs::Leads::lead_stops), unfolding(crate::specs::Header::leading_points))]
+#[tactic(auto, using(crate::proofs::Leads::lead_stops), unfolding(crate::specs::Reading::leading_points))]
 fn leading_points(row: &ByteRecord, from: u32, most: u32) -> u32
     requires start { from ≤ 11 }
     requires few { most ≤ 61 }
@@ -78,7 +78,7 @@ fn leading_points(row: &ByteRecord, from: u32, most: u32) -> u32
     most
 }
 
-#[tactic(auto, using(crate::proofs::Leads::lead_stops), unfolding(crate::specs::Header::leading_loglik))]
+#[tactic(auto, using(crate::proofs::Leads::lead_stops), unfolding(crate::specs::Reading::leading_loglik))]
 fn leading_loglik(row: &ByteRecord, from: u32, grid: u32) -> u32
     requires start { from ≤ 72 }
     requires some { 1 ≤ grid }
@@ -96,7 +96,7 @@ fn leading_loglik(row: &ByteRecord, from: u32, grid: u32) -> u32
 }
 
 /// The shape that the header says.
-#[tactic(auto, unfolding(crate::specs::Header::header_of))]
+#[tactic(auto, unfolding(crate::specs::Reading::header_of))]
 pub fn header_of(row: &ByteRecord) -> Result<Shape, ReadFault>
     ensures value { Gives Memory (λ s. s) result (header_of (fields_of row.now)) }
     ensures shape { IfOk result (λ s. IsShape s) }

@@ -3,7 +3,8 @@
 ghost use Rattle.std.specs.Prelude.{◌≡◌, ℕ, ◌+◌, ◌*◌, ◌<◌, ◌≤◌, ◌^◌, length, map, IfOk};
 ghost use Rattle.csv.specs.Records.{fields_of};
 ghost use Rattle.exam_text.specs.First.{Gives};
-ghost use Rattle.bank_reader.specs.Items.{item_at, items_at, IsShape, width, first_loglik};
+ghost use Rattle.bank_reader.specs.Columns.{IsShape, width, first_loglik};
+ghost use Rattle.bank_reader.specs.Reading.{item_at, items_at};
 ghost use Rattle.bank_reader.specs.declared.fault.ReadFault.TheVariants.{Memory};
 
 use crate::fault::ReadFault;
@@ -41,7 +42,7 @@ impl Shape {
 }
 
 /// The item in a record.
-#[tactic(auto, unfolding(crate::specs::Items::item_at))]
+#[tactic(auto, unfolding(crate::specs::Reading::item_at))]
 pub fn item_in(
     alloc: Global,
     shape: &Shape,
@@ -90,7 +91,7 @@ pub fn item_in(
 }
 
 /// The items in the records behind the header.
-#[tactic(auto, unfolding(crate::specs::Items::items_at))]
+#[tactic(auto, unfolding(crate::specs::Reading::items_at))]
 pub fn items_in(
     alloc: Global,
     shape: &Shape,

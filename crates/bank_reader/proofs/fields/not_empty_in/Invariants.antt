@@ -1,6 +1,6 @@
 use Rattle.std.proofs.Common.{◌≡◌, None}
 use Rattle.csv.specs.Records.{fields_of}
-use Rattle.bank_reader.specs.Items.{not_empty_at}
+use Rattle.bank_reader.specs.Reading.{not_empty_at}
 use Rattle.bank_reader.proofs.fields.not_empty_in.Given as goal
 
 abbrev pub invariant-loop-i : goal.invariant-loop-i

@@ -2,7 +2,7 @@ use Rattle.std.proofs.Common.{◌+◌}
 use Rattle.std.proofs.lemmas.Result.{err_from_is_err_and}
 use Rattle.csv.specs.Records.{fields_of}
 use Rattle.exam_text.proofs.Firsts.{each_fails_or}
-use Rattle.bank_reader.specs.Items.{signed_at}
+use Rattle.bank_reader.specs.Reading.{signed_at}
 use Rattle.bank_reader.specs.declared.fault.ReadFault.TheVariants.{Memory}
 use Rattle.bank_reader.proofs.fields.signeds_in.Goals as goal
 

@@ -1,6 +1,6 @@
 use Rattle.std.proofs.Common.{◌≡◌, Ok}
 use Rattle.csv.specs.Records.{fields_of}
-use Rattle.bank_reader.specs.Items.{signeds_at}
+use Rattle.bank_reader.specs.Reading.{signeds_at}
 use Rattle.bank_reader.proofs.fields.signeds_in.Given as goal
 
 abbrev pub invariant-loop-i : goal.invariant-loop-i

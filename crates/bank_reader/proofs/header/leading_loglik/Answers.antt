@@ -2,7 +2,8 @@ use Rattle.std.proofs.Common.{◌≡◌, ◌+◌, ◌∙◌, ◌++◌, ◌*◌, 
 use Rattle.std.specs.Str.{bytes_eq}
 use Rattle.std.specs.Fmt.{decimal}
 use Rattle.csv.specs.Records.{fields_of}
-use Rattle.bank_reader.specs.Header.{lead, is_named, loglik_name, leading_loglik}
+use Rattle.bank_reader.specs.Columns.{loglik_name}
+use Rattle.bank_reader.specs.Reading.{lead, is_named, leading_loglik}
 use Rattle.bank_reader.proofs.Leads.{lead_stops}
 use Rattle.bank_reader.proofs.header.leading_loglik.Goals as goal
 

@@ -3,7 +3,7 @@ use Rattle.std.proofs.lemmas.Result.{err_from_is_err_and}
 use Rattle.std.proofs.lemmas.List.{get_or-map, length-map}
 use Rattle.csv.specs.Records.{fields_of}
 use Rattle.exam_text.proofs.Firsts.{each_fails_or}
-use Rattle.bank_reader.specs.Items.{item_at, items_at}
+use Rattle.bank_reader.specs.Reading.{item_at, items_at}
 use Rattle.bank_reader.specs.declared.fault.ReadFault.TheVariants.{Memory}
 use Rattle.bank_reader.proofs.item.items_in.Goals as goal
 

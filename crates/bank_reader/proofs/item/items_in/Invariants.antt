@@ -1,7 +1,7 @@
 use Rattle.std.proofs.Common.{◌≡◌, ◌+◌, [], get_or, map, Ok}
 use Rattle.csv.specs.Records.{fields_of}
 use Rattle.exam_text.specs.First.{each_below}
-use Rattle.bank_reader.specs.Items.{item_at}
+use Rattle.bank_reader.specs.Reading.{item_at}
 use Rattle.bank_reader.proofs.item.items_in.Given as goal
 
 abbrev pub invariant-loop-i : goal.invariant-loop-i

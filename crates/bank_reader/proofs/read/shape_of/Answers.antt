@@ -2,7 +2,7 @@ use Rattle.std.proofs.Common.{◌≡◌, ◌∙◌, [], List, map, get_or, lengt
 use Rattle.std.proofs.lemmas.Bool.{eqb-true}
 use Rattle.std.proofs.lemmas.List.{nil_from_length}
 use Rattle.csv.specs.Records.{Row, fields_of}
-use Rattle.bank_reader.specs.Header.{header_of}
+use Rattle.bank_reader.specs.Reading.{header_of}
 use Rattle.bank_reader.specs.declared.fault.ReadFault.TheVariants.{Header}
 use Rattle.bank_reader.proofs.read.shape_of.Goals as goal
 
