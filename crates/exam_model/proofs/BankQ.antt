@@ -16,7 +16,7 @@ use Rattle.exam_model.specs.Forms.{HasNoForm}
 use Rattle.exam_model.specs.Paths.{root}
 use Rattle.exam_model.specs.Counting.{is_impossible}
 use Rattle.exam_model.specs.Relaxed.{IsRelaxedMaximum}
-use Rattle.exam_model.specs.ProofTrees.{ProofTree, IsProofTree, IsVector, IsNode, vector_at}
+use Rattle.exam_model.specs.ProofTrees.{ProofTree, IsProofTree, IsVector, vector_at}
 use Rattle.exam_model.specs.Verdicts.{IsVerdict}
 use Rattle.exam_model.specs.Validity.{IsRow, IsPlanFor}
 use Rattle.exam_model.proofs.Computed.{these, these_below, one_word, word_below, logliks_are, all_possible, maximum_is, at_most, names_sides}
@@ -104,7 +104,7 @@ no_form_q = inl (tt, inl ((lit≤ tt, names_sides problem_q ((1, 1) ∷ []) refl
 none_q : HasNoForm problem_q
 none_q = no_form_is_none problem_q one_ray no_form_q
 
--- the tree is one that has a spelling in bytes
+-- the tree is a proof tree
 is_tree_q : IsProofTree one_ray
 unfolding one_ray
 is_tree_q =
@@ -113,7 +113,6 @@ is_tree_q =
       vectors = vectors;
       sides = sides;
       few_nodes = lit≤ tt;
-      nodes = nodes;
       one_tree = tt;
     }
   where
@@ -125,7 +124,3 @@ is_tree_q =
     sides zero w zero d x = lit≤ tt
     sides zero w (suc k) d x = absurd (omega arith)
     sides (suc v) w k d x = absurd (omega arith)
-
-    nodes : All IsNode (Ray 0 ∷ [])
-    nodes zero d w = lit≤ tt
-    nodes (suc k) d w = absurd (omega arith)

@@ -151,102 +151,102 @@ breach_given = (meets_is bank_r plan_r (these (0 ∷ 1 ∷ 3 ∷ [])) (these_bel
     before (suc (suc (suc zero))) w e = refl
     before (suc (suc (suc (suc j)))) w e = absurd (omega arith)
 
--- ---- rows possible and impossible by counting, on each side; r is the path at the root
-unfoldable pub r : Path
-r = root problem_r
+-- ---- rows possible and impossible by counting, on each side
+unfoldable pub at_root : Path
+at_root = root problem_r
 
-abbrev on : ℕ → Path → Path
-on i p = with_item p i true
+abbrev taking : ℕ → Path → Path
+taking i p = with_item p i true
 
-abbrev off : ℕ → Path → Path
-off i p = with_item p i false
+abbrev dropping : ℕ → Path → Path
+dropping i p = with_item p i false
 
--- is it impossible?
-abbrev gone : Path → ℕ → Bool
-gone = is_impossible problem_r
+-- whether a row is impossible on a path
+abbrev impossible : Path → ℕ → Bool
+impossible = is_impossible problem_r
 
 -- the length, row 0: four in exceed three; two in or free are fewer
-length_counted : (gone (on 0 (on 1 (on 3 r))) 0 ≡ false) × (gone (on 0 (on 1 (on 2 (on 3 r)))) 0 ≡ true) × (gone (off 0 (off 1 (off 2 r))) 0 ≡ false) × (gone (off 3 (off 0 (off 1 (off 2 r)))) 0 ≡ true)
-unfolding r problem_r bank_r item_r plan_r is_impossible has
+length_counted : (impossible (taking 0 (taking 1 (taking 3 at_root))) 0 ≡ false) × (impossible (taking 0 (taking 1 (taking 2 (taking 3 at_root)))) 0 ≡ true) × (impossible (dropping 0 (dropping 1 (dropping 2 at_root))) 0 ≡ false) × (impossible (dropping 3 (dropping 0 (dropping 1 (dropping 2 at_root)))) 0 ≡ true)
+unfolding at_root problem_r bank_r item_r plan_r is_impossible has
 length_counted = (refl, refl, refl, refl)
 
 -- the Count row, row 1: three in exceed two; none in or free is fewer than one
-count_counted : (gone (on 0 (on 1 r)) 1 ≡ false) × (gone (on 0 (on 1 (on 2 r))) 1 ≡ true) × (gone (off 0 (off 1 r)) 1 ≡ false) × (gone (off 0 (off 1 (off 2 r))) 1 ≡ true)
-unfolding r problem_r bank_r item_r plan_r is_impossible has
+count_counted : (impossible (taking 0 (taking 1 at_root)) 1 ≡ false) × (impossible (taking 0 (taking 1 (taking 2 at_root))) 1 ≡ true) × (impossible (dropping 0 (dropping 1 at_root)) 1 ≡ false) × (impossible (dropping 0 (dropping 1 (dropping 2 at_root))) 1 ≡ true)
+unfolding at_root problem_r bank_r item_r plan_r is_impossible has
 count_counted = (refl, refl, refl, refl)
 
 -- the Quantity row, row 2: 110 in exceed 100, 90 don't; 30 in or free are below 60, 60 aren't
-quantity_counted : (gone (on 3 (on 4 r)) 2 ≡ false) × (gone (on 4 (on 5 r)) 2 ≡ true) × (gone (off 5 (off 4 (off 3 r))) 2 ≡ false) × (gone (off 5 (off 4 (off 3 (off 2 r)))) 2 ≡ true)
-unfolding r problem_r bank_r item_r plan_r is_impossible has
+quantity_counted : (impossible (taking 3 (taking 4 at_root)) 2 ≡ false) × (impossible (taking 4 (taking 5 at_root)) 2 ≡ true) × (impossible (dropping 5 (dropping 4 (dropping 3 at_root))) 2 ≡ false) × (impossible (dropping 5 (dropping 4 (dropping 3 (dropping 2 at_root)))) 2 ≡ true)
+unfolding at_root problem_r bank_r item_r plan_r is_impossible has
 quantity_counted = (refl, refl, refl, refl)
 
 -- the Enemies row, row 3: two in are too many; none is not too few
-enemies_counted : (gone (on 3 r) 3 ≡ false) × (gone (on 3 (on 4 r)) 3 ≡ true) × (gone (off 3 (off 4 r)) 3 ≡ false)
-unfolding r problem_r bank_r item_r plan_r is_impossible has
+enemies_counted : (impossible (taking 3 at_root) 3 ≡ false) × (impossible (taking 3 (taking 4 at_root)) 3 ≡ true) × (impossible (dropping 3 (dropping 4 at_root)) 3 ≡ false)
+unfolding at_root problem_r bank_r item_r plan_r is_impossible has
 enemies_counted = (refl, refl, refl)
 
 -- the Stimuli row, row 4: two chosen exceed one; none chosen or open is fewer than one
-stimuli_counted : (gone (on 0 r) 4 ≡ false) × (gone (on 0 (on 5 r)) 4 ≡ true) × (gone (off 0 (off 1 (off 2 r))) 4 ≡ false) × (gone (off 0 (off 1 (off 2 (off 5 r)))) 4 ≡ true)
-unfolding r problem_r bank_r item_r plan_r is_impossible has
+stimuli_counted : (impossible (taking 0 at_root) 4 ≡ false) × (impossible (taking 0 (taking 5 at_root)) 4 ≡ true) × (impossible (dropping 0 (dropping 1 (dropping 2 at_root))) 4 ≡ false) × (impossible (dropping 0 (dropping 1 (dropping 2 (dropping 5 at_root)))) 4 ≡ true)
+unfolding at_root problem_r bank_r item_r plan_r is_impossible has
 stimuli_counted = (refl, refl, refl, refl)
 
 -- the stimuli, rows 5 and 6: three in exceed two; once stimulus 1 is chosen, one in or free is fewer than two; not before
-stimulus_counted : (gone (on 0 (on 1 (on 2 r))) 5 ≡ true) × (gone (on 0 (off 1 (off 2 r))) 5 ≡ true) × (gone (off 0 (off 1 r)) 5 ≡ false) × (gone (with_stimulus problem_r (off 0 (off 1 r)) 1 true) 5 ≡ true) × (gone (on 5 r) 6 ≡ false)
-unfolding r problem_r bank_r item_r plan_r is_impossible has
+stimulus_counted : (impossible (taking 0 (taking 1 (taking 2 at_root))) 5 ≡ true) × (impossible (taking 0 (dropping 1 (dropping 2 at_root))) 5 ≡ true) × (impossible (dropping 0 (dropping 1 at_root)) 5 ≡ false) × (impossible (with_stimulus problem_r (dropping 0 (dropping 1 at_root)) 1 true) 5 ≡ true) × (impossible (taking 5 at_root) 6 ≡ false)
+unfolding at_root problem_r bank_r item_r plan_r is_impossible has
 stimulus_counted = (refl, refl, refl, refl, refl)
 
 -- row 6 is the last: no row past it is impossible, whatever is in
-past_counted : (gone (on 0 (on 1 (on 2 (on 3 (on 4 (on 5 r)))))) 7 ≡ false) × (gone (on 0 (on 1 (on 2 (on 3 (on 4 (on 5 r)))))) 600 ≡ false)
-unfolding r problem_r bank_r item_r plan_r is_impossible has
+past_counted : (impossible (taking 0 (taking 1 (taking 2 (taking 3 (taking 4 (taking 5 at_root)))))) 7 ≡ false) × (impossible (taking 0 (taking 1 (taking 2 (taking 3 (taking 4 (taking 5 at_root)))))) 600 ≡ false)
+unfolding at_root problem_r bank_r item_r plan_r is_impossible has
 past_counted = (refl, refl)
 
--- the lowest of several: rows 1, 2 and 5 are impossible with items 0, 1 and 2 in and the rest out
-lowest_counted : IsFirstImpossible problem_r (on 0 (on 1 (on 2 r))) (Some 1)
-unfolding r problem_r bank_r item_r plan_r is_impossible has
+-- the lowest of several: rows 1 and 5 are impossible with items 0, 1 and 2 in
+lowest_counted : IsFirstImpossible problem_r (taking 0 (taking 1 (taking 2 at_root))) (Some 1)
+unfolding at_root problem_r bank_r item_r plan_r is_impossible has
 lowest_counted = (refl, before)
   where
-    before : (q : ℕ) → q < 1 → is_impossible problem_r (on 0 (on 1 (on 2 r))) q ≡ false
+    before : (q : ℕ) → q < 1 → is_impossible problem_r (taking 0 (taking 1 (taking 2 at_root))) q ≡ false
     before zero w = refl
     before (suc q) w = absurd (omega arith)
 
 -- ---- branches on a stimulus
 -- left: chosen, its items stay free; right: neither chosen nor open, its items out, the others free
-left_branch : (let p = with_stimulus problem_r r 1 true in (is_chosen problem_r p 1 ≡ true) × (is_open problem_r p 1 ≡ false) × (is_free problem_r p 0 ≡ true) × (is_open problem_r p 2 ≡ true))
-unfolding r problem_r bank_r item_r
+left_branch : (let p = with_stimulus problem_r at_root 1 true in (is_chosen problem_r p 1 ≡ true) × (is_open problem_r p 1 ≡ false) × (is_free problem_r p 0 ≡ true) × (is_open problem_r p 2 ≡ true))
+unfolding at_root problem_r bank_r item_r
 left_branch = (refl, refl, refl, refl)
 
-right_branch : (let p = with_stimulus problem_r r 1 false in (is_chosen problem_r p 1 ≡ false) × (is_open problem_r p 1 ≡ false) × (is_free problem_r p 0 ≡ false) × (is_free problem_r p 3 ≡ true) × (is_open problem_r p 2 ≡ true) × (p.out 1 ≡ true) × (p.out 5 ≡ false))
-unfolding r problem_r bank_r item_r
+right_branch : (let p = with_stimulus problem_r at_root 1 false in (is_chosen problem_r p 1 ≡ false) × (is_open problem_r p 1 ≡ false) × (is_free problem_r p 0 ≡ false) × (is_free problem_r p 3 ≡ true) × (is_open problem_r p 2 ≡ true) × (p.out 1 ≡ true) × (p.out 5 ≡ false))
+unfolding at_root problem_r bank_r item_r
 right_branch = (refl, refl, refl, refl, refl, refl, refl)
 
 -- an item in chooses its stimulus
-item_chooses : (is_chosen problem_r (on 0 r) 1 ≡ true) × (is_open problem_r (on 0 r) 1 ≡ false) × (is_open problem_r r 1 ≡ true) × (is_open problem_r (off 5 r) 2 ≡ false)
-unfolding r problem_r bank_r item_r
+item_chooses : (is_chosen problem_r (taking 0 at_root) 1 ≡ true) × (is_open problem_r (taking 0 at_root) 1 ≡ false) × (is_open problem_r at_root 1 ≡ true) × (is_open problem_r (dropping 5 at_root) 2 ≡ false)
+unfolding at_root problem_r bank_r item_r
 item_chooses = (refl, refl, refl, refl)
 
 -- 0 is no stimulus: neither chosen nor open, though items without one are in and free
-no_stimulus_zero : (is_chosen problem_r (on 3 r) 0 ≡ false) × (is_open problem_r r 0 ≡ false) × (stimuli_of bank_r ≡ 2)
-unfolding r problem_r bank_r item_r
+no_stimulus_zero : (is_chosen problem_r (taking 3 at_root) 0 ≡ false) × (is_open problem_r at_root 0 ≡ false) × (stimuli_of bank_r ≡ 2)
+unfolding at_root problem_r bank_r item_r
 no_stimulus_zero = (refl, refl, refl)
 
 -- an item beyond the bank is never free; six items and two stimuli are left to decide at the root
-left_to_decide : (is_free problem_r r 6 ≡ false) × (undecided problem_r r ≡ 8) × (undecided problem_r (with_stimulus problem_r r 1 true) ≡ 7) × (undecided problem_r (with_stimulus problem_r r 1 false) ≡ 4)
-unfolding r problem_r bank_r item_r
+left_to_decide : (is_free problem_r at_root 6 ≡ false) × (undecided problem_r at_root ≡ 8) × (undecided problem_r (with_stimulus problem_r at_root 1 true) ≡ 7) × (undecided problem_r (with_stimulus problem_r at_root 1 false) ≡ 4)
+unfolding at_root problem_r bank_r item_r
 left_to_decide = (refl, refl, refl, refl)
 
 -- ---- the only candidate: none at the root; the three in; the three in or free; where nothing is free; not with four in and items free
-candidates : (is_some (only_candidate problem_r r) ≡ false) × (is_some (only_candidate problem_r (on 0 (on 1 (on 2 r)))) ≡ true) × (is_some (only_candidate problem_r (off 0 (off 1 (off 2 r)))) ≡ true) × (is_some (only_candidate problem_r (on 0 (on 1 (on 2 (on 3 r))))) ≡ false) × (is_some (only_candidate problem_r (off 5 (off 4 (on 0 (on 1 (on 2 (on 3 r))))))) ≡ true)
-unfolding r problem_r bank_r item_r plan_r
+candidates : (is_some (only_candidate problem_r at_root) ≡ false) × (is_some (only_candidate problem_r (taking 0 (taking 1 (taking 2 at_root)))) ≡ true) × (is_some (only_candidate problem_r (dropping 0 (dropping 1 (dropping 2 at_root)))) ≡ true) × (is_some (only_candidate problem_r (taking 0 (taking 1 (taking 2 (taking 3 at_root))))) ≡ false) × (is_some (only_candidate problem_r (dropping 5 (dropping 4 (taking 0 (taking 1 (taking 2 (taking 3 at_root))))))) ≡ true)
+unfolding at_root problem_r bank_r item_r plan_r
 candidates = (refl, refl, refl, refl, refl)
 
 -- it is what is in, though more is free; or what is in or free
-candidate_members : (only_candidate problem_r (on 0 (on 1 (on 2 r))) ≡ Some (on 0 (on 1 (on 2 r))).taken) × (only_candidate problem_r (on 3 (off 0 (off 1 (off 2 r)))) ≡ Some (λ i. (on 3 (off 0 (off 1 (off 2 r)))).taken i || is_free problem_r (on 3 (off 0 (off 1 (off 2 r)))) i))
-unfolding r problem_r bank_r item_r plan_r
+candidate_members : (only_candidate problem_r (taking 0 (taking 1 (taking 2 at_root))) ≡ Some (taking 0 (taking 1 (taking 2 at_root))).taken) × (only_candidate problem_r (taking 3 (dropping 0 (dropping 1 (dropping 2 at_root)))) ≡ Some (λ i. (taking 3 (dropping 0 (dropping 1 (dropping 2 at_root)))).taken i || is_free problem_r (taking 3 (dropping 0 (dropping 1 (dropping 2 at_root)))) i))
+unfolding at_root problem_r bank_r item_r plan_r
 candidate_members = (refl, refl)
 
 -- a candidate that is a form, but lacks the stimulus that a left branch chose, is settled: it belongs on the right side
-lacks_stimulus_2 : (let p = on 0 (on 1 (on 3 (with_stimulus problem_r r 2 true))) in CandidateIsSettled problem_r None p (only_candidate problem_r p))
-unfolding r problem_r bank_r item_r plan_r
+lacks_stimulus_2 : (let p = taking 0 (taking 1 (taking 3 (with_stimulus problem_r at_root 2 true))) in CandidateIsSettled problem_r None p (only_candidate problem_r p))
+unfolding at_root problem_r bank_r item_r plan_r
 lacks_stimulus_2 = inr (inl (record { missing = 2; first = lit≤ tt; last = lit≤ tt; chosen = refl; unused = refl }))
 
 -- ---- the Lagrangian, every side at once

@@ -24,3 +24,4 @@ pub mod EveryRow
 pub mod Spent
 pub mod Reasons
 pub mod ClosedFormLaws
+pub mod SomeMaximum

@@ -11,7 +11,7 @@ use Rattle.exam_model.specs.Breaches.{IsFirstBreach}
 use Rattle.exam_model.specs.Paths.{Path, root, undecided, Under}
 use Rattle.exam_model.specs.Relaxed.{Multipliers, IsRelaxedMaximum}
 use Rattle.exam_model.specs.ClosedForm.{IsGreatestFill, closed_form}
-use Rattle.exam_model.specs.Counting.{is_impossible}
+use Rattle.exam_model.specs.Counting.{is_impossible, length_impossible}
 use Rattle.exam_model.specs.ProofTrees.{ProofTree}
 use Rattle.exam_model.specs.Verdicts.{IsVerdict}
 use Rattle.exam_model.specs.Spending.{open_leaves, IsSpent}
@@ -85,3 +85,13 @@ IsNoBetter P (Some X) Y = objective P X ≤ objective P Y
 -- a form that is no worse leaves a Partial verdict as it is
 abbrev pub BetteringKeeps : Type 0
 BetteringKeeps = (P : Problem) (X : Option Set) (Y : Set) (T : ProofTree) (k : ℕ) → Form P Y → IsNoBetter P X Y → IsVerdict P X T (Partial k) → IsVerdict P (Some Y) T (Partial k)
+
+-- where the length is possible by counting there is a relaxed maximum, it is one number, and elsewhere there is none
+abbrev pub SomeMaximum : Type 0
+SomeMaximum = (P : Problem) (p : Path) (v : Multipliers) (ray : Bool) → IsFalse (length_impossible P p) → (r : ℤ) × IsRelaxedMaximum P p v ray r
+
+abbrev pub OneMaximum : Type 0
+OneMaximum = (P : Problem) (p : Path) (v : Multipliers) (ray : Bool) (r q : ℤ) → IsRelaxedMaximum P p v ray r → IsRelaxedMaximum P p v ray q → r ≡ q
+
+abbrev pub MaximumMeansPossible : Type 0
+MaximumMeansPossible = (P : Problem) (p : Path) (v : Multipliers) (ray : Bool) (r : ℤ) → IsRelaxedMaximum P p v ray r → IsFalse (length_impossible P p)
