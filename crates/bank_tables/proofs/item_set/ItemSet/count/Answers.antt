@@ -1,4 +1,4 @@
-use Rattle.std.proofs.Common.{◌≡◌, ◌≤◌, ◌<◌, ◌+◌, ◌*◌, ◌^◌, ℕ, true, refl, sym, ◌∙◌, ap, get_or, List, length, subst, arith, rules}
+use Rattle.std.proofs.Common.{◌≡◌, ◌<◌, ◌+◌, ◌*◌, ◌^◌, ℕ, sym, ◌∙◌, ap, get_or, List, length, subst, arith, rules}
 use lib.Count.{ones}
 use Rattle.bank_tables.specs.Items.{has}
 use Rattle.bank_tables.specs.Sums.{size_of, count_in}

@@ -1,6 +1,5 @@
-use Rattle.std.proofs.Common.{◌≡◌, ◌≤◌, ◌<◌, ◌/◌, ◌^◌, ℕ, get_or, List, length, subst, inl, inr, arith, rules}
+use Rattle.std.proofs.Common.{◌≡◌, ◌<◌, ◌/◌, ◌^◌, ℕ, get_or, List, length, subst, inl, inr, arith, rules}
 use Rattle.std.proofs.lemmas.Bool.{cases_lt}
-use Rattle.bank_tables.specs.Items.{has, IsLowest}
 use Rattle.bank_tables.proofs.Bits.{has_past}
 use Rattle.bank_tables.proofs.Words.{first_in, has_none}
 use Rattle.bank_tables.proofs.item_set.ItemSet.first.Goals as goal

@@ -1,6 +1,5 @@
-use Rattle.std.proofs.Common.{◌≡◌, ◌≤◌, ◌<◌, ◌/◌, ◌^◌, ℕ, true, get_or, bit_and, List, length, subst, inl, inr, refl, sym, ◌∙◌, arith, rules}
+use Rattle.std.proofs.Common.{◌≡◌, ◌<◌, ◌/◌, ◌^◌, ℕ, get_or, List, length, subst, inl, inr, refl, sym, ◌∙◌, arith, rules}
 use Rattle.std.proofs.lemmas.Bool.{cases_lt, false≢true}
-use Rattle.bank_tables.specs.Items.{has}
 use Rattle.bank_tables.proofs.Bits.{has_past}
 use Rattle.bank_tables.proofs.Words.{sub_words, word_within}
 use Rattle.bank_tables.proofs.item_set.ItemSet.is_subset.Goals as goal

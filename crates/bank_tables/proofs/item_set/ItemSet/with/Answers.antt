@@ -1,4 +1,4 @@
-use Rattle.std.proofs.Common.{◌<◌, ◌/◌, ◌%◌, ◌^◌, ◌*◌, ℕ, List, length, get_or, set, bit_or, arith, inl, inr, length-set, ◌∙◌, rules}
+use Rattle.std.proofs.Common.{◌<◌, ◌/◌, ◌%◌, ◌^◌, ◌*◌, ℕ, List, length, get_or, bit_or, arith, inl, inr, length-set, ◌∙◌}
 use Rattle.std.proofs.lemmas.Nat.{or_lt}
 use Rattle.std.proofs.lemmas.Bool.{cases_eq}
 use Rattle.std.proofs.lemmas.List.{get_or-set_same, get_or-set_other}
