@@ -12,3 +12,16 @@ pub mod SomeMode
 pub mod NextItems
 pub mod Undecided
 pub mod OneBreach
+pub mod Beyond
+pub mod Computed
+pub mod BankA
+pub mod StepsOfA
+pub mod BankS
+pub mod BankE
+pub mod BankQ
+pub mod Ties
+pub mod EveryRow
+pub mod Spent
+pub mod Reasons
+pub mod ClosedFormLaws
+pub mod SomeMaximum

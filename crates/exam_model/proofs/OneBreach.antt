@@ -1,8 +1,7 @@
 -- A set of items has one first breach, or none.
-use Rattle.std.proofs.Common.{◌≡◌, ℕ, ◌<◌, ◌⊎◌, inl, inr, refl, sym, ap, ◌∙◌, subst, arith, Option, Some, None}
+use Rattle.std.proofs.Common.{◌≡◌, ℕ, ◌<◌, ◌⊎◌, inl, inr, refl, sym, ap, ◌∙◌, arith, Option, Some, None}
 use Rattle.std.proofs.Math.Bool.{true≢false}
 use Rattle.bank_tables.specs.Items.{Set}
-use Rattle.bank_tables.specs.Sums.{size_of}
 use Rattle.exam_model.specs.declared.breach.Breach.{Breach}
 use Rattle.exam_model.specs.declared.breach.Breach.TheVariants.{Length, Row, Stimulus, Given, Barred}
 use Rattle.exam_model.specs.Breaches.{IsFirstBreach}

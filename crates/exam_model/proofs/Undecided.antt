@@ -1,6 +1,6 @@
 -- Each branch decides an item or a stimulus: so the Open leaves of a spent tree are few, and a tree with an Open leaf is small.
-use Rattle.std.proofs.Common.{◌≡◌, ℕ, zero, suc, ◌+◌, ◌*◌, ◌^◌, ◌≤◌, ◌<◌, ◌⊎◌, inl, inr, Bool, true, false, cond, not, ◌&&◌, ◌||◌, ◌==◌, max, List, [], ◌∷◌, ◌++◌, length, refl, sym, ap, ◌∙◌, subst, add-one, arith, nat_lt, Option, Some, None}
-use Rattle.std.proofs.lemmas.Bool.{lt-ltb, ltb-true, and_parts, and_from, not-true, not_from_true, eq-eqb}
+use Rattle.std.proofs.Common.{◌≡◌, ℕ, zero, suc, ◌+◌, ◌^◌, ◌≤◌, ◌<◌, ◌⊎◌, inl, inr, Bool, true, false, cond, not, ◌&&◌, ◌||◌, ◌==◌, max, List, [], ◌∷◌, ◌++◌, length, refl, sym, ap, ◌∙◌, add-one, arith, nat_lt, Option, Some, None}
+use Rattle.std.proofs.lemmas.Bool.{ltb-true, and_parts, and_from, not-true, eq-eqb}
 use Rattle.std.proofs.Math.Bool.{true≢false}
 use Rattle.std.proofs.Math.Nat.{pow-suc}
 use Rattle.std.proofs.Math.Pow.{pow_mono}
@@ -10,12 +10,11 @@ use Rattle.bank_tables.specs.Tables.{Tables, size, stimulus}
 use Rattle.exam_model.specs.declared.node.Node.{Node}
 use Rattle.exam_model.specs.declared.node.Node.TheVariants.{BranchItem, BranchStimulus, Bound, Ray, Count, Whole, Open}
 use Rattle.exam_model.specs.declared.verdict.Verdict.TheVariants.{Partial}
-use Rattle.exam_model.specs.Counting.{taken_or_free}
-use Rattle.exam_model.specs.Forms.{used, stimuli_of, size_in}
+use Rattle.exam_model.specs.Forms.{used, stimuli_of}
 use Rattle.exam_model.specs.Paths.{Path, root, is_free, is_chosen, is_open, undecided, with_item, with_stimulus}
 use Rattle.exam_model.specs.Problem.{Problem}
 use Rattle.exam_model.specs.ProofTrees.{ProofTree}
-use Rattle.exam_model.specs.Verdicts.{IsStimulusBranch, only_candidate, IsSound, below, open_leaf, GivesFrom, IsVerdict}
+use Rattle.exam_model.specs.Verdicts.{IsStimulusBranch, only_candidate, below, open_leaf, GivesFrom, IsVerdict}
 use Rattle.exam_model.specs.Spending.{open_leaves, HasNoBranch, IsDepthFirst, AreSpentNodes, IsSpent}
 use Rattle.exam_model.proofs.SumLaws.{either, or_true, or_left, or_right, any_intro, any_elim, sum_in-le, more}
 

@@ -1,5 +1,5 @@
 -- What the definitions imply, as the public laws state it.
-use Rattle.std.specs.Prelude.{◌≡◌, ℕ, ◌+◌, ◌*◌, ◌^◌, ◌≤◌, ◌<◌, length, List, ℤ, pos, ◌≤ℤ◌, true, false, IsTrue, IsFalse, Option, Some, None}
+use Rattle.std.specs.Prelude.{◌≡◌, ℕ, ◌+◌, ◌*◌, ◌^◌, ◌≤◌, ◌<◌, length, List, ℤ, pos, ◌≤ℤ◌, Bool, true, false, IsTrue, IsFalse, Option, Some, None}
 use Rattle.bank_tables.specs.Items.{Set}
 use Rattle.bank_tables.specs.Tables.{Tables}
 use Rattle.exam_model.specs.declared.breach.Breach.{Breach}
@@ -10,7 +10,8 @@ use Rattle.exam_model.specs.Forms.{Form, Best, Firm, HasNoForm, objective}
 use Rattle.exam_model.specs.Breaches.{IsFirstBreach}
 use Rattle.exam_model.specs.Paths.{Path, root, undecided, Under}
 use Rattle.exam_model.specs.Relaxed.{Multipliers, IsRelaxedMaximum}
-use Rattle.exam_model.specs.Counting.{is_impossible}
+use Rattle.exam_model.specs.ClosedForm.{IsGreatestFill, closed_form}
+use Rattle.exam_model.specs.Counting.{is_impossible, length_impossible}
 use Rattle.exam_model.specs.ProofTrees.{ProofTree}
 use Rattle.exam_model.specs.Verdicts.{IsVerdict}
 use Rattle.exam_model.specs.Spending.{open_leaves, IsSpent}
@@ -71,3 +72,26 @@ FewOpen = (P : Problem) (T : ProofTree) (budget : ℕ) → IsSpent P T budget �
 -- a set of items has at most one first breach, and none where it is a form
 abbrev pub OneBreach : Type 0
 OneBreach = (P : Problem) (X : Set) (b c : Option Breach) → IsFirstBreach P X b → IsFirstBreach P X c → b ≡ c
+
+-- the relaxed maximum is its closed form, whatever free items of the greatest reduced weights fill the test
+abbrev pub ClosedFormIsMaximum : Type 0
+ClosedFormIsMaximum = (P : Problem) (p : Path) (v : Multipliers) (ray : Bool) (T : Set) (t : ℤ) → IsGreatestFill P p v ray T t → IsRelaxedMaximum P p v ray (closed_form P p v ray T)
+
+-- X isn't there, or its objective is at most that of Y
+abbrev pub IsNoBetter : Problem → Option Set → Set → Type 0
+IsNoBetter P None Y = Unit {0}
+IsNoBetter P (Some X) Y = objective P X ≤ objective P Y
+
+-- a form that is no worse leaves a Partial verdict as it is
+abbrev pub BetteringKeeps : Type 0
+BetteringKeeps = (P : Problem) (X : Option Set) (Y : Set) (T : ProofTree) (k : ℕ) → Form P Y → IsNoBetter P X Y → IsVerdict P X T (Partial k) → IsVerdict P (Some Y) T (Partial k)
+
+-- where the length is possible by counting there is a relaxed maximum, it is one number, and elsewhere there is none
+abbrev pub SomeMaximum : Type 0
+SomeMaximum = (P : Problem) (p : Path) (v : Multipliers) (ray : Bool) → IsFalse (length_impossible P p) → (r : ℤ) × IsRelaxedMaximum P p v ray r
+
+abbrev pub OneMaximum : Type 0
+OneMaximum = (P : Problem) (p : Path) (v : Multipliers) (ray : Bool) (r q : ℤ) → IsRelaxedMaximum P p v ray r → IsRelaxedMaximum P p v ray q → r ≡ q
+
+abbrev pub MaximumMeansPossible : Type 0
+MaximumMeansPossible = (P : Problem) (p : Path) (v : Multipliers) (ray : Bool) (r : ℤ) → IsRelaxedMaximum P p v ray r → IsFalse (length_impossible P p)

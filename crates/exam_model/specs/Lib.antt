@@ -5,6 +5,7 @@ pub mod Breaches
 pub mod Paths
 pub mod Counting
 pub mod Relaxed
+pub mod ClosedForm
 pub mod ProofTrees
 pub mod Verdicts
 pub mod Pruning

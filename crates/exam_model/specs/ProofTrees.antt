@@ -1,7 +1,7 @@
 -- The shape of proof trees.
-use Rattle.std.specs.Prelude.{◌≡◌, ℕ, zero, suc, ◌+◌, ◌<◌, ◌≤◌, List, [], ◌∷◌, length, get_or, All}
+use Rattle.std.specs.Prelude.{ℕ, zero, suc, ◌+◌, ◌<◌, ◌≤◌, List, [], ◌∷◌, length, get_or, All}
 use Rattle.exam_model.specs.declared.node.Node.{Node}
-use Rattle.exam_model.specs.declared.node.Node.TheVariants.{BranchItem, BranchStimulus, Bound, Ray, Count}
+use Rattle.exam_model.specs.declared.node.Node.TheVariants.{BranchItem, BranchStimulus}
 use Rattle.exam_model.specs.Relaxed.{Multipliers}
 
 -- vectors of multipliers, and nodes in preorder
@@ -26,20 +26,11 @@ AreTrees (suc wait) (BranchItem i ∷ nodes) = AreTrees (suc (suc wait)) nodes
 AreTrees (suc wait) (BranchStimulus s ∷ nodes) = AreTrees (suc (suc wait)) nodes
 AreTrees (suc wait) (node ∷ nodes) = AreTrees wait nodes
 
--- the number of a node is in range: an item below 512, a stimulus from 1 to 64, a vector below 256, a row up to 192
-abbrev pub IsNode : Node → Type 0
-IsNode (BranchItem i) = i < 512
-IsNode (BranchStimulus s) = (0 < s) × (s ≤ 64)
-IsNode (Bound v) = v < 256
-IsNode (Ray v) = v < 256
-IsNode (Count r) = r ≤ 192
-IsNode node = Unit {0}
-
--- at most 32 vectors of sides below 384, and at most 4,095 nodes, which are one tree
+-- at most 32 vectors of sides below 384, and at most 4,095 nodes, which are one tree (that each node's number is in range
+-- is a matter of the tree's bytes)
 pub record IsProofTree (T : ProofTree) : Type 0 where
   pub few_vectors : length T.vectors ≤ 32
   pub vectors : (v : ℕ) → v < length T.vectors → IsVector 0 (vector_at T v)
   pub sides : (v : ℕ) → v < length T.vectors → All (λ pair. pair.0 < 384) (vector_at T v)
   pub few_nodes : length T.nodes ≤ 4095
-  pub nodes : All IsNode T.nodes
   pub one_tree : AreTrees 1 T.nodes
