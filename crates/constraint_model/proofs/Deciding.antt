@@ -1,11 +1,10 @@
 -- A set meets the plan or breaches it first at one place, so a draft is a plan or has a first fault.
-use Rattle.std.proofs.Common.{◌≡◌, ℕ, zero, suc, ◌+◌, ◌<◌, ◌≤◌, ◌⊎◌, inl, inr, Bool, true, false, Option, Some, None, List, length, refl, sym, ap, subst, ◌∙◌, arith}
-use Rattle.std.specs.Prelude.{IsTrue}
+use Rattle.std.proofs.Common.{◌≡◌, ℕ, zero, suc, ◌<◌, ◌≤◌, ◌⊎◌, inl, inr, Option, Some, None, List, length, refl, sym, ap, subst, ◌∙◌, arith}
 use Rattle.std.proofs.lemmas.Bool.{cases_lt, cases_eq}
 use Rattle.std.proofs.Math.Bool.{true≢false}
 use Rattle.bank_tables.specs.Items.{Set, has}
 use Rattle.bank_tables.specs.Sums.{size_of}
-use Rattle.bank_tables.specs.Tables.{Tables, size}
+use Rattle.bank_tables.specs.Tables.{Tables}
 use Rattle.exam_model.specs.declared.breach.Breach.{Breach}
 use Rattle.exam_model.specs.declared.breach.Breach.TheVariants.{Length, Row, Stimulus, Given, Barred}
 use Rattle.exam_model.specs.Plan.{Plan, row_at, bound_at}
@@ -18,7 +17,7 @@ use Rattle.exam_model.proofs.BreachLaws.{breach_no_form}
 use Rattle.exam_model.proofs.OneBreach.{one_breach}
 use Rattle.constraint_model.specs.declared.spec_fault.SpecFault.{SpecFault}
 use Rattle.constraint_model.specs.declared.spec_fault.SpecFault.TheVariants.{BadBase, Memory}
-use Rattle.constraint_model.specs.FirstBreaches.{RowsHoldBelow, StimuliHoldBelow, IsRowBreach, IsStimulusBreach, IsPlanBreach}
+use Rattle.constraint_model.specs.FirstBreaches.{RowsHoldBelow, StimuliHoldBelow, IsPlanBreach}
 use Rattle.constraint_model.specs.Faults.{has_unknown, numbers_fault, IsBaseBreach, IsSpecFault}
 use Rattle.constraint_model.specs.Laws.{PlanOrFault, NoFaultIsPlan, PlanHasNoFault, OneFault}
 use Rattle.constraint_model.proofs.SetLaws.{none_unknown, no_unknown_from}

@@ -1,16 +1,14 @@
 -- The first fault of a draft.
-use Rattle.std.proofs.Common.{◌≡◌, ℕ, zero, suc, Bool, true, false, Option, Some, None, List, length, get_or, ◌+◌, sym, subst, refl, not, ◌&&◌, ◌||◌, ◌==◌}
-use Rattle.std.specs.Prelude.{nat_lt}
+use Rattle.std.proofs.Common.{◌≡◌, ℕ, zero, suc, Bool, true, false, Option, Some, None, List, length, get_or, ◌+◌, subst}
 use Rattle.exam_text.specs.First.{fault_where, ◌orelse◌, first_below}
-use Rattle.bank_tables.specs.Tables.{Tables, size}
-use Rattle.exam_model.specs.declared.breach.Breach.{Breach}
+use Rattle.bank_tables.specs.Tables.{Tables}
 use Rattle.exam_model.specs.declared.row.Row.{Row}
 use Rattle.exam_model.specs.declared.row.Row.TheVariants.{Count, Quantity, Enemies, Stimuli}
 use Rattle.exam_model.specs.Plan.{Plan, row_at, no_bound}
 use Rattle.exam_model.specs.Forms.{stimuli_of}
 use Rattle.constraint_model.specs.declared.spec_fault.SpecFault.{SpecFault}
 use Rattle.constraint_model.specs.declared.spec_fault.SpecFault.TheVariants.{Length, BadPrior, TooManyRows, RowBounds, EmptySet, BadItem, BadQuantity, BadStimulus, BadRate, BadBudget, BadLimit, BadBase, Memory}
-use Rattle.constraint_model.specs.Faults.{range_fault, set_fault, quantity_fault, row_fault, rows_fault, front_fault, bound_fault, bounds_fault, limits_fault, numbers_fault, IsBaseBreach, IsSpecFault}
+use Rattle.constraint_model.specs.Faults.{set_fault, row_fault, front_fault, bound_fault, bounds_fault, limits_fault, numbers_fault, IsSpecFault}
 
 -- the tests of numbers give neither a breach of the base nor want of memory
 abbrev IsOfNumbers : SpecFault → Type 0

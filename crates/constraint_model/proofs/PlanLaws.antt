@@ -1,11 +1,11 @@
 -- A draft whose tests find nothing is a plan, and the tests find nothing in a plan.
-use Rattle.std.proofs.Common.{◌≡◌, ℕ, zero, suc, ◌+◌, ◌-◌, ◌*◌, ◌%◌, ◌<◌, ◌≤◌, ◌||◌, ◌&&◌, ◌==◌, not, Bool, true, false, List, length, get_or, Option, Some, None, ℤ, pos, refl, sym, ap, subst, ◌∙◌, arith, inl, inr}
+use Rattle.std.proofs.Common.{◌≡◌, ℕ, ◌+◌, ◌-◌, ◌%◌, ◌<◌, ◌≤◌, ◌||◌, ◌&&◌, ◌==◌, not, true, List, length, get_or, Some, None, ℤ, pos, refl, subst, arith, inl, inr}
 use Rattle.std.specs.Prelude.{nat_le, nat_lt, int_lt, neg_ℤ}
 use Rattle.std.specs.List.{list_all}
 use Rattle.std.proofs.lemmas.Int.{ints}
 use Rattle.std.proofs.lemmas.List.{get_or_past}
 use Rattle.std.proofs.lemmas.Bool.{and_parts, and_from, or_parts, eqb-true, eqb-false, eq-eqb, ne_eqb, ltb-true, ltb-false, lt-ltb, le-ltb, leb-true, leb-false, le-leb, lt-leb, not-false, not-true, not_from_false, cases_lt}
-use Rattle.exam_text.specs.First.{fault_where, ◌orelse◌, first_below}
+use Rattle.exam_text.specs.First.{◌orelse◌}
 use Rattle.exam_text.proofs.Firsts.{none_split, none_each, none_from, none_where}
 use Rattle.bank_tables.specs.Items.{has}
 use Rattle.bank_tables.specs.Tables.{Tables, size}
@@ -20,7 +20,7 @@ use Rattle.exam_model.specs.Plan.{Plan, row_at, bound_at, no_bound}
 use Rattle.exam_model.specs.Forms.{Meets, stimuli_of}
 use Rattle.exam_model.specs.Validity.{IsRowSet, IsRow, IsBudget, IsPlanFor}
 use Rattle.constraint_model.specs.Countable.{IsCountable}
-use Rattle.constraint_model.specs.Faults.{is_empty, has_unknown, range_fault, set_fault, quantity_fault, row_fault, rows_fault, is_prior, front_fault, bound_fault, bounds_fault, is_rate, is_budget, is_between, limits_fault, numbers_fault}
+use Rattle.constraint_model.specs.Faults.{range_fault, set_fault, quantity_fault, row_fault, is_prior, front_fault, bound_fault, bounds_fault, is_rate, is_budget, is_between, limits_fault, numbers_fault}
 use Rattle.constraint_model.proofs.SetLaws.{member_of, not_empty_from, none_unknown, no_unknown_from}
 
 above : (n : ℕ) → (n ≡ 0 → ⊥) → 0 < n

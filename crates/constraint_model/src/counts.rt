@@ -45,14 +45,7 @@ pub fn items_of(bank: &Bank, stimulus: u8, form: &ItemSet) -> u32
 fn uses(bank: &Bank, stimulus: u8, form: &ItemSet) -> bool
     ensures { result ≡ used bank.now (has form.now) stimulus }
 {
-    let items = bank.items();
-    let mut found = false;
-    for i in 0..items {
-        if form.has(i) && bank.stimulus(i) == stimulus {
-            found = true;
-        }
-    }
-    0 < stimulus && found
+    stimulus > 0 && items_of(bank, stimulus, form) > 0
 }
 
 /// How many of the stimuli from 1 to the greatest have an item in the form.

@@ -1,24 +1,24 @@
 -- The problem of a seat is well made, and leaves a free item in each of its forms.
-use Rattle.std.proofs.Common.{◌≡◌, ℕ, zero, suc, ◌+◌, ◌-◌, ◌≤◌, ◌<◌, ◌⊎◌, inl, inr, Bool, true, false, not, cond, ◌&&◌, ◌||◌, ◌==◌, List, [], ◌∷◌, length, nat_lt, refl, sym, ap, ◌∙◌, subst, arith, Option, Some, None, IsTrue, IsFalse, slice_get, get_or}
+use Rattle.std.proofs.Common.{◌≡◌, ℕ, zero, suc, ◌+◌, ◌-◌, ◌≤◌, ◌<◌, inl, inr, Bool, true, false, not, cond, ◌&&◌, ◌||◌, ◌==◌, List, [], ◌∷◌, length, nat_lt, refl, sym, ap, ◌∙◌, subst, arith, Option, Some, None, slice_get}
 use Rattle.std.specs.List.{list_any}
 use Rattle.std.specs.Option.{option_map}
 use Rattle.std.proofs.Math.Bool.{true≢false}
 use Rattle.std.proofs.Math.Path.{fun_ext}
-use Rattle.std.proofs.lemmas.Bool.{eqb-true, eq-eqb, ltb-true, cases_lt, lt-ltb, le-ltb}
+use Rattle.std.proofs.lemmas.Bool.{ltb-true, cases_lt, lt-ltb, le-ltb}
 use Rattle.std.proofs.lemmas.Bool.Decides.{eqb_tells}
 use Rattle.std.proofs.lemmas.Option.{slice_get-get_or}
 use Rattle.bank_tables.specs.Items.{Set, has}
 use Rattle.bank_tables.specs.Tables.{Tables, size}
-use Rattle.bank_tables.specs.Sums.{sum_in, count_in, any_below}
+use Rattle.bank_tables.specs.Sums.{count_in, any_below}
 use Rattle.bank_tables.specs.Validity.{IsBank, HoldsItems}
 use Rattle.exam_model.specs.declared.seat.Seat.{Seat}
 use Rattle.exam_model.specs.Plan.{Plan}
 use Rattle.exam_model.specs.Problem.{Problem}
 use Rattle.exam_model.specs.Forms.{Form, size_in}
 use Rattle.exam_model.specs.Serving.{is_not_given}
-use Rattle.exam_model.specs.Seats.{is_shown, last_shown, is_barred, seat_problem, IsSeat, IsPending, IsSeatProblem}
+use Rattle.exam_model.specs.Seats.{is_shown, last_shown, is_barred, seat_problem, IsSeat, IsPending}
 use Rattle.exam_model.specs.Validity.{IsPlanFor, IsWellMade}
-use Rattle.exam_model.proofs.SumLaws.{either, and_true, both, any_elim, any_intro, sum_in-le}
+use Rattle.exam_model.proofs.SumLaws.{either, and_true, any_elim, any_intro, sum_in-le}
 use Rattle.shadow_select.proofs.ShownLaws.{found_at}
 use Rattle.shadow_select.specs.Next.{HasFreeItem, FreeItemIsLeft}
 

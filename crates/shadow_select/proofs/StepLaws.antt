@@ -1,5 +1,5 @@
 -- A seat stays a seat.
-use Rattle.std.proofs.Common.{◌≡◌, ℕ, zero, suc, ◌+◌, ◌-◌, ◌≤◌, ◌<◌, ◌⊎◌, inl, inr, Bool, true, false, not, ◌&&◌, ◌||◌, ◌==◌, List, [], ◌∷◌, ◌++◌, length, refl, sym, ap, ◌∙◌, subst, arith, Option, Some, None, IsTrue, IsFalse, slice_get, get_or, length-append}
+use Rattle.std.proofs.Common.{◌≡◌, ℕ, ◌+◌, ◌-◌, ◌<◌, ◌⊎◌, inl, inr, Bool, true, false, not, ◌&&◌, ◌==◌, List, [], ◌∷◌, ◌++◌, length, refl, sym, ap, ◌∙◌, subst, arith, Option, Some, None, IsTrue, IsFalse, slice_get, get_or, length-append}
 use Rattle.std.specs.List.{list_any}
 use Rattle.std.proofs.Math.Bool.{true≢false}
 use Rattle.std.proofs.Math.ListN.{get_or-append}
@@ -7,18 +7,18 @@ use Rattle.std.proofs.Math.Seq.{get_or-append_seam}
 use Rattle.std.proofs.lemmas.Bool.{eqb-true, cases_lt}
 use Rattle.std.proofs.lemmas.Option.{slice_get-get_or, slice_get_within}
 use Rattle.std.proofs.lemmas.List.Folds.{list_any-append}
-use Rattle.bank_tables.specs.Items.{Set, has}
+use Rattle.bank_tables.specs.Items.{has}
 use Rattle.bank_tables.specs.Tables.{Tables, size, categories}
 use Rattle.bank_tables.specs.Validity.{HoldsItems}
 use Rattle.exam_model.specs.declared.seat.Seat.{Seat}
 use Rattle.exam_model.specs.Plan.{Plan}
 use Rattle.exam_model.specs.Problem.{Problem}
 use Rattle.exam_model.specs.Forms.{Form}
-use Rattle.exam_model.specs.Seats.{is_shown, last_shown, seat_problem, IsSeat, IsPending, IsSeatProblem}
-use Rattle.exam_model.specs.Serving.{is_candidate, is_not_given, IsNext}
+use Rattle.exam_model.specs.Seats.{is_shown, seat_problem, IsSeat, IsPending}
+use Rattle.exam_model.specs.Serving.{is_not_given, IsNext}
 use Rattle.exam_model.proofs.SumLaws.{and_true, or_true}
 use Rattle.shadow_select.proofs.ShownLaws.{found_at}
-use Rattle.shadow_select.specs.Steps.{with_item, with_response, NewSeatIsSeat, ServedSeatIsSeat, AnsweredSeatIsSeat}
+use Rattle.shadow_select.specs.Steps.{with_item, NewSeatIsSeat, ServedSeatIsSeat, AnsweredSeatIsSeat}
 
 -- ---- a list with a number more
 last_number : (xs : List ℕ) (x : ℕ) → length (xs ++ x ∷ []) ≡ length xs + 1

@@ -6,7 +6,7 @@ use Rattle.exam_model.specs.declared.seat.Seat.{Seat}
 use Rattle.exam_model.specs.Plan.{Plan}
 use Rattle.exam_model.specs.Problem.{Problem}
 use Rattle.exam_model.specs.Forms.{Form}
-use Rattle.exam_model.specs.Seats.{IsSeat, IsPending, IsSeatProblem}
+use Rattle.exam_model.specs.Seats.{IsPending, IsSeatProblem}
 use Rattle.exam_model.specs.Serving.{is_candidate}
 
 -- X has an item not yet given

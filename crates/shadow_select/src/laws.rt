@@ -6,23 +6,19 @@ ghost use Rattle.shadow_select.specs.Steps.{NewSeatIsSeat, ServedSeatIsSeat, Ans
 /// A form of the problem of a seat that waits for an item has an item not yet given.
 pub fn a_free_item_is_left()
     ensures { FreeItemIsLeft }
-{
-}
+{}
 
 /// A seat that was shown nothing meets the condition of `next_problem`.
 pub fn a_new_seat_is_a_seat()
     ensures { NewSeatIsSeat }
-{
-}
+{}
 
 /// A seat goes on meeting it where the next item of a form of its problem is shown.
 pub fn a_served_seat_is_a_seat()
     ensures { ServedSeatIsSeat }
-{
-}
+{}
 
 /// A seat goes on meeting it where the item shown last is answered in range.
 pub fn an_answered_seat_is_a_seat()
     ensures { AnsweredSeatIsSeat }
-{
-}
+{}

@@ -1,13 +1,12 @@
-use Rattle.std.proofs.Common.{◌≡◌, ◌<◌, ◌^◌, ℕ, arith, ap, sym, ◌∙◌, rules, subst}
+use Rattle.std.proofs.Common.{◌≡◌, ◌<◌, ◌^◌, ℕ, arith, ap, sym, ◌∙◌}
 use Rattle.std.specs.Option.{option_map}
 use Rattle.std.proofs.lemmas.Nat.{pow_below}
 use lib.Count.{ones}
 use Rattle.bank_tables.specs.Items.{Set, has}
 use Rattle.bank_tables.specs.Tables.{size}
-use Rattle.exam_model.specs.Verdicts.{IsFormOrNone}
 use Rattle.constraint_model.specs.Views.{problem_of}
 use Rattle.plain_search.specs.Enumeration.{masked}
-use Rattle.plain_search.proofs.Enumerated.{Before, after_set, after_skip, all_masks}
+use Rattle.plain_search.proofs.Enumerated.{after_set, after_skip, all_masks}
 use Rattle.plain_search.proofs.enumeration.best_form.Goals as goal
 use Rattle.plain_search.proofs.enumeration.best_form.Goals.{then-mask-length, else-mask-length}
 

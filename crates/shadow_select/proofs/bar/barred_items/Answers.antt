@@ -1,4 +1,4 @@
-use Rattle.std.proofs.Common.{◌≡◌, ◌∙◌, sym, ap, ◌||◌, ◌==◌, Bool, true, false, ℕ}
+use Rattle.std.proofs.Common.{◌≡◌, ◌∙◌, sym, true, false}
 use Rattle.bank_tables.specs.Items.{has}
 use Rattle.exam_model.specs.Seats.{is_barred}
 use Rattle.shadow_select.proofs.ShownLaws.{last_is_item, grown, not_grown}

@@ -1,8 +1,7 @@
-use Rattle.std.proofs.Common.{◌≡◌, ◌≤◌, ◌<◌, ◌+◌, ◌++◌, ◌∷◌, [], ◌∙◌, sym, ap, subst, arith, length, take, List, ℕ, ℤ, Fits, w8}
-use Rattle.std.specs.List.{zip}
+use Rattle.std.proofs.Common.{◌≡◌, ◌≤◌, ◌<◌, [], ◌∙◌, sym, ap, subst, arith, length, take, List, ℤ}
 use Rattle.std.proofs.lemmas.List.{take_all}
 use Rattle.std.proofs.lemmas.Slice.Zip.{length-zip}
-use Rattle.bank_tables.specs.Tables.{size, categories}
+use Rattle.bank_tables.specs.Tables.{categories}
 use Rattle.exam_model.specs.Ability.{AnswerList}
 use Rattle.exam_model.specs.Seats.{answers}
 use Rattle.ability_grid.specs.Running.{IsSumsOf}

@@ -1,4 +1,3 @@
-use Rattle.std.proofs.Common.{List, ℤ}
 use Rattle.bank_tables.specs.Items.{has}
 use Rattle.exam_model.specs.Seats.{answers}
 use Rattle.shadow_select.proofs.ProblemLaws.{made_well}

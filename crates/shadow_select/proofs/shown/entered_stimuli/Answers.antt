@@ -1,7 +1,7 @@
-use Rattle.std.proofs.Common.{◌≡◌, ◌<◌, ◌+◌, ◌∙◌, sym, ap, ◌||◌, ◌==◌, take, Bool, ℕ, arith}
+use Rattle.std.proofs.Common.{◌∙◌, sym, ap, ◌||◌, ◌==◌, take, Bool, ℕ}
 use Rattle.std.specs.List.{list_any}
 use Rattle.bank_tables.specs.Items.{has}
-use Rattle.bank_tables.specs.Tables.{size, stimulus}
+use Rattle.bank_tables.specs.Tables.{stimulus}
 use Rattle.shadow_select.proofs.ShownLaws.{found_at, any_more, swapped}
 use Rattle.shadow_select.proofs.shown.entered_stimuli.Goals as goal
 

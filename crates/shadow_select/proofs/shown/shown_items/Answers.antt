@@ -1,6 +1,5 @@
-use Rattle.std.proofs.Common.{◌≡◌, ◌<◌, ◌+◌, ◌∙◌, sym, ap, ◌||◌, ◌==◌, take, Bool, ℕ, arith}
+use Rattle.std.proofs.Common.{◌<◌, ◌∙◌, sym, ap, ◌||◌, ◌==◌, take, Bool, arith}
 use Rattle.std.specs.List.{list_any}
-use Rattle.bank_tables.specs.Items.{has}
 use Rattle.bank_tables.specs.Tables.{size}
 use Rattle.shadow_select.proofs.ShownLaws.{found_at, any_more, swapped}
 use Rattle.shadow_select.proofs.shown.shown_items.Goals as goal
