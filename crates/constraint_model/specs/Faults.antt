@@ -81,6 +81,7 @@ is_rate rate = nat_lt 0 rate.num && (nat_le rate.num rate.den && nat_le rate.den
 abbrev pub is_budget : ℕ → Bool
 is_budget nodes = (nodes % 2 == 1) && nat_le nodes 4095
 
+-- low or more, and at most high
 abbrev pub is_between : ℕ → ℕ → ℕ → Bool
 is_between low high n = nat_le low n && nat_le n high
 
