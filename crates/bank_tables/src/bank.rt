@@ -1,12 +1,15 @@
 //! An item bank.
 
-ghost use Rattle.std.specs.Prelude.{◌≡◌, ◌≤◌, ◌<◌, Some, None, IfOk, IfErr};
+ghost use Rattle.std.specs.Prelude.{◌≡◌, ◌≤◌, ◌<◌, ℕ, Some, None, IfOk, IfErr};
 ghost use Rattle.bank_tables.specs.Tables.{size, stimulus, categories, quantity, info, loglik};
-ghost use Rattle.bank_tables.specs.Validity.{IsBank, IsLogLik};
+ghost use Rattle.bank_tables.specs.Validity.{IsBank};
 ghost use Rattle.bank_tables.specs.Sums.{greatest_below};
 ghost use Rattle.bank_tables.specs.Faults.{bank_fault};
 
-use crate::rows::{ItemRow, Rows};
+use crate::bank_fault::BankFault;
+use crate::faults::first_fault;
+use crate::rows::Rows;
+use std::alloc::Global;
 use std::marker::Model;
 
 /// An item bank: rows whose numbers are within their bounds.
@@ -27,6 +30,19 @@ impl Model for Bank {
 }
 
 impl Bank {
+    /// The bank of these rows, or their first fault: the tests go in the order of `BankFault`'s variants, from `BadStimulus` on
+    /// item by item. It takes no memory of its own, so `BankFault::Memory` doesn't come.
+    pub fn of(_alloc: Global, rows: Rows) -> Result<Bank, BankFault>
+        ensures bank { IfOk result (λ b. b ≡ rows) }
+        ensures faultless { IfOk result (λ _. bank_fault rows ≡ None) }
+        ensures fault { IfErr result (λ f. bank_fault rows ≡ Some f) }
+    {
+        match first_fault(&rows) {
+            Some(fault) => Err(fault),
+            None => Ok(Bank { rows }),
+        }
+    }
+
     /// The number of items, 1 to 512.
     pub fn items(&self) -> u16
         ensures items { result ≡ size self.now }
@@ -49,11 +65,18 @@ impl Bank {
         self.rows.quantities as u8
     }
 
-    fn row(&self, item: u16) -> &ItemRow
-        requires { item < size self.now }
-        ensures { result.now ≡ Rattle.bank_tables.specs.Tables.item self.now item }
+    /// The greatest stimulus number, at most 64.
+    pub fn stimuli(&self) -> u8
+        ensures { result ≡ greatest_below (size self.now) (stimulus self.now) }
     {
-        &self.rows.items.as_slice()[item as usize]
+        let mut most = 0;
+        for i in 0..self.rows.items.as_slice().len() {
+            let stimulus = self.rows.items.as_slice()[i].stimulus;
+            if stimulus > most {
+                most = stimulus;
+            }
+        }
+        most as u8
     }
 
     /// The stimulus of an item; 0 is none.

@@ -1,7 +1,7 @@
 //! A set of items.
 
-ghost use Rattle.std.specs.Prelude.{◌≡◌, ℕ, ◌+◌, ◌<◌, ◌≤◌, ◌↔◌, ◌||◌, ◌==◌, false, length, IsTrue};
-ghost use Rattle.bank_tables.specs.Items.{has};
+ghost use Rattle.std.specs.Prelude.{◌≡◌, ℕ, ◌+◌, ◌<◌, ◌≤◌, ◌↔◌, ◌||◌, ◌&&◌, ◌==◌, not, true, false, length, IsTrue, IfSome, MatchOption};
+ghost use Rattle.bank_tables.specs.Items.{has, IsLowest, AreWords};
 ghost use Rattle.bank_tables.specs.Sums.{size_of};
 
 use std::marker::Model;
@@ -13,13 +13,14 @@ pub struct ItemSet {
 }
 
 impl Model for ItemSet {
-    ghost use Rattle.std.specs.Prelude.{◌≡◌, ℕ, List, length};
+    ghost use Rattle.std.specs.Prelude.{ℕ, List};
+    ghost use Rattle.bank_tables.specs.Items.{AreWords};
 
     ghost Value = { List ℕ };
 
     ghost view = { λ s. s.words };
 
-    ghost invariant = { λ s. length s.words ≡ 8 };
+    ghost invariant = { λ s. AreWords s.words };
 
     ghost inverse = { λ words. record { words = words } };
 }
@@ -43,23 +44,75 @@ impl ItemSet {
         }
     }
 
-    /// The number of its members.
-    pub fn count(&self) -> u32
-        ensures count { result ≡ size_of (has self.now) }
-        ensures few { result ≤ 512 }
-        ensures below { (i : ℕ) → 512 ≤ i → has self.now i ≡ false }
+    /// The set with the item in it.
+    pub fn with(self, item: u16) -> ItemSet
+        requires { item < 512 }
+        ensures { (i : ℕ) → has result i ≡ ((i == item) || has self i) }
     {
-        let _ = &self.words;
-        let mut n = 0;
-        for i in 0..512 {
-            if self.has(i) {
-                n += 1;
-            }
-        }
-        n
+        let mut words = self.words;
+        words[(item / 64) as usize] |= 1 << (item % 64);
+        ItemSet { words }
     }
 
-    /// Whether each member is below the bound.
+    /// The set with the item not in it.
+    pub fn without(self, item: u16) -> ItemSet
+        requires { item < 512 }
+        ensures { (i : ℕ) → has result i ≡ (not (i == item) && has self i) }
+    {
+        let mut words = self.words;
+        words[(item / 64) as usize] &= !(1 << (item % 64));
+        ItemSet { words }
+    }
+
+    /// The items of either set.
+    pub fn union(self, other: ItemSet) -> ItemSet
+        ensures { (i : ℕ) → has result i ≡ (has self i || has other i) }
+    {
+        let others = other.words;
+        let mut words = self.words;
+        for k in 0..8 {
+            words[k] |= others[k];
+        }
+        ItemSet { words }
+    }
+
+    /// The items of this set that are not of the other.
+    pub fn minus(self, other: ItemSet) -> ItemSet
+        ensures { (i : ℕ) → has result i ≡ (has self i && not (has other i)) }
+    {
+        let others = other.words;
+        let mut words = self.words;
+        for k in 0..8 {
+            words[k] &= !others[k];
+        }
+        ItemSet { words }
+    }
+
+    /// The items of both sets.
+    pub fn meet(self, other: ItemSet) -> ItemSet
+        ensures { (i : ℕ) → has result i ≡ (has self i && has other i) }
+    {
+        let others = other.words;
+        let mut words = self.words;
+        for k in 0..8 {
+            words[k] &= others[k];
+        }
+        ItemSet { words }
+    }
+
+    /// Whether each item of this set is of the other.
+    pub fn is_subset(&self, other: &ItemSet) -> bool
+        ensures { IsTrue result ↔ ((i : ℕ) → IsTrue (has self.now i) → IsTrue (has other.now i)) }
+    {
+        for k in 0..8 {
+            if self.words[k] & other.words[k] != self.words[k] {
+                return false;
+            }
+        }
+        true
+    }
+
+    /// Whether each member is below the bound: with the number of items of a bank, whether all are items of that bank.
     pub fn all_below(&self, bound: u16) -> bool
         ensures { IsTrue result ↔ ((i : ℕ) → IsTrue (has self.now i) → i < bound) }
     {
@@ -72,13 +125,31 @@ impl ItemSet {
         true
     }
 
-    /// The set with the item in it.
-    pub fn with(self, item: u16) -> ItemSet
-        requires { item < 512 }
-        ensures { (i : ℕ) → has result i ≡ ((i == item) || has self i) }
+    /// The number of its members.
+    pub fn count(&self) -> u32
+        ensures count { result ≡ size_of (has self.now) }
+        ensures few { result ≤ 512 }
+        ensures below { (i : ℕ) → 512 ≤ i → has self.now i ≡ false }
+        ensures words { AreWords self.now }
     {
-        let mut words = self.words;
-        words[(item / 64) as usize] |= 1 << (item % 64);
-        ItemSet { words }
+        let mut total = 0;
+        for k in 0..8 {
+            total += self.words[k].count_ones();
+        }
+        total
+    }
+
+    /// The lowest member.
+    pub fn first(&self) -> Option<u16>
+        ensures lowest { MatchOption result ((i : ℕ) → has self.now i ≡ false) (λ x. IsLowest (has self.now) x) }
+        ensures item { IfSome result (λ x. x < 512) }
+    {
+        for k in 0..8u16 {
+            let word = self.words[k as usize];
+            if word != 0 {
+                return Some(64 * k + word.trailing_zeros() as u16);
+            }
+        }
+        None
     }
 }

@@ -1,0 +1,12 @@
+-- The errors of `csv` that say nothing of a text.
+use Rattle.csv.specs.declared.error.ErrorKind.{ErrorKind}
+use Rattle.csv.specs.declared.error.ErrorKind.TheVariants as kind
+
+-- want of memory, or a failed read of the reader underneath: bytes in memory, whose reads don't fail
+abbrev pub IsOfMemory : ErrorKind → Type 0
+IsOfMemory (kind.Io e) = Unit {0}
+IsOfMemory kind.OutOfMemory = Unit {0}
+IsOfMemory (kind.UnequalLengths pos expected len) = ⊥
+IsOfMemory (kind.Utf8 pos err) = ⊥
+IsOfMemory (kind.Serialize why) = ⊥
+IsOfMemory (kind.Deserialize pos err) = ⊥
