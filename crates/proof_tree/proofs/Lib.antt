@@ -4,3 +4,4 @@ pub mod Fields
 pub mod VectorLaws
 pub mod NodeLaws
 pub mod TreeLaws
+pub mod CutLaws

@@ -17,7 +17,7 @@ use Rattle.proof_tree.proofs.Fields.{IsBytes, Stands, stand_both, stand_first, s
 abbrev pub Found : List ℕ → ℕ → Node × ℕ → Type 0
 Found bytes at x = Stands bytes at (node_bytes x.0) x.1 × IsNode x.0
 
-chosen : {A : Type 0} (b : Bool) (x y z : A) → cond b x y ≡ z → ((b ≡ true) × (x ≡ z)) ⊎ ((b ≡ false) × (y ≡ z))
+pub chosen : {A : Type 0} (b : Bool) (x y z : A) → cond b x y ≡ z → ((b ≡ true) × (x ≡ z)) ⊎ ((b ≡ false) × (y ≡ z))
 chosen true x y z e = inl (refl, e)
 chosen false x y z e = inr (refl, e)
 

@@ -1,5 +1,5 @@
 -- A tree that is read is the tree that was written, and what was written is read again, whatever follows.
-use Rattle.std.proofs.Common.{◌≡◌, ℕ, zero, suc, ◌+◌, ◌*◌, ◌<◌, ◌≤◌, Bool, true, false, cond, ltb, List, [], ◌∷◌, ◌++◌, length, All, drop, Result, Ok, Err, refl, sym, ap, subst, arith, length-append}
+use Rattle.std.proofs.Common.{◌≡◌, ℕ, zero, suc, ◌+◌, ◌*◌, ◌<◌, ◌≤◌, Bool, true, false, cond, ltb, List, [], ◌∷◌, ◌++◌, length, All, drop, Result, Ok, Err, refl, sym, ap, subst, arith, length-append, ◌∙◌}
 use Rattle.std.specs.Prelude.{IfOk}
 use Rattle.std.specs.List.{flat_map, AllByRecursion}
 use Rattle.std.proofs.lemmas.Bool.{ltb-false, lt-ltb, le-ltb}
@@ -44,11 +44,11 @@ pub record AreFound (room waiting : ℕ) (bytes : List ℕ) (at : ℕ) (x : List
 none_found : (room : ℕ) (bytes : List ℕ) (at : ℕ) → AreFound room 0 bytes at ([], at)
 none_found room bytes at = record { stand = nothing_stands bytes at; trees = tt; few = omega arith; numbers = tt }
 
-guard_there : {A : Type 0} (b : Bool) (r : Result A TreeFault) (d : TreeFault) (y : A) → cond b r (Err d) ≡ Ok y → (b ≡ true) × (r ≡ Ok y)
+pub guard_there : {A : Type 0} (b : Bool) (r : Result A TreeFault) (d : TreeFault) (y : A) → cond b r (Err d) ≡ Ok y → (b ≡ true) × (r ≡ Ok y)
 guard_there true r d y e = (refl, e)
 guard_there false r d y e = absurd cc
 
-never_ok : {A : Type 0} (b : Bool) (d f : TreeFault) (y : A) → cond b (Err d) (Err f) ≡ Ok y → ⊥
+pub never_ok : {A : Type 0} (b : Bool) (d f : TreeFault) (y : A) → cond b (Err d) (Err f) ≡ Ok y → ⊥
 never_ok true d f y e = cc
 never_ok false d f y e = cc
 
@@ -205,3 +205,17 @@ few_bytes T is =
     let vectors = vectors_len T.vectors (recursion_from_All (λ v. length v ≤ 384) T.vectors (short_vectors T is.shape)) in
     let nodes = nodes_len T.nodes in
     omega (arith, vectors, nodes, is.shape.few_vectors, is.shape.few_nodes, length-append (flat_map vector_bytes T.vectors) (flat_map node_bytes T.nodes))
+
+-- ---- the laws
+
+pub written_is_read : (T : ProofTree) (rest : List ℕ) → IsTree T → read (bytes_of T ++ rest) ≡ Ok (T, length (bytes_of T))
+written_is_read T rest is = is_read T (bytes_of T ++ rest) is (rest, refl)
+
+pub one_spelling : (bytes : List ℕ) (T : ProofTree) (used : ℕ) → IsBytes bytes → read bytes ≡ Ok (T, used) → IsTree T × BeginsWith bytes T × (used ≡ length (bytes_of T))
+one_spelling bytes T used fits e = is_found bytes (Ok (T, used)) fits e
+
+pub no_spelling_begins_another : (T U : ProofTree) (x y : List ℕ) → IsTree T → IsTree U → bytes_of T ++ x ≡ bytes_of U ++ y → T ≡ U
+no_spelling_begins_another T U x y t u same =
+    let first : read (bytes_of T ++ x) ≡ Ok (T, length (bytes_of T)) = written_is_read T x t in
+    let second : read (bytes_of T ++ x) ≡ Ok (U, length (bytes_of U)) = ap read same ∙ written_is_read U y u in
+    ap (λ (x : ProofTree × ℕ). x.0) (ok_is {F = TreeFault} (T, length (bytes_of T)) (U, length (bytes_of U)) (sym first ∙ second))
