@@ -3,6 +3,7 @@ mod Crash
 mod Filling
 mod Lasting
 mod Looking
+mod Making
 mod Mending
 mod OpeningMoments
 mod Reading

@@ -1,9 +1,8 @@
 -- A change of a file, and the sync behind it.
-use Rattle.std.proofs.Common.{◌≡◌, ℕ, ◌<◌, ◌≤◌, List, [], ◌∷◌, ◌++◌, length, take, refl, sym, ◌∙◌, ap, subst, arith, append_assoc}
-use Rattle.std.proofs.lemmas.List.{take_all}
+use Rattle.std.proofs.Common.{List, [], ◌∷◌, ◌++◌, ◌∙◌, ap, append_assoc}
 use Rattle.std.specs.List.{AllByRecursion}
-use Rattle.exam_edge.specs.Images.{Account, IsWithin, Grows, IsSettled, cut_to, latest}
-use Rattle.exam_edge.specs.ImageLaws.{within_trans, within_cut, grows_to}
+use Rattle.exam_edge.specs.Images.{Account, IsWithin, Grows, latest}
+use Rattle.exam_edge.specs.ImageLaws.{within_trans, grows_to}
 
 all-append : (P : Account → Type 0) (ls ms : List Account) → AllByRecursion P ls → AllByRecursion P ms → AllByRecursion P (ls ++ ms)
 all-append P [] ms a b = b

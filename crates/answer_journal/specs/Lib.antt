@@ -1,6 +1,7 @@
 pub mod Frame
 pub mod FrameLaws
 pub mod Frames
+pub mod Grammar
 pub mod Journal
 pub mod OpenFault
 pub mod OpenFaultLaws

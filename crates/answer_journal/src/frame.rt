@@ -38,7 +38,7 @@ impl Frame {
     }
 
     /// What stands behind the gate of the record.
-    pub fn record_bytes(&self) -> &[u8]
+    pub(crate) fn record_bytes(&self) -> &[u8]
         ensures bytes { result.now ≡ framed self.now }
         ensures fits { Fits self.now }
     {

@@ -7,6 +7,7 @@ mod durable;
 mod frame;
 mod frames;
 mod journal;
+pub mod laws;
 mod open_fault;
 mod opening;
 mod payload;

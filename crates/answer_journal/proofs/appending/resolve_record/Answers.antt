@@ -1,4 +1,4 @@
-use Rattle.std.proofs.Common.{◌≡◌, ◌+◌, ◌-◌, ◌<◌, ◌≤◌, ◌==◌, List, ℕ, [], ◌∷◌, ◌++◌, length, get_or, true, false, sym, refl, ◌∙◌, ap, arith}
+use Rattle.std.proofs.Common.{◌≡◌, ◌-◌, ◌<◌, ◌==◌, length, get_or, sym, refl, ◌∙◌, ap, arith}
 use Rattle.exam_edge.specs.ImageLaws.{still}
 use Rattle.answer_journal.specs.Standing.{IsEither}
 use Rattle.answer_journal.proofs.Mending.{at_start, long, kept, shut, cut_leaves, dropped}

@@ -1,4 +1,4 @@
-use Rattle.std.proofs.Common.{◌≡◌, ◌+◌, ◌-◌, List, ℕ, [], ◌∷◌, length, sym, ◌∙◌, ap, subst}
+use Rattle.std.proofs.Common.{List, ℕ, length, ◌∙◌, ap, subst}
 use Rattle.exam_edge.specs.Images.{latest, written, overwritten, Grows}
 use Rattle.answer_journal.proofs.Adding.{behind, is_staged, opened, ended_is, ended}
 use Rattle.answer_journal.proofs.appending.write_record.Goals as goal

@@ -1,4 +1,4 @@
-use Rattle.std.proofs.Common.{◌≡◌, List, ℕ, length, sym, ◌∙◌, subst}
+use Rattle.std.proofs.Common.{List, ℕ, length, sym, ◌∙◌, subst}
 use Rattle.exam_edge.specs.Images.{latest, written, IsSettled}
 use Rattle.exam_edge.specs.ImageLaws.{within_written}
 use Rattle.answer_journal.proofs.Syncing.{synced_within}

@@ -1,4 +1,3 @@
-use Rattle.std.proofs.Common.{◌≡◌, sym, ◌∙◌}
 use Rattle.answer_journal.proofs.Tidying.{cut_keeps, cut_rests}
 use Rattle.answer_journal.proofs.opening.end_file.Goals as goal
 

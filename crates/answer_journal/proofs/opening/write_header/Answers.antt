@@ -1,4 +1,4 @@
-use Rattle.std.proofs.Common.{◌≡◌, sym, ◌∙◌}
+use Rattle.std.proofs.Common.{sym, ◌∙◌}
 use Rattle.answer_journal.proofs.Tidying.{begun, begun_is, begun_rests, tidied-short}
 use Rattle.answer_journal.proofs.opening.write_header.Goals as goal
 
