@@ -7,3 +7,4 @@ pub mod TopLaws
 pub mod Closed
 pub mod MaximumLaws
 pub mod WalkSteps
+pub mod CheckLaws

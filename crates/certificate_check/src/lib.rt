@@ -4,6 +4,7 @@
 mod activity;
 mod branch;
 mod candidate;
+mod checker;
 mod counting;
 mod cut;
 mod leaf;
@@ -14,3 +15,6 @@ mod standing;
 mod top;
 mod walk;
 mod weights;
+
+pub use checker::check;
+pub use exam_model::{Reason, Verdict};
