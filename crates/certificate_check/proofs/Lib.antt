@@ -8,3 +8,5 @@ pub mod Closed
 pub mod MaximumLaws
 pub mod WalkSteps
 pub mod CheckLaws
+pub mod ShapeLaws
+pub mod SpendSteps

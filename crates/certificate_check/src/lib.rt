@@ -10,11 +10,15 @@ mod cut;
 mod leaf;
 mod node;
 mod relaxed;
+mod shape;
 mod sides;
+mod spender;
 mod standing;
 mod top;
+mod unresolved;
 mod walk;
 mod weights;
 
 pub use checker::check;
+pub use spender::spent;
 pub use exam_model::{Reason, Verdict};
