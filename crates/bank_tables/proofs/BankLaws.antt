@@ -1,16 +1,15 @@
 -- Rows without a fault are a bank, and the other way round.
-use Rattle.std.proofs.Common.{◌≡◌, ℕ, zero, suc, ◌+◌, ◌*◌, ◌/◌, ◌%◌, ◌<◌, ◌≤◌, ◌||◌, ◌&&◌, ◌==◌, not, ltb, leb, eqb, Bool, true, false, List, [], ◌∷◌, length, get_or, Option, None, ℤ, pos, negsuc, refl, sym, ap, subst, ◌∙◌, arith, inl, inr, rules}
-use Rattle.std.specs.Prelude.{nat_le, nat_lt, int_lt, neg_ℤ, ◌≤ℤ◌}
+use Rattle.std.proofs.Common.{◌≡◌, ℕ, zero, suc, ◌+◌, ◌*◌, ◌/◌, ◌%◌, ◌<◌, ◌≤◌, ◌||◌, ◌==◌, not, Bool, true, List, [], ◌∷◌, length, get_or, None, ℤ, pos, refl, sym, subst, arith, inl, inr}
+use Rattle.std.specs.Prelude.{nat_le, nat_lt, int_lt, neg_ℤ}
 use Rattle.std.specs.List.{list_all}
 use Rattle.std.proofs.lemmas.Int.{ints}
 use Rattle.std.proofs.lemmas.List.{get_or_past}
 use Rattle.std.proofs.lemmas.Bool.{and_parts, and_from, or_parts, eqb-true, eqb-false, eq-eqb, ne_eqb, ltb-false, le-ltb, leb-true, le-leb, not-false, not-true, not_from_false, cases_lt}
-use Rattle.exam_text.specs.First.{fault_where, ◌orelse◌, first_below}
 use Rattle.exam_text.proofs.Firsts.{none_split, none_each, none_from, none_where}
 use Rattle.bank_tables.specs.Sums.{greatest_below}
-use Rattle.bank_tables.specs.Tables.{Tables, Item, no_item, size, item, stimulus, categories, quantity, info, loglik}
+use Rattle.bank_tables.specs.Tables.{Tables, Item, no_item, size, item}
 use Rattle.bank_tables.specs.Validity.{IsBank, IsLogLik}
-use Rattle.bank_tables.specs.Faults.{are_numbers, is_loglik, item_fault, items_fault, bank_fault}
+use Rattle.bank_tables.specs.Faults.{are_numbers, is_loglik, item_fault, bank_fault}
 
 -- each element passes
 pub each_passes : {X : Type 0} (p : X → Bool) (xs : List X) (i : ℕ) (d : X) → list_all p xs ≡ true → i < length xs → p (get_or xs i d) ≡ true

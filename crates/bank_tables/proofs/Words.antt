@@ -1,13 +1,13 @@
 -- The words of sets, taken together.
-use Rattle.std.proofs.Common.{◌≡◌, ℕ, zero, suc, ◌+◌, ◌-◌, ◌*◌, ◌/◌, ◌%◌, ◌^◌, ◌<◌, ◌≤◌, ◌==◌, ◌||◌, ◌&&◌, not, cond, Bool, true, false, List, [], ◌∷◌, length, get_or, set, refl, sym, ap, ap₂, ◌∙◌, arith, rules, inl, inr, bit_and, bit_or, w64, ◌⊎◌, ◌≢◌, min, max, subst, add_assoc, zero-add, add-zero, add-suc}
-use Rattle.std.proofs.lemmas.Bool.{cases_eq, eq-eqb, ne_eqb, cases_Bool, eqb-true, cases_lt}
+use Rattle.std.proofs.Common.{◌≡◌, ℕ, zero, suc, ◌+◌, ◌*◌, ◌/◌, ◌%◌, ◌^◌, ◌<◌, ◌≤◌, ◌==◌, ◌||◌, ◌&&◌, not, cond, Bool, true, false, List, length, get_or, set, refl, sym, ap, ap₂, ◌∙◌, arith, inl, inr, bit_and, bit_or, w64, ◌⊎◌, ◌≢◌, min, add_assoc, zero-add, add-zero, add-suc}
+use Rattle.std.proofs.lemmas.Bool.{cases_eq, eq-eqb, cases_Bool, eqb-true, cases_lt}
 use Rattle.std.proofs.lemmas.Bool.Decides.{eqb_tells}
 use Rattle.std.proofs.lemmas.List.{get_or-set_same, get_or-set_other}
 use Rattle.std.proofs.lemmas.Nat.Bits.{bit_at_clear_same, bit_at_clear_other, bit_at_or, bit_at_and, bit_at_not, bit_at-zero, bit_at-lt, bit_at_above, bit_at_lowest, bit_at-suc, bit_at-trailing_zeros, same_from_bits}
 use Rattle.std.specs.Int.{bit_at, bit_not, trailing_zeros}
 use lib.Count.{ones, ones_step}
 use Rattle.bank_tables.specs.Items.{Set, has, IsLowest}
-use Rattle.bank_tables.specs.Sums.{sum_in, count_in}
+use Rattle.bank_tables.specs.Sums.{count_in}
 
 -- a bit is cleared in its word, and no other bit changes
 pub has_clear : (ws : List ℕ) (item i : ℕ) → item / 64 < length ws → has (set ws (item / 64) (bit_and (get_or ws (item / 64) 0) (bit_not w64 (1 * 2 ^ (item % 64) % 2 ^ 64)))) i ≡ (not (i == item) && has ws i)

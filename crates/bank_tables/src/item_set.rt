@@ -1,7 +1,7 @@
 //! A set of items.
 
-ghost use Rattle.std.specs.Prelude.{◌≡◌, ℕ, ◌+◌, ◌<◌, ◌≤◌, ◌↔◌, ◌||◌, ◌&&◌, ◌==◌, not, true, false, length, IsTrue, MatchOption};
-ghost use Rattle.bank_tables.specs.Items.{has, IsLowest};
+ghost use Rattle.std.specs.Prelude.{◌≡◌, ℕ, ◌+◌, ◌<◌, ◌≤◌, ◌↔◌, ◌||◌, ◌&&◌, ◌==◌, not, true, false, length, IsTrue, IfSome, MatchOption};
+ghost use Rattle.bank_tables.specs.Items.{has, IsLowest, AreWords};
 ghost use Rattle.bank_tables.specs.Sums.{size_of};
 
 use std::marker::Model;
@@ -13,13 +13,14 @@ pub struct ItemSet {
 }
 
 impl Model for ItemSet {
-    ghost use Rattle.std.specs.Prelude.{◌≡◌, ℕ, List, length};
+    ghost use Rattle.std.specs.Prelude.{ℕ, List};
+    ghost use Rattle.bank_tables.specs.Items.{AreWords};
 
     ghost Value = { List ℕ };
 
     ghost view = { λ s. s.words };
 
-    ghost invariant = { λ s. length s.words ≡ 8 };
+    ghost invariant = { λ s. AreWords s.words };
 
     ghost inverse = { λ words. record { words = words } };
 }
@@ -129,6 +130,7 @@ impl ItemSet {
         ensures count { result ≡ size_of (has self.now) }
         ensures few { result ≤ 512 }
         ensures below { (i : ℕ) → 512 ≤ i → has self.now i ≡ false }
+        ensures words { AreWords self.now }
     {
         let mut total = 0;
         for k in 0..8 {
@@ -139,7 +141,8 @@ impl ItemSet {
 
     /// The lowest member.
     pub fn first(&self) -> Option<u16>
-        ensures { MatchOption result ((i : ℕ) → has self.now i ≡ false) (λ x. IsLowest (has self.now) x) }
+        ensures lowest { MatchOption result ((i : ℕ) → has self.now i ≡ false) (λ x. IsLowest (has self.now) x) }
+        ensures item { IfSome result (λ x. x < 512) }
     {
         for k in 0..8u16 {
             let word = self.words[k as usize];

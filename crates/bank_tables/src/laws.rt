@@ -10,11 +10,9 @@ ghost use Rattle.bank_tables.specs.Faults.{bank_fault};
 pub fn a_bank_has_no_fault()
     ensures bank { (b : Tables) → bank_fault b ≡ None → IsBank b }
     ensures faultless { (b : Tables) → IsBank b → bank_fault b ≡ None }
-{
-}
+{}
 
 /// Sets with the same members are one value.
 pub fn a_set_is_its_members()
     ensures { (a b : List ℕ) → AreWords a → AreWords b → ((i : ℕ) → has a i ≡ has b i) → a ≡ b }
-{
-}
+{}

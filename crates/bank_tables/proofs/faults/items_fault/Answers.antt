@@ -1,4 +1,4 @@
-use Rattle.std.proofs.Common.{◌≡◌, ◌<◌, ◌∙◌, get_or, length, ap, sym, arith, subst, List, ℕ}
+use Rattle.std.proofs.Common.{◌≡◌, ◌<◌, ◌∙◌, get_or, length, ap, sym, subst, List, ℕ}
 use Rattle.std.proofs.lemmas.List.{get_or_read}
 use Rattle.exam_text.proofs.Firsts.{found_at}
 use Rattle.bank_tables.specs.Tables.{Item, no_item, size, item}

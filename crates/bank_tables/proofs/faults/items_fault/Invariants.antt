@@ -1,4 +1,4 @@
-use Rattle.std.proofs.Common.{◌≡◌, get_or, None}
+use Rattle.std.proofs.Common.{◌≡◌, None}
 use Rattle.exam_text.specs.First.{first_below}
 use Rattle.bank_tables.specs.Tables.{item}
 use Rattle.bank_tables.specs.Faults.{item_fault}

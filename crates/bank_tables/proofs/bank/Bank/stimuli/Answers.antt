@@ -1,4 +1,4 @@
-use Rattle.std.proofs.Common.{◌≤◌, ◌≡◌, ℕ, subst, arith, ltb-true}
+use Rattle.std.proofs.Common.{◌≤◌, subst, arith}
 use Rattle.bank_tables.specs.Tables.{Tables, stimulus}
 use Rattle.bank_tables.specs.Validity.{IsBank}
 use Rattle.bank_tables.specs.Sums.{greatest_below}

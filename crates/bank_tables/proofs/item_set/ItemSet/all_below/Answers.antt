@@ -6,7 +6,7 @@ use Rattle.bank_tables.proofs.item_set.ItemSet.all_below.Goals as goal
 
 pub returns : goal.returns
 returns c =
-    let e : length c.args.self.now ≡ 8 = subst (λ (ws : List ℕ). length ws ≡ 8) c.self.view_is c.self.invariant in (
+    let e : length c.args.self.now ≡ 8 = subst (λ (ws : List ℕ). length ws ≡ 8) c.self.view_is c.self.invariant.eight in (
       λ _ i is_in. elim (cases_lt i c.args.bound) [
         | inl below ↦ below
         | inr from ↦

@@ -1,4 +1,4 @@
-use Rattle.std.proofs.Common.{◌≡◌, ◌≤◌, ◌<◌, ◌+◌, ◌*◌, ◌^◌, ℕ, true, refl, sym, ◌∙◌, ap, get_or, List, length, subst, arith, rules}
+use Rattle.std.proofs.Common.{◌≡◌, ◌<◌, ◌+◌, ◌*◌, ◌^◌, ℕ, sym, ◌∙◌, ap, get_or, List, length, subst, arith, rules}
 use lib.Count.{ones}
 use Rattle.bank_tables.specs.Items.{has}
 use Rattle.bank_tables.specs.Sums.{size_of, count_in}
@@ -34,5 +34,5 @@ returns-clause-few c = omega (arith, c.loop-k.invariant, count_le (64 * c.loop-k
 
 pub returns-clause-below : goal.returns-clause-below
 returns-clause-below c i past =
-    let e : length c.args.self.now ≡ 8 = subst (λ (ws : List ℕ). length ws ≡ 8) c.self.view_is c.self.invariant in
+    let e : length c.args.self.now ≡ 8 = subst (λ (ws : List ℕ). length ws ≡ 8) c.self.view_is c.self.invariant.eight in
     has_past c.args.self.now i e past

@@ -1,4 +1,4 @@
-use Rattle.std.proofs.Common.{◌≡◌, ℕ, ◌*◌, true}
+use Rattle.std.proofs.Common.{◌≡◌, ◌*◌, true}
 use Rattle.bank_tables.specs.Items.{has}
 use Rattle.bank_tables.specs.Sums.{count_in}
 use Rattle.bank_tables.proofs.item_set.ItemSet.count.Given as goal

@@ -1,6 +1,5 @@
-use Rattle.std.proofs.Common.{◌≡◌, ◌≤◌, ◌<◌, ◌/◌, ◌^◌, ℕ, true, get_or, bit_and, List, length, subst, inl, inr, refl, sym, ◌∙◌, arith, rules}
+use Rattle.std.proofs.Common.{◌≡◌, ◌<◌, ◌/◌, ◌^◌, ℕ, get_or, List, length, subst, inl, inr, refl, sym, ◌∙◌, arith, rules}
 use Rattle.std.proofs.lemmas.Bool.{cases_lt, false≢true}
-use Rattle.bank_tables.specs.Items.{has}
 use Rattle.bank_tables.proofs.Bits.{has_past}
 use Rattle.bank_tables.proofs.Words.{sub_words, word_within}
 use Rattle.bank_tables.proofs.item_set.ItemSet.is_subset.Goals as goal
@@ -14,7 +13,7 @@ returns-then-self-k c =
 
 pub returns : goal.returns
 returns c =
-    let e : length c.args.self.now ≡ 8 = subst (λ (ws : List ℕ). length ws ≡ 8) c.self.view_is c.self.invariant in (
+    let e : length c.args.self.now ≡ 8 = subst (λ (ws : List ℕ). length ws ≡ 8) c.self.view_is c.self.invariant.eight in (
       λ _ i h. elim (cases_lt i 512) [
         | inl within ↦ sub_words c.args.self.now c.args.other.now i (c.loop-k.invariant (i / 64) (omega arith)) h
         | inr past ↦ absurd (false≢true (sym (has_past c.args.self.now i e past) ∙ h))

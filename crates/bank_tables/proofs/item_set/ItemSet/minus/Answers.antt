@@ -6,7 +6,7 @@ use Rattle.bank_tables.proofs.item_set.ItemSet.minus.Goals as goal
 
 pub returns : goal.returns
 returns c i =
-    let e : length c.args.self ≡ 8 = subst (λ (ws : List ℕ). length ws ≡ 8) c.self.view_is c.self.invariant in
+    let e : length c.args.self ≡ 8 = subst (λ (ws : List ℕ). length ws ≡ 8) c.self.view_is c.self.invariant.eight in
     rw (← c.other.view_is)
     (elim (cases_lt i 512) [
       | inl within ↦ has_and_not c.args.self c.other.inside.words c.loop-k.words i (search rules) (c.loop-k.invariant.done (i / 64) (omega arith))
