@@ -69,7 +69,7 @@ sum_in_z-split (suc n) X A B f h =
     term x false true m e d = rw e (omega (arith, ints))
     term x false false m e d = rw e (omega (arith, ints))
 
-count_in-split : (n : ℕ) (X A B : Set) → ((i : ℕ) → i < n → (X i ≡ (A i || B i)) × ((A i && B i) ≡ false)) → count_in n X (λ _. true) ≡ count_in n A (λ _. true) + count_in n B (λ _. true)
+pub count_in-split : (n : ℕ) (X A B : Set) → ((i : ℕ) → i < n → (X i ≡ (A i || B i)) × ((A i && B i) ≡ false)) → count_in n X (λ _. true) ≡ count_in n A (λ _. true) + count_in n B (λ _. true)
 count_in-split zero X A B h = refl
 count_in-split (suc n) X A B h =
     let rest = count_in-split n X A B (λ i w. h i (omega arith)) in
@@ -109,7 +109,7 @@ total_z-le : (n : ℕ) (f g : ℕ → ℤ) → ((i : ℕ) → i < n → f i ≤�
 total_z-le zero f g h = omega (arith, ints)
 total_z-le (suc n) f g h = let rest = total_z-le n f g (λ i w. h i (omega arith)) in let last = h n (omega arith) in omega (arith, ints)
 
-rest_of : (a x : Bool) → (a ≡ true → x ≡ true) → (x ≡ (a || (x && not a))) × ((a && (x && not a)) ≡ false)
+pub rest_of : (a x : Bool) → (a ≡ true → x ≡ true) → (x ≡ (a || (x && not a))) × ((a && (x && not a)) ≡ false)
 rest_of true true h = (refl, refl)
 rest_of true false h = (h refl, refl)
 rest_of false true h = (refl, refl)

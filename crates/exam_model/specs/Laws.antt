@@ -1,16 +1,20 @@
 -- What the definitions imply, as the public laws state it.
-use Rattle.std.specs.Prelude.{◌≡◌, ℕ, ◌*◌, ◌<◌, List, ℤ, pos, ◌≤ℤ◌, true, false, IsTrue, IsFalse, Option, Some, None}
+use Rattle.std.specs.Prelude.{◌≡◌, ℕ, ◌+◌, ◌*◌, ◌^◌, ◌≤◌, ◌<◌, length, List, ℤ, pos, ◌≤ℤ◌, Bool, true, false, IsTrue, IsFalse, Option, Some, None}
 use Rattle.bank_tables.specs.Items.{Set}
 use Rattle.bank_tables.specs.Tables.{Tables}
+use Rattle.exam_model.specs.declared.breach.Breach.{Breach}
 use Rattle.exam_model.specs.declared.verdict.Verdict.{Verdict}
-use Rattle.exam_model.specs.declared.verdict.Verdict.TheVariants.{Optimal, NoForm}
+use Rattle.exam_model.specs.declared.verdict.Verdict.TheVariants.{Optimal, NoForm, Partial}
 use Rattle.exam_model.specs.Problem.{Problem}
 use Rattle.exam_model.specs.Forms.{Form, Best, Firm, HasNoForm, objective}
-use Rattle.exam_model.specs.Paths.{Path, Under}
+use Rattle.exam_model.specs.Breaches.{IsFirstBreach}
+use Rattle.exam_model.specs.Paths.{Path, root, undecided, Under}
 use Rattle.exam_model.specs.Relaxed.{Multipliers, IsRelaxedMaximum}
-use Rattle.exam_model.specs.Counting.{is_impossible}
+use Rattle.exam_model.specs.ClosedForm.{IsGreatestFill, closed_form}
+use Rattle.exam_model.specs.Counting.{is_impossible, length_impossible}
 use Rattle.exam_model.specs.ProofTrees.{ProofTree}
 use Rattle.exam_model.specs.Verdicts.{IsVerdict}
+use Rattle.exam_model.specs.Spending.{open_leaves, IsSpent}
 use Rattle.exam_model.specs.Ability.{AnswerList, IsPosteriorMode}
 use Rattle.exam_model.specs.Serving.{IsNext}
 
@@ -52,3 +56,42 @@ OneNext = (P : Problem) (X : Set) (i j : ℕ) → IsNext P X i → IsNext P X j 
 -- a tree has at most one verdict
 abbrev pub OneVerdict : Type 0
 OneVerdict = (P : Problem) (X : Option Set) (T : ProofTree) (v w : Verdict) → IsVerdict P X T v → IsVerdict P X T w → v ≡ w
+
+-- the number of a Partial verdict is that of the tree's Open leaves, which has some
+abbrev pub PartialCountsOpen : Type 0
+PartialCountsOpen = (P : Problem) (X : Option Set) (T : ProofTree) (k : ℕ) → IsVerdict P X T (Partial k) → (0 < k) × (k ≡ open_leaves T.nodes)
+
+-- a tree whose verdict is Partial has fewer nodes than a full binary tree over all that is undecided at the root
+abbrev pub PartialIsSmall : Type 0
+PartialIsSmall = (P : Problem) (X : Option Set) (T : ProofTree) (k : ℕ) → IsVerdict P X T (Partial k) → length T.nodes + 1 < 2 ^ (undecided P (root P) + 1)
+
+-- a spent tree has at most one Open leaf more than the root has free items and open stimuli
+abbrev pub FewOpen : Type 0
+FewOpen = (P : Problem) (T : ProofTree) (budget : ℕ) → IsSpent P T budget → open_leaves T.nodes ≤ undecided P (root P) + 1
+
+-- a set of items has at most one first breach, and none where it is a form
+abbrev pub OneBreach : Type 0
+OneBreach = (P : Problem) (X : Set) (b c : Option Breach) → IsFirstBreach P X b → IsFirstBreach P X c → b ≡ c
+
+-- the relaxed maximum is its closed form, whatever free items of the greatest reduced weights fill the test
+abbrev pub ClosedFormIsMaximum : Type 0
+ClosedFormIsMaximum = (P : Problem) (p : Path) (v : Multipliers) (ray : Bool) (T : Set) (t : ℤ) → IsGreatestFill P p v ray T t → IsRelaxedMaximum P p v ray (closed_form P p v ray T)
+
+-- X isn't there, or its objective is at most that of Y
+abbrev pub IsNoBetter : Problem → Option Set → Set → Type 0
+IsNoBetter P None Y = Unit {0}
+IsNoBetter P (Some X) Y = objective P X ≤ objective P Y
+
+-- a form that is no worse leaves a Partial verdict as it is
+abbrev pub BetteringKeeps : Type 0
+BetteringKeeps = (P : Problem) (X : Option Set) (Y : Set) (T : ProofTree) (k : ℕ) → Form P Y → IsNoBetter P X Y → IsVerdict P X T (Partial k) → IsVerdict P (Some Y) T (Partial k)
+
+-- where the length is possible by counting there is a relaxed maximum, it is one number, and elsewhere there is none
+abbrev pub SomeMaximum : Type 0
+SomeMaximum = (P : Problem) (p : Path) (v : Multipliers) (ray : Bool) → IsFalse (length_impossible P p) → (r : ℤ) × IsRelaxedMaximum P p v ray r
+
+abbrev pub OneMaximum : Type 0
+OneMaximum = (P : Problem) (p : Path) (v : Multipliers) (ray : Bool) (r q : ℤ) → IsRelaxedMaximum P p v ray r → IsRelaxedMaximum P p v ray q → r ≡ q
+
+abbrev pub MaximumMeansPossible : Type 0
+MaximumMeansPossible = (P : Problem) (p : Path) (v : Multipliers) (ray : Bool) (r : ℤ) → IsRelaxedMaximum P p v ray r → IsFalse (length_impossible P p)

@@ -5,8 +5,10 @@ pub mod Breaches
 pub mod Paths
 pub mod Counting
 pub mod Relaxed
+pub mod ClosedForm
 pub mod ProofTrees
 pub mod Verdicts
+pub mod Pruning
 pub mod Spending
 pub mod Ability
 pub mod Serving

@@ -1,9 +1,9 @@
 -- A path of branches through the sets of items (branch and bound).
-use Rattle.std.specs.Prelude.{ℕ, ◌≤◌, ◌<◌, Bool, true, false, not, ◌&&◌, ◌||◌, ◌==◌, IsTrue, IsFalse, nat_lt}
+use Rattle.std.specs.Prelude.{ℕ, ◌+◌, ◌≤◌, ◌<◌, Bool, true, false, not, ◌&&◌, ◌||◌, ◌==◌, IsTrue, IsFalse, nat_lt}
 use Rattle.bank_tables.specs.Items.{Set}
 use Rattle.bank_tables.specs.Tables.{size, stimulus}
 use Rattle.exam_model.specs.Problem.{Problem}
-use Rattle.exam_model.specs.Forms.{Form, used, stimuli_of}
+use Rattle.exam_model.specs.Forms.{Form, used, stimuli_of, stimuli_in, size_in}
 
 -- the items taken, the items put out, and the stimuli that a left branch chose
 pub record Path : Type 0 where
@@ -25,6 +25,10 @@ is_chosen P p s = p.branched_on s || used P.bank p.taken s
 -- it is open if it is not chosen and has a free item, and dropped otherwise
 abbrev pub is_open : Problem → Path → Set
 is_open P p s = not (is_chosen P p s) && used P.bank (is_free P p) s
+
+-- how much is left to decide: the free items and the open stimuli, in number
+abbrev pub undecided : Problem → Path → ℕ
+undecided P p = size_in P.bank (is_free P p) + stimuli_in (stimuli_of P.bank) (is_open P p)
 
 -- a branch on an item: it is taken, or it is put out
 abbrev pub with_item : Path → ℕ → Bool → Path

@@ -1,5 +1,5 @@
 -- The shape of proof trees.
-use Rattle.std.specs.Prelude.{◌≡◌, ℕ, zero, suc, ◌+◌, ◌<◌, ◌≤◌, List, [], ◌∷◌, length, get_or, All}
+use Rattle.std.specs.Prelude.{ℕ, zero, suc, ◌+◌, ◌<◌, ◌≤◌, List, [], ◌∷◌, length, get_or, All}
 use Rattle.exam_model.specs.declared.node.Node.{Node}
 use Rattle.exam_model.specs.declared.node.Node.TheVariants.{BranchItem, BranchStimulus}
 use Rattle.exam_model.specs.Relaxed.{Multipliers}
@@ -26,7 +26,8 @@ AreTrees (suc wait) (BranchItem i ∷ nodes) = AreTrees (suc (suc wait)) nodes
 AreTrees (suc wait) (BranchStimulus s ∷ nodes) = AreTrees (suc (suc wait)) nodes
 AreTrees (suc wait) (node ∷ nodes) = AreTrees wait nodes
 
--- at most 32 vectors of sides below 384, and at most 4,095 nodes, which are one tree
+-- at most 32 vectors of sides below 384, and at most 4,095 nodes, which are one tree (that each node's number is in range
+-- is a matter of the tree's bytes)
 pub record IsProofTree (T : ProofTree) : Type 0 where
   pub few_vectors : length T.vectors ≤ 32
   pub vectors : (v : ℕ) → v < length T.vectors → IsVector 0 (vector_at T v)

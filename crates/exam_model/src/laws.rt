@@ -1,6 +1,6 @@
 //! What the definitions imply, for every problem, path, vector, tree and set of items.
 
-ghost use Rattle.exam_model.specs.Laws.{WeakDuality, RayIsNotNegative, CountingIsSound, BestIsFirm, OptimalIsBest, NoFormIsNone, SomeMode, OneMode, SomeNext, OneNext, OneVerdict};
+ghost use Rattle.exam_model.specs.Laws.{WeakDuality, RayIsNotNegative, CountingIsSound, BestIsFirm, OptimalIsBest, NoFormIsNone, SomeMode, OneMode, SomeNext, OneNext, OneVerdict, PartialCountsOpen, PartialIsSmall, FewOpen, OneBreach, ClosedFormIsMaximum, BetteringKeeps, SomeMaximum, OneMaximum, MaximumMeansPossible};
 
 /// No form on a path exceeds the relaxed maximum there, whatever the multipliers (weak duality of Lagrangian
 /// relaxation; Geoffrion, Lagrangean Relaxation for Integer Programming, 1974).
@@ -56,4 +56,50 @@ pub fn one_next()
 /// A tree has at most one verdict.
 pub fn one_verdict()
     ensures { OneVerdict }
+{}
+
+/// A Partial verdict tells how many leaves are Open, and there are some.
+pub fn partial_counts_open()
+    ensures { PartialCountsOpen }
+{}
+
+/// A tree whose verdict is Partial is smaller than a full binary tree over the free items and open stimuli of the root:
+/// so a search with that many nodes ends with a proof.
+pub fn partial_is_small()
+    ensures { PartialIsSmall }
+{}
+
+/// A spent tree, searched depth first, leaves few leaves Open.
+pub fn few_open()
+    ensures { FewOpen }
+{}
+
+/// A set of items has at most one first breach.
+pub fn one_breach()
+    ensures { OneBreach }
+{}
+
+/// The relaxed maximum is had by the greatest reduced weights: no other relaxed pair has a greater Lagrangian.
+pub fn closed_form_is_maximum()
+    ensures { ClosedFormIsMaximum }
+{}
+
+/// A greater objective keeps sound nodes sound: a form may be bettered after the search.
+pub fn bettering_keeps()
+    ensures { BetteringKeeps }
+{}
+
+/// Where the length is possible by counting there is a relaxed maximum.
+pub fn some_maximum()
+    ensures { SomeMaximum }
+{}
+
+/// It is one number.
+pub fn one_maximum()
+    ensures { OneMaximum }
+{}
+
+/// Elsewhere there is none.
+pub fn maximum_means_possible()
+    ensures { MaximumMeansPossible }
 {}

@@ -1,0 +1,147 @@
+-- Trees that spend their budget, and for each part of the rule one that breaks it alone.
+use Rattle.std.proofs.Common.{◌≡◌, ℕ, inl, true, false, [], ◌∷◌, pos, None, refl, sym, ◌∙◌, arith}
+use Rattle.std.proofs.lemmas.Int.{ints}
+use Rattle.std.proofs.Math.Dec.{lit≤}
+use Rattle.std.proofs.Math.Bool.{true≢false}
+use Rattle.bank_tables.specs.Items.{has}
+use Rattle.exam_model.specs.declared.node.Node.TheVariants.{BranchItem, BranchStimulus, Whole, Open}
+use Rattle.exam_model.specs.declared.verdict.Verdict.TheVariants.{Partial}
+use Rattle.exam_model.specs.Forms.{Form}
+use Rattle.exam_model.specs.Paths.{Path, root, with_item}
+use Rattle.exam_model.specs.Counting.{is_impossible}
+use Rattle.exam_model.specs.Relaxed.{IsRelaxedMaximum}
+use Rattle.exam_model.specs.ProofTrees.{ProofTree}
+use Rattle.exam_model.specs.Verdicts.{IsVerdict}
+use Rattle.exam_model.specs.Spending.{IsSpent, IsDepthFirst, IsUnresolved}
+use Rattle.exam_model.proofs.Computed.{these, these_below, one_word, word_below, form_is, all_possible, maximum_is}
+use Rattle.exam_model.proofs.Reduced.{reduced, row_linear, amount_linear, item_part, stimulus_part, constant_form, items_linear, own_weight, low_stimulus, high_stimulus}
+use Rattle.exam_model.proofs.Greatest.{relaxed_by, best_stimulus}
+use Rattle.exam_model.proofs.BankA.{item_a, bank_a, plan_of_rows, plan_a, problem_a}
+use Rattle.exam_model.proofs.StepsOfA.{problem_three, first_impossible}
+use Rattle.exam_model.proofs.BankS.{item_s, bank_s, plan_s, seat_s, problem_1}
+use Rattle.exam_model.proofs.BankE.{one_open}
+
+-- ---- two branches to the left, then three Open leaves: at a budget of five nodes the tree is spent
+unfoldable pub left_first : ProofTree
+left_first = record { vectors = []; nodes = BranchItem 3 ∷ BranchItem 4 ∷ Open ∷ Open ∷ Open ∷ [] }
+
+-- bank A has no start, so counting alone could settle a path, and settles none of these
+unresolved_a : (p : Path) → ((r : ℕ) → is_impossible problem_a p r ≡ false) → IsUnresolved problem_a p
+unfolding problem_a
+unresolved_a p possible = record { possible = possible; exceeds = tt }
+
+spent_a : IsSpent problem_a left_first 5
+unfolding left_first problem_a bank_a item_a plan_of_rows plan_a has is_impossible
+spent_a =
+    let r = root problem_a in
+    record {
+      nodes = refl;
+      some_open = lit≤ tt;
+      depth_first = ((λ branch. branch), ((λ branch. branch), tt));
+      unresolved = (
+        (refl, unresolved_a r (all_possible problem_a r refl)),
+        (
+          (refl, unresolved_a (with_item r 3 true) (all_possible problem_a (with_item r 3 true) refl)),
+          (
+            unresolved_a (with_item (with_item r 3 true) 4 true) (all_possible problem_a (with_item (with_item r 3 true) 4 true) refl),
+            (
+              unresolved_a (with_item (with_item r 3 true) 4 false) (all_possible problem_a (with_item (with_item r 3 true) 4 false) refl),
+              (unresolved_a (with_item r 3 false) (all_possible problem_a (with_item r 3 false) refl), tt),
+            ),
+          ),
+        ),
+      );
+    }
+
+-- its verdict is Partial, with three Open leaves, also without a form
+partial_a : IsVerdict problem_a None left_first (Partial 3)
+unfolding left_first problem_a bank_a item_a plan_of_rows plan_a
+partial_a = inl (tt, inl (refl, inl (refl, inl (refl, inl (refl, inl (refl, refl))))))
+
+-- ---- another budget
+not_spent_at_7 : IsSpent problem_a left_first 7 → ⊥
+unfolding left_first
+not_spent_at_7 spent = let e = spent.nodes in omega arith
+
+-- ---- a branch behind an Open leaf: the tree was not searched depth first
+unfoldable pub open_first : ProofTree
+open_first = record { vectors = []; nodes = BranchItem 3 ∷ Open ∷ BranchItem 4 ∷ Open ∷ Open ∷ [] }
+
+not_depth_first : IsSpent problem_a open_first 5 → ⊥
+unfolding open_first
+not_depth_first spent = spent.depth_first.0 tt
+
+-- a leaf that isn't Open may stand behind an Open one, and in front
+leaves_behind : IsDepthFirst (BranchItem 3 ∷ Open ∷ Whole ∷ []) × IsDepthFirst (BranchItem 3 ∷ Whole ∷ BranchItem 4 ∷ Open ∷ Open ∷ [])
+leaves_behind = (((λ branch. branch), tt), ((λ branch. branch), tt))
+
+-- ---- no Open leaf
+unfoldable pub no_open : ProofTree
+no_open = record { vectors = []; nodes = Whole ∷ [] }
+
+not_without_open : IsSpent problem_a no_open 1 → ⊥
+unfolding no_open
+not_without_open spent = let some = spent.some_open in omega arith
+
+-- ---- a branch on an item that is decided
+unfoldable pub branch_twice : ProofTree
+branch_twice = record { vectors = []; nodes = BranchItem 3 ∷ BranchItem 3 ∷ Open ∷ Open ∷ Open ∷ [] }
+
+not_determined : IsSpent problem_a branch_twice 5 → ⊥
+unfolding branch_twice problem_a bank_a item_a
+not_determined spent = true≢false (sym spent.unresolved.1.0.0)
+
+-- on a stimulus that isn't open: stimulus 1 is chosen, since item 0 was given
+unfoldable pub branch_on_chosen : ProofTree
+branch_on_chosen = record { vectors = []; nodes = BranchStimulus 1 ∷ Open ∷ Open ∷ [] }
+
+not_on_chosen : IsSpent problem_1 branch_on_chosen 3 → ⊥
+unfolding branch_on_chosen problem_1 seat_s bank_s item_s
+not_on_chosen spent = true≢false (sym spent.unresolved.0.0.is_open)
+
+-- ---- nodes that are no tree: the right side of the branch is missing
+unfoldable pub cut_off : ProofTree
+cut_off = record { vectors = []; nodes = BranchItem 3 ∷ Open ∷ [] }
+
+not_cut_off : IsSpent problem_a cut_off 2 → ⊥
+unfolding cut_off
+not_cut_off spent = spent.unresolved.1.1
+
+-- ---- an Open leaf, or a branch, where a row is impossible by counting
+not_impossible : IsSpent problem_three one_open 1 → ⊥
+unfolding one_open
+not_impossible spent = true≢false (sym first_impossible.0 ∙ spent.unresolved.0.possible 1)
+
+unfoldable pub branch_and_open : ProofTree
+branch_and_open = record { vectors = []; nodes = BranchItem 3 ∷ Open ∷ Open ∷ [] }
+
+no_impossible_branch : IsSpent problem_three branch_and_open 3 → ⊥
+unfolding branch_and_open
+no_impossible_branch spent = true≢false (sym first_impossible.0 ∙ spent.unresolved.0.1.possible 1)
+
+-- ---- an Open leaf, or a branch, where the plain bound leaves no room above the start: on bank S the start is best,
+-- and the plain bound is its objective
+start_s : Form problem_1 (has (one_word 27))
+unfolding problem_1 seat_s bank_s item_s plan_s has
+start_s = form_is problem_1 (has (one_word 27)) (word_below 5 27 refl refl) (these_below 5 (0 ∷ []) refl) refl
+
+plain_s : IsRelaxedMaximum problem_1 (root problem_1) [] false (pos 6912)
+unfolding problem_1 seat_s bank_s item_s plan_s has relaxed_by best_stimulus reduced row_linear amount_linear item_part stimulus_part constant_form items_linear own_weight low_stimulus high_stimulus
+plain_s = maximum_is problem_1 (root problem_1) [] false (these (1 ∷ 3 ∷ 4 ∷ [])) (pos 600) (pos 6912) (these_below 5 (1 ∷ 3 ∷ 4 ∷ []) refl) refl refl
+
+no_room : IsUnresolved problem_1 (root problem_1) → ⊥
+unfolding problem_1 seat_s bank_s item_s has
+no_room unresolved =
+    let exceeds = unresolved.exceeds start_s in
+    let (X, Z, pair, reached) = exceeds.is_maximum.reached in
+    let most = plain_s.greatest X Z pair in
+    let above = exceeds.above in
+    omega (arith, ints)
+
+not_below_the_start : IsSpent problem_1 one_open 1 → ⊥
+unfolding one_open
+not_below_the_start spent = no_room spent.unresolved.0
+
+no_branch_below_the_start : IsSpent problem_1 branch_and_open 3 → ⊥
+unfolding branch_and_open
+no_branch_below_the_start spent = no_room spent.unresolved.0.1
