@@ -1,0 +1,5 @@
+pub mod SetLaws
+pub mod PlanLaws
+pub mod FaultLaws
+pub mod WholeLaws
+pub mod Deciding

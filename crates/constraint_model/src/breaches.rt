@@ -2,13 +2,14 @@
 
 ghost use Rattle.std.specs.Prelude.{◌≡◌};
 ghost use Rattle.bank_tables.specs.Items.{has};
+ghost use Rattle.bank_tables.specs.Validity.{HoldsItems};
 ghost use Rattle.exam_model.specs.Breaches.{IsFirstBreach};
 ghost use Rattle.exam_model.specs.Validity.{IsWellMade};
 ghost use Rattle.constraint_model.specs.Views.{problem_of};
 ghost use Rattle.constraint_model.specs.Countable.{IsCountable};
 ghost use Rattle.constraint_model.specs.FirstBreaches.{IsLengthBreach, IsRowBreach, IsStimulusBreach, IsFirstMissing, IsFirstCommon, IsPlanBreach};
 
-use crate::counts::{activity, items_of, lower_bound, stimuli_of, upper_bound};
+use crate::counts::{activity, items_of, lower_bound, upper_bound};
 use crate::problem::Problem;
 use bank_tables::{Bank, ItemSet};
 use exam_model::{Breach, Draft};
@@ -27,7 +28,8 @@ fn wrong_length(bank: &Bank, plan: &Draft, form: &ItemSet) -> Option<u32>
 
 /// The first row that doesn't hold, with the activity found.
 fn row_breach(bank: &Bank, plan: &Draft, form: &ItemSet) -> Option<(u8, u32)>
-    requires { IsCountable bank.now plan.now }
+    requires plan { IsCountable bank.now plan.now }
+    requires items { HoldsItems bank.now (has form.now) }
     ensures { IsRowBreach bank.now plan.now (has form.now) result }
 {
     let rows = plan.rows.as_slice();
@@ -46,7 +48,7 @@ fn stimulus_breach(bank: &Bank, plan: &Draft, form: &ItemSet) -> Option<(u8, u32
     ensures { IsStimulusBreach bank.now plan.now (has form.now) result }
 {
     let bounds = plan.bounds.as_slice();
-    for k in 0..stimuli_of(bank) {
+    for k in 0..bank.stimuli() {
         let bound = bounds[k as usize];
         let found = items_of(bank, k + 1, form);
         if found > 0 && found < bound.low || found > bound.high {
@@ -60,26 +62,14 @@ fn stimulus_breach(bank: &Bank, plan: &Draft, form: &ItemSet) -> Option<(u8, u32
 fn first_missing(members: &ItemSet, of: &ItemSet) -> Option<u16>
     ensures { IsFirstMissing (has members.now) (has of.now) result }
 {
-    let _below = members.count();
-    for i in 0..512 {
-        if members.has(i) && !of.has(i) {
-            return Some(i);
-        }
-    }
-    None
+    members.minus(*of).first()
 }
 
 /// The first member that both sets have.
 fn first_common(members: &ItemSet, of: &ItemSet) -> Option<u16>
     ensures { IsFirstCommon (has members.now) (has of.now) result }
 {
-    let _below = members.count();
-    for i in 0..512 {
-        if members.has(i) && of.has(i) {
-            return Some(i);
-        }
-    }
-    None
+    members.meet(*of).first()
 }
 
 /// The first breach of a plan's length, rows and stimuli, or none where the set meets the plan.

@@ -3,27 +3,14 @@
 ghost use Rattle.std.specs.Prelude.{◌≡◌, ◌<◌, ◌≤◌};
 ghost use Rattle.bank_tables.specs.Items.{has};
 ghost use Rattle.bank_tables.specs.Tables.{size, quantity};
-ghost use Rattle.bank_tables.specs.Sums.{count_in, sum_in};
+ghost use Rattle.bank_tables.specs.Sums.{sum_in};
+ghost use Rattle.bank_tables.specs.Validity.{HoldsItems};
 ghost use Rattle.exam_model.specs.Forms.{activity, items_of, used, stimuli_in, stimuli_of, lower_bound, upper_bound};
 ghost use Rattle.exam_model.specs.Validity.{IsRow};
 ghost use Rattle.constraint_model.specs.Countable.{quantity_of};
 
 use bank_tables::{Bank, ItemSet};
 use exam_model::Row;
-
-/// How many items of the form are in the set.
-fn items_in(bank: &Bank, set: &ItemSet, form: &ItemSet) -> u32
-    ensures { result ≡ count_in (size bank.now) (has form.now) (has set.now) }
-{
-    let items = bank.items();
-    let mut n = 0;
-    for i in 0..items {
-        if form.has(i) && set.has(i) {
-            n += 1;
-        }
-    }
-    n
-}
 
 /// The sum of a quantity over the items of the form in the set.
 fn quantity_in(bank: &Bank, which: u8, set: &ItemSet, form: &ItemSet) -> u32
@@ -68,23 +55,11 @@ fn uses(bank: &Bank, stimulus: u8, form: &ItemSet) -> bool
     0 < stimulus && found
 }
 
-/// The greatest stimulus of the bank.
-pub fn stimuli_of(bank: &Bank) -> u8
-    ensures { result ≡ stimuli_of bank.now }
-{
-    let items = bank.items();
-    let mut greatest = 0;
-    for i in 0..items {
-        greatest = greatest.max(bank.stimulus(i));
-    }
-    greatest
-}
-
 /// How many of the stimuli from 1 to the greatest have an item in the form.
 fn stimuli_in(bank: &Bank, form: &ItemSet) -> u32
     ensures { result ≡ stimuli_in (stimuli_of bank.now) (used bank.now (has form.now)) }
 {
-    let stimuli = stimuli_of(bank);
+    let stimuli = bank.stimuli();
     let mut n = 0;
     for k in 0..stimuli {
         if uses(bank, k + 1, form) {
@@ -94,15 +69,17 @@ fn stimuli_in(bank: &Bank, form: &ItemSet) -> u32
     n
 }
 
-/// The activity of a row at the form.
+/// The activity of a row at a form of items of the bank.
 pub fn activity(bank: &Bank, row: &Row, form: &ItemSet) -> u32
-    requires { IsRow bank.now row.now }
+    requires row { IsRow bank.now row.now }
+    requires items { HoldsItems bank.now (has form.now) }
     ensures { result ≡ activity bank.now row.now (has form.now) (used bank.now (has form.now)) }
 {
+    prove!(bank.items() > 0);
     match row {
-        Row::Count { set, .. } => items_in(bank, set, form),
+        Row::Count { set, .. } => form.meet(*set).count(),
         Row::Quantity { which, set, .. } => quantity_in(bank, *which, set, form),
-        Row::Enemies { set } => items_in(bank, set, form),
+        Row::Enemies { set } => form.meet(*set).count(),
         Row::Stimuli { .. } => stimuli_in(bank, form),
     }
 }

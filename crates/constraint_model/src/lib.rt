@@ -1,13 +1,24 @@
+//! Plans, the problems that a form is assembled for, and whether a set of items is a form.
+//!
+//! Upward it promises that `Spec::of` takes exactly the drafts that are valid for the bank, else names the first fault in a
+//! stated order; that `meets` finds none exactly where a set is a form, else the first breach with the value found; that
+//! `objective` is the information of a set at the estimate; and that `Problem::whole` is the plan's problem at the mode of
+//! its prior. It reads no text, searches for no form, and takes no memory.
 #![tactic(auto)]
 
 mod breaches;
 mod counts;
+mod faults;
 mod information;
+pub mod laws;
 mod problem;
 mod spec;
+mod spec_fault;
 
 pub use breaches::meets;
 pub use exam_model::{Breach, Draft, Rate, Row, StimulusBound};
+pub use faults::front_fault;
 pub use information::objective;
 pub use problem::Problem;
 pub use spec::Spec;
+pub use spec_fault::SpecFault;

@@ -1,6 +1,10 @@
 //! The problem of assembling a form.
 
+ghost use Rattle.exam_model.specs.Validity.{IsPlanFor, IsWellMade, IsWhole};
+ghost use Rattle.constraint_model.specs.Views.{problem_of};
+
 use crate::spec::Spec;
+use ability_grid::Sums;
 use bank_tables::{Bank, ItemSet};
 
 /// What a form is assembled for: van der Linden's 0-1 model, maximise the information at the estimate.
@@ -23,4 +27,28 @@ pub struct Problem<'a> {
     pub last: Option<u16>,
     /// The form last served from.
     pub start: Option<ItemSet>,
+}
+
+impl<'a> Problem<'a> {
+    /// The problem that has only the plan, at the mode of its prior: no session, eligibility set aside, nothing given,
+    /// nothing barred.
+    pub fn whole(bank: &'a Bank, spec: &'a Spec) -> Problem<'a>
+        requires { IsPlanFor bank.now spec.now }
+        ensures whole { IsWhole bank.now spec.now (problem_of result) }
+        ensures well_made { IsWellMade (problem_of result) }
+    {
+        prove!(bank.items() > 0);
+        Problem {
+            bank,
+            spec,
+            session: 0,
+            step: 0,
+            aside: true,
+            given: ItemSet::empty(),
+            barred: ItemSet::empty(),
+            theta: Sums::of_prior(spec.prior()).mode(),
+            last: None,
+            start: None,
+        }
+    }
 }

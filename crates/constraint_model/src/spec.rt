@@ -1,9 +1,14 @@
 //! A plan that was tested against an item bank.
 
-ghost use Rattle.std.specs.Prelude.{◌≡◌};
+ghost use Rattle.std.specs.Prelude.{◌≡◌, IfOk, IfErr};
+ghost use Rattle.exam_model.specs.Validity.{IsPlanFor};
+ghost use Rattle.constraint_model.specs.Faults.{IsSpecFault};
 
-use bank_tables::ItemSet;
+use crate::faults::first_fault;
+use crate::spec_fault::SpecFault;
+use bank_tables::{Bank, ItemSet};
 use exam_model::{Draft, Rate, Row, StimulusBound};
+use std::alloc::Global;
 use std::marker::Model;
 
 /// A plan, valid for the item bank that it was tested against.
@@ -21,6 +26,19 @@ impl Model for Spec {
 }
 
 impl Spec {
+    /// The plan of a draft, valid for the bank, or the draft's first fault: the tests go in the order of `SpecFault`'s
+    /// variants. It takes no memory of its own, so `SpecFault::Memory` doesn't come.
+    pub fn of(_alloc: Global, bank: &Bank, draft: Draft) -> Result<Spec, SpecFault>
+        ensures same { IfOk result (λ spec. spec ≡ draft) }
+        ensures valid { IfOk result (λ spec. IsPlanFor bank.now spec) }
+        ensures fault { IfErr result (λ fault. IsSpecFault bank.now draft fault) }
+    {
+        match first_fault(bank, &draft) {
+            Some(fault) => Err(fault),
+            None => Ok(Spec { draft }),
+        }
+    }
+
     /// The numbers of the plan.
     pub(crate) fn draft(&self) -> &Draft
         ensures { result.now ≡ self.now }

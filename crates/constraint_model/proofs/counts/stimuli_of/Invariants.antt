@@ -1,7 +1,0 @@
-use Rattle.std.proofs.Common.{◌≡◌}
-use Rattle.bank_tables.specs.Sums.{greatest_below}
-use Rattle.bank_tables.specs.Tables.{stimulus}
-use Rattle.constraint_model.proofs.counts.stimuli_of.Given as goal
-
-abbrev pub invariant-loop-i : goal.invariant-loop-i
-invariant-loop-i l = l.greatest ≡ greatest_below l.i (stimulus l.bank)

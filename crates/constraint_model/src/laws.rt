@@ -1,0 +1,15 @@
+//! What the faults of drafts imply, for every bank and every draft.
+
+ghost use Rattle.constraint_model.specs.Laws.{PlanOrFault, NoFaultIsPlan, PlanHasNoFault, OneFault};
+
+/// A draft without a fault is a plan for the bank, and a plan has none: one of the two stands for each draft.
+pub fn a_plan_has_no_fault()
+    ensures one_stands { PlanOrFault }
+    ensures plan { NoFaultIsPlan }
+    ensures faultless { PlanHasNoFault }
+{}
+
+/// A draft has at most one first fault.
+pub fn one_fault()
+    ensures { OneFault }
+{}
