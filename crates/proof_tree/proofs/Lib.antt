@@ -1,1 +1,7 @@
 pub mod Shapes
+pub mod Loops
+pub mod Fields
+pub mod VectorLaws
+pub mod NodeLaws
+pub mod TreeLaws
+pub mod CutLaws

@@ -1,1 +1,4 @@
 pub mod Shape
+pub mod Spelling
+pub mod Reading
+pub mod Cuts

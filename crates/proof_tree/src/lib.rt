@@ -4,11 +4,18 @@
 //! judges what a tree shows.
 #![tactic(auto)]
 
+mod fault;
+pub mod laws;
 mod memory;
+mod reading;
 mod tree;
 mod vector;
+mod writing;
 
 pub use exam_model::Node;
+pub use fault::TreeFault;
 pub use memory::Memory;
+pub use reading::decode;
 pub use tree::Tree;
 pub use vector::Vector;
+pub use writing::encode;

@@ -94,6 +94,14 @@ fn are_nodes(nodes: &[Node]) -> bool
 }
 
 impl Tree {
+    /// The tree of these vectors and nodes.
+    pub fn new(vectors: List<Vector>, nodes: List<Node>) -> Tree
+        requires { IsTree (record { vectors = vectors; nodes = nodes }) }
+        ensures { result ≡ record { vectors = vectors; nodes = nodes } }
+    {
+        Tree { vectors, nodes }
+    }
+
     /// The tree of these vectors and nodes; None exactly where they are none.
     pub fn of(vectors: List<Vector>, nodes: List<Node>) -> Option<Tree>
         ensures some { IsSome result ↔ IsTree (record { vectors = vectors; nodes = nodes }) }

@@ -41,6 +41,14 @@ fn is_vector(pairs: &[(u16, u32)]) -> bool
 }
 
 impl Vector {
+    /// The vector of these pairs.
+    pub fn new(pairs: List<(u16, u32)>) -> Vector
+        requires { IsVector 0 pairs }
+        ensures { result ≡ pairs }
+    {
+        Vector { pairs }
+    }
+
     /// The vector of these pairs; None exactly where the sides don't ascend strictly or a multiplier is out of its
     /// range.
     pub fn of(pairs: List<(u16, u32)>) -> Option<Vector>
