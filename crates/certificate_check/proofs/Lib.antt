@@ -7,3 +7,7 @@ pub mod TopLaws
 pub mod Closed
 pub mod MaximumLaws
 pub mod WalkSteps
+pub mod CheckLaws
+pub mod ShapeLaws
+pub mod SpendSteps
+pub mod Counts

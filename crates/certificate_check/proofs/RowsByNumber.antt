@@ -1,5 +1,5 @@
 -- Rows by number.
-use Rattle.std.proofs.Common.{◌≡◌, ℕ, suc, ◌+◌, ◌-◌, ◌<◌, ◌≤◌, false, length, ◌&&◌, nat_lt, refl, ap, ◌∙◌, sym, subst, arith}
+use Rattle.std.proofs.Common.{◌≡◌, ℕ, zero, suc, ◌+◌, ◌-◌, ◌<◌, ◌≤◌, false, length, ◌&&◌, nat_lt, refl, ap, ◌∙◌, sym, subst, arith}
 use Rattle.std.specs.Prelude.{if◌then◌else◌, Bool}
 use Rattle.std.proofs.lemmas.Bool.{lt-ltb, le-ltb}
 use Rattle.exam_model.specs.Problem.{Problem}
@@ -30,3 +30,7 @@ module _ (P : Problem) (p : Path) where
       let test = le-ltb place (length P.plan.rows) (omega arith) in
       let test' = le-ltb place (length P.plan.rows + stimuli_of P.bank) past in
       rw (e, test, test') refl
+
+  pub none_past : (row : ℕ) → length P.plan.rows + stimuli_of P.bank < row → is_impossible P p row ≡ false
+  none_past zero past = absurd (omega arith)
+  none_past (suc place) past = sym (number_past (suc place) place refl (omega arith))

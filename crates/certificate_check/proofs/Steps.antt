@@ -1,6 +1,6 @@
 -- The steps of sums of weights.
 use Rattle.std.proofs.Common.{◌≡◌, ℕ, zero, suc, Bool, true, false, cond, ◌+◌, ◌*◌, ◌<◌, ◌≤◌, List, length, get_or, w64, to_z, of_z, refl, ap, ◌∙◌, arith}
-use Rattle.std.specs.Prelude.{ℤ, pos, ◌+ℤ◌, ◌≤ℤ◌, max}
+use Rattle.std.specs.Prelude.{ℤ, pos, ◌+ℤ◌, ◌-ℤ◌, ◌*ℤ◌, ◌≤ℤ◌, max}
 use Rattle.std.proofs.lemmas.Int.{ints}
 use Rattle.std.proofs.lemmas.List.{get_or_read_under}
 use Rattle.bank_tables.specs.Items.{Set}
@@ -53,3 +53,9 @@ sum_at_most (suc n) X f h = omega (arith, sum_at_most n X f h, one (X n))
 
 pub objective_high : (P : Problem) (X : Set) → IsBank P.bank → objective P X ≤ 512000000
 objective_high P X bank = omega (arith, sum_at_most (size P.bank) X (λ i. info P.bank i P.theta) (λ i. bank.info_high i P.theta), bank.few)
+
+-- equal multipliers of both sides add nothing
+pub same_sides_add_nothing : (low high part : ℕ) → low ≡ high → pos 0 ≡ (pos low -ℤ pos high) *ℤ pos part
+same_sides_add_nothing low high part same =
+    let none : pos low -ℤ pos high ≡ pos 0 = omega (arith, ints) in
+    rw none (omega (arith, ints))

@@ -5,3 +5,4 @@ pub mod Tops
 pub mod Maximum
 pub mod Answers
 pub mod Walks
+pub mod Spends

@@ -4,6 +4,7 @@ ghost use Rattle.std.specs.Prelude.{◌≡◌, ◌<◌, ◌≤◌, cond, true};
 ghost use Rattle.bank_tables.specs.Items.{has};
 ghost use Rattle.bank_tables.specs.Sums.{count_in, sum_in};
 ghost use Rattle.bank_tables.specs.Tables.{size, quantity};
+ghost use Rattle.bank_tables.specs.Validity.{HoldsItems};
 ghost use Rattle.exam_model.specs.Forms.{activity, lower_bound, upper_bound, items_of, size_in, stimuli_in, stimuli_of};
 ghost use Rattle.exam_model.specs.Validity.{IsRow};
 
@@ -37,17 +38,13 @@ pub fn items_of(bank: &Bank, which: u8, items: &ItemSet) -> u32
     n
 }
 
-/// The number of items of one set that are members of the other.
+/// The number of items of a set that are members of a row's set.
 fn members_in(bank: &Bank, members: &ItemSet, items: &ItemSet) -> u32
+    requires { HoldsItems bank.now (has members.now) }
     ensures { result ≡ count_in (size bank.now) (has items.now) (has members.now) }
 {
-    let mut n = 0;
-    for i in 0..bank.items() {
-        if items.has(i) && members.has(i) {
-            n += 1;
-        }
-    }
-    n
+    prove!(bank.items() <= 512);
+    members.meet(*items).count()
 }
 
 /// The sum of a quantity over the items of one set that are members of the other.

@@ -1,16 +1,27 @@
-//! The separate checker of proof trees.
+//! The separate checker of proof trees: small, and apart from every searcher. Upward it promises that its verdict is the
+//! one by definition, that `Optimal` means that no set of items is a better form, that `NoForm` means that there is no
+//! form, and that `spent` tells exactly which trees spend their node budget. It takes no memory, never searches, and
+//! shares no code with what makes the trees.
 #![tactic(auto)]
 
 mod activity;
 mod branch;
 mod candidate;
+mod checker;
 mod counting;
 mod cut;
 mod leaf;
 mod node;
 mod relaxed;
+mod shape;
 mod sides;
+mod spender;
 mod standing;
 mod top;
+mod unresolved;
 mod walk;
 mod weights;
+
+pub use checker::check;
+pub use spender::spent;
+pub use exam_model::{Reason, Verdict};

@@ -129,6 +129,25 @@ pub fn constant_weight(problem: &Problem, sides: &[u32; 384]) -> i64
     sum
 }
 
+/// What a row adds to the weight of an item; most rows have no multiplier.
+fn row_item(bank: &Bank, sides: &[u32; 384], row: &Row, side: usize, item: u16) -> i64
+    requires item { item < size bank.now }
+    requires bank { IsBank bank.now }
+    requires row { IsRow bank.now row.now }
+    requires sides { AreMultipliers (slice_index sides.now) }
+    requires side { side + 1 < 384 }
+    ensures value { result ≡ net_multiplier (slice_index sides.now) side *ℤ pos (item_part bank.now row.now item) }
+    ensures within { IsWithin (16777216 * 65535) result }
+{
+    let low = sides[side];
+    let high = sides[side + 1];
+    if low == high {
+        0
+    } else {
+        scaled(low, high, item_part(bank, row, item))
+    }
+}
+
 /// What the rows add to the weight of an item.
 fn rows_item(problem: &Problem, sides: &[u32; 384], item: u16) -> i64
     requires well_made { IsWellMade (problem_of problem.now) }
@@ -140,7 +159,7 @@ fn rows_item(problem: &Problem, sides: &[u32; 384], item: u16) -> i64
     let rows = problem.spec.rows();
     let mut sum = 0i64;
     for r in 0..rows.len() {
-        sum += net_times(sides, 2 * r, item_part(problem.bank, &rows[r], item));
+        sum += row_item(problem.bank, sides, &rows[r], 2 * r, item);
     }
     sum
 }

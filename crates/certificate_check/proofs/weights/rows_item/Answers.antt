@@ -14,12 +14,11 @@ loop-r-preserved c =
     let M : ℕ → ℕ = slice_index c.args.sides.now in
     let r = c.loop-r.r in
     let e-row : c.index-rows-r.result ≡ row_at P.plan r = row_read P.plan c.rows-rows.result.now r c.index-rows-r.result c.rows-rows.ensures c.index-rows-r.is c.loop-r-test.true in
-    let e-part : c.item_part.result ≡ item_part P.bank (row_at P.plan r) c.args.item = c.item_part.ensures.part ∙ ap (λ (x : Row). item_part P.bank x c.args.item) e-row in
-    let e-term : c.net_times-sum.result ≡ row_item P M c.args.item r = c.net_times-sum.ensures.value ∙ ap (λ (m : ℕ). net_multiplier M (2 * r) *ℤ pos m) e-part in
+    let e-term : c.row_item-sum.result ≡ row_item P M c.args.item r = c.row_item-sum.ensures.value ∙ ap (λ (x : Row). net_multiplier M (2 * r) *ℤ pos (item_part P.bank x c.args.item)) e-row in
     let few : r < 128 = rows_few P.plan c.rows-rows.result.now r c.rows-rows.ensures c.loop-r-test.true c.requires.well_made.plan.few_rows in
     let sum : ℤ = to_z w64 c.loop-r.sum-bits in
-    let e-sum : to_z w64 (of_z w64 (sum +ℤ to_z w64 (of_z w64 c.net_times-sum.result))) ≡ sum +ℤ c.net_times-sum.result = item_step r sum c.net_times-sum.result sum few refl c.loop-r.invariant.within c.net_times-sum.ensures.within in
+    let e-sum : to_z w64 (of_z w64 (sum +ℤ to_z w64 (of_z w64 c.row_item-sum.result))) ≡ sum +ℤ c.row_item-sum.result = item_step r sum c.row_item-sum.result sum few refl c.loop-r.invariant.within c.row_item-sum.ensures.within in
     record {
-      value = rw add-one (e-sum ∙ ap (λ z. z +ℤ c.net_times-sum.result) c.loop-r.invariant.value ∙ ap (λ z. total_z r (row_item P M c.args.item) +ℤ z) e-term);
-      within = subst (IsWithin ((r + 1) * 1099494850560)) (sym e-sum) (item_within r sum c.net_times-sum.result c.loop-r.invariant.within c.net_times-sum.ensures.within);
+      value = rw add-one (e-sum ∙ ap (λ z. z +ℤ c.row_item-sum.result) c.loop-r.invariant.value ∙ ap (λ z. total_z r (row_item P M c.args.item) +ℤ z) e-term);
+      within = subst (IsWithin ((r + 1) * 1099494850560)) (sym e-sum) (item_within r sum c.row_item-sum.result c.loop-r.invariant.within c.row_item-sum.ensures.within);
     }

@@ -1,0 +1,9 @@
+-- The shape of a tree that was searched depth first.
+use Rattle.std.proofs.Common.{Bool, true, false, List}
+use Rattle.exam_model.specs.declared.node.Node.{Node}
+use Rattle.exam_model.specs.Spending.{IsDepthFirst, HasNoBranch}
+
+-- what is asked of the rest, behind an Open leaf or not
+abbrev pub IsRestDepthFirst : Bool → List Node → Type 0
+IsRestDepthFirst true nodes = HasNoBranch nodes
+IsRestDepthFirst false nodes = IsDepthFirst nodes

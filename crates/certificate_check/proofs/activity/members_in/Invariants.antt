@@ -1,7 +1,0 @@
-use Rattle.std.proofs.Common.{◌≡◌, ◌≤◌}
-use Rattle.bank_tables.specs.Items.{has}
-use Rattle.bank_tables.specs.Sums.{count_in}
-use Rattle.certificate_check.proofs.activity.members_in.Given as goal
-
-abbrev pub invariant-loop-i : goal.invariant-loop-i
-invariant-loop-i l = (l.n ≡ count_in l.i (has l.items) (has l.members)) × (l.n ≤ l.i)

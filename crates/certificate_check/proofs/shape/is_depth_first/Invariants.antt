@@ -1,0 +1,9 @@
+use Rattle.std.proofs.Common.{◌↔◌, drop, Bool, true, false}
+use Rattle.std.specs.Prelude.{List}
+use Rattle.exam_model.specs.declared.node.Node.{Node}
+use Rattle.exam_model.specs.Spending.{IsDepthFirst, HasNoBranch}
+use Rattle.certificate_check.proofs.ShapeLaws.{IsRestDepthFirst}
+use Rattle.certificate_check.proofs.shape.is_depth_first.Given as goal
+
+abbrev pub invariant-loop-node : goal.invariant-loop-node
+invariant-loop-node l = IsDepthFirst l.nodes ↔ IsRestDepthFirst l.found (drop l.node-index l.nodes)

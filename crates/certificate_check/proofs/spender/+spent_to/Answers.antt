@@ -1,0 +1,38 @@
+use Rattle.std.proofs.Common.{◌≡◌, ℕ, ◌<◌, length, inl, inr, refl, ap, subst}
+use Rattle.exam_model.specs.declared.node.Node.{Node}
+use Rattle.exam_model.specs.declared.node.Node.TheVariants.{BranchItem, Bound, Ray, Count, Whole, Open}
+use Rattle.exam_model.specs.Paths.{Path}
+use Rattle.exam_model.specs.Spending.{IsSpentNode}
+use Rattle.constraint_model.specs.Views.{problem_of}
+use Rattle.certificate_check.specs.declared.cut.Cut.{Cut}
+use Rattle.certificate_check.specs.Cuts.{path_of}
+use Rattle.certificate_check.proofs.WalkSteps.{read_here, begins_within}
+use Rattle.certificate_check.proofs.SpendSteps.{leaf_spends}
+use Rattle.certificate_check.proofs.spender.+spent_to.Goals as goal
+
+pub returns-in-Bound : goal.returns-in-Bound
+returns-in-Bound t c =
+    let P = problem_of c.args.problem.now in
+    let T = c.args.tree.now in
+    let p : Path = path_of c.args.cut.now in
+    let q : Path = path_of c.standing_on-standing.result.cut in
+    let same : q ≡ p = ap (λ (cut : Cut). path_of cut) c.standing_on-standing.ensures.cut in
+    let within : c.args.at < length T.nodes = begins_within T.nodes c.args.at c.requires.tree.0 c.requires.tree.1 in
+    let at = read_here c.nodes.result.now T.nodes c.args.at (BranchItem 0) in
+    let spent = c.is_spent_node.ensures.0 c.if-not-is_spent_node.false in
+    elim c.in-Bound.is [
+      | inl bound ↦ leaf_spends P T c.args.at p (Bound bound.0) (at (Bound bound.0) c.nodes.ensures.nodes bound.1 within) within refl (λ nodes wait h. h) tt
+      | inr rest ↦
+          elim rest [
+            | inl ray ↦ leaf_spends P T c.args.at p (Ray ray.0) (at (Ray ray.0) c.nodes.ensures.nodes ray.1 within) within refl (λ nodes wait h. h) tt
+            | inr rest ↦
+                elim rest [
+                  | inl count ↦ leaf_spends P T c.args.at p (Count count.0) (at (Count count.0) c.nodes.ensures.nodes count.1 within) within refl (λ nodes wait h. h) tt
+                  | inr rest ↦
+                      elim rest [
+                        | inl whole ↦ leaf_spends P T c.args.at p Whole (at Whole c.nodes.ensures.nodes whole within) within refl (λ nodes wait h. h) tt
+                        | inr opened ↦ leaf_spends P T c.args.at p Open (at Open c.nodes.ensures.nodes opened within) within refl (λ nodes wait h. h) (subst (λ (q : Path). IsSpentNode P q Open) same (subst (IsSpentNode P q) opened spent))
+                      ]
+                ]
+          ]
+    ]

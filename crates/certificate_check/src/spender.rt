@@ -1,0 +1,64 @@
+//! Whether a tree spends its node budget.
+
+ghost use Rattle.std.specs.Prelude.{ℕ, suc, ◌↔◌, IsTrue, drop};
+ghost use Rattle.std.specs.Option.{option_map};
+ghost use Rattle.bank_tables.specs.Items.{has};
+ghost use Rattle.exam_model.specs.ProofTrees.{AreTrees};
+ghost use Rattle.exam_model.specs.Spending.{IsSpent};
+ghost use Rattle.exam_model.specs.Validity.{IsWellMade};
+ghost use Rattle.constraint_model.specs.Views.{problem_of};
+ghost use Rattle.certificate_check.specs.Cuts.{path_of};
+ghost use Rattle.certificate_check.specs.Spends.{IsStartForm, IsSpending};
+
+use crate::branch::below_stimulus;
+use crate::cut::{Cut, below_item, root_cut};
+use crate::shape::{has_open_leaf, is_depth_first};
+use crate::standing::standing_on;
+use crate::unresolved::{is_spent_node, start_form};
+use bank_tables::ItemSet;
+use constraint_model::Problem;
+use exam_model::Node;
+use proof_tree::Tree;
+
+/// The number of the node behind the subtree at a node, which stands on the path; None where a node of it is not as in a spent tree.
+fn spent_to(problem: &Problem, start: &Option<ItemSet>, tree: &Tree, at: u16, cut: &Cut) -> Option<u16>
+    requires well_made { IsWellMade (problem_of problem.now) }
+    requires start { IsStartForm (problem_of problem.now) (option_map has start.now) }
+    requires tree { (wait : ℕ) × AreTrees (suc wait) (drop at tree.now.nodes) }
+    ensures { IsSpending (problem_of problem.now) tree.now at (path_of cut.now) result }
+{
+    let node = tree.nodes()[at as usize];
+    let standing = standing_on(problem, cut);
+    if !is_spent_node(problem, start, &standing, &node) {
+        return None;
+    }
+    match node {
+        Node::BranchItem(item) => {
+            let left = below_item(cut, item, true);
+            let next = spent_to(problem, start, tree, at + 1, &left)?;
+            let right = below_item(cut, item, false);
+            spent_to(problem, start, tree, next, &right)
+        }
+        Node::BranchStimulus(which) => {
+            let left = below_stimulus(problem, &standing, which, true);
+            let next = spent_to(problem, start, tree, at + 1, &left)?;
+            let right = below_stimulus(problem, &standing, which, false);
+            spent_to(problem, start, tree, next, &right)
+        }
+        Node::Bound(_) | Node::Ray(_) | Node::Count(_) | Node::Whole | Node::Open => Some(at + 1),
+    }
+}
+
+/// Whether a tree spends its node budget: it has that many nodes, and its Open leaves are what a search depth first left.
+///
+/// Takes no memory.
+pub fn spent(problem: &Problem, tree: &Tree, budget: u16) -> bool
+    requires { IsWellMade (problem_of problem.now) }
+    ensures { IsTrue result ↔ IsSpent (problem_of problem.now) tree.now budget }
+{
+    let nodes = tree.nodes();
+    if nodes.len() != budget as usize || !has_open_leaf(nodes) || !is_depth_first(nodes) {
+        return false;
+    }
+    spent_to(problem, &start_form(problem), tree, 0, &root_cut(problem)).is_some()
+}
