@@ -1,3 +1,4 @@
 pub mod Keys
 pub mod PrintLaws
 pub mod ReadLaws
+pub mod SayLaws

@@ -3,6 +3,7 @@
 
 mod bounds;
 mod keyword;
+pub mod laws;
 mod line_fault;
 mod outline;
 mod plan_fault;
