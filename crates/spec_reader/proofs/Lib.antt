@@ -2,3 +2,5 @@ pub mod Keys
 pub mod PrintLaws
 pub mod ReadLaws
 pub mod SayLaws
+pub mod LinesLaws
+pub mod RunsLaws

@@ -47,7 +47,7 @@ all_from : (n : ℕ) (p : ℕ → Bool) → ((i : ℕ) → i < n → p i ≡ tru
 all_from zero p h = refl
 all_from (suc n) p h = and_from _ _ (all_from n p (λ i lt. h i (omega (arith, lt)))) (h n (omega arith))
 
-any_same : (n : ℕ) (p q : ℕ → Bool) → ((i : ℕ) → i < n → p i ≡ q i) → any_below n p ≡ any_below n q
+pub any_same : (n : ℕ) (p q : ℕ → Bool) → ((i : ℕ) → i < n → p i ≡ q i) → any_below n p ≡ any_below n q
 any_same zero p q h = refl
 any_same (suc n) p q h = rw (any_same n p q (λ i lt. h i (omega (arith, lt))), h n (omega arith)) refl
 

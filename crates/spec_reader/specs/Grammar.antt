@@ -1,5 +1,5 @@
 -- The grammar of a plan text, line by line: which words say what.
-use Rattle.std.specs.Prelude.{◌≡◌, ℕ, ◌+◌, ◌<◌, ◌≤◌, ◌⊎◌, true, false, List, [], ◌∷◌, ◌++◌, length, map, get_or, codes, Some, ℤ, pos}
+use Rattle.std.specs.Prelude.{◌≡◌, ℕ, ◌+◌, ◌<◌, ◌≤◌, ◌⊎◌, true, false, IsTrue, List, [], ◌∷◌, ◌++◌, length, map, get_or, codes, Some, ℤ, pos}
 use Rattle.std.specs.Fmt.{decimal, signed_decimal}
 use Rattle.hex.specs.Hex.{encode_lower, IsBytes}
 use Rattle.bank_tables.specs.Items.{Set}
@@ -30,6 +30,12 @@ pub record AreRuns (runs : List Run) : Type 0 where
   pub some : 0 < length runs
   pub each : (i : ℕ) → i < length runs → IsRun (run runs i)
   pub apart : (i : ℕ) → i + 1 < length runs → (run runs i).high < (run runs (i + 1)).low
+
+-- a set of items that can be written: it has one, and each is below 512
+pub record IsSet (X : Set) : Type 0 where
+  pub member : ℕ
+  pub is_member : IsTrue (X member)
+  pub few : (x : ℕ) → IsTrue (X x) → x < 512
 
 -- these words in front, and then a set of items: a word for each of its runs
 pub record WritesSet (front words : List (List ℕ)) (X : Set) : Type 0 where

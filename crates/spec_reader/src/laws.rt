@@ -1,10 +1,24 @@
 //! Laws of the plan text: the grammar is what is read, and what is printed is read again.
 
-ghost use Rattle.std.specs.Prelude.{◌≡◌, ℕ, List, Ok};
+ghost use Rattle.std.specs.Prelude.{◌≡◌, ℕ, List, [], Ok};
+ghost use Rattle.exam_text.specs.Words.{lines_of};
+ghost use Rattle.bank_tables.specs.Items.{Set};
+ghost use Rattle.spec_reader.specs.Sets.{runs_of};
 ghost use Rattle.spec_reader.specs.Rules.{Said, line_of};
-ghost use Rattle.spec_reader.specs.Grammar.{Says};
+ghost use Rattle.spec_reader.specs.Lines.{rules_of};
+ghost use Rattle.spec_reader.specs.Grammar.{Says, SayBehind, AreRuns, IsSet, in_runs};
 
 /// The words of a line that the grammar has are read as what they say.
 pub fn a_line_of_the_grammar_is_read()
     ensures { (at : ℕ) (words : List (List ℕ)) (rule : Said) → Says words rule → line_of at words ≡ Ok rule }
+{}
+
+/// Lines that the grammar has are read as the rules that they say.
+pub fn lines_of_the_grammar_are_read()
+    ensures { (lines : List (List ℕ)) (rules : List Said) → SayBehind [] lines rules → rules_of lines ≡ Ok rules }
+{}
+
+/// The runs that a set is written as are runs of the grammar, and their items are those of the set.
+pub fn a_set_is_its_maximal_runs()
+    ensures { (X : Set) → IsSet X → AreRuns (runs_of X) × ((x : ℕ) → X x ≡ in_runs (runs_of X) x) }
 {}
