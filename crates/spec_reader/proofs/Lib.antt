@@ -4,3 +4,4 @@ pub mod ReadLaws
 pub mod SayLaws
 pub mod LinesLaws
 pub mod RunsLaws
+pub mod PlainLaws

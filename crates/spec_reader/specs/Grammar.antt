@@ -91,3 +91,30 @@ SayBehind before [] rules = before ≡ rules
 SayBehind before (line ∷ lines) rules =
     ((is_skipped line ≡ true) × SayBehind before lines rules)
     ⊎ ((is_skipped line ≡ false) × ((rule : Said) × Says (words_of line) rule × (stands (mark_of rule) before ≡ false) × SayBehind (before ++ rule ∷ []) lines rules))
+
+-- what a canonical line can say: its numbers are short enough, and its set can be written
+abbrev pub IsPrinted : Said → Type 0
+IsPrinted (Length n) = n ≤ most
+IsPrinted (Prior values) = (0 < length values) × ((i : ℕ) → i < length values → magnitude (get_or values i (pos 0)) ≤ most)
+IsPrinted (Rate n d) = (n ≤ most) × (d ≤ most)
+IsPrinted (Key key) = (length key ≡ 32) × IsBytes key
+IsPrinted (Budget n) = n ≤ most
+IsPrinted (BaseBudget n) = n ≤ most
+IsPrinted (Sessions n) = n ≤ most
+IsPrinted (Journal n) = n ≤ most
+IsPrinted (Count low high s) = (low ≤ most) × (high ≤ most) × IsSet s
+IsPrinted (Quantity q low high s) = (q ≤ 255) × (low ≤ most) × (high ≤ most) × IsSet s
+IsPrinted (Enemies s) = IsSet s
+IsPrinted (Stimuli low high) = (low ≤ most) × (high ≤ most)
+IsPrinted (Stimulus s low high) = (s ≤ 255) × (low ≤ most) × (high ≤ most)
+IsPrinted (Base s) = IsSet s
+
+-- each of the rules can be printed
+abbrev pub ArePrinted : List Said → Type 0
+ArePrinted [] = Unit {0}
+ArePrinted (rule ∷ rules) = IsPrinted rule × ArePrinted rules
+
+-- none of the rules stands twice, or among those before, that may stand once
+abbrev pub AreFresh : List Said → List Said → Type 0
+AreFresh before [] = Unit {0}
+AreFresh before (rule ∷ rules) = (stands (mark_of rule) before ≡ false) × AreFresh (before ++ rule ∷ []) rules

@@ -6,7 +6,9 @@ ghost use Rattle.bank_tables.specs.Items.{Set};
 ghost use Rattle.spec_reader.specs.Sets.{runs_of};
 ghost use Rattle.spec_reader.specs.Rules.{Said, line_of};
 ghost use Rattle.spec_reader.specs.Lines.{rules_of};
-ghost use Rattle.spec_reader.specs.Grammar.{Says, SayBehind, AreRuns, IsSet, in_runs};
+ghost use Rattle.spec_reader.specs.Grammar.{Says, SayBehind, AreRuns, IsSet, in_runs, ArePrinted, AreFresh};
+ghost use Rattle.spec_reader.specs.Canonical.{words_text, line_text};
+ghost use Rattle.std.specs.List.{flat_map};
 
 /// The words of a line that the grammar has are read as what they say.
 pub fn a_line_of_the_grammar_is_read()
@@ -21,4 +23,9 @@ pub fn lines_of_the_grammar_are_read()
 /// The runs that a set is written as are runs of the grammar, and their items are those of the set.
 pub fn a_set_is_its_maximal_runs()
     ensures { (X : Set) → IsSet X → AreRuns (runs_of X) × ((x : ℕ) → X x ≡ in_runs (runs_of X) x) }
+{}
+
+/// Lines that were printed are read as the rules that they were printed of.
+pub fn printed_lines_are_read_again()
+    ensures { (rules : List Said) → ArePrinted rules → AreFresh [] rules → rules_of (lines_of (flat_map line_text rules)) ≡ Ok rules }
 {}
