@@ -5,3 +5,4 @@ pub mod SayLaws
 pub mod LinesLaws
 pub mod RunsLaws
 pub mod PlainLaws
+pub mod DraftLaws

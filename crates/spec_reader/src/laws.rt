@@ -1,13 +1,15 @@
 //! Laws of the plan text: the grammar is what is read, and what is printed is read again.
 
-ghost use Rattle.std.specs.Prelude.{◌≡◌, ℕ, List, [], Ok};
+ghost use Rattle.std.specs.Prelude.{◌≡◌, ℕ, List, [], Ok, length};
 ghost use Rattle.exam_text.specs.Words.{lines_of};
 ghost use Rattle.bank_tables.specs.Items.{Set};
 ghost use Rattle.spec_reader.specs.Sets.{runs_of};
 ghost use Rattle.spec_reader.specs.Rules.{Said, line_of};
 ghost use Rattle.spec_reader.specs.Lines.{rules_of};
 ghost use Rattle.spec_reader.specs.Grammar.{Says, SayBehind, AreRuns, IsSet, in_runs, ArePrinted, AreFresh};
-ghost use Rattle.spec_reader.specs.Canonical.{words_text, line_text};
+ghost use Rattle.spec_reader.specs.Canonical.{words_text, line_text, canonical_rules};
+ghost use Rattle.spec_reader.specs.Plans.{plan_said, drafted};
+ghost use Rattle.exam_model.specs.Plan.{Plan};
 ghost use Rattle.std.specs.List.{flat_map};
 
 /// The words of a line that the grammar has are read as what they say.
@@ -28,4 +30,9 @@ pub fn a_set_is_its_maximal_runs()
 /// Lines that were printed are read as the rules that they were printed of.
 pub fn printed_lines_are_read_again()
     ensures { (rules : List Said) → ArePrinted rules → AreFresh [] rules → rules_of (lines_of (flat_map line_text rules)) ≡ Ok rules }
+{}
+
+/// The lines of a canonical text say the plan that they were printed of.
+pub fn canonical_lines_say_the_plan()
+    ensures { (plan : Plan) → drafted (length plan.bounds) (canonical_rules (plan_said plan)) ≡ plan_said plan }
 {}
