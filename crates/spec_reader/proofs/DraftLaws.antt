@@ -1,5 +1,5 @@
 -- The lines of a canonical text say the plan that they were printed of.
-use Rattle.std.proofs.Common.{◌≡◌, ℕ, zero, suc, ◌+◌, ◌-◌, ◌<◌, ◌≤◌, Bool, true, false, ◌||◌, eqb, ltb, List, [], ◌∷◌, ◌++◌, length, get_or, map, take, drop, set, Option, Some, None, refl, sym, ap, subst, ◌∙◌, arith, append_assoc, drop-cons, add-one}
+use Rattle.std.proofs.Common.{◌≡◌, ℕ, zero, suc, ◌+◌, ◌-◌, ◌<◌, ◌≤◌, List, [], ◌∷◌, ◌++◌, length, get_or, map, take, drop, set, Option, Some, None, refl, sym, ap, subst, ◌∙◌, arith, append_assoc, drop-cons, add-one}
 use Rattle.std.specs.Prelude.{replicate}
 use Rattle.std.specs.List.{fold}
 use Rattle.std.proofs.lemmas.Bool.{ne_eqb}
@@ -44,7 +44,7 @@ bound_set n bounds old lt len =
     let place : n + 1 - 1 ≡ length (take n bounds) = omega (arith, front) in
     rw (ne_eqb (n + 1) 0 (λ e. omega (arith, e)), place, drop-cons old n no_bound within)
     (set-append_seam (take n bounds) (get_or old n no_bound) (drop (suc n) old) (get_or bounds n no_bound)
-      ∙ (rw (take_more bounds n no_bound lt, add-one n) (sym (append_assoc (take n bounds) (get_or bounds n no_bound ∷ []) (drop (suc n) old)))))
+    ∙ (rw (take_more bounds n no_bound lt, add-one n) (sym (append_assoc (take n bounds) (get_or bounds n no_bound ∷ []) (drop (suc n) old)))))
 
 bound_said : (q : SaidPlan) (n : ℕ) (bounds : List StimulusBound) → with_rule q (Stimulus (n + 1) (get_or bounds n no_bound).low (get_or bounds n no_bound).high) ≡ with_bounds q (with_bound q.bounds (n + 1) (get_or bounds n no_bound))
 unfolding with_rule with_bounds
@@ -87,15 +87,15 @@ drafted_again p rows e =
     let C = base_rules p.base in
     let start = blank (length p.bounds) in
     let one : fold with_rule start (S ++ p.rows) ≡ with_rows (set_up p) p.rows =
-        fold-append with_rule start S p.rows
-        ∙ (ap (λ (q : SaidPlan). fold with_rule q p.rows) (settings_drafted p)
-        ∙ subst (λ (rs : List Said). fold with_rule (set_up p) rs ≡ with_rows (set_up p) rs) (sym e) (rows_drafted rows (set_up p))) in
+    fold-append with_rule start S p.rows
+    ∙ (ap (λ (q : SaidPlan). fold with_rule q p.rows) (settings_drafted p)
+    ∙ subst (λ (rs : List Said). fold with_rule (set_up p) rs ≡ with_rows (set_up p) rs) (sym e) (rows_drafted rows (set_up p))) in
     let all : take (length p.bounds) p.bounds ++ drop (length p.bounds) (replicate (length p.bounds) any_bound) ≡ p.bounds =
-        rw (take_all (length p.bounds) p.bounds (omega arith), drop_all (length p.bounds) (replicate (length p.bounds) any_bound) (omega (arith, length-replicate (length p.bounds) any_bound))) (append-nil p.bounds) in
+    rw (take_all (length p.bounds) p.bounds (omega arith), drop_all (length p.bounds) (replicate (length p.bounds) any_bound) (omega (arith, length-replicate (length p.bounds) any_bound))) (append-nil p.bounds) in
     let two : fold with_rule start ((S ++ p.rows) ++ B) ≡ with_bounds (with_rows (set_up p) p.rows) p.bounds =
-        fold-append with_rule start (S ++ p.rows) B
-        ∙ (ap (λ (q : SaidPlan). fold with_rule q B) one
-        ∙ (bounds_drafted (length p.bounds) p.bounds (with_rows (set_up p) p.rows) (omega arith) (length-replicate (length p.bounds) any_bound)
-        ∙ ap (with_bounds (with_rows (set_up p) p.rows)) all)) in
+    fold-append with_rule start (S ++ p.rows) B
+    ∙ (ap (λ (q : SaidPlan). fold with_rule q B) one
+    ∙ (bounds_drafted (length p.bounds) p.bounds (with_rows (set_up p) p.rows) (omega arith) (length-replicate (length p.bounds) any_bound)
+    ∙ ap (with_bounds (with_rows (set_up p) p.rows)) all)) in
     fold-append with_rule start ((S ++ p.rows) ++ B) C
     ∙ (ap (λ (q : SaidPlan). fold with_rule q C) two ∙ base_drafted p.base (with_bounds (with_rows (set_up p) p.rows) p.bounds) refl)

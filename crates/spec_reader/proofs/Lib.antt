@@ -6,3 +6,4 @@ pub mod LinesLaws
 pub mod RunsLaws
 pub mod PlainLaws
 pub mod DraftLaws
+pub mod BackLaws

@@ -1,12 +1,12 @@
 -- Lines of the grammar are read, one after the other.
-use Rattle.std.proofs.Common.{◌≡◌, ℕ, zero, suc, ◌+◌, Bool, true, false, List, [], ◌∷◌, ◌++◌, length, get_or, Result, Ok, Err, refl, sym, ap, ◌∙◌, arith, inl, inr, add-zero, zero-add}
+use Rattle.std.proofs.Common.{◌≡◌, ℕ, zero, suc, ◌+◌, true, false, List, [], ◌∷◌, ◌++◌, length, get_or, Result, Ok, Err, refl, sym, ap, ◌∙◌, arith, inl, inr, add-zero, zero-add}
 use Rattle.std.proofs.Math.Path.{fun_ext}
 use Rattle.exam_text.specs.First.{◌>>=◌, steps_below}
 use Rattle.exam_text.specs.Words.{words_of}
 use Rattle.spec_reader.specs.declared.line_fault.LineFault.{LineFault}
 use Rattle.spec_reader.specs.Rules.{Said, line_of}
 use Rattle.spec_reader.specs.Lines.{is_skipped, mark_of, stands, next_rule, rules_of}
-use Rattle.spec_reader.specs.Grammar.{Says, SayBehind}
+use Rattle.spec_reader.specs.Grammar.{SayBehind}
 use Rattle.spec_reader.proofs.SayLaws.{line_again}
 
 bind_done : {A F : Type 0} (r : Result A F) → (r >>= λ x. Ok x) ≡ r
@@ -41,7 +41,7 @@ from_front (line ∷ lines) k rules =
     let g : ℕ → List Said → Result (List Said) LineFault = λ i rules. next_rule (k + 1 + i + 1) (get_or lines i []) rules in
     let first : f 0 rules ≡ next_rule (k + 1) line rules = rw (add-zero k) refl in
     let others : (b : List Said) → steps_below (length lines) (λ i. f (suc i)) b ≡ read_from (k + 1) lines b =
-        λ b. steps_same (length lines) (λ i. f (suc i)) g b (λ i rules. let e : k + suc i + 1 ≡ k + 1 + i + 1 = omega arith in ap (λ (at : ℕ). next_rule at (get_or lines i []) rules) e) ∙ from_front lines (k + 1) b in
+    λ b. steps_same (length lines) (λ i. f (suc i)) g b (λ i rules. let e : k + suc i + 1 ≡ k + 1 + i + 1 = omega arith in ap (λ (at : ℕ). next_rule at (get_or lines i []) rules) e) ∙ from_front lines (k + 1) b in
     steps_front (length lines) f rules
     ∙ (ap (λ (r : Result (List Said) LineFault). r >>= λ b. steps_below (length lines) (λ i. f (suc i)) b) first
     ∙ ap (λ (h : List Said → Result (List Said) LineFault). next_rule (k + 1) line rules >>= h) (fun_ext others))

@@ -1,5 +1,5 @@
 -- Printed lines are lines of the grammar: no word has a space or a line feed in it.
-use Rattle.std.proofs.Common.{◌≡◌, ℕ, zero, suc, ◌+◌, ◌*◌, ◌/◌, ◌%◌, ◌^◌, ◌<◌, ◌≤◌, Bool, true, false, eqb, ltb, List, [], ◌∷◌, ◌++◌, length, get_or, map, Ok, refl, sym, ap, subst, ◌∙◌, arith, inl, inr, ℤ, pos, negsuc, append_assoc}
+use Rattle.std.proofs.Common.{◌≡◌, ℕ, zero, suc, ◌/◌, ◌%◌, ◌^◌, ◌<◌, ◌≤◌, true, false, eqb, List, [], ◌∷◌, ◌++◌, length, get_or, map, Ok, refl, sym, ap, subst, ◌∙◌, arith, inl, inr, ℤ, pos, negsuc, append_assoc}
 use Rattle.std.specs.Prelude.{nat_lt, codes}
 use Rattle.std.specs.List.{list_all, flat_map}
 use Rattle.std.specs.Fmt.{decimal, signed_decimal}
@@ -18,8 +18,8 @@ use Rattle.exam_text.specs.Runs.{IsRun, run_word}
 use Rattle.exam_text.specs.Words.{words_of, lines_of, spaced, text_of_lines, Lacks, NoneHas}
 use Rattle.spec_reader.specs.Sets.{runs_of}
 use Rattle.spec_reader.specs.Rules.{Said, Length, Prior, Rate, Key, Budget, BaseBudget, Sessions, Journal, Count, Quantity, Enemies, Stimuli, Stimulus, Base}
-use Rattle.spec_reader.specs.Lines.{is_skipped, mark_of, stands, rules_of}
-use Rattle.spec_reader.specs.Grammar.{most, run, AreRuns, IsSet, WritesSet, Says, SayBehind, IsPrinted, ArePrinted, AreFresh}
+use Rattle.spec_reader.specs.Lines.{is_skipped, rules_of}
+use Rattle.spec_reader.specs.Grammar.{most, run, IsSet, WritesSet, Says, SayBehind, IsPrinted, ArePrinted, AreFresh}
 use Rattle.spec_reader.specs.Canonical.{set_words, line_words, words_text, line_text}
 use Rattle.spec_reader.proofs.RunsLaws.{runs_items}
 use Rattle.spec_reader.proofs.LinesLaws.{lines_again as rules_again}

@@ -1,5 +1,5 @@
 -- The maximal runs of a set of items are runs, and their items are those of the set.
-use Rattle.std.proofs.Common.{◌≡◌, ℕ, zero, suc, ◌+◌, ◌<◌, ◌≤◌, ◌⊎◌, inl, inr, Bool, true, false, not, ◌&&◌, ◌||◌, cond, List, [], ◌∷◌, ◌++◌, length, get_or, Some, refl, sym, ap, subst, ◌∙◌, arith, add-one, length-append}
+use Rattle.std.proofs.Common.{◌≡◌, ℕ, zero, suc, ◌+◌, ◌<◌, ◌≤◌, ◌⊎◌, inl, inr, Bool, true, false, ◌||◌, List, [], ◌∷◌, ◌++◌, length, Some, refl, sym, ap, subst, ◌∙◌, arith, add-one, length-append}
 use Rattle.std.specs.Prelude.{nat_le}
 use Rattle.std.proofs.lemmas.Bool.{cases_Bool, true≢false, false≢true, and_parts, and_from, or_cases, or_left, or_right, le-leb, leb-true, false_from_ne_true}
 use Rattle.std.proofs.lemmas.List.{get_or_append_left, get_or_at}
@@ -7,7 +7,7 @@ use Rattle.bank_tables.specs.Items.{Set}
 use Rattle.bank_tables.specs.Sums.{any_below}
 use Rattle.exam_text.specs.declared.run.Run.{Run}
 use Rattle.exam_text.specs.Runs.{IsRun, in_run}
-use Rattle.spec_reader.specs.Sets.{start_of, is_last, runs_below, runs_of}
+use Rattle.spec_reader.specs.Sets.{start_of, runs_below, runs_of}
 use Rattle.spec_reader.specs.Grammar.{no_run, run, in_runs, AreRuns, IsSet}
 use Rattle.spec_reader.proofs.SayLaws.{any_same}
 
@@ -25,9 +25,9 @@ start_in : (X : Set) (n x : ℕ) → start_of X n ≤ x → x < n → X x ≡ tr
 start_in X zero x le lt = absurd (omega arith)
 start_in X (suc n) x le lt = elim (cases_Bool (X n)) [
   | inl member ↦ elim (last_or_below x n lt) [
-      | inl less ↦ start_in X n x (rw member at le) less
-      | inr same ↦ rw same member
-    ]
+    | inl less ↦ start_in X n x (rw member at le) less
+    | inr same ↦ rw same member
+  ]
   | inr out ↦ absurd (let high : n + 1 ≤ x = rw out at le in omega (arith, high, lt))
 ]
 
@@ -35,9 +35,9 @@ start_above : (X : Set) (n j : ℕ) → j < n → X j ≡ false → j < start_of
 start_above X zero j lt out = absurd (omega arith)
 start_above X (suc n) j lt out = elim (cases_Bool (X n)) [
   | inl member ↦ rw member (elim (last_or_below j n lt) [
-      | inl less ↦ start_above X n j less out
-      | inr same ↦ absurd (true≢false (sym member ∙ (ap X (sym same) ∙ out)))
-    ])
+    | inl less ↦ start_above X n j less out
+    | inr same ↦ absurd (true≢false (sym member ∙ (ap X (sym same) ∙ out)))
+  ])
   | inr gone ↦ rw gone (omega (arith, lt))
 ]
 
@@ -112,9 +112,9 @@ pushed X n rs small member end h =
       complete = λ x e lt.
           inl (in_more rs r x ∙ (elim (last_or_below x n lt) [
             | inl less ↦ elim (h.complete x e less) [
-                | inl old ↦ or_left (in_runs rs x) (in_run x (Some r)) old
-                | inr open_run ↦ or_right (in_runs rs x) (in_run x (Some r)) (let high : x ≤ n = omega (arith, less) in in_new X n x open_run.0 high)
-              ]
+              | inl old ↦ or_left (in_runs rs x) (in_run x (Some r)) old
+              | inr open_run ↦ or_right (in_runs rs x) (in_run x (Some r)) (let high : x ≤ n = omega (arith, less) in in_new X n x open_run.0 high)
+            ]
             | inr same ↦ or_right (in_runs rs x) (in_run x (Some r)) (let low : start_of X n ≤ x = omega (arith, start_le X n, same) in let high : x ≤ n = omega (arith, same) in in_new X n x low high)
           ]));
     }
@@ -136,9 +136,9 @@ kept X n rs case h = record {
     by_case : (x : ℕ) → X x ≡ true → x < suc n → ((X n ≡ false) ⊎ ((X n ≡ true) × (X (n + 1) ≡ true))) → (in_runs rs x ≡ true) ⊎ ((start_of X (suc n) ≤ x) × (X (suc n) ≡ true))
     by_case x e lt (inl out) = elim (last_or_below x n lt) [
       | inl less ↦ elim (h.complete x e less) [
-          | inl old ↦ inl old
-          | inr open_run ↦ absurd (true≢false (sym open_run.1 ∙ out))
-        ]
+        | inl old ↦ inl old
+        | inr open_run ↦ absurd (true≢false (sym open_run.1 ∙ out))
+      ]
       | inr same ↦ absurd (true≢false (sym e ∙ (ap X same ∙ out)))
     ]
     by_case x e lt (inr on) =
@@ -146,9 +146,9 @@ kept X n rs case h = record {
         let start : start_of X (suc n) ≡ start_of X n = rw on.0 refl in
         elim (last_or_below x n lt) [
           | inl less ↦ elim (h.complete x e less) [
-              | inl old ↦ inl old
-              | inr open_run ↦ inr (omega (arith, start, open_run.0), next)
-            ]
+            | inl old ↦ inl old
+            | inr open_run ↦ inr (omega (arith, start, open_run.0), next)
+          ]
           | inr same ↦ inr (omega (arith, start, start_le X n, same), next)
         ]
 
@@ -166,9 +166,9 @@ runs_to X (suc n) le =
     elim (cases_Bool (X n)) [
       | inr out ↦ rw out (kept X n (runs_below n X) (inl out) before)
       | inl member ↦ elim (cases_Bool (X (n + 1))) [
-          | inl next ↦ rw (member, next) (kept X n (runs_below n X) (inr (member, next)) before)
-          | inr end ↦ rw (member, end) (pushed X n (runs_below n X) (omega (arith, le)) member end before)
-        ]
+        | inl next ↦ rw (member, next) (kept X n (runs_below n X) (inr (member, next)) before)
+        | inr end ↦ rw (member, end) (pushed X n (runs_below n X) (omega (arith, le)) member end before)
+      ]
     ]
 
 some_below : (n : ℕ) (p : Set) → any_below n p ≡ true → 0 < n
@@ -181,7 +181,7 @@ runs_items X is =
     let h : RunsTo 512 X (runs_below 512 X) = runs_to X 512 (omega arith) in
     let past : X 512 ≡ false = false_from_ne_true (X 512) (λ e. let lt : 512 < 512 = is.few 512 e in omega (arith, lt)) in
     let written : (x : ℕ) → X x ≡ true → in_runs (runs_below 512 X) x ≡ true =
-        λ x e. elim (h.complete x e (is.few x e)) [ inl old ↦ old | inr open_run ↦ absurd (true≢false (sym open_run.1 ∙ past)) ] in (
+    λ x e. elim (h.complete x e (is.few x e)) [ inl old ↦ old | inr open_run ↦ absurd (true≢false (sym open_run.1 ∙ past)) ] in (
       record { some = some_below (length (runs_below 512 X)) _ (written is.member is.is_member); each = h.each; apart = h.apart },
       λ x. same (X x) (in_runs (runs_below 512 X) x) (written x) (h.sound x),
     )

@@ -1,6 +1,6 @@
 -- Words of the grammar are read.
-use Rattle.std.proofs.Common.{◌≡◌, ℕ, zero, suc, ◌+◌, ◌-◌, ◌^◌, ◌<◌, ◌≤◌, Bool, true, false, eqb, List, [], ◌∷◌, ◌++◌, length, get_or, map, drop, Option, Some, None, Result, Ok, Err, refl, sym, ap, subst, ◌∙◌, arith, add-one, inl, inr, ℤ, pos, negsuc, length-append}
-use Rattle.std.specs.Prelude.{nat_lt, nat_le, codes}
+use Rattle.std.proofs.Common.{◌≡◌, ℕ, zero, suc, ◌+◌, ◌-◌, ◌<◌, ◌≤◌, Bool, true, eqb, List, [], ◌∷◌, length, get_or, map, drop, Some, Result, Ok, refl, sym, ap, subst, ◌∙◌, arith, add-one, inl, inr, ℤ, pos, negsuc, length-append}
+use Rattle.std.specs.Prelude.{nat_lt, codes}
 use Rattle.std.specs.Fmt.{decimal, signed_decimal}
 use Rattle.std.proofs.Math.Path.{fun_ext}
 use Rattle.std.proofs.lemmas.Bool.{lt-ltb, le-leb, and_from, cases_Bool}
@@ -15,7 +15,7 @@ use Rattle.exam_text.proofs.Numerals.{number_again, signed_again}
 use Rattle.exam_text.proofs.Firsts.{each_from}
 use Rattle.exam_text.proofs.RunLaws.{run_again}
 use Rattle.exam_text.specs.declared.run.Run.{Run}
-use Rattle.exam_text.specs.Runs.{IsRun, run_word, run_of, behind, behind_run, fits, in_run, is_set, is_run_from}
+use Rattle.exam_text.specs.Runs.{IsRun, run_word, run_of, fits, in_run, is_set}
 use Rattle.exam_text.specs.Words.{word, none_empty}
 use Rattle.spec_reader.specs.declared.keyword.Setting.TheVariants as setting
 use Rattle.spec_reader.specs.declared.keyword.Constraint.TheVariants as constraint
@@ -27,7 +27,7 @@ use Rattle.spec_reader.specs.declared.line_fault.LineFault.TheVariants.{Line}
 use Rattle.spec_reader.specs.Sets.{in_set}
 use Rattle.spec_reader.specs.Keywords.{keyword_of, setting_of, constraint_of, fits_count}
 use Rattle.spec_reader.specs.Rules.{Said, Length, Prior, Rate, Key, Budget, BaseBudget, Sessions, Journal, Count, Quantity, Enemies, Stimuli, Stimulus, Base, set_in, signeds_in, setting_said, constraint_said, rule_said, line_of}
-use Rattle.spec_reader.specs.Grammar.{most, no_run, run, in_runs, AreRuns, WritesSet, WritesNumber, WritesNumbers, WritesPrior, WritesKey, Says}
+use Rattle.spec_reader.specs.Grammar.{most, no_run, run, in_runs, AreRuns, Says}
 use Rattle.spec_reader.proofs.Keys.{key_some}
 
 -- ---- sets
@@ -154,9 +154,9 @@ values_read at vs h =
     let count : length vs ≡ length words - 1 = omega (arith, length-map vs signed_decimal) in
     each_from (length words - 1) (λ i. or_fault (signed_of 999999999 (word words (i + 1))) (Line at kind.Number)) vs (pos 0) count
     (λ i lt.
-      let within : i < length vs = omega (arith, lt, count) in
-      let text : word words (i + 1) ≡ signed_decimal (get_or vs i (pos 0)) = rw (add-one i) (get_or-map signed_decimal vs i (pos 0) [] within) in
-      rw (text, signed_again most (get_or vs i (pos 0)) (omega arith) (h i within)) refl)
+    let within : i < length vs = omega (arith, lt, count) in
+    let text : word words (i + 1) ≡ signed_decimal (get_or vs i (pos 0)) = rw (add-one i) (get_or-map signed_decimal vs i (pos 0) [] within) in
+    rw (text, signed_again most (get_or vs i (pos 0)) (omega arith) (h i within)) refl)
 
 says_prior : (at : ℕ) (vs : List ℤ) → 0 < length vs → ((i : ℕ) → i < length vs → magnitude (get_or vs i (pos 0)) ≤ most) → line_of at (codes "prior" ∷ map signed_decimal vs) ≡ Ok (Prior vs)
 unfolding keyword_of setting_of constraint_of setting_said

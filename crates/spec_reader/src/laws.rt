@@ -6,8 +6,12 @@ ghost use Rattle.bank_tables.specs.Items.{Set};
 ghost use Rattle.spec_reader.specs.Sets.{runs_of};
 ghost use Rattle.spec_reader.specs.Rules.{Said, line_of};
 ghost use Rattle.spec_reader.specs.Lines.{rules_of};
-ghost use Rattle.spec_reader.specs.Grammar.{Says, SayBehind, AreRuns, IsSet, in_runs, ArePrinted, AreFresh};
-ghost use Rattle.spec_reader.specs.Canonical.{words_text, line_text, canonical_rules};
+ghost use Rattle.spec_reader.specs.Grammar.{Says, SayBehind, AreRuns, IsSet, in_runs, ArePrinted, AreFresh, IsKey};
+ghost use Rattle.spec_reader.specs.Canonical.{words_text, line_text, canonical_rules, canonical};
+ghost use Rattle.spec_reader.specs.Reading.{IsPlanText};
+ghost use Rattle.bank_tables.specs.Tables.{Tables};
+ghost use Rattle.bank_tables.specs.Validity.{IsBank};
+ghost use Rattle.exam_model.specs.Validity.{IsPlanFor};
 ghost use Rattle.spec_reader.specs.Plans.{plan_said, drafted};
 ghost use Rattle.exam_model.specs.Plan.{Plan};
 ghost use Rattle.std.specs.List.{flat_map};
@@ -35,4 +39,9 @@ pub fn printed_lines_are_read_again()
 /// The lines of a canonical text say the plan that they were printed of.
 pub fn canonical_lines_say_the_plan()
     ensures { (plan : Plan) → drafted (length plan.bounds) (canonical_rules (plan_said plan)) ≡ plan_said plan }
+{}
+
+/// The canonical text of a plan, which is what `print_plan` prints, says that plan for its bank.
+pub fn a_printed_plan_is_a_text_of_it()
+    ensures { (b : Tables) (plan : Plan) → IsBank b → IsPlanFor b plan → IsKey plan.key → IsPlanText b (canonical plan) plan }
 {}
