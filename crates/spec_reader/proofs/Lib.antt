@@ -1,6 +1,7 @@
 pub mod Keys
 pub mod PrintLaws
 pub mod ReadLaws
+pub mod SameLaws
 pub mod SayLaws
 pub mod LinesLaws
 pub mod RunsLaws

@@ -1,6 +1,6 @@
 //! Laws of the plan text: the grammar is what is read, and what is printed is read again.
 
-ghost use Rattle.std.specs.Prelude.{◌≡◌, ℕ, List, [], Ok, length};
+ghost use Rattle.std.specs.Prelude.{◌≡◌, ◌⊎◌, ◌≤◌, ℕ, List, [], Ok, length};
 ghost use Rattle.exam_text.specs.Words.{lines_of};
 ghost use Rattle.bank_tables.specs.Items.{Set};
 ghost use Rattle.spec_reader.specs.Sets.{runs_of};
@@ -8,7 +8,9 @@ ghost use Rattle.spec_reader.specs.Rules.{Said, line_of};
 ghost use Rattle.spec_reader.specs.Lines.{rules_of};
 ghost use Rattle.spec_reader.specs.Grammar.{Says, SayBehind, AreRuns, IsSet, in_runs, ArePrinted, AreFresh, IsKey};
 ghost use Rattle.spec_reader.specs.Canonical.{words_text, line_text, canonical_rules, canonical};
-ghost use Rattle.spec_reader.specs.Reading.{IsPlanText};
+ghost use Rattle.spec_reader.specs.Reading.{IsPlanText, IsPlanFault, IsReadFault, most_bytes};
+ghost use Rattle.spec_reader.specs.declared.plan_fault.PlanFault.{PlanFault};
+ghost use Rattle.spec_reader.specs.declared.plan_fault.PlanFault.TheVariants as outside;
 ghost use Rattle.bank_tables.specs.Tables.{Tables};
 ghost use Rattle.bank_tables.specs.Validity.{IsBank};
 ghost use Rattle.exam_model.specs.Validity.{IsPlanFor};
@@ -44,4 +46,16 @@ pub fn canonical_lines_say_the_plan()
 /// The canonical text of a plan, which is what `print_plan` prints, says that plan for its bank.
 pub fn a_printed_plan_is_a_text_of_it()
     ensures { (b : Tables) (plan : Plan) → IsBank b → IsPlanFor b plan → IsKey plan.key → IsPlanText b (canonical plan) plan }
+{}
+
+/// A text says one plan: two plans that it says have the same numbers, and sets with the same items.
+pub fn a_text_says_one_plan()
+    ensures { (b : Tables) (text : List ℕ) (p q : Plan) → IsPlanText b text p → IsPlanText b text q → plan_said p ≡ plan_said q }
+{}
+
+/// A text of a plan that is valid for the bank is read: it has no fault, so that want of memory or a source that failed alone
+/// keeps it from being read.
+pub fn a_text_of_a_plan_is_read()
+    ensures no_fault { (b : Tables) (text : List ℕ) (plan : Plan) (fault : PlanFault) → IsPlanText b text plan → IsPlanFor b plan → IsPlanFault b text fault → ⊥ }
+    ensures only { (b : Tables) (bytes : List ℕ) (plan : Plan) (fault : PlanFault) → length bytes ≤ most_bytes → IsPlanText b bytes plan → IsPlanFor b plan → IsReadFault b bytes fault → (fault ≡ outside.Memory) ⊎ (fault ≡ outside.Source) }
 {}
