@@ -1,5 +1,5 @@
 -- What reading a plan text gives: a plan for the bank, or the first fault.
-use Rattle.std.specs.Prelude.{◌≡◌, ℕ, ◌⊎◌, ◌<◌, ◌≤◌, ⊤, Bool, ◌||◌, ◌==◌, nat_lt, if◌then◌else◌, List, length, get_or, Option, Some, None, Result, Ok, Err}
+use Rattle.std.specs.Prelude.{◌≡◌, ℕ, ◌⊎◌, ◌<◌, ◌≤◌, ⊤, ◌||◌, ◌==◌, nat_lt, if◌then◌else◌, List, length, get_or, Option, Some, None, Ok, Err}
 use Rattle.exam_text.specs.First.{◌orelse◌, first_below}
 use Rattle.exam_text.specs.Words.{lines_of}
 use Rattle.bank_tables.specs.Tables.{Tables}

@@ -1,11 +1,10 @@
 -- What a line of a plan says.
-use Rattle.std.specs.Prelude.{ℕ, ◌+◌, ◌-◌, Bool, not, ◌&&◌, if◌then◌else◌, List, length, drop, bytes_eq, Option, Some, None, Result, Ok, Err, ℤ}
+use Rattle.std.specs.Prelude.{ℕ, ◌+◌, ◌-◌, not, ◌&&◌, if◌then◌else◌, List, length, drop, bytes_eq, Option, Some, None, Result, Ok, Err, ℤ}
 use Rattle.hex.specs.Hex.{encode_lower, decode_sized}
 use Rattle.hex.specs.declared.error.FromHexError.{FromHexError}
 use Rattle.bank_tables.specs.Items.{Set, has}
 use Rattle.exam_text.specs.Numbers.{number_of, signed_of}
 use Rattle.exam_text.specs.First.{fault_where, ◌>>=◌, or_fault, unless, each_below}
-use Rattle.spec_reader.specs.declared.line_fault.Kind.{Kind}
 use Rattle.spec_reader.specs.declared.line_fault.Kind.TheVariants as kind
 use Rattle.spec_reader.specs.declared.line_fault.LineFault.{LineFault}
 use Rattle.spec_reader.specs.declared.line_fault.LineFault.TheVariants.{Line}

@@ -1,4 +1,4 @@
-use Rattle.std.proofs.Common.{◌≡◌, length, replicate}
+use Rattle.std.proofs.Common.{◌≡◌, replicate}
 use Rattle.spec_reader.specs.Bounds.{any_bound}
 use Rattle.spec_reader.proofs.bounds.any_bounds.Given as goal
 

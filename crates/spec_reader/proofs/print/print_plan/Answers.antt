@@ -1,4 +1,3 @@
-use Rattle.std.proofs.Common.{◌≡◌}
 use Rattle.spec_reader.proofs.PrintLaws.{canonical_from}
 use Rattle.spec_reader.proofs.print.print_plan.Goals as goal
 

@@ -1,4 +1,4 @@
-use Rattle.std.proofs.Common.{◌≡◌, ◌<◌, List, map, length, sym}
+use Rattle.std.proofs.Common.{◌<◌, List, map, length, sym}
 use Rattle.std.proofs.lemmas.List.{length-map}
 use Rattle.exam_text.proofs.Firsts.{found_at}
 use Rattle.spec_reader.specs.Rules.{Said, said}

@@ -1,4 +1,3 @@
-use Rattle.std.proofs.Common.{◌≡◌}
 use Rattle.std.proofs.lemmas.Result.{err_from_is_err_and}
 use Rattle.spec_reader.proofs.ReadLaws.{line_fault_is}
 use Rattle.spec_reader.proofs.read.plan_in.Goals as goal

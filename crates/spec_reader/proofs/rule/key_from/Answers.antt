@@ -1,4 +1,4 @@
-use Rattle.std.proofs.Common.{◌≡◌, List, ℕ, Some, ◌∙◌, sym, ap, arith}
+use Rattle.std.proofs.Common.{List, ℕ, Some, ◌∙◌, sym, ap, arith}
 use Rattle.spec_reader.proofs.Keys.{key_some}
 use Rattle.spec_reader.proofs.rule.key_from.Goals as goal
 

@@ -1,4 +1,4 @@
-use Rattle.std.proofs.Common.{◌≡◌, sym}
+use Rattle.std.proofs.Common.{sym}
 use Rattle.spec_reader.proofs.Keys.{key_none}
 use Rattle.spec_reader.proofs.rule.key_of.Goals as goal
 

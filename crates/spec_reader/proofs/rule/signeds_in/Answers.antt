@@ -1,10 +1,9 @@
-use Rattle.std.proofs.Common.{◌≡◌, ◌<◌, ◌+◌, ◌-◌, ◌∙◌, ℕ, List, Bor, None, map, length, sym, ap, refl, inr, ℤ, Result, Option, Err, arith}
+use Rattle.std.proofs.Common.{◌≡◌, ◌<◌, ◌+◌, ◌-◌, ◌∙◌, ℕ, List, Bor, None, map, length, sym, ap, inr, ℤ, Option, Err, arith}
 use Rattle.std.proofs.lemmas.List.{length-map}
 use Rattle.exam_text.specs.Numbers.{signed_of}
 use Rattle.exam_text.specs.First.{or_fault}
 use Rattle.exam_text.proofs.Firsts.{each_fails}
 use Rattle.spec_reader.specs.declared.line_fault.Kind.TheVariants as kind
-use Rattle.spec_reader.specs.declared.line_fault.LineFault.{LineFault}
 use Rattle.spec_reader.specs.declared.line_fault.LineFault.TheVariants.{Line}
 use Rattle.exam_text.specs.Words.{word}
 use Rattle.spec_reader.proofs.rule.signeds_in.Goals as goal

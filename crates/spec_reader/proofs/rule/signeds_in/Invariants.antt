@@ -1,4 +1,4 @@
-use Rattle.std.proofs.Common.{◌≡◌, ◌+◌, Ok, map, length}
+use Rattle.std.proofs.Common.{◌≡◌, ◌+◌, Ok, map}
 use Rattle.exam_text.specs.Numbers.{signed_of}
 use Rattle.exam_text.specs.First.{each_below, or_fault}
 use Rattle.spec_reader.specs.declared.line_fault.Kind.TheVariants as kind

@@ -1,4 +1,4 @@
-use Rattle.std.proofs.Common.{◌≡◌, ◌<◌, ◌+◌, ◌∙◌, ℕ, List, Bor, [], map, length, get_or, sym, ap, arith}
+use Rattle.std.proofs.Common.{◌<◌, ◌+◌, ℕ, List, Bor, [], map, length, get_or, sym}
 use Rattle.std.proofs.lemmas.Result.{err_from_is_err_and}
 use Rattle.std.proofs.lemmas.List.{length-map}
 use Rattle.exam_text.proofs.Firsts.{steps_fail_or}

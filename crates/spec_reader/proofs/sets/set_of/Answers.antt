@@ -1,11 +1,10 @@
-use Rattle.std.proofs.Common.{◌≡◌, ℕ, suc, ◌+◌, ◌<◌, ◌≤◌, ◌∙◌, ◌||◌, ◌&&◌, Bool, true, false, List, length, map, Some, refl, sym, ap, subst, arith, add-one, ltb, Bor, rules}
+use Rattle.std.proofs.Common.{◌≡◌, ℕ, suc, ◌+◌, ◌<◌, ◌∙◌, ◌||◌, ◌&&◌, Bool, false, List, length, map, refl, sym, ap, arith, add-one, Bor, rules}
 use Rattle.std.specs.Prelude.{nat_le, nat_lt}
 use Rattle.std.proofs.lemmas.Bool.{and_right, and_from, lt-ltb}
 use Rattle.std.proofs.lemmas.List.{length-map}
 use Rattle.exam_text.specs.First.{all_below}
 use Rattle.exam_text.proofs.Firsts.{all_fails}
-use Rattle.exam_text.specs.Words.{word}
-use Rattle.exam_text.specs.Runs.{run_of, behind, fits, is_set}
+use Rattle.exam_text.specs.Runs.{fits, is_set}
 use Rattle.spec_reader.proofs.sets.set_of.Goals as goal
 
 abbrev texts : List (Bor (List ℕ)) → List (List ℕ)

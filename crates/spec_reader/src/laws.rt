@@ -1,0 +1,61 @@
+//! Laws of the plan text: the grammar is what is read, and what is printed is read again.
+
+ghost use Rattle.std.specs.Prelude.{◌≡◌, ◌⊎◌, ◌≤◌, ℕ, List, [], Ok, length};
+ghost use Rattle.exam_text.specs.Words.{lines_of};
+ghost use Rattle.bank_tables.specs.Items.{Set};
+ghost use Rattle.spec_reader.specs.Sets.{runs_of};
+ghost use Rattle.spec_reader.specs.Rules.{Said, line_of};
+ghost use Rattle.spec_reader.specs.Lines.{rules_of};
+ghost use Rattle.spec_reader.specs.Grammar.{Says, SayBehind, AreRuns, IsSet, in_runs, ArePrinted, AreFresh, IsKey};
+ghost use Rattle.spec_reader.specs.Canonical.{words_text, line_text, canonical_rules, canonical};
+ghost use Rattle.spec_reader.specs.Reading.{IsPlanText, IsPlanFault, IsReadFault, most_bytes};
+ghost use Rattle.spec_reader.specs.declared.plan_fault.PlanFault.{PlanFault};
+ghost use Rattle.spec_reader.specs.declared.plan_fault.PlanFault.TheVariants as outside;
+ghost use Rattle.bank_tables.specs.Tables.{Tables};
+ghost use Rattle.bank_tables.specs.Validity.{IsBank};
+ghost use Rattle.exam_model.specs.Validity.{IsPlanFor};
+ghost use Rattle.spec_reader.specs.Plans.{plan_said, drafted};
+ghost use Rattle.exam_model.specs.Plan.{Plan};
+ghost use Rattle.std.specs.List.{flat_map};
+
+/// The words of a line that the grammar has are read as what they say.
+pub fn a_line_of_the_grammar_is_read()
+    ensures { (at : ℕ) (words : List (List ℕ)) (rule : Said) → Says words rule → line_of at words ≡ Ok rule }
+{}
+
+/// Lines that the grammar has are read as the rules that they say.
+pub fn lines_of_the_grammar_are_read()
+    ensures { (lines : List (List ℕ)) (rules : List Said) → SayBehind [] lines rules → rules_of lines ≡ Ok rules }
+{}
+
+/// The runs that a set is written as are runs of the grammar, and their items are those of the set.
+pub fn a_set_is_its_maximal_runs()
+    ensures { (X : Set) → IsSet X → AreRuns (runs_of X) × ((x : ℕ) → X x ≡ in_runs (runs_of X) x) }
+{}
+
+/// Lines that were printed are read as the rules that they were printed of.
+pub fn printed_lines_are_read_again()
+    ensures { (rules : List Said) → ArePrinted rules → AreFresh [] rules → rules_of (lines_of (flat_map line_text rules)) ≡ Ok rules }
+{}
+
+/// The lines of a canonical text say the plan that they were printed of.
+pub fn canonical_lines_say_the_plan()
+    ensures { (plan : Plan) → drafted (length plan.bounds) (canonical_rules (plan_said plan)) ≡ plan_said plan }
+{}
+
+/// The canonical text of a plan, which is what `print_plan` prints, says that plan for its bank.
+pub fn a_printed_plan_is_a_text_of_it()
+    ensures { (b : Tables) (plan : Plan) → IsBank b → IsPlanFor b plan → IsKey plan.key → IsPlanText b (canonical plan) plan }
+{}
+
+/// A text says one plan: two plans that it says have the same numbers, and sets with the same items.
+pub fn a_text_says_one_plan()
+    ensures { (b : Tables) (text : List ℕ) (p q : Plan) → IsPlanText b text p → IsPlanText b text q → plan_said p ≡ plan_said q }
+{}
+
+/// A text of a plan that is valid for the bank is read: it has no fault, so that want of memory or a source that failed alone
+/// keeps it from being read.
+pub fn a_text_of_a_plan_is_read()
+    ensures no_fault { (b : Tables) (text : List ℕ) (plan : Plan) (fault : PlanFault) → IsPlanText b text plan → IsPlanFor b plan → IsPlanFault b text fault → ⊥ }
+    ensures only { (b : Tables) (bytes : List ℕ) (plan : Plan) (fault : PlanFault) → length bytes ≤ most_bytes → IsPlanText b bytes plan → IsPlanFor b plan → IsReadFault b bytes fault → (fault ≡ outside.Memory) ⊎ (fault ≡ outside.Source) }
+{}
