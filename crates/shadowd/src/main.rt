@@ -1,11 +1,44 @@
-//! The program.
+//! The program `shadowd`: it hands the host's files and standard output to `run`, and ends with its status.
 #![tactic(auto)]
 
 mod host_files;
 mod host_sink;
 
-fn main(rt: HostRuntime) -> Result<(), std::io::Error> {
-    let _files = host_files::HostFiles::of(rt.clone()?);
-    let _sink = host_sink::HostSink::of(rt.stdout());
-    Ok(())
+use exam_program::{Finish, World, run};
+use host_files::HostFiles;
+use host_sink::HostSink;
+use std::io::ErrorKind;
+use std::process::ExitCode;
+use std::{env, io};
+
+/// The status of want of memory.
+const NO_MEMORY: u8 = 10;
+
+/// The words behind the program's name. Words that aren't UTF-8 ask for nothing, as no words do.
+fn words_of(rt: &HostRuntime) -> io::Result<Vec<String>> {
+    let alloc = rt.alloc();
+    match env::args(rt) {
+        Ok(args) => Ok(args.skip(1).collect(alloc)?),
+        Err(fault) if fault.kind() == ErrorKind::OutOfMemory => Err(fault),
+        Err(_) => Ok(Vec::new(alloc)),
+    }
+}
+
+fn main(rt: HostRuntime) -> ExitCode {
+    let Ok(words) = words_of(&rt) else {
+        return ExitCode::from(NO_MEMORY);
+    };
+    let Ok(handle) = rt.clone() else {
+        return ExitCode::from(NO_MEMORY);
+    };
+    let world = World {
+        files: HostFiles::of(handle),
+        out: HostSink::of(rt.stdout()),
+    };
+    let Finish {
+        status,
+        files: _,
+        out: _,
+    } = run(&rt, rt.alloc(), &words, world);
+    ExitCode::from(status)
 }
