@@ -9,7 +9,10 @@ ghost use Rattle.exam_program.specs.Commands.{is_no_name, table, command_of, sai
 #[derive(Clone, Copy, Debug)]
 pub(crate) enum Command<'a> {
     /// Read the bank and the plan, and print what was understood.
-    Check { bank: &'a str, plan: &'a str },
+    Check {
+        bank: &'a str,
+        plan: &'a str,
+    },
     /// Serve a session by the requests of the script.
     Replay {
         bank: &'a str,

@@ -48,7 +48,11 @@ fn status_of<F: Files, O: Sink>(alloc: Global, words: &[String], files: &mut F, 
     ensures sink_tells { O.tells out.new ≡ O.tells out.old }
 {
     let Some(command) = command_of(words) else {
-        return print(out, b"usage: shadowd check BANK PLAN | replay BANK PLAN SCRIPT\n", 2);
+        return print(
+            out,
+            b"usage: shadowd check BANK PLAN | replay BANK PLAN SCRIPT\n",
+            2,
+        );
     };
     match work(alloc, command, files, out) {
         Ok(()) => 0,

@@ -39,7 +39,12 @@ pub(crate) fn bank_in<F: Files>(alloc: Global, files: &mut F, name: &str) -> Res
 }
 
 /// The plan in the file of this name.
-pub(crate) fn plan_in<F: Files>(alloc: Global, files: &mut F, bank: &Bank, name: &str) -> Result<Spec, Halt>
+pub(crate) fn plan_in<F: Files>(
+    alloc: Global,
+    files: &mut F,
+    bank: &Bank,
+    name: &str,
+) -> Result<Spec, Halt>
     ensures ok { IfOk result (λ spec. IsTrue (F.tells files.old) → IsPlanIn bank.now (F.content files.old name.now) spec) }
     ensures valid { IfOk result (λ spec. IsPlanFor bank.now spec) }
     ensures err { IfErr result (λ halt. IsTrue (F.tells files.old) → HaltsAtPlan bank.now (F.content files.old name.now) halt) }

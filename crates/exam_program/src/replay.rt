@@ -52,7 +52,13 @@ fn print_place<O: Sink>(alloc: Global, spec: &Spec, seat: &Seat, out: &mut O) ->
 }
 
 /// Serves the session of these answers from the beginning, and prints a line for its first item and one for each answer.
-pub(crate) fn replay<'a, O: Sink>(alloc: Global, bank: &'a Bank, spec: &'a Spec, answers: &[Answer], out: &mut O) -> Result<(), Stop>
+pub(crate) fn replay<'a, O: Sink>(
+    alloc: Global,
+    bank: &'a Bank,
+    spec: &'a Spec,
+    answers: &[Answer],
+    out: &mut O,
+) -> Result<(), Stop>
     requires small { size bank.now ≤ 16 }
     requires plan { IsPlanFor bank.now spec.now }
     ensures ok { OnOk result (IsTrue (O.tells out.old) → Finishes bank.now spec.now answers.now (O.written out.old) (O.written out.new)) }

@@ -63,7 +63,10 @@ fn booking_in(words: &[&[u8]]) -> Option<u64>
 fn answer_in(words: &[&[u8]]) -> Option<Answer>
     ensures { result ≡ answer_in (map (λ w. w.now) words.now) }
 {
-    if words.len() != 4 || word_at(words, 0) != b"answer".as_slice() || word_at(words, 1) != b"0".as_slice() {
+    if words.len() != 4
+        || word_at(words, 0) != b"answer".as_slice()
+        || word_at(words, 1) != b"0".as_slice()
+    {
         return None;
     }
     let step = number(word_at(words, 2), 65_535)?;

@@ -113,7 +113,12 @@ fn with_response(seat: &Seat, response: u8) -> Seat
 }
 
 /// The seat after an answer, where the session goes on by it; none where the answer is refused.
-pub(crate) fn answered<'a>(bank: &'a Bank, spec: &'a Spec, seat: &Seat, answer: Answer) -> Option<Seat>
+pub(crate) fn answered<'a>(
+    bank: &'a Bank,
+    spec: &'a Spec,
+    seat: &Seat,
+    answer: Answer,
+) -> Option<Seat>
     requires small { size bank.now ≤ 16 }
     requires plan { IsPlanFor bank.now spec.now }
     requires standing { IsStanding bank.now spec.now seat.now }

@@ -106,7 +106,7 @@ row_holds b p q X r e h =
     let lower : lower_bound (row_at p r) ≡ lower_bound (row_at q r) = lower_is (row_at p r) ∙ (ap lower_said e ∙ sym (lower_is (row_at q r))) in
     let upper : upper_bound (row_at p r) ≡ upper_bound (row_at q r) = upper_is (row_at p r) ∙ (ap upper_said e ∙ sym (upper_is (row_at q r))) in
     let act : activity b (row_at p r) X (used b X) ≡ activity b (row_at q r) X (used b X) =
-        activity_is b (row_at p r) X (used b X) ∙ (ap (λ (s : Said). activity_said b s X (used b X)) e ∙ sym (activity_is b (row_at q r) X (used b X))) in
+    activity_is b (row_at p r) X (used b X) ∙ (ap (λ (s : Said). activity_said b s X (used b X)) e ∙ sym (activity_is b (row_at q r) X (used b X))) in
     let low : lower_bound (row_at p r) ≤ activity b (row_at p r) X (used b X) = h.low in
     let high : activity b (row_at p r) X (used b X) ≤ upper_bound (row_at p r) = h.high in
     record { low = omega (arith, low, lower, act); high = omega (arith, high, upper, act) }

@@ -37,8 +37,7 @@ loop-answer-preserved g c =
       printed = λ told.
           let (text, session, written) = c.loop-answer.invariant.printed told in
           let there : g.O.Sink.tells c.loop-answer.out ≡ true = c.loop-answer.invariant.tells ∙ told in
-          let line : List ℕ = place_line c.args.spec.now c.in-Some-answered.next in
-          (
+          let line : List ℕ = place_line c.args.spec.now c.in-Some-answered.next in (
             text ++ line,
             session_more c.args.bank.now c.args.spec.now c.args.answers.now c.loop-answer.answer-index c.loop-answer.seat c.in-Some-answered.next text c.loop-answer-test.true session c.in-Some-answered.ensures.answers,
             c.in_default-print_place-2.ensures.ok there ∙ (ap (λ (t : List ℕ). t ++ line) written ∙ append_assoc (g.O.Sink.written c.args.out.now) text line),

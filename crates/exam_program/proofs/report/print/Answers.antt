@@ -5,8 +5,7 @@ use Rattle.exam_program.proofs.report.print.Goals as goal
 
 part_of : (words : List (List ℕ)) (content : List ℕ → List ℕ) (first old new last : List ℕ) (status : ℕ) → PrintsBefore words content first old status last → WritesPart old new last → Answers words content first new 8
 part_of words content first old new last status before part =
-    inr
-    (
+    inr (
       refl,
       record {
         text = before.text ++ part.part;

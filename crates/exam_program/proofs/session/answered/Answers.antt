@@ -13,7 +13,7 @@ pub returns-then-len-length-clause-standing : goal.returns-then-len-length-claus
 returns-then-len-length-clause-standing c =
     let awaited = c.is_awaited.ensures.0 c.if-not-is_awaited.false in
     let complete : length (c.args.seat.now.responses ++ c.args.answer.response ∷ []) ≡ c.args.spec.now.length =
-        sym (ap (λ (s : Seat). length s.responses) c.with_response-next.ensures) ∙ (sym c.len.ensures.len ∙ (c.if-len-length.true ∙ c.length.ensures)) in
+    sym (ap (λ (s : Seat). length s.responses) c.with_response-next.ensures) ∙ (sym c.len.ensures.len ∙ (c.if-len-length.true ∙ c.length.ensures)) in
     subst (λ (s : Seat). IsStanding c.args.bank.now c.args.spec.now s) (sym c.with_response-next.ensures) (stands_complete c.args.bank.now c.args.spec.now c.args.seat.now c.args.answer c.requires.standing awaited complete)
 
 pub served-requires-clause-seat : goal.served-requires-clause-seat

@@ -15,14 +15,13 @@ prove-unreachable-requires c =
 pub returns-in-Some : goal.returns-in-Some
 returns-in-Some c =
     let got = sym c.get.ensures ∙ c.in-Some.is in
-    let item : get_or c.args.seat.now.shown c.args.answer.step 0 ≡ c.in-Some.item = get-get_or c.args.seat.now.shown c.args.answer.step c.in-Some.item 0 got in
-    (
+    let item : get_or c.args.seat.now.shown c.args.answer.step 0 ≡ c.in-Some.item = get-get_or c.args.seat.now.shown c.args.answer.step c.in-Some.item 0 got in (
       λ low.
-        record {
-          step = omega (arith, c.if-step-len.false, c.len.ensures.len);
-          shown = omega (arith, c.if-len-step.false, c.len-else-step-len.ensures.len);
-          in_range = subst (λ (i : ℕ). c.args.answer.response < categories c.args.bank.now i) (sym item) (subst (λ (n : ℕ). c.args.answer.response < n) c.categories.ensures (ltb-true _ _ low));
-        },
+          record {
+            step = omega (arith, c.if-step-len.false, c.len.ensures.len);
+            shown = omega (arith, c.if-len-step.false, c.len-else-step-len.ensures.len);
+            in_range = subst (λ (i : ℕ). c.args.answer.response < categories c.args.bank.now i) (sym item) (subst (λ (n : ℕ). c.args.answer.response < n) c.categories.ensures (ltb-true _ _ low));
+          },
       λ awaited. lt-ltb _ _ (subst (λ (n : ℕ). c.args.answer.response < n) (sym c.categories.ensures) (subst (λ (i : ℕ). c.args.answer.response < categories c.args.bank.now i) item awaited.in_range)),
     )
 

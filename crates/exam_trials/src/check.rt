@@ -1,0 +1,234 @@
+// Verdicts on proof trees, each reason once, and each part of what a spent tree is, broken once. What is expected was
+// worked out by hand.
+
+#[cfg(test)]
+mod tests {
+    use bank_tables::{Bank, ItemRow, ItemSet, List, Rows};
+    use certificate_check::{Reason, Verdict, check, spent};
+    use constraint_model::{Draft, Problem, Rate, Row, Spec};
+    use proof_tree::{Tree, decode};
+    use std::alloc::{AllocError, Global};
+    use std::test::Fail;
+
+    fn set_of(items: &[u16]) -> ItemSet {
+        let mut set = ItemSet::empty();
+        for item in items {
+            if *item < 512 {
+                set = set.with(*item);
+            }
+        }
+        set
+    }
+
+    fn item(
+        alloc: Global,
+        quantities: &[u32],
+        info: &[u32],
+        loglik: &[i32],
+    ) -> Result<ItemRow, AllocError> {
+        Ok(ItemRow {
+            stimulus: 0,
+            categories: 2,
+            quantities: List::of(quantities.to_vec(alloc)?),
+            info: List::of(info.to_vec(alloc)?),
+            loglik: List::of(loglik.to_vec(alloc)?),
+        })
+    }
+
+    // Six items, three points: at the middle one the information is 5, 8, 9, 6, 4, 7.
+    fn plain_bank(alloc: Global) -> Result<Bank, Fail> {
+        let flat = [-7i32, -7, -7, -7, -7, -7];
+        let mut items = Vec::new(alloc);
+        items.push(item(alloc, &[], &[9, 5, 1], &flat)?)?;
+        items.push(item(alloc, &[], &[7, 8, 2], &flat)?)?;
+        items.push(item(alloc, &[], &[4, 9, 3], &[-7, -7, -7, -30, -15, -1])?)?;
+        items.push(item(alloc, &[], &[2, 6, 8], &flat)?)?;
+        items.push(item(alloc, &[], &[1, 4, 9], &[0, -1, -20, -7, -7, -7])?)?;
+        items.push(item(alloc, &[], &[3, 7, 5], &flat)?)?;
+        Ok(Bank::of(
+            alloc,
+            Rows {
+                grid: 3,
+                quantities: 0,
+                items: List::of(items),
+            },
+        )?)
+    }
+
+    // Four items of information 5, each with 10 of the one quantity.
+    fn quantity_bank(alloc: Global) -> Result<Bank, Fail> {
+        let mut items = Vec::new(alloc);
+        for _ in 0..4 {
+            items.push(item(alloc, &[10], &[5], &[-1, -1])?)?;
+        }
+        Ok(Bank::of(
+            alloc,
+            Rows {
+                grid: 1,
+                quantities: 1,
+                items: List::of(items),
+            },
+        )?)
+    }
+
+    fn plan(
+        alloc: Global,
+        length: u32,
+        prior: &[i32],
+        rows: &[Row],
+    ) -> Result<Draft, AllocError> {
+        Ok(Draft {
+            length,
+            prior: List::of(prior.to_vec(alloc)?),
+            rows: List::of(rows.to_vec(alloc)?),
+            bounds: List::of(Vec::new(alloc)),
+            rate: Rate { num: 1, den: 1 },
+            key: [0; 32],
+            budget: 2_001,
+            base_budget: 4_095,
+            sessions: 1_000,
+            journal: 67_108_864,
+            base: None,
+        })
+    }
+
+    // Three items: so many of 0 and 1, and not both 2 and 5.
+    fn plain_plan(alloc: Global, count: u32) -> Result<Draft, AllocError> {
+        let rows = [
+            Row::Count {
+                set: set_of(&[0, 1]),
+                low: count,
+                high: count,
+            },
+            Row::Enemies {
+                set: set_of(&[2, 5]),
+            },
+        ];
+        plan(alloc, 3, &[-10, 0, -10], &rows)
+    }
+
+    fn tree_of(alloc: Global, bytes: &[u8]) -> Result<Tree, Fail> {
+        let (tree, _) = decode(alloc, bytes).ok().ok_or("a tree")?;
+        Ok(tree)
+    }
+
+    #[test]
+    fn verdicts_of_one_node(rt: HostRuntime) -> Result<(), Fail> {
+        let alloc = rt.alloc();
+        let bank = plain_bank(alloc)?;
+        let spec = Spec::of(alloc, &bank, plain_plan(alloc, 1)?)?;
+        let problem = Problem::whole(&bank, &spec);
+        assert_eq!(rt; problem.theta, 1);
+        let form = set_of(&[1, 2, 3]);
+        let no_form = set_of(&[1, 2, 5]);
+        let open = tree_of(alloc, &[0, 7])?;
+        assert_eq!(rt; check(&problem, Some(&no_form), &open), Verdict::Bad(0, Reason::NotForm));
+        let cases: [(&[u8], Verdict); 8] = [
+            (&[0, 7], Verdict::Partial(1)),
+            (&[0, 6], Verdict::Bad(0, Reason::NotWhole)),
+            (&[0, 3, 0], Verdict::Bad(0, Reason::NoVector)),
+            (&[0, 5, 0], Verdict::Bad(0, Reason::RowPossible)),
+            // The high side of the enemies at 1 gives 6,143, which is 256 * 23 + 255; at 4,096 it gives 8,960.
+            (&[1, 0, 1, 0, 3, 0, 0, 0, 1, 3, 0], Verdict::Optimal),
+            (&[1, 0, 1, 0, 3, 0, 0, 0x10, 0, 3, 0], Verdict::Bad(0, Reason::NotClosed)),
+            // Two rows have sides 0 to 3.
+            (&[1, 0, 1, 0, 4, 0, 0, 0, 1, 3, 0], Verdict::Bad(0, Reason::NoSide)),
+            // As a ray it gives 1.
+            (&[1, 0, 1, 0, 3, 0, 0, 0, 1, 4, 0], Verdict::Bad(0, Reason::NotNegative)),
+        ];
+        for (bytes, verdict) in cases {
+            let tree = tree_of(alloc, bytes)?;
+            assert_eq!(rt; check(&problem, Some(&form), &tree), verdict);
+        }
+        Ok(())
+    }
+
+    #[test]
+    fn verdicts_of_branches(rt: HostRuntime) -> Result<(), Fail> {
+        let alloc = rt.alloc();
+        let bank = plain_bank(alloc)?;
+        let spec = Spec::of(alloc, &bank, plain_plan(alloc, 1)?)?;
+        let problem = Problem::whole(&bank, &spec);
+        let best = set_of(&[1, 2, 3]);
+        let lesser = set_of(&[1, 3, 4]);
+        // Items 1, 2 and 3 in: one set is left, of 23. The set {1, 3, 4} has 18.
+        let whole = tree_of(alloc, &[0, 1, 0, 1, 1, 0, 2, 1, 0, 3, 6, 7, 7, 7])?;
+        assert_eq!(rt; check(&problem, Some(&best), &whole), Verdict::Partial(3));
+        assert_eq!(rt; check(&problem, Some(&lesser), &whole), Verdict::Bad(3, Reason::Better));
+        assert_eq!(rt; check(&problem, None, &whole), Verdict::Bad(3, Reason::Better));
+        let open = tree_of(alloc, &[0, 1, 0, 1, 1, 0, 2, 1, 0, 3, 7, 7, 7, 7])?;
+        assert_eq!(rt; check(&problem, Some(&best), &open), Verdict::Bad(3, Reason::OpenWhole));
+        let twice = tree_of(alloc, &[0, 1, 0, 1, 7, 1, 0, 1, 7, 7])?;
+        assert_eq!(rt; check(&problem, Some(&best), &twice), Verdict::Bad(2, Reason::Determined));
+        Ok(())
+    }
+
+    #[test]
+    fn no_form(rt: HostRuntime) -> Result<(), Fail> {
+        let alloc = rt.alloc();
+        // Each pair of items has 20 of the quantity, and 15 are allowed: the ray gives 15 - 20.
+        let bank = quantity_bank(alloc)?;
+        let rows = [Row::Quantity {
+            which: 0,
+            set: set_of(&[0, 1, 2, 3]),
+            low: 0,
+            high: 15,
+        }];
+        let spec = Spec::of(alloc, &bank, plan(alloc, 2, &[0], &rows)?)?;
+        let problem = Problem::whole(&bank, &spec);
+        let ray = tree_of(alloc, &[1, 0, 1, 0, 1, 0, 0, 0, 1, 4, 0])?;
+        assert_eq!(rt; check(&problem, None, &ray), Verdict::NoForm);
+        // Three of two items: the row after the length is impossible by counting.
+        let bank = plain_bank(alloc)?;
+        let spec = Spec::of(alloc, &bank, plain_plan(alloc, 3)?)?;
+        let problem = Problem::whole(&bank, &spec);
+        let count = tree_of(alloc, &[0, 5, 1])?;
+        assert_eq!(rt; check(&problem, None, &count), Verdict::NoForm);
+        Ok(())
+    }
+
+    #[test]
+    fn spent_trees(rt: HostRuntime) -> Result<(), Fail> {
+        let alloc = rt.alloc();
+        let bank = plain_bank(alloc)?;
+        let spec = Spec::of(alloc, &bank, plain_plan(alloc, 1)?)?;
+        let problem = Problem::whole(&bank, &spec);
+        let cases: [(&[u8], u16, bool); 7] = [
+            (&[0, 1, 0, 3, 1, 0, 4, 7, 7, 7], 5, true),
+            // Another number of nodes.
+            (&[0, 1, 0, 3, 1, 0, 4, 7, 7, 7], 7, false),
+            // No Open leaf.
+            (&[0, 6], 1, false),
+            // A branch behind an Open leaf.
+            (&[0, 1, 0, 3, 7, 1, 0, 4, 7, 7], 5, false),
+            // A branch on an item that is in.
+            (&[0, 1, 0, 3, 1, 0, 3, 7, 7, 7], 5, false),
+            // Items 0 and 1 in: a row is impossible at an Open leaf, and at a branch.
+            (&[0, 1, 0, 0, 1, 0, 1, 7, 7, 7], 5, false),
+            (&[0, 1, 0, 0, 1, 0, 1, 1, 0, 2, 7, 7, 7, 7], 7, false),
+        ];
+        for (bytes, budget, expected) in cases {
+            let tree = tree_of(alloc, bytes)?;
+            assert_eq!(rt; spent(&problem, &tree, budget), expected);
+        }
+        Ok(())
+    }
+
+    #[test]
+    fn spent_trees_with_a_start(rt: HostRuntime) -> Result<(), Fail> {
+        let alloc = rt.alloc();
+        let bank = plain_bank(alloc)?;
+        let spec = Spec::of(alloc, &bank, plain_plan(alloc, 1)?)?;
+        let mut problem = Problem::whole(&bank, &spec);
+        // The plain bound is 256 * 24 at the root and 256 * 23 where item 3 is in; 256 * 23 + 255 closes a path.
+        let root = tree_of(alloc, &[0, 7])?;
+        let branch = tree_of(alloc, &[0, 1, 0, 3, 7, 7])?;
+        assert_eq!(rt; (spent(&problem, &root, 1), spent(&problem, &branch, 3)), (true, true));
+        problem.start = Some(set_of(&[1, 2, 3]));
+        assert_eq!(rt; (spent(&problem, &root, 1), spent(&problem, &branch, 3)), (true, false));
+        // A start that is no form asks nothing.
+        problem.start = Some(set_of(&[1, 2, 5]));
+        assert_eq!(rt; (spent(&problem, &root, 1), spent(&problem, &branch, 3)), (true, true));
+        Ok(())
+    }
+}
