@@ -2,4 +2,14 @@
 //! no code of the product.
 #![tactic(auto)]
 
+mod ability;
+#[cfg(test)]
+mod bank;
+mod check;
+mod constraint;
 mod journal;
+mod plan;
+mod program;
+mod select;
+#[cfg(test)]
+mod tree;

@@ -1,0 +1,118 @@
+//! Proof trees in bytes: each fault at its place, and the worked trees.
+
+use bank_tables::List;
+use proof_tree::{Node, Tree, TreeFault, Vector, decode, encode};
+use std::test::Fail;
+
+#[test]
+fn shortest_faults(rt: HostRuntime) -> Result<(), Fail> {
+    let alloc = rt.alloc();
+    assert_eq!(rt; decode(alloc, &[]).err(), Some(TreeFault::Short));
+    assert_eq!(rt; decode(alloc, &[0]).err(), Some(TreeFault::Unfinished(1)));
+    assert_eq!(rt; decode(alloc, &[0, 8]).err(), Some(TreeFault::BadKind(1)));
+    assert_eq!(rt; decode(alloc, &[0, 0]).err(), Some(TreeFault::BadKind(1)));
+    assert_eq!(rt; decode(alloc, &[0, 1, 0]).err(), Some(TreeFault::Short));
+    assert_eq!(rt; decode(alloc, &[1]).err(), Some(TreeFault::Short));
+    assert_eq!(rt; decode(alloc, &[33]).err(), Some(TreeFault::BadVector(0)));
+    Ok(())
+}
+
+#[test]
+fn vector_faults(rt: HostRuntime) -> Result<(), Fail> {
+    let alloc = rt.alloc();
+    // 385 pairs.
+    assert_eq!(rt; decode(alloc, &[1, 1, 0x81]).err(), Some(TreeFault::BadVector(1)));
+    // No pair where one should begin, and half a pair.
+    assert_eq!(rt; decode(alloc, &[1, 0, 1]).err(), Some(TreeFault::Short));
+    assert_eq!(rt; decode(alloc, &[1, 0, 1, 0, 1]).err(), Some(TreeFault::Short));
+    assert_eq!(rt; decode(alloc, &[1, 0, 1, 0, 1, 0, 0, 0]).err(), Some(TreeFault::Short));
+    // Side 384, also where the multiplier is missing.
+    assert_eq!(rt; decode(alloc, &[1, 0, 1, 1, 0x80, 0, 0, 0, 1]).err(), Some(TreeFault::BadVector(3)));
+    assert_eq!(rt; decode(alloc, &[1, 0, 1, 1, 0x80]).err(), Some(TreeFault::BadVector(3)));
+    // Multipliers 0 and 16,777,217.
+    assert_eq!(rt; decode(alloc, &[1, 0, 1, 0, 1, 0, 0, 0, 0]).err(), Some(TreeFault::BadVector(5)));
+    assert_eq!(rt; decode(alloc, &[1, 0, 1, 0, 1, 1, 0, 0, 1]).err(), Some(TreeFault::BadVector(5)));
+    // A side twice, and one below the side before.
+    let twice = [1, 0, 2, 0, 1, 0, 0, 0, 1, 0, 1, 0, 0, 0, 1, 7];
+    assert_eq!(rt; decode(alloc, &twice).err(), Some(TreeFault::BadVector(9)));
+    let descending = [1, 0, 2, 0, 1, 0, 0, 0, 1, 0, 0, 0, 0, 0, 1, 7];
+    assert_eq!(rt; decode(alloc, &descending).err(), Some(TreeFault::BadVector(9)));
+    Ok(())
+}
+
+#[test]
+fn node_faults(rt: HostRuntime) -> Result<(), Fail> {
+    let alloc = rt.alloc();
+    // Item 512, stimuli 0 and 65, row 193.
+    assert_eq!(rt; decode(alloc, &[0, 1, 2, 0]).err(), Some(TreeFault::BadKind(1)));
+    assert_eq!(rt; decode(alloc, &[0, 2, 0]).err(), Some(TreeFault::BadKind(1)));
+    assert_eq!(rt; decode(alloc, &[0, 2, 65]).err(), Some(TreeFault::BadKind(1)));
+    assert_eq!(rt; decode(alloc, &[0, 5, 193]).err(), Some(TreeFault::BadKind(1)));
+    // Behind a branch: the second node.
+    assert_eq!(rt; decode(alloc, &[0, 2, 1, 6, 5, 193]).err(), Some(TreeFault::BadKind(4)));
+    assert_eq!(rt; decode(alloc, &[0, 2, 1, 6]).err(), Some(TreeFault::Unfinished(4)));
+    assert_eq!(rt; decode(alloc, &[0, 2, 1, 6, 3]).err(), Some(TreeFault::Short));
+    Ok(())
+}
+
+#[test]
+fn most_nodes(rt: HostRuntime) -> Result<(), Fail> {
+    let alloc = rt.alloc();
+    let mut bytes = vec![in alloc; 0]?;
+    for _ in 0..4095 {
+        bytes.extend_from_slice(&[2, 1])?;
+    }
+    assert_eq!(rt; decode(alloc, &bytes).err(), Some(TreeFault::Unfinished(8191)));
+    bytes.push(7)?;
+    assert_eq!(rt; decode(alloc, &bytes).err(), Some(TreeFault::TooLong(8191)));
+    Ok(())
+}
+
+/// One vector of one pair, side 1 with multiplier 1, and one node, a ray of it.
+const RAY: [u8; 11] = [1, 0, 1, 0, 1, 0, 0, 0, 1, 4, 0];
+
+#[test]
+fn eleven_bytes(rt: HostRuntime) -> Result<(), Fail> {
+    let alloc = rt.alloc();
+    assert_eq!(rt; decode(alloc, &RAY[..10]).err(), Some(TreeFault::Short));
+    let (tree, used) = decode(alloc, &RAY).ok().ok_or("a tree")?;
+    assert_eq!(rt; used, 11);
+    assert_eq!(rt; tree.vectors().len(), 1);
+    assert_eq!(rt; tree.vectors()[0].pairs(), [(1, 1)].as_slice());
+    assert_eq!(rt; tree.nodes(), [Node::Ray(0)].as_slice());
+    let bytes = encode(alloc, &tree).ok().ok_or("memory")?;
+    assert_eq!(rt; bytes.as_slice(), RAY.as_slice());
+    Ok(())
+}
+
+#[test]
+fn made_and_read_again(rt: HostRuntime) -> Result<(), Fail> {
+    let alloc = rt.alloc();
+    let pairs = vec![in alloc; (0, 1), (383, 16_777_216)]?;
+    let vector = Vector::of(List::of(pairs)).ok_or("a vector")?;
+    let nodes = vec![in alloc; Node::BranchItem(511), Node::BranchStimulus(64), Node::Bound(255), Node::Count(192), Node::Open]?;
+    let tree = Tree::of(List::of(vec![in alloc; vector]?), List::of(nodes)).ok_or("a tree")?;
+    let mut bytes = encode(alloc, &tree).ok().ok_or("memory")?;
+    let spelled = [
+        1, 0, 2, 0, 0, 0, 0, 0, 1, 1, 0x7f, 1, 0, 0, 0, 1, 1, 0xff, 2, 64, 3, 255, 5, 192, 7,
+    ];
+    assert_eq!(rt; bytes.as_slice(), spelled.as_slice());
+    // What follows isn't read.
+    bytes.extend_from_slice(&[9, 9])?;
+    let (again, used) = decode(alloc, &bytes).ok().ok_or("the same tree")?;
+    assert_eq!(rt; used, 25);
+    assert_eq!(rt; again.nodes(), tree.nodes());
+    Ok(())
+}
+
+#[test]
+fn no_tree(rt: HostRuntime) -> Result<(), Fail> {
+    let alloc = rt.alloc();
+    let descending = vec![in alloc; (3, 1), (3, 1)]?;
+    assert!(rt; Vector::of(List::of(descending)).is_none());
+    let two = vec![in alloc; Node::Open, Node::Open]?;
+    assert!(rt; Tree::of(List::of(Vec::new(alloc)), List::of(two)).is_none());
+    let half = vec![in alloc; Node::BranchItem(0), Node::Open]?;
+    assert!(rt; Tree::of(List::of(Vec::new(alloc)), List::of(half)).is_none());
+    Ok(())
+}
