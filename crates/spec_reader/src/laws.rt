@@ -43,9 +43,11 @@ pub fn canonical_lines_say_the_plan()
     ensures { (plan : Plan) → drafted (length plan.bounds) (canonical_rules (plan_said plan)) ≡ plan_said plan }
 {}
 
-/// The canonical text of a plan, which is what `print_plan` prints, says that plan for its bank.
+/// The canonical text of a plan, which is what `print_plan` prints, says that plan for its bank, and isn't too long to be
+/// read.
 pub fn a_printed_plan_is_a_text_of_it()
-    ensures { (b : Tables) (plan : Plan) → IsBank b → IsPlanFor b plan → IsKey plan.key → IsPlanText b (canonical plan) plan }
+    ensures text { (b : Tables) (plan : Plan) → IsBank b → IsPlanFor b plan → IsKey plan.key → IsPlanText b (canonical plan) plan }
+    ensures short { (b : Tables) (plan : Plan) → IsBank b → IsPlanFor b plan → IsKey plan.key → length (canonical plan) ≤ most_bytes }
 {}
 
 /// A text says one plan: two plans that it says have the same numbers, and sets with the same items.
