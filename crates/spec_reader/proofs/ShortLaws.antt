@@ -1,14 +1,13 @@
 -- The canonical text of a plan isn't too long to be read.
-use Rattle.std.proofs.Common.{◌≡◌, ℕ, zero, suc, ◌+◌, ◌*◌, ◌^◌, ◌<◌, ◌≤◌, Bool, true, false, eqb, List, [], ◌∷◌, ◌++◌, length, get_or, map, Option, Some, None, refl, sym, ap, ◌∙◌, arith, inl, inr, ℤ, pos, negsuc, length-append}
+use Rattle.std.proofs.Common.{◌≡◌, ◌⊎◌, ℕ, zero, suc, ◌+◌, ◌*◌, ◌<◌, ◌≤◌, eqb, List, [], ◌∷◌, ◌++◌, length, get_or, map, Option, Some, None, refl, ap, arith, inl, inr, ℤ, pos, negsuc, length-append}
 use Rattle.std.specs.Prelude.{codes}
 use Rattle.std.specs.List.{flat_map}
 use Rattle.std.specs.Option.{option_map}
 use Rattle.std.specs.Fmt.{decimal, signed_decimal}
 use Rattle.std.proofs.lemmas.Bool.{cases_Bool}
 use Rattle.std.proofs.lemmas.Fmt.{length-decimal-le}
-use Rattle.std.proofs.lemmas.Grind.{flat_map-append}
 use Rattle.std.proofs.lemmas.List.{length-map}
-use Rattle.hex.specs.Hex.{encode_lower, lower_digits, IsBytes}
+use Rattle.hex.specs.Hex.{encode_lower, lower_digits}
 use Rattle.hex.proofs.HexLemmas.{length-encode_with}
 use Rattle.bank_tables.specs.Items.{Set, has}
 use Rattle.bank_tables.specs.Tables.{Tables}
@@ -17,7 +16,6 @@ use Rattle.exam_model.specs.Plan.{Plan, no_bound}
 use Rattle.exam_model.specs.declared.row.Row.{Row}
 use Rattle.exam_model.specs.declared.row.Row.TheVariants as row
 use Rattle.exam_model.specs.declared.row.StimulusBound.{StimulusBound}
-use Rattle.exam_model.specs.Forms.{stimuli_of}
 use Rattle.exam_model.specs.Validity.{IsPlanFor}
 use Rattle.exam_text.specs.Numbers.{magnitude}
 use Rattle.exam_text.specs.declared.run.Run.{Run}
@@ -27,10 +25,13 @@ use Rattle.spec_reader.specs.Sets.{start_of, is_last, runs_below, runs_of}
 use Rattle.spec_reader.specs.Rules.{Said, Length, Prior, Rate, Key, Budget, BaseBudget, Sessions, Journal, Count, Quantity, Enemies, Stimuli, Stimulus, Base}
 use Rattle.spec_reader.specs.Grammar.{most, run, IsSet, IsPrinted, ArePrinted, IsKey}
 use Rattle.spec_reader.specs.Plans.{SaidPlan, row_said, plan_said}
-use Rattle.spec_reader.specs.Canonical.{set_words, line_words, words_text, line_text, bounds_below, base_rules, setting_rules, canonical_rules, canonical}
-use Rattle.spec_reader.specs.Reading.{most_bytes}
+use Rattle.spec_reader.specs.Canonical.{set_words, words_text, line_text, bounds_below, base_rules, setting_rules, canonical_rules, canonical}
+use Rattle.spec_reader.specs.declared.plan_fault.PlanFault.{PlanFault}
+use Rattle.spec_reader.specs.declared.plan_fault.PlanFault.TheVariants.{Memory, Source}
+use Rattle.spec_reader.specs.Reading.{most_bytes, IsPlanText, IsReadFault}
+use Rattle.spec_reader.proofs.SameLaws.{one_plan, only_outside}
 use Rattle.spec_reader.proofs.RunsLaws.{runs_items}
-use Rattle.spec_reader.proofs.BackLaws.{few_stimuli, canonical_printed}
+use Rattle.spec_reader.proofs.BackLaws.{few_stimuli, canonical_printed, canonical_says}
 
 -- how long the line of these words is: a byte behind each
 total : List (List ℕ) → ℕ
@@ -153,5 +154,16 @@ canonical_short b plan bank is key =
     let few : HaveFewValues all = few_append ((S ++ R) ++ B) C (few_append (S ++ R) B (few_append S R settings (rows_few plan.rows)) (bounds_few (length plan.bounds) plan.bounds)) (base_few (option_map has plan.base)) in
     let printed : ArePrinted all = canonical_printed b plan bank is key in
     let count : length all ≤ 201 =
-        omega (arith, length-append ((S ++ R) ++ B) C, length-append (S ++ R) B, length-append S R, length-map plan.rows row_said, length-bounds (length plan.bounds) plan.bounds, length-base (option_map has plan.base), is.few_rows, is.each_stimulus, few_stimuli b bank) in
+    omega (arith, length-append ((S ++ R) ++ B) C, length-append (S ++ R) B, length-append S R, length-map plan.rows row_said, length-bounds (length plan.bounds) plan.bounds, length-base (option_map has plan.base), is.few_rows, is.each_stimulus, few_stimuli b bank) in
     omega (arith, lines_short all printed few, count)
+
+-- what is read of a canonical text is the plan
+pub back_same : (b : Tables) (plan read : Plan) → IsBank b → IsPlanFor b plan → IsKey plan.key → IsPlanText b (canonical plan) read → plan_said read ≡ plan_said plan
+back_same b plan read bank is key h = one_plan b (canonical plan) read plan h (canonical_says b plan bank is key)
+
+pub back_again : (b : Tables) (plan read : Plan) → IsBank b → IsPlanFor b plan → IsKey plan.key → IsPlanText b (canonical plan) read → canonical read ≡ canonical plan
+unfolding canonical
+back_again b plan read bank is key h = ap (λ (p : SaidPlan). flat_map line_text (canonical_rules p)) (back_same b plan read bank is key h)
+
+pub back_only : (b : Tables) (plan : Plan) (fault : PlanFault) → IsBank b → IsPlanFor b plan → IsKey plan.key → IsReadFault b (canonical plan) fault → (fault ≡ Memory) ⊎ (fault ≡ Source)
+back_only b plan fault bank is key h = only_outside b (canonical plan) plan fault (canonical_short b plan bank is key) (canonical_says b plan bank is key) is h
