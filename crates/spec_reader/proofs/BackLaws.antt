@@ -33,7 +33,7 @@ greatest_le : (n : ℕ) (f : ℕ → ℕ) (m : ℕ) → ((i : ℕ) → f i ≤ m
 greatest_le zero f m h = omega arith
 greatest_le (suc n) f m h = let before : greatest_below n f ≤ m = greatest_le n f m h in let here : f n ≤ m = h n in omega (arith, before, here)
 
-few_stimuli : (b : Tables) → IsBank b → stimuli_of b ≤ 64
+pub few_stimuli : (b : Tables) → IsBank b → stimuli_of b ≤ 64
 few_stimuli b bank = greatest_le (size b) (stimulus b) 64 bank.stimulus_high
 
 set_is : (b : Tables) (X : Set) → IsBank b → IsRowSet b X → IsSet X
@@ -116,7 +116,7 @@ short_bound b plan is k lt =
     let short : IsShort (get_or plan.bounds (k + 1 - 1) no_bound) = record { low = omega (arith, low, high); high = omega (arith, high) } in
     subst (λ (i : ℕ). IsShort (get_or plan.bounds i no_bound)) place short
 
-canonical_printed : (b : Tables) (plan : Plan) → IsBank b → IsPlanFor b plan → IsKey plan.key → ArePrinted (canonical_rules (plan_said plan))
+pub canonical_printed : (b : Tables) (plan : Plan) → IsBank b → IsPlanFor b plan → IsKey plan.key → ArePrinted (canonical_rules (plan_said plan))
 unfolding canonical_rules
 canonical_printed b plan bank is key =
     printed_append ((setting_rules (plan_said plan) ++ map row_said plan.rows) ++ bounds_below (length plan.bounds) plan.bounds) (base_rules (option_map has plan.base))

@@ -8,3 +8,4 @@ pub mod RunsLaws
 pub mod PlainLaws
 pub mod DraftLaws
 pub mod BackLaws
+pub mod ShortLaws

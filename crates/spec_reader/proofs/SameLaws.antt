@@ -1,6 +1,7 @@
 -- A text says one plan, and where that is valid for the bank the text has no fault.
-use Rattle.std.proofs.Common.{◌≡◌, ◌⊎◌, inl, inr, ℕ, ◌+◌, ◌-◌, ◌<◌, ◌≤◌, Bool, true, cond, List, [], length, get_or, map, Option, Some, None, Result, Ok, Err, refl, sym, ap, subst, ◌∙◌, arith, ℤ, pos}
+use Rattle.std.proofs.Common.{◌≡◌, ◌⊎◌, inl, inr, ℕ, ◌-◌, ◌<◌, ◌≤◌, cond, List, length, get_or, Option, Some, None, Result, Ok, Err, refl, sym, ap, subst, ◌∙◌, arith, ℤ, pos}
 use Rattle.std.specs.Option.{option_map}
+use Rattle.std.specs.Prelude.{IfErr}
 use Rattle.std.proofs.lemmas.List.{get_or-map, length-map}
 use Rattle.bank_tables.specs.Items.{Set, has}
 use Rattle.bank_tables.specs.Tables.{Tables, size, quantity}
@@ -11,23 +12,22 @@ use Rattle.exam_model.specs.declared.row.Row.TheVariants as row
 use Rattle.exam_model.specs.declared.row.StimulusBound.{StimulusBound}
 use Rattle.exam_model.specs.declared.draft.Rate.{Rate as Fraction}
 use Rattle.exam_model.specs.Plan.{Plan, no_row, no_bound, row_at, bound_at}
-use Rattle.exam_model.specs.Forms.{stimuli_of, stimuli_in, items_of, used, activity, lower_bound, upper_bound, size_in, HasLength, RowHolds, StimulusHolds, Meets}
+use Rattle.exam_model.specs.Forms.{stimuli_of, stimuli_in, items_of, used, activity, lower_bound, upper_bound, RowHolds, StimulusHolds, Meets}
 use Rattle.exam_model.specs.Validity.{IsRowSet, IsRow, IsBudget, IsPlanFor}
 use Rattle.exam_text.specs.First.{◌orelse◌}
 use Rattle.exam_text.specs.Words.{lines_of}
 use Rattle.exam_text.proofs.Firsts.{none_split}
 use Rattle.constraint_model.specs.declared.spec_fault.SpecFault.{SpecFault}
-use Rattle.constraint_model.specs.Faults.{front_fault, bounds_fault, limits_fault, IsSpecFault}
+use Rattle.constraint_model.specs.Faults.{front_fault, bounds_fault, limits_fault}
 use Rattle.constraint_model.proofs.PlanLaws.{no_numbers_fault}
 use Rattle.constraint_model.proofs.Deciding.{plan_has_no_fault}
 use Rattle.spec_reader.specs.declared.line_fault.LineFault.{LineFault}
-use Rattle.spec_reader.specs.declared.plan_fault.Name.{Name}
 use Rattle.spec_reader.specs.declared.plan_fault.PlanFault.{PlanFault}
 use Rattle.spec_reader.specs.declared.plan_fault.PlanFault.TheVariants.{Source, TooLong, Line, Twice, Missing, Spec, Memory}
 use Rattle.spec_reader.specs.Rules.{Said, Count, Quantity, Enemies, Stimuli}
 use Rattle.spec_reader.specs.Lines.{rules_of, missing}
 use Rattle.spec_reader.specs.Plans.{SaidPlan, row_said, plan_said, drafted}
-use Rattle.spec_reader.specs.Reading.{numbers_fault, AreRules, IsPlanText, IsDraftFault, IsMissing, IsPlanFault, IsReadFault, most_bytes}
+use Rattle.spec_reader.specs.Reading.{numbers_fault, IsPlanText, IsDraftFault, IsPlanFault, IsReadFault, most_bytes}
 
 -- ---- what is true of a plan is true of each that says the same
 
@@ -223,3 +223,12 @@ only_outside b bytes plan (Spec f) few h is g = absurd (no_fault b bytes plan (S
 only_outside b bytes plan Source few h is g = inr refl
 only_outside b bytes plan TooLong few h is g = absurd (omega (arith, few, g))
 only_outside b bytes plan Memory few h is g = inl refl
+
+-- the same of what a reader of the bytes answered
+pub only_from : (b : Tables) (text : List ℕ) (fault : PlanFault) → (fault ≡ Memory) ⊎ IsPlanFault b text fault → (plan : Plan) → IsPlanText b text plan → IsPlanFor b plan → (fault ≡ Memory) ⊎ (fault ≡ Source)
+only_from b text fault (inl memory) plan h is = inl memory
+only_from b text fault (inr g) plan h is = absurd (no_fault b text plan fault h is g)
+
+pub only_of : {T : Type 0} (b : Tables) (text bytes : List ℕ) (r : Result Plan PlanFault) → (T → text ≡ bytes) → IfErr r (λ e. (e ≡ Memory) ⊎ IsPlanFault b text e) → IfErr r (λ e. T → length bytes ≤ most_bytes → (plan : Plan) → IsPlanText b bytes plan → IsPlanFor b plan → (e ≡ Memory) ⊎ (e ≡ Source))
+only_of b text bytes (Ok plan) same h = tt
+only_of b text bytes (Err e) same h = λ told few plan says is. only_from b text e h plan (subst (λ (t : List ℕ). IsPlanText b t plan) (sym (same told)) says) is

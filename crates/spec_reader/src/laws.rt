@@ -43,9 +43,11 @@ pub fn canonical_lines_say_the_plan()
     ensures { (plan : Plan) → drafted (length plan.bounds) (canonical_rules (plan_said plan)) ≡ plan_said plan }
 {}
 
-/// The canonical text of a plan, which is what `print_plan` prints, says that plan for its bank.
+/// The canonical text of a plan, which is what `print_plan` prints, says that plan for its bank, and isn't too long to be
+/// read.
 pub fn a_printed_plan_is_a_text_of_it()
-    ensures { (b : Tables) (plan : Plan) → IsBank b → IsPlanFor b plan → IsKey plan.key → IsPlanText b (canonical plan) plan }
+    ensures text { (b : Tables) (plan : Plan) → IsBank b → IsPlanFor b plan → IsKey plan.key → IsPlanText b (canonical plan) plan }
+    ensures short { (b : Tables) (plan : Plan) → IsBank b → IsPlanFor b plan → IsKey plan.key → length (canonical plan) ≤ most_bytes }
 {}
 
 /// A text says one plan: two plans that it says have the same numbers, and sets with the same items.
@@ -58,4 +60,12 @@ pub fn a_text_says_one_plan()
 pub fn a_text_of_a_plan_is_read()
     ensures no_fault { (b : Tables) (text : List ℕ) (plan : Plan) (fault : PlanFault) → IsPlanText b text plan → IsPlanFor b plan → IsPlanFault b text fault → ⊥ }
     ensures only { (b : Tables) (bytes : List ℕ) (plan : Plan) (fault : PlanFault) → length bytes ≤ most_bytes → IsPlanText b bytes plan → IsPlanFor b plan → IsReadFault b bytes fault → (fault ≡ outside.Memory) ⊎ (fault ≡ outside.Source) }
+{}
+
+/// What is printed reads back: the canonical text of a plan is read as a plan of the same numbers and sets, which prints as
+/// the same bytes, and it has no fault, so that want of memory or a source that failed alone keeps it from being read.
+pub fn a_printed_plan_reads_back()
+    ensures same { (b : Tables) (plan read : Plan) → IsBank b → IsPlanFor b plan → IsKey plan.key → IsPlanText b (canonical plan) read → plan_said read ≡ plan_said plan }
+    ensures again { (b : Tables) (plan read : Plan) → IsBank b → IsPlanFor b plan → IsKey plan.key → IsPlanText b (canonical plan) read → canonical read ≡ canonical plan }
+    ensures only { (b : Tables) (plan : Plan) (fault : PlanFault) → IsBank b → IsPlanFor b plan → IsKey plan.key → IsReadFault b (canonical plan) fault → (fault ≡ outside.Memory) ⊎ (fault ≡ outside.Source) }
 {}

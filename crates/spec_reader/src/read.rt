@@ -3,6 +3,7 @@
 ghost use Rattle.std.specs.Prelude.{◌≡◌, ℕ, ◌⊎◌, ◌<◌, ◌≤◌, List, length, map, Some, None, IsTrue, IfOk, IfErr};
 ghost use Rattle.bank_tables.specs.Tables.{Tables};
 ghost use Rattle.exam_edge.specs.Faults.{Rose};
+ghost use Rattle.exam_model.specs.Plan.{Plan};
 ghost use Rattle.exam_model.specs.Forms.{stimuli_of};
 ghost use Rattle.exam_model.specs.Validity.{IsPlanFor};
 ghost use Rattle.constraint_model.specs.Faults.{IsSpecFault};
@@ -104,6 +105,9 @@ pub fn read_plan<S: Source>(alloc: Global, bank: &Bank, source: &mut S) -> Resul
     ensures within { IfOk result (λ _. IsTrue (S.tells source.old) → length (S.left source.old) ≤ most_bytes) }
     ensures valid { IfOk result (IsPlanFor bank.now) }
     ensures fault { IfErr result (λ e. IsTrue (S.tells source.old) → IsReadFault bank.now (S.left source.old) e) }
+    // The text of a plan that is valid for the bank is read.
+    ensures only { IfErr result (λ e. IsTrue (S.tells source.old) → length (S.left source.old) ≤ most_bytes
+        → (plan : Plan) → IsPlanText bank.now (S.left source.old) plan → IsPlanFor bank.now plan → (e ≡ fault.Memory) ⊎ (e ≡ fault.Source)) }
     ensures failed { IfErr result (λ e. e ≡ fault.Source → Rose (S.faults source.old) (S.faults source.new)) }
 
     ensures beside { IsTrue (S.tells source.old) → (name : List ℕ) → S.beside source.new name ≡ S.beside source.old name }
