@@ -1,6 +1,6 @@
 //! The files of the host.
 
-ghost use Rattle.std.specs.Prelude.{◌≤◌, [], false};
+ghost use Rattle.std.specs.Prelude.{◌≡◌, ◌≤◌, [], false};
 ghost use Rattle.exam_edge.specs.Faults.{Rose};
 
 use exam_edge::{Failed, Files};
@@ -16,7 +16,9 @@ pub struct HostFiles {
 
 impl HostFiles {
     /// The files that the runtime reaches; no call has failed yet.
-    pub fn of(rt: HostRuntime) -> HostFiles {
+    pub fn of(rt: HostRuntime) -> HostFiles
+        ensures { result.faults ≡ 0 }
+    {
         HostFiles { rt, faults: 0 }
     }
 

@@ -15,7 +15,9 @@ pub struct HostSink {
 
 impl HostSink {
     /// The sink over standard output; no call has failed yet.
-    pub fn of(out: Stdout) -> HostSink {
+    pub fn of(out: Stdout) -> HostSink
+        ensures { result.faults ≡ 0 }
+    {
         HostSink { out, faults: 0 }
     }
 
