@@ -63,7 +63,6 @@ with_rows : (a b b' d : ℤ) → b ≡ b' → d ≡ pos 0 → a +ℤ b ≡ a +�
 with_rows a b b' d e f = omega (arith, ints)
 
 module _ (P : Problem) (v : Multipliers) (ray : Bool) where
-
   part_same : (row : Row) (i : ℕ) → item_part P.bank row i ≡ model_item_part P row i
   unfolding model_item_part
   part_same (Count set low high) i = refl

@@ -49,44 +49,43 @@ module _ (P : Problem) (p : Path) (v : Multipliers) (ray : Bool) (M : ℕ → �
     (T : Set) (k : ℕ) (top : IsTopOf (size P.bank) weights (is_free P p) k T)
     (fills : size_in P.bank p.taken + k ≡ P.plan.length)
   where
-  weight_is : (i : ℕ) → i < size P.bank → at weights i ≡ (reduced P v ray).item i
-  weight_is i w = values i w ∙ ap (λ (N : ℕ → ℕ). item_weight P N ray i) multipliers ∙ item_is P v ray i (below_greatest (size P.bank) i (stimulus P.bank) w)
+    weight_is : (i : ℕ) → i < size P.bank → at weights i ≡ (reduced P v ray).item i
+    weight_is i w = values i w ∙ ap (λ (N : ℕ → ℕ). item_weight P N ray i) multipliers ∙ item_is P v ray i (below_greatest (size P.bank) i (stimulus P.bank) w)
 
-  best_is : (s : ℕ) → best_of_stimulus P p M s ≡ best_stimulus P p v ray s
-  unfolding best_stimulus
-  best_is s =
-      ap (λ (u : ℤ). cond (is_chosen P p s) u (cond (is_open P p s) (cond (int_le (pos 0) u) u (pos 0)) (pos 0)))
-      (ap (λ (N : ℕ → ℕ). stimulus_weight P N s) multipliers ∙ stimulus_is P v ray s)
+    best_is : (s : ℕ) → best_of_stimulus P p M s ≡ best_stimulus P p v ray s
+    unfolding best_stimulus
+    best_is s =
+        ap (λ (u : ℤ). cond (is_chosen P p s) u (cond (is_open P p s) (cond (int_le (pos 0) u) u (pos 0)) (pos 0)))
+        (ap (λ (N : ℕ → ℕ). stimulus_weight P N s) multipliers ∙ stimulus_is P v ray s)
 
-  is_top : (t : ℤ) × IsTop P p v ray T t
-  is_top =
-      let (t, above, others) = threshold (size P.bank) weights (is_free P p) k T top in
-      (
-        t,
-        record {
-          free = top.within;
-          fills = ap (λ (n : ℕ). size_in P.bank p.taken + n) top.number ∙ fills;
-          above = λ i w e. subst (λ z. t ≤ℤ z) (weight_is i w) (above i w e);
-          others = λ i w f e. subst (λ z. z ≤ℤ t) (weight_is i w) (others i w f e);
-        },
-      )
+    is_top : (t : ℤ) × IsTop P p v ray T t
+    is_top =
+        let (t, above, others) = threshold (size P.bank) weights (is_free P p) k T top in (
+          t,
+          record {
+            free = top.within;
+            fills = ap (λ (n : ℕ). size_in P.bank p.taken + n) top.number ∙ fills;
+            above = λ i w e. subst (λ z. t ≤ℤ z) (weight_is i w) (above i w e);
+            others = λ i w f e. subst (λ z. z ≤ℤ t) (weight_is i w) (others i w f e);
+          },
+        )
 
-  pub maximum_is : (constant taken free stimuli : ℤ)
-      → constant ≡ constant_weight P M
-      → taken ≡ sum_in_z (size P.bank) p.taken (at weights)
-      → free ≡ sum_in_z (size P.bank) T (at weights)
-      → stimuli ≡ total_z (stimuli_of P.bank) (λ j. best_of_stimulus P p M (suc j))
-      → IsRelaxedMaximum P p v ray (constant +ℤ ((taken +ℤ free) +ℤ stimuli))
-  unfolding relaxed_by
-  maximum_is constant taken free stimuli e f g h =
-      let (t, is) = is_top in
-      let same =
-      joined constant taken free stimuli (reduced P v ray).constant (sum_in_z (size P.bank) p.taken (reduced P v ray).item) (sum_in_z (size P.bank) T (reduced P v ray).item) (total_z (stimuli_of P.bank) (λ j. best_stimulus P p v ray (suc j)))
-      (e ∙ ap (λ (N : ℕ → ℕ). constant_weight P N) multipliers ∙ constant_is P v ray)
-      (f ∙ sum_in_z-same (size P.bank) p.taken (at weights) (reduced P v ray).item weight_is)
-      (g ∙ sum_in_z-same (size P.bank) T (at weights) (reduced P v ray).item weight_is)
-      (h ∙ total_z-same (stimuli_of P.bank) (λ j. best_of_stimulus P p M (suc j)) (λ j. best_stimulus P p v ray (suc j)) (λ j w. best_is (suc j))) in
-      subst (IsRelaxedMaximum P p v ray) (sym same) (relaxed_is P p v ray T t is)
+    pub maximum_is : (constant taken free stimuli : ℤ)
+        → constant ≡ constant_weight P M
+        → taken ≡ sum_in_z (size P.bank) p.taken (at weights)
+        → free ≡ sum_in_z (size P.bank) T (at weights)
+        → stimuli ≡ total_z (stimuli_of P.bank) (λ j. best_of_stimulus P p M (suc j))
+        → IsRelaxedMaximum P p v ray (constant +ℤ ((taken +ℤ free) +ℤ stimuli))
+    unfolding relaxed_by
+    maximum_is constant taken free stimuli e f g h =
+        let (t, is) = is_top in
+        let same =
+        joined constant taken free stimuli (reduced P v ray).constant (sum_in_z (size P.bank) p.taken (reduced P v ray).item) (sum_in_z (size P.bank) T (reduced P v ray).item) (total_z (stimuli_of P.bank) (λ j. best_stimulus P p v ray (suc j)))
+        (e ∙ ap (λ (N : ℕ → ℕ). constant_weight P N) multipliers ∙ constant_is P v ray)
+        (f ∙ sum_in_z-same (size P.bank) p.taken (at weights) (reduced P v ray).item weight_is)
+        (g ∙ sum_in_z-same (size P.bank) T (at weights) (reduced P v ray).item weight_is)
+        (h ∙ total_z-same (stimuli_of P.bank) (λ j. best_of_stimulus P p M (suc j)) (λ j. best_stimulus P p v ray (suc j)) (λ j w. best_is (suc j))) in
+        subst (IsRelaxedMaximum P p v ray) (sym same) (relaxed_is P p v ray T t is)
 
 -- ---- where the length is impossible
 count_split : (n : ℕ) (X A B : Set) → ((i : ℕ) → X i ≡ (A i || B i)) → ((i : ℕ) → B i ≡ true → A i ≡ false) → count_in n X (λ _. true) ≡ count_in n A (λ _. true) + count_in n B (λ _. true)

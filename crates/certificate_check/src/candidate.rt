@@ -80,7 +80,12 @@ fn is_at_least(problem: &Problem, form: &Option<ItemSet>, items: &ItemSet) -> bo
 }
 
 /// Whether the set is no form, or lacks a chosen stimulus, or is no better than the form.
-pub fn is_settled(problem: &Problem, form: &Option<ItemSet>, standing: &Standing, items: &ItemSet) -> bool
+pub fn is_settled(
+    problem: &Problem,
+    form: &Option<ItemSet>,
+    standing: &Standing,
+    items: &ItemSet,
+) -> bool
     requires well_made { IsWellMade (problem_of problem.now) }
     requires standing { IsStanding (problem_of problem.now) standing.now }
     ensures { IsTrue result ↔ CandidateIsSettled (problem_of problem.now) (option_map has form.now) (path_of standing.now.cut) (Some (has items.now)) }

@@ -28,7 +28,13 @@ fn names_only_sides(problem: &Problem, vector: &[(u16, u32)]) -> bool
 }
 
 /// Whether the relaxed maximum is defined and at most this number.
-pub fn maximum_is_at_most(problem: &Problem, standing: &Standing, vector: &[(u16, u32)], ray: bool, top: i64) -> bool
+pub fn maximum_is_at_most(
+    problem: &Problem,
+    standing: &Standing,
+    vector: &[(u16, u32)],
+    ray: bool,
+    top: i64,
+) -> bool
     requires well_made { IsWellMade (problem_of problem.now) }
     requires standing { IsStanding (problem_of problem.now) standing.now }
     requires vector { IsVector 0 vector.now }
@@ -50,7 +56,12 @@ pub fn closing_value(problem: &Problem, items: &ItemSet) -> i64
 }
 
 /// Whether the relaxed maximum is too low for a form better than the form at hand.
-fn closes(problem: &Problem, form: &Option<ItemSet>, standing: &Standing, vector: &[(u16, u32)]) -> bool
+fn closes(
+    problem: &Problem,
+    form: &Option<ItemSet>,
+    standing: &Standing,
+    vector: &[(u16, u32)],
+) -> bool
     requires well_made { IsWellMade (problem_of problem.now) }
     requires standing { IsStanding (problem_of problem.now) standing.now }
     requires vector { IsVector 0 vector.now }
@@ -59,14 +70,26 @@ fn closes(problem: &Problem, form: &Option<ItemSet>, standing: &Standing, vector
 {
     match form {
         Some(best) => {
-            maximum_is_at_most(problem, standing, vector, false, closing_value(problem, best))
+            maximum_is_at_most(
+                problem,
+                standing,
+                vector,
+                false,
+                closing_value(problem, best),
+            )
         }
         None => false,
     }
 }
 
 /// Why a Bound leaf is unsound.
-pub fn bound_fault(problem: &Problem, form: &Option<ItemSet>, tree: &Tree, standing: &Standing, which: u8) -> Option<Reason>
+pub fn bound_fault(
+    problem: &Problem,
+    form: &Option<ItemSet>,
+    tree: &Tree,
+    standing: &Standing,
+    which: u8,
+) -> Option<Reason>
     requires well_made { IsWellMade (problem_of problem.now) }
     requires standing { IsStanding (problem_of problem.now) standing.now }
     ensures { IsNodeAnswer (problem_of problem.now) (option_map has form.now) tree.now (path_of standing.now.cut) (Bound which) result }
@@ -87,7 +110,13 @@ pub fn bound_fault(problem: &Problem, form: &Option<ItemSet>, tree: &Tree, stand
 }
 
 /// Why a Ray leaf is unsound.
-pub fn ray_fault(problem: &Problem, form: &Option<ItemSet>, tree: &Tree, standing: &Standing, which: u8) -> Option<Reason>
+pub fn ray_fault(
+    problem: &Problem,
+    form: &Option<ItemSet>,
+    tree: &Tree,
+    standing: &Standing,
+    which: u8,
+) -> Option<Reason>
     requires well_made { IsWellMade (problem_of problem.now) }
     requires standing { IsStanding (problem_of problem.now) standing.now }
     ensures { IsNodeAnswer (problem_of problem.now) (option_map has form.now) tree.now (path_of standing.now.cut) (Ray which) result }

@@ -23,5 +23,5 @@ mod walk;
 mod weights;
 
 pub use checker::check;
-pub use spender::spent;
 pub use exam_model::{Reason, Verdict};
+pub use spender::spent;

@@ -28,7 +28,12 @@ pub fn is_open_stimulus(problem: &Problem, standing: &Standing, which: u8) -> bo
 }
 
 /// Why a Whole leaf is unsound.
-fn whole_fault(problem: &Problem, form: &Option<ItemSet>, tree: &Tree, standing: &Standing) -> Option<Reason>
+fn whole_fault(
+    problem: &Problem,
+    form: &Option<ItemSet>,
+    tree: &Tree,
+    standing: &Standing,
+) -> Option<Reason>
     requires well_made { IsWellMade (problem_of problem.now) }
     requires standing { IsStanding (problem_of problem.now) standing.now }
     ensures { IsNodeAnswer (problem_of problem.now) (option_map has form.now) tree.now (path_of standing.now.cut) Whole result }
@@ -46,7 +51,12 @@ fn whole_fault(problem: &Problem, form: &Option<ItemSet>, tree: &Tree, standing:
 }
 
 /// Why an Open leaf is unsound.
-fn open_fault(problem: &Problem, form: &Option<ItemSet>, tree: &Tree, standing: &Standing) -> Option<Reason>
+fn open_fault(
+    problem: &Problem,
+    form: &Option<ItemSet>,
+    tree: &Tree,
+    standing: &Standing,
+) -> Option<Reason>
     requires { IsStanding (problem_of problem.now) standing.now }
     ensures { IsNodeAnswer (problem_of problem.now) (option_map has form.now) tree.now (path_of standing.now.cut) Open result }
 {
@@ -58,7 +68,13 @@ fn open_fault(problem: &Problem, form: &Option<ItemSet>, tree: &Tree, standing: 
 
 /// Why a node is unsound; None where it is sound.
 #[inline(never)]
-pub fn node_fault(problem: &Problem, form: &Option<ItemSet>, tree: &Tree, standing: &Standing, node: &Node) -> Option<Reason>
+pub fn node_fault(
+    problem: &Problem,
+    form: &Option<ItemSet>,
+    tree: &Tree,
+    standing: &Standing,
+    node: &Node,
+) -> Option<Reason>
     requires well_made { IsWellMade (problem_of problem.now) }
     requires standing { IsStanding (problem_of problem.now) standing.now }
     ensures { IsNodeAnswer (problem_of problem.now) (option_map has form.now) tree.now (path_of standing.now.cut) node.now result }

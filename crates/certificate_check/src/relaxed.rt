@@ -54,7 +54,13 @@ fn best_of_stimuli(problem: &Problem, standing: &Standing, sides: &[u32; 384]) -
 }
 
 /// The constant, the weights of the items taken and of the greatest free ones, and what the stimuli add at most.
-fn value_with(problem: &Problem, standing: &Standing, vector: &[(u16, u32)], ray: bool, k: u32) -> i64
+fn value_with(
+    problem: &Problem,
+    standing: &Standing,
+    vector: &[(u16, u32)],
+    ray: bool,
+    k: u32,
+) -> i64
     requires well_made { IsWellMade (problem_of problem.now) }
     requires standing { IsStanding (problem_of problem.now) standing.now }
     requires vector { IsVector 0 vector.now }
@@ -69,12 +75,16 @@ fn value_with(problem: &Problem, standing: &Standing, vector: &[(u16, u32)], ray
     let top = top_of(&weights, items, &standing.free, k);
     let taken = sum_of(&weights, items, &standing.cut.taken);
     let free = sum_of(&weights, items, &top);
-    constant_weight(problem, &sides)
-        + ((taken + free) + best_of_stimuli(problem, standing, &sides))
+    constant_weight(problem, &sides) + ((taken + free) + best_of_stimuli(problem, standing, &sides))
 }
 
 /// The relaxed maximum on a path; None where the length is impossible there.
-pub fn relaxed_maximum(problem: &Problem, standing: &Standing, vector: &[(u16, u32)], ray: bool) -> Option<i64>
+pub fn relaxed_maximum(
+    problem: &Problem,
+    standing: &Standing,
+    vector: &[(u16, u32)],
+    ray: bool,
+) -> Option<i64>
     requires well_made { IsWellMade (problem_of problem.now) }
     requires standing { IsStanding (problem_of problem.now) standing.now }
     requires vector { IsVector 0 vector.now }

@@ -21,7 +21,13 @@ use exam_model::Node;
 use proof_tree::Tree;
 
 /// The number of the node behind the subtree at a node, which stands on the path; None where a node of it is not as in a spent tree.
-fn spent_to(problem: &Problem, start: &Option<ItemSet>, tree: &Tree, at: u16, cut: &Cut) -> Option<u16>
+fn spent_to(
+    problem: &Problem,
+    start: &Option<ItemSet>,
+    tree: &Tree,
+    at: u16,
+    cut: &Cut,
+) -> Option<u16>
     requires well_made { IsWellMade (problem_of problem.now) }
     requires start { IsStartForm (problem_of problem.now) (option_map has start.now) }
     requires tree { (wait : ℕ) × AreTrees (suc wait) (drop at tree.now.nodes) }

@@ -89,7 +89,12 @@ fn is_unresolved(problem: &Problem, start: &Option<ItemSet>, standing: &Standing
 
 /// Whether a node is as in a spent tree: a branch on what is free or open, and on it and on an Open leaf the path unresolved.
 #[inline(never)]
-pub fn is_spent_node(problem: &Problem, start: &Option<ItemSet>, standing: &Standing, node: &Node) -> bool
+pub fn is_spent_node(
+    problem: &Problem,
+    start: &Option<ItemSet>,
+    standing: &Standing,
+    node: &Node,
+) -> bool
     requires well_made { IsWellMade (problem_of problem.now) }
     requires start { IsStartForm (problem_of problem.now) (option_map has start.now) }
     requires standing { IsStanding (problem_of problem.now) standing.now }

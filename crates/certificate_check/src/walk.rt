@@ -33,7 +33,14 @@ pub struct Unsound {
 }
 
 /// Walks through the subtree at a node, which stands on the path.
-pub fn walk(problem: &Problem, form: &Option<ItemSet>, tree: &Tree, at: u16, open_leaves: u16, cut: &Cut) -> Result<Walked, Unsound>
+pub fn walk(
+    problem: &Problem,
+    form: &Option<ItemSet>,
+    tree: &Tree,
+    at: u16,
+    open_leaves: u16,
+    cut: &Cut,
+) -> Result<Walked, Unsound>
     requires well_made { IsWellMade (problem_of problem.now) }
     requires tree { (wait : ℕ) × AreTrees (suc wait) (drop at tree.now.nodes) }
     requires few { open_leaves ≤ at }

@@ -13,8 +13,7 @@ returns c =
     let spends = spent_where P T (path_of c.root_cut.result) c.spent_to.result c.is_some.result c.is_some.ensures c.root_cut.ensures c.nodes-nodes.ensures.tree.shape.one_tree c.spent_to.ensures in
     let number : length T.nodes ≡ c.args.budget = omega (arith, ap (λ (xs : List Node). length xs) c.nodes-nodes.ensures.nodes, c.if-nodes-budget.false) in
     let some : 0 < open_leaves T.nodes = subst (λ (xs : List Node). 0 < open_leaves xs) c.nodes-nodes.ensures.nodes (c.has_open_leaf.ensures.0 c.if-not-has_open_leaf.false) in
-    let first : IsDepthFirst T.nodes = subst (λ (xs : List Node). IsDepthFirst xs) c.nodes-nodes.ensures.nodes (c.is_depth_first.ensures.0 c.if-not-is_depth_first.false) in
-    (
+    let first : IsDepthFirst T.nodes = subst (λ (xs : List Node). IsDepthFirst xs) c.nodes-nodes.ensures.nodes (c.is_depth_first.ensures.0 c.if-not-is_depth_first.false) in (
       λ h. record { nodes = number; some_open = some; depth_first = first; unresolved = spends.0 h },
       λ spent. spends.1 spent.unresolved,
     )

@@ -17,8 +17,7 @@ loop-i-preserved c =
     let term : ℤ = c.item_weight.result in
     let new : ℤ = to_z w64 (of_z w64 term) in
     let same : new ≡ term = read_back term c.item_weight.ensures.within in
-    let within : c.loop-i.i < length c.loop-i.weights = omega (arith, c.loop-i.invariant.0, c.requires.well_made.bank.few) in
-    (
+    let within : c.loop-i.i < length c.loop-i.weights = omega (arith, c.loop-i.invariant.0, c.requires.well_made.bank.few) in (
       length-set c.loop-i.weights c.loop-i.i new ∙ c.loop-i.invariant.0,
       written (λ k z. (z ≡ item_weight P M c.args.ray k) × IsWithin item_top z) c.loop-i.weights c.loop-i.i new within c.loop-i.invariant.1 (same ∙ c.item_weight.ensures.value, subst (IsWithin item_top) (sym same) c.item_weight.ensures.within),
     )

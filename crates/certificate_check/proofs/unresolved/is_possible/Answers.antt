@@ -24,8 +24,7 @@ overflow_add-row-end c =
 pub returns : goal.returns
 returns c =
     let P = problem_of c.args.problem.now in
-    let rows = ap (λ (xs : List Row). length xs) c.rows.ensures in
-    (
+    let rows = ap (λ (xs : List Row). length xs) c.rows.ensures in (
       λ _ r. elim (cases_lt r c.loop-row.row) [
         | inl below ↦ c.loop-row.invariant r below
         | inr past ↦ none_past P (path_of c.args.standing.now.cut) r (omega (arith, rows, c.stimuli.ensures))
