@@ -46,7 +46,9 @@ fn changed(alloc: Global, text: &str, old: &str, new: &str) -> Result<String, Al
 
 #[test]
 fn bank_a_is_what_its_text_says(rt: HostRuntime) -> Result<(), Fail> {
-    let bank = read(rt.alloc(), BANK_A.as_bytes()).ok().ok_or("bank A is a bank")?;
+    let bank = read(rt.alloc(), BANK_A.as_bytes())
+        .ok()
+        .ok_or("bank A is a bank")?;
     assert_eq!(rt; bank.items(), 6);
     assert_eq!(rt; bank.grid(), 3);
     assert_eq!(rt; bank.quantities(), 0);
@@ -62,7 +64,8 @@ fn bank_a_is_what_its_text_says(rt: HostRuntime) -> Result<(), Fail> {
 
 #[test]
 fn quantities_stimuli_and_unused_responses(rt: HostRuntime) -> Result<(), Fail> {
-    let text = "item,stimulus,categories,q0,q1,i0,l0_0,l1_0,l2_0\n0,3,2,60,1,5,-1,-2,\n1,1,3,0,65535,1000000,-10000000,0,-3\n";
+    let text =
+        "item,stimulus,categories,q0,q1,i0,l0_0,l1_0,l2_0\n0,3,2,60,1,5,-1,-2,\n1,1,3,0,65535,1000000,-10000000,0,-3\n";
     let bank = read(rt.alloc(), text.as_bytes()).ok().ok_or("a bank")?;
     assert_eq!(rt; bank.items(), 2);
     assert_eq!(rt; bank.quantities(), 2);
@@ -97,19 +100,35 @@ fn other_spellings(rt: HostRuntime) -> Result<(), Fail> {
 #[test]
 fn changes_of_bank_a(rt: HostRuntime) -> Result<(), Fail> {
     for (old, new, want) in [
-        ("2,0,2,4", "2,0,6,4", ReadFault::Bank(BankFault::BadCategories(2))),
+        (
+            "2,0,2,4",
+            "2,0,6,4",
+            ReadFault::Bank(BankFault::BadCategories(2)),
+        ),
         ("stimulus", "stimulos", ReadFault::Header(1)),
         ("stimulus,", "", ReadFault::Header(1)),
         ("1,0,2,7", "1,0,x,7", ReadFault::Field(2, 2)),
         ("-30,-15,-1\n", "-30,-15\n", ReadFault::Csv(3)),
         ("-30,-15,-1\n", "-30,-15,-1,\n", ReadFault::Csv(3)),
         ("0,0,2,9,5,1,-7", "0,0,2,9,5,1,-0", ReadFault::Field(1, 6)),
-        ("0,0,2,9,5,1,-7", "0,0,2,9,5,1,7", ReadFault::Bank(BankFault::BadLogLik(0))),
+        (
+            "0,0,2,9,5,1,-7",
+            "0,0,2,9,5,1,7",
+            ReadFault::Bank(BankFault::BadLogLik(0)),
+        ),
         ("3,0,2,2", "4,0,2,2", ReadFault::Field(4, 0)),
         ("5,0,2,3,7", "5,0,2,3,07", ReadFault::Field(6, 4)),
-        ("5,0,2,3,7", "5,65,2,3,7", ReadFault::Bank(BankFault::BadStimulus(5))),
+        (
+            "5,0,2,3,7",
+            "5,65,2,3,7",
+            ReadFault::Bank(BankFault::BadStimulus(5)),
+        ),
         ("5,0,2,3,7", "5,0,1,3,7", ReadFault::Field(6, 9)),
-        ("5,0,2,3,7", "5,0,2,3,1000001", ReadFault::Bank(BankFault::BadInfo(5))),
+        (
+            "5,0,2,3,7",
+            "5,0,2,3,1000001",
+            ReadFault::Bank(BankFault::BadInfo(5)),
+        ),
         ("5,0,2,3,7", "5,0,2,3,1000000000", ReadFault::Field(6, 4)),
         (",l1_2", "", ReadFault::Header(11)),
         (",l1_2", ",l1_2,l2_0", ReadFault::Header(13)),
@@ -129,12 +148,30 @@ fn first_of_several(rt: HostRuntime) -> Result<(), Fail> {
         ("", ReadFault::Header(0)),
         ("item,stimulus\n", ReadFault::Header(2)),
         ("item,stimulus,categories\n", ReadFault::Header(3)),
-        ("item,stimulus,categories,i0,l0_0,l1_0\n", ReadFault::Bank(BankFault::NoItems)),
-        ("item,stimulus,categories,i0,l0_0\n0\n", ReadFault::Header(5)),
-        ("item,stimulus,categories,i0,l0_0,l1_0\n0,0,9,9,-7,0\n1,0,2,x,-7,0\n", ReadFault::Field(2, 3)),
-        ("item,stimulus,categories,i0,l0_0,l1_0\n0,0,2,x,y,0\n1\n", ReadFault::Field(1, 3)),
-        ("item,stimulus,categories,i0,l0_0,l1_0\n0,0,2,x\n1,y,2,9,-7,0\n", ReadFault::Csv(1)),
-        ("item,stimulus,categories,i0,l0_0,l1_0\n0,99,9,9,1,0\n", ReadFault::Bank(BankFault::BadStimulus(0))),
+        (
+            "item,stimulus,categories,i0,l0_0,l1_0\n",
+            ReadFault::Bank(BankFault::NoItems),
+        ),
+        (
+            "item,stimulus,categories,i0,l0_0\n0\n",
+            ReadFault::Header(5),
+        ),
+        (
+            "item,stimulus,categories,i0,l0_0,l1_0\n0,0,9,9,-7,0\n1,0,2,x,-7,0\n",
+            ReadFault::Field(2, 3),
+        ),
+        (
+            "item,stimulus,categories,i0,l0_0,l1_0\n0,0,2,x,y,0\n1\n",
+            ReadFault::Field(1, 3),
+        ),
+        (
+            "item,stimulus,categories,i0,l0_0,l1_0\n0,0,2,x\n1,y,2,9,-7,0\n",
+            ReadFault::Csv(1),
+        ),
+        (
+            "item,stimulus,categories,i0,l0_0,l1_0\n0,99,9,9,1,0\n",
+            ReadFault::Bank(BankFault::BadStimulus(0)),
+        ),
     ] {
         let got = read(rt.alloc(), text.as_bytes()).err();
         assert_eq!(rt; got, Some(want), "{text:?}");
@@ -172,7 +209,10 @@ fn each_read_fails_in_turn(rt: HostRuntime) -> Result<(), Fail> {
     // Three pieces of at most 4,096 bytes, and the read that meets the end.
     for call in 0..4u64 {
         let fails = vec![in rt.alloc(); call]?;
-        assert_eq!(rt; read_failing(rt.alloc(), &text, fails).err(), Some(ReadFault::Source));
+        assert_eq!(rt;
+            read_failing(rt.alloc(), &text, fails).err(),
+            Some(ReadFault::Source)
+        );
     }
     let fails = vec![in rt.alloc(); 4]?;
     let bank = read_failing(rt.alloc(), &text, fails).ok().ok_or("a bank")?;
@@ -180,7 +220,13 @@ fn each_read_fails_in_turn(rt: HostRuntime) -> Result<(), Fail> {
     Ok(())
 }
 
-fn rows(alloc: Global, stimulus: u32, quantity: u32, info: u32, loglik: i32) -> Result<Rows, AllocError> {
+fn rows(
+    alloc: Global,
+    stimulus: u32,
+    quantity: u32,
+    info: u32,
+    loglik: i32,
+) -> Result<Rows, AllocError> {
     let item = ItemRow {
         stimulus,
         categories: 2,
@@ -200,7 +246,9 @@ fn rows(alloc: Global, stimulus: u32, quantity: u32, info: u32, loglik: i32) -> 
 #[test]
 fn bank_of_rows(rt: HostRuntime) -> Result<(), Fail> {
     let alloc = rt.alloc();
-    let bank = Bank::of(alloc, rows(alloc, 64, 65_535, 1_000_000, -10_000_000)?).ok().ok_or("a bank")?;
+    let bank = Bank::of(alloc, rows(alloc, 64, 65_535, 1_000_000, -10_000_000)?)
+        .ok()
+        .ok_or("a bank")?;
     assert_eq!(rt; bank.stimuli(), 64);
     assert_eq!(rt; bank.loglik(0, 0, 0), -10_000_000);
     let faulty = Bank::of(alloc, rows(alloc, 65, 65_536, 1_000_001, 1)?).err();

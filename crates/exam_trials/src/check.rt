@@ -71,12 +71,7 @@ mod tests {
         )?)
     }
 
-    fn plan(
-        alloc: Global,
-        length: u32,
-        prior: &[i32],
-        rows: &[Row],
-    ) -> Result<Draft, AllocError> {
+    fn plan(alloc: Global, length: u32, prior: &[i32], rows: &[Row]) -> Result<Draft, AllocError> {
         Ok(Draft {
             length,
             prior: List::of(prior.to_vec(alloc)?),
@@ -122,7 +117,10 @@ mod tests {
         let form = set_of(&[1, 2, 3]);
         let no_form = set_of(&[1, 2, 5]);
         let open = tree_of(alloc, &[0, 7])?;
-        assert_eq!(rt; check(&problem, Some(&no_form), &open), Verdict::Bad(0, Reason::NotForm));
+        assert_eq!(rt;
+            check(&problem, Some(&no_form), &open),
+            Verdict::Bad(0, Reason::NotForm)
+        );
         let cases: [(&[u8], Verdict); 8] = [
             (&[0, 7], Verdict::Partial(1)),
             (&[0, 6], Verdict::Bad(0, Reason::NotWhole)),
@@ -130,11 +128,20 @@ mod tests {
             (&[0, 5, 0], Verdict::Bad(0, Reason::RowPossible)),
             // The high side of the enemies at 1 gives 6,143, which is 256 * 23 + 255; at 4,096 it gives 8,960.
             (&[1, 0, 1, 0, 3, 0, 0, 0, 1, 3, 0], Verdict::Optimal),
-            (&[1, 0, 1, 0, 3, 0, 0, 0x10, 0, 3, 0], Verdict::Bad(0, Reason::NotClosed)),
+            (
+                &[1, 0, 1, 0, 3, 0, 0, 0x10, 0, 3, 0],
+                Verdict::Bad(0, Reason::NotClosed),
+            ),
             // Two rows have sides 0 to 3.
-            (&[1, 0, 1, 0, 4, 0, 0, 0, 1, 3, 0], Verdict::Bad(0, Reason::NoSide)),
+            (
+                &[1, 0, 1, 0, 4, 0, 0, 0, 1, 3, 0],
+                Verdict::Bad(0, Reason::NoSide),
+            ),
             // As a ray it gives 1.
-            (&[1, 0, 1, 0, 3, 0, 0, 0, 1, 4, 0], Verdict::Bad(0, Reason::NotNegative)),
+            (
+                &[1, 0, 1, 0, 3, 0, 0, 0, 1, 4, 0],
+                Verdict::Bad(0, Reason::NotNegative),
+            ),
         ];
         for (bytes, verdict) in cases {
             let tree = tree_of(alloc, bytes)?;
@@ -154,12 +161,24 @@ mod tests {
         // Items 1, 2 and 3 in: one set is left, of 23. The set {1, 3, 4} has 18.
         let whole = tree_of(alloc, &[0, 1, 0, 1, 1, 0, 2, 1, 0, 3, 6, 7, 7, 7])?;
         assert_eq!(rt; check(&problem, Some(&best), &whole), Verdict::Partial(3));
-        assert_eq!(rt; check(&problem, Some(&lesser), &whole), Verdict::Bad(3, Reason::Better));
-        assert_eq!(rt; check(&problem, None, &whole), Verdict::Bad(3, Reason::Better));
+        assert_eq!(rt;
+            check(&problem, Some(&lesser), &whole),
+            Verdict::Bad(3, Reason::Better)
+        );
+        assert_eq!(rt;
+            check(&problem, None, &whole),
+            Verdict::Bad(3, Reason::Better)
+        );
         let open = tree_of(alloc, &[0, 1, 0, 1, 1, 0, 2, 1, 0, 3, 7, 7, 7, 7])?;
-        assert_eq!(rt; check(&problem, Some(&best), &open), Verdict::Bad(3, Reason::OpenWhole));
+        assert_eq!(rt;
+            check(&problem, Some(&best), &open),
+            Verdict::Bad(3, Reason::OpenWhole)
+        );
         let twice = tree_of(alloc, &[0, 1, 0, 1, 7, 1, 0, 1, 7, 7])?;
-        assert_eq!(rt; check(&problem, Some(&best), &twice), Verdict::Bad(2, Reason::Determined));
+        assert_eq!(rt;
+            check(&problem, Some(&best), &twice),
+            Verdict::Bad(2, Reason::Determined)
+        );
         Ok(())
     }
 
@@ -223,12 +242,21 @@ mod tests {
         // The plain bound is 256 * 24 at the root and 256 * 23 where item 3 is in; 256 * 23 + 255 closes a path.
         let root = tree_of(alloc, &[0, 7])?;
         let branch = tree_of(alloc, &[0, 1, 0, 3, 7, 7])?;
-        assert_eq!(rt; (spent(&problem, &root, 1), spent(&problem, &branch, 3)), (true, true));
+        assert_eq!(rt;
+            (spent(&problem, &root, 1), spent(&problem, &branch, 3)),
+            (true, true)
+        );
         problem.start = Some(set_of(&[1, 2, 3]));
-        assert_eq!(rt; (spent(&problem, &root, 1), spent(&problem, &branch, 3)), (true, false));
+        assert_eq!(rt;
+            (spent(&problem, &root, 1), spent(&problem, &branch, 3)),
+            (true, false)
+        );
         // A start that is no form asks nothing.
         problem.start = Some(set_of(&[1, 2, 5]));
-        assert_eq!(rt; (spent(&problem, &root, 1), spent(&problem, &branch, 3)), (true, true));
+        assert_eq!(rt;
+            (spent(&problem, &root, 1), spent(&problem, &branch, 3)),
+            (true, true)
+        );
         Ok(())
     }
 }

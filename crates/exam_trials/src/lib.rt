@@ -7,9 +7,10 @@ mod ability;
 mod bank;
 mod check;
 mod constraint;
+#[cfg(test)]
+mod guide;
 mod journal;
 mod plan;
 mod program;
-mod select;
 #[cfg(test)]
 mod tree;

@@ -83,11 +83,7 @@ mod tests {
     fn bank_l(alloc: Global) -> Result<Bank, Fail> {
         let mut items = Vec::new(alloc);
         for i in 0..120u32 {
-            let stimulus = if i < 60 && i % 10 < 2 {
-                i / 10 + 1
-            } else {
-                0
-            };
+            let stimulus = if i < 60 && i % 10 < 2 { i / 10 + 1 } else { 0 };
             items.push(item(alloc, 7, 1, stimulus)?)?;
         }
         Ok(Bank::of(
@@ -101,12 +97,18 @@ mod tests {
     }
 
     const PLAN_A: &str = "length 3\nprior -10 0 -10\ncount 1 1 0-1\nenemies 2 5\n";
-    const PLAN_S: &str = "length 4\nprior 0 -1\nstimulus 1 2 3\n";
-    const PLAN_E: &str = "length 2\nprior 0\nbudget 1\nenemies 0 1\nenemies 1 2\nenemies 0 2\n";
-    const PLAN_Q: &str = "length 2\nprior 0\nquantity 0 0 15 0-3\n";
-    const PLAN_L: &str = "length 20\nprior 0 0 0 0 0 0 0\ncount 2 2 0-9\ncount 2 2 10-19\ncount 2 2 20-29\ncount 2 2 30-39\ncount 2 2 40-49\ncount 2 2 50-59\ncount 2 2 60-69\ncount 2 2 70-79\ncount 1 1 80-89\ncount 1 1 90-99\ncount 1 1 100-109\ncount 1 1 110-119\nenemies 9 19\nenemies 29 39\nenemies 49 59\nenemies 69 79\nquantity 0 0 1300 0-119\nstimuli 0 6\nstimulus 1 2 2\nstimulus 2 2 2\nstimulus 3 2 2\nstimulus 4 2 2\nstimulus 5 2 2\nstimulus 6 2 2\n";
 
-    const PRINTED_A: &str = "length 3\nprior -10 0 -10\nrate 1 1\nkey 0000000000000000000000000000000000000000000000000000000000000000\nbudget 2001\nbase-budget 4095\nsessions 1000\njournal 67108864\ncount 1 1 0-1\nenemies 2 5\n";
+    const PLAN_S: &str = "length 4\nprior 0 -1\nstimulus 1 2 3\n";
+
+    const PLAN_E: &str = "length 2\nprior 0\nbudget 1\nenemies 0 1\nenemies 1 2\nenemies 0 2\n";
+
+    const PLAN_Q: &str = "length 2\nprior 0\nquantity 0 0 15 0-3\n";
+
+    const PLAN_L: &str =
+        "length 20\nprior 0 0 0 0 0 0 0\ncount 2 2 0-9\ncount 2 2 10-19\ncount 2 2 20-29\ncount 2 2 30-39\ncount 2 2 40-49\ncount 2 2 50-59\ncount 2 2 60-69\ncount 2 2 70-79\ncount 1 1 80-89\ncount 1 1 90-99\ncount 1 1 100-109\ncount 1 1 110-119\nenemies 9 19\nenemies 29 39\nenemies 49 59\nenemies 69 79\nquantity 0 0 1300 0-119\nstimuli 0 6\nstimulus 1 2 2\nstimulus 2 2 2\nstimulus 3 2 2\nstimulus 4 2 2\nstimulus 5 2 2\nstimulus 6 2 2\n";
+
+    const PRINTED_A: &str =
+        "length 3\nprior -10 0 -10\nrate 1 1\nkey 0000000000000000000000000000000000000000000000000000000000000000\nbudget 2001\nbase-budget 4095\nsessions 1000\njournal 67108864\ncount 1 1 0-1\nenemies 2 5\n";
 
     #[test]
     fn a_plan_is_printed_with_its_defaults(rt: HostRuntime) -> Result<(), Fail> {
@@ -118,11 +120,7 @@ mod tests {
     }
 
     // The text that a plan is printed as reads to a plan that is printed the same.
-    fn printed_again(
-        alloc: Global,
-        bank: &Bank,
-        text: &str,
-    ) -> Result<(Vec<u8>, Vec<u8>), Fail> {
+    fn printed_again(alloc: Global, bank: &Bank, text: &str) -> Result<(Vec<u8>, Vec<u8>), Fail> {
         let spec = read(alloc, bank, text)??;
         let printed = print_plan(alloc, &spec)?;
         let mut source = MemorySource::of(printed.clone()?, Vec::new(alloc));
@@ -190,7 +188,10 @@ mod tests {
             ("# a\n\nlength x\n", PlanFault::Line(3, Kind::Number)),
             ("length 2\nprior 0\nprior 0\n", PlanFault::Twice(3)),
             ("length 2\nlength x\n", PlanFault::Line(2, Kind::Number)),
-            ("stimulus 1 1 2\nstimulus 2 1 2\nstimulus 1 1 3\n", PlanFault::Twice(3)),
+            (
+                "stimulus 1 1 2\nstimulus 2 1 2\nstimulus 1 1 3\n",
+                PlanFault::Twice(3),
+            ),
         ] {
             assert_eq!(rt; fault_of(alloc, &bank, text)?, Some(fault), "{text:?}");
         }
@@ -205,7 +206,10 @@ mod tests {
             ("", PlanFault::Missing(Name::Length)),
             ("prior 0\n", PlanFault::Missing(Name::Length)),
             ("length 2\n", PlanFault::Missing(Name::Prior)),
-            ("length 0\nprior 0\nrate 1 2\n", PlanFault::Missing(Name::Key)),
+            (
+                "length 0\nprior 0\nrate 1 2\n",
+                PlanFault::Missing(Name::Key),
+            ),
         ] {
             assert_eq!(rt; fault_of(alloc, &bank, text)?, Some(fault), "{text:?}");
         }
@@ -232,7 +236,10 @@ mod tests {
                 SpecFault::BadBudget,
             ),
             ("length 3\nprior 0 0 0\nsessions 0\n", SpecFault::BadLimit),
-            ("length 3\nprior 0 0 0\nbase 0-3\n", SpecFault::BadBase(Breach::Length(4))),
+            (
+                "length 3\nprior 0 0 0\nbase 0-3\n",
+                SpecFault::BadBase(Breach::Length(4)),
+            ),
         ] {
             let expected = Some(PlanFault::Spec(fault));
             assert_eq!(rt; fault_of(alloc, &bank, text)?, expected, "{text:?}");

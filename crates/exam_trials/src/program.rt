@@ -3,6 +3,7 @@
 
 #[cfg(test)]
 mod tests {
+    use crate::guide::{BANK_P, PLANS_A, PLANS_P};
     use exam_edge::{MemoryFiles, MemorySink};
     use exam_program::{World, run};
     use std::alloc::{AllocError, Global};
@@ -16,8 +17,11 @@ mod tests {
 4,0,2,1,4,9,0,-1,-20,-7,-7,-7
 5,0,2,3,7,5,-7,-7,-7,-7,-7,-7
 ";
+
     const PLAN_A: &str = "length 3\nprior -10 0 -10\ncount 1 1 0-1\nenemies 2 5\n";
+
     const SCRIPT_A: &str = "begin 70\nanswer 0 0 1\nanswer 0 1 0\nanswer 0 2 1\n";
+
     const LINES_A: &str = "session 0 step 0 item 2 proved
 session 0 step 1 item 4 proved
 session 0 step 2 item 1 proved
@@ -32,6 +36,7 @@ session 0 complete
 3,0,2,8,1,-1,-1,-9,-1
 4,0,2,7,1,-1,-1,-1,-1
 ";
+
     const BANK_TIE: &str = "item,stimulus,categories,i0,l0_0,l1_0
 0,0,2,5,-1,-1
 1,0,2,5,-1,-1
@@ -39,7 +44,10 @@ session 0 complete
 ";
 
     fn file(alloc: Global, name: &str, text: &str) -> Result<(String, Vec<u8>), AllocError> {
-        Ok((String::from_str(alloc, name)?, text.as_bytes().to_vec(alloc)?))
+        Ok((
+            String::from_str(alloc, name)?,
+            text.as_bytes().to_vec(alloc)?,
+        ))
     }
 
     /// The status of the program on these words and files, and what stands written then.
@@ -69,6 +77,7 @@ session 0 complete
     }
 
     const REPLAY: [&str; 4] = ["replay", "bank", "plan", "script"];
+
     const CHECK: [&str; 3] = ["check", "bank", "plan"];
 
     #[test]
@@ -84,11 +93,17 @@ session 0 complete
         let script = "begin 1\nanswer 0 0 0\nanswer 0 1 0\nanswer 0 2 1\n";
         let (status, text) = outcome(&rt, &REPLAY, &[BANK_S, passage, script], &[], &[])?;
         assert_eq!(rt; status, 0);
-        assert_eq!(rt; text.as_slice(), b"session 0 step 0 item 0 proved\nsession 0 step 1 item 1 proved\nsession 0 step 2 item 3 proved\nsession 0 step 3 item 4 proved\n".as_slice());
+        assert_eq!(rt;
+            text.as_slice(),
+            b"session 0 step 0 item 0 proved\nsession 0 step 1 item 1 proved\nsession 0 step 2 item 3 proved\nsession 0 step 3 item 4 proved\n".as_slice()
+        );
         let tie = "length 2\nprior 0\ncount 1 1 0\n";
         let (status, text) = outcome(&rt, &REPLAY, &[BANK_TIE, tie, "begin 1\n"], &[], &[])?;
         assert_eq!(rt; status, 0);
-        assert_eq!(rt; text.as_slice(), b"session 0 step 0 item 0 proved\n".as_slice());
+        assert_eq!(rt;
+            text.as_slice(),
+            b"session 0 step 0 item 0 proved\n".as_slice()
+        );
         Ok(())
     }
 
@@ -97,21 +112,56 @@ session 0 complete
         let past = "begin 70\nanswer 0 0 1\nanswer 0 1 0\nanswer 0 2 1\nanswer 0 3 0\n";
         let (status, text) = outcome(&rt, &REPLAY, &[BANK_A, PLAN_A, past], &[], &[])?;
         assert_eq!(rt; status, 15);
-        assert_eq!(rt; text.as_slice(), b"session 0 step 0 item 2 proved\nsession 0 step 1 item 4 proved\nsession 0 step 2 item 1 proved\nsession 0 complete\nnot yet\n".as_slice());
+        assert_eq!(rt;
+            text.as_slice(),
+            b"session 0 step 0 item 2 proved\nsession 0 step 1 item 4 proved\nsession 0 step 2 item 1 proved\nsession 0 complete\nnot yet\n".as_slice()
+        );
         let again = "begin 70\nanswer 0 0 1\nanswer 0 0 1\n";
         let (status, text) = outcome(&rt, &REPLAY, &[BANK_A, PLAN_A, again], &[], &[])?;
         assert_eq!(rt; status, 0);
-        assert_eq!(rt; text.as_slice(), b"session 0 step 0 item 2 proved\nsession 0 step 1 item 4 proved\nsession 0 step 1 item 4 proved\n".as_slice());
-        for refused in ["answer 0 0 2\n", "answer 0 1 0\n", "answer 0 0 1\nanswer 0 0 0\n"] {
+        assert_eq!(rt;
+            text.as_slice(),
+            b"session 0 step 0 item 2 proved\nsession 0 step 1 item 4 proved\nsession 0 step 1 item 4 proved\n".as_slice()
+        );
+        for refused in [
+            "answer 0 0 2\n",
+            "answer 0 1 0\n",
+            "answer 0 0 1\nanswer 0 0 0\n",
+        ] {
             let mut script = String::from_str(rt.alloc(), "begin 70\n")?;
             script.push_str(refused)?;
             let (status, _) = outcome(&rt, &REPLAY, &[BANK_A, PLAN_A, script.as_str()], &[], &[])?;
             assert_eq!(rt; status, 15, "at {refused}");
         }
-        for other in ["", "begin 1\nbegin 2\n", "begin 01\n", "begin 1\nlook 0\n", "begin 1\nanswer 1 0 0\n"] {
+        for other in [
+            "",
+            "begin 1\nbegin 2\n",
+            "begin 01\n",
+            "begin 1\nlook 0\n",
+            "begin 1\nanswer 1 0 0\n",
+        ] {
             let (status, text) = outcome(&rt, &REPLAY, &[BANK_A, PLAN_A, other], &[], &[])?;
             assert_eq!(rt; status, 15, "at {other}");
             assert_eq!(rt; text.as_slice(), b"not yet\n".as_slice());
+        }
+        Ok(())
+    }
+
+    #[test]
+    fn plans_of_the_guide(rt: HostRuntime) -> Result<(), Fail> {
+        for plan in PLANS_A {
+            let (status, text) = outcome(&rt, &CHECK, &[BANK_A, plan, ""], &[], &[])?;
+            assert_eq!(rt; status, 0, "at {plan}");
+            assert!(rt;
+                text.starts_with(b"bank items 6 grid 3 quantities 0 stimuli 0\nlength 3\nprior ")
+            );
+        }
+        for plan in PLANS_P {
+            let (status, text) = outcome(&rt, &CHECK, &[BANK_P, plan, ""], &[], &[])?;
+            assert_eq!(rt; status, 0, "at {plan}");
+            assert!(rt;
+                text.starts_with(b"bank items 6 grid 2 quantities 1 stimuli 2\nlength 3\nprior ")
+            );
         }
         Ok(())
     }
@@ -123,7 +173,11 @@ session 0 complete
         let (status, text) = outcome(&rt, &["replay", "a"], &a, &[], &[])?;
         assert_eq!(rt; status, 2);
         assert_eq!(rt; text.as_slice(), usage);
-        for words in [["check", "bank", "-x"], ["check", "", "plan"], ["assemble", "bank", "plan"]] {
+        for words in [
+            ["check", "bank", "-x"],
+            ["check", "", "plan"],
+            ["assemble", "bank", "plan"],
+        ] {
             let (status, _) = outcome(&rt, &words, &a, &[], &[])?;
             assert_eq!(rt; status, 2);
         }
@@ -145,7 +199,9 @@ session 0 complete
     fn what_check_understood(rt: HostRuntime) -> Result<(), Fail> {
         let (status, text) = outcome(&rt, &CHECK, &[BANK_A, PLAN_A, ""], &[], &[])?;
         assert_eq!(rt; status, 0);
-        assert_eq!(rt; text.as_slice(), b"bank items 6 grid 3 quantities 0 stimuli 0
+        assert_eq!(rt;
+            text.as_slice(),
+            b"bank items 6 grid 3 quantities 0 stimuli 0
 length 3
 prior -10 0 -10
 rate 1 1
@@ -156,7 +212,9 @@ sessions 1000
 journal 67108864
 count 1 1 0-1
 enemies 2 5
-".as_slice());
+"
+                .as_slice()
+        );
         Ok(())
     }
 

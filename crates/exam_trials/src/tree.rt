@@ -21,22 +21,46 @@ fn shortest_faults(rt: HostRuntime) -> Result<(), Fail> {
 fn vector_faults(rt: HostRuntime) -> Result<(), Fail> {
     let alloc = rt.alloc();
     // 385 pairs.
-    assert_eq!(rt; decode(alloc, &[1, 1, 0x81]).err(), Some(TreeFault::BadVector(1)));
+    assert_eq!(rt;
+        decode(alloc, &[1, 1, 0x81]).err(),
+        Some(TreeFault::BadVector(1))
+    );
     // No pair where one should begin, and half a pair.
     assert_eq!(rt; decode(alloc, &[1, 0, 1]).err(), Some(TreeFault::Short));
-    assert_eq!(rt; decode(alloc, &[1, 0, 1, 0, 1]).err(), Some(TreeFault::Short));
-    assert_eq!(rt; decode(alloc, &[1, 0, 1, 0, 1, 0, 0, 0]).err(), Some(TreeFault::Short));
+    assert_eq!(rt;
+        decode(alloc, &[1, 0, 1, 0, 1]).err(),
+        Some(TreeFault::Short)
+    );
+    assert_eq!(rt;
+        decode(alloc, &[1, 0, 1, 0, 1, 0, 0, 0]).err(),
+        Some(TreeFault::Short)
+    );
     // Side 384, also where the multiplier is missing.
-    assert_eq!(rt; decode(alloc, &[1, 0, 1, 1, 0x80, 0, 0, 0, 1]).err(), Some(TreeFault::BadVector(3)));
-    assert_eq!(rt; decode(alloc, &[1, 0, 1, 1, 0x80]).err(), Some(TreeFault::BadVector(3)));
+    assert_eq!(rt;
+        decode(alloc, &[1, 0, 1, 1, 0x80, 0, 0, 0, 1]).err(),
+        Some(TreeFault::BadVector(3))
+    );
+    assert_eq!(rt;
+        decode(alloc, &[1, 0, 1, 1, 0x80]).err(),
+        Some(TreeFault::BadVector(3))
+    );
     // Multipliers 0 and 16,777,217.
-    assert_eq!(rt; decode(alloc, &[1, 0, 1, 0, 1, 0, 0, 0, 0]).err(), Some(TreeFault::BadVector(5)));
-    assert_eq!(rt; decode(alloc, &[1, 0, 1, 0, 1, 1, 0, 0, 1]).err(), Some(TreeFault::BadVector(5)));
+    assert_eq!(rt;
+        decode(alloc, &[1, 0, 1, 0, 1, 0, 0, 0, 0]).err(),
+        Some(TreeFault::BadVector(5))
+    );
+    assert_eq!(rt;
+        decode(alloc, &[1, 0, 1, 0, 1, 1, 0, 0, 1]).err(),
+        Some(TreeFault::BadVector(5))
+    );
     // A side twice, and one below the side before.
     let twice = [1, 0, 2, 0, 1, 0, 0, 0, 1, 0, 1, 0, 0, 0, 1, 7];
     assert_eq!(rt; decode(alloc, &twice).err(), Some(TreeFault::BadVector(9)));
     let descending = [1, 0, 2, 0, 1, 0, 0, 0, 1, 0, 0, 0, 0, 0, 1, 7];
-    assert_eq!(rt; decode(alloc, &descending).err(), Some(TreeFault::BadVector(9)));
+    assert_eq!(rt;
+        decode(alloc, &descending).err(),
+        Some(TreeFault::BadVector(9))
+    );
     Ok(())
 }
 
@@ -44,14 +68,35 @@ fn vector_faults(rt: HostRuntime) -> Result<(), Fail> {
 fn node_faults(rt: HostRuntime) -> Result<(), Fail> {
     let alloc = rt.alloc();
     // Item 512, stimuli 0 and 65, row 193.
-    assert_eq!(rt; decode(alloc, &[0, 1, 2, 0]).err(), Some(TreeFault::BadKind(1)));
-    assert_eq!(rt; decode(alloc, &[0, 2, 0]).err(), Some(TreeFault::BadKind(1)));
-    assert_eq!(rt; decode(alloc, &[0, 2, 65]).err(), Some(TreeFault::BadKind(1)));
-    assert_eq!(rt; decode(alloc, &[0, 5, 193]).err(), Some(TreeFault::BadKind(1)));
+    assert_eq!(rt;
+        decode(alloc, &[0, 1, 2, 0]).err(),
+        Some(TreeFault::BadKind(1))
+    );
+    assert_eq!(rt;
+        decode(alloc, &[0, 2, 0]).err(),
+        Some(TreeFault::BadKind(1))
+    );
+    assert_eq!(rt;
+        decode(alloc, &[0, 2, 65]).err(),
+        Some(TreeFault::BadKind(1))
+    );
+    assert_eq!(rt;
+        decode(alloc, &[0, 5, 193]).err(),
+        Some(TreeFault::BadKind(1))
+    );
     // Behind a branch: the second node.
-    assert_eq!(rt; decode(alloc, &[0, 2, 1, 6, 5, 193]).err(), Some(TreeFault::BadKind(4)));
-    assert_eq!(rt; decode(alloc, &[0, 2, 1, 6]).err(), Some(TreeFault::Unfinished(4)));
-    assert_eq!(rt; decode(alloc, &[0, 2, 1, 6, 3]).err(), Some(TreeFault::Short));
+    assert_eq!(rt;
+        decode(alloc, &[0, 2, 1, 6, 5, 193]).err(),
+        Some(TreeFault::BadKind(4))
+    );
+    assert_eq!(rt;
+        decode(alloc, &[0, 2, 1, 6]).err(),
+        Some(TreeFault::Unfinished(4))
+    );
+    assert_eq!(rt;
+        decode(alloc, &[0, 2, 1, 6, 3]).err(),
+        Some(TreeFault::Short)
+    );
     Ok(())
 }
 
@@ -62,7 +107,10 @@ fn most_nodes(rt: HostRuntime) -> Result<(), Fail> {
     for _ in 0..4095 {
         bytes.extend_from_slice(&[2, 1])?;
     }
-    assert_eq!(rt; decode(alloc, &bytes).err(), Some(TreeFault::Unfinished(8191)));
+    assert_eq!(rt;
+        decode(alloc, &bytes).err(),
+        Some(TreeFault::Unfinished(8191))
+    );
     bytes.push(7)?;
     assert_eq!(rt; decode(alloc, &bytes).err(), Some(TreeFault::TooLong(8191)));
     Ok(())
@@ -90,7 +138,13 @@ fn made_and_read_again(rt: HostRuntime) -> Result<(), Fail> {
     let alloc = rt.alloc();
     let pairs = vec![in alloc; (0, 1), (383, 16_777_216)]?;
     let vector = Vector::of(List::of(pairs)).ok_or("a vector")?;
-    let nodes = vec![in alloc; Node::BranchItem(511), Node::BranchStimulus(64), Node::Bound(255), Node::Count(192), Node::Open]?;
+    let nodes = vec![in alloc;
+        Node::BranchItem(511),
+        Node::BranchStimulus(64),
+        Node::Bound(255),
+        Node::Count(192),
+        Node::Open,
+    ]?;
     let tree = Tree::of(List::of(vec![in alloc; vector]?), List::of(nodes)).ok_or("a tree")?;
     let mut bytes = encode(alloc, &tree).ok().ok_or("memory")?;
     let spelled = [
