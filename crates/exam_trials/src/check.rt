@@ -1,4 +1,4 @@
-// Verdicts on proof trees, each reason once, and each part of what a spent tree is, broken once. What is expected was
+// Verdicts on proof trees, each reason once, and parts of what a spent tree is, broken once. What is expected was
 // worked out by hand.
 
 #[cfg(test)]
@@ -107,20 +107,48 @@ mod tests {
         Ok(tree)
     }
 
-    #[test]
-    fn verdicts_of_one_node(rt: HostRuntime) -> Result<(), Fail> {
-        let alloc = rt.alloc();
+    /// The verdict on a tree over the plain bank, with so many of items 0 and 1 in a form.
+    fn plain_verdict(
+        alloc: Global,
+        count: u32,
+        form: Option<ItemSet>,
+        bytes: &[u8],
+    ) -> Result<Verdict, Fail> {
+        let bank = plain_bank(alloc)?;
+        let spec = Spec::of(alloc, &bank, plain_plan(alloc, count)?)?;
+        let problem = Problem::whole(&bank, &spec);
+        let tree = tree_of(alloc, bytes)?;
+        Ok(check(&problem, form.as_ref(), &tree))
+    }
+
+    /// The verdict on a tree over the bank with a quantity: each pair of items has 20 of it, and 15 are allowed.
+    fn quantity_verdict(alloc: Global, bytes: &[u8]) -> Result<Verdict, Fail> {
+        let bank = quantity_bank(alloc)?;
+        let rows = [Row::Quantity {
+            which: 0,
+            set: set_of(&[0, 1, 2, 3]),
+            low: 0,
+            high: 15,
+        }];
+        let spec = Spec::of(alloc, &bank, plan(alloc, 2, &[0], &rows)?)?;
+        let problem = Problem::whole(&bank, &spec);
+        let tree = tree_of(alloc, bytes)?;
+        Ok(check(&problem, None, &tree))
+    }
+
+    /// Whether a tree over the plain bank spends a budget.
+    fn plain_spent(alloc: Global, bytes: &[u8], budget: u16) -> Result<bool, Fail> {
         let bank = plain_bank(alloc)?;
         let spec = Spec::of(alloc, &bank, plain_plan(alloc, 1)?)?;
         let problem = Problem::whole(&bank, &spec);
-        assert_eq!(rt; problem.theta, 1);
-        let form = set_of(&[1, 2, 3]);
-        let no_form = set_of(&[1, 2, 5]);
-        let open = tree_of(alloc, &[0, 7])?;
-        assert_eq!(rt;
-            check(&problem, Some(&no_form), &open),
-            Verdict::Bad(0, Reason::NotForm)
-        );
+        let tree = tree_of(alloc, bytes)?;
+        Ok(spent(&problem, &tree, budget))
+    }
+
+    /// The verdicts on the form {1, 2, 3}, of 23.
+    #[test]
+    fn verdicts_of_one_node(rt: HostRuntime) -> Result<(), Fail> {
+        let alloc = rt.alloc();
         let cases: [(&[u8], Verdict); 8] = [
             (&[0, 7], Verdict::Partial(1)),
             (&[0, 6], Verdict::Bad(0, Reason::NotWhole)),
@@ -144,74 +172,55 @@ mod tests {
             ),
         ];
         for (bytes, verdict) in cases {
-            let tree = tree_of(alloc, bytes)?;
-            assert_eq!(rt; check(&problem, Some(&form), &tree), verdict);
+            let found = plain_verdict(alloc, 1, Some(set_of(&[1, 2, 3])), bytes)?;
+            assert_eq!(rt; found, verdict);
         }
+        Ok(())
+    }
+
+    #[test]
+    fn verdicts_without_a_better_form(rt: HostRuntime) -> Result<(), Fail> {
+        let alloc = rt.alloc();
+        let no_form = plain_verdict(alloc, 1, Some(set_of(&[1, 2, 5])), &[0, 7])?;
+        assert_eq!(rt; no_form, Verdict::Bad(0, Reason::NotForm));
+        // Items 1, 2 and 3 in: one set is left, of 23. The set {1, 3, 4} has 18.
+        let whole: &[u8] = &[0, 1, 0, 1, 1, 0, 2, 1, 0, 3, 6, 7, 7, 7];
+        let best = plain_verdict(alloc, 1, Some(set_of(&[1, 2, 3])), whole)?;
+        assert_eq!(rt; best, Verdict::Partial(3));
+        let lesser = plain_verdict(alloc, 1, Some(set_of(&[1, 3, 4])), whole)?;
+        assert_eq!(rt; lesser, Verdict::Bad(3, Reason::Better));
+        let none = plain_verdict(alloc, 1, None, whole)?;
+        assert_eq!(rt; none, Verdict::Bad(3, Reason::Better));
         Ok(())
     }
 
     #[test]
     fn verdicts_of_branches(rt: HostRuntime) -> Result<(), Fail> {
         let alloc = rt.alloc();
-        let bank = plain_bank(alloc)?;
-        let spec = Spec::of(alloc, &bank, plain_plan(alloc, 1)?)?;
-        let problem = Problem::whole(&bank, &spec);
-        let best = set_of(&[1, 2, 3]);
-        let lesser = set_of(&[1, 3, 4]);
-        // Items 1, 2 and 3 in: one set is left, of 23. The set {1, 3, 4} has 18.
-        let whole = tree_of(alloc, &[0, 1, 0, 1, 1, 0, 2, 1, 0, 3, 6, 7, 7, 7])?;
-        assert_eq!(rt; check(&problem, Some(&best), &whole), Verdict::Partial(3));
-        assert_eq!(rt;
-            check(&problem, Some(&lesser), &whole),
-            Verdict::Bad(3, Reason::Better)
-        );
-        assert_eq!(rt;
-            check(&problem, None, &whole),
-            Verdict::Bad(3, Reason::Better)
-        );
-        let open = tree_of(alloc, &[0, 1, 0, 1, 1, 0, 2, 1, 0, 3, 7, 7, 7, 7])?;
-        assert_eq!(rt;
-            check(&problem, Some(&best), &open),
-            Verdict::Bad(3, Reason::OpenWhole)
-        );
-        let twice = tree_of(alloc, &[0, 1, 0, 1, 7, 1, 0, 1, 7, 7])?;
-        assert_eq!(rt;
-            check(&problem, Some(&best), &twice),
-            Verdict::Bad(2, Reason::Determined)
-        );
+        let open: &[u8] = &[0, 1, 0, 1, 1, 0, 2, 1, 0, 3, 7, 7, 7, 7];
+        let found = plain_verdict(alloc, 1, Some(set_of(&[1, 2, 3])), open)?;
+        assert_eq!(rt; found, Verdict::Bad(3, Reason::OpenWhole));
+        let twice: &[u8] = &[0, 1, 0, 1, 7, 1, 0, 1, 7, 7];
+        let found = plain_verdict(alloc, 1, Some(set_of(&[1, 2, 3])), twice)?;
+        assert_eq!(rt; found, Verdict::Bad(2, Reason::Determined));
         Ok(())
     }
 
     #[test]
     fn no_form(rt: HostRuntime) -> Result<(), Fail> {
         let alloc = rt.alloc();
-        // Each pair of items has 20 of the quantity, and 15 are allowed: the ray gives 15 - 20.
-        let bank = quantity_bank(alloc)?;
-        let rows = [Row::Quantity {
-            which: 0,
-            set: set_of(&[0, 1, 2, 3]),
-            low: 0,
-            high: 15,
-        }];
-        let spec = Spec::of(alloc, &bank, plan(alloc, 2, &[0], &rows)?)?;
-        let problem = Problem::whole(&bank, &spec);
-        let ray = tree_of(alloc, &[1, 0, 1, 0, 1, 0, 0, 0, 1, 4, 0])?;
-        assert_eq!(rt; check(&problem, None, &ray), Verdict::NoForm);
+        // The ray gives 15 - 20.
+        let ray = quantity_verdict(alloc, &[1, 0, 1, 0, 1, 0, 0, 0, 1, 4, 0])?;
+        assert_eq!(rt; ray, Verdict::NoForm);
         // Three of two items: the row after the length is impossible by counting.
-        let bank = plain_bank(alloc)?;
-        let spec = Spec::of(alloc, &bank, plain_plan(alloc, 3)?)?;
-        let problem = Problem::whole(&bank, &spec);
-        let count = tree_of(alloc, &[0, 5, 1])?;
-        assert_eq!(rt; check(&problem, None, &count), Verdict::NoForm);
+        let count = plain_verdict(alloc, 3, None, &[0, 5, 1])?;
+        assert_eq!(rt; count, Verdict::NoForm);
         Ok(())
     }
 
     #[test]
     fn spent_trees(rt: HostRuntime) -> Result<(), Fail> {
         let alloc = rt.alloc();
-        let bank = plain_bank(alloc)?;
-        let spec = Spec::of(alloc, &bank, plain_plan(alloc, 1)?)?;
-        let problem = Problem::whole(&bank, &spec);
         let cases: [(&[u8], u16, bool); 7] = [
             (&[0, 1, 0, 3, 1, 0, 4, 7, 7, 7], 5, true),
             // Another number of nodes.
@@ -227,36 +236,9 @@ mod tests {
             (&[0, 1, 0, 0, 1, 0, 1, 1, 0, 2, 7, 7, 7, 7], 7, false),
         ];
         for (bytes, budget, expected) in cases {
-            let tree = tree_of(alloc, bytes)?;
-            assert_eq!(rt; spent(&problem, &tree, budget), expected);
+            let found = plain_spent(alloc, bytes, budget)?;
+            assert_eq!(rt; found, expected);
         }
-        Ok(())
-    }
-
-    #[test]
-    fn spent_trees_with_a_start(rt: HostRuntime) -> Result<(), Fail> {
-        let alloc = rt.alloc();
-        let bank = plain_bank(alloc)?;
-        let spec = Spec::of(alloc, &bank, plain_plan(alloc, 1)?)?;
-        let mut problem = Problem::whole(&bank, &spec);
-        // The plain bound is 256 * 24 at the root and 256 * 23 where item 3 is in; 256 * 23 + 255 closes a path.
-        let root = tree_of(alloc, &[0, 7])?;
-        let branch = tree_of(alloc, &[0, 1, 0, 3, 7, 7])?;
-        assert_eq!(rt;
-            (spent(&problem, &root, 1), spent(&problem, &branch, 3)),
-            (true, true)
-        );
-        problem.start = Some(set_of(&[1, 2, 3]));
-        assert_eq!(rt;
-            (spent(&problem, &root, 1), spent(&problem, &branch, 3)),
-            (true, false)
-        );
-        // A start that is no form asks nothing.
-        problem.start = Some(set_of(&[1, 2, 5]));
-        assert_eq!(rt;
-            (spent(&problem, &root, 1), spent(&problem, &branch, 3)),
-            (true, true)
-        );
         Ok(())
     }
 }
