@@ -1,6 +1,10 @@
 // Verdicts on proof trees, each reason once, and parts of what a spent tree is, broken once. What is expected was
 // worked out by hand.
 
+ghost use Rattle.std.specs.Prelude.{IfSome};
+ghost use Rattle.exam_model.specs.Validity.{IsWellMade};
+ghost use Rattle.constraint_model.specs.Views.{problem_of};
+
 #[cfg(test)]
 mod tests {
     use bank_tables::{Bank, ItemRow, ItemSet, List, Rows};
@@ -145,6 +149,33 @@ mod tests {
         Ok(spent(&problem, &tree, budget))
     }
 
+    /// The problem with a set of items of its bank as the form last served from.
+    fn started<'a>(problem: Problem<'a>, items: ItemSet) -> Option<Problem<'a>>
+        requires { IsWellMade (problem_of problem) }
+        ensures { IfSome result (λ p. IsWellMade (problem_of p)) }
+    {
+        if !items.all_below(problem.bank.items()) {
+            return None;
+        }
+        let mut problem = problem;
+        problem.start = Some(items);
+        Some(problem)
+    }
+
+    /// Whether a tree over the plain bank spends a budget, where a form was served from before.
+    fn started_spent(
+        alloc: Global,
+        start: &[u16],
+        bytes: &[u8],
+        budget: u16,
+    ) -> Result<bool, Fail> {
+        let bank = plain_bank(alloc)?;
+        let spec = Spec::of(alloc, &bank, plain_plan(alloc, 1)?)?;
+        let problem = started(Problem::whole(&bank, &spec), set_of(start)).ok_or("a start")?;
+        let tree = tree_of(alloc, bytes)?;
+        Ok(spent(&problem, &tree, budget))
+    }
+
     /// The verdicts on the form {1, 2, 3}, of 23.
     #[test]
     fn verdicts_of_one_node(rt: HostRuntime) -> Result<(), Fail> {
@@ -237,6 +268,28 @@ mod tests {
         ];
         for (bytes, budget, expected) in cases {
             let found = plain_spent(alloc, bytes, budget)?;
+            assert_eq!(rt; found, expected);
+        }
+        Ok(())
+    }
+
+    /// The plain bound at the root is 256 * 24, with item 3 in 256 * 23, and with items 3 and 4 in 256 * 19.
+    #[test]
+    fn spent_trees_beyond_a_start(rt: HostRuntime) -> Result<(), Fail> {
+        let alloc = rt.alloc();
+        let branches: &[u8] = &[0, 1, 0, 3, 1, 0, 4, 7, 7, 7];
+        let cases: [(&[u16], &[u8], u16, bool); 5] = [
+            // The start {1, 2, 3} has 23.
+            (&[1, 2, 3], &[0, 7], 1, true),
+            (&[1, 2, 3], branches, 5, false),
+            // {1, 3, 4} has 18, and {0, 2, 3} has 20: the bound with items 3 and 4 in leaves no room above it.
+            (&[1, 3, 4], branches, 5, true),
+            (&[0, 2, 3], branches, 5, false),
+            // {1, 2, 5} has 24, but it is no form.
+            (&[1, 2, 5], branches, 5, true),
+        ];
+        for (start, bytes, budget, expected) in cases {
+            let found = started_spent(alloc, start, bytes, budget)?;
             assert_eq!(rt; found, expected);
         }
         Ok(())
