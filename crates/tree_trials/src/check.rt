@@ -2,7 +2,7 @@
 // worked out by hand.
 
 ghost use Rattle.std.specs.Prelude.{IfSome};
-ghost use Rattle.exam_model.specs.Validity.{IsWellMade};
+ghost use Rattle.exam_model.specs.Validity.{IsPlanFor, IsWellMade};
 ghost use Rattle.constraint_model.specs.Views.{problem_of};
 
 #[cfg(test)]
@@ -149,17 +149,27 @@ mod tests {
         Ok(spent(&problem, &tree, budget))
     }
 
-    /// The problem with a set of items of its bank as the form last served from.
-    fn started<'a>(problem: Problem<'a>, items: ItemSet) -> Option<Problem<'a>>
-        requires { IsWellMade (problem_of problem) }
+    /// The whole problem with a set of items of its bank as the form last served from.
+    fn started<'a>(bank: &'a Bank, spec: &'a Spec, items: &ItemSet) -> Option<Problem<'a>>
+        requires { IsPlanFor bank.now spec.now }
         ensures { IfSome result (λ p. IsWellMade (problem_of p)) }
     {
-        if !items.all_below(problem.bank.items()) {
+        if !items.all_below(bank.items()) {
             return None;
         }
-        let mut problem = problem;
-        problem.start = Some(items);
-        Some(problem)
+        let theta = Problem::whole(bank, spec).theta;
+        Some(Problem {
+            bank,
+            spec,
+            session: 0,
+            step: 0,
+            aside: true,
+            given: ItemSet::empty(),
+            barred: ItemSet::empty(),
+            theta,
+            last: None,
+            start: Some(*items),
+        })
     }
 
     /// Whether a tree over the plain bank spends a budget, where a form was served from before.
@@ -171,7 +181,9 @@ mod tests {
     ) -> Result<bool, Fail> {
         let bank = plain_bank(alloc)?;
         let spec = Spec::of(alloc, &bank, plain_plan(alloc, 1)?)?;
-        let problem = started(Problem::whole(&bank, &spec), set_of(start)).ok_or("a start")?;
+        let Some(problem) = started(&bank, &spec, &set_of(start)) else {
+            return Err(Fail::from("a start"));
+        };
         let tree = tree_of(alloc, bytes)?;
         Ok(spent(&problem, &tree, budget))
     }
