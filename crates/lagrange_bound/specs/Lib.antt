@@ -1,2 +1,3 @@
 pub mod Cuts
 pub mod Bounds
+pub mod Counted

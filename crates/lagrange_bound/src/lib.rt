@@ -4,13 +4,9 @@
 //! vector with a higher bound. That they improve at all is measured, and not promised.
 #![tactic(auto)]
 
-mod ascent;
 mod counting;
 mod cut;
-mod relaxation;
+mod members;
 
-pub use ascent::{Aim, Ascent, ascend, improve};
 pub use counting::impossible;
 pub use cut::Cut;
-pub use proof_tree::Memory;
-pub use relaxation::bound;
