@@ -7,6 +7,12 @@
 mod counting;
 mod cut;
 mod members;
+mod prices;
+mod relaxation;
+mod threshold;
+mod weights;
 
 pub use counting::impossible;
 pub use cut::Cut;
+pub use proof_tree::Memory;
+pub use relaxation::bound;
