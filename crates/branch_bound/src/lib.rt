@@ -1,0 +1,12 @@
+//! The assembler: it finds a form of a problem and a proof tree that shows what it found (branch and bound with Lagrangian
+//! bounds). Upward it promises that the tree's verdict is the one that the outcome says, by the rules that the separate
+//! checker tests; that a form is no worse than those that it was given, and that no exchange of one item betters it; and that
+//! with enough nodes it decides. That few nodes are enough is measured, and not promised.
+#![tactic(auto)]
+
+mod assembly;
+mod outcome;
+
+pub use assembly::{Assembled, assemble};
+pub use outcome::Outcome;
+pub use proof_tree::Memory;

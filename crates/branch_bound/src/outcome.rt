@@ -1,0 +1,17 @@
+//! What an assembly came to.
+
+use bank_tables::ItemSet;
+
+/// What an assembly came to.
+#[derive(Clone, Copy, Debug, PartialEq, Eq)]
+pub enum Outcome {
+    /// A form; proved, it is best, else the node budget was spent.
+    Found {
+        form: ItemSet,
+        proved: bool,
+    },
+    /// No set of items is a form.
+    NoForm,
+    /// The node budget was spent, and no form was found.
+    NoneFound,
+}

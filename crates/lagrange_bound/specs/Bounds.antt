@@ -1,0 +1,32 @@
+-- Bounds on the forms of a path.
+use Rattle.std.specs.Prelude.{◌*◌, Bool, true, false, IsTrue, ℤ, pos, ◌≤ℤ◌, Option, Some, None}
+use Rattle.bank_tables.specs.Items.{Set}
+use Rattle.exam_model.specs.Problem.{Problem}
+use Rattle.exam_model.specs.Forms.{objective}
+use Rattle.exam_model.specs.Paths.{Path, Under}
+use Rattle.exam_model.specs.Relaxed.{Multipliers, IsRelaxedMaximum}
+use Rattle.exam_model.specs.Counting.{length_impossible}
+
+-- the number is the relaxed maximum; there is none exactly where the length is impossible by counting
+abbrev pub IsBound : Problem → Path → Multipliers → Bool → Option ℤ → Type 0
+IsBound P p v ray None = IsTrue (length_impossible P p)
+IsBound P p v ray (Some r) = IsRelaxedMaximum P p v ray r
+
+-- what a bound is to stand above: 256 times the objective of a form, or 0 for a ray
+abbrev pub bounded_value : Problem → Bool → Set → ℤ
+bounded_value P true X = pos 0
+bounded_value P false X = pos (256 * objective P X)
+
+-- no form on the path exceeds it
+abbrev pub IsAboveForms : Problem → Path → Bool → ℤ → Type 0
+IsAboveForms P p ray r = (X : Set) → Under P p X → bounded_value P ray X ≤ℤ r
+
+-- the relaxed maximum of the vector `to` is at most that of `from`
+abbrev pub IsNoHigher : Problem → Path → Bool → Multipliers → Multipliers → Type 0
+IsNoHigher P p ray from to = (r q : ℤ) → IsRelaxedMaximum P p from ray r → IsRelaxedMaximum P p to ray q → q ≤ℤ r
+
+-- both numbers are there, and the first is at most the second
+abbrev pub AreInOrder : Option ℤ → Option ℤ → Type 0
+AreInOrder None to = ⊥
+AreInOrder (Some q) None = ⊥
+AreInOrder (Some q) (Some r) = q ≤ℤ r

@@ -1,0 +1,22 @@
+//! Bounds on the forms of a path of branches, by Lagrangian relaxation and by counting, and better multipliers for them.
+//! Upward it promises that `Cut` is the state of a path, that `impossible` is the lowest row that counting rules out,
+//! that `bound` is the relaxed maximum, which no form of the path exceeds, and that `ascend` and `improve` never give a
+//! vector with a higher bound. That they improve at all is measured, and not promised.
+#![tactic(auto)]
+
+mod ascent;
+mod counting;
+mod cut;
+mod members;
+mod prices;
+mod relaxation;
+mod steps;
+mod threshold;
+mod vectors;
+mod weights;
+
+pub use ascent::{Aim, Ascent, ascend, improve};
+pub use counting::impossible;
+pub use cut::Cut;
+pub use proof_tree::Memory;
+pub use relaxation::bound;
