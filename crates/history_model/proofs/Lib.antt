@@ -1,0 +1,3 @@
+pub mod HistoriesOfA
+pub mod Edges
+pub mod DrawRows
