@@ -1,3 +1,11 @@
 pub mod HistoriesOfA
 pub mod Edges
 pub mod DrawRows
+pub mod Pushed
+pub mod Standing
+pub mod Ordered
+pub mod SeatSteps
+pub mod Running
+pub mod JudgingLaws
+pub mod CompleteLaws
+pub mod ReasonLaws

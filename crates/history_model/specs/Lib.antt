@@ -6,3 +6,4 @@ pub mod SessionProblems
 pub mod Legality
 pub mod Judging
 pub mod Reasons
+pub mod Laws

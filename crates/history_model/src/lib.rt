@@ -6,6 +6,7 @@
 mod counts;
 mod entry;
 mod illegal;
+pub mod laws;
 mod place;
 
 pub use counts::Counts;
