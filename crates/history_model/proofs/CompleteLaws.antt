@@ -1,5 +1,5 @@
 -- The items shown in a complete session are the form last served from.
-use Rattle.std.proofs.Common.{◌≡◌, ℕ, zero, suc, ◌+◌, ◌≤◌, ◌<◌, ◌⊎◌, inl, inr, Bool, true, false, cond, ◌||◌, ◌==◌, List, [], ◌∷◌, length, slice_get, Option, Some, None, refl, sym, ap, ◌∙◌, subst, arith}
+use Rattle.std.proofs.Common.{◌≡◌, ℕ, zero, suc, ◌+◌, ◌≤◌, ◌<◌, ◌⊎◌, inl, inr, Bool, true, false, ◌||◌, ◌==◌, List, [], ◌∷◌, length, slice_get, Option, Some, None, refl, sym, ap, ◌∙◌, subst, arith}
 use Rattle.std.specs.List.{list_any}
 use Rattle.std.proofs.Math.Bool.{true≢false}
 use Rattle.std.proofs.Math.Path.{fun_ext}
@@ -10,10 +10,9 @@ use Rattle.bank_tables.specs.Tables.{Tables, size}
 use Rattle.exam_model.specs.declared.seat.Seat.{Seat}
 use Rattle.exam_model.specs.Plan.{Plan}
 use Rattle.exam_model.specs.Forms.{Meets, Form, size_in}
-use Rattle.exam_model.specs.Seats.{is_shown, seat_problem, IsSeat}
+use Rattle.exam_model.specs.Seats.{is_shown, seat_problem}
 use Rattle.exam_model.proofs.SumLaws.{either, or_true, same_from_count}
-use Rattle.history_model.specs.declared.entry.Entry.{Entry}
-use Rattle.history_model.specs.Entries.{servings, step_answers, seat_of}
+use Rattle.history_model.specs.Entries.{seat_of}
 use Rattle.history_model.specs.Laws.{CompleteMeets}
 use Rattle.history_model.proofs.Standing.{complete}
 use Rattle.history_model.proofs.Ordered.{in_order}

@@ -1,9 +1,8 @@
 -- What may follow is legal, and a session has one problem.
-use Rattle.std.proofs.Common.{◌≡◌, ℕ, Bool, true, false, List, [], ◌∷◌, ◌++◌, length, map, Option, Some, None, refl, sym, ◌∙◌, subst, ap}
+use Rattle.std.proofs.Common.{◌≡◌, ℕ, Bool, true, false, List, [], ◌∷◌, Option, Some, None, sym, ◌∙◌, subst, ap}
 use Rattle.std.proofs.Math.Bool.{true≢false}
 use Rattle.std.proofs.lemmas.List.{map-append}
 use Rattle.bank_tables.specs.Items.{Set, has}
-use Rattle.bank_tables.specs.Tables.{Tables}
 use Rattle.exam_model.specs.Plan.{Plan}
 use Rattle.exam_model.specs.Problem.{Problem}
 use Rattle.exam_model.specs.declared.verdict.Verdict.{Verdict}
@@ -18,8 +17,8 @@ use Rattle.history_model.specs.declared.entry.Cause.TheVariants.{NoForm, Spent}
 use Rattle.history_model.specs.declared.entry.Entry.{Entry}
 use Rattle.history_model.specs.declared.entry.Entry.TheVariants.{Started, SetAside, Served, Answered, Closed}
 use Rattle.history_model.specs.Entries.{seat_of}
-use Rattle.history_model.specs.Legality.{Legal, LegalRun, empty as no_entry, more as one_entry, IsLegalCause}
-use Rattle.history_model.specs.Judging.{claim_of_mark, claim_of_cause, Shows, MayFollow, Record, entries_of, Backed, empty, more}
+use Rattle.history_model.specs.Legality.{LegalRun, empty as no_entry, more as one_entry, IsLegalCause}
+use Rattle.history_model.specs.Judging.{claim_of_mark, claim_of_cause, Shows, Record, entries_of, empty, more}
 use Rattle.history_model.specs.Laws.{MayIsLegal, BackedIsLegalRun, OneProblem}
 
 -- a tree that shows a mark of proved shows that the form is best

@@ -9,3 +9,6 @@ pub mod Running
 pub mod JudgingLaws
 pub mod CompleteLaws
 pub mod ReasonLaws
+pub mod RecordsOfA
+pub mod ReasonsOfA
+pub mod MarksAndCauses

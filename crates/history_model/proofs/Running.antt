@@ -1,5 +1,5 @@
 -- What holds of each session along a legal run.
-use Rattle.std.proofs.Common.{◌≡◌, ℕ, ◌+◌, ◌-◌, ◌≤◌, ◌<◌, ◌⊎◌, inl, inr, Bool, true, false, cond, not, ◌||◌, ◌==◌, List, [], ◌∷◌, ◌++◌, length, slice_get, map, Option, Some, None, refl, sym, ap, ◌∙◌, subst, arith, IsTrue, IsFalse}
+use Rattle.std.proofs.Common.{◌≡◌, ℕ, ◌+◌, ◌-◌, ◌<◌, ◌⊎◌, inl, inr, Bool, true, false, cond, not, ◌||◌, ◌==◌, List, [], ◌∷◌, ◌++◌, length, slice_get, Option, Some, None, refl, sym, ap, ◌∙◌, subst, arith}
 use Rattle.std.specs.Prelude.{nat_le}
 use Rattle.std.specs.Option.{option_map, option_map_or}
 use Rattle.std.proofs.Math.Bool.{true≢false}
@@ -12,17 +12,16 @@ use Rattle.exam_model.specs.declared.seat.Seat.{Seat}
 use Rattle.exam_model.specs.Plan.{Plan}
 use Rattle.exam_model.specs.Problem.{Problem}
 use Rattle.exam_model.specs.Forms.{Form}
-use Rattle.exam_model.specs.Seats.{seat_problem, IsPending}
 use Rattle.exam_model.specs.Serving.{IsNext}
 use Rattle.exam_model.proofs.SumLaws.{either, or_true, or_left, or_right}
 use Rattle.history_model.specs.declared.entry.Entry.{Entry}
 use Rattle.history_model.specs.declared.entry.Entry.TheVariants.{Started, SetAside, Served, Answered, Closed}
 use Rattle.history_model.specs.declared.place.Place.{Place}
 use Rattle.history_model.specs.declared.place.Place.TheVariants.{Pending, Waiting, Complete, Closed as IsClosed}
-use Rattle.history_model.specs.Entries.{starts, starts_session, Serving, StepAnswer, sessions, is_started, is_closed, servings, step_answers, last_serving, shown, responses, seat_of}
+use Rattle.history_model.specs.Entries.{starts, starts_session, Serving, StepAnswer, sessions, is_started, is_closed, servings, step_answers, seat_of}
 use Rattle.history_model.specs.Places.{serving_at, place_at, place}
-use Rattle.history_model.specs.Legality.{Legal, IsLegalServing, IsLegalAnswer, GoesOn, LegalRun, empty, more}
-use Rattle.history_model.specs.Laws.{AreInOrder, no_seat, seat_with, step_place, seat_place, SessionsAreNumbered, StepsAreInOrder, SeatBeforeStart, SeatGoesOn, SeatIsSeat, PlaceIsOfSeat, PendingIsOfSeat, LastFormStays}
+use Rattle.history_model.specs.Legality.{Legal, IsLegalServing, IsLegalAnswer, LegalRun, empty, more}
+use Rattle.history_model.specs.Laws.{AreInOrder, no_seat, seat_with, step_place, SessionsAreNumbered, StepsAreInOrder, SeatBeforeStart, SeatGoesOn, SeatIsSeat, PlaceIsOfSeat, PendingIsOfSeat, LastFormStays}
 use Rattle.history_model.proofs.Pushed.{started-push, sessions-push, seat_goes_on}
 use Rattle.history_model.proofs.Standing.{past_end, before_end, IsPendingAt, IsWaitingFor, pending, waiting, there}
 use Rattle.history_model.proofs.Ordered.{found_at, in_order}

@@ -1,5 +1,5 @@
 -- What each entry does to a seat: it stays one, and the form last served from stays a form of its problem.
-use Rattle.std.proofs.Common.{◌≡◌, ℕ, zero, suc, ◌+◌, ◌-◌, ◌≤◌, ◌<◌, ◌⊎◌, inl, inr, Bool, true, false, not, ◌&&◌, ◌==◌, List, [], ◌∷◌, ◌++◌, length, slice_get, Option, Some, None, refl, sym, ap, ◌∙◌, subst, arith, length-append, IsTrue, IsFalse}
+use Rattle.std.proofs.Common.{◌≡◌, ℕ, zero, suc, ◌+◌, ◌<◌, ◌⊎◌, inl, inr, Bool, true, false, not, ◌&&◌, ◌==◌, List, [], ◌∷◌, ◌++◌, length, slice_get, Option, Some, None, refl, sym, ap, ◌∙◌, subst, arith, length-append}
 use Rattle.std.specs.List.{list_any}
 use Rattle.std.proofs.Math.Bool.{true≢false}
 use Rattle.std.proofs.lemmas.Bool.{eqb-true, eq-eqb}
@@ -10,8 +10,8 @@ use Rattle.bank_tables.specs.Validity.{HoldsItems}
 use Rattle.exam_model.specs.declared.seat.Seat.{Seat}
 use Rattle.exam_model.specs.Plan.{Plan}
 use Rattle.exam_model.specs.Forms.{Form}
-use Rattle.exam_model.specs.Seats.{is_shown, seat_problem, served_and_answered, IsSeat}
-use Rattle.exam_model.specs.Serving.{is_not_given, IsNext}
+use Rattle.exam_model.specs.Seats.{is_shown, seat_problem, IsSeat}
+use Rattle.exam_model.specs.Serving.{IsNext}
 use Rattle.exam_model.proofs.SumLaws.{and_true, or_true, or_left, or_right}
 use Rattle.exam_model.proofs.Staying.{last_form_stays}
 use Rattle.history_model.proofs.Standing.{before_end}

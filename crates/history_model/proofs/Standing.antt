@@ -1,5 +1,5 @@
 -- What a place says of the entries.
-use Rattle.std.proofs.Common.{◌≡◌, ℕ, zero, suc, ◌+◌, ◌≤◌, ◌<◌, inl, inr, Bool, true, false, cond, not, ◌==◌, List, [], ◌∷◌, ◌++◌, length, slice_get, Option, Some, None, refl, sym, ap, ◌∙◌, subst, arith, length-append}
+use Rattle.std.proofs.Common.{◌≡◌, ℕ, zero, suc, ◌+◌, ◌≤◌, ◌<◌, inl, inr, Bool, true, false, cond, not, ◌==◌, List, [], ◌∷◌, length, slice_get, Option, Some, None, refl, sym, ap, ◌∙◌, arith}
 use Rattle.std.specs.Prelude.{nat_le, find}
 use Rattle.std.proofs.lemmas.Bool.{eqb-true, eq-eqb, leb-true, le-leb, cases_lt}
 use Rattle.std.proofs.Math.Bool.{true≢false}
@@ -8,7 +8,7 @@ use Rattle.exam_model.proofs.SumLaws.{either}
 use Rattle.history_model.specs.declared.entry.Entry.{Entry}
 use Rattle.history_model.specs.declared.place.Place.{Place}
 use Rattle.history_model.specs.declared.place.Place.TheVariants.{Pending, Waiting, Complete, Closed}
-use Rattle.history_model.specs.Entries.{Serving, is_started, is_closed, servings, step_answers}
+use Rattle.history_model.specs.Entries.{Serving, is_started, is_closed, step_answers}
 use Rattle.history_model.specs.Places.{serving_at, place_at, place}
 
 -- the place, by what it reads of the history
