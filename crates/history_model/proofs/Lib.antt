@@ -12,3 +12,5 @@ pub mod ReasonLaws
 pub mod RecordsOfA
 pub mod ReasonsOfA
 pub mod MarksAndCauses
+pub mod CountLaws
+pub mod RunParts

@@ -56,7 +56,7 @@ item_shown plan H s k item proved order at =
     ∙ ap (λ (i : ℕ). Some i) at.item_is))
 
 -- ---- entries and sessions
-session_of : Entry → ℕ
+unfoldable pub session_of : Entry → ℕ
 session_of (Started session booking eligible) = session
 session_of (SetAside session cause nodes) = session
 session_of (Served session step item form proved nodes) = session
@@ -64,7 +64,7 @@ session_of (Answered session step response) = session
 session_of (Closed session) = session
 
 -- an entry of another session leaves the seat as it is
-not_of : (s : ℕ) (seat : Seat) (e : Entry) → (session_of e == s) ≡ false → seat_with s seat e ≡ seat
+pub not_of : (s : ℕ) (seat : Seat) (e : Entry) → (session_of e == s) ≡ false → seat_with s seat e ≡ seat
 unfolding session_of
 not_of s seat (Started session booking eligible) other = rw other refl
 not_of s seat (SetAside session cause nodes) other = rw other refl
@@ -73,7 +73,7 @@ not_of s seat (Answered session step response) other = rw other refl
 not_of s seat (Closed session) other = rw other refl
 
 -- it doesn't start this one
-not_start_of : (s : ℕ) (e : Entry) → (session_of e == s) ≡ false → starts_session s e ≡ false
+pub not_start_of : (s : ℕ) (e : Entry) → (session_of e == s) ≡ false → starts_session s e ≡ false
 unfolding session_of
 not_start_of s (Started session booking eligible) other = other
 not_start_of s (SetAside session cause nodes) other = refl
@@ -82,7 +82,7 @@ not_start_of s (Answered session step response) other = refl
 not_start_of s (Closed session) other = refl
 
 -- a legal entry that starts no session is of one that is started
-legal_there : (b : Tables) (plan : Plan) (H : List Entry) (e : Entry) → Legal b plan H e → starts e ≡ false → is_started H (session_of e) ≡ true
+pub legal_there : (b : Tables) (plan : Plan) (H : List Entry) (e : Entry) → Legal b plan H e → starts e ≡ false → is_started H (session_of e) ≡ true
 unfolding session_of
 legal_there b plan H (Started session booking eligible) legal none = absurd (true≢false none)
 legal_there b plan H (SetAside session cause nodes) legal none = there plan H session (Pending 0) legal.is_problem.pending
@@ -91,7 +91,7 @@ legal_there b plan H (Answered session step response) legal none = there plan H 
 legal_there b plan H (Closed session) legal none = there plan H session legal.at legal.stands
 
 -- one that starts a session has the next number
-legal_number : (b : Tables) (plan : Plan) (H : List Entry) (e : Entry) → Legal b plan H e → starts e ≡ true → session_of e ≡ sessions H
+pub legal_number : (b : Tables) (plan : Plan) (H : List Entry) (e : Entry) → Legal b plan H e → starts e ≡ true → session_of e ≡ sessions H
 unfolding session_of
 legal_number b plan H (Started session booking eligible) legal one = legal.number.next
 legal_number b plan H (SetAside session cause nodes) legal one = absurd (true≢false (sym one))
@@ -99,7 +99,7 @@ legal_number b plan H (Served session step item form proved nodes) legal one = a
 legal_number b plan H (Answered session step response) legal one = absurd (true≢false (sym one))
 legal_number b plan H (Closed session) legal one = absurd (true≢false (sym one))
 
-starts_this : (s : ℕ) (e : Entry) → starts_session s e ≡ true → (starts e ≡ true) × (session_of e ≡ s)
+pub starts_this : (s : ℕ) (e : Entry) → starts_session s e ≡ true → (starts e ≡ true) × (session_of e ≡ s)
 unfolding session_of
 starts_this s (Started session booking eligible) one = (refl, eqb-true session s one)
 starts_this s (SetAside session cause nodes) one = absurd (true≢false (sym one))
@@ -107,7 +107,7 @@ starts_this s (Served session step item form proved nodes) one = absurd (true≢
 starts_this s (Answered session step response) one = absurd (true≢false (sym one))
 starts_this s (Closed session) one = absurd (true≢false (sym one))
 
-starts_that : (s : ℕ) (e : Entry) → starts e ≡ true → (session_of e == s) ≡ true → starts_session s e ≡ true
+pub starts_that : (s : ℕ) (e : Entry) → starts e ≡ true → (session_of e == s) ≡ true → starts_session s e ≡ true
 unfolding session_of
 starts_that s (Started session booking eligible) one same = same
 starts_that s (SetAside session cause nodes) one same = absurd (true≢false (sym one))

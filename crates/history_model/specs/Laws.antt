@@ -1,5 +1,5 @@
 -- What the definitions imply, as the public laws state it.
-use Rattle.std.specs.Prelude.{◌≡◌, ℕ, ◌+◌, ◌<◌, ◌≤◌, Bool, true, false, ◌==◌, List, [], ◌∷◌, ◌++◌, length, slice_get, nat_le, IsTrue, IsFalse, Option, Some, None, if◌then◌else◌}
+use Rattle.std.specs.Prelude.{◌≡◌, ℕ, ◌+◌, ◌<◌, ◌≤◌, Bool, true, false, ◌||◌, ◌==◌, List, [], ◌∷◌, ◌++◌, length, slice_get, nat_le, is_some, IsTrue, IsFalse, Option, Some, None, if◌then◌else◌}
 use Rattle.bank_tables.specs.Items.{has}
 use Rattle.bank_tables.specs.Tables.{Tables}
 use Rattle.exam_model.specs.declared.seat.Seat.{Seat}
@@ -10,11 +10,13 @@ use Rattle.exam_model.specs.ProofTrees.{ProofTree}
 use Rattle.exam_model.specs.Seats.{is_shown, seat_problem, IsSeat, IsPending}
 use Rattle.history_model.specs.declared.entry.Entry.{Entry}
 use Rattle.history_model.specs.declared.entry.Entry.TheVariants.{Started, SetAside, Served, Answered, Closed}
+use Rattle.history_model.specs.declared.counts.Counts.{Counts}
 use Rattle.history_model.specs.declared.place.Place.{Place}
 use Rattle.history_model.specs.declared.place.Place.TheVariants.{Pending, Waiting, Complete, Closed as IsClosed}
 use Rattle.history_model.specs.declared.illegal.Illegal.{Illegal}
 use Rattle.history_model.specs.Entries.{Serving, StepAnswer, sessions, is_started, servings, step_answers, seat_of}
 use Rattle.history_model.specs.Places.{place}
+use Rattle.history_model.specs.Counts.{counts, finished}
 use Rattle.history_model.specs.SessionProblems.{IsProblemOf}
 use Rattle.history_model.specs.Legality.{Legal, LegalRun}
 use Rattle.history_model.specs.Judging.{MayFollow, Record, entries_of, Backed}
@@ -39,6 +41,10 @@ abbrev pub NoReasonIfMay : Type 0
 NoReasonIfMay = (b : Tables) (plan : Plan) (H : List Entry) (entry : Entry) (tree : Option ProofTree) (r : Illegal) → IsIllegal b plan H entry tree r → MayFollow b plan H entry tree → ⊥
 
 -- ---- sessions of a legal run
+-- what stands before an entry of a legal run is one, and the entry is legal behind it
+abbrev pub EachIsLegal : Type 0
+EachIsLegal = (b : Tables) (plan : Plan) (H : List Entry) (entry : Entry) (G : List Entry) → LegalRun b plan (H ++ entry ∷ G) → LegalRun b plan H × Legal b plan H entry
+
 -- the sessions are numbered from 0 to their number less 1
 abbrev pub SessionsAreNumbered : Type 0
 SessionsAreNumbered = (b : Tables) (plan : Plan) (H : List Entry) (s : ℕ) → LegalRun b plan H → (IsTrue (is_started H s) → s < sessions H) × (s < sessions H → IsTrue (is_started H s))
@@ -96,6 +102,28 @@ PlaceIsOfSeat = (b : Tables) (plan : Plan) (H : List Entry) (s : ℕ) → LegalR
 -- a session whose step is to be served is one whose seat waits for an item, and the step is the number of its responses
 abbrev pub PendingIsOfSeat : Type 0
 PendingIsOfSeat = (b : Tables) (plan : Plan) (H : List Entry) (s step : ℕ) → LegalRun b plan H → place plan H s ≡ Some (Pending step) → IsPending plan (seat_of H s) × (length (seat_of H s).responses ≡ step)
+
+-- ---- counts
+-- the session that a legal entry finishes: one whose last item is answered, or that is closed
+abbrev pub finished_by : Plan → Entry → Option ℕ
+finished_by plan (Answered session step response) = if nat_le plan.length (step + 1) then Some session else None
+finished_by plan (Closed session) = Some session
+finished_by plan entry = None
+
+-- the counts of an item with one finished session more, by its seat
+abbrev pub counts_with : Counts → Seat → ℕ → Counts
+counts_with counts seat i = record { alpha = counts.alpha + (if is_shown seat i then 1 else 0); eps = counts.eps + (if has seat.eligible i || seat.aside then 1 else 0) }
+
+-- the counts of an item after an entry that finishes a session, or none
+abbrev pub counts_after : List Entry → Option ℕ → Counts → ℕ → Counts
+counts_after H None counts i = counts
+counts_after H (Some s) counts i = counts_with counts (seat_of H s) i
+
+abbrev pub CountsGoOn : Type 0
+CountsGoOn = (b : Tables) (plan : Plan) (H : List Entry) (entry : Entry) (i : ℕ) → 0 < plan.length → LegalRun b plan H → Legal b plan H entry → counts plan (H ++ entry ∷ []) i ≡ counts_after H (finished_by plan entry) (counts plan H i) i
+
+abbrev pub FinishedGoesOn : Type 0
+FinishedGoesOn = (b : Tables) (plan : Plan) (H : List Entry) (entry : Entry) → 0 < plan.length → LegalRun b plan H → Legal b plan H entry → finished plan (H ++ entry ∷ []) ≡ finished plan H + (if is_some (finished_by plan entry) then 1 else 0)
 
 -- ---- forms
 -- the form last served from stays a form of the session's problem, whatever the estimate

@@ -1,6 +1,6 @@
 //! What the definitions imply, for every bank, plan, history and record.
 
-ghost use Rattle.history_model.specs.Laws.{MayIsLegal, BackedIsLegalRun, OneProblem, OneReason, NoReasonIfMay, SessionsAreNumbered, StepsAreInOrder, SeatBeforeStart, SeatGoesOn, SeatIsSeat, PlaceIsOfSeat, PendingIsOfSeat, LastFormStays, CompleteMeets};
+ghost use Rattle.history_model.specs.Laws.{MayIsLegal, BackedIsLegalRun, OneProblem, OneReason, NoReasonIfMay, EachIsLegal, SessionsAreNumbered, StepsAreInOrder, SeatBeforeStart, SeatGoesOn, SeatIsSeat, PlaceIsOfSeat, PendingIsOfSeat, CountsGoOn, FinishedGoesOn, LastFormStays, CompleteMeets};
 
 /// What may follow, by its tree, is legal: a form marked proved is best, and eligibility is set aside for the stated cause.
 pub fn may_is_legal()
@@ -25,6 +25,11 @@ pub fn one_reason()
 /// A record that may follow has none.
 pub fn no_reason_if_may()
     ensures { NoReasonIfMay }
+{}
+
+/// What stands before an entry of a legal run is one, and the entry is legal behind it.
+pub fn each_is_legal()
+    ensures { EachIsLegal }
 {}
 
 /// The sessions of a legal run are numbered from 0 to their number less 1.
@@ -60,6 +65,16 @@ pub fn place_is_of_seat()
 /// One whose step is to be served has a seat that waits for an item.
 pub fn pending_is_of_seat()
     ensures { PendingIsOfSeat }
+{}
+
+/// One legal entry more changes the exposure counts only where it finishes its session, and then by that session's seat.
+pub fn counts_go_on()
+    ensures { CountsGoOn }
+{}
+
+/// So it is with the number of finished sessions.
+pub fn finished_goes_on()
+    ensures { FinishedGoesOn }
 {}
 
 /// The form last served from stays a form of the session's problem: so a session that has begun never lacks one.
