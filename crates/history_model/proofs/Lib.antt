@@ -14,3 +14,4 @@ pub mod ReasonsOfA
 pub mod MarksAndCauses
 pub mod CountLaws
 pub mod RunParts
+pub mod Bounds

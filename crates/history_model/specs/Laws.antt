@@ -2,6 +2,7 @@
 use Rattle.std.specs.Prelude.{◌≡◌, ℕ, ◌+◌, ◌<◌, ◌≤◌, Bool, true, false, ◌||◌, ◌==◌, List, [], ◌∷◌, ◌++◌, length, slice_get, nat_le, is_some, IsTrue, IsFalse, Option, Some, None, if◌then◌else◌}
 use Rattle.bank_tables.specs.Items.{has}
 use Rattle.bank_tables.specs.Tables.{Tables}
+use Rattle.bank_tables.specs.Validity.{HoldsItems}
 use Rattle.exam_model.specs.declared.seat.Seat.{Seat}
 use Rattle.exam_model.specs.Plan.{Plan}
 use Rattle.exam_model.specs.Problem.{Problem}
@@ -49,6 +50,13 @@ EachIsLegal = (b : Tables) (plan : Plan) (H : List Entry) (entry : Entry) (G : L
 abbrev pub SessionsAreNumbered : Type 0
 SessionsAreNumbered = (b : Tables) (plan : Plan) (H : List Entry) (s : ℕ) → LegalRun b plan H → (IsTrue (is_started H s) → s < sessions H) × (s < sessions H → IsTrue (is_started H s))
 
+-- they are at most as many as the plan allows, and at most so many are finished
+abbrev pub SessionsAreFew : Type 0
+SessionsAreFew = (b : Tables) (plan : Plan) (H : List Entry) → LegalRun b plan H → sessions H ≤ plan.sessions
+
+abbrev pub FinishedAreFew : Type 0
+FinishedAreFew = (plan : Plan) (H : List Entry) → finished plan H ≤ sessions H
+
 -- the k-th Served entry of a session is that of step k, and so is the k-th Answered entry; there are as many of both, or one
 -- Served entry more
 pub record AreInOrder (H : List Entry) (s : ℕ) : Type 0 where
@@ -82,6 +90,10 @@ SeatGoesOn = (b : Tables) (plan : Plan) (H : List Entry) (entry : Entry) (s : �
 -- each seat keeps what a caller knows of one
 abbrev pub SeatIsSeat : Type 0
 SeatIsSeat = (b : Tables) (plan : Plan) (H : List Entry) (s : ℕ) → LegalRun b plan H → IsSeat b plan (seat_of H s)
+
+-- the eligible items of a session are items of the bank
+abbrev pub EligibleIsOfBank : Type 0
+EligibleIsOfBank = (b : Tables) (plan : Plan) (H : List Entry) (s : ℕ) → LegalRun b plan H → HoldsItems b (has (seat_of H s).eligible)
 
 -- where a seat stands: closed; complete after as many answers as the test has items; waiting for the answer to the item
 -- shown last; or pending

@@ -1,6 +1,6 @@
 //! What the definitions imply, for every bank, plan, history and record.
 
-ghost use Rattle.history_model.specs.Laws.{MayIsLegal, BackedIsLegalRun, OneProblem, OneReason, NoReasonIfMay, EachIsLegal, SessionsAreNumbered, StepsAreInOrder, SeatBeforeStart, SeatGoesOn, SeatIsSeat, PlaceIsOfSeat, PendingIsOfSeat, CountsGoOn, FinishedGoesOn, LastFormStays, CompleteMeets};
+ghost use Rattle.history_model.specs.Laws.{MayIsLegal, BackedIsLegalRun, OneProblem, OneReason, NoReasonIfMay, EachIsLegal, SessionsAreNumbered, SessionsAreFew, FinishedAreFew, StepsAreInOrder, SeatBeforeStart, SeatGoesOn, SeatIsSeat, EligibleIsOfBank, PlaceIsOfSeat, PendingIsOfSeat, CountsGoOn, FinishedGoesOn, LastFormStays, CompleteMeets};
 
 /// What may follow, by its tree, is legal: a form marked proved is best, and eligibility is set aside for the stated cause.
 pub fn may_is_legal()
@@ -37,6 +37,16 @@ pub fn sessions_are_numbered()
     ensures { SessionsAreNumbered }
 {}
 
+/// They are at most as many as the plan allows.
+pub fn sessions_are_few()
+    ensures { SessionsAreFew }
+{}
+
+/// At most as many sessions are finished as were started.
+pub fn finished_are_few()
+    ensures { FinishedAreFew }
+{}
+
 /// The Served and the Answered entries of a session of a legal run stand in the order of their steps, from 0 on.
 pub fn steps_are_in_order()
     ensures { StepsAreInOrder }
@@ -55,6 +65,11 @@ pub fn seat_goes_on()
 /// Each seat of a legal run keeps what a caller knows of one.
 pub fn seat_is_seat()
     ensures { SeatIsSeat }
+{}
+
+/// The eligible items of each session of a legal run are items of the bank.
+pub fn eligible_is_of_bank()
+    ensures { EligibleIsOfBank }
 {}
 
 /// A session of a legal run stands where its seat does.
