@@ -1,0 +1,4 @@
+pub mod Sets
+pub mod Shape
+pub mod Spelling
+pub mod Reading
