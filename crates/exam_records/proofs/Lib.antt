@@ -4,3 +4,4 @@ pub mod SetLaws
 pub mod FieldLaws
 pub mod RecordLaws
 pub mod AgainLaws
+pub mod CutLaws

@@ -52,7 +52,7 @@ started_found bytes x fits kind e =
       is = record { goes_with = tt; fits = (session.1, booking.1, eligible.1); tree = tt };
       stands = entry_alone bytes (Started a.0 b.0 s.0) 77 whole;
     } in
-    subst (IsFound bytes) (ok_is {F = RecordFault} made x s.2) found
+    subst (IsFound bytes) {x = made} (ok_is {F = RecordFault} made x s.2) found
 
 cause_again : (spent : Bool) → cause_byte (cause_of spent) ≡ mark_byte spent
 cause_again true = refl
@@ -77,7 +77,7 @@ set_aside_found bytes x fits kind e =
       is = record { goes_with = tree.number; fits = session.1; tree = tree.is_tree };
       stands = entry_and_tree bytes (SetAside a.0 (cause_of f.0) n.0) 8 t.0.0 t.0.1 whole tree.stands;
     } in
-    subst (IsFound bytes) (ok_is {F = RecordFault} made x t.2) found
+    subst (IsFound bytes) {x = made} (ok_is {F = RecordFault} made x t.2) found
 
 served_found : (bytes : List ℕ) (x : Record × ℕ) → IsBytes bytes → Stands bytes 0 (3 ∷ []) 1 → served bytes ≡ Ok x → IsFound bytes x
 unfolding served entry_bytes
@@ -107,7 +107,7 @@ served_found bytes x fits kind e =
       is = record { goes_with = tree.number; fits = (session.1, step.1, item.1, form.1); tree = tree.is_tree };
       stands = entry_and_tree bytes (Served a.0 p.0 i.0 s.0 f.0 n.0) 76 t.0.0 t.0.1 whole tree.stands;
     } in
-    subst (IsFound bytes) (ok_is {F = RecordFault} made x t.2) found
+    subst (IsFound bytes) {x = made} (ok_is {F = RecordFault} made x t.2) found
 
 answered_found : (bytes : List ℕ) (x : Record × ℕ) → IsBytes bytes → Stands bytes 0 (4 ∷ []) 1 → answered bytes ≡ Ok x → IsFound bytes x
 unfolding answered entry_bytes
@@ -126,7 +126,7 @@ answered_found bytes x fits kind e =
       is = record { goes_with = tt; fits = (session.1, step.1, response.1); tree = tt };
       stands = entry_alone bytes (Answered a.0 p.0 r.0) 8 whole;
     } in
-    subst (IsFound bytes) (ok_is {F = RecordFault} made x r.2) found
+    subst (IsFound bytes) {x = made} (ok_is {F = RecordFault} made x r.2) found
 
 closed_found : (bytes : List ℕ) (x : Record × ℕ) → IsBytes bytes → Stands bytes 0 (5 ∷ []) 1 → closed bytes ≡ Ok x → IsFound bytes x
 unfolding closed entry_bytes
@@ -139,7 +139,7 @@ closed_found bytes x fits kind e =
       is = record { goes_with = tt; fits = session.1; tree = tt };
       stands = entry_alone bytes (Closed a.0) 5 whole;
     } in
-    subst (IsFound bytes) (ok_is {F = RecordFault} made x a.2) found
+    subst (IsFound bytes) {x = made} (ok_is {F = RecordFault} made x a.2) found
 
 -- the kind is this one
 as_kind : (bytes : List ℕ) (kind k : ℕ) → (kind == k) ≡ true → Stands bytes 0 (kind ∷ []) 1 → Stands bytes 0 (k ∷ []) 1

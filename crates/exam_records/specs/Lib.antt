@@ -2,3 +2,4 @@ pub mod Sets
 pub mod Shape
 pub mod Spelling
 pub mod Reading
+pub mod Cuts

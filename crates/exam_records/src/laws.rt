@@ -1,14 +1,15 @@
 //! What the bytes of records promise, for all records and all bytes.
 
-ghost use Rattle.std.specs.Prelude.{◌≡◌, ℕ, ◌/◌, ◌%◌, ◌<◌, ◌++◌, List, length, slice_index, Ok, Err, if◌then◌else◌};
+ghost use Rattle.std.specs.Prelude.{◌≡◌, ℕ, ◌/◌, ◌%◌, ◌<◌, ◌++◌, List, length, take, slice_index, Ok, Err, if◌then◌else◌};
 ghost use Rattle.std.specs.Int.{bit_at};
 ghost use Rattle.bank_tables.specs.Items.{Set};
 ghost use Rattle.exam_records.specs.declared.fault.RecordFault.TheVariants.{Extra};
 ghost use Rattle.exam_records.specs.declared.spelled.Record.{Record};
 ghost use Rattle.exam_records.specs.Shape.{IsRecord};
 ghost use Rattle.exam_records.specs.Sets.{set_bytes};
-ghost use Rattle.exam_records.specs.Spelling.{payload_of};
+ghost use Rattle.exam_records.specs.Spelling.{entry_bytes, payload_of};
 ghost use Rattle.exam_records.specs.Reading.{record_of};
+ghost use Rattle.exam_records.specs.Cuts.{IsCutOff};
 
 /// What is written is read again.
 pub fn written_is_read()
@@ -28,6 +29,12 @@ pub fn no_two_records()
 /// Whatever stands behind a record is told as such, with the place where the record ends.
 pub fn more_is_told()
     ensures { (r : Record) (rest : List ℕ) → IsRecord r → 0 < length rest → record_of (payload_of r ++ rest) ≡ Err (Extra (length (payload_of r))) }
+{}
+
+/// A payload that is cut off anywhere is told as such: Short before the tree, and within it the tree's own Short or
+/// Unfinished.
+pub fn cut_off_is_told()
+    ensures { (r : Record) (k : ℕ) → IsRecord r → k < length (payload_of r) → IsCutOff (length (entry_bytes r.entry)) k (record_of (take k (payload_of r))) }
 {}
 
 /// A set of items is 64 bytes, and item i is bit i mod 8 (bit 0 the least) of byte i div 8.
