@@ -1,1 +1,4 @@
 pub mod Assemblies
+pub mod Exchanges
+pub mod Comparing
+pub mod Searches

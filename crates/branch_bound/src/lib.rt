@@ -5,6 +5,8 @@
 #![tactic(auto)]
 
 mod assembly;
+mod exchanges;
+mod forms;
 mod outcome;
 
 pub use assembly::{Assembled, assemble};

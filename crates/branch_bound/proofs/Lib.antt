@@ -1,0 +1,3 @@
+pub mod ExchangeLaws
+pub mod Comparisons
+pub mod SearchLaws
