@@ -1,3 +1,6 @@
 pub mod ExchangeLaws
 pub mod Comparisons
 pub mod SearchLaws
+pub mod LeafLaws
+pub mod OutcomeLaws
+pub mod PruneLaws

@@ -8,7 +8,7 @@ use Rattle.exam_model.specs.Paths.{Path, is_free, with_item, with_stimulus}
 use Rattle.exam_model.specs.Counting.{IsFirstImpossible}
 use Rattle.exam_model.specs.ProofTrees.{ProofTree}
 use Rattle.exam_model.specs.Verdicts.{IsStimulusBranch, IsFormOrNone, IsSound, below, only_candidate}
-use Rattle.exam_model.specs.Spending.{open_leaves, IsBranch, HasNoBranch, IsDepthFirst, IsSpentNode, IsUnresolved}
+use Rattle.exam_model.specs.Spending.{open_leaves, IsBranch, HasNoBranch, IsDepthFirst, IsSpentNode, PlainBoundExceeds, IsUnresolved}
 use Rattle.proof_tree.specs.Shape.{IsNode}
 use Rattle.branch_bound.specs.Comparing.{IsAsGood}
 
@@ -47,6 +47,11 @@ pub record Adds (P : Problem) (p : Path) (B : Option Set) (k : ℕ) (before : Li
   pub nodes : List Node
   pub added : after ≡ before ++ nodes
   pub search : IsSearch P p B k C m nodes
+
+-- where there is a form, the plain bound exceeds it
+abbrev pub ExceedsForm : Problem → Path → Option Set → Type 0
+ExceedsForm P p None = Unit {0}
+ExceedsForm P p (Some X) = PlainBoundExceeds P p X
 
 -- the leaf ends the path, with the form C or none; or none does, and the form or none is as before
 pub record Ends (P : Problem) (p : Path) (B C : Option Set) (node : Node) : Type 0 where
