@@ -1,6 +1,6 @@
 -- What the tests at one path decide.
 use Rattle.std.proofs.Common.{◌≡◌, ℕ, zero, suc, ◌+◌, ◌-◌, ◌*◌, ◌≤◌, ◌<◌, ◌⊎◌, inl, inr, Bool, true, false, cond, not, ◌&&◌, ◌||◌, ◌==◌, nat_lt, [], ◌∷◌, length, refl, sym, ap, ◌∙◌, subst, arith, Option, Some, None}
-use Rattle.std.specs.Prelude.{ℤ, pos, ◌≤ℤ◌, ◌<ℤ◌}
+use Rattle.std.specs.Prelude.{ℤ, pos, ◌<ℤ◌, IsSome}
 use Rattle.std.proofs.lemmas.Int.{ints}
 use Rattle.std.proofs.lemmas.Bool.{and_parts, eq-eqb, eqb-true, ltb-true, le-ltb, cases_lt}
 use Rattle.std.proofs.lemmas.List.Elements.{All-nil}
@@ -17,7 +17,8 @@ use Rattle.exam_model.specs.Counting.{taken_or_free, length_impossible, is_impos
 use Rattle.exam_model.specs.Forms.{Form, objective, size_in, stimuli_of, used}
 use Rattle.exam_model.specs.Paths.{Path, is_free, is_open, is_chosen}
 use Rattle.exam_model.specs.Problem.{Problem}
-use Rattle.exam_model.specs.Relaxed.{IsRelaxedMaximum}
+use Rattle.exam_model.specs.Relaxed.{Multipliers}
+use Rattle.lagrange_bound.specs.Bounds.{IsBound}
 use Rattle.exam_model.specs.Validity.{IsWellMade}
 use Rattle.exam_model.specs.Verdicts.{IsStimulusBranch, only_candidate, CandidateIsSettled, ClosesByBound, IsFormOrNone, below}
 use Rattle.exam_model.specs.Spending.{IsBranch, IsUnresolved, PlainBoundExceeds, ExceedsStart}
@@ -217,3 +218,8 @@ pub counts_as : (P : Problem) (X Y : Set) (count length : ℕ) → IsBank P.bank
 counts_as P X Y count length bank below same is number =
     let e : count ≡ size_in P.bank Y = is ∙ counted P.bank X bank below ∙ ap (λ (Z : Set). size_in P.bank Z) same in
     (λ h. sym e ∙ h ∙ number, λ h. e ∙ h ∙ sym number)
+
+-- ---- there is a bound where the length is possible
+pub bound_there : (P : Problem) (p : Path) (v : Multipliers) (r : Option ℤ) → IsBound P p v false r → length_impossible P p ≡ false → IsSome r
+bound_there P p v None none possible = absurd (true≢false (sym none ∙ possible))
+bound_there P p v (Some r) is possible = refl

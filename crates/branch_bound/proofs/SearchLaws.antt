@@ -84,18 +84,6 @@ leaf_search P p B C k node ends =
       no_branch = λ _. (ends.no_branch, tt);
     }
 
-pub open_search : (P : Problem) (p : Path) (B : Option Set) → IsFormOrNone P B → ((X : Option Set) → Suits P X p Open) → IsSearch P p B 0 B 0 (Open ∷ [])
-open_search P p B form suits =
-    record {
-      form = form;
-      no_worse = as_good-refl P B;
-      suit = λ X as_good rest paths all. (suits X, all);
-      number = omega arith;
-      depth_first = tt;
-      ended = inr refl;
-      no_branch = λ _. ((λ b. b), tt);
-    }
-
 -- ---- a branch and the searches of its sides
 module _ (P : Problem) (p l r : Path) (node : Node) (B C D : Option Set) (k m n : ℕ) (left right : List Node)
     (two : below P p node ≡ l ∷ r ∷ [])

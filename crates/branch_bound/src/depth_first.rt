@@ -75,10 +75,7 @@ fn plain_bound(problem: &Problem, plain: &Vector, cut: &Cut) -> i64
     requires plain { plain.now ≡ [] }
     ensures { (p : Path) → IsCutOf (problem_of problem.now) p cut.now → IsRelaxedMaximum (problem_of problem.now) p [] false result }
 {
-    match bound(problem, cut, plain, false) {
-        Some(maximum) => maximum,
-        None => unreachable!(),
-    }
+    bound(problem, cut, plain, false).unwrap()
 }
 
 /// Whether the plain bound leaves no room for a form better than the one known.
@@ -144,7 +141,8 @@ fn search(problem: &Problem, plain: &Vector, cut: &Cut, state: &mut SearchState)
     let left = side(problem, cut, &branch, true);
     search(problem, plain, &left, state)?;
     let right = side(problem, cut, &branch, false);
-    search(problem, plain, &right, state)
+    search(problem, plain, &right, state)?;
+    Ok(())
 }
 
 /// Whether a leaf is Open.

@@ -1,4 +1,4 @@
-use Rattle.std.proofs.Common.{◌≡◌, ◌∙◌, ◌+◌, ◌*◌, sym, subst, true, false, arith, Option, Some}
+use Rattle.std.proofs.Common.{◌≡◌, ◌∙◌, ◌+◌, ◌*◌, [], sym, subst, true, false, arith, Option, Some}
 use Rattle.std.specs.Prelude.{◌≤ℤ◌, ◌<ℤ◌, pos}
 use Rattle.std.specs.Option.{option_map}
 use Rattle.std.proofs.lemmas.Int.{ints}
@@ -14,11 +14,11 @@ returns-in-Some-clause-closed c = λ p is closed.
     let P = problem_of c.args.problem.now in
     let X : Set = has c.in-Some.form in
     let most : c.plain_bound.result ≤ℤ pos (256 * objective P X + 255) = grind (arith, ints, c.closing_value.ensures) in
-    ?
+    subst (λ (o : _). ClosesByBound P (option_map has o) p []) (sym c.in-Some.is) (record { maximum = c.plain_bound.result; is_maximum = c.plain_bound.ensures p is; below = most })
 
 pub returns-in-Some-clause-not_closed : goal.returns-in-Some-clause-not_closed
 returns-in-Some-clause-not_closed c = λ p is closed.
     let P = problem_of c.args.problem.now in
     let X : Set = has c.in-Some.form in
     let above : pos (256 * objective P X + 255) <ℤ c.plain_bound.result = grind (arith, ints, c.closing_value.ensures) in
-    ?
+    subst (λ (o : _). ExceedsForm P p (option_map has o)) (sym c.in-Some.is) (record { maximum = c.plain_bound.result; is_maximum = c.plain_bound.ensures p is; above = above })

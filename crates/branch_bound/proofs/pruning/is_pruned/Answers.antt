@@ -5,4 +5,4 @@ use Rattle.branch_bound.proofs.PruneLaws.{all_pruned_where}
 use Rattle.branch_bound.proofs.pruning.is_pruned.Goals as goal
 
 pub returns : goal.returns
-returns c = ?
+returns c = λ found. all_pruned_where (problem_of c.args.problem.now) c.args.tree.now c.pruned_to.result (sym c.is_some.ensures ∙ found) c.nodes.ensures.tree.shape.one_tree (c.pruned_to.ensures (root (problem_of c.args.problem.now)) c.root.ensures)
