@@ -55,10 +55,10 @@ pub fn assemble<'a>(
 ) -> Result<Assembled<'a>, Memory>
     requires well_made { IsWellMade (problem_of problem) }
     requires budget { IsBudget budget }
-    ensures problem { IfOk result (λ a. a.problem ≡ problem) }
-    ensures assembly { IfOk result (λ a. IsAssembly (problem_of problem) (option_map has (option_copied hint.entry)) budget a.tree a.outcome) }
-    ensures is_true { IfOk result (λ a. IsTrueOutcome (problem_of problem) a.outcome) }
-    ensures decided { IfOk result (λ a. 2 ^ (undecided (problem_of problem) (root (problem_of problem)) + 1) ≤ budget + 1 → IsDecided a.outcome) }
+    ensures problem { IfOk result (λ a. a.problem ≡ problem.entry) }
+    ensures assembly { IfOk result (λ a. IsAssembly (problem_of problem.entry) (option_map has (option_copied hint.entry)) budget a.tree a.outcome) }
+    ensures is_true { IfOk result (λ a. IsTrueOutcome (problem_of problem.entry) a.outcome) }
+    ensures decided { IfOk result (λ a. 2 ^ (undecided (problem_of problem.entry) (root (problem_of problem.entry)) + 1) ≤ budget + 1 → IsDecided a.outcome) }
 {
     Err(Memory)
 }
