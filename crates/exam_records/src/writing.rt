@@ -1,6 +1,7 @@
 //! Writing a record.
 
-ghost use Rattle.std.specs.Prelude.{◌≡◌, ◌≤◌, ◌<◌, ◌++◌, length, OnOk, IfOk};
+ghost use Rattle.std.specs.Prelude.{◌≡◌, ◌≤◌, ◌<◌, ◌∷◌, ◌++◌, length, OnOk, IfOk};
+ghost use Rattle.std.specs.Int.{w32, to_be_bytes};
 ghost use Rattle.exam_records.specs.Shape.{GoesWith, IsRecord};
 ghost use Rattle.exam_records.specs.Spelling.{cause_byte, entry_bytes, tree_bytes, payload_of};
 
@@ -20,6 +21,14 @@ fn cause_byte(cause: &Cause) -> u8
     }
 }
 
+/// The kind and the session, with which each entry begins.
+fn push_front(out: &mut Vec<u8>, kind: u8, session: u32) -> Result<(), AllocError>
+    ensures { OnOk result (out.new.items ≡ out.old.items ++ kind ∷ to_be_bytes w32 session) }
+{
+    out.push(kind)?;
+    out.extend_from_slice(&session.to_be_bytes())
+}
+
 #[tactic(auto, unfolding(crate::specs::Spelling::entry_bytes))]
 fn push_entry(out: &mut Vec<u8>, entry: &Entry) -> Result<(), AllocError>
     ensures { OnOk result (out.new.items ≡ out.old.items ++ entry_bytes entry.now) }
@@ -30,8 +39,7 @@ fn push_entry(out: &mut Vec<u8>, entry: &Entry) -> Result<(), AllocError>
             booking,
             eligible,
         } => {
-            out.push(1)?;
-            out.extend_from_slice(&session.to_be_bytes())?;
+            push_front(out, 1, *session)?;
             out.extend_from_slice(&booking.to_be_bytes())?;
             push_set(out, eligible)
         }
@@ -40,8 +48,7 @@ fn push_entry(out: &mut Vec<u8>, entry: &Entry) -> Result<(), AllocError>
             cause,
             nodes,
         } => {
-            out.push(2)?;
-            out.extend_from_slice(&session.to_be_bytes())?;
+            push_front(out, 2, *session)?;
             out.push(cause_byte(cause))?;
             out.extend_from_slice(&nodes.to_be_bytes())
         }
@@ -53,8 +60,7 @@ fn push_entry(out: &mut Vec<u8>, entry: &Entry) -> Result<(), AllocError>
             proved,
             nodes,
         } => {
-            out.push(3)?;
-            out.extend_from_slice(&session.to_be_bytes())?;
+            push_front(out, 3, *session)?;
             out.extend_from_slice(&step.to_be_bytes())?;
             out.extend_from_slice(&item.to_be_bytes())?;
             push_set(out, form)?;
@@ -66,15 +72,11 @@ fn push_entry(out: &mut Vec<u8>, entry: &Entry) -> Result<(), AllocError>
             step,
             response,
         } => {
-            out.push(4)?;
-            out.extend_from_slice(&session.to_be_bytes())?;
+            push_front(out, 4, *session)?;
             out.extend_from_slice(&step.to_be_bytes())?;
             out.extend_from_slice(&[*response])
         }
-        Entry::Closed { session } => {
-            out.push(5)?;
-            out.extend_from_slice(&session.to_be_bytes())
-        }
+        Entry::Closed { session } => push_front(out, 5, *session),
     }
 }
 
