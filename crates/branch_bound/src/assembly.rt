@@ -6,6 +6,7 @@ ghost use Rattle.bank_tables.specs.Items.{has};
 ghost use Rattle.exam_model.specs.Paths.{root, undecided};
 ghost use Rattle.exam_model.specs.Validity.{IsBudget, IsWellMade};
 ghost use Rattle.constraint_model.specs.Views.{problem_of};
+ghost use Rattle.branch_bound.specs.Assembled.{KeepsPromise};
 ghost use Rattle.branch_bound.specs.Assemblies.{IsAssembly, IsTrueOutcome, IsDecided};
 
 use crate::depth_first::search_plainly;
@@ -14,8 +15,11 @@ use bank_tables::ItemSet;
 use constraint_model::Problem;
 use proof_tree::{Memory, Tree};
 use std::alloc::Global;
+use std::marker::Model;
 
-/// An outcome, with the problem, the node budget and the tree that shows it.
+/// An outcome, with the problem, the node budget and the tree that shows it: by its type, and so of every value, the tree
+/// shows the outcome by the rules that the separate checker tests; a form is no worse than the start and firm; and no path
+/// of the tree goes on past a row that is impossible by counting.
 #[derive(Debug, Drop)]
 pub struct Assembled<'a> {
     problem: Problem<'a>,
@@ -23,6 +27,16 @@ pub struct Assembled<'a> {
     budget: u16,
     outcome: Outcome,
     plainly: bool,
+}
+
+impl<'a> Model for Assembled<'a> {
+    ghost use Rattle.branch_bound.specs.Assembled.{Assembly, KeepsPromise};
+
+    ghost Value = { Assembly };
+
+    ghost view = { λ a. record { problem = a.problem; tree = a.tree; budget = a.budget; outcome = a.outcome; plainly = a.plainly } };
+
+    ghost invariant = { λ a. KeepsPromise (record { problem = a.problem; tree = a.tree; budget = a.budget; outcome = a.outcome; plainly = a.plainly }) };
 }
 
 impl<'a> Assembled<'a> {
@@ -42,7 +56,9 @@ impl<'a> Assembled<'a> {
 
     /// The outcome.
     pub fn outcome(&self) -> Outcome
-        ensures { result ≡ self.now.outcome }
+        ensures outcome { result ≡ self.now.outcome }
+        ensures promise { KeepsPromise self.now }
+        ensures is_true { IsTrueOutcome (problem_of self.now.problem) result }
     {
         self.outcome
     }
