@@ -1,15 +1,18 @@
 //! Better multipliers.
 
-ghost use Rattle.std.specs.Prelude.{false, IfOk, IsFalse};
+ghost use Rattle.std.specs.Prelude.{false, IfOk, IsFalse, IsTrue};
 ghost use Rattle.exam_model.specs.Counting.{length_impossible};
 ghost use Rattle.exam_model.specs.Paths.{Path};
 ghost use Rattle.exam_model.specs.Validity.{IsWellMade};
 ghost use Rattle.exam_model.specs.Verdicts.{NamesOnlySides};
 ghost use Rattle.constraint_model.specs.Views.{problem_of};
-ghost use Rattle.lagrange_bound.specs.Bounds.{IsNoHigher};
+ghost use Rattle.lagrange_bound.specs.Bounds.{IsNoHigher, AreInOrder};
 ghost use Rattle.lagrange_bound.specs.Cuts.{IsCut, IsCutOf};
 
 use crate::cut::Cut;
+use crate::relaxation::bound;
+use crate::steps::climb;
+use crate::vectors::{copy_of, names_only_sides};
 use bank_tables::ItemSet;
 use constraint_model::Problem;
 use proof_tree::{Memory, Vector};
@@ -36,6 +39,27 @@ pub struct Ascent {
     pub form: Option<ItemSet>,
 }
 
+/// Whether a bound is there, and at most another that is.
+fn is_at_most(to: Option<i64>, from: Option<i64>) -> bool
+    ensures { IsTrue result → AreInOrder to from }
+{
+    match (to, from) {
+        (Some(new), Some(old)) => new <= old,
+        _ => false,
+    }
+}
+
+/// Whether the bound of the vector `to` is at most that of `from`.
+fn is_no_higher(problem: &Problem, cut: &Cut, from: &Vector, to: &Vector, ray: bool) -> bool
+    requires well_made { IsWellMade (problem_of problem.now) }
+    requires cut { IsCut (problem_of problem.now) cut.now }
+    requires from { NamesOnlySides (problem_of problem.now) from.now }
+    requires to { NamesOnlySides (problem_of problem.now) to.now }
+    ensures { IsTrue result → (p : Path) → IsCutOf (problem_of problem.now) p cut.now → IsNoHigher (problem_of problem.now) p ray from.now to.now }
+{
+    is_at_most(bound(problem, cut, to, ray), bound(problem, cut, from, ray))
+}
+
 /// Whole-number subgradient steps from a vector (Held, Wolfe and Crowder, Validation of Subgradient Optimization, 1974).
 /// The vector is valid for the plan, and its bound is at most that of `from`; nothing is promised of the rest.
 pub fn ascend(
@@ -51,7 +75,26 @@ pub fn ascend(
     requires possible { (p : Path) → IsCutOf (problem_of problem.now) p cut.now → IsFalse (length_impossible (problem_of problem.now) p) }
     ensures sides { IfOk result (λ ascent. NamesOnlySides (problem_of problem.now) ascent.vector) }
     ensures no_higher { IfOk result (λ ascent. (p : Path) → IsCutOf (problem_of problem.now) p cut.now → IsNoHigher (problem_of problem.now) p aim.ray from.now ascent.vector) }
-{ todo }
+{
+    let ascent = climb(alloc, problem, cut, from, aim)?;
+    if names_only_sides(problem, &ascent.vector)
+        && is_no_higher(problem, cut, from, &ascent.vector, aim.ray)
+    {
+        return Ok(ascent);
+    }
+    let Ascent {
+        vector: _,
+        bound: _,
+        shares,
+        form,
+    } = ascent;
+    Ok(Ascent {
+        vector: copy_of(alloc, from)?,
+        bound: bound(problem, cut, from, aim.ray).unwrap_or(aim.target),
+        shares,
+        form,
+    })
+}
 
 /// A vector whose bound on the path is at most that of `from`, after at most so many whole-number subgradient steps that
 /// aim at the target.
@@ -69,4 +112,18 @@ pub fn improve(
     requires possible { (p : Path) → IsCutOf (problem_of problem.now) p cut.now → IsFalse (length_impossible (problem_of problem.now) p) }
     ensures sides { IfOk result (λ vector. NamesOnlySides (problem_of problem.now) vector) }
     ensures no_higher { IfOk result (λ vector. (p : Path) → IsCutOf (problem_of problem.now) p cut.now → IsNoHigher (problem_of problem.now) p false from.now vector) }
-{ todo }
+{
+    let target = target.min(i64::MAX as u64) as i64;
+    let aim = Aim {
+        ray: false,
+        target,
+        steps,
+    };
+    let Ascent {
+        vector,
+        bound: _,
+        shares: _,
+        form: _,
+    } = ascend(alloc, problem, cut, from, aim)?;
+    Ok(vector)
+}

@@ -7,7 +7,17 @@
 mod ascent;
 mod counting;
 mod cut;
+mod members;
+mod prices;
 mod relaxation;
+mod steps;
+mod steps_flat;
+mod steps_items;
+mod steps_lengths;
+mod steps_lines;
+mod threshold;
+mod vectors;
+mod weights;
 
 pub use ascent::{Aim, Ascent, ascend, improve};
 pub use counting::impossible;
