@@ -10,11 +10,14 @@ mod leaves;
 mod pass;
 mod paths;
 mod pool;
+mod priced;
 mod repair;
 mod root;
 mod search_call;
+mod steps;
 mod table;
 mod tally;
+mod weights;
 
 pub use proof_tree::Memory;
 pub use search_call::{Searched, search};

@@ -3,17 +3,20 @@
 ghost use Rattle.exam_model.specs.Validity.{IsWellMade};
 ghost use Rattle.constraint_model.specs.Views.{problem_of};
 ghost use Rattle.lagrange_bound.specs.Cuts.{IsCut};
+ghost use Rattle.form_search.specs.States.{IsPossible};
 
 use crate::branching::branch;
 use crate::incumbent::Incumbent;
-use crate::leaves::{leaf_with, settled};
+use crate::leaves::settled;
 use crate::paths::{Waiting, next_path, push_below, wait};
 use crate::pool::{Pool, closes, copied, empty_vector};
-use crate::root::{Rooted, steps_on, take_form};
+use crate::priced::Priced;
+use crate::root::Rooted;
+use crate::steps::{steps_on, take_form};
 use crate::table::Table;
 use constraint_model::Problem;
 use exam_model::Node;
-use lagrange_bound::{Aim, Ascent, Cut};
+use lagrange_bound::{Aim, Ascent, Cut, impossible};
 use proof_tree::{Memory, Vector};
 use std::alloc::Global;
 
@@ -24,6 +27,8 @@ pub struct Limits {
     pub branches: u32,
     /// Vectors, at most.
     pub vectors: usize,
+    /// Whether it ends early where one that begins anew would be smaller.
+    pub restarts: bool,
 }
 
 /// What a pass has made so far.
@@ -39,14 +44,23 @@ pub struct Pass {
     pub is_spent: bool,
     /// Whether no path waits for its subtree.
     pub is_whole: bool,
+    /// The objective of the incumbent as the pass began.
+    begun: u64,
 }
 
 impl Pass {
     /// A pass with the root's vector.
-    fn new(alloc: Global, rooted: &Rooted, limits: Limits) -> Result<Pass, Memory> {
-        let mut pool = Pool::new(alloc, limits.vectors);
+    fn new(
+        alloc: Global,
+        table: &Table,
+        incumbent: &Incumbent,
+        rooted: &Rooted,
+        limits: Limits,
+    ) -> Result<Pass, Memory> {
+        let mut pool = Pool::new(alloc, table, limits.vectors)?;
         if !rooted.vector.pairs().is_empty() && pool.has_room() {
-            let _ = pool.store(copied(alloc, &rooted.vector)?)?;
+            let vector = copied(alloc, &rooted.vector)?;
+            let _ = pool.store(Priced::of(alloc, table, vector, false)?)?;
         }
         let mut hands = Vec::new(alloc);
         hands.push(copied(alloc, &rooted.vector)?)?;
@@ -57,6 +71,7 @@ impl Pass {
             branches: limits.branches,
             is_spent: false,
             is_whole: false,
+            begun: incumbent.objective,
         })
     }
 
@@ -70,6 +85,7 @@ impl Pass {
     ) -> Result<Option<Ascent>, Memory>
         requires well_made { IsWellMade (problem_of problem.now) }
         requires cut { IsCut (problem_of problem.now) place.now.cut }
+        requires possible { IsPossible (problem_of problem.now) place.now.cut }
     {
         let steps = if !self.pool.has_room() {
             10
@@ -117,27 +133,53 @@ impl Pass {
     ) -> Result<Node, Memory>
         requires well_made { IsWellMade (problem_of problem.now) }
         requires cut { IsCut (problem_of problem.now) place.now.cut }
+        requires possible { IsPossible (problem_of problem.now) place.now.cut }
     {
         let ray = incumbent.form.is_none();
         let Some(ascent) = self.steps(alloc, problem, incumbent, place)? else {
             return Ok(Node::Open);
         };
         take_form(problem, table, incumbent, &ascent);
-        let ray = ray && incumbent.form.is_none();
-        let top = incumbent.top();
-        if ascent.bound <= top
-            && self.pool.has_room()
-            && closes(problem, &place.cut, &ascent.vector, ray, top)
-        {
-            if let Some(stored) = self.pool.store(ascent.vector)? {
-                return Ok(leaf_with(ray, stored));
+        if ascent.bound <= incumbent.top() && self.pool.has_room() {
+            let vector = copied(alloc, &ascent.vector)?;
+            let priced = Priced::of(alloc, table, vector, ray)?;
+            if closes(&priced, table, incumbent, &place.cut) {
+                if let Some(leaf) = self.pool.store(priced)? {
+                    return Ok(leaf);
+                }
             }
-            return Ok(Node::Open);
         }
         self.branch_or_open(table, place, ascent.vector, ascent.shares.as_slice())
     }
 
-    /// The node at a path.
+    /// The node at a path where no row is impossible by counting.
+    fn possible_node(
+        &mut self,
+        alloc: Global,
+        problem: &Problem,
+        table: &Table,
+        incumbent: &mut Incumbent,
+        rooted: &Rooted,
+        place: &Waiting,
+    ) -> Result<Node, Memory>
+        requires well_made { IsWellMade (problem_of problem.now) }
+        requires cut { IsCut (problem_of problem.now) place.now.cut }
+        requires possible { IsPossible (problem_of problem.now) place.now.cut }
+    {
+        if let Some(leaf) = settled(problem, table, &mut self.pool, incumbent, &place.cut)? {
+            return Ok(leaf);
+        }
+        if self.is_spent {
+            return Ok(Node::Open);
+        }
+        if place.depth == 0 && incumbent.form.is_some() {
+            let vector = copied(alloc, &rooted.vector)?;
+            return self.branch_or_open(table, place, vector, rooted.shares.as_slice());
+        }
+        self.explored(alloc, problem, table, incumbent, place)
+    }
+
+    /// The node at a path: the leaf of the lowest row that is impossible by counting, where there is one.
     fn node_at(
         &mut self,
         alloc: Global,
@@ -150,17 +192,16 @@ impl Pass {
         requires well_made { IsWellMade (problem_of problem.now) }
         requires cut { IsCut (problem_of problem.now) place.now.cut }
     {
-        if let Some(leaf) = settled(alloc, problem, table, &mut self.pool, incumbent, &place.cut)? {
-            return Ok(leaf);
+        match impossible(problem, &place.cut) {
+            Some(row) => Ok(Node::Count(row)),
+            None => self.possible_node(alloc, problem, table, incumbent, rooted, place),
         }
-        if self.is_spent {
-            return Ok(Node::Open);
-        }
-        if place.depth == 0 && incumbent.form.is_some() {
-            let vector = copied(alloc, &rooted.vector)?;
-            return self.branch_or_open(table, place, vector, rooted.shares.as_slice());
-        }
-        self.explored(alloc, problem, table, incumbent, place)
+    }
+
+    /// Whether a pass that begins anew would be smaller: a better form was met, and there are 32, 64, 128, .. nodes.
+    fn is_stale(&self, incumbent: &Incumbent) -> bool {
+        let count = self.nodes.len();
+        count >= 32 && count.is_power_of_two() && incumbent.objective > self.begun
     }
 
     /// A pass over the paths from the root on.
@@ -174,7 +215,7 @@ impl Pass {
     ) -> Result<Pass, Memory>
         requires { IsWellMade (problem_of problem.now) }
     {
-        let mut pass = Pass::new(alloc, rooted, limits)?;
+        let mut pass = Pass::new(alloc, table, incumbent, rooted, limits)?;
         let mut waiting = Vec::new(alloc);
         wait(
             problem,
@@ -194,6 +235,9 @@ impl Pass {
             pass.nodes.push(node)?;
             let hand = pass.hands.len().saturating_sub(1);
             push_below(problem, &mut waiting, &place, &node, hand)?;
+            if limits.restarts && pass.is_stale(incumbent) {
+                break;
+            }
         }
         Ok(pass)
     }

@@ -3,52 +3,13 @@
 use crate::exchange::{Swap, swapped};
 use crate::table::Table;
 use crate::tally::Tally;
+use crate::weights::weights_of;
 use bank_tables::ItemSet;
 use proof_tree::{Memory, Vector};
 use std::alloc::Global;
 
 /// Swaps, at most.
 const MOST_SWAPS: u32 = 40;
-
-/// The multipliers of low sides less those of high sides, by row and then by stimulus.
-fn prices_of(alloc: Global, table: &Table, vector: &Vector) -> Result<Vec<i64>, Memory> {
-    let mut prices = Vec::new(alloc);
-    let count = table.rows.len().saturating_add(table.stimuli.len());
-    for _ in 0..count {
-        prices.push(0i64)?;
-    }
-    for pair in vector.pairs() {
-        if let Some(price) = prices.get_mut((pair.0 / 2) as usize) {
-            let multiplier = pair.1 as i64;
-            *price = if pair.0 % 2 == 0 {
-                price.wrapping_add(multiplier)
-            } else {
-                price.wrapping_sub(multiplier)
-            };
-        }
-    }
-    Ok(prices)
-}
-
-/// The reduced weight of each item: 256 times its information, and what it adds to each row times the row's price.
-pub fn weights_of(alloc: Global, table: &Table, vector: &Vector) -> Result<Vec<i64>, Memory> {
-    let prices = prices_of(alloc, table, vector)?;
-    let mut weights = Vec::new(alloc);
-    for entry in table.entries.as_slice() {
-        let mut weight = (entry.info as i64).wrapping_mul(256);
-        for part in entry.parts.as_slice() {
-            let price = prices.get(part.row as usize).copied().unwrap_or(0);
-            weight = weight.wrapping_add(price.wrapping_mul(part.amount as i64));
-        }
-        if entry.stimulus > 0 {
-            let at = table.rows.len().saturating_add(entry.stimulus as usize);
-            let price = prices.get(at.wrapping_sub(1)).copied().unwrap_or(0);
-            weight = weight.wrapping_add(price);
-        }
-        weights.push(weight)?;
-    }
-    Ok(weights)
-}
 
 /// The weight of an item.
 fn weight_at(weights: &[i64], item: u16) -> i64 {
@@ -83,7 +44,7 @@ fn filled(table: &Table, weights: &[i64], begun: &ItemSet) -> ItemSet {
     items
 }
 
-/// How a swap changes the violation, and what it loses in weight.
+/// A swap with how it changes the violation, and what it loses in weight.
 #[derive(Clone, Copy, Debug)]
 struct Found {
     swap: Swap,
@@ -91,31 +52,54 @@ struct Found {
     loss: i64,
 }
 
+/// Whether the first of two swaps is the better one, or lowers the violation where there is no other.
+fn is_better(found: &Found, best: &Option<Found>) -> bool {
+    match best {
+        Some(old) => {
+            found.change < old.change || found.change == old.change && found.loss < old.loss
+        }
+        None => found.change < 0,
+    }
+}
+
+/// Of the swaps by which one item leaves, the best, if it is better than the best so far.
+fn lowering_for(
+    table: &Table,
+    tally: &Tally,
+    weights: &[i64],
+    items: &ItemSet,
+    leaves: u16,
+    best: Option<Found>,
+) -> Option<Found> {
+    let leaving = table.entries.get(leaves as usize)?;
+    let mut best = best;
+    let mut comes = 0u16;
+    for coming in table.entries.as_slice() {
+        let loss = weight_at(weights, leaves).wrapping_sub(weight_at(weights, comes));
+        if coming.free && !items.has(comes) {
+            let found = Found {
+                swap: Swap { leaves, comes },
+                change: tally.change(table, leaving, coming),
+                loss,
+            };
+            if is_better(&found, &best) {
+                best = Some(found);
+            }
+        }
+        comes = comes.saturating_add(1);
+    }
+    best
+}
+
 /// The swap that lowers the violation most; of several one that loses least in weight.
 fn lowering(table: &Table, weights: &[i64], items: &ItemSet) -> Option<Found> {
     let tally = Tally::of(table, items);
-    let mut best: Option<Found> = None;
+    let mut best = None;
     let mut leaves = 0u16;
     for leaving in table.entries.as_slice() {
         if leaving.free && items.has(leaves) {
-            let mut comes = 0u16;
-            for coming in table.entries.as_slice() {
-                if coming.free && !items.has(comes) {
-                    let found = Found {
-                        swap: Swap { leaves, comes },
-                        change: tally.change(table, leaving, coming),
-                        loss: weight_at(weights, leaves).wrapping_sub(weight_at(weights, comes)),
-                    };
-                    let better = match best {
-                        Some(old) => found.change < old.change
-                            || found.change == old.change && found.loss < old.loss,
-                        None => found.change < 0,
-                    };
-                    if better {
-                        best = Some(found);
-                    }
-                }
-                comes = comes.saturating_add(1);
+            if let Some(found) = lowering_for(table, &tally, weights, items, leaves, best) {
+                best = Some(found);
             }
         }
         leaves = leaves.saturating_add(1);
@@ -131,7 +115,7 @@ pub fn repaired(
     vector: &Vector,
     begun: &ItemSet,
 ) -> Result<ItemSet, Memory> {
-    let weights = weights_of(alloc, table, vector)?;
+    let weights = weights_of(alloc, table, vector, false)?;
     let mut items = filled(table, weights.as_slice(), begun);
     for _ in 0..MOST_SWAPS {
         match lowering(table, weights.as_slice(), &items) {

@@ -21,6 +21,9 @@ use std::alloc::Global;
 /// Vectors of a tree, at most.
 const MOST_VECTORS: usize = 32;
 
+/// Passes with as many vectors as they want, at most.
+const MOST_PASSES: u32 = 8;
+
 /// What a search came to: a form, if it met one, and a tree, if what it built is one.
 #[derive(Debug, Drop)]
 pub struct Searched {
@@ -53,11 +56,12 @@ fn known(
 }
 
 /// The tree of a pass.
-fn tree_of(pass: Pass) -> Option<Tree> {
+fn tree_of(alloc: Global, pass: Pass) -> Result<Option<Tree>, Memory> {
     if !pass.is_whole {
-        return None;
+        return Ok(None);
     }
-    Tree::of(List::of(pass.pool.into_vectors()), List::of(pass.nodes))
+    let vectors = pass.pool.into_vectors(alloc)?;
+    Ok(Tree::of(List::of(vectors), List::of(pass.nodes)))
 }
 
 /// A pass with as many vectors as it wants, and one within the limits of a tree where that doesn't do.
@@ -72,20 +76,24 @@ fn passes(
     requires { IsWellMade (problem_of problem.now) }
 {
     let branches = (budget as u32).saturating_sub(1) / 2;
-    let wide = Limits {
+    let mut limits = Limits {
         branches,
         vectors: 255,
+        restarts: true,
     };
-    let first = Pass::over(alloc, problem, table, incumbent, rooted, wide)?;
-    if first.is_whole && !first.is_spent && first.pool.len() <= MOST_VECTORS {
-        return Ok(tree_of(first));
+    for _ in 0..MOST_PASSES {
+        let pass = Pass::over(alloc, problem, table, incumbent, rooted, limits)?;
+        if pass.is_whole {
+            if !pass.is_spent && pass.pool.len() <= MOST_VECTORS {
+                return tree_of(alloc, pass);
+            }
+            break;
+        }
     }
-    let narrow = Limits {
-        branches,
-        vectors: MOST_VECTORS,
-    };
-    let second = Pass::over(alloc, problem, table, incumbent, rooted, narrow)?;
-    Ok(tree_of(second))
+    limits.vectors = MOST_VECTORS;
+    limits.restarts = false;
+    let pass = Pass::over(alloc, problem, table, incumbent, rooted, limits)?;
+    tree_of(alloc, pass)
 }
 
 /// The form, tested once more.
