@@ -1,6 +1,6 @@
 //! The assembly of a form.
 
-ghost use Rattle.std.specs.Prelude.{◌≡◌, ◌+◌, ◌^◌, ◌≤◌, IfOk};
+ghost use Rattle.std.specs.Prelude.{◌≡◌, ◌+◌, ◌^◌, ◌≤◌, IfOk, IfSome};
 ghost use Rattle.std.specs.Option.{option_map, option_copied};
 ghost use Rattle.bank_tables.specs.Items.{has};
 ghost use Rattle.exam_model.specs.Paths.{root, undecided};
@@ -9,10 +9,12 @@ ghost use Rattle.constraint_model.specs.Views.{problem_of};
 ghost use Rattle.branch_bound.specs.Assembled.{KeepsPromise};
 ghost use Rattle.branch_bound.specs.Assemblies.{IsAssembly, IsTrueOutcome, IsDecided};
 
+use crate::acceptance::accepted;
 use crate::depth_first::search_plainly;
 use crate::outcome::Outcome;
 use bank_tables::ItemSet;
 use constraint_model::Problem;
+use form_search::{Searched, search};
 use proof_tree::{Memory, Tree};
 use std::alloc::Global;
 use std::marker::Model;
@@ -80,6 +82,31 @@ struct Made {
     plainly: bool,
 }
 
+/// What the search proper gives, where it passes every test.
+fn let_in(
+    alloc: Global,
+    problem: &Problem,
+    hint: &Option<ItemSet>,
+    budget: u16,
+) -> Result<Option<Made>, Memory>
+    requires well_made { IsWellMade (problem_of problem.now) }
+    requires budget { IsBudget budget }
+    ensures { IfOk result (λ found. IfSome found (λ made. IsAssembly (problem_of problem.now) (option_map has hint.now) budget made.tree made.outcome)) }
+{
+    let Searched { form, tree } = search(alloc, problem, hint.as_ref(), budget)?;
+    let Some(tree) = tree else {
+        return Ok(None);
+    };
+    match accepted(problem, hint, budget, form, &tree) {
+        Some(outcome) => Ok(Some(Made {
+            tree,
+            outcome,
+            plainly: false,
+        })),
+        None => Ok(None),
+    }
+}
+
 /// Searches, and where what the search gave fails a test searches plainly.
 fn make(
     alloc: Global,
@@ -91,7 +118,11 @@ fn make(
     requires budget { IsBudget budget }
     ensures { IfOk result (λ made. IsAssembly (problem_of problem.now) (option_map has (option_copied hint.entry)) budget made.tree made.outcome) }
 {
-    let searched = search_plainly(alloc, problem, &hint.copied(), budget)?;
+    let hint = hint.copied();
+    if let Some(made) = let_in(alloc, problem, &hint, budget)? {
+        return Ok(made);
+    }
+    let searched = search_plainly(alloc, problem, &hint, budget)?;
     Ok(Made {
         tree: searched.tree,
         outcome: searched.outcome,
