@@ -16,6 +16,8 @@ mod steps_flat;
 mod steps_items;
 mod steps_lengths;
 mod steps_lines;
+mod steps_measures;
+mod steps_slopes;
 mod threshold;
 mod vectors;
 mod weights;

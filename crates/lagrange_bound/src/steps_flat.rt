@@ -1,8 +1,11 @@
 //! A problem on a path as flat arrays: its free items, and lines for its rows and stimuli.
 
 use crate::cut::Cut;
-use crate::steps_items::{Entry, Selection};
+use crate::steps_items::{Selection, reweigh};
 use crate::steps_lines::{Kind, Line, Multiplier};
+use crate::steps_measures::{
+    Bounds, Measure, Taken, bounds_of, coefficient, gain_of, stimulus_of, sum_over,
+};
 use bank_tables::{Bank, ItemSet};
 use constraint_model::{Problem, Row, StimulusBound};
 use proof_tree::{Memory, Vector};
@@ -34,111 +37,6 @@ type Sides = [u32; 384];
 /// The place of each free item among them.
 type Places = [u16; 512];
 
-/// What a row counts of the items of a set.
-#[derive(Clone, Copy)]
-struct Measure {
-    set: ItemSet,
-    /// A quantity of the bank, or their number.
-    which: Option<u8>,
-}
-
-/// The bounds of a row, and what it counts of items; None if it counts stimuli.
-#[derive(Clone, Copy)]
-struct Bounds {
-    low: i64,
-    high: i64,
-    measure: Option<Measure>,
-}
-
-fn bounds_of(row: &Row) -> Bounds {
-    match row {
-        Row::Count { set, low, high } => Bounds {
-            low: *low as i64,
-            high: *high as i64,
-            measure: Some(Measure {
-                set: *set,
-                which: None,
-            }),
-        },
-        Row::Quantity {
-            which,
-            set,
-            low,
-            high,
-        } => Bounds {
-            low: *low as i64,
-            high: *high as i64,
-            measure: Some(Measure {
-                set: *set,
-                which: Some(*which),
-            }),
-        },
-        Row::Enemies { set } => Bounds {
-            low: 0,
-            high: 1,
-            measure: Some(Measure {
-                set: *set,
-                which: None,
-            }),
-        },
-        Row::Stimuli { low, high } => Bounds {
-            low: *low as i64,
-            high: *high as i64,
-            measure: None,
-        },
-    }
-}
-
-/// What an item adds to a measure.
-fn coefficient(bank: &Bank, which: Option<u8>, item: u16) -> i64 {
-    match which {
-        None => 1,
-        Some(quantity) => {
-            if item < bank.items() && quantity < bank.quantities() {
-                bank.quantity(item, quantity) as i64
-            } else {
-                0
-            }
-        }
-    }
-}
-
-/// The sum of a measure over the items of a set.
-fn sum_over(bank: &Bank, which: Option<u8>, items: ItemSet) -> i64 {
-    if which.is_none() {
-        return items.count() as i64;
-    }
-    let mut left = items;
-    let mut sum = 0i64;
-    for _ in 0..512 {
-        let Some(item) = left.first() else {
-            break;
-        };
-        left = left.without(item);
-        sum = sum.wrapping_add(coefficient(bank, which, item));
-    }
-    sum
-}
-
-/// 256 times the information of an item at the estimate, or 0 for a ray.
-fn gain_of(problem: &Problem, ray: bool, item: u16) -> i64 {
-    let bank = problem.bank;
-    if !ray && item < bank.items() && problem.theta < bank.grid() {
-        (bank.info(item, problem.theta) as i64).wrapping_mul(256)
-    } else {
-        0
-    }
-}
-
-/// The stimulus of an item; 0 is none.
-fn stimulus_of(bank: &Bank, item: u16) -> u8 {
-    if item < bank.items() {
-        bank.stimulus(item)
-    } else {
-        0
-    }
-}
-
 /// The multiplier of each side that a vector names, 0 of the others.
 fn sides_of(vector: &Vector) -> Sides {
     let mut sides = [0u32; 384];
@@ -159,175 +57,167 @@ fn multiplier_at(sides: &Sides, side: usize) -> i64 {
 }
 
 /// A place as a short number; the greatest where it is none.
+#[inline]
 fn short(place: usize) -> u16 {
     u16::try_from(place).unwrap_or(u16::MAX)
 }
 
-/// The items taken: their gains, and how many have each stimulus.
+/// The free items: their numbers, their gains, and the place of each.
 #[derive(Drop)]
-struct Taken {
-    gain: i64,
-    of_stimulus: [i64; 256],
+struct Free {
+    numbers: Vec<u16>,
+    gains: Vec<i64>,
+    places: Places,
+    /// The stimulus and the place of those that have one.
+    stimuli: Vec<(u8, u16)>,
 }
 
-fn taken_items(problem: &Problem, cut: &Cut, ray: bool) -> Taken {
-    let mut taken = Taken {
-        gain: 0,
-        of_stimulus: [0; 256],
-    };
-    let mut left = cut.taken;
+fn free_items(alloc: Global, problem: &Problem, free: &ItemSet, ray: bool) -> Result<Free, Memory> {
+    let count = free.count() as usize;
+    let mut numbers = Vec::with_capacity(alloc, count)?;
+    let mut gains = Vec::with_capacity(alloc, count)?;
+    let mut stimuli = Vec::with_capacity(alloc, count)?;
+    let mut places = [u16::MAX; 512];
+    for item in 0..problem.bank.items() {
+        if free.has(item) {
+            let place = short(numbers.len());
+            if let Some(slot) = places.get_mut(item as usize) {
+                *slot = place;
+            }
+            numbers.push(item)?;
+            gains.push(gain_of(problem, ray, item))?;
+            let stimulus = stimulus_of(problem.bank, item);
+            if stimulus != 0 {
+                stimuli.push((stimulus, place))?;
+            }
+        }
+    }
+    Ok(Free {
+        numbers,
+        gains,
+        places,
+        stimuli,
+    })
+}
+
+/// Adds what the free items of a large set add to a line, and gives the sum.
+fn add_many(
+    selection: &mut Selection,
+    bank: &Bank,
+    numbers: &[u16],
+    measure: Measure,
+    line: u16,
+) -> Result<i64, Memory> {
+    let mut sum = 0i64;
+    for (place, item) in numbers.iter().enumerate() {
+        if measure.set.has(*item) {
+            let part = coefficient(bank, measure.which, *item);
+            selection.add_entry(short(place), line, part)?;
+            sum = sum.wrapping_add(part);
+        }
+    }
+    Ok(sum)
+}
+
+/// The same of a small set of free items.
+fn add_few(
+    selection: &mut Selection,
+    bank: &Bank,
+    places: &Places,
+    measure: Measure,
+    line: u16,
+) -> Result<i64, Memory> {
+    let mut left = measure.set;
+    let mut sum = 0i64;
     for _ in 0..512 {
         let Some(item) = left.first() else {
             break;
         };
         left = left.without(item);
-        taken.gain = taken.gain.wrapping_add(gain_of(problem, ray, item));
-        let stimulus = stimulus_of(problem.bank, item) as usize;
-        taken.of_stimulus[stimulus] = taken.of_stimulus[stimulus].wrapping_add(1);
+        let part = coefficient(bank, measure.which, item);
+        selection.add_entry(places[item as usize], line, part)?;
+        sum = sum.wrapping_add(part);
     }
-    taken
+    Ok(sum)
+}
+
+/// Adds what the free items add to a line by a measure, and gives the unit of its steps.
+fn add_measure(
+    selection: &mut Selection,
+    problem: &Problem,
+    free: &Free,
+    measure: Measure,
+    line: u16,
+) -> Result<i64, Memory> {
+    let count = measure.set.count();
+    let sum = if count < 12 {
+        add_few(selection, problem.bank, &free.places, measure, line)?
+    } else {
+        add_many(selection, problem.bank, &free.numbers, measure, line)?
+    };
+    let mean = sum.checked_div(count as i64).unwrap_or(1).max(1);
+    Ok(65536i64.checked_div(mean).unwrap_or(1).max(1))
+}
+
+/// The signed multiplier of a row; the low side of enemies adds nothing.
+fn row_multiplier(row: &Row, sides: &Sides, side: usize) -> i64 {
+    let high = multiplier_at(sides, side.wrapping_add(1));
+    match row {
+        Row::Enemies { .. } => high.wrapping_neg(),
+        Row::Count { .. } | Row::Quantity { .. } | Row::Stimuli { .. } => {
+            multiplier_at(sides, side).wrapping_sub(high)
+        }
+    }
 }
 
 impl Flat {
-    /// Room for so many items, with none yet.
-    fn empty(alloc: Global, items: usize, lines: usize) -> Result<Flat, Memory> {
-        Ok(Flat {
-            numbers: Vec::with_capacity(alloc, items)?,
-            gains: Vec::with_capacity(alloc, items)?,
-            weights: Vec::with_capacity(alloc, items)?,
-            shares: Vec::with_capacity(alloc, items)?,
-            lines: Vec::with_capacity(alloc, lines)?,
-            selection: Selection {
-                entries: Vec::with_capacity(alloc, items.wrapping_mul(4))?,
-                heads: Vec::with_capacity(alloc, items)?,
-                marks: Vec::with_capacity(alloc, items)?,
-                selected: Vec::with_capacity(alloc, items)?,
-            },
-            taken: 0,
-            rest_is_met: true,
-        })
-    }
-
-    /// Adds a free item.
-    fn add_item(&mut self, item: u16, gain: i64) -> Result<(), Memory> {
-        self.numbers.push(item)?;
-        self.gains.push(gain)?;
-        self.weights.push(gain)?;
-        self.shares.push(0)?;
-        self.selection.heads.push(u32::MAX)?;
-        self.selection.marks.push(false)?;
-        Ok(())
-    }
-
-    /// Adds what a free item, by its place, adds to the next line.
-    fn add_entry(&mut self, place: u16, coefficient: i64) -> Result<(), Memory> {
-        let at = u32::try_from(self.selection.entries.len()).unwrap_or(u32::MAX);
-        if let Some(head) = self.selection.heads.get_mut(place as usize) {
-            let next = *head;
-            *head = at;
-            self.selection.entries.push(Entry {
-                item: place,
-                line: short(self.lines.len()),
-                next,
-                coefficient,
-            })?;
+    /// A row with no entries yet.
+    fn new_line(&self, kind: Kind, side: usize, low: i64, high: i64) -> Line {
+        let start = self.selection.entries.len();
+        Line {
+            kind,
+            side: short(side),
+            counted: false,
+            low,
+            high,
+            unit: 65536,
+            fixed: 0,
+            activity: 0,
+            price: 0,
+            first: Multiplier::of(0),
+            second: Multiplier::of(0),
+            start,
+            end: start,
         }
-        Ok(())
     }
 
-    /// Adds what the free items of a large set add to the next line, and gives the sum.
-    fn add_many(&mut self, bank: &Bank, measure: Measure) -> Result<i64, Memory> {
-        let mut sum = 0i64;
-        for place in 0..self.numbers.len() {
-            let Some(item) = self.numbers.get(place).copied() else {
-                break;
-            };
-            if measure.set.has(item) {
-                let part = coefficient(bank, measure.which, item);
-                self.add_entry(short(place), part)?;
-                sum = sum.wrapping_add(part);
-            }
-        }
-        Ok(sum)
-    }
-
-    /// The same of a small set of free items.
-    fn add_few(&mut self, bank: &Bank, places: &Places, measure: Measure) -> Result<i64, Memory> {
-        let mut left = measure.set;
-        let mut sum = 0i64;
-        for _ in 0..512 {
-            let Some(item) = left.first() else {
-                break;
-            };
-            left = left.without(item);
-            let part = coefficient(bank, measure.which, item);
-            self.add_entry(places[item as usize], part)?;
-            sum = sum.wrapping_add(part);
-        }
-        Ok(sum)
-    }
-
-    /// Adds the entries of a row, and gives the mean coefficient, at least 1.
-    fn add_measure(
-        &mut self,
-        problem: &Problem,
-        cut: &Cut,
-        places: &Places,
-        measure: Measure,
-    ) -> Result<i64, Memory> {
-        let free = measure.set.meet(cut.free);
-        let count = free.count();
-        let which = measure.which;
-        let sum = if count < 12 {
-            self.add_few(problem.bank, places, Measure { set: free, which })?
-        } else {
-            self.add_many(problem.bank, Measure { set: free, which })?
-        };
-        Ok(sum.checked_div(count as i64).unwrap_or(1).max(1))
-    }
-
-    /// Adds a row.
+    /// Adds a row; not if it has neither free items nor a multiplier.
     fn add_row(
         &mut self,
         problem: &Problem,
         cut: &Cut,
-        places: &Places,
+        free: &Free,
         sides: &Sides,
         number: usize,
         row: &Row,
     ) -> Result<(), Memory> {
         let Bounds { low, high, measure } = bounds_of(row);
         let side = number.wrapping_mul(2);
-        let net = match row {
-            Row::Enemies { .. } => 0,
-            Row::Count { .. } | Row::Quantity { .. } | Row::Stimuli { .. } => multiplier_at(
-                sides, side,
-            ),
-        }
-        .wrapping_sub(multiplier_at(sides, side.wrapping_add(1)));
-        let start = self.selection.entries.len();
-        let mut line = Line {
-            kind: Kind::Stimuli,
-            side: short(side),
-            low,
-            high,
-            scale: 1,
-            fixed: 0,
-            activity: 0,
-            price: 0,
-            counted: false,
-            start,
-            end: start,
-            first: Multiplier::of(net),
-            second: Multiplier::of(0),
-        };
-        if let Some(measure) = measure {
+        let multiplier = row_multiplier(row, sides, side);
+        let mut line = self.new_line(Kind::Stimuli, side, low, high);
+        line.first = Multiplier::of(multiplier);
+        if let Some(Measure { set, which }) = measure {
+            let place = short(self.lines.len());
+            let members = Measure {
+                set: set.meet(cut.free),
+                which,
+            };
             line.kind = Kind::Items;
-            line.scale = self.add_measure(problem, cut, places, measure)?;
+            line.unit = add_measure(&mut self.selection, problem, free, members, place)?;
             line.end = self.selection.entries.len();
-            line.fixed = sum_over(problem.bank, measure.which, measure.set.meet(cut.taken));
+            line.fixed = sum_over(problem.bank, which, set.meet(cut.taken));
             line.activity = line.fixed;
-            if line.start == line.end && net == 0 {
+            if line.start == line.end && multiplier == 0 {
                 self.rest_is_met = self.rest_is_met && low <= line.fixed && line.fixed <= high;
                 return Ok(());
             }
@@ -339,36 +229,33 @@ impl Flat {
     /// Adds a stimulus that is chosen or open.
     fn add_stimulus(
         &mut self,
-        stimuli: &[u8],
+        free: &Free,
         stimulus: usize,
         bound: &StimulusBound,
-        fixed: i64,
         kind: Kind,
-        sides: &Sides,
         side: usize,
     ) -> Result<(), Memory> {
-        let start = self.selection.entries.len();
-        for (place, named) in stimuli.iter().enumerate() {
+        let mut line = self.new_line(kind, side, bound.low as i64, bound.high as i64);
+        let place = short(self.lines.len());
+        for (named, item) in &free.stimuli {
             if *named as usize == stimulus {
-                self.add_entry(short(place), 1)?;
+                self.selection.add_entry(*item, place, 1)?;
             }
         }
-        self.lines.push(Line {
-            kind,
-            side: short(side),
-            low: bound.low as i64,
-            high: bound.high as i64,
-            scale: 2,
-            fixed,
-            activity: fixed,
-            price: 0,
-            counted: false,
-            start,
-            end: self.selection.entries.len(),
-            first: Multiplier::of(multiplier_at(sides, side)),
-            second: Multiplier::of(multiplier_at(sides, side.wrapping_add(1))),
-        })?;
+        line.end = self.selection.entries.len();
+        line.unit = 32768;
+        self.lines.push(line)?;
         Ok(())
+    }
+
+    /// Gives the last line the multipliers of its sides and the activity of the items taken.
+    fn finish_stimulus(&mut self, sides: &Sides, side: usize, fixed: i64) {
+        if let Some(line) = self.lines.last_mut() {
+            line.first = Multiplier::of(multiplier_at(sides, side));
+            line.second = Multiplier::of(multiplier_at(sides, side.wrapping_add(1)));
+            line.fixed = fixed;
+            line.activity = fixed;
+        }
     }
 
     /// Adds the stimuli that are chosen or open.
@@ -376,23 +263,52 @@ impl Flat {
         &mut self,
         problem: &Problem,
         cut: &Cut,
-        stimuli: &[u8],
-        taken: &Taken,
+        free: &Free,
         sides: &Sides,
+        taken: &Taken,
     ) -> Result<(), Memory> {
         let rows = problem.spec.rows().len();
         for (k, bound) in problem.spec.bounds().iter().enumerate() {
             let stimulus = k.wrapping_add(1);
             let number = short(stimulus);
-            let fixed = taken.of_stimulus.get(stimulus).copied().unwrap_or(0);
-            let side = rows.wrapping_add(k).wrapping_mul(2);
-            if cut.chosen.has(number) {
-                self.add_stimulus(stimuli, stimulus, bound, fixed, Kind::Chosen, sides, side)?;
-            } else if cut.opened.has(number) {
-                self.add_stimulus(stimuli, stimulus, bound, fixed, Kind::Open, sides, side)?;
+            let is_chosen = cut.chosen.has(number);
+            if is_chosen || cut.opened.has(number) {
+                let kind = if is_chosen { Kind::Chosen } else { Kind::Open };
+                let side = rows.wrapping_add(k).wrapping_mul(2);
+                let fixed = taken.of_stimulus.get(stimulus).copied().unwrap_or(0);
+                self.add_stimulus(free, stimulus, bound, kind, side)?;
+                self.finish_stimulus(sides, side, fixed);
             }
         }
         Ok(())
+    }
+
+    /// The free items, with no lines and none selected.
+    fn with_items(alloc: Global, free: &Free, taken: i64) -> Result<Flat, Memory> {
+        let count = free.numbers.len();
+        Ok(Flat {
+            numbers: Vec::from_slice(alloc, &free.numbers)?,
+            gains: Vec::from_slice(alloc, &free.gains)?,
+            weights: Vec::from_slice(alloc, &free.gains)?,
+            shares: Vec::from_elem(alloc, 0, count)?,
+            lines: Vec::with_capacity(alloc, 32)?,
+            selection: Selection::none(alloc, count)?,
+            taken,
+            rest_is_met: true,
+        })
+    }
+
+    /// Moves the multipliers by a step of a length, and brings the weights to the new prices.
+    pub(crate) fn step(&mut self, length: i64) {
+        for line in self.lines.iter_mut() {
+            line.step(length);
+            let change = line.reprice();
+            if change != 0 {
+                if let Some(entries) = self.selection.entries.get(line.start..line.end) {
+                    reweigh(&mut self.weights, entries, change);
+                }
+            }
+        }
     }
 
     /// The problem on a path, with the multipliers of a vector.
@@ -403,30 +319,18 @@ impl Flat {
         from: &Vector,
         ray: bool,
     ) -> Result<Flat, Memory> {
-        let bank = problem.bank;
-        let rows = problem.spec.rows();
         let sides = sides_of(from);
-        let mut flat = Flat::empty(alloc, cut.free.count() as usize, rows.len())?;
-        let mut places = [u16::MAX; 512];
-        let mut stimuli = Vec::with_capacity(alloc, cut.free.count() as usize)?;
-        for item in 0..bank.items() {
-            if cut.free.has(item) {
-                if let Some(slot) = places.get_mut(item as usize) {
-                    *slot = short(flat.numbers.len());
-                }
-                flat.add_item(item, gain_of(problem, ray, item))?;
-                stimuli.push(stimulus_of(bank, item))?;
-            }
+        let taken = Taken::of(problem, cut.taken, ray);
+        let free = free_items(alloc, problem, &cut.free, ray)?;
+        let mut flat = Flat::with_items(alloc, &free, taken.gain)?;
+        for (number, row) in problem.spec.rows().iter().enumerate() {
+            flat.add_row(problem, cut, &free, &sides, number, row)?;
         }
-        for (number, row) in rows.iter().enumerate() {
-            flat.add_row(problem, cut, &places, &sides, number, row)?;
-        }
-        let taken = taken_items(problem, cut, ray);
-        flat.taken = taken.gain;
-        flat.add_stimuli(problem, cut, &stimuli, &taken, &sides)?;
-        let wanted = (problem.spec.length()).saturating_sub(cut.taken.count()) as usize;
+        flat.add_stimuli(problem, cut, &free, &sides, &taken)?;
+        let wanted = problem.spec.length().saturating_sub(cut.taken.count()) as usize;
+        flat.step(0);
         flat.selection
-            .begin(&mut flat.lines, wanted.min(flat.numbers.len()))?;
+            .begin(&mut flat.lines, &flat.weights, wanted)?;
         Ok(flat)
     }
 }
