@@ -38,11 +38,11 @@ IsNoWorseThan P (Some X) outcome = Form P X → ⊥
 
 -- an assembly with a hint: its outcome is shown by its tree, no worse than start and hint, and Firm, and no path of the
 -- tree goes on past a row that is impossible by counting
-pub record IsAssembly (P : Problem) (hint : Option Set) (budget : ℕ) (T : ProofTree) (outcome : Outcome) : Type 0 where
+pub record IsAssembly (P : Problem) (suggested : Option Set) (budget : ℕ) (T : ProofTree) (outcome : Outcome) : Type 0 where
   pub shown : IsShown P T budget outcome
   pub firm : IsFirmOutcome P outcome
   pub start : IsNoWorseThan P P.start outcome
-  pub hint : IsNoWorseThan P hint outcome
+  pub hint : IsNoWorseThan P suggested outcome
   pub pruned : IsPruned P T
 
 -- what the outcome means: proved, the form is best; without a form, there is none

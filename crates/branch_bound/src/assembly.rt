@@ -8,6 +8,7 @@ ghost use Rattle.exam_model.specs.Validity.{IsBudget, IsWellMade};
 ghost use Rattle.constraint_model.specs.Views.{problem_of};
 ghost use Rattle.branch_bound.specs.Assemblies.{IsAssembly, IsTrueOutcome, IsDecided};
 
+use crate::depth_first::search_plainly;
 use crate::outcome::Outcome;
 use bank_tables::ItemSet;
 use constraint_model::Problem;
@@ -21,6 +22,7 @@ pub struct Assembled<'a> {
     tree: Tree,
     budget: u16,
     outcome: Outcome,
+    plainly: bool,
 }
 
 impl<'a> Assembled<'a> {
@@ -44,21 +46,37 @@ impl<'a> Assembled<'a> {
     {
         self.outcome
     }
+
+    /// Whether the plain search made the tree, since what the search proper gave failed a test: it is written so that it
+    /// never does, and a benchmark counts how often it did.
+    pub fn searched_plainly(&self) -> bool
+        ensures { result ≡ self.now.plainly }
+    {
+        self.plainly
+    }
 }
 
 /// Assembles a form of the problem within a budget of nodes, which is odd and at most 4,095; the hint may be a form.
 pub fn assemble<'a>(
-    _alloc: Global,
+    alloc: Global,
     problem: Problem<'a>,
     hint: Option<&ItemSet>,
     budget: u16,
 ) -> Result<Assembled<'a>, Memory>
     requires well_made { IsWellMade (problem_of problem) }
     requires budget { IsBudget budget }
-    ensures problem { IfOk result (λ a. a.problem ≡ problem) }
-    ensures assembly { IfOk result (λ a. IsAssembly (problem_of problem) (option_map has (option_copied hint.entry)) budget a.tree a.outcome) }
-    ensures is_true { IfOk result (λ a. IsTrueOutcome (problem_of problem) a.outcome) }
-    ensures decided { IfOk result (λ a. 2 ^ (undecided (problem_of problem) (root (problem_of problem)) + 1) ≤ budget + 1 → IsDecided a.outcome) }
+    ensures problem { IfOk result (λ a. a.problem ≡ problem.entry) }
+    ensures assembly { IfOk result (λ a. IsAssembly (problem_of problem.entry) (option_map has (option_copied hint.entry)) budget a.tree a.outcome) }
+    ensures is_true { IfOk result (λ a. IsTrueOutcome (problem_of problem.entry) a.outcome) }
+    ensures decided { IfOk result (λ a. 2 ^ (undecided (problem_of problem.entry) (root (problem_of problem.entry)) + 1) ≤ budget + 1 → IsDecided a.outcome) }
 {
-    Err(Memory)
+    let hint = hint.copied();
+    let searched = search_plainly(alloc, &problem, &hint, budget)?;
+    Ok(Assembled {
+        problem,
+        tree: searched.tree,
+        budget,
+        outcome: searched.outcome,
+        plainly: true,
+    })
 }

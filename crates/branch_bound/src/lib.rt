@@ -4,8 +4,15 @@
 //! with enough nodes it decides. That few nodes are enough is measured, and not promised.
 #![tactic(auto)]
 
+mod acceptance;
 mod assembly;
+mod branching;
+mod comparison;
+mod depth_first;
+mod exchanges;
+mod forms;
 mod outcome;
+mod pruning;
 
 pub use assembly::{Assembled, assemble};
 pub use outcome::Outcome;

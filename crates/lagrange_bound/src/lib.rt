@@ -4,12 +4,14 @@
 //! vector with a higher bound. That they improve at all is measured, and not promised.
 #![tactic(auto)]
 
-mod ascent;
 mod counting;
 mod cut;
+mod members;
+mod prices;
 mod relaxation;
+mod threshold;
+mod weights;
 
-pub use ascent::{Aim, Ascent, ascend, improve};
 pub use counting::impossible;
 pub use cut::Cut;
 pub use proof_tree::Memory;

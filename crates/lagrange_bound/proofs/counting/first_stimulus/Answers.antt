@@ -1,0 +1,36 @@
+use Rattle.std.proofs.Common.{◌≡◌, ℕ, suc, ◌+◌, ◌-◌, ◌<◌, ◌≤◌, ◌&&◌, ◌||◌, ◌==◌, not, true, false, Bool, List, length, nat_lt, get_or, Some, None, sym, ap, ◌∙◌, subst, refl, arith}
+use Rattle.bank_tables.specs.Items.{Set, has}
+use Rattle.bank_tables.specs.Tables.{size, stimulus}
+use Rattle.exam_model.specs.declared.row.Row.{Row}
+use Rattle.exam_model.specs.Paths.{Path, is_free, is_chosen, is_open}
+use Rattle.exam_model.specs.Forms.{items_of, stimuli_of}
+use Rattle.constraint_model.specs.Views.{problem_of}
+use Rattle.lagrange_bound.specs.Cuts.{IsCut, IsCutOf}
+use Rattle.exam_model.specs.Problem.{Problem}
+use Rattle.exam_model.specs.Validity.{IsWellMade}
+use Rattle.lagrange_bound.proofs.CountingSteps.{first_length, first_of_rows, first_of_stimuli, none_first, greatest_at_most}
+use Rattle.lagrange_bound.proofs.CountingSteps.{greatest_at_most}
+use Rattle.std.proofs.Math.Path.{fun_ext}
+use Rattle.exam_model.specs.Problem.{Problem}
+use Rattle.exam_model.specs.Validity.{IsWellMade}
+use Rattle.lagrange_bound.proofs.counting.first_stimulus.Goals as goal
+
+few : (P : Problem) → IsWellMade P → stimuli_of P.bank ≤ 64
+few P is = greatest_at_most (size P.bank) 64 (stimulus P.bank) is.bank.stimulus_high
+
+pub bounds-least-at : goal.bounds-least-at
+bounds-least-at c = omega (arith, few (problem_of c.args.problem.now) c.requires, c.stimuli-k-end.ensures)
+
+pub bounds-most-at : goal.bounds-most-at
+bounds-most-at c = omega (arith, few (problem_of c.args.problem.now) c.requires, c.stimuli-k-end.ensures)
+
+pub stimulus_impossible-requires-clause-least : goal.stimulus_impossible-requires-clause-least
+stimulus_impossible-requires-clause-least c =
+    let within : c.loop-k.k + 1 ≤ 64 = omega (arith, few (problem_of c.args.problem.now) c.requires, c.stimuli-k-end.ensures) in
+    c.items_by_stimulus-least.ensures (c.loop-k.k + 1) within
+
+pub stimulus_impossible-requires-clause-most : goal.stimulus_impossible-requires-clause-most
+stimulus_impossible-requires-clause-most c =
+    let within : c.loop-k.k + 1 ≤ 64 = omega (arith, few (problem_of c.args.problem.now) c.requires, c.stimuli-k-end.ensures) in
+    let both : has c.union-items.result ≡ (λ i. has c.args.cut.now.taken i || has c.args.cut.now.free i) = fun_ext c.union-items.ensures in
+    c.items_by_stimulus-most.ensures (c.loop-k.k + 1) within ∙ ap (λ (X : Set). items_of c.args.problem.now.bank.now (c.loop-k.k + 1) X) both

@@ -1,0 +1,22 @@
+use Rattle.std.proofs.Common.{◌≡◌, ℕ, ◌<◌, ◌&&◌, ◌||◌, ◌==◌, not, true, false, Bool, sym, ap, ◌∙◌, subst, refl, arith}
+use Rattle.std.proofs.Math.Path.{fun_ext}
+use Rattle.bank_tables.specs.Items.{Set, has}
+use Rattle.bank_tables.specs.Tables.{size, stimulus}
+use Rattle.exam_model.specs.Paths.{Path, root, is_free, is_chosen, is_open, with_item, with_stimulus}
+use Rattle.constraint_model.specs.Views.{problem_of}
+use Rattle.lagrange_bound.specs.Cuts.{IsCut, IsCutOf}
+use Rattle.lagrange_bound.proofs.Branches.{root_open, free_taken, free_out, chosen_taken, open_taken, open_out, chosen_branch, open_branch, free_dropped, out_dropped, open_dropped}
+use Rattle.lagrange_bound.proofs.cut.Cut.with_dropped.Goals as goal
+
+pub returns : goal.returns
+returns c p is =
+    let P = problem_of c.args.problem.now in
+    let F : Set = has c.args.self.now.free in
+    let L : Set = has c.those_of-dropped.result in
+    record {
+      taken = is.taken;
+      out = out_dropped P p c.args.stimulus F L (has c.args.self.now.out) (has c.union.result) is.free is.out c.those_of-dropped.ensures c.union.ensures;
+      free = free_dropped P p c.args.stimulus F L (has c.minus.result) is.free c.those_of-dropped.ensures c.minus.ensures;
+      chosen = is.chosen;
+      opened = open_dropped P p c.args.stimulus (has c.args.self.now.opened) (has c.without.result) is.opened c.without.ensures;
+    }

@@ -1,0 +1,32 @@
+use Rattle.std.proofs.Common.{◌≡◌, ℕ, suc, ◌+◌, ◌-◌, ◌*◌, ◌<◌, ◌≤◌, List, length, get_or, w64, to_z, of_z, add-one, sym, ap, ◌∙◌, subst, refl, arith}
+use Rattle.std.specs.Prelude.{ℤ, pos, neg_ℤ, ◌+ℤ◌, ◌-ℤ◌, ◌*ℤ◌, ◌≤ℤ◌}
+use Rattle.std.proofs.lemmas.Int.{ints}
+use Rattle.bank_tables.specs.Sums.{total_z}
+use Rattle.exam_model.specs.declared.row.Row.{Row}
+use Rattle.exam_model.specs.Plan.{row_at}
+use Rattle.exam_model.specs.Forms.{lower_bound, upper_bound}
+use Rattle.exam_model.specs.Relaxed.{Multipliers, multiplier}
+use Rattle.exam_model.specs.ClosedForm.{price, bounds_price, stimulus_activity}
+use Rattle.constraint_model.specs.Views.{problem_of}
+use Rattle.lagrange_bound.specs.Ranges.{IsWithin, at, item_top, bounds_top}
+use Rattle.lagrange_bound.specs.Shares.{AreSidesOf, constant_share, stimulus_share}
+use Rattle.lagrange_bound.proofs.Sums.{read_back, summed, summed_within, wider, row_read, row_number}
+use Rattle.std.proofs.Common.{true, false, Bool}
+use Rattle.bank_tables.specs.Items.{Set}
+use Rattle.exam_model.specs.Problem.{Problem}
+use Rattle.exam_model.specs.Paths.{Path, Under}
+use Rattle.exam_model.specs.Relaxed.{IsRelaxedMaximum}
+use Rattle.exam_model.proofs.Duality.{weak_duality, weak_ray}
+use Rattle.lagrange_bound.specs.Bounds.{bounded_value}
+use Rattle.lagrange_bound.proofs.relaxation.bound.Goals as goal
+
+above : (P : Problem) (p : Path) (v : Multipliers) (ray : Bool) (r : ℤ) (X : Set) → IsRelaxedMaximum P p v ray r → Under P p X → bounded_value P ray X ≤ℤ r
+above P p v true r X is under = weak_ray P p v r X is under
+above P p v false r X is under = weak_duality P p v r X is under
+
+pub returns-in-Some-clause-above : goal.returns-in-Some-clause-above
+returns-in-Some-clause-above c p is X under =
+    let P = problem_of c.args.problem.now in
+    let r : ℤ = c.maximum.result in
+    let same : to_z w64 (of_z w64 r) ≡ r = omega (arith, ints) in
+    subst (λ (z : ℤ). bounded_value P c.args.ray X ≤ℤ z) (sym same) (above P p c.args.vector.now c.args.ray r X (c.maximum.ensures p is) under)

@@ -1,0 +1,39 @@
+use Rattle.std.proofs.Common.{◌≡◌, ℕ, suc, ◌+◌, ◌-◌, ◌*◌, ◌<◌, ◌≤◌, List, length, get_or, w64, to_z, of_z, add-one, sym, ap, ◌∙◌, subst, refl, arith}
+use Rattle.std.specs.Prelude.{ℤ, pos, neg_ℤ, ◌+ℤ◌, ◌-ℤ◌, ◌*ℤ◌, ◌≤ℤ◌}
+use Rattle.std.proofs.lemmas.Int.{ints}
+use Rattle.bank_tables.specs.Sums.{total_z}
+use Rattle.exam_model.specs.declared.row.Row.{Row}
+use Rattle.exam_model.specs.Plan.{row_at}
+use Rattle.exam_model.specs.Forms.{lower_bound, upper_bound}
+use Rattle.exam_model.specs.Relaxed.{Multipliers, multiplier}
+use Rattle.exam_model.specs.ClosedForm.{price, bounds_price, stimulus_activity}
+use Rattle.constraint_model.specs.Views.{problem_of}
+use Rattle.lagrange_bound.specs.Ranges.{IsWithin, at, item_top, bounds_top}
+use Rattle.lagrange_bound.specs.Shares.{AreSidesOf, constant_share, stimulus_share}
+use Rattle.lagrange_bound.proofs.Sums.{read_back, summed, summed_within, wider, row_read, row_number}
+use Rattle.bank_tables.specs.Tables.{size, stimulus}
+use Rattle.exam_model.specs.declared.row.StimulusBound.{StimulusBound}
+use Rattle.exam_model.specs.Forms.{stimuli_of}
+use Rattle.exam_model.specs.ClosedForm.{stimulus_weight, stimulus_side}
+use Rattle.lagrange_bound.specs.Ranges.{stimulus_top}
+use Rattle.lagrange_bound.proofs.CountingSteps.{greatest_at_most}
+use Rattle.lagrange_bound.proofs.Sums.{two_summed}
+use Rattle.lagrange_bound.proofs.relaxation.stimulus_weight.Goals as goal
+
+pub bounds_price-requires-clause-side : goal.bounds_price-requires-clause-side
+bounds_price-requires-clause-side c =
+    let P = problem_of c.args.problem.now in
+    let few : stimuli_of P.bank ≤ 64 = greatest_at_most (size P.bank) 64 (stimulus P.bank) c.requires.well_made.bank.stimulus_high in
+    omega (arith, ap (λ (xs : List Row). length xs) c.rows.ensures, c.requires.well_made.plan.few_rows, c.requires.last)
+
+pub returns-clause-value : goal.returns-clause-value
+unfolding stimulus_weight
+returns-clause-value c v is rows =
+    let P = problem_of c.args.problem.now in
+    let s = c.args.which in
+    let none : StimulusBound = record { low = 0; high = 0 } in
+    let bound : get_or c.bounds.result.now (s - 1) none ≡ get_or P.plan.bounds (s - 1) none = ap (λ (xs : List StimulusBound). get_or xs (s - 1) none) c.bounds.ensures in
+    let side : 2 * length c.rows.result.now + 2 * (s - 1) ≡ stimulus_side P s = ap (λ (xs : List Row). 2 * length xs + 2 * (s - 1)) c.rows.ensures in
+    two_summed bounds_top 2147483648 c.bounds_price.result c.args.rows (omega arith) c.bounds_price.ensures.within c.requires.rows
+    ∙ ap (λ z. z +ℤ c.args.rows) (c.bounds_price.ensures.value v is ∙ ap (λ (m : ℕ). bounds_price v m (get_or c.bounds.result.now (s - 1) none).low (get_or c.bounds.result.now (s - 1) none).high) side ∙ ap (λ (b : StimulusBound). bounds_price v (stimulus_side P s) b.low b.high) bound)
+    ∙ ap (λ z. bounds_price v (stimulus_side P s) (get_or P.plan.bounds (s - 1) none).low (get_or P.plan.bounds (s - 1) none).high +ℤ z) rows

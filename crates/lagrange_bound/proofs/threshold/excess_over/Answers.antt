@@ -1,0 +1,32 @@
+use Rattle.std.proofs.Common.{◌≡◌, ℕ, suc, ◌+◌, ◌-◌, ◌*◌, ◌<◌, ◌≤◌, List, length, get_or, w64, to_z, of_z, add-one, sym, ap, ◌∙◌, subst, refl, arith}
+use Rattle.std.specs.Prelude.{ℤ, pos, neg_ℤ, ◌+ℤ◌, ◌-ℤ◌, ◌*ℤ◌, ◌≤ℤ◌}
+use Rattle.std.proofs.lemmas.Int.{ints}
+use Rattle.bank_tables.specs.Sums.{total_z}
+use Rattle.exam_model.specs.declared.row.Row.{Row}
+use Rattle.exam_model.specs.Plan.{row_at}
+use Rattle.exam_model.specs.Forms.{lower_bound, upper_bound}
+use Rattle.exam_model.specs.Relaxed.{Multipliers, multiplier}
+use Rattle.exam_model.specs.ClosedForm.{price, bounds_price, stimulus_activity}
+use Rattle.constraint_model.specs.Views.{problem_of}
+use Rattle.lagrange_bound.specs.Ranges.{IsWithin, at, item_top, bounds_top}
+use Rattle.lagrange_bound.specs.Shares.{AreSidesOf, constant_share, stimulus_share}
+use Rattle.lagrange_bound.proofs.Sums.{read_back, summed, summed_within, wider, row_read, row_number}
+use Rattle.lagrange_bound.specs.Fills.{excess}
+use Rattle.lagrange_bound.proofs.threshold.excess_over.Goals as goal
+
+pub loop-i-preserved : goal.loop-i-preserved
+loop-i-preserved c =
+    let i = c.loop-i.i in
+    let few : i < 512 = omega (arith, c.requires.few) in
+    let sum : ℤ = to_z w64 c.loop-i.sum-bits in
+    let term : ℤ = c.excess_of-sum.result in
+    let t : ℤ = to_z w64 (of_z w64 c.args.threshold) in
+    let weight : ℤ = at c.args.weights.now i in
+    let range = c.requires.weights i c.loop-i-test.true in
+    let same : to_z w64 (of_z w64 weight) ≡ weight = omega (arith, ints, range.low, range.high) in
+    let e-sum : to_z w64 (of_z w64 (sum +ℤ to_z w64 (of_z w64 term))) ≡ sum +ℤ term = summed (i * 281474976710656) 281474976710656 sum term (omega arith) c.loop-i.invariant.within c.excess_of-sum.ensures.within in
+    let e-term : term ≡ excess t weight = c.excess_of-sum.ensures.value ∙ ap (λ (z : ℤ). excess t z) same in
+    record {
+      value = rw add-one (e-sum ∙ ap (λ z. z +ℤ term) c.loop-i.invariant.value ∙ ap (λ z. total_z i (λ j. excess t (at c.args.weights.now j)) +ℤ z) e-term);
+      within = subst (IsWithin ((i + 1) * 281474976710656)) (sym e-sum) (summed_within (i * 281474976710656) 281474976710656 ((i + 1) * 281474976710656) sum term (omega arith) c.loop-i.invariant.within c.excess_of-sum.ensures.within);
+    }

@@ -1,0 +1,12 @@
+use Rattle.std.proofs.Common.{◌≡◌, ◌*◌, ◌+◌}
+use Rattle.bank_tables.specs.Sums.{total_z}
+use Rattle.lagrange_bound.specs.Fills.{excess}
+use Rattle.lagrange_bound.specs.Ranges.{IsWithin, at, item_top}
+use Rattle.lagrange_bound.proofs.threshold.excess_over.Given as goal
+
+abbrev pub invariant-loop-i : goal.invariant-loop-i
+invariant-loop-i l =
+    record {
+      value : l.sum ≡ total_z l.i (λ i. excess l.threshold (at l.weights i));
+      within : IsWithin (l.i * (item_top + item_top)) l.sum;
+    }

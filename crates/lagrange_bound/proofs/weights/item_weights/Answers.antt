@@ -1,0 +1,42 @@
+use Rattle.std.proofs.Common.{◌≡◌, ℕ, suc, ◌+◌, ◌-◌, ◌*◌, ◌<◌, ◌≤◌, List, length, get_or, w64, to_z, of_z, add-one, sym, ap, ◌∙◌, subst, refl, arith}
+use Rattle.std.specs.Prelude.{ℤ, pos, neg_ℤ, ◌+ℤ◌, ◌-ℤ◌, ◌*ℤ◌, ◌≤ℤ◌}
+use Rattle.std.proofs.lemmas.Int.{ints}
+use Rattle.bank_tables.specs.Sums.{total_z}
+use Rattle.exam_model.specs.declared.row.Row.{Row}
+use Rattle.exam_model.specs.Plan.{row_at}
+use Rattle.exam_model.specs.Forms.{lower_bound, upper_bound}
+use Rattle.exam_model.specs.Relaxed.{Multipliers, multiplier}
+use Rattle.exam_model.specs.ClosedForm.{price, bounds_price, stimulus_activity}
+use Rattle.constraint_model.specs.Views.{problem_of}
+use Rattle.lagrange_bound.specs.Ranges.{IsWithin, at, item_top, bounds_top}
+use Rattle.lagrange_bound.specs.Shares.{AreSidesOf, constant_share, stimulus_share}
+use Rattle.lagrange_bound.proofs.Sums.{read_back, summed, summed_within, wider, row_read, row_number}
+use Rattle.bank_tables.specs.Tables.{size}
+use Rattle.exam_model.specs.ClosedForm.{item_activity}
+use Rattle.lagrange_bound.specs.Ranges.{row_top}
+use Rattle.lagrange_bound.specs.Shares.{item_share, own_weight}
+use Rattle.lagrange_bound.proofs.Sums.{product_within, activity_high, total_more}
+use Rattle.lagrange_bound.proofs.weights.item_weights.Goals as goal
+
+pub loop-r-preserved : goal.loop-r-preserved
+loop-r-preserved c =
+    let P = problem_of c.args.problem.now in
+    let r = c.loop-r.r in
+    let few : r < 128 = row_number P.plan c.rows-rows.result.now r c.rows-rows.ensures c.loop-r-test.true c.requires.well_made.plan.few_rows in
+    let row : c.index-rows-r.result ≡ row_at P.plan r = row_read P.plan c.rows-rows.result.now r c.index-rows-r.result c.rows-rows.ensures c.index-rows-r.is c.loop-r-test.true in
+    let price_now : ℤ = c.price.result in
+    let same : to_z w64 (of_z w64 price_now) ≡ price_now = read_back 16777216 price_now (omega arith) c.price.ensures.within in
+    let more : (i : ℕ) → i < size P.bank → at c.add_priced_row.new.weights i ≡ at c.loop-r.weights i +ℤ (price_now *ℤ pos (item_activity P.bank c.index-rows-r.result i)) =
+    λ i w. c.add_priced_row.ensures i w ∙ ap (λ z. at c.loop-r.weights i +ℤ (z *ℤ pos (item_activity P.bank c.index-rows-r.result i))) same in
+    record {
+      value = λ v is i w.
+          let e-term : price_now *ℤ pos (item_activity P.bank c.index-rows-r.result i) ≡ item_share P v i r =
+          ap (λ z. z *ℤ pos (item_activity P.bank c.index-rows-r.result i)) (c.price.ensures.value v is) ∙ ap (λ (x : Row). price v (2 * r) *ℤ pos (item_activity P.bank x i)) row in
+          more i w ∙ ap (λ z. z +ℤ (price_now *ℤ pos (item_activity P.bank c.index-rows-r.result i))) (c.loop-r.invariant.value v is i w) ∙ regrouped (own_weight P v c.args.ray i) (total_z r (item_share P v i)) (price_now *ℤ pos (item_activity P.bank c.index-rows-r.result i)) ∙ ap (λ z. own_weight P v c.args.ray i +ℤ (total_z r (item_share P v i) +ℤ z)) e-term ∙ ap (λ z. own_weight P v c.args.ray i +ℤ z) (sym (total_more r (item_share P v i)));
+      within = λ i w.
+          let range = product_within price_now (item_activity P.bank c.index-rows-r.result i) c.price.ensures.within (activity_high P.bank c.requires.well_made.bank c.index-rows-r.result i) in
+          subst (IsWithin (272777216 + (r + 1) * row_top)) (sym (more i w)) (summed_within (272777216 + r * row_top) row_top (272777216 + (r + 1) * row_top) _ _ (omega arith) (c.loop-r.invariant.within i w) range);
+    }
+  where
+    regrouped : (a b d : ℤ) → (a +ℤ b) +ℤ d ≡ a +ℤ (b +ℤ d)
+    regrouped a b d = omega (arith, ints)
