@@ -1,11 +1,11 @@
 -- Comparing forms.
-use Rattle.std.proofs.Common.{◌≡◌, ◌≤◌, inl, inr, [], arith, Option, Some, None}
+use Rattle.std.proofs.Common.{◌≤◌, inl, inr, [], arith, Option, Some, None}
 use Rattle.std.proofs.lemmas.Int.{ints}
 use Rattle.bank_tables.specs.Items.{Set}
 use Rattle.exam_model.specs.declared.node.Node.{Node}
 use Rattle.exam_model.specs.declared.node.Node.TheVariants.{BranchItem, BranchStimulus, Bound, Ray, Count, Whole, Open}
 use Rattle.exam_model.specs.Problem.{Problem}
-use Rattle.exam_model.specs.Forms.{Form, objective}
+use Rattle.exam_model.specs.Forms.{objective}
 use Rattle.exam_model.specs.Paths.{Path}
 use Rattle.exam_model.specs.ProofTrees.{ProofTree}
 use Rattle.exam_model.specs.Verdicts.{IsFormOrNone, IsSound, CandidateIsSettled, only_candidate, ClosesByBound}

@@ -1,15 +1,15 @@
 -- What an exchange of one item of a form comes to.
-use Rattle.std.proofs.Common.{◌≡◌, ℕ, zero, suc, ◌+◌, ◌*◌, ◌≤◌, ◌<◌, ◌⊎◌, inl, inr, Bool, true, false, cond, not, ◌&&◌, ◌||◌, ◌==◌, refl, sym, ap, ◌∙◌, subst, arith}
+use Rattle.std.proofs.Common.{◌≡◌, ℕ, zero, suc, ◌+◌, ◌*◌, ◌≤◌, ◌<◌, inl, inr, true, false, cond, not, ◌&&◌, ◌==◌, refl, sym, ap, ◌∙◌, subst, arith}
 use Rattle.std.proofs.lemmas.Bool.{and_parts, and_from, eqb-true, eq-eqb, not-true, cases_lt}
 use Rattle.std.proofs.Math.Bool.{true≢false}
 use Rattle.std.proofs.Math.Path.{fun_ext}
 use Rattle.bank_tables.specs.Items.{Set}
-use Rattle.bank_tables.specs.Sums.{sum_in, any_below, count_in}
+use Rattle.bank_tables.specs.Sums.{sum_in, any_below}
 use Rattle.bank_tables.specs.Tables.{size, info}
 use Rattle.bank_tables.specs.Validity.{IsBank}
 use Rattle.exam_model.specs.Problem.{Problem}
-use Rattle.exam_model.specs.Forms.{Form, Firm, HoldsAllButOne, objective}
-use Rattle.exam_model.proofs.SumLaws.{either, or_true, or_left, or_right, any_intro, any_elim, same_from_count}
+use Rattle.exam_model.specs.Forms.{Form, Firm, objective}
+use Rattle.exam_model.proofs.SumLaws.{either, or_true, or_left, any_intro, any_elim, same_from_count}
 use Rattle.std.specs.Prelude.{None}
 use Rattle.branch_bound.specs.Exchanges.{exchange, IsExchange, IsBetter}
 
@@ -86,9 +86,9 @@ module _ (P : Problem) (X Y : Set) (out : ℕ) (x : Form P X) (y : Form P Y) (ot
             (i, within, parts.0, not-true (X i) parts.1)
         | inr none ↦
             let inside : (i : ℕ) → i < size P.bank → Y i ≡ true → X i ≡ true = λ i within has. elim (either (X i)) [
-                  | inl e ↦ e
-                  | inr e ↦ absurd (true≢false (sym (any_intro (size P.bank) (λ i. Y i && not (X i)) i within (and_from _ _ has (ap not e))) ∙ none))
-                ] in
+              | inl e ↦ e
+              | inr e ↦ absurd (true≢false (sym (any_intro (size P.bank) (λ i. Y i && not (X i)) i within (and_from _ _ has (ap not e))) ∙ none))
+            ] in
             let same = same_from_count (size P.bank) Y X inside (y.meets.right_length.n_items ∙ sym x.meets.right_length.n_items) out (x.meets.right_length.in_bank out has_out) in
             absurd (true≢false (sym has_out ∙ sym same ∙ no_out))
       ]
@@ -102,9 +102,9 @@ module _ (P : Problem) (X Y : Set) (out : ℕ) (x : Form P X) (y : Form P Y) (ot
   is_exchange : (item : ℕ) → X out ≡ true → Y out ≡ false → item < size P.bank → Y item ≡ true → X item ≡ false → exchange X out item ≡ Y
   is_exchange item has_out no_out within has_item not_item =
       let inside : (i : ℕ) → i < size P.bank → exchange X out item i ≡ true → Y i ≡ true = λ i w e. elim (or_true (i == item) (not (i == out) && X i) e) [
-            | inl at ↦ ap Y (eqb-true i item at) ∙ has_item
-            | inr rest ↦ let parts = and_parts (not (i == out)) (X i) rest in others i parts.1 (λ is_out. true≢false (sym (eq-eqb i out is_out) ∙ not-true (i == out) parts.0))
-          ] in
+        | inl at ↦ ap Y (eqb-true i item at) ∙ has_item
+        | inr rest ↦ let parts = and_parts (not (i == out)) (X i) rest in others i parts.1 (λ is_out. true≢false (sym (eq-eqb i out is_out) ∙ not-true (i == out) parts.0))
+      ] in
       let count : sum_in (size P.bank) (exchange X out item) (λ _. 1) + 1 ≡ sum_in (size P.bank) X (λ _. 1) + 1 = sum_in-exchange X out item (size P.bank) (λ _. 1) has_out not_item (x.meets.right_length.in_bank out has_out) within in
       let a = x.meets.right_length.n_items in
       let b = y.meets.right_length.n_items in
@@ -121,9 +121,9 @@ module _ (P : Problem) (X Y : Set) (out : ℕ) (x : Form P X) (y : Form P Y) (ot
       elim (either (Y out)) [
         | inl stays ↦
             let same : X ≡ Y = same_form (λ i has. elim (either (i == out)) [
-                  | inl at ↦ ap Y (eqb-true i out at) ∙ stays
-                  | inr other ↦ others i has (λ is_out. true≢false (sym (eq-eqb i out is_out) ∙ other))
-                ]) in
+              | inl at ↦ ap Y (eqb-true i out at) ∙ stays
+              | inr other ↦ others i has (λ is_out. true≢false (sym (eq-eqb i out is_out) ∙ other))
+            ]) in
             omega (arith, ap (λ (Z : Set). objective P Z) same)
         | inr no_out ↦
             let (item, within, has_item, not_item) = new_item has_out no_out in

@@ -1,12 +1,12 @@
 -- What the tests at one path decide.
-use Rattle.std.proofs.Common.{◌≡◌, ℕ, zero, suc, ◌+◌, ◌-◌, ◌*◌, ◌≤◌, ◌<◌, ◌⊎◌, inl, inr, Bool, true, false, cond, not, ◌&&◌, ◌||◌, ◌==◌, nat_lt, [], ◌∷◌, length, refl, sym, ap, ◌∙◌, subst, arith, Option, Some, None}
-use Rattle.std.specs.Prelude.{ℤ, pos, ◌<ℤ◌, IsSome}
+use Rattle.std.proofs.Common.{◌≡◌, ℕ, zero, suc, ◌+◌, ◌-◌, ◌≤◌, ◌<◌, inl, inr, Bool, true, false, not, ◌&&◌, ◌||◌, ◌==◌, nat_lt, [], ◌∷◌, length, refl, sym, ap, ◌∙◌, subst, arith, Option, Some, None}
+use Rattle.std.specs.Prelude.{ℤ, IsSome}
 use Rattle.std.proofs.lemmas.Int.{ints}
 use Rattle.std.proofs.lemmas.Bool.{and_parts, eq-eqb, eqb-true, ltb-true, le-ltb, cases_lt}
 use Rattle.std.proofs.lemmas.List.Elements.{All-nil}
 use Rattle.std.proofs.Math.Bool.{true≢false}
 use Rattle.bank_tables.specs.Items.{Set}
-use Rattle.bank_tables.specs.Sums.{any_below, count_in, size_of}
+use Rattle.bank_tables.specs.Sums.{any_below, size_of}
 use Rattle.bank_tables.specs.Tables.{Tables, size, stimulus}
 use Rattle.bank_tables.specs.Validity.{IsBank, HoldsItems}
 use Rattle.bank_tables.proofs.Bits.{size_of-below}
@@ -14,17 +14,16 @@ use Rattle.bank_tables.proofs.BankLaws.{greatest_at_most}
 use Rattle.exam_model.specs.declared.node.Node.TheVariants.{BranchItem, BranchStimulus, Bound, Ray, Count, Whole, Open}
 use Rattle.exam_model.specs.declared.node.Node.{Node}
 use Rattle.exam_model.specs.Counting.{taken_or_free, length_impossible, is_impossible, stimulus_impossible, IsFirstImpossible}
-use Rattle.exam_model.specs.Forms.{Form, objective, size_in, stimuli_of, used}
+use Rattle.exam_model.specs.Forms.{objective, size_in, stimuli_of}
 use Rattle.exam_model.specs.Paths.{Path, is_free, is_open, is_chosen}
 use Rattle.exam_model.specs.Problem.{Problem}
 use Rattle.exam_model.specs.Relaxed.{Multipliers}
 use Rattle.lagrange_bound.specs.Bounds.{IsBound}
 use Rattle.exam_model.specs.Validity.{IsWellMade}
 use Rattle.exam_model.specs.Verdicts.{IsStimulusBranch, only_candidate, CandidateIsSettled, ClosesByBound, IsFormOrNone, below}
-use Rattle.exam_model.specs.Spending.{IsBranch, IsUnresolved, PlainBoundExceeds, ExceedsStart}
+use Rattle.exam_model.specs.Spending.{IsBranch, ExceedsStart}
 use Rattle.exam_model.proofs.SumLaws.{either, any_elim, any_intro, or_right, or_true}
 use Rattle.certificate_check.proofs.MaximumLaws.{below_greatest}
-use Rattle.proof_tree.specs.Shape.{IsNode}
 use Rattle.branch_bound.specs.Comparing.{IsAsGood}
 use Rattle.branch_bound.specs.Searches.{Suits, ExceedsForm, Ends, GoesOn, IsBranchOn, side_of}
 use Rattle.branch_bound.proofs.Comparisons.{as_good-refl}

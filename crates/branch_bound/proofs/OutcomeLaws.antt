@@ -8,7 +8,7 @@ use Rattle.exam_model.specs.Paths.{root, undecided}
 use Rattle.exam_model.specs.Problem.{Problem}
 use Rattle.exam_model.specs.ProofTrees.{ProofTree}
 use Rattle.exam_model.specs.Spending.{IsSpent}
-use Rattle.exam_model.specs.Verdicts.{verdict_of, IsFormOrNone, IsVerdict}
+use Rattle.exam_model.specs.Verdicts.{verdict_of, IsVerdict}
 use Rattle.exam_model.proofs.TreeLaws.{optimal_is_best, no_form_is_none}
 use Rattle.exam_model.proofs.Bettering.{bettering_keeps}
 use Rattle.exam_model.proofs.Undecided.{partial_is_small}

@@ -1,21 +1,20 @@
 -- The searches of the two sides of a branch make that of its path; and what a whole search shows.
-use Rattle.std.proofs.Common.{◌≡◌, ℕ, zero, suc, ◌+◌, ◌*◌, ◌⊎◌, inl, inr, List, [], ◌∷◌, ◌++◌, length, refl, sym, ap, ◌∙◌, subst, arith, add-one, add-zero, append_assoc, length-append, Option}
+use Rattle.std.proofs.Common.{◌≡◌, ℕ, ◌+◌, ◌⊎◌, inl, inr, List, [], ◌∷◌, ◌++◌, length, refl, sym, ap, subst, arith, add-zero, append_assoc, length-append, Option}
 use Rattle.std.specs.Prelude.{All}
 use Rattle.std.proofs.lemmas.List.Elements.{All-nil, All-cons}
 use Rattle.bank_tables.specs.Items.{Set}
 use Rattle.exam_model.specs.declared.node.Node.{Node}
 use Rattle.exam_model.specs.declared.node.Node.TheVariants.{BranchItem, BranchStimulus, Bound, Ray, Count, Whole, Open}
-use Rattle.exam_model.specs.declared.verdict.Verdict.{Verdict}
 use Rattle.exam_model.specs.Problem.{Problem}
-use Rattle.exam_model.specs.Paths.{Path, root}
+use Rattle.exam_model.specs.Paths.{Path}
 use Rattle.exam_model.specs.ProofTrees.{AreTrees}
 use Rattle.exam_model.specs.Pruning.{ArePruned}
-use Rattle.exam_model.specs.Verdicts.{IsFormOrNone, IsSound, below, open_leaf, verdict_of, GivesFrom}
+use Rattle.exam_model.specs.Verdicts.{IsSound, below, open_leaf, verdict_of, GivesFrom}
 use Rattle.exam_model.specs.Spending.{open_leaves, IsBranch, HasNoBranch, IsDepthFirst, AreSpentNodes}
 use Rattle.proof_tree.specs.Shape.{IsNode}
 use Rattle.branch_bound.specs.Comparing.{IsAsGood}
 use Rattle.branch_bound.specs.Searches.{plain_tree, Suits, AllSuit, IsSearch, Ends}
-use Rattle.branch_bound.proofs.Comparisons.{as_good-refl, as_good-trans, suits}
+use Rattle.branch_bound.proofs.Comparisons.{as_good-trans, suits}
 
 -- ---- lists of nodes one behind the other
 pub no_branch-append : (xs ys : List Node) → HasNoBranch xs → HasNoBranch ys → HasNoBranch (xs ++ ys)
@@ -95,8 +94,7 @@ module _ (P : Problem) (p l r : Path) (node : Node) (B C D : Option Set) (k m n 
     both_suit : (X : Option Set) → IsAsGood P D X → (rest : List Node) (paths : List Path) → AllSuit P X rest paths → AllSuit P X ((node ∷ (left ++ right)) ++ rest) (p ∷ paths)
     both_suit X as_good rest paths all =
         let behind = second.suit X as_good rest paths all in
-        let whole = first.suit X (as_good-trans P C D X second.form second.no_worse as_good) (right ++ rest) (r ∷ paths) behind in
-        (
+        let whole = first.suit X (as_good-trans P C D X second.form second.no_worse as_good) (right ++ rest) (r ∷ paths) behind in (
           placed X,
           subst (λ (qs : List Path). AllSuit P X ((left ++ right) ++ rest) (qs ++ paths)) (sym two) (subst (λ (ns : List Node). AllSuit P X ns (l ∷ r ∷ paths)) (sym (append_assoc left right rest)) whole),
         )

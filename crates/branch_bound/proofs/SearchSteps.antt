@@ -1,5 +1,5 @@
 -- The steps of the plain search at one path.
-use Rattle.std.proofs.Common.{◌≡◌, ℕ, ◌+◌, ◌*◌, inr, true, false, List, [], ◌∷◌, ◌++◌, length, refl, sym, ap, ◌∙◌, subst, arith, append_assoc, Option}
+use Rattle.std.proofs.Common.{◌≡◌, ℕ, ◌+◌, inr, true, false, List, [], ◌∷◌, ◌++◌, sym, ap, ◌∙◌, subst, arith, append_assoc, Option}
 use Rattle.bank_tables.specs.Items.{Set}
 use Rattle.bank_tables.specs.Validity.{IsBank, HoldsItems}
 use Rattle.exam_model.specs.declared.node.Node.{Node}

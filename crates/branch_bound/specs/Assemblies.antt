@@ -1,7 +1,7 @@
 -- What an assembly comes to, and the tree that shows it.
-use Rattle.std.specs.Prelude.{◌≡◌, ℕ, ◌≤◌, Bool, true, false, Option, Some, None}
+use Rattle.std.specs.Prelude.{◌≡◌, ℕ, ◌≤◌, true, false, Option, Some, None}
 use Rattle.bank_tables.specs.Items.{Set, has}
-use Rattle.exam_model.specs.declared.verdict.Verdict.TheVariants.{Optimal, Partial} 
+use Rattle.exam_model.specs.declared.verdict.Verdict.TheVariants.{Optimal, Partial}
 use Rattle.exam_model.specs.declared.verdict.Verdict.TheVariants as verdict
 use Rattle.exam_model.specs.Problem.{Problem}
 use Rattle.exam_model.specs.Forms.{Form, Best, Firm, HasNoForm, objective}

@@ -56,6 +56,33 @@ impl<'a> Assembled<'a> {
     }
 }
 
+/// A tree, the outcome that it shows, and whether the plain search made it.
+#[derive(Debug, Drop)]
+struct Made {
+    tree: Tree,
+    outcome: Outcome,
+    plainly: bool,
+}
+
+/// Searches, and where what the search gave fails a test searches plainly.
+fn make(
+    alloc: Global,
+    problem: &Problem,
+    hint: Option<&ItemSet>,
+    budget: u16,
+) -> Result<Made, Memory>
+    requires well_made { IsWellMade (problem_of problem.now) }
+    requires budget { IsBudget budget }
+    ensures { IfOk result (λ made. IsAssembly (problem_of problem.now) (option_map has (option_copied hint.entry)) budget made.tree made.outcome) }
+{
+    let searched = search_plainly(alloc, problem, &hint.copied(), budget)?;
+    Ok(Made {
+        tree: searched.tree,
+        outcome: searched.outcome,
+        plainly: true,
+    })
+}
+
 /// Assembles a form of the problem within a budget of nodes, which is odd and at most 4,095; the hint may be a form.
 pub fn assemble<'a>(
     alloc: Global,
@@ -70,13 +97,38 @@ pub fn assemble<'a>(
     ensures is_true { IfOk result (λ a. IsTrueOutcome (problem_of problem.entry) a.outcome) }
     ensures decided { IfOk result (λ a. 2 ^ (undecided (problem_of problem.entry) (root (problem_of problem.entry)) + 1) ≤ budget + 1 → IsDecided a.outcome) }
 {
-    let hint = hint.copied();
-    let searched = search_plainly(alloc, &problem, &hint, budget)?;
+    // A problem is taken apart and made again, since no proof is generated where a parameter that holds references is moved
+    // as a whole.
+    let Problem {
+        bank,
+        spec,
+        session,
+        step,
+        aside,
+        given,
+        barred,
+        theta,
+        last,
+        start,
+    } = problem;
+    let asked = Problem {
+        bank,
+        spec,
+        session,
+        step,
+        aside,
+        given,
+        barred,
+        theta,
+        last,
+        start,
+    };
+    let made = make(alloc, &asked, hint, budget)?;
     Ok(Assembled {
-        problem,
-        tree: searched.tree,
+        problem: asked,
+        tree: made.tree,
         budget,
-        outcome: searched.outcome,
-        plainly: true,
+        outcome: made.outcome,
+        plainly: made.plainly,
     })
 }

@@ -23,10 +23,10 @@ use crate::branching::{branching, side};
 use crate::comparison::{better, better_form};
 use crate::exchanges::firm;
 use crate::outcome::Outcome;
-use lagrange_bound::{Cut, bound, impossible};
 use bank_tables::{ItemSet, List};
 use constraint_model::{Problem, objective};
 use exam_model::Node;
+use lagrange_bound::{Cut, bound, impossible};
 use proof_tree::{Memory, Tree, Vector};
 use std::alloc::Global;
 
@@ -118,7 +118,12 @@ fn leaf(problem: &Problem, plain: &Vector, cut: &Cut, best: &mut Option<ItemSet>
 
 /// Searches the subtree of a path. A branch is used up by each branch made; once none is left, what isn't settled is
 /// left Open.
-fn search(problem: &Problem, plain: &Vector, cut: &Cut, state: &mut SearchState) -> Result<(), Memory>
+fn search(
+    problem: &Problem,
+    plain: &Vector,
+    cut: &Cut,
+    state: &mut SearchState,
+) -> Result<(), Memory>
     requires well_made { IsWellMade (problem_of problem.now) }
     requires cut { IsCut (problem_of problem.now) cut.now }
     requires taken { HoldsItems (problem_of problem.now).bank (has cut.now.taken) }

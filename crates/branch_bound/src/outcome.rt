@@ -6,10 +6,7 @@ use bank_tables::ItemSet;
 #[derive(Clone, Copy, Debug, PartialEq, Eq)]
 pub enum Outcome {
     /// A form; proved, it is best, else the node budget was spent.
-    Found {
-        form: ItemSet,
-        proved: bool,
-    },
+    Found { form: ItemSet, proved: bool },
     /// No set of items is a form.
     NoForm,
     /// The node budget was spent, and no form was found.

@@ -1,9 +1,7 @@
-use Rattle.std.proofs.Common.{◌≡◌, ℕ, ◌<◌, ◌≤◌, true, false, Some, None, sym, ◌∙◌, ap, arith}
-use Rattle.bank_tables.specs.Items.{Set, has}
-use Rattle.exam_model.specs.Paths.{Path, is_open, is_free}
-use Rattle.exam_model.specs.Verdicts.{IsStimulusBranch, only_candidate}
+use Rattle.std.proofs.Common.{◌≡◌, true, Some, None, sym, ◌∙◌, ap, arith}
+use Rattle.bank_tables.specs.Items.{Set}
+use Rattle.exam_model.specs.Paths.{is_open}
 use Rattle.constraint_model.specs.Views.{problem_of}
-use Rattle.lagrange_bound.specs.Cuts.{IsCutOf}
 use Rattle.branch_bound.proofs.LeafLaws.{open_is_branch, few_stimuli, none_free}
 use Rattle.branch_bound.proofs.branching.branching.Goals as goal
 

@@ -1,5 +1,5 @@
-use Rattle.std.proofs.Common.{◌≡◌, true, sym, ◌∙◌, ap, subst}
-use Rattle.bank_tables.specs.Items.{Set, has}
+use Rattle.std.proofs.Common.{◌∙◌, ap, subst}
+use Rattle.bank_tables.specs.Items.{Set}
 use Rattle.exam_model.specs.declared.node.Node.TheVariants.{BranchItem, BranchStimulus}
 use Rattle.exam_model.specs.Paths.{with_item, with_stimulus}
 use Rattle.constraint_model.specs.Views.{problem_of}

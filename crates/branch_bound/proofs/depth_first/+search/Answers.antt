@@ -1,9 +1,7 @@
-use Rattle.std.proofs.Common.{◌≡◌, ℕ, ◌+◌, ◌-◌, true, false, List, [], ◌∷◌, ◌++◌, arith, Option}
+use Rattle.std.proofs.Common.{◌-◌, true, false, [], ◌∷◌, arith}
 use Rattle.std.specs.Option.{option_map}
-use Rattle.bank_tables.specs.Items.{Set, has}
-use Rattle.exam_model.specs.declared.node.Node.{Node}
+use Rattle.bank_tables.specs.Items.{has}
 use Rattle.exam_model.specs.declared.node.Node.TheVariants.{Open}
-use Rattle.exam_model.specs.Paths.{Path}
 use Rattle.constraint_model.specs.Views.{problem_of}
 use Rattle.branch_bound.specs.Searches.{side_of}
 use Rattle.branch_bound.proofs.Comparisons.{as_good-trans}
@@ -37,8 +35,7 @@ search-requires t c =
     let C = option_map has c.leaf.new.best in
     let on = c.in_default.ensures cut.path cut.is in
     let branch = c.branching-branch.ensures cut.path cut.is in
-    let left = c.side-left.ensures.paths cut.path cut.is in
-    (
+    let left = c.side-left.ensures.paths cut.path cut.is in (
       omega arith,
       (
         c.requires.well_made,
@@ -67,8 +64,7 @@ search-requires-2 t c =
     let first = c.in_ok-search.ensures (side_of P cut.path node true) left in
     let number = first.search.number in
     let form = form_stays P cut.path B C on c.requires.form in
-    let start = start_stays P cut.path B C on P.start c.requires.start in
-    (
+    let start = start_stays P cut.path B C on P.start c.requires.start in (
       omega arith,
       (
         c.requires.well_made,

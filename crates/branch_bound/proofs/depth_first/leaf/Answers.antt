@@ -1,7 +1,7 @@
 use Rattle.std.specs.Option.{option_map}
 use Rattle.bank_tables.specs.Items.{has}
 use Rattle.constraint_model.specs.Views.{problem_of}
-use Rattle.branch_bound.proofs.LeafLaws.{count_ends, whole_ends, bound_ends, goes_on, length_possible}
+use Rattle.branch_bound.proofs.LeafLaws.{count_ends, goes_on, length_possible}
 use Rattle.branch_bound.proofs.depth_first.leaf.Goals as goal
 
 pub returns-in-Some : goal.returns-in-Some

@@ -1,4 +1,4 @@
-use Rattle.std.proofs.Common.{◌≡◌, ℕ, zero, suc, ◌<◌, true, false, sym, subst, ◌∙◌, arith, Option, Some}
+use Rattle.std.proofs.Common.{◌≡◌, ℕ, zero, suc, ◌<◌, true, false, sym, subst, ◌∙◌, arith, Some}
 use Rattle.std.proofs.Math.Bool.{true≢false}
 use Rattle.std.specs.Option.{option_map}
 use Rattle.bank_tables.specs.Items.{has}

@@ -1,4 +1,4 @@
-use Rattle.std.proofs.Common.{◌≡◌, ℕ, ◌<◌, arith}
+use Rattle.std.proofs.Common.{arith}
 use Rattle.bank_tables.specs.Items.{has}
 use Rattle.constraint_model.specs.Views.{problem_of}
 use Rattle.branch_bound.proofs.ExchangeLaws.{firm_where}

@@ -1,4 +1,4 @@
-use Rattle.std.proofs.Common.{◌≡◌, ℕ, suc, ◌+◌, ◌<◌, true, false, List, ◌∷◌, length, drop, get_or, refl, sym, ◌∙◌, arith}
+use Rattle.std.proofs.Common.{◌≡◌, suc, ◌+◌, ◌<◌, true, false, ◌∷◌, length, drop, get_or, refl, sym, ◌∙◌, arith}
 use Rattle.std.proofs.Math.Bool.{true≢false}
 use Rattle.exam_model.specs.declared.node.Node.{Node}
 use Rattle.exam_model.specs.declared.node.Node.TheVariants.{BranchItem}

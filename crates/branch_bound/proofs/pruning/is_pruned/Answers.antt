@@ -1,4 +1,4 @@
-use Rattle.std.proofs.Common.{◌≡◌, true, sym, ◌∙◌}
+use Rattle.std.proofs.Common.{sym, ◌∙◌}
 use Rattle.exam_model.specs.Paths.{root}
 use Rattle.constraint_model.specs.Views.{problem_of}
 use Rattle.branch_bound.proofs.PruneLaws.{all_pruned_where}
