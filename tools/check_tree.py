@@ -194,6 +194,7 @@ ITEM, STIMULUS, BOUND, RAY, COUNT, WHOLE, OPEN = 1, 2, 3, 4, 5, 6, 7
 # ---------------------------------------------------------------- paths
 
 Path = namedtuple("Path", "taken free branched")
+Reduced = namedtuple("Reduced", "constant weight stimulus")
 
 
 def root(P):
@@ -218,31 +219,44 @@ def below(P, p, kind, value):
     return [p._replace(branched=p.branched | {value}), p._replace(free=rest)]
 
 
+def length_impossible(P, p):
+    return len(p.taken) > P.plan.length or len(p.taken) + len(p.free) < P.plan.length
+
+
+def row_impossible(P, p, row, sure, may):
+    """The same of a row of the plan, with the stimuli chosen, and those chosen or open."""
+    least = amount(P, row, p.taken, sure)
+    most = amount(P, row, p.taken | p.free, may)
+    return least > row.high or most < row.low
+
+
+def stimulus_impossible(P, p, s, sure):
+    low, high = P.plan.bounds[s - 1]
+    return of_stimulus(P, p.taken, s) > high or s in sure and of_stimulus(P, p.taken | p.free, s) < low
+
+
 def impossible(P, p, number):
     """Whether a row is impossible by counting: 0 is the length, then the plan's rows, then the stimuli."""
-    may = p.taken | p.free
     if number == 0:
-        return len(p.taken) > P.plan.length or len(may) < P.plan.length
+        return length_impossible(P, p)
     if number <= len(P.plan.rows):
-        row = P.plan.rows[number - 1]
-        least = amount(P, row, p.taken, chosen(P, p))
-        most = amount(P, row, may, chosen(P, p) | opened(P, p))
-        return least > row.high or most < row.low
-    s = number - len(P.plan.rows)
-    if s > P.bank.stimuli:
-        return False
-    low, high = P.plan.bounds[s - 1]
-    return of_stimulus(P, p.taken, s) > high or s in chosen(P, p) and of_stimulus(P, may, s) < low
+        return row_impossible(P, p, P.plan.rows[number - 1], chosen(P, p), chosen(P, p) | opened(P, p))
+    return number in rows(P) and stimulus_impossible(P, p, number - len(P.plan.rows), chosen(P, p))
+
+
+def some_impossible(P, p):
+    """Whether any row is impossible by counting."""
+    sure, may = chosen(P, p), chosen(P, p) | opened(P, p)
+    return (length_impossible(P, p) or any(row_impossible(P, p, row, sure, may) for row in P.plan.rows)
+            or any(stimulus_impossible(P, p, s, sure) for s in range(1, P.bank.stimuli + 1)))
 
 
 def rows(P):
     return range(len(P.plan.rows) + P.bank.stimuli + 1)
 
 
-def maximum(P, p, vector, ray):
-    """The relaxed maximum, or None where it isn't defined."""
-    if impossible(P, p, 0):
-        return None
+def reduced(P, vector, ray):
+    """The constant, and the weight of each item and each stimulus, which don't depend on the path."""
     constant = 0
     weight = [0 if ray else 256 * item.info[P.theta] for item in P.bank.items]
     stimulus = [0] * (P.bank.stimuli + 1)
@@ -265,9 +279,16 @@ def maximum(P, p, vector, ray):
             for i, item in enumerate(P.bank.items):
                 if item.stimulus == s:
                     weight[i] += sign * m
-    free = sorted((weight[i] for i in p.free), reverse=True)[:P.plan.length - len(p.taken)]
-    return (constant + sum(weight[i] for i in p.taken) + sum(free) + sum(stimulus[s] for s in chosen(P, p))
-            + sum(max(0, stimulus[s]) for s in opened(P, p)))
+    return Reduced(constant, weight, stimulus)
+
+
+def maximum(P, p, r):
+    """The relaxed maximum with reduced weights, or None where it isn't defined."""
+    if length_impossible(P, p):
+        return None
+    free = sorted((r.weight[i] for i in p.free), reverse=True)[:P.plan.length - len(p.taken)]
+    return (r.constant + sum(r.weight[i] for i in p.taken) + sum(free) + sum(r.stimulus[s] for s in chosen(P, p))
+            + sum(max(0, r.stimulus[s]) for s in opened(P, p)))
 
 
 def last_set(P, p):
@@ -281,8 +302,9 @@ def last_set(P, p):
 
 # ---------------------------------------------------------------- the verdict
 
-def reason(P, X, vectors, p, kind, value):
-    """Why the node is unsound, or None."""
+def reason(P, X, vectors, p, kind, value, known=None):
+    """Why the node is unsound, or None. What is known of a vector is kept from node to node."""
+    known = {} if known is None else known
     if kind == ITEM:
         return None if value in p.free else "Determined"
     if kind == STIMULUS:
@@ -292,7 +314,9 @@ def reason(P, X, vectors, p, kind, value):
             return "NoVector"
         if any(side >= 2 * len(P.plan.rows) + 2 * P.bank.stimuli for side in vectors[value]):
             return "NoSide"
-        r = maximum(P, p, vectors[value], kind == RAY)
+        if (kind, value) not in known:
+            known[kind, value] = reduced(P, vectors[value], kind == RAY)
+        r = maximum(P, p, known[kind, value])
         if kind == RAY:
             return None if r is not None and r < 0 else "NotNegative"
         return None if X is not None and r is not None and r <= 256 * objective(P, X) + 255 else "NotClosed"
@@ -310,10 +334,10 @@ def reason(P, X, vectors, p, kind, value):
 def verdict(P, X, vectors, nodes):
     if X is not None and not is_form(P, X):
         return "Bad 0 NotForm"
-    waiting, open_leaves = [root(P)], 0
+    waiting, open_leaves, known = [root(P)], 0, {}
     for number, (kind, value) in enumerate(nodes):
         p = waiting.pop()
-        why = reason(P, X, vectors, p, kind, value)
+        why = reason(P, X, vectors, p, kind, value, known)
         if why:
             return "Bad %d %s" % (number, why)
         if kind in (ITEM, STIMULUS):
@@ -331,6 +355,7 @@ def spent(P, nodes, budget):
     if any(kind in (ITEM, STIMULUS) for kind in kinds[kinds.index(OPEN):]):
         return False
     start = P.start if P.start is not None and is_form(P, P.start) else None
+    plain = reduced(P, {}, False)
     waiting = [root(P)]
     for kind, value in nodes:
         p = waiting.pop()
@@ -339,9 +364,9 @@ def spent(P, nodes, budget):
                 return False
             waiting.extend(reversed(below(P, p, kind, value)))
         if kind in (ITEM, STIMULUS, OPEN):
-            if any(impossible(P, p, r) for r in rows(P)):
+            if some_impossible(P, p):
                 return False
-            if start is not None and not maximum(P, p, {}, False) > 256 * objective(P, start) + 255:
+            if start is not None and not maximum(P, p, plain) > 256 * objective(P, start) + 255:
                 return False
     return True
 

@@ -1,0 +1,246 @@
+#!/usr/bin/env python3
+"""Times the assembler beside GLPK, CBC and HiGHS on the same steps, and judges every proof tree. See assembly.md.
+
+usage: assembly.py PROGRAM [--short] [--rounds N] [--only TEXT]
+
+PROGRAM is the built program of crates/assembly_bench. --short takes few and small problems; --only those whose names have
+this text; --rounds is how often each step is solved, of which the least time counts (3 without it).
+"""
+import os
+import subprocess
+import sys
+import tempfile
+from collections import namedtuple
+
+import peers
+import problems
+
+sys.path.insert(0, os.path.join(os.path.dirname(os.path.abspath(__file__)), "..", "tools"))
+import check_tree
+
+# one solved step: the problem as check_tree has it, the node budget, the form or None, and what the program said of it
+Step = namedtuple("Step", "problem budget form microseconds nodes mark search objective item tree")
+# one bank: its name, the steps of its sessions, their base forms, and for each peer what it made of the steps
+Result = namedtuple("Result", "name steps bases peers")
+
+
+def set_of(word):
+    return frozenset() if word == "-" else check_tree.read_set(word.split(","))
+
+
+def budgets_of(text):
+    budgets = {"budget": 2001, "base-budget": 4095}
+    for line in text.splitlines():
+        words = line.split(" ")
+        if words[0] in budgets:
+            budgets[words[0]] = int(words[1])
+    return budgets
+
+
+def step_of(words, bank, plan, budgets):
+    """The step that a line of the program tells."""
+    said = dict(zip(words[1::2], words[2::2])) if words[0] == "base" else dict(zip(words[0::2], words[1::2]))
+    problem = check_tree.Problem(bank, plan, int(said["theta"]), set_of(said["given"]), set_of(said["barred"]),
+                                 None if said["start"] == "-" else set_of(said["start"]))
+    form = None if said["form"] == "-" else set_of(said["form"])
+    return Step(problem, budgets["base-budget" if words[0] == "base" else "budget"], form, float(said["microseconds"]),
+                int(said["nodes"]), said["mark"], said["search"], said["objective"], said.get("item"), bytes.fromhex(said["tree"]))
+
+
+def run_session(program, paths, answers, left_out, rounds):
+    """The lines of a session, each with the least time of so many runs."""
+    words = [program, "steps", *paths, answers, "trees"]
+    if left_out:
+        words += ["without", ",".join(map(str, sorted(left_out)))]
+    runs = []
+    for _ in range(rounds):
+        done = subprocess.run(words, stdout=subprocess.PIPE, check=True)
+        runs.append([line.split(" ") for line in done.stdout.decode().splitlines()])
+    for at, line in enumerate(runs[0]):
+        place = line.index("microseconds") + 1
+        others = [run[at][:place] + run[at][place + 1:] for run in runs]
+        if any(other != others[0] for other in others):
+            raise ValueError("a run says otherwise than another: %r" % others)
+        line[place] = min((run[at][place] for run in runs), key=float)
+    return runs[0]
+
+
+def left_out_items(rate, counts, sessions):
+    """The items that were given in too great a part of the sessions before; the first sessions are let off."""
+    if rate is None:
+        return []
+    return [i for i, n in enumerate(counts) if n * rate[1] > (sessions + 4) * rate[0]]
+
+
+def run_program(program, problem, folder, rounds):
+    paths = [os.path.join(folder, name) for name in ("bank", "plan")]
+    for path, text in zip(paths, (problem.bank, problem.plan)):
+        with open(path, "w") as file:
+            file.write(text)
+    bank = check_tree.read_bank(paths[0])
+    plan = check_tree.read_plan(paths[1], bank)
+    budgets = budgets_of(problem.plan)
+    counts, steps, bases = [0] * len(bank.items), [], []
+    for number, answers in enumerate(problem.sessions):
+        lines = run_session(program, paths, answers, left_out_items(problem.rate, counts, number), rounds)
+        for words in lines:
+            step = step_of(words, bank, plan, budgets)
+            (bases if words[0] == "base" else steps).append(step)
+            if words[0] != "base" and step.item != "-":
+                counts[int(step.item)] += 1
+    return steps, bases
+
+
+# ---------------------------------------------------------------- 0-1 models
+
+def model_of(P):
+    """The 0-1 model of a problem: a column for each item, and behind them one for each stimulus."""
+    count, stimuli = len(P.bank.items), P.bank.stimuli
+    lower = [1 if i in P.given else 0 for i in range(count)] + [0] * stimuli
+    upper = [0 if i in P.barred else 1 for i in range(count)] + [1] * stimuli
+    cost = [item.info[P.theta] for item in P.bank.items] + [0] * stimuli
+    rows = [(P.plan.length, P.plan.length, [(i, 1) for i in range(count)])]
+    for row in P.plan.rows:
+        if row.kind == "stimuli":
+            parts = [(count + s, 1) for s in range(stimuli)]
+        elif row.kind == "quantity":
+            parts = [(i, P.bank.items[i].quantities[row.attribute]) for i in sorted(row.members)]
+        else:
+            parts = [(i, 1) for i in sorted(row.members)]
+        parts = [(column, each) for column, each in parts if each]
+        rows.append((row.low, min(row.high, sum(each for _, each in parts)), parts))
+    for s in range(1, stimuli + 1):
+        members = [(i, 1) for i in range(count) if P.bank.items[i].stimulus == s]
+        low, high = P.plan.bounds[s - 1]
+        rows.append((0, len(members), members + [(count + s - 1, -low)]))
+        rows.append((-len(members), 0, members + [(count + s - 1, -min(high, len(members)))]))
+    return peers.Model(lower, upper, cost, rows)
+
+
+# ---------------------------------------------------------------- judging
+
+def judge(step):
+    """What is wrong with a step's tree, or None."""
+    P, X = step.problem, step.form
+    try:
+        vectors, nodes, used = check_tree.read_tree(step.tree)
+    except check_tree.Fault as fault:
+        return str(fault)
+    said = check_tree.verdict(P, X, vectors, nodes)
+    if used != len(step.tree) or len(nodes) != step.nodes:
+        return "%d nodes in %d bytes" % (len(nodes), used)
+    if X is not None and str(check_tree.objective(P, X)) != step.objective:
+        return "the objective is %d" % check_tree.objective(P, X)
+    if step.mark == "proved":
+        return None if said == ("NoForm" if X is None else "Optimal") else said
+    if not said.startswith("Partial"):
+        return said
+    return None if check_tree.spent(P, nodes, step.budget) else "not spent"
+
+
+def compare(step, solved):
+    """What is wrong beside a peer's answer, or None."""
+    P, form = step.problem, frozenset(i for i in solved.ones if i < len(step.problem.bank.items))
+    if not solved.optimal:
+        return None
+    if not check_tree.is_form(P, form):
+        return "the peer's answer is no form"
+    best = check_tree.objective(P, form)
+    if step.form is None or step.mark == "proved" and best != int(step.objective) or best < int(step.objective):
+        return "objective %s, the peer's is %d" % (step.objective, best)
+    return None
+
+
+# ---------------------------------------------------------------- the table
+
+def milliseconds(times):
+    """Median, the 95th in a hundred, the greatest and the mean."""
+    ordered = sorted(times)
+    at = [ordered[len(ordered) // 2], ordered[-(-95 * len(ordered) // 100) - 1], ordered[-1], sum(ordered) / len(ordered)]
+    return " / ".join("%.2f" % (t / 1000) for t in at)
+
+
+def mean(numbers):
+    return sum(numbers) / len(numbers)
+
+
+def row_of(result, names):
+    own = [step.microseconds for step in result.steps]
+    nodes = sorted(step.nodes for step in result.steps)
+    cells = [result.name, str(len(own)), milliseconds(own), "%d / %.1f / %d" % (nodes[len(nodes) // 2], mean(nodes), nodes[-1]),
+             str(sum(step.mark != "proved" for step in result.steps)),
+             str(sum(step.search == "plain" for step in result.steps + result.bases))]
+    for name in names:
+        solved = result.peers[name]
+        late = sum(not s.optimal for s in solved)
+        times = [s.microseconds for s in solved]
+        cells.append("%s%s; %.2f" % (milliseconds(times), ", %d not optimal" % late if late else "", mean(times) / mean(own)))
+    return "| " + " | ".join(cells) + " |"
+
+
+def table(results, names):
+    heads = ["Bank", "Steps", "Assembler, ms", "Nodes", "Unproved", "Plain"] + ["%s, ms; ratio" % name for name in names]
+    print("| " + " | ".join(heads) + " |")
+    print("|" + "---|" * len(heads))
+    for result in results:
+        print(row_of(result, names))
+    drills = [r for r in results if r.name.startswith("drill")]
+    if len(drills) > 1:
+        together = {name: [s for r in drills for s in r.peers[name]] for name in names}
+        print(row_of(Result("all drills", [s for r in drills for s in r.steps], [s for r in drills for s in r.bases], together), names))
+    print()
+    print("Times are median / 95th in a hundred / greatest / mean a step; nodes are median / mean / greatest. A ratio is the mean")
+    print("of the peer by that of the assembler. Plain is how often the plain search was called.")
+
+
+def measure(program, problem, commands, folder, rounds):
+    steps, bases = run_program(program, problem, folder, rounds)
+    models = [model_of(step.problem) for step in steps]
+    solved = {name: peers.solve_all(folder, command, models, rounds) for name, command in commands.items()}
+    wrong = []
+    for step in bases + steps:
+        said = judge(step)
+        if said:
+            wrong.append("%s: a tree is wrong: %s" % (problem.name, said))
+    for name in solved:
+        for number, (step, answer) in enumerate(zip(steps, solved[name])):
+            said = compare(step, answer)
+            if said:
+                wrong.append("%s: step %d beside %s: %s" % (problem.name, number, name, said))
+    print("%s: %d steps, %d trees judged, %d wrong" % (problem.name, len(steps), len(steps) + len(bases), len(wrong)), flush=True)
+    return Result(problem.name, steps, bases, solved), wrong
+
+
+def main(words):
+    rounds, short, only, plain = 3, False, "", []
+    while words:
+        word = words.pop(0)
+        if word == "--short":
+            short = True
+        elif word in ("--rounds", "--only") and words:
+            rounds, only = (int(words.pop(0)), only) if word == "--rounds" else (rounds, words.pop(0))
+        else:
+            plain.append(word)
+    if len(plain) != 1:
+        print(__doc__)
+        return 2
+    results, wrong = [], []
+    with tempfile.TemporaryDirectory() as folder:
+        commands = peers.all_peers(folder)
+        for problem in problems.all_problems(short):
+            if only in problem.name:
+                result, faults = measure(plain[0], problem, commands, folder, rounds)
+                results.append(result)
+                wrong += faults
+    print()
+    table(results, list(commands))
+    if not {"GLPK", "CBC"} <= set(commands):
+        print("GLPK or CBC is missing: this is no result to publish.")
+    for fault in wrong:
+        print(fault)
+    print("%d trees judged, %d faults" % (sum(len(r.steps) + len(r.bases) for r in results), len(wrong)))
+    return 1 if wrong else 0
+
+
+if __name__ == "__main__":
+    sys.exit(main(sys.argv[1:]))

@@ -1,0 +1,38 @@
+//! The program `assembly_bench`: it times the assembler and the separate checker by the system's clock. `steps BANK PLAN
+//! RESPONSES` serves a session with the given responses and prints a line for each step; with the word `trees` also what
+//! rebuilds the step and judges its tree, and with `without ITEMS` behind it those items aren't eligible. `check ITEMS ROWS
+//! STIMULI NODES` makes a problem and proof trees of these sizes and times the checker on them; with the word `quiet` it
+//! prints no times. It is proved safe, and promises nothing on time.
+#![tactic(auto)]
+
+mod bank;
+mod checking;
+mod command;
+mod form;
+mod line;
+mod plan;
+mod reading;
+mod seat;
+mod size;
+mod steps;
+mod tree;
+mod vector;
+
+use anyhow::{Result, bail};
+use checking::time_checks;
+use command::Command;
+use std::env;
+use steps::time_steps;
+
+fn main(rt: HostRuntime) -> Result<()> {
+    let words: Vec<String> = env::args(&rt)?.skip(1).collect(rt.alloc())?;
+    match Command::of(&words) {
+        Some(Command::Check { size, nodes, quiet }) => time_checks(&rt, size, nodes, quiet),
+        Some(Command::Steps(order)) => time_steps(&rt, &order),
+        None => {
+            bail!(
+                "usage: assembly_bench steps BANK PLAN RESPONSES [trees [without ITEMS]] | check ITEMS ROWS STIMULI NODES [quiet]"
+            )
+        }
+    }
+}

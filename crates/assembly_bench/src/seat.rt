@@ -1,0 +1,77 @@
+//! The seat of the session.
+
+ghost use Rattle.std.specs.Prelude.{◌<◌};
+ghost use Rattle.bank_tables.specs.Items.{has};
+ghost use Rattle.bank_tables.specs.Tables.{categories};
+ghost use Rattle.exam_model.specs.Plan.{Plan};
+ghost use Rattle.exam_model.specs.Forms.{Form};
+ghost use Rattle.exam_model.specs.Seats.{IsSeat, IsPending, IsSeatProblem};
+ghost use Rattle.exam_model.specs.Serving.{IsNext};
+ghost use Rattle.exam_model.specs.Validity.{IsPlanFor};
+ghost use Rattle.constraint_model.specs.Views.{problem_of};
+
+use bank_tables::{Bank, ItemSet, Short};
+use constraint_model::{Problem, Spec};
+use exam_model::Seat;
+use shadow_select::laws::a_new_seat_is_a_seat;
+
+/// The items of the bank without some.
+fn eligible_items(bank: &Bank, left_out: &ItemSet) -> ItemSet {
+    let mut eligible = ItemSet::empty();
+    prove!(bank.items() <= 512);
+    for i in 0..bank.items() {
+        if !left_out.has(i) {
+            eligible = eligible.with(i);
+        }
+    }
+    eligible
+}
+
+/// The seat of a session that begins.
+pub fn new_seat(bank: &Bank, left_out: &ItemSet) -> Seat
+    ensures { (plan : Plan) → IsSeat bank.now plan result }
+{
+    a_new_seat_is_a_seat();
+    Seat {
+        shown: Short::empty(),
+        responses: Short::empty(),
+        eligible: eligible_items(bank, left_out),
+        aside: false,
+        form: None,
+        proved: false,
+        closed: false,
+    }
+}
+
+/// What a step came to: the form, the item served from it, and the response.
+#[derive(Clone, Copy)]
+pub struct Service {
+    pub form: ItemSet,
+    pub item: u16,
+    pub response: u8,
+}
+
+/// The seat after a step.
+pub fn seat_after(
+    problem: &Problem,
+    bank: &Bank,
+    spec: &Spec,
+    seat: &Seat,
+    service: &Service,
+) -> Seat
+    requires plan { IsPlanFor bank.now spec.now }
+    requires seat { IsSeat bank.now spec.now seat.now }
+    requires pending { IsPending spec.now seat.now }
+    requires problem { IsSeatProblem bank.now spec.now 0 seat.now (problem_of problem.now) }
+    requires form { Form (problem_of problem.now) (has service.now.form) }
+    requires next { IsNext (problem_of problem.now) (has service.now.form) service.now.item }
+    requires response { service.now.response < categories bank.now service.now.item }
+    ensures { IsSeat bank.now spec.now result }
+{
+    prove!(spec.length() <= bank.items() as u32);
+    let mut after = *seat;
+    after.shown.push(service.item);
+    after.responses.push(service.response as u16);
+    after.form = Some(service.form);
+    after
+}
