@@ -4,14 +4,22 @@
 //! vector with a higher bound. That they improve at all is measured, and not promised.
 #![tactic(auto)]
 
+mod ascent;
 mod counting;
 mod cut;
 mod members;
 mod prices;
 mod relaxation;
+mod steps;
+mod steps_flat;
+mod steps_items;
+mod steps_lengths;
+mod steps_lines;
 mod threshold;
+mod vectors;
 mod weights;
 
+pub use ascent::{Aim, Ascent, ascend, improve};
 pub use counting::impossible;
 pub use cut::Cut;
 pub use proof_tree::Memory;
