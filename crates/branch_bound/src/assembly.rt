@@ -9,10 +9,12 @@ ghost use Rattle.constraint_model.specs.Views.{problem_of};
 ghost use Rattle.branch_bound.specs.Assembled.{KeepsPromise};
 ghost use Rattle.branch_bound.specs.Assemblies.{IsAssembly, IsTrueOutcome, IsDecided};
 
+use crate::acceptance::accepted;
 use crate::depth_first::search_plainly;
 use crate::outcome::Outcome;
 use bank_tables::ItemSet;
 use constraint_model::Problem;
+use form_search::{Searched, search};
 use proof_tree::{Memory, Tree};
 use std::alloc::Global;
 use std::marker::Model;
@@ -91,10 +93,21 @@ fn make(
     requires budget { IsBudget budget }
     ensures { IfOk result (λ made. IsAssembly (problem_of problem.now) (option_map has (option_copied hint.entry)) budget made.tree made.outcome) }
 {
-    let searched = search_plainly(alloc, problem, &hint.copied(), budget)?;
+    let known = hint.copied();
+    let Searched { form, tree } = search(alloc, problem, hint, budget)?;
+    if let Some(tree) = tree {
+        if let Some(outcome) = accepted(problem, &known, budget, form, &tree) {
+            return Ok(Made {
+                tree,
+                outcome,
+                plainly: false,
+            });
+        }
+    }
+    let plain = search_plainly(alloc, problem, &known, budget)?;
     Ok(Made {
-        tree: searched.tree,
-        outcome: searched.outcome,
+        tree: plain.tree,
+        outcome: plain.outcome,
         plainly: true,
     })
 }
