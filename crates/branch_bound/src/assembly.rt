@@ -1,6 +1,6 @@
 //! The assembly of a form.
 
-ghost use Rattle.std.specs.Prelude.{◌≡◌, ◌+◌, ◌^◌, ◌≤◌, IfOk, IfSome};
+ghost use Rattle.std.specs.Prelude.{◌≡◌, ◌+◌, ◌^◌, ◌≤◌, IfOk};
 ghost use Rattle.std.specs.Option.{option_map, option_copied};
 ghost use Rattle.bank_tables.specs.Items.{has};
 ghost use Rattle.exam_model.specs.Paths.{root, undecided};
@@ -82,31 +82,6 @@ struct Made {
     plainly: bool,
 }
 
-/// What the search proper gives, where it passes every test.
-fn let_in(
-    alloc: Global,
-    problem: &Problem,
-    hint: &Option<ItemSet>,
-    budget: u16,
-) -> Result<Option<Made>, Memory>
-    requires well_made { IsWellMade (problem_of problem.now) }
-    requires budget { IsBudget budget }
-    ensures { IfOk result (λ found. IfSome found (λ made. IsAssembly (problem_of problem.now) (option_map has hint.now) budget made.tree made.outcome)) }
-{
-    let Searched { form, tree } = search(alloc, problem, hint.as_ref(), budget)?;
-    let Some(tree) = tree else {
-        return Ok(None);
-    };
-    match accepted(problem, hint, budget, form, &tree) {
-        Some(outcome) => Ok(Some(Made {
-            tree,
-            outcome,
-            plainly: false,
-        })),
-        None => Ok(None),
-    }
-}
-
 /// Searches, and where what the search gave fails a test searches plainly.
 fn make(
     alloc: Global,
@@ -118,14 +93,21 @@ fn make(
     requires budget { IsBudget budget }
     ensures { IfOk result (λ made. IsAssembly (problem_of problem.now) (option_map has (option_copied hint.entry)) budget made.tree made.outcome) }
 {
-    let hint = hint.copied();
-    if let Some(made) = let_in(alloc, problem, &hint, budget)? {
-        return Ok(made);
+    let known = hint.copied();
+    let Searched { form, tree } = search(alloc, problem, hint, budget)?;
+    if let Some(tree) = tree {
+        if let Some(outcome) = accepted(problem, &known, budget, form, &tree) {
+            return Ok(Made {
+                tree,
+                outcome,
+                plainly: false,
+            });
+        }
     }
-    let searched = search_plainly(alloc, problem, &hint, budget)?;
+    let plain = search_plainly(alloc, problem, &known, budget)?;
     Ok(Made {
-        tree: searched.tree,
-        outcome: searched.outcome,
+        tree: plain.tree,
+        outcome: plain.outcome,
         plainly: true,
     })
 }
