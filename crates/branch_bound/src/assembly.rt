@@ -122,6 +122,7 @@ pub fn assemble<'a>(
     requires well_made { IsWellMade (problem_of problem) }
     requires budget { IsBudget budget }
     ensures problem { IfOk result (λ a. a.problem ≡ problem.entry) }
+    ensures budget { IfOk result (λ a. a.budget ≡ budget) }
     ensures assembly { IfOk result (λ a. IsAssembly (problem_of problem.entry) (option_map has (option_copied hint.entry)) budget a.tree a.outcome) }
     ensures is_true { IfOk result (λ a. IsTrueOutcome (problem_of problem.entry) a.outcome) }
     ensures decided { IfOk result (λ a. 2 ^ (undecided (problem_of problem.entry) (root (problem_of problem.entry)) + 1) ≤ budget + 1 → IsDecided a.outcome) }
