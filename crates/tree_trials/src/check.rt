@@ -1,8 +1,9 @@
 // Verdicts on proof trees, each reason once, and parts of what a spent tree is, broken once. What is expected was
 // worked out by hand.
 
-ghost use Rattle.std.specs.Prelude.{IfSome};
-ghost use Rattle.exam_model.specs.Validity.{IsPlanFor, IsWellMade};
+ghost use Rattle.bank_tables.specs.Items.{has};
+ghost use Rattle.bank_tables.specs.Validity.{HoldsItems};
+ghost use Rattle.exam_model.specs.Validity.{IsWellMade};
 ghost use Rattle.constraint_model.specs.Views.{problem_of};
 
 #[cfg(test)]
@@ -149,27 +150,16 @@ mod tests {
         Ok(spent(&problem, &tree, budget))
     }
 
-    /// The whole problem with a set of items of its bank as the form last served from.
-    fn started<'a>(bank: &'a Bank, spec: &'a Spec, items: &ItemSet) -> Option<Problem<'a>>
-        requires { IsPlanFor bank.now spec.now }
-        ensures { IfSome result (λ p. IsWellMade (problem_of p)) }
+    /// The problem of a session that was last served from this form.
+    fn with_start<'a>(problem: &Problem<'a>, form: &ItemSet) -> Problem<'a>
+        requires well_made { IsWellMade (problem_of problem.now) }
+        requires items { HoldsItems problem.now.bank.now (has form.now) }
+        ensures { IsWellMade (problem_of result) }
     {
-        if !items.all_below(bank.items()) {
-            return None;
+        Problem {
+            start: Some(*form),
+            ..*problem
         }
-        let theta = Problem::whole(bank, spec).theta;
-        Some(Problem {
-            bank,
-            spec,
-            session: 0,
-            step: 0,
-            aside: true,
-            given: ItemSet::empty(),
-            barred: ItemSet::empty(),
-            theta,
-            last: None,
-            start: Some(*items),
-        })
     }
 
     /// Whether a tree over the plain bank spends a budget, where a form was served from before.
@@ -181,9 +171,11 @@ mod tests {
     ) -> Result<bool, Fail> {
         let bank = plain_bank(alloc)?;
         let spec = Spec::of(alloc, &bank, plain_plan(alloc, 1)?)?;
-        let Some(problem) = started(&bank, &spec, &set_of(start)) else {
+        let form = set_of(start);
+        if !form.all_below(bank.items()) {
             return Err(Fail::from("a start"));
-        };
+        }
+        let problem = with_start(&Problem::whole(&bank, &spec), &form);
         let tree = tree_of(alloc, bytes)?;
         Ok(spent(&problem, &tree, budget))
     }
