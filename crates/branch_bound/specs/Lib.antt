@@ -4,3 +4,4 @@ pub mod Comparing
 pub mod Searches
 pub mod Showing
 pub mod Prunings
+pub mod Assembled

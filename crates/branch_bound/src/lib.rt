@@ -1,7 +1,9 @@
 //! The assembler: it finds a form of a problem and a proof tree that shows what it found (branch and bound with Lagrangian
-//! bounds). Upward it promises that the tree's verdict is the one that the outcome says, by the rules that the separate
-//! checker tests; that a form is no worse than those that it was given, and that no exchange of one item betters it; and that
-//! with enough nodes it decides. That few nodes are enough is measured, and not promised.
+//! bounds). What the search proper gives is let in by tests alone, and a plain search stands behind it. Upward it promises
+//! that the tree's verdict is the one that the outcome says, by the rules that the separate checker tests; that a form is no
+//! worse than those that it was given, and that no exchange of one item betters it; and that with enough nodes it decides.
+//! `Assembled` keeps this by its type. It never hands over what wasn't tested or proved; that few nodes are enough is
+//! measured, and not promised.
 #![tactic(auto)]
 
 mod acceptance;

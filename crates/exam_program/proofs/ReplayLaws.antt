@@ -1,65 +1,85 @@
 -- How a replay goes on, and where it stops.
-use Rattle.std.proofs.Common.{◌≡◌, ℕ, suc, ◌+◌, ◌<◌, ◌⊎◌, inl, inr, List, [], ◌∷◌, ◌++◌, length, take, drop, get_or, drop-cons, sym, ◌∙◌, ap, subst, append_assoc}
+use Rattle.std.proofs.Common.{◌≡◌, ℕ, suc, ◌+◌, ◌<◌, ◌⊎◌, inl, inr, List, ◌∷◌, ◌++◌, length, take, drop, get_or, drop-cons, refl, sym, ◌∙◌, ap, subst, append_assoc}
 use Rattle.std.proofs.lemmas.List.{take-append-drop, take_more}
 use Rattle.bank_tables.specs.Tables.{Tables}
 use Rattle.exam_model.specs.declared.seat.Seat.{Seat}
 use Rattle.exam_model.specs.Plan.{Plan}
 use Rattle.exam_program.specs.declared.script.Answer.{Answer}
-use Rattle.exam_program.specs.declared.replay.Stop.{Stop}
-use Rattle.exam_program.specs.declared.replay.Stop.TheVariants.{Memory, Sink}
+use Rattle.exam_program.specs.declared.stop.Stop.{Stop}
+use Rattle.exam_program.specs.declared.stop.Stop.TheVariants.{Refused, Memory, Sink}
 use Rattle.exam_program.specs.Sessions.{Session, answered, Answers, IsRefused, place_line}
 use Rattle.exam_program.specs.Writing.{WritesPart}
 use Rattle.exam_program.specs.Replays.{IsPrinted, lines, Stops, StopsAtRefusal}
 
 -- a line that can't be printed, after the text
-pub stop_at_line : (b : Tables) (plan : Plan) (answers : List Answer) (old mid new text line : List ℕ) (stop : Stop)
-    → IsPrinted b plan answers text
-    → IsPrinted b plan answers (text ++ line)
+pub stop_at_line : (b : Tables) (plan : Plan) (base : List ℕ) (answers : List Answer) (old mid new text line : List ℕ) (stop : Stop)
+    → IsPrinted b plan base answers text
+    → IsPrinted b plan base answers (text ++ line)
     → mid ≡ old ++ text
     → (stop ≡ Memory) ⊎ (stop ≡ Sink)
     → (stop ≡ Memory → new ≡ mid)
     → (stop ≡ Sink → WritesPart mid new line)
-    → Stops b plan answers old new stop
-stop_at_line b plan answers old mid new text line stop before after there (inl is) memory sink =
-    subst (λ (s : Stop). Stops b plan answers old new s) (sym is) (record { text = text; printed = before; written = memory is ∙ there })
-stop_at_line b plan answers old mid new text line stop before after there (inr is) memory sink =
+    → Stops b plan base answers old new stop
+stop_at_line b plan base answers old mid new text line stop before after there (inl is) memory sink =
+    subst (λ (s : Stop). Stops b plan base answers old new s) (sym is) (record { text = text; printed = before; written = memory is ∙ there })
+stop_at_line b plan base answers old mid new text line stop before after there (inr is) memory sink =
     let part = sink is in
-    subst (λ (s : Stop). Stops b plan answers old new s) (sym is) (record {
+    subst (λ (s : Stop). Stops b plan base answers old new s) (sym is) (record {
       text = text ++ part.part;
       rest = part.rest;
-      printed = subst (λ (t : List ℕ). IsPrinted b plan answers t) (ap (λ (t : List ℕ). text ++ t) part.whole ∙ sym (append_assoc text part.part part.rest)) after;
+      printed = subst (λ (t : List ℕ). IsPrinted b plan base answers t) (ap (λ (t : List ℕ). text ++ t) part.whole ∙ sym (append_assoc text part.part part.rest)) after;
       written = part.written ∙ (ap (λ (t : List ℕ). t ++ part.part) there ∙ append_assoc old text part.part);
+      unfinished = part.unfinished;
     })
 
 -- the lines of the first answers are printed for all of them
-pub printed_so_far : (b : Tables) (plan : Plan) (answers done rest : List Answer) (seat : Seat) (text : List ℕ) → answers ≡ done ++ rest → Session b plan done seat text → IsPrinted b plan answers text
-printed_so_far b plan answers done rest seat text all session = lines done rest seat text all session
+pub printed_so_far : (b : Tables) (plan : Plan) (base : List ℕ) (answers done rest : List Answer) (seat : Seat) (text : List ℕ) → answers ≡ done ++ rest → Session b plan base done seat text → IsPrinted b plan base answers text
+printed_so_far b plan base answers done rest seat text all session = lines done rest seat text all session
 
 -- what is read past the last answer
 abbrev pub no_answer : Answer
 no_answer = record { step = 0; response = 0 }
 
 -- the session with one more answer of the list
-pub session_more : (b : Tables) (plan : Plan) (all : List Answer) (i : ℕ) (before after : Seat) (text : List ℕ)
+pub session_more : (b : Tables) (plan : Plan) (base : List ℕ) (all : List Answer) (i : ℕ) (before after : Seat) (text : List ℕ)
     → i < length all
-    → Session b plan (take i all) before text
-    → Answers b plan before (get_or all i no_answer) after
-    → Session b plan (take (i + 1) all) after (text ++ place_line plan after)
-session_more b plan all i before after text lt session more =
-    subst (λ (xs : List Answer). Session b plan xs after (text ++ place_line plan after)) (sym (take_more all i no_answer lt)) (answered (take i all) before text (get_or all i no_answer) after session more)
+    → Session b plan base (take i all) before text
+    → Answers b plan base before (get_or all i no_answer) after
+    → Session b plan base (take (i + 1) all) after (text ++ place_line plan after)
+session_more b plan base all i before after text lt session more =
+    subst (λ (xs : List Answer). Session b plan base xs after (text ++ place_line plan after)) (sym (take_more all i no_answer lt)) (answered (take i all) before text (get_or all i no_answer) after session more)
 
 -- the answers before one, it, and those behind it
-pub parted : (all : List Answer) (i : ℕ) → i < length all → all ≡ take i all ++ get_or all i no_answer ∷ drop (suc i) all
+parted : (all : List Answer) (i : ℕ) → i < length all → all ≡ take i all ++ get_or all i no_answer ∷ drop (suc i) all
 parted all i lt = sym (take-append-drop i all) ∙ ap (λ (xs : List Answer). take i all ++ xs) (drop-cons all i no_answer lt)
 
 pub split : (all : List Answer) (i : ℕ) → all ≡ take i all ++ drop i all
 split all i = sym (take-append-drop i all)
 
-pub stops_refused : (b : Tables) (plan : Plan) (all : List Answer) (i : ℕ) (old new : List ℕ) (seat : Seat) (text : List ℕ)
+stops_refused : (b : Tables) (plan : Plan) (base : List ℕ) (all : List Answer) (i : ℕ) (old new : List ℕ) (seat : Seat) (text : List ℕ)
     → i < length all
-    → Session b plan (take i all) seat text
+    → Session b plan base (take i all) seat text
     → new ≡ old ++ text
     → IsRefused b seat (get_or all i no_answer)
-    → StopsAtRefusal b plan all old new
-stops_refused b plan all i old new seat text lt session written refused =
+    → StopsAtRefusal b plan base all old new
+stops_refused b plan base all i old new seat text lt session written refused =
     record { done = take i all; answer = get_or all i no_answer; rest = drop (suc i) all; seat = seat; text = text; all = parted all i lt; session = session; refused = refused; written = written }
+
+-- want of memory before a line
+stops_between : (b : Tables) (plan : Plan) (base : List ℕ) (all : List Answer) (i : ℕ) (old new : List ℕ) (seat : Seat) (text : List ℕ)
+    → Session b plan base (take i all) seat text
+    → new ≡ old ++ text
+    → Stops b plan base all old new Memory
+stops_between b plan base all i old new seat text session written = record { text = text; printed = lines (take i all) (drop i all) seat text (split all i) session; written = written }
+
+-- an answer that isn't taken
+pub stops_at_answer : (b : Tables) (plan : Plan) (base : List ℕ) (all : List Answer) (i : ℕ) (old new : List ℕ) (seat : Seat) (text : List ℕ) (stop : Stop)
+    → i < length all
+    → Session b plan base (take i all) seat text
+    → new ≡ old ++ text
+    → (stop ≡ Refused → IsRefused b seat (get_or all i no_answer))
+    → (stop ≡ Sink → ⊥)
+    → Stops b plan base all old new stop
+stops_at_answer b plan base all i old new seat text Refused lt session written refused no_sink = stops_refused b plan base all i old new seat text lt session written (refused refl)
+stops_at_answer b plan base all i old new seat text Memory lt session written refused no_sink = stops_between b plan base all i old new seat text session written
+stops_at_answer b plan base all i old new seat text Sink lt session written refused no_sink = absurd (no_sink refl)

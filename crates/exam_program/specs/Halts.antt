@@ -1,8 +1,9 @@
--- Why a text of a file isn't read.
-use Rattle.std.specs.Prelude.{◌≡◌, ℕ, ◌⊎◌, ◌<◌, ◌≤◌, List, length, Result, Ok, Err}
-use Rattle.bank_tables.specs.Tables.{Tables, size}
+-- Why a command ends before its work is done.
+use Rattle.std.specs.Prelude.{◌≡◌, ℕ, ◌⊎◌, ◌<◌, ◌≤◌, List, length, Ok, Err}
+use Rattle.bank_tables.specs.Tables.{Tables}
 use Rattle.bank_reader.specs.Reading.{bank_of}
 use Rattle.exam_model.specs.Plan.{Plan as Numbers}
+use Rattle.exam_model.specs.ProofTrees.{ProofTree}
 use Rattle.exam_model.specs.Validity.{IsPlanFor}
 use Rattle.spec_reader.specs.declared.plan_fault.PlanFault.{PlanFault}
 use Rattle.spec_reader.specs.declared.plan_fault.PlanFault.TheVariants as fault
@@ -10,10 +11,12 @@ use Rattle.spec_reader.specs.Reading.{IsPlanText, IsReadFault, most_bytes}
 use Rattle.exam_program.specs.declared.script.Script.{Script}
 use Rattle.exam_program.specs.declared.script.ScriptFault.TheVariants.{OutOfForm}
 use Rattle.exam_program.specs.declared.halt.Halt.{Halt}
-use Rattle.exam_program.specs.declared.halt.Halt.TheVariants.{Bank, Plan, NotYet, NoForm, Files, Sink, Memory}
-use Rattle.exam_program.specs.declared.replay.Stop.{Stop}
-use Rattle.exam_program.specs.declared.replay.Stop.TheVariants as stop
+use Rattle.exam_program.specs.declared.halt.Halt.TheVariants.{Bank, Plan, NotYet, NoForm, NoBaseForm, Files, Sink, Memory}
+use Rattle.exam_program.specs.declared.stop.Stop.{Stop}
+use Rattle.exam_program.specs.declared.stop.Stop.TheVariants as stop
+use Rattle.exam_program.specs.Bases.{ShowsNoForm, ShowsNoBase}
 use Rattle.exam_program.specs.Scripts.{script_of}
+use Rattle.exam_program.specs.Texts.{no_form, no_base_form}
 
 -- the bank text is refused with this fault, unless its files failed or memory ran out
 abbrev pub HaltsAtBank : List ℕ → Halt → Type 0
@@ -21,18 +24,6 @@ HaltsAtBank text (Bank fault) = bank_of text ≡ Err fault
 HaltsAtBank text Files = Unit {0}
 HaltsAtBank text Memory = Unit {0}
 HaltsAtBank text halt = ⊥
-
--- the same of a replay, which isn't built yet for more than 16 items
-abbrev pub HaltsAtSmallBank : List ℕ → Halt → Type 0
-HaltsAtSmallBank text NotYet = (b : Tables) × (bank_of text ≡ Ok b) × (16 < size b)
-HaltsAtSmallBank text halt = HaltsAtBank text halt
-
--- why the command of a session that stopped halts
-abbrev pub halt_of : Stop → Halt
-halt_of stop.NoForm = NoForm
-halt_of stop.Refused = NotYet
-halt_of stop.Memory = Memory
-halt_of stop.Sink = Sink
 
 -- the text is a plan text for the bank, and says this plan, which is valid for it
 pub record IsPlanIn (b : Tables) (text : List ℕ) (plan : Numbers) : Type 0 where
@@ -53,6 +44,19 @@ HaltsAtPlan b text Files = Unit {0}
 HaltsAtPlan b text Memory = Unit {0}
 HaltsAtPlan b text halt = ⊥
 
+-- the files of these names say this bank, and this plan, which is valid for it
+pub record Reads (content : List ℕ → List ℕ) (bank plan : List ℕ) (b : Tables) (p : Numbers) : Type 0 where
+  pub says_bank : bank_of (content bank) ≡ Ok b
+  pub says_plan : IsPlanIn b (content plan) p
+
+-- the text of the bank is refused, or that of the plan, unless the files failed or memory ran out
+abbrev pub HaltsAtExam : (List ℕ → List ℕ) → List ℕ → List ℕ → Halt → Type 0
+HaltsAtExam content bank plan (Bank fault) = bank_of (content bank) ≡ Err fault
+HaltsAtExam content bank plan (Plan fault) = (b : Tables) × (bank_of (content bank) ≡ Ok b) × IsOfText fault × IsReadFault b (content plan) fault
+HaltsAtExam content bank plan Files = Unit {0}
+HaltsAtExam content bank plan Memory = Unit {0}
+HaltsAtExam content bank plan halt = ⊥
+
 -- the most bytes that a script has
 abbrev pub longest_script : ℕ
 longest_script = 16777216
@@ -68,3 +72,17 @@ HaltsAtScript text NotYet = (longest_script < length text) ⊎ (script_of text �
 HaltsAtScript text Files = Unit {0}
 HaltsAtScript text Memory = Unit {0}
 HaltsAtScript text halt = ⊥
+
+-- the whole problem has no form, or none was found within the base budget, with the text that has the tree, unless memory
+-- ran out
+abbrev pub HaltsAtBase : Tables → Numbers → Halt → Type 0
+HaltsAtBase b plan (NoForm text) = (T : ProofTree) × ShowsNoForm b plan T × (text.items ≡ no_form T)
+HaltsAtBase b plan (NoBaseForm text) = (T : ProofTree) × ShowsNoBase b plan T × (text.items ≡ no_base_form plan.base_budget T)
+HaltsAtBase b plan Memory = Unit {0}
+HaltsAtBase b plan halt = ⊥
+
+-- why the command of a session that stopped halts
+abbrev pub halt_of : Stop → Halt
+halt_of stop.Refused = NotYet
+halt_of stop.Memory = Memory
+halt_of stop.Sink = Sink

@@ -1,5 +1,6 @@
 pub mod Commands
 pub mod Writing
+pub mod Bases
 pub mod Sessions
 pub mod Scripts
 pub mod Standing

@@ -1,7 +1,7 @@
 -- The script: one line `begin B`, then lines `answer 0 K R`.
-use Rattle.std.specs.Prelude.{ℕ, ◌+◌, ◌-◌, ◌^◌, ◌==◌, ◌&&◌, List, [], length, get_or, Option, Some, None, Result, Ok, if◌then◌else◌, bytes_eq, codes, nat_lt}
+use Rattle.std.specs.Prelude.{ℕ, ◌+◌, ◌-◌, ◌==◌, ◌&&◌, List, [], length, get_or, Option, None, Result, Ok, if◌then◌else◌, bytes_eq, codes}
 use Rattle.std.specs.Option.{option_and_then, option_map}
-use Rattle.exam_text.specs.First.{◌>>=◌, or_fault, each_below, unless, fault_where}
+use Rattle.exam_text.specs.First.{◌>>=◌, or_fault, each_below}
 use Rattle.exam_text.specs.Numbers.{number_of}
 use Rattle.exam_text.specs.Words.{lines_of, words_of, word}
 use Rattle.exam_program.specs.declared.script.Answer.{Answer}

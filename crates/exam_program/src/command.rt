@@ -13,6 +13,11 @@ pub(crate) enum Command<'a> {
         bank: &'a str,
         plan: &'a str,
     },
+    /// Assemble a form of the whole problem, and print it with its tree.
+    Assemble {
+        bank: &'a str,
+        plan: &'a str,
+    },
     /// Serve a session by the requests of the script.
     Replay {
         bank: &'a str,
@@ -42,6 +47,11 @@ fn in_table<'a>(words: &'a [String]) -> Option<Command<'a>>
         [word, bank, plan] => {
             if word.as_str() == "check" {
                 Some(Command::Check {
+                    bank: bank.as_str(),
+                    plan: plan.as_str(),
+                })
+            } else if word.as_str() == "assemble" {
+                Some(Command::Assemble {
                     bank: bank.as_str(),
                     plan: plan.as_str(),
                 })

@@ -1,11 +1,8 @@
 //! The lines that are printed.
 
 ghost use Rattle.std.specs.Prelude.{◌≡◌, ◌+◌, IfOk, string_bytes, length};
-ghost use Rattle.bank_tables.specs.Tables.{Tables};
-ghost use Rattle.exam_model.specs.Plan.{Plan};
 ghost use Rattle.exam_program.specs.Sessions.{place_line};
-ghost use Rattle.exam_program.specs.Standing.{IsStanding};
-ghost use Rattle.exam_program.specs.Texts.{bank_line};
+ghost use Rattle.exam_program.specs.Texts.{bank_line, mark_text};
 
 use bank_tables::{Bank, Short};
 use constraint_model::Spec;
@@ -21,7 +18,14 @@ fn number_at(numbers: &Short, at: usize) -> u16
     }
 }
 
-/// The line of a seat: its step with the item that waits, or that its test is complete.
+/// The word of a form's mark.
+pub(crate) fn mark_text(proved: bool) -> &'static str
+    ensures { result.now ≡ mark_text proved }
+{
+    if proved { "proved" } else { "unproved" }
+}
+
+/// The line of a seat: its step with the item that waits and the mark of its form, or that its test is complete.
 #[tactic(auto, unfolding(crate::specs::Sessions::place_line))]
 pub(crate) fn place_line(alloc: Global, spec: &Spec, seat: &Seat) -> Result<String, AllocError>
     ensures { IfOk result (λ line. string_bytes line ≡ place_line spec.now seat.now) }
@@ -31,7 +35,8 @@ pub(crate) fn place_line(alloc: Global, spec: &Spec, seat: &Seat) -> Result<Stri
         return String::from_str(alloc, "session 0 complete\n");
     }
     let item = number_at(&seat.shown, step);
-    format!(in alloc; "session 0 step {step} item {item} proved\n")
+    let mark = mark_text(seat.proved);
+    format!(in alloc; "session 0 step {step} item {item} {mark}\n")
 }
 
 /// What was understood of a bank: its numbers of items, grid points, quantities and stimuli.

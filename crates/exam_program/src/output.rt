@@ -6,7 +6,7 @@ ghost use Rattle.exam_program.specs.Writing.{WritesPart};
 
 use exam_edge::{Failed, Sink};
 
-/// Writes a whole piece. Failed, a part of it may stand written.
+/// Writes a whole piece. Failed, a part of it may stand written, and not the whole.
 pub(crate) fn put<O: Sink>(out: &mut O, piece: &[u8]) -> Result<(), Failed>
     ensures ok { OnOk result (IsTrue (O.tells out.old) → O.written out.new ≡ O.written out.old ++ piece.now) }
     ensures err { OnErr result (IsTrue (O.tells out.old) → WritesPart (O.written out.old) (O.written out.new) piece.now) }

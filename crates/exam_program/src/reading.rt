@@ -4,7 +4,7 @@ ghost use Rattle.std.specs.Prelude.{◌≡◌, ◌≢◌, ℕ, ◌≤◌, List, 
 ghost use Rattle.exam_edge.specs.Faults.{Rose};
 ghost use Rattle.bank_reader.specs.Reading.{bank_of};
 ghost use Rattle.exam_model.specs.Validity.{IsPlanFor};
-ghost use Rattle.exam_program.specs.Halts.{HaltsAtBank, IsPlanIn, HaltsAtPlan, longest_script, IsScript, HaltsAtScript};
+ghost use Rattle.exam_program.specs.Halts.{HaltsAtBank, IsPlanIn, HaltsAtPlan, Reads, HaltsAtExam, longest_script, IsScript, HaltsAtScript};
 
 use crate::halt::Halt;
 use crate::script::{Script, ScriptFault, script_of};
@@ -19,8 +19,15 @@ use text_source::{TextFault, text_of};
 /// The most bytes that a script has.
 const LONGEST_SCRIPT: usize = 16_777_216;
 
+/// A bank, and a plan that is valid for it.
+#[derive(Debug, Drop)]
+pub(crate) struct Exam {
+    pub bank: Bank,
+    pub spec: Spec,
+}
+
 /// The bank in the file of this name.
-pub(crate) fn bank_in<F: Files>(alloc: Global, files: &mut F, name: &str) -> Result<Bank, Halt>
+fn bank_in<F: Files>(alloc: Global, files: &mut F, name: &str) -> Result<Bank, Halt>
     ensures ok { IfOk result (λ bank. IsTrue (F.tells files.old) → bank_of (F.content files.old name.now) ≡ Ok bank) }
     ensures err { IfErr result (λ halt. IsTrue (F.tells files.old) → HaltsAtBank (F.content files.old name.now) halt) }
     ensures failed { result ≡ Err Halt.Files → Rose (F.faults files.old) (F.faults files.new) }
@@ -39,12 +46,7 @@ pub(crate) fn bank_in<F: Files>(alloc: Global, files: &mut F, name: &str) -> Res
 }
 
 /// The plan in the file of this name.
-pub(crate) fn plan_in<F: Files>(
-    alloc: Global,
-    files: &mut F,
-    bank: &Bank,
-    name: &str,
-) -> Result<Spec, Halt>
+fn plan_in<F: Files>(alloc: Global, files: &mut F, bank: &Bank, name: &str) -> Result<Spec, Halt>
     ensures ok { IfOk result (λ spec. IsTrue (F.tells files.old) → IsPlanIn bank.now (F.content files.old name.now) spec) }
     ensures valid { IfOk result (λ spec. IsPlanFor bank.now spec) }
     ensures err { IfErr result (λ halt. IsTrue (F.tells files.old) → HaltsAtPlan bank.now (F.content files.old name.now) halt) }
@@ -60,6 +62,32 @@ pub(crate) fn plan_in<F: Files>(
         Err(PlanFault::Source) => Err(Halt::Files),
         Err(PlanFault::Memory) => Err(Halt::Memory),
         Err(fault) => Err(Halt::Plan(fault)),
+    }
+}
+
+/// The bank and the plan in the files of these names.
+pub(crate) fn exam_in<F: Files>(
+    alloc: Global,
+    files: &mut F,
+    bank: &str,
+    plan: &str,
+) -> Result<Exam, Halt>
+    ensures ok { IfOk result (λ exam. IsTrue (F.tells files.old) → Reads (F.content files.old) bank.now plan.now exam.bank exam.spec) }
+    ensures valid { IfOk result (λ exam. IsPlanFor exam.bank exam.spec) }
+    ensures err { IfErr result (λ halt. IsTrue (F.tells files.old) → HaltsAtExam (F.content files.old) bank.now plan.now halt) }
+    ensures failed { result ≡ Err Halt.Files → Rose (F.faults files.old) (F.faults files.new) }
+    ensures no_sink { result ≢ Err Halt.Sink }
+    ensures content { IsTrue (F.tells files.old) → (file : List ℕ) → F.content files.new file ≡ F.content files.old file }
+    ensures grows { F.faults files.old ≤ F.faults files.new }
+    ensures tells { F.tells files.new ≡ F.tells files.old }
+{
+    let bank = match bank_in(alloc, files, bank) {
+        Ok(bank) => bank,
+        Err(halt) => return Err(halt),
+    };
+    match plan_in(alloc, files, &bank, plan) {
+        Ok(spec) => Ok(Exam { bank, spec }),
+        Err(halt) => Err(halt),
     }
 }
 

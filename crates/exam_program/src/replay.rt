@@ -1,8 +1,9 @@
 //! The session of a script, line by line.
 
 ghost use Rattle.std.specs.Prelude.{◌≡◌, ◌≤◌, ◌++◌, ◌⊎◌, IsTrue, IfErr, OnOk, string_bytes};
-ghost use Rattle.bank_tables.specs.Tables.{size};
+ghost use Rattle.bank_tables.specs.Items.{has};
 ghost use Rattle.exam_edge.specs.Faults.{Rose};
+ghost use Rattle.exam_model.specs.Forms.{Meets};
 ghost use Rattle.exam_model.specs.Validity.{IsPlanFor};
 ghost use Rattle.exam_program.specs.Sessions.{place_line};
 ghost use Rattle.exam_program.specs.Writing.{WritesPart};
@@ -12,24 +13,12 @@ use crate::lines::place_line;
 use crate::output::put;
 use crate::script::Answer;
 use crate::session::{answered, begun};
-use bank_tables::Bank;
+use crate::stop::Stop;
+use bank_tables::{Bank, ItemSet};
 use constraint_model::Spec;
 use exam_edge::Sink;
 use exam_model::Seat;
 use std::alloc::Global;
-
-/// Why a session isn't served to its end.
-#[derive(Clone, Copy, Debug, PartialEq, Eq)]
-pub enum Stop {
-    /// No set of items is a form of the whole problem.
-    NoForm,
-    /// An answer is refused.
-    Refused,
-    /// Want of memory.
-    Memory,
-    /// The sink failed.
-    Sink,
-}
 
 fn print_place<O: Sink>(alloc: Global, spec: &Spec, seat: &Seat, out: &mut O) -> Result<(), Stop>
     ensures ok { OnOk result (IsTrue (O.tells out.old) → O.written out.new ≡ O.written out.old ++ place_line spec.now seat.now) }
@@ -51,35 +40,37 @@ fn print_place<O: Sink>(alloc: Global, spec: &Spec, seat: &Seat, out: &mut O) ->
     }
 }
 
-/// Serves the session of these answers from the beginning, and prints a line for its first item and one for each answer.
+/// Serves the session of these answers from the beginning, and prints a line for its first item and one for each answer; the
+/// base form, which meets the plan, is the hint of each assembly.
 pub(crate) fn replay<'a, O: Sink>(
     alloc: Global,
     bank: &'a Bank,
     spec: &'a Spec,
+    base: &ItemSet,
     answers: &[Answer],
     out: &mut O,
 ) -> Result<(), Stop>
-    requires small { size bank.now ≤ 16 }
     requires plan { IsPlanFor bank.now spec.now }
-    ensures ok { OnOk result (IsTrue (O.tells out.old) → Finishes bank.now spec.now answers.now (O.written out.old) (O.written out.new)) }
-    ensures err { IfErr result (λ e. IsTrue (O.tells out.old) → Stops bank.now spec.now answers.now (O.written out.old) (O.written out.new) e) }
+    requires base { Meets bank.now spec.now (has base.now) }
+    ensures ok { OnOk result (IsTrue (O.tells out.old) → Finishes bank.now spec.now base.now answers.now (O.written out.old) (O.written out.new)) }
+    ensures err { IfErr result (λ e. IsTrue (O.tells out.old) → Stops bank.now spec.now base.now answers.now (O.written out.old) (O.written out.new) e) }
     ensures failed { result ≡ Err Stop.Sink → Rose (O.faults out.old) (O.faults out.new) }
     ensures grows { O.faults out.old ≤ O.faults out.new }
     ensures tells { O.tells out.new ≡ O.tells out.old }
     ensures identity { O.identity out.new ≡ O.identity out.old }
 {
-    let Some(first) = begun(bank, spec) else {
-        return Err(Stop::NoForm);
+    let mut seat = match begun(alloc, bank, spec, base) {
+        Ok(first) => first,
+        Err(_) => return Err(Stop::Memory),
     };
-    let mut seat = first;
     if let Err(stop) = print_place(alloc, spec, &seat, out) {
         return Err(stop);
     }
     for answer in answers {
-        let Some(next) = answered(bank, spec, &seat, *answer) else {
-            return Err(Stop::Refused);
+        seat = match answered(alloc, bank, spec, base, &seat, *answer) {
+            Ok(next) => next,
+            Err(stop) => return Err(stop),
         };
-        seat = next;
         if let Err(stop) = print_place(alloc, spec, &seat, out) {
             return Err(stop);
         }

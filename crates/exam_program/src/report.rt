@@ -14,8 +14,8 @@ use std::alloc::Global;
 
 /// Prints the last text, and gives the status to end with: 8 where the sink fails.
 pub(crate) fn print<O: Sink>(out: &mut O, text: &[u8], status: u8) -> u8
-    ensures answers { IsTrue (O.tells out.old) → (words : List (List ℕ)) (content : List ℕ → List ℕ) (first : List ℕ)
-        → PrintsBefore words content first (O.written out.old) status text.now → Answers words content first (O.written out.new) result }
+    ensures answers { IsTrue (O.tells out.old) → (words : List (List ℕ)) (content : List ℕ → List ℕ) (before after : ℕ) (first : List ℕ)
+        → PrintsBefore words content before after first (O.written out.old) status text.now → Answers words content before after first (O.written out.new) result }
     ensures status { (result ≡ status) ⊎ ((result ≡ 8) × Rose (O.faults out.old) (O.faults out.new)) }
     ensures grows { O.faults out.old ≤ O.faults out.new }
     ensures tells { O.tells out.new ≡ O.tells out.old }
@@ -27,10 +27,10 @@ pub(crate) fn print<O: Sink>(out: &mut O, text: &[u8], status: u8) -> u8
 }
 
 /// Ends a command that met a fault.
-#[tactic(auto, unfolding(crate::specs::Texts::not_yet, crate::specs::Texts::no_form, crate::specs::Texts::files_failed, crate::specs::Texts::no_memory))]
+#[tactic(auto, unfolding(crate::specs::Texts::not_yet, crate::specs::Texts::files_failed, crate::specs::Texts::no_memory))]
 pub(crate) fn report<O: Sink>(alloc: Global, out: &mut O, halt: Halt) -> u8
-    ensures answers { IsTrue (O.tells out.old) → (words : List (List ℕ)) (content : List ℕ → List ℕ) (first : List ℕ)
-        → Halts words content first (O.written out.old) halt → Answers words content first (O.written out.new) result }
+    ensures answers { IsTrue (O.tells out.old) → (words : List (List ℕ)) (content : List ℕ → List ℕ) (before after : ℕ) (first : List ℕ)
+        → Halts words content before after first (O.written out.old) halt → Answers words content before after first (O.written out.new) result }
     ensures status { EndsBy halt result ⊎ ((result ≡ 8) × Rose (O.faults out.old) (O.faults out.new)) }
     ensures grows { O.faults out.old ≤ O.faults out.new }
     ensures tells { O.tells out.new ≡ O.tells out.old }
@@ -45,7 +45,8 @@ pub(crate) fn report<O: Sink>(alloc: Global, out: &mut O, halt: Halt) -> u8
             Err(_) => print(out, b"no memory\n", 10),
         },
         Halt::NotYet => print(out, b"not yet\n", 15),
-        Halt::NoForm => print(out, b"no form\n", 11),
+        Halt::NoForm(text) => print(out, &text, 11),
+        Halt::NoBaseForm(text) => print(out, &text, 12),
         Halt::Files => print(out, b"files failed\n", 7),
         Halt::Memory => print(out, b"no memory\n", 10),
         Halt::Sink => 8,

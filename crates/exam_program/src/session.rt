@@ -1,22 +1,27 @@
 //! One session in memory.
 
-ghost use Rattle.std.specs.Prelude.{◌≡◌, ℕ, ◌+◌, ◌<◌, ◌≤◌, nat_lt, length, [], IfSome, IfNone, IsTrue, ◌↔◌};
+ghost use Rattle.std.specs.Prelude.{◌≡◌, ◌≢◌, ℕ, ◌+◌, ◌<◌, nat_lt, length, [], IfOk, IsTrue, ◌↔◌};
 ghost use Rattle.bank_tables.specs.Items.{has};
 ghost use Rattle.bank_tables.specs.Tables.{size};
-ghost use Rattle.exam_model.specs.Problem.{Problem};
-ghost use Rattle.exam_model.specs.Forms.{HasNoForm};
-ghost use Rattle.exam_model.specs.Seats.{IsSeat, IsPending, IsSeatProblem};
-ghost use Rattle.exam_model.specs.Validity.{IsPlanFor, IsWhole};
+ghost use Rattle.exam_model.specs.Forms.{Meets};
+ghost use Rattle.exam_model.specs.Seats.{IsSeat, IsPending};
+ghost use Rattle.exam_model.specs.Validity.{IsPlanFor};
 ghost use Rattle.exam_program.specs.Sessions.{IsNewSeat, Serves, Session, place_line, with_response, IsAwaited, IsRecorded, Answers, IsRefused};
-ghost use Rattle.exam_program.specs.Standing.{IsStanding};
+ghost use Rattle.exam_program.specs.Standing.{IsStanding, SeatHasForm, IsFound};
+ghost use Rattle.branch_bound.specs.declared.outcome.Outcome.TheVariants.{Found};
 
+use crate::marked_form::MarkedForm;
 use crate::script::Answer;
+use crate::stop::Stop;
 use bank_tables::{Bank, ItemSet, Short};
+use branch_bound::{Assembled, Memory, Outcome, assemble};
 use constraint_model::Spec;
 use exam_model::Seat;
-use plain_search::best_form;
-use shadow_select::laws::a_free_item_is_left;
+use shadow_select::laws::{
+    a_free_item_is_left, a_served_seat_is_a_seat, an_answered_seat_is_a_seat,
+};
 use shadow_select::{next_item, next_problem};
+use std::alloc::Global;
 
 fn all_items(bank: &Bank) -> ItemSet
     ensures { (i : ℕ) → has result i ≡ nat_lt i (size bank.now) }
@@ -43,41 +48,61 @@ fn new_seat(bank: &Bank) -> Seat
     }
 }
 
-/// The seat after the next item was served from a best form; none where no set is a form.
-fn served<'a>(bank: &'a Bank, spec: &'a Spec, seat: &Seat) -> Option<Seat>
-    requires small { size bank.now ≤ 16 }
+/// The form that an assembly found.
+fn form_in<'a>(assembled: &Assembled<'a>) -> MarkedForm
+    requires { IsFound assembled.now.outcome }
+    ensures { assembled.now.outcome ≡ Found result.form result.proved }
+{
+    match assembled.outcome() {
+        Outcome::Found { form, proved } => MarkedForm { form, proved },
+        _ => unreachable!(),
+    }
+}
+
+/// The seat after the next item was served from a form, assembled within the plan's budget with the base form as the hint.
+fn served<'a>(
+    alloc: Global,
+    bank: &'a Bank,
+    spec: &'a Spec,
+    base: &ItemSet,
+    seat: &Seat,
+) -> Result<Seat, Memory>
     requires plan { IsPlanFor bank.now spec.now }
     requires seat { IsSeat bank.now spec.now seat.now }
     requires pending { IsPending spec.now seat.now }
-    ensures serves { IfSome result (λ after. Serves bank.now spec.now seat.now after) }
-    ensures seat { IfSome result (λ after. IsSeat bank.now spec.now after) }
-    ensures none { IfNone result ((P : Problem) → IsSeatProblem bank.now spec.now 0 seat.now P → HasNoForm P) }
+    requires form { SeatHasForm bank.now spec.now base.now seat.now }
+    ensures serves { IfOk result (Serves bank.now spec.now base.now seat.now) }
+    ensures seat { IfOk result (IsSeat bank.now spec.now) }
 {
     let Some(problem) = next_problem(bank, spec, 0, seat) else {
-        return None;
+        unreachable!();
     };
-    let Some(form) = best_form(&problem) else {
-        return None;
-    };
+    let assembled = assemble(alloc, problem, Some(base), spec.budget() as u16)?;
+    let found = form_in(&assembled);
     a_free_item_is_left();
-    let item = next_item(&problem, &form);
+    a_served_seat_is_a_seat();
+    let item = next_item(assembled.problem(), &found.form);
     let mut after = *seat;
     after.shown.push(item);
-    after.form = Some(form);
-    after.proved = true;
-    Some(after)
+    after.form = Some(found.form);
+    after.proved = found.proved;
+    Ok(after)
 }
 
-/// The seat of a session that begins, with its first item served; none where no set is a form of the whole problem.
-pub(crate) fn begun<'a>(bank: &'a Bank, spec: &'a Spec) -> Option<Seat>
-    requires small { size bank.now ≤ 16 }
+/// The seat of a session that begins, with its first item served; the base form meets the plan.
+pub(crate) fn begun<'a>(
+    alloc: Global,
+    bank: &'a Bank,
+    spec: &'a Spec,
+    base: &ItemSet,
+) -> Result<Seat, Memory>
     requires plan { IsPlanFor bank.now spec.now }
-    ensures session { IfSome result (λ seat. Session bank.now spec.now [] seat (place_line spec.now seat)) }
-    ensures standing { IfSome result (IsStanding bank.now spec.now) }
-    ensures none { IfNone result ((P : Problem) → IsWhole bank.now spec.now P → HasNoForm P) }
+    requires base { Meets bank.now spec.now (has base.now) }
+    ensures session { IfOk result (λ seat. Session bank.now spec.now base.now [] seat (place_line spec.now seat)) }
+    ensures standing { IfOk result (IsStanding bank.now spec.now base.now) }
 {
     let empty = new_seat(bank);
-    served(bank, spec, &empty)
+    served(alloc, bank, spec, base, &empty)
 }
 
 fn is_awaited(bank: &Bank, spec: &Spec, seat: &Seat, answer: Answer) -> bool
@@ -112,30 +137,34 @@ fn with_response(seat: &Seat, response: u8) -> Seat
     after
 }
 
-/// The seat after an answer, where the session goes on by it; none where the answer is refused.
+/// The seat after an answer, where the session goes on by it.
 pub(crate) fn answered<'a>(
+    alloc: Global,
     bank: &'a Bank,
     spec: &'a Spec,
+    base: &ItemSet,
     seat: &Seat,
     answer: Answer,
-) -> Option<Seat>
-    requires small { size bank.now ≤ 16 }
+) -> Result<Seat, Stop>
     requires plan { IsPlanFor bank.now spec.now }
-    requires standing { IsStanding bank.now spec.now seat.now }
-    ensures answers { IfSome result (λ after. Answers bank.now spec.now seat.now answer after) }
-    ensures standing { IfSome result (IsStanding bank.now spec.now) }
-    ensures refused { IfNone result (IsRefused bank.now seat.now answer) }
+    requires standing { IsStanding bank.now spec.now base.now seat.now }
+    ensures answers { IfOk result (Answers bank.now spec.now base.now seat.now answer) }
+    ensures standing { IfOk result (IsStanding bank.now spec.now base.now) }
+    ensures refused { result ≡ Err Stop.Refused → IsRefused bank.now seat.now answer }
+    ensures no_sink { result ≢ Err Stop.Sink }
 {
     if is_recorded(seat, answer) {
-        return Some(*seat);
+        return Ok(*seat);
     }
     if !is_awaited(bank, spec, seat, answer) {
-        return None;
+        return Err(Stop::Refused);
     }
     prove!(bank.items() <= 512);
+    an_answered_seat_is_a_seat();
     let next = with_response(seat, answer.response);
     if next.responses.len() == spec.length() as usize {
-        return Some(next);
+        return Ok(next);
     }
-    served(bank, spec, &next)
+    let after = served(alloc, bank, spec, base, &next)?;
+    Ok(after)
 }

@@ -37,6 +37,25 @@ session 0 complete
 4,0,2,7,1,-1,-1,-1,-1
 ";
 
+    /// The items 0, 1 and 2 are enemies of each other, and no multipliers show that only one of them is in a form.
+    const BANK_E: &str = "item,stimulus,categories,i0,l0_0,l1_0
+0,0,2,10,-1,-1
+1,0,2,9,-1,-1
+2,0,2,8,-1,-1
+3,0,2,2,-1,-1
+4,0,2,1,-1,-1
+";
+
+    const PLAN_E: &str = "length 2\nprior 0\nbudget 1\nenemies 0 1\nenemies 1 2\nenemies 0 2\n";
+
+    /// Two items have no odd sum, but two halves and a whole one have.
+    const BANK_ODD: &str = "item,stimulus,categories,q0,i0,l0_0,l1_0
+0,0,2,1,5,-1,-1
+1,0,2,1,5,-1,-1
+2,0,2,3,5,-1,-1
+3,0,2,3,5,-1,-1
+";
+
     const BANK_TIE: &str = "item,stimulus,categories,i0,l0_0,l1_0
 0,0,2,5,-1,-1
 1,0,2,5,-1,-1
@@ -80,6 +99,8 @@ session 0 complete
 
     const CHECK: [&str; 3] = ["check", "bank", "plan"];
 
+    const ASSEMBLE: [&str; 3] = ["assemble", "bank", "plan"];
+
     #[test]
     fn sessions(rt: HostRuntime) -> Result<(), Fail> {
         let first = "length 3\nprior -10 0 -10\ncount 1 1 0-1\ncount 0 1 2 5\n";
@@ -104,6 +125,56 @@ session 0 complete
             text.as_slice(),
             b"session 0 step 0 item 0 proved\n".as_slice()
         );
+        Ok(())
+    }
+
+    /// One node isn't enough to prove the form {0, 3}, which no exchange of one item betters; {2, 4} is such a form's worse.
+    #[test]
+    fn a_spent_budget(rt: HostRuntime) -> Result<(), Fail> {
+        let mut based = String::from_str(rt.alloc(), PLAN_E)?;
+        based.push_str("base 2 4\n")?;
+        for plan in [PLAN_E, based.as_str()] {
+            let (status, text) = outcome(&rt, &REPLAY, &[BANK_E, plan, "begin 1\n"], &[], &[])?;
+            assert_eq!(rt; status, 0);
+            assert_eq!(rt;
+                text.as_slice(),
+                b"session 0 step 0 item 0 unproved\n".as_slice()
+            );
+        }
+        Ok(())
+    }
+
+    #[test]
+    fn forms_of_whole_plans(rt: HostRuntime) -> Result<(), Fail> {
+        let (status, text) = outcome(&rt, &ASSEMBLE, &[BANK_A, PLAN_A, ""], &[], &[])?;
+        assert_eq!(rt; status, 0);
+        assert!(rt; text.starts_with(b"form 1 2 3\nobjective 23 proved nodes "));
+        let small = "length 2\nprior 0\nbase-budget 1\nenemies 0 1\nenemies 1 2\nenemies 0 2\n";
+        let (status, text) = outcome(&rt, &ASSEMBLE, &[BANK_E, small, ""], &[], &[])?;
+        assert_eq!(rt; status, 0);
+        assert!(rt; text.starts_with(b"form 0 3\nobjective 12 unproved nodes 1\ntree "));
+        Ok(())
+    }
+
+    #[test]
+    fn plans_without_a_form(rt: HostRuntime) -> Result<(), Fail> {
+        let none = "length 3\nprior -10 0 -10\ncount 3 3 0-1\nenemies 2 5\n";
+        let (status, text) = outcome(&rt, &ASSEMBLE, &[BANK_A, none, ""], &[], &[])?;
+        assert_eq!(rt; status, 11);
+        assert_eq!(rt; text.as_slice(), b"no form 000501\n".as_slice());
+        let (status, text) = outcome(&rt, &REPLAY, &[BANK_A, none, SCRIPT_A], &[], &[])?;
+        assert_eq!(rt; status, 11);
+        assert_eq!(rt; text.as_slice(), b"no form 000501\n".as_slice());
+        let odd = "length 2\nprior 0\nquantity 0 3 3 0-3\n";
+        let (status, text) = outcome(&rt, &ASSEMBLE, &[BANK_ODD, odd, ""], &[], &[])?;
+        assert_eq!(rt; status, 11);
+        assert!(rt; text.starts_with(b"no form "));
+        let short = "length 2\nprior 0\nbase-budget 1\nquantity 0 3 3 0-3\n";
+        for words in [&ASSEMBLE[..], &REPLAY[..]] {
+            let (status, text) = outcome(&rt, words, &[BANK_ODD, short, "begin 1\n"], &[], &[])?;
+            assert_eq!(rt; status, 12);
+            assert!(rt; text.starts_with(b"no base form in 1 nodes "));
+        }
         Ok(())
     }
 
@@ -168,7 +239,8 @@ session 0 complete
 
     #[test]
     fn statuses_of_words_and_texts(rt: HostRuntime) -> Result<(), Fail> {
-        let usage = b"usage: shadowd check BANK PLAN | replay BANK PLAN SCRIPT\n".as_slice();
+        let usage =
+            b"usage: shadowd check BANK PLAN | assemble BANK PLAN | replay BANK PLAN SCRIPT\n".as_slice();
         let a = [BANK_A, PLAN_A, SCRIPT_A];
         let (status, text) = outcome(&rt, &["replay", "a"], &a, &[], &[])?;
         assert_eq!(rt; status, 2);
@@ -176,15 +248,11 @@ session 0 complete
         for words in [
             ["check", "bank", "-x"],
             ["check", "", "plan"],
-            ["assemble", "bank", "plan"],
+            ["assemble", "bank", ""],
         ] {
             let (status, _) = outcome(&rt, &words, &a, &[], &[])?;
             assert_eq!(rt; status, 2);
         }
-        let none = "length 3\nprior -10 0 -10\ncount 3 3 0-1\nenemies 2 5\n";
-        let (status, text) = outcome(&rt, &REPLAY, &[BANK_A, none, SCRIPT_A], &[], &[])?;
-        assert_eq!(rt; status, 11);
-        assert_eq!(rt; text.as_slice(), b"no form\n".as_slice());
         let (status, text) = outcome(&rt, &CHECK, &["", PLAN_A, ""], &[], &[])?;
         assert_eq!(rt; status, 3);
         assert_eq!(rt; text.as_slice(), b"bank: header column 0\n".as_slice());

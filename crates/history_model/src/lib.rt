@@ -1,11 +1,15 @@
-//! What a reader must believe about examinations: the entries of a history, and what they say of its sessions. It stands on
-//! the definitions of forms and certificates, knows no file and no thread, and has no code but plain types and laws.
+//! What a reader must believe about examinations: the entries of a history, and in specs/ what they say of its sessions:
+//! place, seat, problem, exposure counts, the eligibility draw, which entry is legal, which record may follow, and why one
+//! may not. Upward it promises the laws over them; it knows no file and no thread, and has no code but plain types and laws.
 #![tactic(auto)]
 
 mod counts;
 mod entry;
+mod illegal;
+pub mod laws;
 mod place;
 
 pub use counts::Counts;
 pub use entry::{Cause, Entry};
+pub use illegal::Illegal;
 pub use place::Place;

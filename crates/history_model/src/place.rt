@@ -6,11 +6,7 @@ pub enum Place {
     /// The item of this step is to be served.
     Pending(u16),
     /// The item of a step was served and waits for its answer.
-    Waiting {
-        step: u16,
-        item: u16,
-        proved: bool,
-    },
+    Waiting { step: u16, item: u16, proved: bool },
     /// Each item of the test is answered.
     Complete,
     /// The session was closed before its end.

@@ -1,7 +1,6 @@
 -- How a branch changes the state of a path.
-use Rattle.std.proofs.Common.{◌≡◌, ℕ, zero, suc, ◌<◌, Bool, true, false, not, ◌&&◌, ◌||◌, ◌==◌, nat_lt, inl, inr, refl, sym, ap, ◌∙◌, arith}
-use Rattle.std.proofs.lemmas.Bool.{and_parts, and_from, eqb-true, eqb-false, eq-eqb, ne_eqb, ltb-true}
-use Rattle.std.proofs.Math.Bool.{true≢false}
+use Rattle.std.proofs.Common.{◌≡◌, ℕ, ◌<◌, Bool, true, false, not, ◌&&◌, ◌||◌, ◌==◌, nat_lt, inl, inr, refl, sym, ap, ◌∙◌}
+use Rattle.std.proofs.lemmas.Bool.{and_parts, and_from, eqb-true, eqb-false, eq-eqb, ne_eqb}
 use Rattle.std.proofs.Math.Path.{fun_ext}
 use Rattle.bank_tables.specs.Items.{Set}
 use Rattle.bank_tables.specs.Sums.{any_below}
@@ -98,10 +97,10 @@ module _ (P : Problem) (p : Path) (i : ℕ) where
     pub chosen_taken : (C C' : Set) → C ≡ is_chosen P p → ((s : ℕ) → C' s ≡ ((nat_lt 0 s && stimulus P.bank i == s) || C s)) → C' ≡ is_chosen P (with_item p i true)
     chosen_taken C C' same more =
         fun_ext (λ s.
-          more s
-          ∙ ap (λ (X : Set). (nat_lt 0 s && stimulus P.bank i == s) || X s) same
-          ∙ chosen_moved true (p.branched_on s) (used P.bank p.taken s) (nat_lt 0 s && stimulus P.bank i == s)
-          ∙ ap (λ (b : Bool). p.branched_on s || b) (sym (used_with P.bank p.taken i s within)))
+        more s
+        ∙ ap (λ (X : Set). (nat_lt 0 s && stimulus P.bank i == s) || X s) same
+        ∙ chosen_moved true (p.branched_on s) (used P.bank p.taken s) (nat_lt 0 s && stimulus P.bank i == s)
+        ∙ ap (λ (b : Bool). p.branched_on s || b) (sym (used_with P.bank p.taken i s within)))
 
     open_at : (s : ℕ) → (not (s == stimulus P.bank i) && is_open P p s) ≡ is_open P (with_item p i true) s
     open_at s =
@@ -139,11 +138,11 @@ module _ (P : Problem) (p : Path) (i : ℕ) where
   still F' s another here shape now found some =
       same_truth _ _
       (λ h.
-        let first : nat_lt 0 s ≡ true = (and_parts (nat_lt 0 s) _ h).0 in
-        ap (λ (X : Set). used P.bank X s) (sym now) ∙ and_from _ _ first (ap (λ (t : ℕ). any_below (size P.bank) (λ j. F' j && stimulus P.bank j == t)) here ∙ sym found ∙ some))
+      let first : nat_lt 0 s ≡ true = (and_parts (nat_lt 0 s) _ h).0 in
+      ap (λ (X : Set). used P.bank X s) (sym now) ∙ and_from _ _ first (ap (λ (t : ℕ). any_below (size P.bank) (λ j. F' j && stimulus P.bank j == t)) here ∙ sym found ∙ some))
       (λ h.
-        let has = used_by P.bank (λ j. not (j == i) && is_free P p j) s (ap (λ (X : Set). used P.bank X s) (sym less_out) ∙ h) in
-        used_from P.bank (is_free P p) s (record { some = has.some; item = has.item; within = has.within; member = (and_parts (not (has.item == i)) _ has.member).1; of = has.of }))
+      let has = used_by P.bank (λ j. not (j == i) && is_free P p j) s (ap (λ (X : Set). used P.bank X s) (sym less_out) ∙ h) in
+      used_from P.bank (is_free P p) s (record { some = has.some; item = has.item; within = has.within; member = (and_parts (not (has.item == i)) _ has.member).1; of = has.of }))
 
   -- where the item is out, its stimulus is open as before if another of its items is free
   pub open_out : (F F' D D' : Set) → F ≡ is_free P p → ((j : ℕ) → F' j ≡ (not (j == i) && F j)) → D ≡ is_open P p
@@ -157,22 +156,22 @@ module _ (P : Problem) (p : Path) (i : ℕ) where
       let other_stimulus : (s : ℕ) → (stimulus P.bank i ≡ s → ⊥) → is_open P p s ≡ is_open P (with_item p i false) s =
       λ s apart. ap (λ (b : Bool). not (is_chosen P p s) && b) (sym (used_without P.bank (is_free P p) i s apart) ∙ ap (λ (X : Set). used P.bank X s) (sym less_out)) in
       fun_ext (λ s.
-        elim (either (s == stimulus P.bank i)) [
-          | inl at ↦
-              let here : s ≡ stimulus P.bank i = eqb-true s (stimulus P.bank i) at in
-              elim (either another) [
-                | inl some ↦ ap (λ (X : Set). X s) (as_before some ∙ is_d) ∙ ap (λ (b : Bool). not (is_chosen P p s) && b) (still F' s another here shape now found some)
-                | inr none ↦
-                    let gone : used P.bank (is_free P (with_item p i false)) s ≡ false = ap (λ (X : Set). used P.bank X s) (sym now) ∙ (rw here (ap (λ (b : Bool). nat_lt 0 (stimulus P.bank i) && b) (sym found ∙ none) ∙ nothing _)) in
-                    one_less none s ∙ rw at (sym (ap (λ (b : Bool). not (is_chosen P p s) && b) gone ∙ nothing _))
-              ]
-          | inr other ↦
-              let apart : stimulus P.bank i ≡ s → ⊥ = λ e. eqb-false s (stimulus P.bank i) other (sym e) in
-              elim (either another) [
-                | inl some ↦ ap (λ (X : Set). X s) (as_before some ∙ is_d) ∙ other_stimulus s apart
-                | inr none ↦ one_less none s ∙ rw other (ap (λ (X : Set). X s) is_d ∙ other_stimulus s apart)
-              ]
-        ])
+      elim (either (s == stimulus P.bank i)) [
+        | inl at ↦
+            let here : s ≡ stimulus P.bank i = eqb-true s (stimulus P.bank i) at in
+            elim (either another) [
+              | inl some ↦ ap (λ (X : Set). X s) (as_before some ∙ is_d) ∙ ap (λ (b : Bool). not (is_chosen P p s) && b) (still F' s another here shape now found some)
+              | inr none ↦
+                  let gone : used P.bank (is_free P (with_item p i false)) s ≡ false = ap (λ (X : Set). used P.bank X s) (sym now) ∙ (rw here (ap (λ (b : Bool). nat_lt 0 (stimulus P.bank i) && b) (sym found ∙ none) ∙ nothing _)) in
+                  one_less none s ∙ rw at (sym (ap (λ (b : Bool). not (is_chosen P p s) && b) gone ∙ nothing _))
+            ]
+        | inr other ↦
+            let apart : stimulus P.bank i ≡ s → ⊥ = λ e. eqb-false s (stimulus P.bank i) other (sym e) in
+            elim (either another) [
+              | inl some ↦ ap (λ (X : Set). X s) (as_before some ∙ is_d) ∙ other_stimulus s apart
+              | inr none ↦ one_less none s ∙ rw other (ap (λ (X : Set). X s) is_d ∙ other_stimulus s apart)
+            ]
+      ])
 
 module _ (P : Problem) (p : Path) (s : ℕ) where
   pub chosen_branch : (C C' : Set) → C ≡ is_chosen P p → ((t : ℕ) → C' t ≡ ((t == s) || C t)) → C' ≡ is_chosen P (with_stimulus P p s true)
@@ -181,27 +180,27 @@ module _ (P : Problem) (p : Path) (s : ℕ) where
   pub open_branch : (D D' : Set) → D ≡ is_open P p → ((t : ℕ) → D' t ≡ (not (t == s) && D t)) → D' ≡ is_open P (with_stimulus P p s true)
   open_branch D D' same less =
       fun_ext (λ t.
-        less t
-        ∙ ap (λ (X : Set). not (t == s) && X t) same
-        ∙ open_less (t == s) (is_chosen P p t) (used P.bank (is_free P p) t)
-        ∙ ap (λ (b : Bool). not b && used P.bank (is_free P p) t) (or_assoc (t == s) (p.branched_on t) (used P.bank p.taken t)))
+      less t
+      ∙ ap (λ (X : Set). not (t == s) && X t) same
+      ∙ open_less (t == s) (is_chosen P p t) (used P.bank (is_free P p) t)
+      ∙ ap (λ (b : Bool). not b && used P.bank (is_free P p) t) (or_assoc (t == s) (p.branched_on t) (used P.bank p.taken t)))
 
   pub free_dropped : (F L F' : Set) → F ≡ is_free P p → ((j : ℕ) → L j ≡ (nat_lt j (size P.bank) && (F j && stimulus P.bank j == s))) → ((j : ℕ) → F' j ≡ (F j && not (L j))) → F' ≡ is_free P (with_stimulus P p s false)
   free_dropped F L F' same those less =
       fun_ext (λ j.
-        less j
-        ∙ ap (λ (b : Bool). F j && not b) (those j)
-        ∙ ap (λ (X : Set). X j && not (nat_lt j (size P.bank) && (X j && stimulus P.bank j == s))) same
-        ∙ dropped_free (nat_lt j (size P.bank)) (p.taken j) (p.out j) (stimulus P.bank j == s))
+      less j
+      ∙ ap (λ (b : Bool). F j && not b) (those j)
+      ∙ ap (λ (X : Set). X j && not (nat_lt j (size P.bank) && (X j && stimulus P.bank j == s))) same
+      ∙ dropped_free (nat_lt j (size P.bank)) (p.taken j) (p.out j) (stimulus P.bank j == s))
 
   pub out_dropped : (F L O O' : Set) → F ≡ is_free P p → O ≡ p.out → ((j : ℕ) → L j ≡ (nat_lt j (size P.bank) && (F j && stimulus P.bank j == s))) → ((j : ℕ) → O' j ≡ (O j || L j)) → O' ≡ (with_stimulus P p s false).out
   out_dropped F L O O' same out those more =
       fun_ext (λ j.
-        more j
-        ∙ ap (λ (b : Bool). O j || b) (those j)
-        ∙ ap (λ (X : Set). X j || (nat_lt j (size P.bank) && (F j && stimulus P.bank j == s))) out
-        ∙ ap (λ (X : Set). p.out j || (nat_lt j (size P.bank) && (X j && stimulus P.bank j == s))) same
-        ∙ dropped_out (nat_lt j (size P.bank)) (p.taken j) (p.out j) (stimulus P.bank j == s))
+      more j
+      ∙ ap (λ (b : Bool). O j || b) (those j)
+      ∙ ap (λ (X : Set). X j || (nat_lt j (size P.bank) && (F j && stimulus P.bank j == s))) out
+      ∙ ap (λ (X : Set). p.out j || (nat_lt j (size P.bank) && (X j && stimulus P.bank j == s))) same
+      ∙ dropped_out (nat_lt j (size P.bank)) (p.taken j) (p.out j) (stimulus P.bank j == s))
 
   pub open_dropped : (D D' : Set) → D ≡ is_open P p → ((t : ℕ) → D' t ≡ (not (t == s) && D t)) → D' ≡ is_open P (with_stimulus P p s false)
   open_dropped D D' same less =
@@ -209,7 +208,7 @@ module _ (P : Problem) (p : Path) (s : ℕ) where
       let shape : (λ j. F j && not (nat_lt j (size P.bank) && (F j && stimulus P.bank j == s))) ≡ is_free P (with_stimulus P p s false) =
       fun_ext (λ j. dropped_free (nat_lt j (size P.bank)) (p.taken j) (p.out j) (stimulus P.bank j == s)) in
       fun_ext (λ t.
-        less t
-        ∙ ap (λ (X : Set). not (t == s) && X t) same
-        ∙ open_moved (t == s) (is_chosen P p t) (used P.bank F t)
-        ∙ ap (λ (b : Bool). not (is_chosen P p t) && b) (sym (used_dropped P.bank F s t) ∙ ap (λ (X : Set). used P.bank X t) shape))
+      less t
+      ∙ ap (λ (X : Set). not (t == s) && X t) same
+      ∙ open_moved (t == s) (is_chosen P p t) (used P.bank F t)
+      ∙ ap (λ (b : Bool). not (is_chosen P p t) && b) (sym (used_dropped P.bank F s t) ∙ ap (λ (X : Set). used P.bank X t) shape))

@@ -1,26 +1,26 @@
 -- What counting finds, by the state of a path.
-use Rattle.std.proofs.Common.{◌≡◌, ℕ, zero, suc, ◌+◌, ◌-◌, ◌<◌, ◌≤◌, ◌⊎◌, inl, inr, Bool, true, false, not, cond, ◌&&◌, ◌||◌, ◌==◌, length, nat_lt, List, get_or, Option, Some, None, refl, sym, ap, ◌∙◌, subst, arith}
-use Rattle.std.specs.Prelude.{if◌then◌else◌, replicate}
+use Rattle.std.proofs.Common.{◌≡◌, ℕ, zero, suc, ◌+◌, ◌-◌, ◌<◌, ◌≤◌, inl, inr, Bool, true, false, not, cond, ◌&&◌, ◌||◌, length, nat_lt, get_or, Some, None, refl, sym, ap, ◌∙◌, arith}
+use Rattle.std.specs.Prelude.{replicate}
 use Rattle.std.proofs.Math.Path.{fun_ext}
 use Rattle.std.proofs.Math.Bool.{true≢false}
-use Rattle.std.proofs.lemmas.Bool.{and_parts, lt-ltb, le-ltb, cases_lt, ltb-true}
+use Rattle.std.proofs.lemmas.Bool.{lt-ltb, le-ltb, cases_lt}
 use Rattle.bank_tables.specs.Items.{Set, has}
 use Rattle.bank_tables.specs.Sums.{count_in, size_of, greatest_below}
-use Rattle.bank_tables.specs.Tables.{Tables, size, stimulus}
+use Rattle.bank_tables.specs.Tables.{size}
 use Rattle.exam_model.specs.declared.row.Row.{Row}
 use Rattle.exam_model.specs.declared.row.StimulusBound.{StimulusBound}
 use Rattle.exam_model.specs.Forms.{activity, lower_bound, upper_bound, items_of, stimuli_of, size_in}
 use Rattle.exam_model.specs.Plan.{row_at, bound_at}
 use Rattle.exam_model.specs.Problem.{Problem}
-use Rattle.exam_model.specs.Paths.{Path, is_free, is_chosen, is_open}
+use Rattle.exam_model.specs.Paths.{Path, is_free, is_chosen}
 use Rattle.exam_model.specs.Counting.{taken_or_free, chosen_or_open, length_impossible, row_impossible, stimulus_impossible, is_impossible, IsFirstImpossible}
-use Rattle.exam_model.proofs.SumLaws.{or_left, or_right, or_false}
+use Rattle.exam_model.proofs.SumLaws.{or_left, or_right}
 use Rattle.exam_model.proofs.Greatest.{count_in-split}
 use Rattle.constraint_model.proofs.SetLaws.{count_of_both}
 use Rattle.lagrange_bound.specs.declared.cut.Cut.{Cut}
 use Rattle.lagrange_bound.specs.Counted.{IsFirstWhere, IsWanted}
 use Rattle.lagrange_bound.specs.Cuts.{IsCutOf}
-use Rattle.lagrange_bound.proofs.Used.{not_true, false_where}
+use Rattle.lagrange_bound.proofs.Used.{false_where}
 
 apart : (l t o : Bool) → (t && (l && (not t && not o))) ≡ false
 apart l false o = refl
@@ -181,4 +181,3 @@ pub zero_at : (n s : ℕ) → ◌≡◌ {A = ℕ} (get_or (replicate n 0) s 0) 0
 zero_at zero s = refl
 zero_at (suc n) zero = refl
 zero_at (suc n) (suc s) = zero_at n s
-

@@ -1,8 +1,6 @@
 -- The multipliers of sides in an array.
-use Rattle.std.proofs.Common.{◌≡◌, ◌≢◌, ℕ, zero, suc, ◌+◌, ◌-◌, ◌<◌, ◌≤◌, List, [], ◌∷◌, length, drop, get_or, set, cond, ◌==◌, inl, inr, refl, sym, ap, ◌∙◌, subst, arith, drop-cons}
-use Rattle.std.specs.Prelude.{All}
+use Rattle.std.proofs.Common.{◌≡◌, ◌≢◌, ℕ, zero, suc, ◌+◌, ◌-◌, ◌<◌, ◌≤◌, List, [], ◌∷◌, length, drop, get_or, set, cond, ◌==◌, inl, inr, refl, sym, ap, ◌∙◌, arith, drop-cons}
 use Rattle.std.proofs.lemmas.List.{get_or-set_same, get_or-set_other}
-use Rattle.std.proofs.lemmas.Bool.{ne_eqb, eq-eqb}
 use Rattle.std.proofs.lemmas.Bool.Decides.{eqb_tells}
 use Rattle.exam_model.specs.ProofTrees.{IsVector}
 use Rattle.exam_model.specs.Relaxed.{Multipliers, multiplier}
@@ -32,10 +30,10 @@ one_more v xs k pair w is within before s =
     let rest : multiplier (drop (suc i) v) s ≡ get_or xs s 0 = sym (before s ∙ ap (λ (n : ℕ). multiplier (drop n v) s) next) in
     set_is xs pair.0 pair.1 s within
     ∙ sym (
-      ap (λ (n : ℕ). multiplier (drop n v) s) place
-      ∙ ap (λ (p : Multipliers). multiplier p s) split
-      ∙ ap (λ (p : ℕ × ℕ). cond (p.0 == s) p.1 (multiplier (drop (suc i) v) s)) (sym is)
-      ∙ ap (λ (m : ℕ). cond (pair.0 == s) pair.1 m) rest
+    ap (λ (n : ℕ). multiplier (drop n v) s) place
+    ∙ ap (λ (p : Multipliers). multiplier p s) split
+    ∙ ap (λ (p : ℕ × ℕ). cond (p.0 == s) p.1 (multiplier (drop (suc i) v) s)) (sym is)
+    ∙ ap (λ (m : ℕ). cond (pair.0 == s) pair.1 m) rest
     )
 
 pub bounded : (xs : List ℕ) (side x : ℕ) → side < length xs → x ≤ 16777216 → ((s : ℕ) → get_or xs s 0 ≤ 16777216) → (s : ℕ) → get_or (set xs side x) s 0 ≤ 16777216

@@ -1,5 +1,5 @@
 -- Bounds on the forms of a path.
-use Rattle.std.specs.Prelude.{ℕ, ◌*◌, Bool, true, false, IsTrue, ℤ, pos, ◌≤ℤ◌, Option, Some, None}
+use Rattle.std.specs.Prelude.{◌*◌, Bool, true, false, IsTrue, ℤ, pos, ◌≤ℤ◌, Option, Some, None}
 use Rattle.bank_tables.specs.Items.{Set}
 use Rattle.exam_model.specs.Problem.{Problem}
 use Rattle.exam_model.specs.Forms.{objective}
@@ -24,3 +24,9 @@ IsAboveForms P p ray r = (X : Set) → Under P p X → bounded_value P ray X ≤
 -- the relaxed maximum of the vector `to` is at most that of `from`
 abbrev pub IsNoHigher : Problem → Path → Bool → Multipliers → Multipliers → Type 0
 IsNoHigher P p ray from to = (r q : ℤ) → IsRelaxedMaximum P p from ray r → IsRelaxedMaximum P p to ray q → q ≤ℤ r
+
+-- both numbers are there, and the first is at most the second
+abbrev pub AreInOrder : Option ℤ → Option ℤ → Type 0
+AreInOrder None to = ⊥
+AreInOrder (Some q) None = ⊥
+AreInOrder (Some q) (Some r) = q ≤ℤ r

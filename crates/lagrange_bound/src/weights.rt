@@ -45,7 +45,10 @@ fn price_of_stimulus(problem: &Problem, sides: &[u32; 384], which: u8) -> i64
     if which == 0 {
         0
     } else {
-        price(sides, 2 * problem.spec.rows().len() + 2 * (which as usize - 1))
+        price(
+            sides,
+            2 * problem.spec.rows().len() + 2 * (which as usize - 1),
+        )
     }
 }
 

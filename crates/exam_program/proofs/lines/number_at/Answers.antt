@@ -1,4 +1,4 @@
-use Rattle.std.proofs.Common.{◌≡◌, sym, ◌∙◌}
+use Rattle.std.proofs.Common.{sym, ◌∙◌}
 use Rattle.std.proofs.lemmas.List.{get_or_past}
 use Rattle.exam_program.proofs.SeatLaws.{get-none}
 use Rattle.exam_program.proofs.lines.number_at.Goals as goal

@@ -1,8 +1,7 @@
-use Rattle.std.proofs.Common.{◌≡◌, ℕ, ◌+◌, ◌≤◌, ◌++◌, List, length, take, drop, IsTrue, refl, sym, ◌∙◌, ap, subst, arith, append_assoc, rules}
+use Rattle.std.proofs.Common.{◌≡◌, ℕ, ◌+◌, ◌++◌, List, length, take, drop, sym, ◌∙◌, ap, arith, append_assoc, rules}
 use Rattle.std.proofs.Math.Seq.{take-add}
 use Rattle.std.proofs.lemmas.List.{take-append-drop}
 use Rattle.std.proofs.Common.{true, length-drop}
-use Rattle.exam_program.specs.Writing.{WritesPart}
 use Rattle.exam_program.proofs.output.put.Goals as goal
 
 -- a piece written on top of what stood written of it
@@ -29,4 +28,5 @@ returns-in-Err-clause-err g c = λ told.
       rest = drop c.piece.done c.args.piece.now;
       written = c.in-Err.ensures.kept there ∙ c.piece.invariant.written told;
       whole = sym (take-append-drop c.piece.done c.args.piece.now);
+      unfinished = omega (arith, length-drop c.piece.done c.args.piece.now);
     }

@@ -1,4 +1,4 @@
-use Rattle.std.proofs.Common.{◌≡◌, ◌+◌, List, [], get_or, Ok}
+use Rattle.std.proofs.Common.{◌≡◌, ◌+◌, [], get_or, Ok}
 use Rattle.std.specs.Prelude.{map}
 use Rattle.exam_text.specs.First.{each_below, or_fault}
 use Rattle.exam_text.specs.Words.{words_of}

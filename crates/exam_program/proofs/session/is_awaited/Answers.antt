@@ -1,8 +1,6 @@
-use Rattle.std.proofs.Common.{◌≡◌, ℕ, ◌+◌, ◌<◌, ◌≤◌, List, length, get_or, Some, sym, ◌∙◌, subst, arith}
+use Rattle.std.proofs.Common.{◌≡◌, ℕ, ◌<◌, get_or, sym, ◌∙◌, subst, arith}
 use Rattle.std.proofs.lemmas.Bool.{ltb-true, lt-ltb}
-use Rattle.bank_tables.specs.Tables.{Tables, categories}
-use Rattle.exam_model.specs.declared.seat.Seat.{Seat}
-use Rattle.exam_program.specs.Sessions.{IsAwaited}
+use Rattle.bank_tables.specs.Tables.{categories}
 use Rattle.exam_program.proofs.SeatLaws.{any_of, get-get_or, get-none}
 use Rattle.exam_program.proofs.session.is_awaited.Goals as goal
 

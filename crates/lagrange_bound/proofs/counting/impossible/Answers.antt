@@ -1,11 +1,8 @@
-use Rattle.std.proofs.Common.{◌≡◌, ℕ, suc, ◌+◌, ◌-◌, ◌<◌, ◌≤◌, ◌&&◌, ◌||◌, ◌==◌, not, true, false, Bool, List, length, nat_lt, get_or, Some, None, sym, ap, ◌∙◌, subst, refl, arith}
-use Rattle.bank_tables.specs.Items.{Set, has}
+use Rattle.std.proofs.Common.{◌≡◌, ℕ, ◌+◌, ◌≤◌, List, length, ap, arith}
 use Rattle.bank_tables.specs.Tables.{size, stimulus}
 use Rattle.exam_model.specs.declared.row.Row.{Row}
-use Rattle.exam_model.specs.Paths.{Path, is_free, is_chosen, is_open}
-use Rattle.exam_model.specs.Forms.{items_of, stimuli_of}
+use Rattle.exam_model.specs.Forms.{stimuli_of}
 use Rattle.constraint_model.specs.Views.{problem_of}
-use Rattle.lagrange_bound.specs.Cuts.{IsCut, IsCutOf}
 use Rattle.exam_model.specs.Problem.{Problem}
 use Rattle.exam_model.specs.Validity.{IsWellMade}
 use Rattle.lagrange_bound.proofs.CountingSteps.{first_length, first_of_rows, first_of_stimuli, none_first, greatest_at_most}

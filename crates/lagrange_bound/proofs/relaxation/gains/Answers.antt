@@ -1,24 +1,16 @@
-use Rattle.std.proofs.Common.{◌≡◌, ℕ, suc, ◌+◌, ◌-◌, ◌*◌, ◌<◌, ◌≤◌, List, length, get_or, w64, to_z, of_z, add-one, sym, ap, ◌∙◌, subst, refl, arith}
-use Rattle.std.specs.Prelude.{ℤ, pos, neg_ℤ, ◌+ℤ◌, ◌-ℤ◌, ◌*ℤ◌, ◌≤ℤ◌}
-use Rattle.std.proofs.lemmas.Int.{ints}
+use Rattle.std.proofs.Common.{◌≡◌, ℕ, suc, ◌+◌, ◌*◌, ◌<◌, ◌≤◌, w64, to_z, of_z, add-one, sym, ap, ◌∙◌, subst, arith}
+use Rattle.std.specs.Prelude.{ℤ, pos, ◌+ℤ◌}
 use Rattle.bank_tables.specs.Sums.{total_z}
-use Rattle.exam_model.specs.declared.row.Row.{Row}
-use Rattle.exam_model.specs.Plan.{row_at}
-use Rattle.exam_model.specs.Forms.{lower_bound, upper_bound}
-use Rattle.exam_model.specs.Relaxed.{Multipliers, multiplier}
-use Rattle.exam_model.specs.ClosedForm.{price, bounds_price, stimulus_activity}
 use Rattle.constraint_model.specs.Views.{problem_of}
-use Rattle.lagrange_bound.specs.Ranges.{IsWithin, at, item_top, bounds_top}
-use Rattle.lagrange_bound.specs.Shares.{AreSidesOf, constant_share, stimulus_share}
-use Rattle.lagrange_bound.proofs.Sums.{read_back, summed, summed_within, wider, row_read, row_number}
+use Rattle.lagrange_bound.specs.Ranges.{IsWithin}
+use Rattle.lagrange_bound.proofs.Sums.{read_back, summed, summed_within, wider}
 use Rattle.std.proofs.Common.{cond}
 use Rattle.std.specs.Int.{int_max}
 use Rattle.bank_tables.specs.Items.{Set, has}
 use Rattle.bank_tables.specs.Tables.{size, stimulus}
 use Rattle.exam_model.specs.Forms.{stimuli_of}
-use Rattle.exam_model.specs.Paths.{Path, is_chosen, is_open}
+use Rattle.exam_model.specs.Paths.{is_chosen}
 use Rattle.exam_model.specs.ClosedForm.{stimulus_weight, stimulus_gain}
-use Rattle.lagrange_bound.specs.Cuts.{IsCutOf}
 use Rattle.lagrange_bound.specs.Ranges.{stimulus_top}
 use Rattle.lagrange_bound.proofs.CountingSteps.{greatest_at_most}
 use Rattle.lagrange_bound.proofs.Sums.{total_more}

@@ -1,21 +1,13 @@
-use Rattle.std.proofs.Common.{◌≡◌, ℕ, suc, ◌+◌, ◌-◌, ◌*◌, ◌<◌, ◌≤◌, List, length, get_or, w64, to_z, of_z, add-one, sym, ap, ◌∙◌, subst, refl, arith}
-use Rattle.std.specs.Prelude.{ℤ, pos, neg_ℤ, ◌+ℤ◌, ◌-ℤ◌, ◌*ℤ◌, ◌≤ℤ◌}
-use Rattle.std.proofs.lemmas.Int.{ints}
-use Rattle.bank_tables.specs.Sums.{total_z}
+use Rattle.std.proofs.Common.{◌≡◌, ℕ, ◌+◌, ◌-◌, ◌*◌, ◌≤◌, List, length, get_or, ap, ◌∙◌, arith}
+use Rattle.std.specs.Prelude.{◌+ℤ◌}
 use Rattle.exam_model.specs.declared.row.Row.{Row}
-use Rattle.exam_model.specs.Plan.{row_at}
-use Rattle.exam_model.specs.Forms.{lower_bound, upper_bound}
-use Rattle.exam_model.specs.Relaxed.{Multipliers, multiplier}
-use Rattle.exam_model.specs.ClosedForm.{price, bounds_price, stimulus_activity}
+use Rattle.exam_model.specs.ClosedForm.{bounds_price}
 use Rattle.constraint_model.specs.Views.{problem_of}
-use Rattle.lagrange_bound.specs.Ranges.{IsWithin, at, item_top, bounds_top}
-use Rattle.lagrange_bound.specs.Shares.{AreSidesOf, constant_share, stimulus_share}
-use Rattle.lagrange_bound.proofs.Sums.{read_back, summed, summed_within, wider, row_read, row_number}
+use Rattle.lagrange_bound.specs.Ranges.{bounds_top}
 use Rattle.bank_tables.specs.Tables.{size, stimulus}
 use Rattle.exam_model.specs.declared.row.StimulusBound.{StimulusBound}
 use Rattle.exam_model.specs.Forms.{stimuli_of}
 use Rattle.exam_model.specs.ClosedForm.{stimulus_weight, stimulus_side}
-use Rattle.lagrange_bound.specs.Ranges.{stimulus_top}
 use Rattle.lagrange_bound.proofs.CountingSteps.{greatest_at_most}
 use Rattle.lagrange_bound.proofs.Sums.{two_summed}
 use Rattle.lagrange_bound.proofs.relaxation.stimulus_weight.Goals as goal

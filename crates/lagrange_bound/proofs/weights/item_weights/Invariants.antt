@@ -1,4 +1,4 @@
-use Rattle.std.proofs.Common.{◌≡◌, ℕ, ◌+◌, ◌*◌, ◌<◌, length}
+use Rattle.std.proofs.Common.{◌≡◌, ℕ, ◌+◌, ◌*◌, ◌<◌}
 use Rattle.std.specs.Prelude.{◌+ℤ◌}
 use Rattle.bank_tables.specs.Sums.{total_z}
 use Rattle.bank_tables.specs.Tables.{size}

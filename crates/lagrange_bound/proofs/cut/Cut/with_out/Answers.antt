@@ -1,11 +1,9 @@
-use Rattle.std.proofs.Common.{◌≡◌, ℕ, ◌<◌, ◌&&◌, ◌||◌, ◌==◌, not, true, false, Bool, sym, ap, ◌∙◌, subst, refl, arith}
+use Rattle.std.proofs.Common.{◌≡◌, ℕ, ◌&&◌, ◌||◌, ◌==◌, not, sym, ap, ◌∙◌}
 use Rattle.std.proofs.Math.Path.{fun_ext}
 use Rattle.bank_tables.specs.Items.{Set, has}
 use Rattle.bank_tables.specs.Tables.{size, stimulus}
-use Rattle.exam_model.specs.Paths.{Path, root, is_free, is_chosen, is_open, with_item, with_stimulus}
 use Rattle.constraint_model.specs.Views.{problem_of}
-use Rattle.lagrange_bound.specs.Cuts.{IsCut, IsCutOf}
-use Rattle.lagrange_bound.proofs.Branches.{root_open, free_taken, free_out, chosen_taken, open_taken, open_out, chosen_branch, open_branch, free_dropped, out_dropped, open_dropped}
+use Rattle.lagrange_bound.proofs.Branches.{free_out, open_out}
 use Rattle.std.proofs.Math.Bool.{true≢false}
 use Rattle.bank_tables.specs.Sums.{any_below}
 use Rattle.lagrange_bound.proofs.cut.Cut.with_out.Goals.{then-has_one_of, else-has_one_of}
@@ -24,12 +22,12 @@ returns c p is =
       free = free_out P p i (has c.args.self.now.free) (has c.without-free.result) is.free c.without-free.ensures;
       chosen = is.chosen;
       opened = open_out P p i (has c.args.self.now.free) (has c.without-free.result) (has c.args.self.now.opened) (has c.if-has_one_of.opened) is.free c.without-free.ensures is.opened c.has_one_of.result found
-      (λ some. elim c.if-has_one_of.branch [
-        | then-has_one_of w ↦ ap (λ s. has s) w.opened-is
-        | else-has_one_of w ↦ absurd (true≢false (sym some ∙ w.if-has_one_of.false))
-      ])
-      (λ none. elim c.if-has_one_of.branch [
-        | then-has_one_of w ↦ absurd (true≢false (sym w.if-has_one_of.true ∙ none))
-        | else-has_one_of w ↦ λ s. ap (λ o. has o s) w.opened-is ∙ w.without-opened.ensures s ∙ ap (λ (t : ℕ). not (s == t) && has c.args.self.now.opened s) own
-      ]);
+          (λ some. elim c.if-has_one_of.branch [
+            | then-has_one_of w ↦ ap (λ s. has s) w.opened-is
+            | else-has_one_of w ↦ absurd (true≢false (sym some ∙ w.if-has_one_of.false))
+          ])
+          (λ none. elim c.if-has_one_of.branch [
+            | then-has_one_of w ↦ absurd (true≢false (sym w.if-has_one_of.true ∙ none))
+            | else-has_one_of w ↦ λ s. ap (λ o. has o s) w.opened-is ∙ w.without-opened.ensures s ∙ ap (λ (t : ℕ). not (s == t) && has c.args.self.now.opened s) own
+          ]);
     }

@@ -1,11 +1,9 @@
-use Rattle.std.proofs.Common.{◌≡◌, ℕ, ◌<◌, ◌&&◌, ◌||◌, ◌==◌, not, true, false, Bool, sym, ap, ◌∙◌, subst, refl, arith}
+use Rattle.std.proofs.Common.{◌≡◌, ℕ, ◌<◌, ◌&&◌, ◌||◌, ◌==◌, not, sym, ap, ◌∙◌}
 use Rattle.std.proofs.Math.Path.{fun_ext}
 use Rattle.bank_tables.specs.Items.{Set, has}
 use Rattle.bank_tables.specs.Tables.{size, stimulus}
-use Rattle.exam_model.specs.Paths.{Path, root, is_free, is_chosen, is_open, with_item, with_stimulus}
 use Rattle.constraint_model.specs.Views.{problem_of}
-use Rattle.lagrange_bound.specs.Cuts.{IsCut, IsCutOf}
-use Rattle.lagrange_bound.proofs.Branches.{root_open, free_taken, free_out, chosen_taken, open_taken, open_out, chosen_branch, open_branch, free_dropped, out_dropped, open_dropped}
+use Rattle.lagrange_bound.proofs.Branches.{free_taken, chosen_taken, open_taken}
 use Rattle.std.proofs.Common.{nat_lt}
 use Rattle.std.proofs.lemmas.Bool.{ltb-true, and_parts}
 use Rattle.lagrange_bound.proofs.cut.Cut.with_taken.Goals as goal

@@ -1,0 +1,8 @@
+use Rattle.std.proofs.Common.{◌≡◌, ℕ}
+use Rattle.bank_tables.specs.Items.{has}
+use Rattle.exposure_counters.specs.Tallies.{counts_at}
+use Rattle.history_model.specs.Draws.{drawn}
+use Rattle.eligibility_draw.proofs.drawing.draw.Given as goal
+
+abbrev pub invariant-loop-item : goal.invariant-loop-item
+invariant-loop-item l = (k : ℕ) → has l.eligible k ≡ drawn l.key l.rate l.session l.item (counts_at l.counters) k

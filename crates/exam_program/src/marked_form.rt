@@ -1,0 +1,11 @@
+//! A form with its mark.
+
+use bank_tables::ItemSet;
+
+/// A form that an assembly found.
+#[derive(Clone, Copy, Debug)]
+pub struct MarkedForm {
+    pub form: ItemSet,
+    /// Whether it is proved best; else the node budget was spent.
+    pub proved: bool,
+}

@@ -1,0 +1,7 @@
+pub mod Rows
+pub mod Joins
+pub mod SetLaws
+pub mod FieldLaws
+pub mod RecordLaws
+pub mod AgainLaws
+pub mod CutLaws

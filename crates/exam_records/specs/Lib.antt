@@ -1,0 +1,5 @@
+pub mod Sets
+pub mod Shape
+pub mod Spelling
+pub mod Reading
+pub mod Cuts

@@ -1,0 +1,102 @@
+-- Reading a payload from left to right, up to the first fault, which is told with the place of the field in which it
+-- stands.
+use Rattle.std.specs.Prelude.{ℕ, ◌+◌, ◌-◌, ◌==◌, not, Bool, true, false, nat_lt, List, length, drop, Some, None, Result, Ok, Err, if◌then◌else◌}
+use Rattle.std.specs.Int.{w16, w32, w64}
+use Rattle.exam_text.specs.First.{◌>>=◌, unless, fault_where}
+use Rattle.exam_model.specs.ProofTrees.{ProofTree}
+use Rattle.history_model.specs.declared.entry.Cause.{Cause}
+use Rattle.history_model.specs.declared.entry.Cause.TheVariants.{NoForm, Spent}
+use Rattle.history_model.specs.declared.entry.Entry.TheVariants.{Started, SetAside, Served, Answered, Closed}
+use Rattle.proof_tree.specs.declared.fault.TreeFault.{TreeFault}
+use Rattle.proof_tree.specs.Reading.{number_at, byte_at, read}
+use Rattle.exam_records.specs.declared.fault.RecordFault.{RecordFault}
+use Rattle.exam_records.specs.declared.fault.RecordFault.TheVariants.{Short, Kind, Field, Tree, Extra}
+use Rattle.exam_records.specs.declared.spelled.Record.{Record}
+use Rattle.exam_records.specs.Sets.{words_of, items_at}
+
+-- a field before the tree: where it isn't whole, the payload is short
+abbrev pub field : {A : Type 0} → Result A TreeFault → Result A RecordFault
+field (Ok x) = Ok x
+field (Err fault) = Err Short
+
+-- the tree's own faults, with places from the tree's first byte on
+abbrev pub of_tree : {A : Type 0} → Result A TreeFault → Result A RecordFault
+of_tree (Ok x) = Ok x
+of_tree (Err fault) = Err (Tree fault)
+
+-- a set of items in 64 bytes
+unfoldable pub set_at : List ℕ → ℕ → Result (List ℕ) RecordFault
+set_at bytes at = if nat_lt (length bytes) (at + 64) then Err Short else Ok (words_of (items_at bytes at))
+
+-- a byte that is 1 or 0
+unfoldable pub flag_at : List ℕ → ℕ → Result Bool RecordFault
+flag_at bytes at = do
+  byte ← field (byte_at bytes at)
+  unless (fault_where (nat_lt 1 byte) (Field at)) (Ok (byte == 1))
+
+-- why eligibility was set aside
+abbrev pub cause_of : Bool → Cause
+cause_of true = Spent
+cause_of false = NoForm
+
+-- a tree, and the place behind it; the two bytes before it told the number of its nodes
+unfoldable pub tree_at : ℕ → List ℕ → ℕ → Result (ProofTree × ℕ) RecordFault
+tree_at nodes bytes at = do
+  found ← of_tree (read (drop at bytes))
+  unless (fault_where (not (nodes == length found.0.nodes)) (Field (at - 2))) (Ok (found.0, at + found.1))
+
+-- ---- each kind of record behind its first byte, and the place behind it
+
+unfoldable pub started : List ℕ → Result (Record × ℕ) RecordFault
+started bytes = do
+  session ← field (number_at w32 bytes 1)
+  booking ← field (number_at w64 bytes 5)
+  eligible ← set_at bytes 13
+  Ok (record { entry = Started session booking eligible; tree = None }, 77)
+
+unfoldable pub set_aside : List ℕ → Result (Record × ℕ) RecordFault
+set_aside bytes = do
+  session ← field (number_at w32 bytes 1)
+  spent ← flag_at bytes 5
+  nodes ← field (number_at w16 bytes 6)
+  found ← tree_at nodes bytes 8
+  Ok (record { entry = SetAside session (cause_of spent) nodes; tree = Some found.0 }, found.1)
+
+unfoldable pub served : List ℕ → Result (Record × ℕ) RecordFault
+served bytes = do
+  session ← field (number_at w32 bytes 1)
+  step ← field (number_at w16 bytes 5)
+  item ← field (number_at w16 bytes 7)
+  form ← set_at bytes 9
+  proved ← flag_at bytes 73
+  nodes ← field (number_at w16 bytes 74)
+  found ← tree_at nodes bytes 76
+  Ok (record { entry = Served session step item form proved nodes; tree = Some found.0 }, found.1)
+
+unfoldable pub answered : List ℕ → Result (Record × ℕ) RecordFault
+answered bytes = do
+  session ← field (number_at w32 bytes 1)
+  step ← field (number_at w16 bytes 5)
+  response ← field (byte_at bytes 7)
+  Ok (record { entry = Answered session step response; tree = None }, 8)
+
+unfoldable pub closed : List ℕ → Result (Record × ℕ) RecordFault
+closed bytes = do
+  session ← field (number_at w32 bytes 1)
+  Ok (record { entry = Closed session; tree = None }, 5)
+
+-- what follows the kind of a record
+unfoldable pub record_of_kind : ℕ → List ℕ → Result (Record × ℕ) RecordFault
+record_of_kind kind bytes =
+    if kind == 1 then started bytes else
+    (if kind == 2 then set_aside bytes else
+    (if kind == 3 then served bytes else
+    (if kind == 4 then answered bytes else
+    (if kind == 5 then closed bytes else Err (Kind 0)))))
+
+-- the record of a payload: nothing may stand behind it
+unfoldable pub record_of : List ℕ → Result Record RecordFault
+record_of payload = do
+  kind ← field (byte_at payload 0)
+  found ← record_of_kind kind payload
+  unless (fault_where (nat_lt found.1 (length payload)) (Extra found.1)) (Ok found.0)

@@ -1,0 +1,242 @@
+//! Reading a record.
+
+ghost use Rattle.std.specs.Prelude.{◌≡◌, ◌+◌, ◌≤◌, ◌<◌, ◌==◌, length, IfOk, OnOk, Ok};
+ghost use Rattle.std.specs.Int.{w16, w32, w64};
+ghost use Rattle.exam_text.specs.First.{Gives};
+ghost use Rattle.proof_tree.specs.Reading.{number_at, byte_at};
+ghost use Rattle.exam_records.specs.declared.fault.RecordFault.TheVariants.{Memory};
+ghost use Rattle.exam_records.specs.declared.spelled.Record.{Record};
+ghost use Rattle.exam_records.specs.Shape.{IsRecord};
+ghost use Rattle.exam_records.specs.Spelling.{payload_of};
+ghost use Rattle.exam_records.specs.Reading.{field, flag_at, cause_of, tree_at, started, set_aside, served, answered, closed, record_of_kind, record_of};
+
+use crate::fault::RecordFault;
+use crate::sets::set_of;
+use crate::spelled::Record;
+use history_model::{Cause, Entry};
+use proof_tree::{Tree, TreeFault};
+use std::alloc::Global;
+
+fn byte_of(bytes: &[u8], at: usize) -> Result<u8, RecordFault>
+    ensures byte { result ≡ field (byte_at bytes.now at) }
+    ensures there { OnOk result (at + 1 ≤ length bytes.now) }
+{
+    if at < bytes.len() {
+        Ok(bytes[at])
+    } else {
+        Err(RecordFault::Short)
+    }
+}
+
+fn u16_of(bytes: &[u8], at: usize) -> Result<u16, RecordFault>
+    requires { at ≤ length bytes.now }
+    ensures number { result ≡ field (number_at w16 bytes.now at) }
+    ensures there { OnOk result (at + 2 ≤ length bytes.now) }
+{
+    let (_, rest) = bytes.split_at(at);
+    if rest.len() < 2 {
+        return Err(RecordFault::Short);
+    }
+    let (front, _) = rest.split_at(2);
+    Ok(u16::from_be_bytes([front[0], front[1]]))
+}
+
+fn u32_of(bytes: &[u8], at: usize) -> Result<u32, RecordFault>
+    requires { at ≤ length bytes.now }
+    ensures number { result ≡ field (number_at w32 bytes.now at) }
+    ensures there { OnOk result (at + 4 ≤ length bytes.now) }
+{
+    let (_, rest) = bytes.split_at(at);
+    if rest.len() < 4 {
+        return Err(RecordFault::Short);
+    }
+    let (front, _) = rest.split_at(4);
+    Ok(u32::from_be_bytes([front[0], front[1], front[2], front[3]]))
+}
+
+fn u64_of(bytes: &[u8], at: usize) -> Result<u64, RecordFault>
+    requires { at ≤ length bytes.now }
+    ensures number { result ≡ field (number_at w64 bytes.now at) }
+    ensures there { OnOk result (at + 8 ≤ length bytes.now) }
+{
+    let (_, rest) = bytes.split_at(at);
+    if rest.len() < 8 {
+        return Err(RecordFault::Short);
+    }
+    let (front, _) = rest.split_at(8);
+    Ok(u64::from_be_bytes([
+        front[0], front[1], front[2], front[3], front[4], front[5], front[6], front[7],
+    ]))
+}
+
+#[tactic(auto, unfolding(crate::specs::Reading::flag_at))]
+fn flag_of(bytes: &[u8], at: usize) -> Result<bool, RecordFault>
+    ensures flag { result ≡ flag_at bytes.now at }
+    ensures there { OnOk result (at + 1 ≤ length bytes.now) }
+{
+    let byte = byte_of(bytes, at)?;
+    if 1 < byte {
+        return Err(RecordFault::Field(at as u64));
+    }
+    Ok(byte == 1)
+}
+
+fn cause(spent: bool) -> Cause
+    ensures { result ≡ cause_of spent }
+{
+    if spent { Cause::Spent } else { Cause::NoForm }
+}
+
+/// The tree, which has so many nodes, and the place behind it.
+#[tactic(auto, unfolding(crate::specs::Reading::tree_at))]
+fn tree_of(alloc: Global, nodes: u16, bytes: &[u8], at: usize) -> Result<(Tree, usize), RecordFault>
+    requires behind { 2 ≤ at }
+    requires there { at ≤ length bytes.now }
+    ensures { Gives Memory (λ x. x) result (tree_at nodes bytes.now at) }
+{
+    let (_, rest) = bytes.split_at(at);
+    let (tree, used) = match proof_tree::decode(alloc, rest) {
+        Ok(found) => found,
+        Err(TreeFault::Memory) => return Err(RecordFault::Memory),
+        Err(fault) => return Err(RecordFault::Tree(fault)),
+    };
+    if nodes as usize != tree.nodes().len() {
+        return Err(RecordFault::Field((at - 2) as u64));
+    }
+    Ok((tree, at + used))
+}
+
+#[tactic(auto, unfolding(crate::specs::Reading::started))]
+fn started(bytes: &[u8]) -> Result<(Record, usize), RecordFault>
+    requires { 1 ≤ length bytes.now }
+    ensures { result ≡ started bytes.now }
+{
+    let session = u32_of(bytes, 1)?;
+    let booking = u64_of(bytes, 5)?;
+    let eligible = set_of(bytes, 13)?;
+    let entry = Entry::Started {
+        session,
+        booking,
+        eligible,
+    };
+    Ok((Record { entry, tree: None }, 77))
+}
+
+#[tactic(auto, unfolding(crate::specs::Reading::set_aside))]
+fn set_aside(alloc: Global, bytes: &[u8]) -> Result<(Record, usize), RecordFault>
+    requires { 1 ≤ length bytes.now }
+    ensures { Gives Memory (λ x. x) result (set_aside bytes.now) }
+{
+    let session = u32_of(bytes, 1)?;
+    let spent = flag_of(bytes, 5)?;
+    let nodes = u16_of(bytes, 6)?;
+    let (tree, next) = tree_of(alloc, nodes, bytes, 8)?;
+    let entry = Entry::SetAside {
+        session,
+        cause: cause(spent),
+        nodes,
+    };
+    Ok((
+        Record {
+            entry,
+            tree: Some(tree),
+        },
+        next,
+    ))
+}
+
+#[tactic(auto, unfolding(crate::specs::Reading::served))]
+fn served(alloc: Global, bytes: &[u8]) -> Result<(Record, usize), RecordFault>
+    requires { 1 ≤ length bytes.now }
+    ensures { Gives Memory (λ x. x) result (served bytes.now) }
+{
+    let session = u32_of(bytes, 1)?;
+    let step = u16_of(bytes, 5)?;
+    let item = u16_of(bytes, 7)?;
+    let form = set_of(bytes, 9)?;
+    let proved = flag_of(bytes, 73)?;
+    let nodes = u16_of(bytes, 74)?;
+    let (tree, next) = tree_of(alloc, nodes, bytes, 76)?;
+    let entry = Entry::Served {
+        session,
+        step,
+        item,
+        form,
+        proved,
+        nodes,
+    };
+    Ok((
+        Record {
+            entry,
+            tree: Some(tree),
+        },
+        next,
+    ))
+}
+
+#[tactic(auto, unfolding(crate::specs::Reading::answered))]
+fn answered(bytes: &[u8]) -> Result<(Record, usize), RecordFault>
+    requires { 1 ≤ length bytes.now }
+    ensures { result ≡ answered bytes.now }
+{
+    let session = u32_of(bytes, 1)?;
+    let step = u16_of(bytes, 5)?;
+    let response = byte_of(bytes, 7)?;
+    let entry = Entry::Answered {
+        session,
+        step,
+        response,
+    };
+    Ok((Record { entry, tree: None }, 8))
+}
+
+#[tactic(auto, unfolding(crate::specs::Reading::closed))]
+fn closed(bytes: &[u8]) -> Result<(Record, usize), RecordFault>
+    requires { 1 ≤ length bytes.now }
+    ensures { result ≡ closed bytes.now }
+{
+    let session = u32_of(bytes, 1)?;
+    let entry = Entry::Closed { session };
+    Ok((Record { entry, tree: None }, 5))
+}
+
+#[tactic(auto, unfolding(crate::specs::Reading::record_of_kind))]
+fn record_of_kind(alloc: Global, kind: u8, bytes: &[u8]) -> Result<(Record, usize), RecordFault>
+    requires { 1 ≤ length bytes.now }
+    ensures { Gives Memory (λ x. x) result (record_of_kind kind bytes.now) }
+{
+    match kind {
+        1 => started(bytes),
+        2 => set_aside(alloc, bytes),
+        3 => served(alloc, bytes),
+        4 => answered(bytes),
+        5 => closed(bytes),
+        _ => Err(RecordFault::Kind(0)),
+    }
+}
+
+#[tactic(auto, unfolding(crate::specs::Reading::record_of))]
+fn record_of(alloc: Global, payload: &[u8]) -> Result<Record, RecordFault>
+    ensures { Gives Memory (λ x. x) result (record_of payload.now) }
+{
+    let kind = byte_of(payload, 0)?;
+    let (rec, next) = record_of_kind(alloc, kind, payload)?;
+    if next < payload.len() {
+        return Err(RecordFault::Extra(next as u64));
+    }
+    Ok(rec)
+}
+
+/// The record that the payload spells, all of its bytes. The payload is the bytes of one record: the kind in a byte, the
+/// fields of the entry, and the tree where there is one; numbers are big-endian (docs/FORMATS.md has the table). Fails
+/// with the first fault in the order of reading, or for want of memory.
+pub fn decode(alloc: Global, payload: &[u8]) -> Result<Record, RecordFault>
+    // What is read is a record, and the payload its one spelling.
+    ensures found { IfOk result (λ rec. IsRecord rec × (payload.now ≡ payload_of rec)) }
+    // What is spelled so is read, unless memory runs out.
+    ensures only { (r : Record) → IsRecord r → payload.now ≡ payload_of r → Gives Memory (λ x. x) result (Ok r) }
+    // Which fault it is, and where.
+    ensures exact { Gives Memory (λ x. x) result (record_of payload.now) }
+{
+    record_of(alloc, payload)
+}

@@ -1,0 +1,12 @@
+//! A record.
+
+use history_model::Entry;
+use proof_tree::Tree;
+
+/// An entry and its proof tree. A tree stands exactly where the entry is SetAside or Served, and the entry's `nodes` is
+/// the number of the tree's nodes.
+#[derive(Debug, Drop)]
+pub struct Record {
+    pub entry: Entry,
+    pub tree: Option<Tree>,
+}

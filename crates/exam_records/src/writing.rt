@@ -1,0 +1,109 @@
+//! Writing a record.
+
+ghost use Rattle.std.specs.Prelude.{◌≡◌, ◌≤◌, ◌<◌, ◌∷◌, ◌++◌, length, OnOk, IfOk};
+ghost use Rattle.std.specs.Int.{w32, to_be_bytes};
+ghost use Rattle.exam_records.specs.Shape.{GoesWith, IsRecord};
+ghost use Rattle.exam_records.specs.Spelling.{cause_byte, entry_bytes, tree_bytes, payload_of};
+
+use crate::condition::is_record;
+use crate::sets::push_set;
+use crate::spelled::Record;
+use history_model::{Cause, Entry};
+use proof_tree::{Memory, Tree};
+use std::alloc::{AllocError, Global};
+
+fn cause_byte(cause: &Cause) -> u8
+    ensures { result ≡ cause_byte cause.now }
+{
+    match cause {
+        Cause::NoForm => 0,
+        Cause::Spent => 1,
+    }
+}
+
+/// The kind and the session, with which each entry begins.
+fn push_front(out: &mut Vec<u8>, kind: u8, session: u32) -> Result<(), AllocError>
+    ensures { OnOk result (out.new.items ≡ out.old.items ++ kind ∷ to_be_bytes w32 session) }
+{
+    out.push(kind)?;
+    out.extend_from_slice(&session.to_be_bytes())
+}
+
+#[tactic(auto, unfolding(crate::specs::Spelling::entry_bytes))]
+fn push_entry(out: &mut Vec<u8>, entry: &Entry) -> Result<(), AllocError>
+    ensures { OnOk result (out.new.items ≡ out.old.items ++ entry_bytes entry.now) }
+{
+    match entry {
+        Entry::Started {
+            session,
+            booking,
+            eligible,
+        } => {
+            push_front(out, 1, *session)?;
+            out.extend_from_slice(&booking.to_be_bytes())?;
+            push_set(out, eligible)
+        }
+        Entry::SetAside {
+            session,
+            cause,
+            nodes,
+        } => {
+            push_front(out, 2, *session)?;
+            out.push(cause_byte(cause))?;
+            out.extend_from_slice(&nodes.to_be_bytes())
+        }
+        Entry::Served {
+            session,
+            step,
+            item,
+            form,
+            proved,
+            nodes,
+        } => {
+            push_front(out, 3, *session)?;
+            out.extend_from_slice(&step.to_be_bytes())?;
+            out.extend_from_slice(&item.to_be_bytes())?;
+            push_set(out, form)?;
+            out.push(u8::from(*proved))?;
+            out.extend_from_slice(&nodes.to_be_bytes())
+        }
+        Entry::Answered {
+            session,
+            step,
+            response,
+        } => {
+            push_front(out, 4, *session)?;
+            out.extend_from_slice(&step.to_be_bytes())?;
+            out.extend_from_slice(&[*response])
+        }
+        Entry::Closed { session } => push_front(out, 5, *session),
+    }
+}
+
+fn push_tree(alloc: Global, out: &mut Vec<u8>, tree: &Option<Tree>) -> Result<(), Memory>
+    ensures { OnOk result (out.new.items ≡ out.old.items ++ tree_bytes tree.now) }
+{
+    if let Some(tree) = tree {
+        let bytes = proof_tree::encode(alloc, tree)?;
+        out.extend_from_slice(&bytes)?;
+    }
+    Ok(())
+}
+
+/// The one spelling of the record, at most 86,154 bytes. The condition is that a tree stands exactly where the entry is
+/// SetAside or Served, and that the entry's number of nodes is the tree's. Fails only for want of memory.
+#[tactic(auto, unfolding(crate::specs::Spelling::payload_of))]
+pub fn encode(alloc: Global, rec: &Record) -> Result<Vec<u8>, Memory>
+    requires { GoesWith rec.now.entry rec.now.tree }
+    ensures spelling { IfOk result (λ bytes. bytes.items ≡ payload_of rec.now) }
+    // A record that keeps the condition is one that `decode` gives.
+    ensures is_record { IsRecord rec.now }
+    ensures some { IfOk result (λ bytes. 0 < length bytes.items) }
+    ensures few { IfOk result (λ bytes. length bytes.items ≤ 86154) }
+{
+    is_record(rec);
+    let mut out = Vec::new(alloc);
+    push_entry(&mut out, &rec.entry)?;
+    push_tree(alloc, &mut out, &rec.tree)?;
+    Ok(out)
+}

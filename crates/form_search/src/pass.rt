@@ -1,0 +1,244 @@
+//! A pass: a tree made depth first.
+
+ghost use Rattle.exam_model.specs.Validity.{IsWellMade};
+ghost use Rattle.constraint_model.specs.Views.{problem_of};
+ghost use Rattle.lagrange_bound.specs.Cuts.{IsCut};
+ghost use Rattle.form_search.specs.States.{IsPossible};
+
+use crate::branching::branch;
+use crate::incumbent::Incumbent;
+use crate::leaves::settled;
+use crate::paths::{Waiting, next_path, push_below, wait};
+use crate::pool::{Pool, closes, copied, empty_vector};
+use crate::priced::Priced;
+use crate::root::Rooted;
+use crate::steps::{steps_on, take_form};
+use crate::table::Table;
+use constraint_model::Problem;
+use exam_model::Node;
+use lagrange_bound::{Aim, Ascent, Cut, impossible};
+use proof_tree::{Memory, Vector};
+use std::alloc::Global;
+
+/// How far a pass may go.
+#[derive(Clone, Copy, Debug)]
+pub struct Limits {
+    /// Branches, at most.
+    pub branches: u32,
+    /// Vectors, at most.
+    pub vectors: usize,
+    /// Whether it ends early where one that begins anew would be smaller.
+    pub restarts: bool,
+}
+
+/// What a pass has made so far.
+#[derive(Debug, Drop)]
+pub struct Pass {
+    pub nodes: Vec<Node>,
+    pub pool: Pool,
+    /// The vectors that the steps at the branches came to.
+    hands: Vec<Vector>,
+    /// Branches that the limits still allow.
+    branches: u32,
+    /// Whether a leaf is Open.
+    pub is_spent: bool,
+    /// Whether no path waits for its subtree.
+    pub is_whole: bool,
+    /// The objective of the incumbent as the pass began.
+    begun: u64,
+}
+
+impl Pass {
+    /// A pass with the root's vector.
+    fn new(
+        alloc: Global,
+        table: &Table,
+        incumbent: &Incumbent,
+        rooted: &Rooted,
+        limits: Limits,
+    ) -> Result<Pass, Memory> {
+        let mut pool = Pool::new(alloc, table, limits.vectors)?;
+        if !rooted.vector.pairs().is_empty() && pool.has_room() {
+            let vector = copied(alloc, &rooted.vector)?;
+            let _ = pool.store(Priced::of(alloc, table, vector, false)?)?;
+        }
+        let mut hands = Vec::new(alloc);
+        hands.push(copied(alloc, &rooted.vector)?)?;
+        Ok(Pass {
+            nodes: Vec::new(alloc),
+            pool,
+            hands,
+            branches: limits.branches,
+            is_spent: false,
+            is_whole: false,
+            begun: incumbent.objective,
+        })
+    }
+
+    /// Steps at a path, from the vector that its branch came to.
+    fn steps(
+        &self,
+        alloc: Global,
+        problem: &Problem,
+        incumbent: &Incumbent,
+        place: &Waiting,
+    ) -> Result<Option<Ascent>, Memory>
+        requires well_made { IsWellMade (problem_of problem.now) }
+        requires cut { IsCut (problem_of problem.now) place.now.cut }
+        requires possible { IsPossible (problem_of problem.now) place.now.cut }
+    {
+        let steps = if !self.pool.has_room() {
+            10
+        } else if place.depth < 6 {
+            40
+        } else {
+            25
+        };
+        let aim = Aim {
+            ray: incumbent.form.is_none(),
+            target: incumbent.top(),
+            steps,
+        };
+        match self.hands.get(place.hand) {
+            Some(from) => steps_on(alloc, problem, &place.cut, from, aim),
+            None => steps_on(alloc, problem, &place.cut, &empty_vector(alloc), aim),
+        }
+    }
+
+    /// The branch at a path, or Open where the limits allow none.
+    fn branch_or_open(
+        &mut self,
+        table: &Table,
+        place: &Waiting,
+        vector: Vector,
+        shares: &[u16],
+    ) -> Result<Node, Memory> {
+        if self.branches == 0 {
+            self.is_spent = true;
+            return Ok(Node::Open);
+        }
+        self.branches = self.branches.saturating_sub(1);
+        self.hands.push(vector)?;
+        Ok(branch(table, &place.cut, shares))
+    }
+
+    /// The node at a path that no vector of the pool closes, after steps there.
+    fn explored(
+        &mut self,
+        alloc: Global,
+        problem: &Problem,
+        table: &Table,
+        incumbent: &mut Incumbent,
+        place: &Waiting,
+    ) -> Result<Node, Memory>
+        requires well_made { IsWellMade (problem_of problem.now) }
+        requires cut { IsCut (problem_of problem.now) place.now.cut }
+        requires possible { IsPossible (problem_of problem.now) place.now.cut }
+    {
+        let ray = incumbent.form.is_none();
+        let Some(ascent) = self.steps(alloc, problem, incumbent, place)? else {
+            return Ok(Node::Open);
+        };
+        take_form(problem, table, incumbent, &ascent);
+        if ascent.bound <= incumbent.top() && self.pool.has_room() {
+            let vector = copied(alloc, &ascent.vector)?;
+            let priced = Priced::of(alloc, table, vector, ray)?;
+            if closes(&priced, table, incumbent, &place.cut) {
+                if let Some(leaf) = self.pool.store(priced)? {
+                    return Ok(leaf);
+                }
+            }
+        }
+        self.branch_or_open(table, place, ascent.vector, ascent.shares.as_slice())
+    }
+
+    /// The node at a path where no row is impossible by counting.
+    fn possible_node(
+        &mut self,
+        alloc: Global,
+        problem: &Problem,
+        table: &Table,
+        incumbent: &mut Incumbent,
+        rooted: &Rooted,
+        place: &Waiting,
+    ) -> Result<Node, Memory>
+        requires well_made { IsWellMade (problem_of problem.now) }
+        requires cut { IsCut (problem_of problem.now) place.now.cut }
+        requires possible { IsPossible (problem_of problem.now) place.now.cut }
+    {
+        if let Some(leaf) = settled(problem, table, &mut self.pool, incumbent, &place.cut)? {
+            return Ok(leaf);
+        }
+        if self.is_spent {
+            return Ok(Node::Open);
+        }
+        if place.depth == 0 && incumbent.form.is_some() {
+            let vector = copied(alloc, &rooted.vector)?;
+            return self.branch_or_open(table, place, vector, rooted.shares.as_slice());
+        }
+        self.explored(alloc, problem, table, incumbent, place)
+    }
+
+    /// The node at a path: the leaf of the lowest row that is impossible by counting, where there is one.
+    fn node_at(
+        &mut self,
+        alloc: Global,
+        problem: &Problem,
+        table: &Table,
+        incumbent: &mut Incumbent,
+        rooted: &Rooted,
+        place: &Waiting,
+    ) -> Result<Node, Memory>
+        requires well_made { IsWellMade (problem_of problem.now) }
+        requires cut { IsCut (problem_of problem.now) place.now.cut }
+    {
+        match impossible(problem, &place.cut) {
+            Some(row) => Ok(Node::Count(row)),
+            None => self.possible_node(alloc, problem, table, incumbent, rooted, place),
+        }
+    }
+
+    /// Whether a pass that begins anew would be smaller: a better form was met, and there are 32, 64, 128, .. nodes.
+    fn is_stale(&self, incumbent: &Incumbent) -> bool {
+        let count = self.nodes.len();
+        count >= 32 && count.is_power_of_two() && incumbent.objective > self.begun
+    }
+
+    /// A pass over the paths from the root on.
+    pub fn over(
+        alloc: Global,
+        problem: &Problem,
+        table: &Table,
+        incumbent: &mut Incumbent,
+        rooted: &Rooted,
+        limits: Limits,
+    ) -> Result<Pass, Memory>
+        requires { IsWellMade (problem_of problem.now) }
+    {
+        let mut pass = Pass::new(alloc, table, incumbent, rooted, limits)?;
+        let mut waiting = Vec::new(alloc);
+        wait(
+            problem,
+            &mut waiting,
+            Waiting {
+                cut: Cut::root(problem),
+                depth: 0,
+                hand: 0,
+            },
+        )?;
+        for _ in 0..8191 {
+            let Some(place) = next_path(problem, &mut waiting) else {
+                pass.is_whole = true;
+                break;
+            };
+            let node = pass.node_at(alloc, problem, table, incumbent, rooted, &place)?;
+            pass.nodes.push(node)?;
+            let hand = pass.hands.len().saturating_sub(1);
+            push_below(problem, &mut waiting, &place, &node, hand)?;
+            if limits.restarts && pass.is_stale(incumbent) {
+                break;
+            }
+        }
+        Ok(pass)
+    }
+}

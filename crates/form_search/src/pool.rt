@@ -1,0 +1,158 @@
+//! The vectors of a tree, and which of them closes a path.
+
+use crate::incumbent::Incumbent;
+use crate::priced::Priced;
+use crate::table::Table;
+use bank_tables::List;
+use exam_model::Node;
+use lagrange_bound::Cut;
+use proof_tree::{Memory, Vector};
+use std::alloc::Global;
+
+/// The vectors of a tree.
+#[derive(Debug, Drop)]
+pub struct Pool {
+    vectors: Vec<Priced>,
+    /// How many there may be; one place is kept for the empty vector.
+    most: usize,
+    /// The empty vector, until it closes a path.
+    plain: Option<Priced>,
+    /// The place of the vector that closed a path last.
+    last: usize,
+}
+
+/// The vector with no multipliers.
+pub fn empty_vector(alloc: Global) -> Vector {
+    Vector::new(List::of(Vec::new(alloc)))
+}
+
+/// A copy of a vector.
+pub fn copied(alloc: Global, vector: &Vector) -> Result<Vector, Memory> {
+    let mut pairs = Vec::new(alloc);
+    pairs.extend_from_slice(vector.pairs())?;
+    match Vector::of(List::of(pairs)) {
+        Some(copy) => Ok(copy),
+        None => Ok(empty_vector(alloc)),
+    }
+}
+
+/// How many items a path still wants.
+pub fn wanted(table: &Table, cut: &Cut) -> u32 {
+    table.length.saturating_sub(cut.taken.count())
+}
+
+/// Whether a vector closes the path: no form there is better than the incumbent, or, by a ray, there is none.
+pub fn closes(priced: &Priced, table: &Table, incumbent: &Incumbent, cut: &Cut) -> bool {
+    if !priced.ray && incumbent.form.is_none() {
+        return false;
+    }
+    let top = if priced.ray { -1 } else { incumbent.top() };
+    match priced.bound_on(cut, wanted(table, cut)) {
+        Some(bound) => bound <= top,
+        None => false,
+    }
+}
+
+/// The leaf of a vector at a place.
+fn leaf_with(ray: bool, place: usize) -> Option<Node> {
+    let place = u8::try_from(place).ok()?;
+    if ray {
+        Some(Node::Ray(place))
+    } else {
+        Some(Node::Bound(place))
+    }
+}
+
+impl Pool {
+    /// No vectors but the empty one, whose place is kept.
+    pub fn new(alloc: Global, table: &Table, most: usize) -> Result<Pool, Memory> {
+        let plain = Priced::of(alloc, table, empty_vector(alloc), false)?;
+        Ok(Pool {
+            vectors: Vec::new(alloc),
+            most,
+            plain: Some(plain),
+            last: 0,
+        })
+    }
+
+    /// How many vectors there are.
+    pub fn len(&self) -> usize {
+        self.vectors.len()
+    }
+
+    /// Whether there is room for a vector, the place of the empty one aside.
+    pub fn has_room(&self) -> bool {
+        let kept = if self.plain.is_some() { 1 } else { 0 };
+        self.vectors.len().saturating_add(kept) < self.most.min(255)
+    }
+
+    /// Adds a vector, and gives its leaf.
+    pub fn store(&mut self, priced: Priced) -> Result<Option<Node>, Memory> {
+        let place = self.vectors.len();
+        let leaf = leaf_with(priced.ray, place);
+        self.vectors.push(priced)?;
+        self.last = place;
+        Ok(leaf)
+    }
+
+    /// The leaf of the vector at a place, if that closes the path.
+    fn leaf_at(
+        &self,
+        table: &Table,
+        incumbent: &Incumbent,
+        cut: &Cut,
+        place: usize,
+    ) -> Option<Node> {
+        let priced = self.vectors.get(place)?;
+        if closes(priced, table, incumbent, cut) {
+            leaf_with(priced.ray, place)
+        } else {
+            None
+        }
+    }
+
+    /// The leaf of a vector that closes the path: the one that closed last is tried first, then the newest.
+    pub fn closing(&mut self, table: &Table, incumbent: &Incumbent, cut: &Cut) -> Option<Node> {
+        if let Some(leaf) = self.leaf_at(table, incumbent, cut, self.last) {
+            return Some(leaf);
+        }
+        let count = self.vectors.len();
+        for back in 0..count {
+            let place = count.saturating_sub(back).saturating_sub(1);
+            if let Some(leaf) = self.leaf_at(table, incumbent, cut, place) {
+                self.last = place;
+                return Some(leaf);
+            }
+        }
+        None
+    }
+
+    /// The leaf of the empty vector, if that closes the path and isn't among the others yet.
+    pub fn closing_plain(
+        &mut self,
+        table: &Table,
+        incumbent: &Incumbent,
+        cut: &Cut,
+    ) -> Result<Option<Node>, Memory> {
+        let does = match &self.plain {
+            Some(plain) => closes(plain, table, incumbent, cut),
+            None => false,
+        };
+        if !does {
+            return Ok(None);
+        }
+        match self.plain.take() {
+            Some(plain) => self.store(plain),
+            None => Ok(None),
+        }
+    }
+
+    /// The vectors.
+    pub fn into_vectors(self, alloc: Global) -> Result<Vec<Vector>, Memory> {
+        let mut vectors = Vec::new(alloc);
+        for priced in self.vectors.as_slice() {
+            vectors.push(copied(alloc, &priced.vector)?)?;
+        }
+        Ok(vectors)
+    }
+}

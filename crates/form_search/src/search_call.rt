@@ -1,0 +1,131 @@
+//! The search.
+
+ghost use Rattle.std.specs.Prelude.{IfOk, IfSome};
+ghost use Rattle.bank_tables.specs.Items.{has};
+ghost use Rattle.exam_model.specs.Forms.{Form};
+ghost use Rattle.exam_model.specs.Validity.{IsBudget, IsWellMade};
+ghost use Rattle.constraint_model.specs.Views.{problem_of};
+
+use crate::incumbent::Incumbent;
+use crate::pass::{Limits, Pass};
+use crate::pool::empty_vector;
+use crate::repair::repaired;
+use crate::root::{Rooted, steps_at_root};
+use crate::table::Table;
+use bank_tables::{ItemSet, List};
+use constraint_model::{Problem, meets};
+use lagrange_bound::Cut;
+use proof_tree::{Memory, Tree};
+use std::alloc::Global;
+
+/// Vectors of a tree, at most.
+const MOST_VECTORS: usize = 32;
+
+/// Passes with as many vectors as they want, at most.
+const MOST_PASSES: u32 = 8;
+
+/// What a search came to: a form, if it met one, and a tree, if what it built is one.
+#[derive(Debug, Drop)]
+pub struct Searched {
+    pub form: Option<ItemSet>,
+    pub tree: Option<Tree>,
+}
+
+/// The better of the start and the hint, where they are forms; else a form near to the hint, if one is found.
+fn known(
+    alloc: Global,
+    problem: &Problem,
+    table: &Table,
+    hint: Option<&ItemSet>,
+) -> Result<Incumbent, Memory>
+    requires { IsWellMade (problem_of problem.now) }
+{
+    let mut incumbent = Incumbent::none();
+    if let Some(items) = &problem.start {
+        incumbent.offer(problem, table, items);
+    }
+    if let Some(items) = hint {
+        incumbent.offer(problem, table, items);
+        if incumbent.form.is_none() {
+            let begun = items.minus(problem.barred).union(problem.given);
+            let near = repaired(alloc, table, &empty_vector(alloc), &begun)?;
+            incumbent.offer(problem, table, &near);
+        }
+    }
+    Ok(incumbent)
+}
+
+/// The tree of a pass.
+fn tree_of(alloc: Global, pass: Pass) -> Result<Option<Tree>, Memory> {
+    if !pass.is_whole {
+        return Ok(None);
+    }
+    let vectors = pass.pool.into_vectors(alloc)?;
+    Ok(Tree::of(List::of(vectors), List::of(pass.nodes)))
+}
+
+/// A pass with as many vectors as it wants, and one within the limits of a tree where that doesn't do.
+fn passes(
+    alloc: Global,
+    problem: &Problem,
+    table: &Table,
+    incumbent: &mut Incumbent,
+    rooted: &Rooted,
+    budget: u16,
+) -> Result<Option<Tree>, Memory>
+    requires { IsWellMade (problem_of problem.now) }
+{
+    let branches = (budget as u32).saturating_sub(1) / 2;
+    let mut limits = Limits {
+        branches,
+        vectors: 255,
+        restarts: true,
+    };
+    for _ in 0..MOST_PASSES {
+        let pass = Pass::over(alloc, problem, table, incumbent, rooted, limits)?;
+        if pass.is_whole {
+            if !pass.is_spent && pass.pool.len() <= MOST_VECTORS {
+                return tree_of(alloc, pass);
+            }
+            break;
+        }
+    }
+    limits.vectors = MOST_VECTORS;
+    limits.restarts = false;
+    let pass = Pass::over(alloc, problem, table, incumbent, rooted, limits)?;
+    tree_of(alloc, pass)
+}
+
+/// The form, tested once more.
+fn tested(problem: &Problem, form: &Option<ItemSet>) -> Option<ItemSet>
+    requires { IsWellMade (problem_of problem.now) }
+    ensures { IfSome result (λ x. Form (problem_of problem.now) (has x)) }
+{
+    let items = form.as_ref()?;
+    match meets(problem, items) {
+        None => Some(*items),
+        Some(_) => None,
+    }
+}
+
+/// Looks for a form of the problem, and for a tree within a budget of nodes, which is odd and at most 4,095, that shows it
+/// best, or that no set is a form, or that spends the budget; the hint may be a form. The tree is to be tested.
+pub fn search(
+    alloc: Global,
+    problem: &Problem,
+    hint: Option<&ItemSet>,
+    budget: u16,
+) -> Result<Searched, Memory>
+    requires well_made { IsWellMade (problem_of problem.now) }
+    requires budget { IsBudget budget }
+    ensures form { IfOk result (λ s. IfSome s.form (λ x. Form (problem_of problem.now) (has x))) }
+{
+    let table = Table::of(alloc, problem)?;
+    let mut incumbent = known(alloc, problem, &table, hint)?;
+    let root = steps_at_root(alloc, problem, &table, &mut incumbent, &Cut::root(problem))?;
+    let tree = passes(alloc, problem, &table, &mut incumbent, &root, budget)?;
+    Ok(Searched {
+        form: tested(problem, &incumbent.form),
+        tree,
+    })
+}

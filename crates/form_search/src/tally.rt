@@ -1,0 +1,187 @@
+//! What a set of items comes to on each row and stimulus, and how far from the bounds.
+
+use crate::table::{Entry, Limits, Table, amount_in};
+use bank_tables::ItemSet;
+
+/// What a set of items comes to.
+#[derive(Clone, Copy, Debug)]
+pub struct Tally {
+    /// On each row that doesn't count stimuli.
+    activity: [i64; 128],
+    /// On each stimulus: its number of items, that of stimulus `s` at `s`.
+    members: [i64; 65],
+    /// The number of stimuli with an item in the set.
+    used: i64,
+}
+
+/// How far a number is from its bounds, in eighths of the scale, rounded up.
+fn excess(limits: &Limits, found: i64) -> i64 {
+    let over = limits
+        .low
+        .wrapping_sub(found)
+        .max(found.wrapping_sub(limits.high));
+    if over <= 0 {
+        return 0;
+    }
+    let scale = limits.scale.max(1);
+    over.wrapping_mul(8)
+        .wrapping_add(scale.wrapping_sub(1))
+        .checked_div(scale)
+        .unwrap_or(over)
+}
+
+/// The same of a stimulus, which may have no item.
+fn stimulus_excess(limits: &Limits, found: i64) -> i64 {
+    if found == 0 { 0 } else { excess(limits, found) }
+}
+
+impl Tally {
+    /// What a set of items comes to.
+    pub fn of(table: &Table, items: &ItemSet) -> Tally {
+        let mut tally = Tally {
+            activity: [0; 128],
+            members: [0; 65],
+            used: 0,
+        };
+        let mut item = 0u16;
+        for entry in table.entries.as_slice() {
+            if items.has(item) {
+                tally.add(entry);
+            }
+            item = item.saturating_add(1);
+        }
+        tally
+    }
+
+    /// Adds an item.
+    fn add(&mut self, entry: &Entry) {
+        for part in entry.parts.as_slice() {
+            let row = part.row as usize;
+            if row < 128 {
+                self.activity[row] = self.activity[row].wrapping_add(part.amount as i64);
+            }
+        }
+        let stimulus = entry.stimulus as usize;
+        if 0 < stimulus && stimulus < 65 {
+            if self.members[stimulus] == 0 {
+                self.used = self.used.wrapping_add(1);
+            }
+            self.members[stimulus] = self.members[stimulus].wrapping_add(1);
+        }
+    }
+
+    /// What the set comes to on a row that doesn't count stimuli.
+    fn on_row(&self, row: u8) -> i64 {
+        let row = row as usize;
+        if row < 128 { self.activity[row] } else { 0 }
+    }
+
+    /// How many of its items have the stimulus.
+    fn on_stimulus(&self, stimulus: u8) -> i64 {
+        let stimulus = stimulus as usize;
+        if stimulus < 65 {
+            self.members[stimulus]
+        } else {
+            0
+        }
+    }
+
+    /// How far the set is from the bounds of all rows and stimuli; 0 exactly where it meets them.
+    pub fn violation(&self, table: &Table) -> i64 {
+        let mut sum = 0i64;
+        let mut row = 0u8;
+        for limits in table.rows.as_slice() {
+            let found = if limits.of_stimuli {
+                self.used
+            } else {
+                self.on_row(row)
+            };
+            sum = sum.wrapping_add(excess(limits, found));
+            row = row.saturating_add(1);
+        }
+        let mut stimulus = 1u8;
+        for limits in table.stimuli.as_slice() {
+            sum = sum.wrapping_add(stimulus_excess(limits, self.on_stimulus(stimulus)));
+            stimulus = stimulus.saturating_add(1);
+        }
+        sum
+    }
+
+    /// How the excess of a row changes where so much is added to it.
+    fn row_change(&self, table: &Table, row: u8, added: i64) -> i64 {
+        match table.rows.get(row as usize) {
+            Some(limits) => {
+                let found = self.on_row(row);
+                excess(limits, found.wrapping_add(added)).wrapping_sub(excess(limits, found))
+            }
+            None => 0,
+        }
+    }
+
+    /// How the excess of the rows of two items changes where the one leaves for the other.
+    fn rows_change(&self, table: &Table, leaves: &Entry, comes: &Entry) -> i64 {
+        let mut sum = 0i64;
+        for part in leaves.parts.as_slice() {
+            let added = amount_in(&comes.parts, part.row).wrapping_sub(part.amount as i64);
+            if added != 0 {
+                sum = sum.wrapping_add(self.row_change(table, part.row, added));
+            }
+        }
+        for part in comes.parts.as_slice() {
+            if amount_in(&leaves.parts, part.row) == 0 {
+                sum = sum.wrapping_add(self.row_change(table, part.row, part.amount as i64));
+            }
+        }
+        sum
+    }
+
+    /// How the excess of a stimulus changes where so many items are added to it.
+    fn stimulus_change(&self, table: &Table, stimulus: u8, added: i64) -> i64 {
+        match table.stimuli.get((stimulus as usize).wrapping_sub(1)) {
+            Some(limits) => {
+                let found = self.on_stimulus(stimulus);
+                stimulus_excess(limits, found.wrapping_add(added)).wrapping_sub(stimulus_excess(
+                    limits, found,
+                ))
+            }
+            None => 0,
+        }
+    }
+
+    /// How the excess of the rows that count stimuli changes where so many come to be used.
+    fn used_change(&self, table: &Table, added: i64) -> i64 {
+        let mut sum = 0i64;
+        if added != 0 {
+            for limits in table.rows.as_slice() {
+                if limits.of_stimuli {
+                    let after = excess(limits, self.used.wrapping_add(added));
+                    sum = sum.wrapping_add(after.wrapping_sub(excess(limits, self.used)));
+                }
+            }
+        }
+        sum
+    }
+
+    /// How the excess of the stimuli changes where one item leaves for another.
+    fn stimuli_change(&self, table: &Table, leaves: &Entry, comes: &Entry) -> i64 {
+        if leaves.stimulus == comes.stimulus {
+            return 0;
+        }
+        let mut used = 0i64;
+        if leaves.stimulus > 0 && self.on_stimulus(leaves.stimulus) == 1 {
+            used = -1;
+        }
+        if comes.stimulus > 0 && self.on_stimulus(comes.stimulus) == 0 {
+            used = used.wrapping_add(1);
+        }
+        self.stimulus_change(table, leaves.stimulus, -1)
+            .wrapping_add(self.stimulus_change(table, comes.stimulus, 1))
+            .wrapping_add(self.used_change(table, used))
+    }
+
+    /// How the violation changes where one item leaves for another.
+    pub fn change(&self, table: &Table, leaves: &Entry, comes: &Entry) -> i64 {
+        self.rows_change(table, leaves, comes)
+            .wrapping_add(self.stimuli_change(table, leaves, comes))
+    }
+}

@@ -1,0 +1,17 @@
+pub mod HistoriesOfA
+pub mod Edges
+pub mod DrawRows
+pub mod Pushed
+pub mod Standing
+pub mod Ordered
+pub mod SeatSteps
+pub mod Running
+pub mod JudgingLaws
+pub mod CompleteLaws
+pub mod ReasonLaws
+pub mod RecordsOfA
+pub mod ReasonsOfA
+pub mod MarksAndCauses
+pub mod CountLaws
+pub mod RunParts
+pub mod Bounds

@@ -1,0 +1,314 @@
+-- A record has at most one reason, and none if it may follow.
+use Rattle.std.proofs.Common.{◌≡◌, ◌≢◌, ℕ, ◌<◌, ◌⊎◌, inl, inr, Bool, true, false, List, Option, Some, None, refl, sym, ap, ◌∙◌, subst, arith}
+use Rattle.std.proofs.Math.Bool.{true≢false}
+use Rattle.bank_tables.specs.Items.{Set, has}
+use Rattle.bank_tables.specs.Tables.{Tables, categories}
+use Rattle.exam_model.specs.declared.breach.Breach.{Breach}
+use Rattle.exam_model.specs.declared.verdict.Verdict.{Verdict}
+use Rattle.exam_model.specs.Plan.{Plan}
+use Rattle.exam_model.specs.Problem.{Problem}
+use Rattle.exam_model.specs.Forms.{Form}
+use Rattle.exam_model.specs.Breaches.{IsFirstBreach}
+use Rattle.exam_model.specs.Serving.{IsNext}
+use Rattle.exam_model.specs.ProofTrees.{ProofTree}
+use Rattle.exam_model.proofs.BreachLaws.{breach_no_form}
+use Rattle.exam_model.proofs.OneBreach.{one_breach}
+use Rattle.exam_model.proofs.OneMode.{one_next}
+use Rattle.exam_model.proofs.OneVerdict.{one_verdict}
+use Rattle.history_model.specs.declared.entry.Cause.{Cause}
+use Rattle.history_model.specs.declared.entry.Entry.{Entry}
+use Rattle.history_model.specs.declared.entry.Entry.TheVariants.{Started, SetAside, Served, Answered, Closed}
+use Rattle.history_model.specs.declared.place.Place.{Place}
+use Rattle.history_model.specs.declared.place.Place.TheVariants.{Pending, Waiting}
+use Rattle.history_model.specs.declared.illegal.Illegal.{Illegal}
+use Rattle.history_model.specs.declared.illegal.Illegal.TheVariants.{NotNumber, Booked, NotDrawn, NoSession, NotPending, IsAside, NotForm, NotItem, NotSpent, Tree, NotWaiting, BadResponse, Ended}
+use Rattle.history_model.specs.Entries.{holder, is_set_aside}
+use Rattle.history_model.specs.Places.{place}
+use Rattle.history_model.specs.Draws.{draw, SameItems, IsFirstDifference}
+use Rattle.history_model.specs.SessionProblems.{IsProblemOf}
+use Rattle.history_model.specs.Legality.{GoesOn}
+use Rattle.history_model.specs.Judging.{Claim, claim_of_mark, claim_of_cause, HasTree, HasVerdict, IsAsked, MayFollow}
+use Rattle.history_model.specs.Reasons.{IsWaitingAt, IsIllegal}
+use Rattle.history_model.specs.Laws.{OneReason, NoReasonIfMay}
+use Rattle.history_model.proofs.JudgingLaws.{one_problem}
+
+-- ---- values that are there, or aren't
+none_some : {A : Type 0} (o : Option A) (x : A) → o ≡ None → o ≡ Some x → ⊥
+none_some o x e f = cc
+
+one_value : {A : Type 0} (o : Option A) (x y : A) → o ≡ Some x → o ≡ Some y → x ≡ y
+one_value o x y e f = cc
+
+in_order : (i j : ℕ) → (i < j) ⊎ ((j < i) ⊎ (i ≡ j))
+in_order i j = grind arith
+
+one_difference : (X Y : Set) (i j : ℕ) → IsFirstDifference X Y i → IsFirstDifference X Y j → i ≡ j
+one_difference X Y i j h k = elim (in_order i j) [ inl before ↦ absurd (h.differs (k.before i before)) | inr (inl behind) ↦ absurd (k.differs (h.before j behind)) | inr (inr at) ↦ at ]
+
+waits_at : (step item : ℕ) (proved : Bool) (at : Place) → at ≡ Waiting step item proved → IsWaitingAt step at
+waits_at step item proved at e = subst (λ (p : Place). IsWaitingAt step p) (sym e) refl
+
+-- the items of the waiting step
+one_item : (o : Option Place) (step item other : ℕ) (proved mark : Bool) → o ≡ Some (Waiting step item proved) → o ≡ Some (Waiting step other mark) → item ≡ other
+one_item o step item other proved mark e f = cc
+
+module _ (b : Tables) (plan : Plan) (H : List Entry) where
+  -- ---- facts of one problem are facts of the other
+  module _ (session step : ℕ) (P Q : Problem) (p : IsProblemOf b plan H session step P) (q : IsProblemOf b plan H session step Q) where
+    moved : Q ≡ P
+    moved = one_problem b plan H session step Q P q p
+
+    not_form : (X : Set) (breach : Breach) → IsFirstBreach P X (Some breach) → Form Q X → ⊥
+    not_form X breach h k = breach_no_form P X breach h (subst (λ (R : Problem). Form R X) moved k)
+
+    same_breach : (X : Set) (breach other : Breach) → IsFirstBreach P X (Some breach) → IsFirstBreach Q X (Some other) → breach ≡ other
+    same_breach X breach other h k = let e = one_breach P X (Some breach) (Some other) h (subst (λ (R : Problem). IsFirstBreach R X (Some other)) moved k) in cc
+
+    same_next : (X : Set) (i j : ℕ) → IsNext P X i → IsNext Q X j → i ≡ j
+    same_next X i j h k = one_next P X i j h (subst (λ (R : Problem). IsNext R X j) moved k)
+
+    no_tree : (nodes : ℕ) (claim : Claim) (tree : Option ProofTree) → (HasTree P plan.budget nodes claim tree → ⊥) → HasTree Q plan.budget nodes claim tree → ⊥
+    no_tree nodes claim tree h k = h (subst (λ (R : Problem). HasTree R plan.budget nodes claim tree) moved k)
+
+    same_verdict : (X : Option Set) (tree : Option ProofTree) (v w : Verdict) → HasVerdict P X tree v → HasVerdict Q X tree w → v ≡ w
+    same_verdict X None v w h k = absurd h
+    same_verdict X (Some T) v w h k = one_verdict P X T v w h (subst (λ (R : Problem). HasVerdict R X (Some T) w) moved k)
+
+  -- ---- a start
+  module _ (session booking : ℕ) (eligible : List ℕ) (tree : Option ProofTree) where
+    abbrev OfStart : Illegal → Type 0
+    OfStart r = IsIllegal b plan H (Started session booking eligible) tree r
+
+    drawn_differs : (item : ℕ) → SameItems (has eligible) (draw b plan H session) → IsFirstDifference (has eligible) (draw b plan H session) item → ⊥
+    drawn_differs item same differs = differs.differs (same item)
+
+    one_start : (r q : Illegal) → OfStart r → OfStart q → r ≡ q
+    one_start (NotNumber n) (NotNumber m) h k = ap NotNumber (h.1 ∙ sym k.1)
+    one_start (NotNumber n) (Booked m) h k = absurd (h.0 k.0)
+    one_start (NotNumber n) (NotDrawn j) h k = absurd (h.0 k.0)
+    one_start (NotNumber n) (NotSpent m) h k = absurd (h.0 k.0)
+    one_start (NotNumber n) q h k = absurd k
+    one_start (Booked n) (NotNumber m) h k = absurd (k.0 h.0)
+    one_start (Booked n) (Booked m) h k = ap Booked (one_value (holder H booking) n m h.1 k.1)
+    one_start (Booked n) (NotDrawn j) h k = absurd (none_some (holder H booking) n k.1 h.1)
+    one_start (Booked n) (NotSpent m) h k = absurd (none_some (holder H booking) n k.1 h.1)
+    one_start (Booked n) q h k = absurd k
+    one_start (NotDrawn i) (NotNumber m) h k = absurd (k.0 h.0)
+    one_start (NotDrawn i) (Booked m) h k = absurd (none_some (holder H booking) m h.1 k.1)
+    one_start (NotDrawn i) (NotDrawn j) h k = ap NotDrawn (one_difference _ _ i j h.2 k.2)
+    one_start (NotDrawn i) (NotSpent m) h k = absurd (drawn_differs i k.2 h.2)
+    one_start (NotDrawn i) q h k = absurd k
+    one_start (NotSpent n) (NotNumber m) h k = absurd (k.0 h.0)
+    one_start (NotSpent n) (Booked m) h k = absurd (none_some (holder H booking) m h.1 k.1)
+    one_start (NotSpent n) (NotDrawn j) h k = absurd (drawn_differs j h.2 k.2)
+    one_start (NotSpent n) (NotSpent m) h k = ap NotSpent (h.4 ∙ sym k.4)
+    one_start (NotSpent n) q h k = absurd k
+    one_start r q h k = absurd h
+
+    may_start : (r : Illegal) → OfStart r → MayFollow b plan H (Started session booking eligible) tree → ⊥
+    may_start (NotNumber n) h may = h.0 may.0.number
+    may_start (Booked n) h may = none_some (holder H booking) n may.0.not_booked h.1
+    may_start (NotDrawn i) h may = drawn_differs i may.0.drawn h.2
+    may_start (NotSpent n) h may = h.3 may.1
+    may_start r h may = h
+
+  -- ---- setting eligibility aside
+  module _ (session : ℕ) (cause : Cause) (nodes : ℕ) (tree : Option ProofTree) where
+    abbrev OfAside : Illegal → Type 0
+    OfAside r = IsIllegal b plan H (SetAside session cause nodes) tree r
+
+    -- the place is none, or another than Pending 0, but for a problem
+    not_there : (P : Problem) → place plan H session ≡ None → IsProblemOf b plan H session 0 P → ⊥
+    not_there P e p = none_some (place plan H session) (Pending 0) e p.pending
+
+    not_first : (P : Problem) (at : Place) → place plan H session ≡ Some at → at ≢ Pending 0 → IsProblemOf b plan H session 0 P → ⊥
+    not_first P at e other p = other (one_value (place plan H session) at (Pending 0) e p.pending)
+
+    aside_twice : is_set_aside H session ≡ true → is_set_aside H session ≡ false → ⊥
+    aside_twice e f = true≢false (sym e ∙ f)
+
+    one_aside : (r q : Illegal) → OfAside r → OfAside q → r ≡ q
+    one_aside (NoSession n) (NoSession m) h k = ap NoSession (h.1 ∙ sym k.1)
+    one_aside (NoSession n) (NotPending at) h k = absurd (none_some (place plan H session) at h.0 k.0)
+    one_aside (NoSession n) IsAside h k = absurd (none_some (place plan H session) (Pending 0) h.0 k.0)
+    one_aside (NoSession n) (NotSpent m) h k = absurd (not_there k.0 h.0 k.1)
+    one_aside (NoSession n) (Tree w) h k = absurd (not_there k.0 h.0 k.1)
+    one_aside (NoSession n) q h k = absurd k
+    one_aside (NotPending at) (NoSession m) h k = absurd (none_some (place plan H session) at k.0 h.0)
+    one_aside (NotPending at) (NotPending other) h k = ap NotPending (one_value (place plan H session) at other h.0 k.0)
+    one_aside (NotPending at) IsAside h k = absurd (h.1 (one_value (place plan H session) at (Pending 0) h.0 k.0))
+    one_aside (NotPending at) (NotSpent m) h k = absurd (not_first k.0 at h.0 h.1 k.1)
+    one_aside (NotPending at) (Tree w) h k = absurd (not_first k.0 at h.0 h.1 k.1)
+    one_aside (NotPending at) q h k = absurd k
+    one_aside IsAside (NoSession m) h k = absurd (none_some (place plan H session) (Pending 0) k.0 h.0)
+    one_aside IsAside (NotPending at) h k = absurd (k.1 (one_value (place plan H session) at (Pending 0) k.0 h.0))
+    one_aside IsAside IsAside h k = refl
+    one_aside IsAside (NotSpent m) h k = absurd (aside_twice h.1 k.2)
+    one_aside IsAside (Tree w) h k = absurd (aside_twice h.1 k.2)
+    one_aside IsAside q h k = absurd k
+    one_aside (NotSpent n) (NoSession m) h k = absurd (not_there h.0 k.0 h.1)
+    one_aside (NotSpent n) (NotPending at) h k = absurd (not_first h.0 at k.0 k.1 h.1)
+    one_aside (NotSpent n) IsAside h k = absurd (aside_twice k.1 h.2)
+    one_aside (NotSpent n) (NotSpent m) h k = ap NotSpent (h.4 ∙ sym k.4)
+    one_aside (NotSpent n) (Tree w) h k = absurd (no_tree session 0 h.0 k.0 h.1 k.1 nodes (claim_of_cause cause) tree h.3 k.3)
+    one_aside (NotSpent n) q h k = absurd k
+    one_aside (Tree v) (NoSession m) h k = absurd (not_there h.0 k.0 h.1)
+    one_aside (Tree v) (NotPending at) h k = absurd (not_first h.0 at k.0 k.1 h.1)
+    one_aside (Tree v) IsAside h k = absurd (aside_twice k.1 h.2)
+    one_aside (Tree v) (NotSpent m) h k = absurd (no_tree session 0 k.0 h.0 k.1 h.1 nodes (claim_of_cause cause) tree k.3 h.3)
+    one_aside (Tree v) (Tree w) h k = ap Tree (same_verdict session 0 h.0 k.0 h.1 k.1 None tree v w h.4 k.4)
+    one_aside (Tree v) q h k = absurd k
+    one_aside r q h k = absurd h
+
+    may_aside : (r : Illegal) → OfAside r → MayFollow b plan H (SetAside session cause nodes) tree → ⊥
+    may_aside (NoSession n) h may = not_there may.problem h.0 may.is_problem
+    may_aside (NotPending at) h may = not_first may.problem at h.0 h.1 may.is_problem
+    may_aside IsAside h may = aside_twice h.1 may.not_aside
+    may_aside (NotSpent n) h may = no_tree session 0 h.0 may.problem h.1 may.is_problem nodes (claim_of_cause cause) tree h.3 may.shows.has_tree
+    may_aside (Tree v) h may = h.5 (subst (λ (w : Verdict). IsAsked (claim_of_cause cause) w) (same_verdict session 0 may.problem h.0 may.is_problem h.1 None tree may.shows.verdict v may.shows.has_verdict h.4) may.shows.asked)
+    may_aside r h may = h
+
+  -- ---- a serving
+  module _ (session step item : ℕ) (form : List ℕ) (proved : Bool) (nodes : ℕ) (tree : Option ProofTree) where
+    abbrev OfServing : Illegal → Type 0
+    OfServing r = IsIllegal b plan H (Served session step item form proved nodes) tree r
+
+    gone : (P : Problem) → place plan H session ≡ None → IsProblemOf b plan H session step P → ⊥
+    gone P e p = none_some (place plan H session) (Pending step) e p.pending
+
+    elsewhere : (P : Problem) (at : Place) → place plan H session ≡ Some at → at ≢ Pending step → IsProblemOf b plan H session step P → ⊥
+    elsewhere P at e other p = other (one_value (place plan H session) at (Pending step) e p.pending)
+
+    one_serving : (r q : Illegal) → OfServing r → OfServing q → r ≡ q
+    one_serving (NoSession n) (NoSession m) h k = ap NoSession (h.1 ∙ sym k.1)
+    one_serving (NoSession n) (NotPending at) h k = absurd (none_some (place plan H session) at h.0 k.0)
+    one_serving (NoSession n) (NotForm breach) h k = absurd (gone k.0 h.0 k.1)
+    one_serving (NoSession n) (NotItem j) h k = absurd (gone k.0 h.0 k.1)
+    one_serving (NoSession n) (NotSpent m) h k = absurd (gone k.0 h.0 k.1)
+    one_serving (NoSession n) (Tree w) h k = absurd (gone k.0 h.0 k.1)
+    one_serving (NoSession n) q h k = absurd k
+    one_serving (NotPending at) (NoSession m) h k = absurd (none_some (place plan H session) at k.0 h.0)
+    one_serving (NotPending at) (NotPending other) h k = ap NotPending (one_value (place plan H session) at other h.0 k.0)
+    one_serving (NotPending at) (NotForm breach) h k = absurd (elsewhere k.0 at h.0 h.1 k.1)
+    one_serving (NotPending at) (NotItem j) h k = absurd (elsewhere k.0 at h.0 h.1 k.1)
+    one_serving (NotPending at) (NotSpent m) h k = absurd (elsewhere k.0 at h.0 h.1 k.1)
+    one_serving (NotPending at) (Tree w) h k = absurd (elsewhere k.0 at h.0 h.1 k.1)
+    one_serving (NotPending at) q h k = absurd k
+    one_serving (NotForm breach) (NoSession m) h k = absurd (gone h.0 k.0 h.1)
+    one_serving (NotForm breach) (NotPending at) h k = absurd (elsewhere h.0 at k.0 k.1 h.1)
+    one_serving (NotForm breach) (NotForm other) h k = ap NotForm (same_breach session step h.0 k.0 h.1 k.1 (has form) breach other h.2 k.2)
+    one_serving (NotForm breach) (NotItem j) h k = absurd (not_form session step h.0 k.0 h.1 k.1 (has form) breach h.2 k.2)
+    one_serving (NotForm breach) (NotSpent m) h k = absurd (not_form session step h.0 k.0 h.1 k.1 (has form) breach h.2 k.2)
+    one_serving (NotForm breach) (Tree w) h k = absurd (not_form session step h.0 k.0 h.1 k.1 (has form) breach h.2 k.2)
+    one_serving (NotForm breach) q h k = absurd k
+    one_serving (NotItem i) (NoSession m) h k = absurd (gone h.0 k.0 h.1)
+    one_serving (NotItem i) (NotPending at) h k = absurd (elsewhere h.0 at k.0 k.1 h.1)
+    one_serving (NotItem i) (NotForm breach) h k = absurd (not_form session step k.0 h.0 k.1 h.1 (has form) breach k.2 h.2)
+    one_serving (NotItem i) (NotItem j) h k = ap NotItem (same_next session step h.0 k.0 h.1 k.1 (has form) i j h.3 k.3)
+    one_serving (NotItem i) (NotSpent m) h k = absurd (h.4 (same_next session step k.0 h.0 k.1 h.1 (has form) item i k.3 h.3))
+    one_serving (NotItem i) (Tree w) h k = absurd (h.4 (same_next session step k.0 h.0 k.1 h.1 (has form) item i k.3 h.3))
+    one_serving (NotItem i) q h k = absurd k
+    one_serving (NotSpent n) (NoSession m) h k = absurd (gone h.0 k.0 h.1)
+    one_serving (NotSpent n) (NotPending at) h k = absurd (elsewhere h.0 at k.0 k.1 h.1)
+    one_serving (NotSpent n) (NotForm breach) h k = absurd (not_form session step k.0 h.0 k.1 h.1 (has form) breach k.2 h.2)
+    one_serving (NotSpent n) (NotItem j) h k = absurd (k.4 (same_next session step h.0 k.0 h.1 k.1 (has form) item j h.3 k.3))
+    one_serving (NotSpent n) (NotSpent m) h k = ap NotSpent (h.5 ∙ sym k.5)
+    one_serving (NotSpent n) (Tree w) h k = absurd (no_tree session step h.0 k.0 h.1 k.1 nodes (claim_of_mark proved) tree h.4 k.4)
+    one_serving (NotSpent n) q h k = absurd k
+    one_serving (Tree v) (NoSession m) h k = absurd (gone h.0 k.0 h.1)
+    one_serving (Tree v) (NotPending at) h k = absurd (elsewhere h.0 at k.0 k.1 h.1)
+    one_serving (Tree v) (NotForm breach) h k = absurd (not_form session step k.0 h.0 k.1 h.1 (has form) breach k.2 h.2)
+    one_serving (Tree v) (NotItem j) h k = absurd (k.4 (same_next session step h.0 k.0 h.1 k.1 (has form) item j h.3 k.3))
+    one_serving (Tree v) (NotSpent m) h k = absurd (no_tree session step k.0 h.0 k.1 h.1 nodes (claim_of_mark proved) tree k.4 h.4)
+    one_serving (Tree v) (Tree w) h k = ap Tree (same_verdict session step h.0 k.0 h.1 k.1 (Some (has form)) tree v w h.5 k.5)
+    one_serving (Tree v) q h k = absurd k
+    one_serving r q h k = absurd h
+
+    may_serve : (r : Illegal) → OfServing r → MayFollow b plan H (Served session step item form proved nodes) tree → ⊥
+    may_serve (NoSession n) h may = gone may.problem h.0 may.is_problem
+    may_serve (NotPending at) h may = elsewhere may.problem at h.0 h.1 may.is_problem
+    may_serve (NotForm breach) h may = not_form session step h.0 may.problem h.1 may.is_problem (has form) breach h.2 may.is_form
+    may_serve (NotItem i) h may = h.4 (same_next session step may.problem h.0 may.is_problem h.1 (has form) item i may.next h.3)
+    may_serve (NotSpent n) h may = no_tree session step h.0 may.problem h.1 may.is_problem nodes (claim_of_mark proved) tree h.4 may.shows.has_tree
+    may_serve (Tree v) h may = h.6 (subst (λ (w : Verdict). IsAsked (claim_of_mark proved) w) (same_verdict session step may.problem h.0 may.is_problem h.1 (Some (has form)) tree may.shows.verdict v may.shows.has_verdict h.5) may.shows.asked)
+    may_serve r h may = h
+
+  -- ---- an answer
+  module _ (session step response : ℕ) (tree : Option ProofTree) where
+    abbrev OfAnswer : Illegal → Type 0
+    OfAnswer r = IsIllegal b plan H (Answered session step response) tree r
+
+    one_answer : (r q : Illegal) → OfAnswer r → OfAnswer q → r ≡ q
+    one_answer (NoSession n) (NoSession m) h k = ap NoSession (h.1 ∙ sym k.1)
+    one_answer (NoSession n) (NotSpent m) h k = absurd (k.0 h.0)
+    one_answer (NoSession n) (NotWaiting at) h k = absurd (none_some (place plan H session) at h.0 k.1)
+    one_answer (NoSession n) (BadResponse m) h k = absurd (none_some (place plan H session) (Waiting step k.1.0 k.1.1) h.0 k.1.2)
+    one_answer (NoSession n) q h k = absurd k
+    one_answer (NotSpent n) (NoSession m) h k = absurd (h.0 k.0)
+    one_answer (NotSpent n) (NotSpent m) h k = ap NotSpent (h.2 ∙ sym k.2)
+    one_answer (NotSpent n) (NotWaiting at) h k = absurd (h.1 k.0)
+    one_answer (NotSpent n) (BadResponse m) h k = absurd (h.1 k.0)
+    one_answer (NotSpent n) q h k = absurd k
+    one_answer (NotWaiting at) (NoSession m) h k = absurd (none_some (place plan H session) at k.0 h.1)
+    one_answer (NotWaiting at) (NotSpent m) h k = absurd (k.1 h.0)
+    one_answer (NotWaiting at) (NotWaiting other) h k = ap NotWaiting (one_value (place plan H session) at other h.1 k.1)
+    one_answer (NotWaiting at) (BadResponse m) h k = absurd (h.2 (waits_at step k.1.0 k.1.1 at (one_value (place plan H session) at (Waiting step k.1.0 k.1.1) h.1 k.1.2)))
+    one_answer (NotWaiting at) q h k = absurd k
+    one_answer (BadResponse n) (NoSession m) h k = absurd (none_some (place plan H session) (Waiting step h.1.0 h.1.1) k.0 h.1.2)
+    one_answer (BadResponse n) (NotSpent m) h k = absurd (k.1 h.0)
+    one_answer (BadResponse n) (NotWaiting at) h k = absurd (k.2 (waits_at step h.1.0 h.1.1 at (one_value (place plan H session) at (Waiting step h.1.0 h.1.1) k.1 h.1.2)))
+    one_answer (BadResponse n) (BadResponse m) h k = ap BadResponse (h.1.3 ∙ (ap (categories b) (one_item (place plan H session) step h.1.0 k.1.0 h.1.1 k.1.1 h.1.2 k.1.2) ∙ sym k.1.3))
+    one_answer (BadResponse n) q h k = absurd k
+    one_answer r q h k = absurd h
+
+    may_answer : (r : Illegal) → OfAnswer r → MayFollow b plan H (Answered session step response) tree → ⊥
+    may_answer (NoSession n) h may = none_some (place plan H session) (Waiting step may.0.item may.0.proved) h.0 may.0.waiting
+    may_answer (NotSpent n) h may = h.1 may.1
+    may_answer (NotWaiting at) h may = h.2 (waits_at step may.0.item may.0.proved at (one_value (place plan H session) at (Waiting step may.0.item may.0.proved) h.1 may.0.waiting))
+    may_answer (BadResponse n) h may =
+        let same = ap (categories b) (one_item (place plan H session) step h.1.0 may.0.item h.1.1 may.0.proved h.1.2 may.0.waiting) in
+        let number = h.1.3 in
+        let high = h.1.4 in
+        let low = may.0.in_range in
+        omega arith
+    may_answer r h may = h
+
+  -- ---- closing
+  module _ (session : ℕ) (tree : Option ProofTree) where
+    abbrev OfClosing : Illegal → Type 0
+    OfClosing r = IsIllegal b plan H (Closed session) tree r
+
+    one_closing : (r q : Illegal) → OfClosing r → OfClosing q → r ≡ q
+    one_closing (NoSession n) (NoSession m) h k = ap NoSession (h.1 ∙ sym k.1)
+    one_closing (NoSession n) (NotSpent m) h k = absurd (k.0 h.0)
+    one_closing (NoSession n) (Ended at) h k = absurd (none_some (place plan H session) at h.0 k.1)
+    one_closing (NoSession n) q h k = absurd k
+    one_closing (NotSpent n) (NoSession m) h k = absurd (h.0 k.0)
+    one_closing (NotSpent n) (NotSpent m) h k = ap NotSpent (h.2 ∙ sym k.2)
+    one_closing (NotSpent n) (Ended at) h k = absurd (h.1 k.0)
+    one_closing (NotSpent n) q h k = absurd k
+    one_closing (Ended at) (NoSession m) h k = absurd (none_some (place plan H session) at k.0 h.1)
+    one_closing (Ended at) (NotSpent m) h k = absurd (k.1 h.0)
+    one_closing (Ended at) (Ended other) h k = ap Ended (one_value (place plan H session) at other h.1 k.1)
+    one_closing (Ended at) q h k = absurd k
+    one_closing r q h k = absurd h
+
+    may_close : (r : Illegal) → OfClosing r → MayFollow b plan H (Closed session) tree → ⊥
+    may_close (NoSession n) h may = none_some (place plan H session) may.0.at h.0 may.0.stands
+    may_close (NotSpent n) h may = h.1 may.1
+    may_close (Ended at) h may = h.2 (subst (λ (p : Place). GoesOn p) (one_value (place plan H session) may.0.at at may.0.stands h.1) may.0.goes_on)
+    may_close r h may = h
+
+pub one_reason : OneReason
+one_reason b plan H (Started session booking eligible) tree r q h k = one_start b plan H session booking eligible tree r q h k
+one_reason b plan H (SetAside session cause nodes) tree r q h k = one_aside b plan H session cause nodes tree r q h k
+one_reason b plan H (Served session step item form proved nodes) tree r q h k = one_serving b plan H session step item form proved nodes tree r q h k
+one_reason b plan H (Answered session step response) tree r q h k = one_answer b plan H session step response tree r q h k
+one_reason b plan H (Closed session) tree r q h k = one_closing b plan H session tree r q h k
+
+pub no_reason_if_may : NoReasonIfMay
+no_reason_if_may b plan H (Started session booking eligible) tree r h may = may_start b plan H session booking eligible tree r h may
+no_reason_if_may b plan H (SetAside session cause nodes) tree r h may = may_aside b plan H session cause nodes tree r h may
+no_reason_if_may b plan H (Served session step item form proved nodes) tree r h may = may_serve b plan H session step item form proved nodes tree r h may
+no_reason_if_may b plan H (Answered session step response) tree r h may = may_answer b plan H session step response tree r h may
+no_reason_if_may b plan H (Closed session) tree r h may = may_close b plan H session tree r h may

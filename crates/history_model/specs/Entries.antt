@@ -1,0 +1,107 @@
+-- What the entries of a history say of a session.
+use Rattle.std.specs.Prelude.{ℕ, ◌-◌, Bool, true, false, ◌==◌, List, [], length, slice_get, Option, Some, None, if◌then◌else◌, count_by, map, unwrap_or}
+use Rattle.std.specs.List.{filter_map, list_any}
+use Rattle.std.specs.Option.{option_map, option_map_or}
+use Rattle.history_model.specs.declared.entry.Entry.{Entry}
+use Rattle.history_model.specs.declared.entry.Entry.TheVariants.{Started, SetAside, Served, Answered, Closed}
+use Rattle.exam_model.specs.declared.seat.Seat.{Seat}
+
+-- ---- one entry
+abbrev pub starts : Entry → Bool
+starts (Started session booking eligible) = true
+starts entry = false
+
+abbrev pub starts_session : ℕ → Entry → Bool
+starts_session s (Started session booking eligible) = session == s
+starts_session s entry = false
+
+-- the eligible set of a Started entry of session s
+abbrev pub eligible_of : ℕ → Entry → Option (List ℕ)
+eligible_of s (Started session booking eligible) = if session == s then Some eligible else None
+eligible_of s entry = None
+
+-- the session of a Started entry for the booking
+abbrev pub holder_of : ℕ → Entry → Option ℕ
+holder_of booking (Started session other eligible) = if other == booking then Some session else None
+holder_of booking entry = None
+
+abbrev pub sets_aside : ℕ → Entry → Bool
+sets_aside s (SetAside session cause nodes) = session == s
+sets_aside s entry = false
+
+-- what a Served entry says: the item of a step, and the form, proved best or not, that it was served from
+pub record Serving : Type 0 where
+  pub step : ℕ
+  pub item : ℕ
+  pub form : List ℕ
+  pub proved : Bool
+
+abbrev pub serving_of : ℕ → Entry → Option Serving
+serving_of s (Served session step item form proved nodes) = if session == s then Some (record { step = step; item = item; form = form; proved = proved }) else None
+serving_of s entry = None
+
+-- what an Answered entry says: the response to the item of a step
+pub record StepAnswer : Type 0 where
+  pub step : ℕ
+  pub response : ℕ
+
+abbrev pub answer_of : ℕ → Entry → Option StepAnswer
+answer_of s (Answered session step response) = if session == s then Some (record { step = step; response = response }) else None
+answer_of s entry = None
+
+abbrev pub closes : ℕ → Entry → Bool
+closes s (Closed session) = session == s
+closes s entry = false
+
+-- ---- a history
+-- the number of sessions
+abbrev pub sessions : List Entry → ℕ
+sessions H = count_by starts H
+
+abbrev pub is_started : List Entry → ℕ → Bool
+is_started H s = list_any (starts_session s) H
+
+-- the session of a booking, if it has one
+abbrev pub holder : List Entry → ℕ → Option ℕ
+holder H booking = slice_get (filter_map (holder_of booking) H) 0
+
+abbrev pub servings : List Entry → ℕ → List Serving
+servings H s = filter_map (serving_of s) H
+
+abbrev pub step_answers : List Entry → ℕ → List StepAnswer
+step_answers H s = filter_map (answer_of s) H
+
+abbrev pub is_set_aside : List Entry → ℕ → Bool
+is_set_aside H s = list_any (sets_aside s) H
+
+abbrev pub is_closed : List Entry → ℕ → Bool
+is_closed H s = list_any (closes s) H
+
+-- the eligible set of the session's Started entry
+abbrev pub eligible_set : List Entry → ℕ → List ℕ
+eligible_set H s = unwrap_or (slice_get (filter_map (eligible_of s) H) 0) []
+
+-- the items served in the session, in order
+abbrev pub shown : List Entry → ℕ → List ℕ
+shown H s = map (λ serving. serving.item) (servings H s)
+
+-- the responses given in the session, in order
+abbrev pub responses : List Entry → ℕ → List ℕ
+responses H s = map (λ answer. answer.response) (step_answers H s)
+
+abbrev pub last_serving : List Entry → ℕ → Option Serving
+last_serving H s = slice_get (servings H s) (length (servings H s) - 1)
+
+-- the seat that a history says: the items served and the responses given, the eligible set, whether eligibility was set
+-- aside, the form last served from with its mark, and whether the session was closed
+abbrev pub seat_of : List Entry → ℕ → Seat
+seat_of H s =
+    record {
+      shown = shown H s;
+      responses = responses H s;
+      eligible = eligible_set H s;
+      aside = is_set_aside H s;
+      form = option_map (λ serving. serving.form) (last_serving H s);
+      proved = option_map_or (λ serving. serving.proved) (last_serving H s) false;
+      closed = is_closed H s;
+    }

@@ -1,0 +1,15 @@
+-- The problem of a session.
+use Rattle.std.specs.Prelude.{◌≡◌, ℕ, List, Some}
+use Rattle.bank_tables.specs.Tables.{Tables}
+use Rattle.history_model.specs.declared.entry.Entry.{Entry}
+use Rattle.history_model.specs.declared.place.Place.TheVariants.{Pending}
+use Rattle.exam_model.specs.Plan.{Plan}
+use Rattle.exam_model.specs.Problem.{Problem}
+use Rattle.exam_model.specs.Seats.{IsSeatProblem}
+use Rattle.history_model.specs.Entries.{seat_of}
+use Rattle.history_model.specs.Places.{place}
+
+-- P is the problem of a session whose step is to be served: that of its seat
+pub record IsProblemOf (b : Tables) (plan : Plan) (H : List Entry) (session step : ℕ) (P : Problem) : Type 0 where
+  pub pending : place plan H session ≡ Some (Pending step)
+  pub of_seat : IsSeatProblem b plan session (seat_of H session) P

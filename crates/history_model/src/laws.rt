@@ -1,0 +1,103 @@
+//! What the definitions imply, for every bank, plan, history and record.
+
+ghost use Rattle.history_model.specs.Laws.{MayIsLegal, BackedIsLegalRun, OneProblem, OneReason, NoReasonIfMay, EachIsLegal, SessionsAreNumbered, SessionsAreFew, FinishedAreFew, StepsAreInOrder, SeatBeforeStart, SeatGoesOn, SeatIsSeat, EligibleIsOfBank, PlaceIsOfSeat, PendingIsOfSeat, CountsGoOn, FinishedGoesOn, LastFormStays, CompleteMeets};
+
+/// What may follow, by its tree, is legal: a form marked proved is best, and eligibility is set aside for the stated cause.
+pub fn may_is_legal()
+    ensures { MayIsLegal }
+{}
+
+/// Records each of which may follow those before it are a legal run.
+pub fn backed_is_legal_run()
+    ensures { BackedIsLegalRun }
+{}
+
+/// A session whose step is to be served has one problem.
+pub fn one_problem()
+    ensures { OneProblem }
+{}
+
+/// A record has at most one reason why it may not follow.
+pub fn one_reason()
+    ensures { OneReason }
+{}
+
+/// A record that may follow has none.
+pub fn no_reason_if_may()
+    ensures { NoReasonIfMay }
+{}
+
+/// What stands before an entry of a legal run is one, and the entry is legal behind it.
+pub fn each_is_legal()
+    ensures { EachIsLegal }
+{}
+
+/// The sessions of a legal run are numbered from 0 to their number less 1.
+pub fn sessions_are_numbered()
+    ensures { SessionsAreNumbered }
+{}
+
+/// They are at most as many as the plan allows.
+pub fn sessions_are_few()
+    ensures { SessionsAreFew }
+{}
+
+/// At most as many sessions are finished as were started.
+pub fn finished_are_few()
+    ensures { FinishedAreFew }
+{}
+
+/// The Served and the Answered entries of a session of a legal run stand in the order of their steps, from 0 on.
+pub fn steps_are_in_order()
+    ensures { StepsAreInOrder }
+{}
+
+/// A session that isn't started has an empty seat.
+pub fn seat_before_start()
+    ensures { SeatBeforeStart }
+{}
+
+/// One legal entry more changes the seat of its session by what it says, and no other.
+pub fn seat_goes_on()
+    ensures { SeatGoesOn }
+{}
+
+/// Each seat of a legal run keeps what a caller knows of one.
+pub fn seat_is_seat()
+    ensures { SeatIsSeat }
+{}
+
+/// The eligible items of each session of a legal run are items of the bank.
+pub fn eligible_is_of_bank()
+    ensures { EligibleIsOfBank }
+{}
+
+/// A session of a legal run stands where its seat does.
+pub fn place_is_of_seat()
+    ensures { PlaceIsOfSeat }
+{}
+
+/// One whose step is to be served has a seat that waits for an item.
+pub fn pending_is_of_seat()
+    ensures { PendingIsOfSeat }
+{}
+
+/// One legal entry more changes the exposure counts only where it finishes its session, and then by that session's seat.
+pub fn counts_go_on()
+    ensures { CountsGoOn }
+{}
+
+/// So it is with the number of finished sessions.
+pub fn finished_goes_on()
+    ensures { FinishedGoesOn }
+{}
+
+/// The form last served from stays a form of the session's problem: so a session that has begun never lacks one.
+pub fn last_form_stays()
+    ensures { LastFormStays }
+{}
+
+/// The items shown in a complete session of a legal run meet the plan.
+pub fn complete_meets()
+    ensures { CompleteMeets }
+{}

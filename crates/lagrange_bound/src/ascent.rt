@@ -1,0 +1,129 @@
+//! Better multipliers.
+
+ghost use Rattle.std.specs.Prelude.{false, IfOk, IsFalse, IsTrue};
+ghost use Rattle.exam_model.specs.Counting.{length_impossible};
+ghost use Rattle.exam_model.specs.Paths.{Path};
+ghost use Rattle.exam_model.specs.Validity.{IsWellMade};
+ghost use Rattle.exam_model.specs.Verdicts.{NamesOnlySides};
+ghost use Rattle.constraint_model.specs.Views.{problem_of};
+ghost use Rattle.lagrange_bound.specs.Bounds.{IsNoHigher, AreInOrder};
+ghost use Rattle.lagrange_bound.specs.Cuts.{IsCut, IsCutOf};
+
+use crate::cut::Cut;
+use crate::relaxation::bound;
+use crate::steps::climb;
+use crate::vectors::{copy_of, names_only_sides};
+use bank_tables::ItemSet;
+use constraint_model::Problem;
+use proof_tree::{Memory, Vector};
+use std::alloc::Global;
+
+/// What subgradient steps aim at: a bound of at most `target`, of the objective or of a ray, within so many steps.
+#[derive(Clone, Copy, Debug, PartialEq, Eq)]
+pub struct Aim {
+    pub ray: bool,
+    pub target: i64,
+    pub steps: u32,
+}
+
+/// What they came to.
+#[derive(Debug, Drop)]
+pub struct Ascent {
+    /// The best vector met.
+    pub vector: Vector,
+    /// Its bound, as the steps computed it.
+    pub bound: i64,
+    /// For each item of the bank the smoothed share of steps in which it was among those of the greatest weight, from 0 to 4,096.
+    pub shares: Vec<u16>,
+    /// A set of items met on the way that seems to be a form better than the target.
+    pub form: Option<ItemSet>,
+}
+
+/// Whether a bound is there, and at most another that is.
+fn is_at_most(to: Option<i64>, from: Option<i64>) -> bool
+    ensures { IsTrue result → AreInOrder to from }
+{
+    match (to, from) {
+        (Some(new), Some(old)) => new <= old,
+        _ => false,
+    }
+}
+
+/// Whether the bound of the vector `to` is at most that of `from`.
+fn is_no_higher(problem: &Problem, cut: &Cut, from: &Vector, to: &Vector, ray: bool) -> bool
+    requires well_made { IsWellMade (problem_of problem.now) }
+    requires cut { IsCut (problem_of problem.now) cut.now }
+    requires from { NamesOnlySides (problem_of problem.now) from.now }
+    requires to { NamesOnlySides (problem_of problem.now) to.now }
+    ensures { IsTrue result → (p : Path) → IsCutOf (problem_of problem.now) p cut.now → IsNoHigher (problem_of problem.now) p ray from.now to.now }
+{
+    is_at_most(bound(problem, cut, to, ray), bound(problem, cut, from, ray))
+}
+
+/// Whole-number subgradient steps from a vector (Held, Wolfe and Crowder, Validation of Subgradient Optimization, 1974).
+/// The vector is valid for the plan, and its bound is at most that of `from`; nothing is promised of the rest.
+pub fn ascend(
+    alloc: Global,
+    problem: &Problem,
+    cut: &Cut,
+    from: &Vector,
+    aim: Aim,
+) -> Result<Ascent, Memory>
+    requires well_made { IsWellMade (problem_of problem.now) }
+    requires cut { IsCut (problem_of problem.now) cut.now }
+    requires sides { NamesOnlySides (problem_of problem.now) from.now }
+    requires possible { (p : Path) → IsCutOf (problem_of problem.now) p cut.now → IsFalse (length_impossible (problem_of problem.now) p) }
+    ensures sides { IfOk result (λ ascent. NamesOnlySides (problem_of problem.now) ascent.vector) }
+    ensures no_higher { IfOk result (λ ascent. (p : Path) → IsCutOf (problem_of problem.now) p cut.now → IsNoHigher (problem_of problem.now) p aim.ray from.now ascent.vector) }
+{
+    let ascent = climb(alloc, problem, cut, from, aim)?;
+    if names_only_sides(problem, &ascent.vector)
+        && is_no_higher(problem, cut, from, &ascent.vector, aim.ray)
+    {
+        return Ok(ascent);
+    }
+    let Ascent {
+        vector: _,
+        bound: _,
+        shares,
+        form,
+    } = ascent;
+    Ok(Ascent {
+        vector: copy_of(alloc, from)?,
+        bound: bound(problem, cut, from, aim.ray).unwrap_or(aim.target),
+        shares,
+        form,
+    })
+}
+
+/// A vector whose bound on the path is at most that of `from`, after at most so many whole-number subgradient steps that
+/// aim at the target.
+pub fn improve(
+    alloc: Global,
+    problem: &Problem,
+    cut: &Cut,
+    from: &Vector,
+    target: u64,
+    steps: u32,
+) -> Result<Vector, Memory>
+    requires well_made { IsWellMade (problem_of problem.now) }
+    requires cut { IsCut (problem_of problem.now) cut.now }
+    requires sides { NamesOnlySides (problem_of problem.now) from.now }
+    requires possible { (p : Path) → IsCutOf (problem_of problem.now) p cut.now → IsFalse (length_impossible (problem_of problem.now) p) }
+    ensures sides { IfOk result (λ vector. NamesOnlySides (problem_of problem.now) vector) }
+    ensures no_higher { IfOk result (λ vector. (p : Path) → IsCutOf (problem_of problem.now) p cut.now → IsNoHigher (problem_of problem.now) p false from.now vector) }
+{
+    let target = target.min(i64::MAX as u64) as i64;
+    let aim = Aim {
+        ray: false,
+        target,
+        steps,
+    };
+    let Ascent {
+        vector,
+        bound: _,
+        shares: _,
+        form: _,
+    } = ascend(alloc, problem, cut, from, aim)?;
+    Ok(vector)
+}

@@ -1,0 +1,73 @@
+//! The level that subgradient steps aim at, and how long they are.
+
+/// The state of the level method.
+#[derive(Clone, Copy)]
+pub(crate) struct Level {
+    /// What the best bound is to come to.
+    pub target: i64,
+    /// The best bound.
+    pub best: i64,
+    /// How far below the best bound the steps aim.
+    delta: i64,
+    /// Steps in a row that gained little or nothing.
+    fails: u32,
+}
+
+/// Steps that gain nothing before the level is brought nearer.
+const PATIENCE: u32 = 4;
+
+impl Level {
+    /// The level after the first bound; the greater the part, the nearer.
+    pub(crate) fn of(target: i64, first: i64, part: i64) -> Level {
+        let gap = first.wrapping_sub(target);
+        Level {
+            target,
+            best: first,
+            delta: gap.checked_div(part).unwrap_or(gap).max(256),
+            fails: 0,
+        }
+    }
+
+    /// Takes the bound of a step, and tells whether it is the best.
+    pub(crate) fn takes(&mut self, bound: i64) -> bool {
+        let fall = self.best.wrapping_sub(bound);
+        if fall > self.delta / 8 {
+            self.fails = 0;
+        } else if fall <= 0 {
+            self.fails = self.fails.wrapping_add(1);
+            if self.fails >= PATIENCE {
+                self.delta = self.delta / 2;
+                self.fails = 0;
+            }
+        }
+        if fall > 0 {
+            self.best = bound;
+        }
+        fall > 0
+    }
+
+    /// Whether the best bound is low enough.
+    pub(crate) fn is_reached(&self) -> bool {
+        self.best <= self.target
+    }
+
+    /// Whether the steps are too short to be worth going on.
+    pub(crate) fn is_stale(&self) -> bool {
+        let gap = self.best.wrapping_sub(self.target);
+        self.delta < (gap / 16).max(16)
+    }
+
+    /// How long a step is from a bound, against a direction of this sum of squares, times 2 to the 32nd.
+    pub(crate) fn length(&self, bound: i64, squares: i64) -> i64 {
+        let aimed = self
+            .best
+            .wrapping_sub(self.delta)
+            .max(self.target.wrapping_sub(64));
+        let over = bound.wrapping_sub(aimed).clamp(0, 1 << 40);
+        let scaled = (over as i128).wrapping_mul(1 << 32);
+        match scaled.checked_div(squares as i128) {
+            Some(length) => length.clamp(0, 1 << 38) as i64,
+            None => 0,
+        }
+    }
+}
