@@ -49,7 +49,7 @@ def set_words(items):
 # ---------------------------------------------------------------- the drill
 
 def drill(number, sessions):
-    """The problem of the program's command `drill`: 120 items, six stimuli, 18 rows, tests of 20 items."""
+    """The problem of the program's command `drill`: 120 items, six stimuli, 17 rows, tests of 20 items."""
     draws, rows = Draws(number), []
     for i in range(120):
         place, height, words = draws.next() % 11, 200 + draws.next() % 801, 30 + draws.next() % 91

@@ -45,7 +45,11 @@ pub fn outcome_words(
     let outcome = assembled.outcome();
     let nodes = assembled.tree().nodes().len();
     let mark = mark(&outcome);
-    let search = "rich";
+    let search = if assembled.searched_plainly() {
+        "plain"
+    } else {
+        "rich"
+    };
     let best = match form_of(&outcome) {
         Some(form) => objective(problem, &form),
         None => 0,

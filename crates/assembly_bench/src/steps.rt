@@ -30,19 +30,38 @@ struct Session<'a> {
     trees: bool,
 }
 
+/// The same problem, made again: no proof is generated where a value that holds references is moved as a whole.
+fn copied<'a>(problem: &Problem<'a>) -> Problem<'a>
+    ensures { result ≡ problem.now }
+{
+    Problem {
+        bank: problem.bank,
+        spec: problem.spec,
+        session: problem.session,
+        step: problem.step,
+        aside: problem.aside,
+        given: problem.given,
+        barred: problem.barred,
+        theta: problem.theta,
+        last: problem.last,
+        start: problem.start,
+    }
+}
+
 /// Assembles a form, and tells what it took.
 fn timed<'a, R: Clock + AllocGlobal>(
     rt: &R,
-    problem: Problem<'a>,
+    problem: &Problem<'a>,
     hint: Option<&ItemSet>,
     budget: u16,
 ) -> Result<(Assembled<'a>, u64)>
-    requires well_made { IsWellMade (problem_of problem) }
+    requires well_made { IsWellMade (problem_of problem.now) }
     requires budget { IsBudget budget }
-    ensures is_true { IfOk result (λ a. IsTrueOutcome (problem_of problem.entry) a.0.outcome) }
+    ensures { IfOk result (λ a. IsTrueOutcome (problem_of problem.now) a.0.outcome) }
 {
+    let copy = copied(problem);
     let start = Instant::now(rt)?;
-    let Ok(assembled) = assemble(rt.alloc(), problem, hint, budget) else {
+    let Ok(assembled) = assemble(rt.alloc(), copy, hint, budget) else {
         bail!("want of memory");
     };
     let took = microseconds(start.elapsed(rt)?);
@@ -69,10 +88,10 @@ fn tell<R: Print + AllocGlobal>(
 }
 
 /// The base form of the plan, assembled and told where the plan names none.
-fn base_form<R: Print + Clock + AllocGlobal>(
+fn base_form<'a, R: Print + Clock + AllocGlobal>(
     rt: &R,
-    bank: &Bank,
-    spec: &Spec,
+    bank: &'a Bank,
+    spec: &'a Spec,
     trees: bool,
 ) -> Result<ItemSet>
     requires { IsPlanFor bank.now spec.now }
@@ -81,7 +100,7 @@ fn base_form<R: Print + Clock + AllocGlobal>(
         return Ok(base);
     }
     let problem = Problem::whole(bank, spec);
-    let (assembled, took) = timed(rt, problem, None, spec.base_budget() as u16)?;
+    let (assembled, took) = timed(rt, &problem, None, spec.base_budget() as u16)?;
     print!(rt; "base ")?;
     tell(rt, &problem, &assembled, took, trees)?;
     println!(rt; "")?;
@@ -107,7 +126,8 @@ fn step<R: Print + Clock + AllocGlobal>(
     let Some(problem) = next_problem(bank, spec, 0, seat) else {
         bail!("more responses than steps");
     };
-    let (assembled, took) = timed(rt, problem, Some(&session.base), spec.budget() as u16)?;
+    let base = session.base;
+    let (assembled, took) = timed(rt, &problem, Some(&base), spec.budget() as u16)?;
     let number = problem.step;
     print!(rt; "step {number} ")?;
     tell(rt, &problem, &assembled, took, session.trees)?;
