@@ -5,20 +5,23 @@ ghost use Rattle.constraint_model.specs.Views.{problem_of};
 ghost use Rattle.lagrange_bound.specs.Cuts.{IsCut};
 ghost use Rattle.form_search.specs.States.{IsPossible};
 
-use crate::branching::branch;
+use crate::branching::{best_of, choices};
 use crate::incumbent::Incumbent;
 use crate::leaves::settled;
 use crate::paths::{Waiting, next_path, push_below, wait};
 use crate::pool::{Pool, closes, copied, empty_vector};
 use crate::priced::Priced;
-use crate::root::Rooted;
-use crate::steps::{steps_on, take_form};
+use crate::probing::best_probed;
+use crate::steps::{Stepped, steps_on, take_form};
 use crate::table::Table;
 use constraint_model::Problem;
 use exam_model::Node;
 use lagrange_bound::{Aim, Ascent, Cut, impossible};
 use proof_tree::{Memory, Vector};
 use std::alloc::Global;
+
+/// Nodes of a tree, at most.
+const MOST_NODES: u32 = 4095;
 
 /// How far a pass may go.
 #[derive(Clone, Copy, Debug)]
@@ -29,6 +32,10 @@ pub struct Limits {
     pub vectors: usize,
     /// Whether it ends early where one that begins anew would be smaller.
     pub restarts: bool,
+    /// How far below what closes a path the steps aim, so that a vector closes other paths too.
+    pub margin: i64,
+    /// Whether branches are tried by steps on both sides.
+    pub probes: bool,
 }
 
 /// What a pass has made so far.
@@ -46,6 +53,7 @@ pub struct Pass {
     pub is_whole: bool,
     /// The objective of the incumbent as the pass began.
     begun: u64,
+    limits: Limits,
 }
 
 impl Pass {
@@ -54,16 +62,16 @@ impl Pass {
         alloc: Global,
         table: &Table,
         incumbent: &Incumbent,
-        rooted: &Rooted,
+        at_root: &Stepped,
         limits: Limits,
     ) -> Result<Pass, Memory> {
         let mut pool = Pool::new(alloc, table, limits.vectors)?;
-        if !rooted.vector.pairs().is_empty() && pool.has_room() {
-            let vector = copied(alloc, &rooted.vector)?;
+        if !at_root.vector.pairs().is_empty() && pool.has_room() {
+            let vector = copied(alloc, &at_root.vector)?;
             let _ = pool.store(Priced::of(alloc, table, vector, false)?)?;
         }
         let mut hands = Vec::new(alloc);
-        hands.push(copied(alloc, &rooted.vector)?)?;
+        hands.push(copied(alloc, &at_root.vector)?)?;
         Ok(Pass {
             nodes: Vec::new(alloc),
             pool,
@@ -72,6 +80,7 @@ impl Pass {
             is_spent: false,
             is_whole: false,
             begun: incumbent.objective,
+            limits,
         })
     }
 
@@ -96,7 +105,7 @@ impl Pass {
         };
         let aim = Aim {
             ray: incumbent.form.is_none(),
-            target: incumbent.top(),
+            target: incumbent.top().wrapping_sub(self.limits.margin),
             steps,
         };
         match self.hands.get(place.hand) {
@@ -105,21 +114,40 @@ impl Pass {
         }
     }
 
-    /// The branch at a path, or Open where the limits allow none.
+    /// The branch at a path after steps there, or Open where the limits allow none.
     fn branch_or_open(
         &mut self,
+        alloc: Global,
+        problem: &Problem,
         table: &Table,
+        incumbent: &Incumbent,
         place: &Waiting,
-        vector: Vector,
-        shares: &[u16],
-    ) -> Result<Node, Memory> {
+        stepped: Stepped,
+    ) -> Result<Node, Memory>
+        requires well_made { IsWellMade (problem_of problem.now) }
+        requires cut { IsCut (problem_of problem.now) place.now.cut }
+    {
         if self.branches == 0 {
             self.is_spent = true;
             return Ok(Node::Open);
         }
         self.branches = self.branches.saturating_sub(1);
-        self.hands.push(vector)?;
-        Ok(branch(table, &place.cut, shares))
+        let choices = choices(alloc, table, &place.cut, stepped.shares.as_slice())?;
+        let node = if self.limits.probes && self.pool.has_room() {
+            best_probed(
+                alloc,
+                problem,
+                incumbent,
+                &place.cut,
+                choices,
+                &stepped.vector,
+                stepped.bound,
+            )?
+        } else {
+            best_of(choices.as_slice())
+        };
+        self.hands.push(stepped.vector)?;
+        Ok(node)
     }
 
     /// The node at a path that no vector of the pool closes, after steps there.
@@ -149,7 +177,7 @@ impl Pass {
                 }
             }
         }
-        self.branch_or_open(table, place, ascent.vector, ascent.shares.as_slice())
+        self.branch_or_open(alloc, problem, table, incumbent, place, Stepped::of(ascent))
     }
 
     /// The node at a path where no row is impossible by counting.
@@ -159,7 +187,7 @@ impl Pass {
         problem: &Problem,
         table: &Table,
         incumbent: &mut Incumbent,
-        rooted: &Rooted,
+        at_root: &Stepped,
         place: &Waiting,
     ) -> Result<Node, Memory>
         requires well_made { IsWellMade (problem_of problem.now) }
@@ -173,8 +201,8 @@ impl Pass {
             return Ok(Node::Open);
         }
         if place.depth == 0 && incumbent.form.is_some() {
-            let vector = copied(alloc, &rooted.vector)?;
-            return self.branch_or_open(table, place, vector, rooted.shares.as_slice());
+            let again = at_root.again(alloc)?;
+            return self.branch_or_open(alloc, problem, table, incumbent, place, again);
         }
         self.explored(alloc, problem, table, incumbent, place)
     }
@@ -186,7 +214,7 @@ impl Pass {
         problem: &Problem,
         table: &Table,
         incumbent: &mut Incumbent,
-        rooted: &Rooted,
+        at_root: &Stepped,
         place: &Waiting,
     ) -> Result<Node, Memory>
         requires well_made { IsWellMade (problem_of problem.now) }
@@ -194,7 +222,7 @@ impl Pass {
     {
         match impossible(problem, &place.cut) {
             Some(row) => Ok(Node::Count(row)),
-            None => self.possible_node(alloc, problem, table, incumbent, rooted, place),
+            None => self.possible_node(alloc, problem, table, incumbent, at_root, place),
         }
     }
 
@@ -210,28 +238,24 @@ impl Pass {
         problem: &Problem,
         table: &Table,
         incumbent: &mut Incumbent,
-        rooted: &Rooted,
+        at_root: &Stepped,
         limits: Limits,
     ) -> Result<Pass, Memory>
         requires { IsWellMade (problem_of problem.now) }
     {
-        let mut pass = Pass::new(alloc, table, incumbent, rooted, limits)?;
+        let mut pass = Pass::new(alloc, table, incumbent, at_root, limits)?;
         let mut waiting = Vec::new(alloc);
-        wait(
-            problem,
-            &mut waiting,
-            Waiting {
-                cut: Cut::root(problem),
-                depth: 0,
-                hand: 0,
-            },
-        )?;
-        for _ in 0..8191 {
+        let first = Waiting {
+            cut: Cut::root(problem),
+            depth: 0,
+            hand: 0,
+        };
+        wait(problem, &mut waiting, first)?;
+        for _ in 0..MOST_NODES {
             let Some(place) = next_path(problem, &mut waiting) else {
-                pass.is_whole = true;
                 break;
             };
-            let node = pass.node_at(alloc, problem, table, incumbent, rooted, &place)?;
+            let node = pass.node_at(alloc, problem, table, incumbent, at_root, &place)?;
             pass.nodes.push(node)?;
             let hand = pass.hands.len().saturating_sub(1);
             push_below(problem, &mut waiting, &place, &node, hand)?;
@@ -239,6 +263,7 @@ impl Pass {
                 break;
             }
         }
+        pass.is_whole = waiting.is_empty();
         Ok(pass)
     }
 }

@@ -41,7 +41,7 @@ pub fn next_path(problem: &Problem, waiting: &mut Vec<Waiting>) -> Option<Waitin
 }
 
 /// The path below a branch, on its first side or the other; the path itself where it can't branch so.
-fn below(problem: &Problem, cut: &Cut, node: &Node, first: bool) -> Cut
+pub fn below(problem: &Problem, cut: &Cut, node: &Node, first: bool) -> Cut
     requires well_made { IsWellMade (problem_of problem.now) }
     requires cut { IsCut (problem_of problem.now) cut.now }
     ensures { IsCut (problem_of problem.now) result }
