@@ -178,16 +178,29 @@ def row_of(result, names):
     return "| " + " | ".join(cells) + " |"
 
 
+# rows that take several banks together
+GROUPS = (
+    ("all drills", lambda name: name.startswith("drill")),
+    ("larger, no stimuli", lambda name: name.endswith(", 0 stimuli")),
+    ("larger, stimuli", lambda name: name.endswith("stimuli") and not name.endswith(", 0 stimuli")),
+)
+
+
+def together(name, group, names):
+    solved = {peer: [s for r in group for s in r.peers[peer]] for peer in names}
+    return Result(name, [s for r in group for s in r.steps], [s for r in group for s in r.bases], solved)
+
+
 def table(results, names):
     heads = ["Bank", "Steps", "Assembler, ms", "Nodes", "Unproved", "Plain"] + ["%s, ms; ratio" % name for name in names]
     print("| " + " | ".join(heads) + " |")
     print("|" + "---|" * len(heads))
     for result in results:
         print(row_of(result, names))
-    drills = [r for r in results if r.name.startswith("drill")]
-    if len(drills) > 1:
-        together = {name: [s for r in drills for s in r.peers[name]] for name in names}
-        print(row_of(Result("all drills", [s for r in drills for s in r.steps], [s for r in drills for s in r.bases], together), names))
+    for name, belongs in GROUPS:
+        group = [r for r in results if belongs(r.name)]
+        if len(group) > 1:
+            print(row_of(together(name, group, names), names))
     print()
     print("Times are median / 95th in a hundred / greatest / mean a step; nodes are median / mean / greatest. A ratio is the mean")
     print("of the peer by that of the assembler. Plain is how often the plain search was called.")

@@ -71,7 +71,7 @@ int main(int argc, char **argv) {
     int cols;
     glp_prob *p = read_model(in, &cols);
     double best = 1e18, spent = 0;
-    for (int k = 0; k < rounds && spent < 2e6; k++) {
+    for (int k = 0; k < rounds && spent < 5e5; k++) {
       glp_iocp parm;
       glp_init_iocp(&parm);
       parm.presolve = GLP_ON;
@@ -140,14 +140,14 @@ int main(int argc, char **argv) {
   while (models--) {
     model m = read_model(in);
     double best = 1e18, spent = 0;
-    for (int k = 0; k < rounds && spent < 2e6; k++) {
+    for (int k = 0; k < rounds && spent < 5e5; k++) {
       Cbc_Model *c = made(&m, limit);
       double start = now();
       Cbc_solve(c);
       double took = now() - start;
       spent += took;
       if (took < best) best = took;
-      if (k == rounds - 1 || spent >= 2e6) {
+      if (k == rounds - 1 || spent >= 5e5) {
         const double *x = Cbc_getColSolution(c);
         fprintf(out, "%.1f %d", best, Cbc_isProvenOptimal(c));
         for (int i = 0; x && i < m.cols; i++) if (x[i] > 0.5) fprintf(out, " %d", i);
@@ -187,7 +187,7 @@ for _ in range(models):
         got = milp(**given)
         took = time.perf_counter() - begin
         best, spent = min(best, took), spent + took
-        if spent > 2:
+        if spent > 0.5:
             break
     ones = [i for i in range(cols) if got.x[i] > 0.5] if got.x is not None else []
     print("%.1f %d" % (best * 1e6, got.status == 0), *ones, file=out)
