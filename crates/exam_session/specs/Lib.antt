@@ -1,0 +1,4 @@
+pub mod Ledgers
+pub mod Kept
+pub mod Claims
+pub mod Waits

@@ -1,0 +1,84 @@
+//! Whether a proof tree shows what a record claims.
+
+ghost use Rattle.std.specs.Prelude.{◌≡◌, ◌↔◌, IsTrue, IfOk, IfErr};
+ghost use Rattle.std.specs.Option.{option_map, option_copied};
+ghost use Rattle.bank_tables.specs.Items.{has};
+ghost use Rattle.exam_model.specs.Validity.{IsWellMade};
+ghost use Rattle.constraint_model.specs.Views.{problem_of};
+ghost use Rattle.history_model.specs.Judging.{claim_of_mark, claim_of_cause, IsAsked, Shows};
+ghost use Rattle.exam_session.specs.Claims.{claim_of, IsNotShown};
+
+use bank_tables::ItemSet;
+use certificate_check::{Verdict, check, spent};
+use constraint_model::Problem;
+use history_model::{Cause, Illegal};
+use proof_tree::Tree;
+
+/// What an entry claims of its tree.
+#[derive(Clone, Copy, Debug, PartialEq, Eq)]
+pub(crate) enum Claim {
+    FormIsBest,
+    NoneIsForm,
+    BudgetIsSpent,
+}
+
+/// What the mark of a form claims.
+pub(crate) fn claim_of_mark(proved: bool) -> Claim
+    ensures { claim_of result ≡ claim_of_mark proved }
+{
+    if proved {
+        Claim::FormIsBest
+    } else {
+        Claim::BudgetIsSpent
+    }
+}
+
+/// What the cause of setting eligibility aside claims.
+pub(crate) fn claim_of_cause(cause: Cause) -> Claim
+    ensures { claim_of result ≡ claim_of_cause cause }
+{
+    match cause {
+        Cause::NoForm => Claim::NoneIsForm,
+        Cause::Spent => Claim::BudgetIsSpent,
+    }
+}
+
+/// Whether a verdict is the one that a claim asks for.
+fn is_asked(claim: Claim, verdict: Verdict) -> bool
+    ensures { IsTrue result ↔ IsAsked (claim_of claim) verdict }
+{
+    match claim {
+        Claim::FormIsBest => verdict == Verdict::Optimal,
+        Claim::NoneIsForm => verdict == Verdict::NoForm,
+        Claim::BudgetIsSpent => matches!(verdict, Verdict::Partial(_)),
+    }
+}
+
+/// Tests whether a tree of so many nodes shows a claim of a problem, with a form or none: NotSpent, then Tree, where it
+/// doesn't.
+pub(crate) fn shows(
+    problem: &Problem,
+    form: Option<&ItemSet>,
+    claim: Claim,
+    nodes: u16,
+    tree: &Option<Tree>,
+) -> Result<(), Illegal>
+    requires { IsWellMade (problem_of problem.now) }
+    ensures shown { IfOk result (λ _. Shows (problem_of problem.now) (option_map has (option_copied form.entry)) problem.now.spec.now.budget nodes (claim_of claim) tree.now) }
+    ensures reason { IfErr result (IsNotShown (problem_of problem.now) (option_map has (option_copied form.entry)) problem.now.spec.now.budget nodes (claim_of claim) tree.now) }
+{
+    let Some(tree) = tree else {
+        return Err(Illegal::NotSpent(nodes));
+    };
+    if tree.nodes().len() != nodes as usize {
+        return Err(Illegal::NotSpent(nodes));
+    }
+    if claim == Claim::BudgetIsSpent && !spent(problem, tree, problem.spec.budget() as u16) {
+        return Err(Illegal::NotSpent(nodes));
+    }
+    let verdict = check(problem, form, tree);
+    if !is_asked(claim, verdict) {
+        return Err(Illegal::Tree(verdict));
+    }
+    Ok(())
+}

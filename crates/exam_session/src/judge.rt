@@ -1,0 +1,198 @@
+//! Whether a record may follow the entries of a book.
+
+ghost use Rattle.std.specs.Prelude.{◌≡◌, ℕ, Option, Some, None, IfOk, IfErr, IfSome, IfNone};
+ghost use Rattle.bank_tables.specs.Items.{has};
+ghost use Rattle.exam_model.specs.Validity.{IsWellMade};
+ghost use Rattle.constraint_model.specs.Views.{problem_of};
+ghost use Rattle.history_model.specs.declared.entry.Entry.TheVariants.{Started, SetAside, Served, Answered, Closed};
+ghost use Rattle.history_model.specs.Draws.{SameItems, IsFirstDifference};
+ghost use Rattle.history_model.specs.SessionProblems.{IsProblemOf};
+ghost use Rattle.history_model.specs.Judging.{MayFollow};
+ghost use Rattle.history_model.specs.Reasons.{IsIllegal};
+ghost use Rattle.exam_session.specs.Waits.{IsNotPending};
+
+use crate::book::Book;
+use crate::claims::{claim_of_cause, claim_of_mark, shows};
+use bank_tables::ItemSet;
+use constraint_model::{Problem, meets};
+use eligibility_draw::draw;
+use exam_records::Record;
+use history_model::{Cause, Entry, Illegal, Place};
+use proof_tree::Tree;
+use shadow_select::next_item;
+
+/// The lowest item at which two sets differ.
+fn first_difference(one: ItemSet, other: ItemSet) -> Option<u16>
+    ensures differ { IfSome result (IsFirstDifference (has one) (has other)) }
+    ensures same { IfNone result (SameItems (has one) (has other)) }
+{
+    one.minus(other).union(other.minus(one)).first()
+}
+
+impl<'a> Book<'a> {
+    /// The problem of a session that waits for an item at a step.
+    fn problem_at(&self, session: u32, step: u16) -> Result<Problem<'a>, Illegal>
+        ensures problem { IfOk result (λ p. IsProblemOf self.now.bank self.now.plan self.now.entries session step (problem_of p)) }
+        ensures well_made { IfOk result (λ p. IsWellMade (problem_of p)) }
+        ensures reason { IfErr result (IsNotPending self.now.plan self.now.entries session step) }
+    {
+        let Some(place) = self.place(session) else {
+            return Err(Illegal::NoSession(self.sessions()));
+        };
+        if place != Place::Pending(step) {
+            return Err(Illegal::NotPending(place));
+        }
+        match self.problem(session) {
+            Some(problem) => Ok(problem),
+            None => unreachable!(),
+        }
+    }
+
+    fn judge_start(
+        &self,
+        session: u32,
+        booking: u64,
+        eligible: ItemSet,
+        tree: &Option<Tree>,
+    ) -> Result<(), Illegal>
+        ensures may { IfOk result (λ _. MayFollow self.now.bank self.now.plan self.now.entries (Started session booking eligible) tree.now) }
+        ensures reason { IfErr result (IsIllegal self.now.bank self.now.plan self.now.entries (Started session booking eligible) tree.now) }
+    {
+        let count = self.sessions();
+        if session != count || session >= self.spec.sessions() {
+            return Err(Illegal::NotNumber(count));
+        }
+        if let Some(holder) = self.booked(booking) {
+            return Err(Illegal::Booked(holder));
+        }
+        let drawn = draw(self.spec.key(), self.spec.rate(), session, &self.counters);
+        if let Some(item) = first_difference(eligible, drawn) {
+            return Err(Illegal::NotDrawn(item));
+        }
+        if tree.is_some() {
+            return Err(Illegal::NotSpent(0));
+        }
+        Ok(())
+    }
+
+    fn judge_aside(
+        &self,
+        session: u32,
+        cause: Cause,
+        nodes: u16,
+        tree: &Option<Tree>,
+    ) -> Result<(), Illegal>
+        ensures may { IfOk result (λ _. MayFollow self.now.bank self.now.plan self.now.entries (SetAside session cause nodes) tree.now) }
+        ensures reason { IfErr result (IsIllegal self.now.bank self.now.plan self.now.entries (SetAside session cause nodes) tree.now) }
+    {
+        let problem = self.problem_at(session, 0)?;
+        if problem.aside {
+            return Err(Illegal::IsAside);
+        }
+        shows(&problem, None, claim_of_cause(cause), nodes, tree)
+    }
+
+    fn judge_serving(
+        &self,
+        session: u32,
+        step: u16,
+        item: u16,
+        form: &ItemSet,
+        proved: bool,
+        nodes: u16,
+        tree: &Option<Tree>,
+    ) -> Result<(), Illegal>
+        ensures may { IfOk result (λ _. MayFollow self.now.bank self.now.plan self.now.entries (Served session step item form.now proved nodes) tree.now) }
+        ensures reason { IfErr result (IsIllegal self.now.bank self.now.plan self.now.entries (Served session step item form.now proved nodes) tree.now) }
+    {
+        let problem = self.problem_at(session, step)?;
+        if let Some(breach) = meets(&problem, form) {
+            return Err(Illegal::NotForm(breach));
+        }
+        let next = next_item(&problem, form);
+        if item != next {
+            return Err(Illegal::NotItem(next));
+        }
+        shows(&problem, Some(form), claim_of_mark(proved), nodes, tree)
+    }
+
+    fn judge_answer(
+        &self,
+        session: u32,
+        step: u16,
+        response: u8,
+        tree: &Option<Tree>,
+    ) -> Result<(), Illegal>
+        ensures may { IfOk result (λ _. MayFollow self.now.bank self.now.plan self.now.entries (Answered session step response) tree.now) }
+        ensures reason { IfErr result (IsIllegal self.now.bank self.now.plan self.now.entries (Answered session step response) tree.now) }
+    {
+        let Some(place) = self.place(session) else {
+            return Err(Illegal::NoSession(self.sessions()));
+        };
+        if tree.is_some() {
+            return Err(Illegal::NotSpent(0));
+        }
+        match place {
+            Place::Waiting { step: at, item, .. } if at == step => {
+                let categories = self.bank.categories(item);
+                if response < categories {
+                    Ok(())
+                } else {
+                    Err(Illegal::BadResponse(categories))
+                }
+            }
+            _ => Err(Illegal::NotWaiting(place)),
+        }
+    }
+
+    fn judge_closing(&self, session: u32, tree: &Option<Tree>) -> Result<(), Illegal>
+        ensures may { IfOk result (λ _. MayFollow self.now.bank self.now.plan self.now.entries (Closed session) tree.now) }
+        ensures reason { IfErr result (IsIllegal self.now.bank self.now.plan self.now.entries (Closed session) tree.now) }
+    {
+        let Some(place) = self.place(session) else {
+            return Err(Illegal::NoSession(self.sessions()));
+        };
+        if tree.is_some() {
+            return Err(Illegal::NotSpent(0));
+        }
+        match place {
+            Place::Pending(_) | Place::Waiting { .. } => Ok(()),
+            Place::Complete | Place::Closed => Err(Illegal::Ended(place)),
+        }
+    }
+
+    /// Tests whether a record may follow the entries of the book, its proof tree included, and says otherwise the first
+    /// reason, in the order of `Illegal`'s variants for the record's kind. Takes no memory.
+    pub fn judge(&self, rec: &Record) -> Result<(), Illegal>
+        ensures may { IfOk result (λ _. MayFollow self.now.bank self.now.plan self.now.entries rec.now.entry rec.now.tree) }
+        ensures reason { IfErr result (IsIllegal self.now.bank self.now.plan self.now.entries rec.now.entry rec.now.tree) }
+    {
+        let Record { entry, tree } = rec;
+        match *entry {
+            Entry::Started {
+                session,
+                booking,
+                eligible,
+            } => self.judge_start(session, booking, eligible, tree),
+            Entry::SetAside {
+                session,
+                cause,
+                nodes,
+            } => self.judge_aside(session, cause, nodes, tree),
+            Entry::Served {
+                session,
+                step,
+                item,
+                form,
+                proved,
+                nodes,
+            } => self.judge_serving(session, step, item, &form, proved, nodes, tree),
+            Entry::Answered {
+                session,
+                step,
+                response,
+            } => self.judge_answer(session, step, response, tree),
+            Entry::Closed { session } => self.judge_closing(session, tree),
+        }
+    }
+}

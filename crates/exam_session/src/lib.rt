@@ -1,0 +1,17 @@
+//! A book of many examinations: the list of their entries, and the seats, bookings and exposure counts that follow from it.
+//! Upward it promises by its type that each entry is legal behind those before it, that what it tells is what the entries
+//! say, and that `judge` lets a record follow exactly where it may, its proof tree included, and otherwise names the first
+//! reason; it writes no journal and assembles no form. Only `new` and `reserve` take memory.
+#![tactic(auto)]
+
+mod apply;
+mod book;
+mod claims;
+mod counting;
+mod judge;
+mod seats;
+
+pub use book::Book;
+pub use exam_records::{Cause, Entry, Record};
+pub use exposure_counters::{Counters, Memory};
+pub use history_model::{Illegal, Place};
