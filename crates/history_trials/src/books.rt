@@ -93,6 +93,11 @@ fn reasons_before_the_form(rt: HostRuntime) -> Result<(), Fail> {
     Ok(())
 }
 
+/// An item is served at the first step of session 0.
+fn served_first(alloc: Global, item: u16, form: &[u16], tree: &[u8]) -> Result<Record, Fail> {
+    served(alloc, 0, (0, item), form, tree)
+}
+
 /// A record of an answer with a tree, which it isn't to have.
 fn answered_with_tree(alloc: Global) -> Result<Record, Fail> {
     Ok(Record {
@@ -111,22 +116,20 @@ fn reasons_from_the_form_on(rt: HostRuntime) -> Result<(), Fail> {
     take(&mut book, alloc, &started(0, 70, &ALL))?;
     let no_form = Illegal::NotForm(Breach::Row(0, 2));
     let not_closed = Illegal::Tree(Verdict::Bad(0, Reason::NotClosed));
-    let served = |at, form, tree| served(alloc, 0, at, form, tree);
+    let other_item = served_first(alloc, 1, &[1, 2, 3], &FIRST_BEST)?;
+    let no_tree = served_first(alloc, 2, &[1, 2, 3], &[])?;
     let refused = [
-        (served((0, 2), &[0, 1, 2], &FIRST_BEST)?, no_form),
-        (
-            served((0, 1), &[1, 2, 3], &FIRST_BEST)?,
-            Illegal::NotItem(2),
-        ),
-        (served((0, 2), &[1, 2, 3], &[])?, Illegal::NotSpent(1)),
+        (served_first(alloc, 2, &[0, 1, 2], &FIRST_BEST)?, no_form),
+        (other_item, Illegal::NotItem(2)),
+        (no_tree, Illegal::NotSpent(1)),
         (answered_with_tree(alloc)?, Illegal::NotSpent(0)),
-        (served((0, 2), &[1, 2, 3], &TOO_HIGH)?, not_closed),
+        (served_first(alloc, 2, &[1, 2, 3], &TOO_HIGH)?, not_closed),
         (answered(0, 0, 1), Illegal::NotWaiting(Place::Pending(0))),
     ];
     for (rec, reason) in &refused {
         assert_eq!(rt; follow(&mut book, alloc, rec)?, Some(*reason));
     }
-    take(&mut book, alloc, &served((0, 2), &[1, 2, 3], &FIRST_BEST)?)?;
+    take(&mut book, alloc, &served_first(alloc, 2, &[1, 2, 3], &FIRST_BEST)?)?;
     let response = follow(&mut book, alloc, &answered(0, 0, 2))?;
     assert_eq!(rt; response, Some(Illegal::BadResponse(2)));
     take(&mut book, alloc, &closed(0))?;
