@@ -129,7 +129,11 @@ fn reasons_from_the_form_on(rt: HostRuntime) -> Result<(), Fail> {
     for (rec, reason) in &refused {
         assert_eq!(rt; follow(&mut book, alloc, rec)?, Some(*reason));
     }
-    take(&mut book, alloc, &served_first(alloc, 2, &[1, 2, 3], &FIRST_BEST)?)?;
+    take(
+        &mut book,
+        alloc,
+        &served_first(alloc, 2, &[1, 2, 3], &FIRST_BEST)?,
+    )?;
     let response = follow(&mut book, alloc, &answered(0, 0, 2))?;
     assert_eq!(rt; response, Some(Illegal::BadResponse(2)));
     take(&mut book, alloc, &closed(0))?;
