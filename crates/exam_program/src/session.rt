@@ -20,18 +20,8 @@ use exam_model::Seat;
 use shadow_select::laws::{
     a_free_item_is_left, a_served_seat_is_a_seat, an_answered_seat_is_a_seat,
 };
-use shadow_select::{next_item, next_problem};
+use shadow_select::{all_items, next_item, next_problem};
 use std::alloc::Global;
-
-fn all_items(bank: &Bank) -> ItemSet
-    ensures { (i : ℕ) → has result i ≡ nat_lt i (size bank.now) }
-{
-    let mut all = ItemSet::empty();
-    for i in 0..bank.items() {
-        all = all.with(i);
-    }
-    all
-}
 
 /// The seat of a session that begins, with all items eligible.
 fn new_seat(bank: &Bank) -> Seat

@@ -1,15 +1,12 @@
 -- What a book keeps beside its entries, so that nothing is counted anew.
-use Rattle.std.specs.Prelude.{◌≡◌, ℕ, ◌+◌, ◌<◌, ◌≤◌, List, length, slice_get, Some}
+use Rattle.std.specs.Prelude.{◌≡◌, ℕ, ◌<◌, List, length, slice_get, Some}
 use Rattle.bank_tables.specs.Tables.{Tables, size}
-use Rattle.bank_tables.specs.Validity.{IsBank}
 use Rattle.history_model.specs.declared.entry.Entry.{Entry}
 use Rattle.history_model.specs.declared.entry.Entry.TheVariants.{Started, SetAside, Served, Answered, Closed}
 use Rattle.exam_model.specs.declared.seat.Seat.{Seat}
 use Rattle.exam_model.specs.Plan.{Plan}
-use Rattle.exam_model.specs.Validity.{IsPlanFor}
 use Rattle.history_model.specs.Entries.{sessions, holder, seat_of}
 use Rattle.history_model.specs.Counts.{counts, finished}
-use Rattle.history_model.specs.Legality.{LegalRun}
 use Rattle.exposure_counters.specs.Tallies.{Tally, counts_at}
 
 -- the seat of each session, by its number

@@ -3,10 +3,11 @@
 ghost use Rattle.std.specs.Prelude.{◌≡◌, ◌↔◌, ℕ, ◌+◌, ◌<◌, ◌≤◌, [], length, Option, Some, None, IsTrue, IsSome, IfOk, IfSome, IfNone, OnOk, OnErr, if◌then◌else◌};
 ghost use Rattle.std.specs.Option.{option_copied};
 ghost use Rattle.std.specs.Vec.{vec_len, vec_capacity};
-ghost use Rattle.bank_tables.specs.Tables.{size};
+ghost use Rattle.bank_tables.specs.Items.{Set};
+ghost use Rattle.exam_model.specs.Forms.{Form};
 ghost use Rattle.exam_model.specs.Validity.{IsPlanFor, IsWellMade};
 ghost use Rattle.constraint_model.specs.Views.{problem_of};
-ghost use Rattle.exposure_counters.specs.Tallies.{counts_at};
+ghost use Rattle.shadow_select.specs.Next.{HasFreeItem};
 ghost use Rattle.history_model.specs.declared.place.Place.TheVariants.{Pending};
 ghost use Rattle.history_model.specs.Entries.{sessions, is_started, holder, seat_of};
 ghost use Rattle.history_model.specs.Places.{place};
@@ -132,11 +133,12 @@ impl<'a> Book<'a> {
         self.seats.get(session as usize)
     }
 
+    #[tactic(auto, using(crate::proofs::BookLaws::placed, crate::proofs::BookLaws::not_placed))]
     /// Where a session stands; none where it isn't there.
     pub fn place(&self, session: u32) -> Option<Place>
         ensures { result ≡ place self.now.plan self.now.entries session }
     {
-        match self.seats.get(session as usize) {
+        match self.seat(session) {
             Some(seat) => Some(seat_place(self.spec, seat)),
             None => None,
         }
@@ -166,9 +168,11 @@ impl<'a> Book<'a> {
     pub fn problem(&self, session: u32) -> Option<Problem<'a>>
         ensures problem { IfSome result (λ p. IsProblemOf self.now.bank self.now.plan self.now.entries session p.step (problem_of p)) }
         ensures well_made { IfSome result (λ p. IsWellMade (problem_of p)) }
+        // a form of it has an item that isn't given
+        ensures free { IfSome result (λ p. (X : Set) → Form (problem_of p) X → HasFreeItem (problem_of p) X) }
         ensures none { IfNone result ((step : ℕ) → place self.now.plan self.now.entries session ≡ Some (Pending step) → ⊥) }
     {
-        match self.seats.get(session as usize) {
+        match self.seat(session) {
             Some(seat) => next_problem(self.bank, self.spec, session, seat),
             None => None,
         }

@@ -1,21 +1,18 @@
 //! What an entry changes in the exposure counts of a book.
 
-ghost use Rattle.std.specs.Prelude.{◌≡◌, ℕ, ◌<◌, ◌||◌, [], ◌∷◌, ◌++◌, List, IsTrue, nat_lt};
-ghost use Rattle.bank_tables.specs.Items.{has};
-ghost use Rattle.bank_tables.specs.Tables.{Tables, size};
-ghost use Rattle.exam_model.specs.Plan.{Plan};
-ghost use Rattle.exam_model.specs.Seats.{is_shown};
+ghost use Rattle.std.specs.Prelude.{◌≡◌, [], ◌∷◌, ◌++◌, List};
 ghost use Rattle.exam_model.specs.Validity.{IsPlanFor};
 ghost use Rattle.history_model.specs.declared.entry.Entry.{Entry};
 ghost use Rattle.history_model.specs.Legality.{Legal, LegalRun};
 ghost use Rattle.history_model.specs.Laws.{finished_by};
 ghost use Rattle.exam_session.specs.Kept.{AreSeats, AreCounts};
 
-use bank_tables::{Bank, ItemSet};
+use bank_tables::Bank;
 use constraint_model::Spec;
 use exam_model::Seat;
 use exposure_counters::Counters;
 use history_model::Entry;
+use shadow_select::{all_items, shown_items};
 
 /// The session that a legal entry finishes: one whose last item is answered, or that is closed.
 fn finished_by(spec: &Spec, entry: &Entry) -> Option<u32>
@@ -28,31 +25,6 @@ fn finished_by(spec: &Spec, entry: &Entry) -> Option<u32>
         Entry::Closed { session } => Some(session),
         _ => None,
     }
-}
-
-/// The items shown.
-fn shown_items(seat: &Seat) -> ItemSet
-    requires { (i : ℕ) → IsTrue (is_shown seat.now i) → i < 512 }
-    ensures { (i : ℕ) → has result i ≡ is_shown seat.now i }
-{
-    let mut items = ItemSet::empty();
-    for place in 0..seat.shown.len() {
-        if let Some(item) = seat.shown.get(place) {
-            items = items.with(item);
-        }
-    }
-    items
-}
-
-/// The items of the bank.
-fn all_items(bank: &Bank) -> ItemSet
-    ensures { (i : ℕ) → has result i ≡ nat_lt i (size bank.now) }
-{
-    let mut all = ItemSet::empty();
-    for item in 0..bank.items() {
-        all = all.with(item);
-    }
-    all
 }
 
 /// Counts the session that an entry finishes, by its seat before the entry.
@@ -76,5 +48,5 @@ pub(crate) fn count_entry(
     } else {
         seat.eligible
     };
-    counters.finish(&shown_items(seat), &eligible);
+    counters.finish(&shown_items(bank, seat), &eligible);
 }

@@ -1,7 +1,9 @@
 //! Whether a record may follow the entries of a book.
 
 ghost use Rattle.std.specs.Prelude.{◌≡◌, ℕ, Option, Some, None, IfOk, IfErr, IfSome, IfNone};
-ghost use Rattle.bank_tables.specs.Items.{has};
+ghost use Rattle.bank_tables.specs.Items.{Set, has};
+ghost use Rattle.exam_model.specs.Forms.{Form};
+ghost use Rattle.shadow_select.specs.Next.{HasFreeItem};
 ghost use Rattle.exam_model.specs.Validity.{IsWellMade};
 ghost use Rattle.constraint_model.specs.Views.{problem_of};
 ghost use Rattle.history_model.specs.declared.entry.Entry.TheVariants.{Started, SetAside, Served, Answered, Closed};
@@ -34,6 +36,7 @@ impl<'a> Book<'a> {
     fn problem_at(&self, session: u32, step: u16) -> Result<Problem<'a>, Illegal>
         ensures problem { IfOk result (λ p. IsProblemOf self.now.bank self.now.plan self.now.entries session step (problem_of p)) }
         ensures well_made { IfOk result (λ p. IsWellMade (problem_of p)) }
+        ensures free { IfOk result (λ p. (X : Set) → Form (problem_of p) X → HasFreeItem (problem_of p) X) }
         ensures reason { IfErr result (IsNotPending self.now.plan self.now.entries session step) }
     {
         let Some(place) = self.place(session) else {
@@ -85,7 +88,10 @@ impl<'a> Book<'a> {
         ensures may { IfOk result (λ _. MayFollow self.now.bank self.now.plan self.now.entries (SetAside session cause nodes) tree.now) }
         ensures reason { IfErr result (IsIllegal self.now.bank self.now.plan self.now.entries (SetAside session cause nodes) tree.now) }
     {
-        let problem = self.problem_at(session, 0)?;
+        let problem = match self.problem_at(session, 0) {
+            Ok(problem) => problem,
+            Err(reason) => return Err(reason),
+        };
         if problem.aside {
             return Err(Illegal::IsAside);
         }
@@ -105,7 +111,10 @@ impl<'a> Book<'a> {
         ensures may { IfOk result (λ _. MayFollow self.now.bank self.now.plan self.now.entries (Served session step item form.now proved nodes) tree.now) }
         ensures reason { IfErr result (IsIllegal self.now.bank self.now.plan self.now.entries (Served session step item form.now proved nodes) tree.now) }
     {
-        let problem = self.problem_at(session, step)?;
+        let problem = match self.problem_at(session, step) {
+            Ok(problem) => problem,
+            Err(reason) => return Err(reason),
+        };
         if let Some(breach) = meets(&problem, form) {
             return Err(Illegal::NotForm(breach));
         }

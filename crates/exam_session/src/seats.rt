@@ -14,14 +14,14 @@ use bank_tables::{ItemSet, Short};
 use exam_model::Seat;
 use history_model::Entry;
 
-/// A seat before its session is started.
-fn no_seat() -> Seat
-    ensures { result ≡ no_seat }
+/// The seat of a session that was just started.
+fn new_seat(eligible: ItemSet) -> Seat
+    ensures { result ≡ record no_seat { eligible = eligible } }
 {
     Seat {
         shown: Short::empty(),
         responses: Short::empty(),
-        eligible: ItemSet::empty(),
+        eligible,
         aside: false,
         form: None,
         proved: false,
@@ -67,6 +67,16 @@ pub(crate) fn session_of(entry: &Entry) -> u32
     }
 }
 
+/// Changes the seat of an entry's session.
+fn change_seat(seats: &mut [Seat], entry: &Entry)
+    requires { IsSeated seats.old entry.now }
+    ensures seats { (b : Tables) (plan : Plan) (H : List Entry) → IsFalse (starts entry.now) → LegalRun b plan H → Legal b plan H entry.now → AreSeats H seats.old → AreSeats (H ++ entry.now ∷ []) seats.new }
+{
+    let session = session_of(entry) as usize;
+    let seat = seats[session];
+    seats[session] = seat_with(seat, entry);
+}
+
 /// Notes an entry in the seats: a start adds one, any other entry changes that of its session.
 pub(crate) fn note_seat(seats: &mut Vec<Seat>, entry: &Entry)
     requires room { IsTrue (starts entry.now) → vec_len seats.old < vec_capacity seats.old }
@@ -75,12 +85,10 @@ pub(crate) fn note_seat(seats: &mut Vec<Seat>, entry: &Entry)
     ensures number { vec_len seats.new ≡ vec_len seats.old + (if starts entry.now then 1 else 0) }
     ensures capacity { vec_capacity seats.new ≡ vec_capacity seats.old }
 {
-    if let Entry::Started { .. } = entry {
-        seats.push_reserved(seat_with(no_seat(), entry));
-        return;
+    match *entry {
+        Entry::Started { eligible, .. } => seats.push_reserved(new_seat(eligible)),
+        _ => change_seat(seats.as_mut_slice(), entry),
     }
-    let session = session_of(entry) as usize;
-    seats[session] = seat_with(seats[session], entry);
 }
 
 /// Notes the booking of a start.

@@ -13,3 +13,4 @@ mod shown;
 pub use exam_model::Seat;
 pub use problem::next_problem;
 pub use serving::next_item;
+pub use shown::{all_items, shown_items};

@@ -1,6 +1,6 @@
 //! The items that a seat was shown.
 
-ghost use Rattle.std.specs.Prelude.{◌≡◌, ℕ, ◌<◌, ◌≤◌, ◌==◌, length, slice_get, IsTrue, IfSome, Some};
+ghost use Rattle.std.specs.Prelude.{◌≡◌, ℕ, ◌<◌, ◌≤◌, ◌==◌, length, nat_lt, slice_get, IsTrue, IfSome, Some};
 ghost use Rattle.std.specs.List.{list_any};
 ghost use Rattle.bank_tables.specs.Items.{has};
 ghost use Rattle.bank_tables.specs.Tables.{size, stimulus};
@@ -19,6 +19,17 @@ pub fn number_at(list: &Short, place: usize) -> u16
         Some(number) => number,
         None => unreachable!(),
     }
+}
+
+/// The items of the bank.
+pub fn all_items(bank: &Bank) -> ItemSet
+    ensures { (i : ℕ) → has result i ≡ nat_lt i (size bank.now) }
+{
+    let mut all = ItemSet::empty();
+    for i in 0..bank.items() {
+        all = all.with(i);
+    }
+    all
 }
 
 /// The items shown.

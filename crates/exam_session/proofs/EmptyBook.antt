@@ -1,0 +1,19 @@
+-- A book of no entries.
+use Rattle.std.proofs.Common.{◌≡◌, ℕ, [], length, refl}
+use Rattle.bank_tables.specs.Tables.{Tables, size}
+use Rattle.exam_model.specs.Plan.{Plan}
+use Rattle.history_model.specs.declared.counts.Counts.{Counts}
+use Rattle.exposure_counters.specs.Tallies.{Tally, counts_at, IsTallyOf}
+use Rattle.exam_session.specs.Kept.{AreSeats, AreBookings, AreCounts}
+
+pub no_seats : AreSeats [] []
+no_seats = record { number = refl; each = λ s seat e. absurd (cc) }
+
+pub no_bookings : AreBookings [] []
+no_bookings = record { number = refl; holds = λ s booking e. absurd (cc); held = λ s booking e. absurd (cc) }
+
+both_zero : (a e : ℕ) → a ≡ 0 → e ≡ 0 → (let x : Counts = record { alpha = a; eps = e } in let z : Counts = record { alpha = 0; eps = 0 } in x ≡ z)
+both_zero a e f g = cc
+
+pub no_counts : (b : Tables) (plan : Plan) (tally : Tally) → length tally.counts ≡ size b → IsTallyOf [] tally → AreCounts b plan [] tally
+no_counts b plan tally number none = record { number = number; each = λ i below. both_zero (counts_at tally i).alpha (counts_at tally i).eps (none.alpha i) (none.eps i); finished = none.number }
