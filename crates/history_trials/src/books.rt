@@ -35,67 +35,112 @@ fn take(book: &mut Book, alloc: Global, rec: &Record) -> Result<(), Fail> {
     }
 }
 
+/// Takes records each of which has to follow.
+fn take_all(book: &mut Book, alloc: Global, records: &[Record]) -> Result<(), Fail> {
+    for rec in records {
+        take(book, alloc, rec)?;
+    }
+    Ok(())
+}
+
+/// Why a record may not follow these records, under a plan with this budget of nodes; none where it may.
+fn reason(
+    alloc: Global,
+    budget: u32,
+    records: &[Record],
+    rec: &Record,
+) -> Result<Option<Illegal>, Fail> {
+    let bank = bank(alloc)?;
+    let spec = Spec::of(alloc, &bank, plan(alloc, budget)?)?;
+    let mut book = Book::new(alloc, &bank, &spec)?;
+    take_all(&mut book, alloc, records)?;
+    Ok(book.judge(rec).err())
+}
+
+/// The item of the first step of session 0 is served.
+fn served_first(alloc: Global, item: u16, form: &[u16], tree: &[u8]) -> Result<Record, Fail> {
+    served(alloc, 0, (0, item), form, tree)
+}
+
 #[test]
 fn after_a_serving(rt: HostRuntime) -> Result<(), Fail> {
     let alloc = rt.alloc();
-    let bank = bank(alloc)?;
-    let spec = Spec::of(alloc, &bank, plan(alloc, 2_001)?)?;
-    let mut book = Book::new(alloc, &bank, &spec)?;
-    take(&mut book, alloc, &started(0, 70, &ALL))?;
-    take(
-        &mut book,
-        alloc,
-        &served(alloc, 0, (0, 2), &[1, 2, 3], &FIRST_BEST)?,
-    )?;
+    let first = served_first(alloc, 2, &[1, 2, 3], &FIRST_BEST)?;
+    let records = [started(0, 70, &ALL), first];
     let waiting = Place::Waiting {
         step: 0,
         item: 2,
         proved: true,
     };
-    let refused = [
-        (started(2, 71, &ALL), Illegal::NotNumber(1)),
-        (started(1, 70, &ALL), Illegal::Booked(0)),
-        (answered(0, 0, 2), Illegal::BadResponse(2)),
-        (answered(0, 1, 0), Illegal::NotWaiting(waiting)),
-        (closed(5), Illegal::NoSession(1)),
-    ];
-    for (rec, reason) in &refused {
-        assert_eq!(rt; follow(&mut book, alloc, rec)?, Some(*reason));
-    }
-    take(&mut book, alloc, &closed(0))
-}
-
-/// Each reason in its order, up to that eligibility was set aside before.
-#[test]
-fn reasons_before_the_form(rt: HostRuntime) -> Result<(), Fail> {
-    let alloc = rt.alloc();
-    let bank = bank(alloc)?;
-    let spec = Spec::of(alloc, &bank, plan(alloc, 1)?)?;
-    let mut book = Book::new(alloc, &bank, &spec)?;
-    let early = follow(&mut book, alloc, &started(1, 70, &ALL))?;
-    assert_eq!(rt; early, Some(Illegal::NotNumber(0)));
-    take(&mut book, alloc, &started(0, 70, &ALL))?;
-    let pending = Illegal::NotPending(Place::Pending(0));
-    let late = served(alloc, 0, (1, 2), &[1, 2, 3], &FIRST_BEST)?;
-    let refused = [
-        (started(1, 70, &ALL), Illegal::Booked(0)),
-        (started(1, 71, &[0, 1, 2, 4, 5]), Illegal::NotDrawn(3)),
-        (started(1, 71, &[0, 1, 2, 3, 4, 5, 6]), Illegal::NotDrawn(6)),
-        (set_aside(alloc, 1)?, Illegal::NoSession(1)),
-        (late, pending),
-    ];
-    for (rec, reason) in &refused {
-        assert_eq!(rt; follow(&mut book, alloc, rec)?, Some(*reason));
-    }
-    take(&mut book, alloc, &set_aside(alloc, 0)?)?;
-    let twice = follow(&mut book, alloc, &set_aside(alloc, 0)?)?;
-    assert_eq!(rt; twice, Some(Illegal::IsAside));
+    let found = reason(alloc, 2_001, &records, &started(2, 71, &ALL))?;
+    assert_eq!(rt; found, Some(Illegal::NotNumber(1)));
+    let found = reason(alloc, 2_001, &records, &started(1, 70, &ALL))?;
+    assert_eq!(rt; found, Some(Illegal::Booked(0)));
+    let found = reason(alloc, 2_001, &records, &answered(0, 0, 2))?;
+    assert_eq!(rt; found, Some(Illegal::BadResponse(2)));
+    let found = reason(alloc, 2_001, &records, &answered(0, 1, 0))?;
+    assert_eq!(rt; found, Some(Illegal::NotWaiting(waiting)));
+    let found = reason(alloc, 2_001, &records, &closed(5))?;
+    assert_eq!(rt; found, Some(Illegal::NoSession(1)));
+    assert_eq!(rt; reason(alloc, 2_001, &records, &closed(0))?, None);
     Ok(())
 }
 
-/// An item is served at the first step of session 0.
-fn served_first(alloc: Global, item: u16, form: &[u16], tree: &[u8]) -> Result<Record, Fail> {
-    served(alloc, 0, (0, item), form, tree)
+/// The reasons of a start, in their order.
+#[test]
+fn reasons_of_a_start(rt: HostRuntime) -> Result<(), Fail> {
+    let alloc = rt.alloc();
+    let found = reason(alloc, 2_001, &[], &started(1, 70, &ALL))?;
+    assert_eq!(rt; found, Some(Illegal::NotNumber(0)));
+    let records = [started(0, 70, &ALL)];
+    let found = reason(alloc, 2_001, &records, &started(1, 70, &ALL))?;
+    assert_eq!(rt; found, Some(Illegal::Booked(0)));
+    let found = reason(alloc, 2_001, &records, &started(1, 71, &[0, 1, 2, 4, 5]))?;
+    assert_eq!(rt; found, Some(Illegal::NotDrawn(3)));
+    let found = reason(
+        alloc,
+        2_001,
+        &records,
+        &started(1, 71, &[0, 1, 2, 3, 4, 5, 6]),
+    )?;
+    assert_eq!(rt; found, Some(Illegal::NotDrawn(6)));
+    Ok(())
+}
+
+/// Those of setting aside, in their order; the last after it was set aside once.
+#[test]
+fn reasons_of_setting_aside(rt: HostRuntime) -> Result<(), Fail> {
+    let alloc = rt.alloc();
+    let records = [started(0, 70, &ALL), set_aside(alloc, 0)?];
+    let found = reason(alloc, 1, &records, &set_aside(alloc, 1)?)?;
+    assert_eq!(rt; found, Some(Illegal::NoSession(1)));
+    let late = served(alloc, 0, (1, 2), &[1, 2, 3], &FIRST_BEST)?;
+    let found = reason(alloc, 1, &records, &late)?;
+    assert_eq!(rt; found, Some(Illegal::NotPending(Place::Pending(0))));
+    let found = reason(alloc, 1, &records, &set_aside(alloc, 0)?)?;
+    assert_eq!(rt; found, Some(Illegal::IsAside));
+    Ok(())
+}
+
+/// Those of a serving, in their order. Of the items 0, 1 and 2 two are of the row that wants one of 0 and 1.
+#[test]
+fn reasons_of_a_serving(rt: HostRuntime) -> Result<(), Fail> {
+    let alloc = rt.alloc();
+    let records = [started(0, 70, &ALL)];
+    let other_form = served_first(alloc, 2, &[0, 1, 2], &FIRST_BEST)?;
+    let found = reason(alloc, 2_001, &records, &other_form)?;
+    assert_eq!(rt; found, Some(Illegal::NotForm(Breach::Row(0, 2))));
+    let other_item = served_first(alloc, 1, &[1, 2, 3], &FIRST_BEST)?;
+    let found = reason(alloc, 2_001, &records, &other_item)?;
+    assert_eq!(rt; found, Some(Illegal::NotItem(2)));
+    let no_tree = served_first(alloc, 2, &[1, 2, 3], &[])?;
+    let found = reason(alloc, 2_001, &records, &no_tree)?;
+    assert_eq!(rt; found, Some(Illegal::NotSpent(1)));
+    let too_high = served_first(alloc, 2, &[1, 2, 3], &TOO_HIGH)?;
+    let found = reason(alloc, 2_001, &records, &too_high)?;
+    let not_closed = Verdict::Bad(0, Reason::NotClosed);
+    assert_eq!(rt; found, Some(Illegal::Tree(not_closed)));
+    Ok(())
 }
 
 /// A record of an answer with a tree, which it isn't to have.
@@ -106,39 +151,22 @@ fn answered_with_tree(alloc: Global) -> Result<Record, Fail> {
     })
 }
 
-/// Each reason in its order, from the form on. Of the items 0, 1 and 2 two are of the row that wants one of 0 and 1.
+/// Those of an answer and of closing, in their order.
 #[test]
-fn reasons_from_the_form_on(rt: HostRuntime) -> Result<(), Fail> {
+fn reasons_of_an_answer(rt: HostRuntime) -> Result<(), Fail> {
     let alloc = rt.alloc();
-    let bank = bank(alloc)?;
-    let spec = Spec::of(alloc, &bank, plan(alloc, 2_001)?)?;
-    let mut book = Book::new(alloc, &bank, &spec)?;
-    take(&mut book, alloc, &started(0, 70, &ALL))?;
-    let no_form = Illegal::NotForm(Breach::Row(0, 2));
-    let not_closed = Illegal::Tree(Verdict::Bad(0, Reason::NotClosed));
-    let other_item = served_first(alloc, 1, &[1, 2, 3], &FIRST_BEST)?;
-    let no_tree = served_first(alloc, 2, &[1, 2, 3], &[])?;
-    let refused = [
-        (served_first(alloc, 2, &[0, 1, 2], &FIRST_BEST)?, no_form),
-        (other_item, Illegal::NotItem(2)),
-        (no_tree, Illegal::NotSpent(1)),
-        (answered_with_tree(alloc)?, Illegal::NotSpent(0)),
-        (served_first(alloc, 2, &[1, 2, 3], &TOO_HIGH)?, not_closed),
-        (answered(0, 0, 1), Illegal::NotWaiting(Place::Pending(0))),
-    ];
-    for (rec, reason) in &refused {
-        assert_eq!(rt; follow(&mut book, alloc, rec)?, Some(*reason));
-    }
-    take(
-        &mut book,
-        alloc,
-        &served_first(alloc, 2, &[1, 2, 3], &FIRST_BEST)?,
-    )?;
-    let response = follow(&mut book, alloc, &answered(0, 0, 2))?;
-    assert_eq!(rt; response, Some(Illegal::BadResponse(2)));
-    take(&mut book, alloc, &closed(0))?;
-    let ended = follow(&mut book, alloc, &closed(0))?;
-    assert_eq!(rt; ended, Some(Illegal::Ended(Place::Closed)));
+    let begun = [started(0, 70, &ALL)];
+    let found = reason(alloc, 2_001, &begun, &answered_with_tree(alloc)?)?;
+    assert_eq!(rt; found, Some(Illegal::NotSpent(0)));
+    let found = reason(alloc, 2_001, &begun, &answered(0, 0, 1))?;
+    assert_eq!(rt; found, Some(Illegal::NotWaiting(Place::Pending(0))));
+    let first = served_first(alloc, 2, &[1, 2, 3], &FIRST_BEST)?;
+    let records = [started(0, 70, &ALL), first];
+    let found = reason(alloc, 2_001, &records, &answered(0, 0, 2))?;
+    assert_eq!(rt; found, Some(Illegal::BadResponse(2)));
+    let over = [started(0, 70, &ALL), closed(0)];
+    let found = reason(alloc, 2_001, &over, &closed(0))?;
+    assert_eq!(rt; found, Some(Illegal::Ended(Place::Closed)));
     Ok(())
 }
 
