@@ -5,8 +5,9 @@ use crate::worked::{
     ALL, FIRST_BEST, SECOND_BEST, answered, bank, closed, plan, served, set_aside, set_of, started,
     tree_of,
 };
+use bank_tables::Short;
 use constraint_model::{Breach, Spec};
-use exam_model::{Reason, Verdict};
+use exam_model::{Reason, Seat, Verdict};
 use exam_records::Record;
 use exam_session::{Book, Counters, Illegal, Place};
 use history_model::laws::may_is_legal;
@@ -18,10 +19,10 @@ const TOO_HIGH: [u8; 11] = [1, 0, 1, 0, 3, 0, 0, 0x10, 0, 3, 0];
 
 /// Takes the record into the book where it may follow, else gives the reason.
 fn follow(book: &mut Book, alloc: Global, rec: &Record) -> Result<Option<Illegal>, Fail> {
+    book.reserve(alloc)?;
     if let Err(reason) = book.judge(rec) {
         return Ok(Some(reason));
     }
-    book.reserve(alloc)?;
     may_is_legal();
     book.apply(rec.entry);
     Ok(None)
@@ -62,27 +63,39 @@ fn served_first(alloc: Global, item: u16, form: &[u16], tree: &[u8]) -> Result<R
     served(alloc, 0, (0, item), form, tree)
 }
 
+/// Session 0, after its first item was served.
+fn first_served(alloc: Global) -> Result<Vec<Record>, Fail> {
+    let mut records = Vec::new(alloc);
+    records.push(started(0, 70, &ALL))?;
+    records.push(served_first(alloc, 2, &[1, 2, 3], &FIRST_BEST)?)?;
+    Ok(records)
+}
+
+/// Why a record may not follow the first serving; none where it may.
+fn reason_then(alloc: Global, rec: &Record) -> Result<Option<Illegal>, Fail> {
+    let records = first_served(alloc)?;
+    reason(alloc, 2_001, &records, rec)
+}
+
 #[test]
 fn after_a_serving(rt: HostRuntime) -> Result<(), Fail> {
     let alloc = rt.alloc();
-    let first = served_first(alloc, 2, &[1, 2, 3], &FIRST_BEST)?;
-    let records = [started(0, 70, &ALL), first];
     let waiting = Place::Waiting {
         step: 0,
         item: 2,
         proved: true,
     };
-    let found = reason(alloc, 2_001, &records, &started(2, 71, &ALL))?;
+    let found = reason_then(alloc, &started(2, 71, &ALL))?;
     assert_eq!(rt; found, Some(Illegal::NotNumber(1)));
-    let found = reason(alloc, 2_001, &records, &started(1, 70, &ALL))?;
+    let found = reason_then(alloc, &started(1, 70, &ALL))?;
     assert_eq!(rt; found, Some(Illegal::Booked(0)));
-    let found = reason(alloc, 2_001, &records, &answered(0, 0, 2))?;
+    let found = reason_then(alloc, &answered(0, 0, 2))?;
     assert_eq!(rt; found, Some(Illegal::BadResponse(2)));
-    let found = reason(alloc, 2_001, &records, &answered(0, 1, 0))?;
+    let found = reason_then(alloc, &answered(0, 1, 0))?;
     assert_eq!(rt; found, Some(Illegal::NotWaiting(waiting)));
-    let found = reason(alloc, 2_001, &records, &closed(5))?;
+    let found = reason_then(alloc, &closed(5))?;
     assert_eq!(rt; found, Some(Illegal::NoSession(1)));
-    assert_eq!(rt; reason(alloc, 2_001, &records, &closed(0))?, None);
+    assert_eq!(rt; reason_then(alloc, &closed(0))?, None);
     Ok(())
 }
 
@@ -111,7 +124,9 @@ fn reasons_of_a_start(rt: HostRuntime) -> Result<(), Fail> {
 #[test]
 fn reasons_of_setting_aside(rt: HostRuntime) -> Result<(), Fail> {
     let alloc = rt.alloc();
-    let records = [started(0, 70, &ALL), set_aside(alloc, 0)?];
+    let mut records = Vec::new(alloc);
+    records.push(started(0, 70, &ALL))?;
+    records.push(set_aside(alloc, 0)?)?;
     let found = reason(alloc, 1, &records, &set_aside(alloc, 1)?)?;
     assert_eq!(rt; found, Some(Illegal::NoSession(1)));
     let late = served(alloc, 0, (1, 2), &[1, 2, 3], &FIRST_BEST)?;
@@ -160,9 +175,7 @@ fn reasons_of_an_answer(rt: HostRuntime) -> Result<(), Fail> {
     assert_eq!(rt; found, Some(Illegal::NotSpent(0)));
     let found = reason(alloc, 2_001, &begun, &answered(0, 0, 1))?;
     assert_eq!(rt; found, Some(Illegal::NotWaiting(Place::Pending(0))));
-    let first = served_first(alloc, 2, &[1, 2, 3], &FIRST_BEST)?;
-    let records = [started(0, 70, &ALL), first];
-    let found = reason(alloc, 2_001, &records, &answered(0, 0, 2))?;
+    let found = reason_then(alloc, &answered(0, 0, 2))?;
     assert_eq!(rt; found, Some(Illegal::BadResponse(2)));
     let over = [started(0, 70, &ALL), closed(0)];
     let found = reason(alloc, 2_001, &over, &closed(0))?;
@@ -181,75 +194,100 @@ fn counts_of(alloc: Global, counters: &Counters) -> Result<Vec<(u32, u32)>, Fail
 }
 
 /// Session 0 was served two items and waits for the second answer, session 1 for the first.
-fn take_two_sessions(book: &mut Book, alloc: Global) -> Result<(), Fail> {
-    take(book, alloc, &started(0, 70, &ALL))?;
-    take(
-        book,
-        alloc,
-        &served(alloc, 0, (0, 2), &[1, 2, 3], &FIRST_BEST)?,
-    )?;
-    take(book, alloc, &started(1, 71, &ALL))?;
-    take(
-        book,
-        alloc,
-        &served(alloc, 1, (0, 2), &[1, 2, 3], &FIRST_BEST)?,
-    )?;
-    take(book, alloc, &answered(0, 0, 1))?;
-    take(
-        book,
-        alloc,
-        &served(alloc, 0, (1, 4), &[1, 2, 4], &SECOND_BEST)?,
-    )
+fn two_sessions(alloc: Global) -> Result<Vec<Record>, Fail> {
+    let mut records = first_served(alloc)?;
+    records.push(started(1, 71, &ALL))?;
+    records.push(served(alloc, 1, (0, 2), &[1, 2, 3], &FIRST_BEST)?)?;
+    records.push(answered(0, 0, 1))?;
+    records.push(served(alloc, 0, (1, 4), &[1, 2, 4], &SECOND_BEST)?)?;
+    Ok(records)
+}
+
+/// The exposure counts after these records.
+fn counts_after(alloc: Global, records: &[Record]) -> Result<Vec<(u32, u32)>, Fail> {
+    let bank = bank(alloc)?;
+    let spec = Spec::of(alloc, &bank, plan(alloc, 2_001)?)?;
+    let mut book = Book::new(alloc, &bank, &spec)?;
+    take_all(&mut book, alloc, records)?;
+    counts_of(alloc, book.counters())
 }
 
 #[test]
 fn counts_of_a_closed_session(rt: HostRuntime) -> Result<(), Fail> {
     let alloc = rt.alloc();
+    let mut records = two_sessions(alloc)?;
+    let before = counts_after(alloc, &records)?;
+    assert_eq!(rt; before.as_slice(), [(0, 0); 6].as_slice());
+    records.push(closed(1))?;
+    let after = counts_after(alloc, &records)?;
+    let expected = [(0, 1), (0, 1), (1, 1), (0, 1), (0, 1), (0, 1)];
+    assert_eq!(rt; after.as_slice(), expected.as_slice());
+    Ok(())
+}
+
+/// What a book tells.
+#[derive(Clone, Copy, Debug, PartialEq, Eq)]
+struct Told {
+    entries: u64,
+    sessions: u32,
+    finished: u32,
+    booked: (Option<u32>, Option<u32>),
+    places: (Option<Place>, Option<Place>),
+    seat: Option<Seat>,
+}
+
+/// What a book tells after these records, of bookings 71 and 72, and of sessions 0 and 2.
+fn told(alloc: Global, records: &[Record]) -> Result<Told, Fail> {
     let bank = bank(alloc)?;
     let spec = Spec::of(alloc, &bank, plan(alloc, 2_001)?)?;
     let mut book = Book::new(alloc, &bank, &spec)?;
-    take_two_sessions(&mut book, alloc)?;
-    assert_eq!(rt; book.counters().finished(), 0);
-    let before = counts_of(alloc, book.counters())?;
-    assert_eq!(rt; before.as_slice(), [(0, 0); 6].as_slice());
-    take(&mut book, alloc, &closed(1))?;
-    assert_eq!(rt; book.counters().finished(), 1);
-    let after = counts_of(alloc, book.counters())?;
-    let expected = [(0, 1), (0, 1), (1, 1), (0, 1), (0, 1), (0, 1)];
-    assert_eq!(rt; after.as_slice(), expected.as_slice());
-    assert_eq!(rt; book.place(1), Some(Place::Closed));
-    Ok(())
+    take_all(&mut book, alloc, records)?;
+    Ok(Told {
+        entries: book.entries(),
+        sessions: book.sessions(),
+        finished: book.counters().finished(),
+        booked: (book.booked(71), book.booked(72)),
+        places: (book.place(0), book.place(2)),
+        seat: book.seat(0).copied(),
+    })
+}
+
+/// A short list of these numbers.
+fn short(numbers: &[u16]) -> Short {
+    let mut list = Short::empty();
+    for number in numbers {
+        if list.len() < 512 {
+            list.push(*number);
+        }
+    }
+    list
 }
 
 #[test]
 fn what_a_book_tells(rt: HostRuntime) -> Result<(), Fail> {
     let alloc = rt.alloc();
-    let bank = bank(alloc)?;
-    let spec = Spec::of(alloc, &bank, plan(alloc, 2_001)?)?;
-    let mut book = Book::new(alloc, &bank, &spec)?;
-    take_two_sessions(&mut book, alloc)?;
-    assert_eq!(rt; book.entries(), 6);
-    assert_eq!(rt; book.sessions(), 2);
-    assert_eq!(rt; book.booked(71), Some(1));
-    assert_eq!(rt; book.booked(72), None);
     let waiting = Place::Waiting {
         step: 1,
         item: 4,
         proved: true,
     };
-    assert_eq!(rt; book.place(0), Some(waiting));
-    assert_eq!(rt; book.place(2), None);
-    let Some(seat) = book.seat(0) else {
-        return Err(Fail::from("a seat"));
+    let seat = Seat {
+        shown: short(&[2, 4]),
+        responses: short(&[1]),
+        eligible: set_of(&ALL),
+        aside: false,
+        form: Some(set_of(&[1, 2, 4])),
+        proved: true,
+        closed: false,
     };
-    assert_eq!(rt; (seat.shown.len(), seat.responses.len()), (2, 1));
-    assert_eq!(rt; (seat.shown.get(0), seat.shown.get(1)), (Some(2), Some(4)));
-    assert_eq!(rt; seat.responses.get(0), Some(1));
-    assert_eq!(rt; seat.eligible, set_of(&ALL));
-    assert_eq!(rt; seat.form, Some(set_of(&[1, 2, 4])));
-    assert_eq!(rt;
-        (seat.aside, seat.proved, seat.closed),
-        (false, true, false)
-    );
+    let expected = Told {
+        entries: 6,
+        sessions: 2,
+        finished: 0,
+        booked: (Some(1), None),
+        places: (Some(waiting), None),
+        seat: Some(seat),
+    };
+    assert_eq!(rt; told(alloc, &two_sessions(alloc)?)?, expected);
     Ok(())
 }
