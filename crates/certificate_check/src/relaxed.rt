@@ -16,8 +16,8 @@ ghost use Rattle.certificate_check.specs.Weights.{IsWithin, stimulus_top};
 use crate::activity::size_in;
 use crate::sides::sides_of;
 use crate::standing::Standing;
-use crate::top::{item_weights, sum_of, top_of};
-use crate::weights::{constant_weight, stimulus_weight};
+use crate::top::{sum_of, top_of};
+use crate::weights::{constant_weight, item_weights, stimulus_weight};
 use constraint_model::Problem;
 
 /// What a stimulus adds at most: its weight if chosen, and if open its weight where that is positive.

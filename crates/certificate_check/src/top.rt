@@ -10,23 +10,7 @@ ghost use Rattle.certificate_check.specs.Sides.{AreMultipliers};
 ghost use Rattle.certificate_check.specs.Tops.{IsNextBest, IsTopOf};
 ghost use Rattle.certificate_check.specs.Weights.{IsWithin, at, item_top, item_weight};
 
-use crate::weights::item_weight;
 use bank_tables::ItemSet;
-use constraint_model::Problem;
-
-/// The weight of each item of the bank.
-pub fn item_weights(problem: &Problem, sides: &[u32; 384], ray: bool) -> [i64; 512]
-    requires well_made { IsWellMade (problem_of problem.now) }
-    requires sides { AreMultipliers (slice_index sides.now) }
-    ensures value { (i : ℕ) → i < size problem.now.bank.now → at result i ≡ item_weight (problem_of problem.now) (slice_index sides.now) ray i }
-    ensures within { (i : ℕ) → i < size problem.now.bank.now → IsWithin item_top (at result i) }
-{
-    let mut weights = [0i64; 512];
-    for i in 0..problem.bank.items() {
-        weights[i as usize] = item_weight(problem, sides, ray, i);
-    }
-    weights
-}
 
 /// The weight of an item that is in the set, else 0.
 fn weight_in(weights: &[i64; 512], items: &ItemSet, item: u16) -> i64
