@@ -62,13 +62,7 @@ fn heavier(weights: &[i64; 512], first: Option<u16>, second: Option<u16>) -> Opt
 }
 
 /// Of the first n items one of the greatest weight in a block that is free and not taken.
-fn leader(
-    weights: &[i64; 512],
-    n: u16,
-    free: &ItemSet,
-    taken: &ItemSet,
-    block: u16,
-) -> Option<u16>
+fn leader(weights: &[i64; 512], n: u16, free: &ItemSet, taken: &ItemSet, block: u16) -> Option<u16>
     requires few { n ≤ 512 }
     requires block { block < 32 }
     ensures { IsBest (16 * block) (16 * block + 16) n weights.now (has free.now) (has taken.now) result }
@@ -96,12 +90,7 @@ fn leader(
 }
 
 /// The leader of each block.
-fn leaders_of(
-    weights: &[i64; 512],
-    n: u16,
-    free: &ItemSet,
-    taken: &ItemSet,
-) -> [Option<u16>; 32]
+fn leaders_of(weights: &[i64; 512], n: u16, free: &ItemSet, taken: &ItemSet) -> [Option<u16>; 32]
     requires { n ≤ 512 }
     ensures { AreLeaders n weights.now (has free.now) (has taken.now) result }
 {

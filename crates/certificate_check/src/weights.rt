@@ -161,7 +161,7 @@ fn add_row_at(problem: &Problem, sides: &[u32; 384], r: usize, weights: &mut [i6
 }
 
 /// What the rows add to the weight of each stimulus.
-fn rows_stimulus(problem: &Problem, sides: &[u32; 384]) -> i64
+pub fn rows_stimulus(problem: &Problem, sides: &[u32; 384]) -> i64
     requires well_made { IsWellMade (problem_of problem.now) }
     requires sides { AreMultipliers (slice_index sides.now) }
     ensures value { result ≡ total_z (length problem.now.spec.now.rows) (row_stimulus (problem_of problem.now) (slice_index sides.now)) }
@@ -245,10 +245,12 @@ pub fn item_weights(problem: &Problem, sides: &[u32; 384], ray: bool) -> [i64; 5
     weights
 }
 
-/// The weight of a stimulus.
-pub fn stimulus_weight(problem: &Problem, sides: &[u32; 384], which: u8) -> i64
+/// The weight of a stimulus, from what the rows add to it.
+pub fn stimulus_weight(problem: &Problem, sides: &[u32; 384], rows: i64, which: u8) -> i64
     requires well_made { IsWellMade (problem_of problem.now) }
     requires sides { AreMultipliers (slice_index sides.now) }
+    requires rows { rows ≡ total_z (length problem.now.spec.now.rows) (row_stimulus (problem_of problem.now) (slice_index sides.now)) }
+    requires few { IsWithin (128 * (16777216 * 65535)) rows }
     requires first { 0 < which }
     requires last { which ≤ stimuli_of problem.now.bank.now }
     ensures value { result ≡ stimulus_weight (problem_of problem.now) (slice_index sides.now) which }
@@ -257,5 +259,5 @@ pub fn stimulus_weight(problem: &Problem, sides: &[u32; 384], which: u8) -> i64
     let place = which as usize - 1;
     let bound = problem.spec.bounds()[place];
     let side = 2 * problem.spec.rows().len() + 2 * place;
-    bounds_weight(sides, side, bound.low, bound.high) + rows_stimulus(problem, sides)
+    bounds_weight(sides, side, bound.low, bound.high) + rows
 }
