@@ -2,6 +2,7 @@
 
 use crate::table::{Entry, Limits, Table, amount_in};
 use bank_tables::ItemSet;
+use lagrange_bound::Cut;
 
 /// What a set of items comes to.
 #[derive(Clone, Copy, Debug)]
@@ -107,6 +108,39 @@ impl Tally {
         sum
     }
 
+    /// Whether a row or stimulus has too much in this set, or too little in the other, which has all that may come.
+    pub fn rules_out(&self, table: &Table, all: &Tally, cut: &Cut) -> bool {
+        let chosen = cut.chosen.count() as i64;
+        let usable = chosen.wrapping_add(cut.opened.count() as i64);
+        let mut row = 0u8;
+        for limits in table.rows.as_slice() {
+            let (least, most) = if limits.of_stimuli {
+                (chosen, usable)
+            } else {
+                (self.on_row(row), all.on_row(row))
+            };
+            if least > limits.high || most < limits.low {
+                return true;
+            }
+            row = row.saturating_add(1);
+        }
+        self.rules_out_stimulus(table, all, cut)
+    }
+
+    /// The same of the stimuli alone; one that is only open may have no item.
+    fn rules_out_stimulus(&self, table: &Table, all: &Tally, cut: &Cut) -> bool {
+        let mut stimulus = 1u8;
+        for limits in table.stimuli.as_slice() {
+            let is_short = all.on_stimulus(stimulus) < limits.low;
+            let is_chosen = cut.chosen.has(stimulus as u16);
+            if self.on_stimulus(stimulus) > limits.high || is_chosen && is_short {
+                return true;
+            }
+            stimulus = stimulus.saturating_add(1);
+        }
+        false
+    }
+
     /// How the excess of a row changes where so much is added to it.
     fn row_change(&self, table: &Table, row: u8, added: i64) -> i64 {
         match table.rows.get(row as usize) {
@@ -184,4 +218,15 @@ impl Tally {
         self.rows_change(table, leaves, comes)
             .wrapping_add(self.stimuli_change(table, leaves, comes))
     }
+}
+
+/// Whether a row is impossible by counting on a path: by the table the answer takes a quarter of the time that `impossible`
+/// takes, which names the row.
+pub fn is_ruled_out(table: &Table, cut: &Cut) -> bool {
+    let taken = cut.taken.count();
+    if taken > table.length || taken.saturating_add(cut.free.count()) < table.length {
+        return true;
+    }
+    let all = Tally::of(table, &cut.taken.union(cut.free));
+    Tally::of(table, &cut.taken).rules_out(table, &all, cut)
 }
