@@ -27,6 +27,9 @@ const MOST_NODES: u32 = 4095;
 const AFTER_PROBE: u32 = 25;
 
 /// x
+const PROBE_DEPTH: u32 = 100;
+
+/// x
 const REUSE: i64 = 1;
 
 /// x
@@ -186,10 +189,10 @@ impl Pass {
             return Ok(Node::Open);
         }
         self.branches = self.branches.saturating_sub(1);
-        let probes = if self.limits.restarts { FIRST_PROBES } else { PROBES };
+        let probes = if self.limits.restarts { if place.depth < PROBE_DEPTH { FIRST_PROBES } else { 1 } } else { PROBES };
         let choices = choices(alloc, table, &place.cut, stepped.shares.as_slice(), probes.max(1))?;
         if self.pool.has_room() && probes > 1 {
-            let best = best_probed(alloc, problem, table, incumbent, &place.cut, choices.as_slice(), &stepped, self.limits.margin)?;
+            let best = best_probed(alloc, problem, table, &self.pool, incumbent, &place.cut, choices.as_slice(), &stepped, self.limits.margin)?;
             if let Some(probe) = best {
                 let Probe { node, score: _, mut first, mut other } = probe;
                 let lim = if REUSE == 0 { i64::MIN } else if REUSE == 1 { i64::MAX } else { incumbent.top() };

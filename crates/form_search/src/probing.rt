@@ -7,7 +7,7 @@ ghost use Rattle.lagrange_bound.specs.Cuts.{IsCut};
 use crate::branching::Choice;
 use crate::incumbent::Incumbent;
 use crate::paths::below;
-use crate::pool::empty_vector;
+use crate::pool::{Pool, empty_vector};
 use crate::steps::{Stepped, take_form};
 use crate::table::Table;
 use crate::tally::is_ruled_out;
@@ -16,6 +16,9 @@ use exam_model::Node;
 use lagrange_bound::{Aim, Cut, climb};
 use proof_tree::{Memory, Vector};
 use std::alloc::Global;
+
+/// x
+const ENOUGH: i64 = 0;
 
 /// x
 const PROBE_MARGIN: i64 = 1;
@@ -47,6 +50,7 @@ fn side_of(
     alloc: Global,
     problem: &Problem,
     table: &Table,
+    pool: &Pool,
     incumbent: &mut Incumbent,
     side: &Cut,
     from: &Vector,
@@ -55,7 +59,7 @@ fn side_of(
     requires well_made { IsWellMade (problem_of problem.now) }
     requires cut { IsCut (problem_of problem.now) side.now }
 {
-    if is_ruled_out(table, side) {
+    if is_ruled_out(table, side) || pool.has_closing(table, incumbent, side) {
         return Ok(Hand {
             vector: empty_vector(alloc),
             bound: i64::MIN,
@@ -86,6 +90,7 @@ pub fn probed(
     alloc: Global,
     problem: &Problem,
     table: &Table,
+    pool: &Pool,
     incumbent: &mut Incumbent,
     cut: &Cut,
     node: Node,
@@ -98,13 +103,13 @@ pub fn probed(
 {
     let most = stepped.bound.saturating_sub(incumbent.top()).max(0);
     let side = below(problem, cut, &node, true);
-    let first = side_of(alloc, problem, table, incumbent, &side, &stepped.vector, margin)?;
+    let first = side_of(alloc, problem, table, pool, incumbent, &side, &stepped.vector, margin)?;
     let gain = gain_of(&first, stepped.bound, most);
     if gain.wrapping_mul(LEAST_COUNTS).wrapping_add(most) <= least {
         return Ok(None);
     }
     let side = below(problem, cut, &node, false);
-    let other = side_of(alloc, problem, table, incumbent, &side, &stepped.vector, margin)?;
+    let other = side_of(alloc, problem, table, pool, incumbent, &side, &stepped.vector, margin)?;
     let other_gain = gain_of(&other, stepped.bound, most);
     let score = gain
         .min(other_gain)
@@ -123,6 +128,7 @@ pub fn best_probed(
     alloc: Global,
     problem: &Problem,
     table: &Table,
+    pool: &Pool,
     incumbent: &mut Incumbent,
     cut: &Cut,
     choices: &[Choice],
@@ -138,10 +144,15 @@ pub fn best_probed(
             Some(old) => old.score,
             None => i64::MIN,
         };
+        let most = stepped.bound.saturating_sub(incumbent.top()).max(0);
+        if least >= most.wrapping_mul(7 - ENOUGH) {
+            break;
+        }
         let probe = probed(
             alloc,
             problem,
             table,
+            pool,
             incumbent,
             cut,
             choice.node,

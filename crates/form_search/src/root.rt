@@ -16,16 +16,16 @@ use proof_tree::{Memory, Vector};
 use std::alloc::Global;
 
 /// Steps of a piece at the root.
-const PIECE: u32 = 60;
+const PIECE: u32 = 100;
 
 /// Pieces at the root, at most.
-const PIECES: u32 = 4;
+const PIECES: u32 = 3;
 
 /// How far below its bound steps at the root aim as long as there is no form.
 const FIRST_WAY: i64 = 12_800;
 
 /// The least that a piece has to gain for another one to follow.
-const LEAST_GAIN: i64 = 8;
+const LEAST_GAIN: i64 = 512;
 
 /// What steps at the root aim at: to close it, or, as long as there is no form, to come some way below its bound.
 fn target_of(

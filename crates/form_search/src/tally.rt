@@ -44,19 +44,27 @@ impl Tally {
             members: [0; 65],
             used: 0,
         };
-        let mut item = 0u16;
-        for entry in table.entries.as_slice() {
-            if items.has(item) {
-                tally.add(entry);
-            }
-            item = item.saturating_add(1);
-        }
+        tally.add_all(table, items);
         tally
     }
 
+    /// Adds the items of a set.
+    fn add_all(&mut self, table: &Table, items: &ItemSet) {
+        let mut left = *items;
+        for _ in 0..512 {
+            let Some(item) = left.first() else {
+                break;
+            };
+            left = left.without(item);
+            if let Some(entry) = table.entries.get(item as usize) {
+                self.add(table, entry);
+            }
+        }
+    }
+
     /// Adds an item.
-    fn add(&mut self, entry: &Entry) {
-        for part in entry.parts.as_slice() {
+    fn add(&mut self, table: &Table, entry: &Entry) {
+        for part in table.parts_of(entry) {
             let row = part.row as usize;
             if row < 128 {
                 self.activity[row] = self.activity[row].wrapping_add(part.amount as i64);
@@ -155,14 +163,14 @@ impl Tally {
     /// How the excess of the rows of two items changes where the one leaves for the other.
     fn rows_change(&self, table: &Table, leaves: &Entry, comes: &Entry) -> i64 {
         let mut sum = 0i64;
-        for part in leaves.parts.as_slice() {
-            let added = amount_in(&comes.parts, part.row).wrapping_sub(part.amount as i64);
+        for part in table.parts_of(leaves) {
+            let added = amount_in(table.parts_of(comes), part.row).wrapping_sub(part.amount as i64);
             if added != 0 {
                 sum = sum.wrapping_add(self.row_change(table, part.row, added));
             }
         }
-        for part in comes.parts.as_slice() {
-            if amount_in(&leaves.parts, part.row) == 0 {
+        for part in table.parts_of(comes) {
+            if amount_in(table.parts_of(leaves), part.row) == 0 {
                 sum = sum.wrapping_add(self.row_change(table, part.row, part.amount as i64));
             }
         }
@@ -227,6 +235,8 @@ pub fn is_ruled_out(table: &Table, cut: &Cut) -> bool {
     if taken > table.length || taken.saturating_add(cut.free.count()) < table.length {
         return true;
     }
-    let all = Tally::of(table, &cut.taken.union(cut.free));
-    Tally::of(table, &cut.taken).rules_out(table, &all, cut)
+    let least = Tally::of(table, &cut.taken);
+    let mut most = least;
+    most.add_all(table, &cut.free);
+    least.rules_out(table, &most, cut)
 }
