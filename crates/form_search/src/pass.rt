@@ -4,13 +4,13 @@ ghost use Rattle.exam_model.specs.Validity.{IsWellMade};
 ghost use Rattle.constraint_model.specs.Views.{problem_of};
 ghost use Rattle.lagrange_bound.specs.Cuts.{IsCut};
 
-use crate::branching::choices;
+use crate::branching::{Choice, choices};
 use crate::incumbent::Incumbent;
 use crate::leaves::settled;
 use crate::paths::{Sides, Waiting, next_path, push_below, wait};
 use crate::pool::{Pool, closes, copied, empty_vector};
 use crate::priced::Priced;
-use crate::probing::{Hand, Probe, best_probed};
+use crate::probing::{Hand, best_probed};
 use crate::steps::{Stepped, take_form};
 use crate::table::Table;
 use crate::tally::is_ruled_out;
@@ -23,23 +23,8 @@ use std::alloc::Global;
 /// Nodes of a tree, at most.
 const MOST_NODES: u32 = 4095;
 
-/// Steps at a path whose vector was tried on its side already.
-const AFTER_PROBE: u32 = 25;
-
-/// x
-const PROBE_DEPTH: u32 = 100;
-
-/// x
-const REUSE: i64 = 1;
-
-/// x
-const STRICT: i64 = 1;
-
-/// Branches that are tried, at most.
-const PROBES: usize = 4;
-
-/// Branches that are tried in the first pass.
-const FIRST_PROBES: usize = 2;
+/// Steps on each side of a branch that is tried.
+const PROBE_STEPS: u32 = 8;
 
 /// How far a pass may go.
 #[derive(Clone, Copy, Debug)]
@@ -52,6 +37,8 @@ pub struct Limits {
     pub restarts: bool,
     /// How far below what closes a path the steps aim, so that a vector closes other paths too.
     pub margin: i64,
+    /// Branches that are tried at a path, at most.
+    pub probes: usize,
 }
 
 /// What a pass has made so far.
@@ -103,7 +90,16 @@ impl Pass {
         })
     }
 
-    /// Steps at a path, from the vector that its branch came to.
+    /// What steps aim at: somewhat less than what closes a path, as the limits have it.
+    fn aim(&self, incumbent: &Incumbent, steps: u32) -> Aim {
+        Aim {
+            ray: incumbent.form.is_none(),
+            target: incumbent.top().wrapping_sub(self.limits.margin),
+            steps,
+        }
+    }
+
+    /// Steps at a path, fewer where there is no room for a vector, or where its branch was tried or it is deep.
     fn steps(
         &self,
         alloc: Global,
@@ -111,32 +107,24 @@ impl Pass {
         incumbent: &Incumbent,
         place: &Waiting,
     ) -> Result<Ascent, Memory>
-        requires well_made { IsWellMade (problem_of problem.now) }
+        requires { IsWellMade (problem_of problem.now) }
     {
+        let Some(from) = self.hands.get(place.hand) else {
+            let aim = self.aim(incumbent, 10);
+            return climb(alloc, problem, &place.cut, &empty_vector(alloc), aim);
+        };
         let steps = if !self.pool.has_room() {
             10
-        } else if place.depth < 6 {
+        } else if place.depth < 6 && from.bound == i64::MAX {
             40
         } else {
             25
         };
-        let mut aim = Aim {
-            ray: incumbent.form.is_none(),
-            target: incumbent.top().wrapping_sub(self.limits.margin),
-            steps,
-        };
-        match self.hands.get(place.hand) {
-            Some(from) => {
-                if from.bound < i64::MAX {
-                    aim.steps = steps.min(AFTER_PROBE);
-                }
-                climb(alloc, problem, &place.cut, &from.vector, aim)
-            }
-            None => climb(alloc, problem, &place.cut, &empty_vector(alloc), aim),
-        }
+        let aim = self.aim(incumbent, steps);
+        climb(alloc, problem, &place.cut, &from.vector, aim)
     }
 
-    /// The leaf of the vector that a path begins with, if that closes it by the steps of its branch.
+    /// The leaf of the vector that a path begins with, if that closes it by the steps that tried its branch.
     fn closed_before(
         &mut self,
         alloc: Global,
@@ -144,8 +132,9 @@ impl Pass {
         incumbent: &Incumbent,
         place: &Waiting,
     ) -> Result<Option<Node>, Memory> {
+        let target = incumbent.top().wrapping_sub(self.limits.margin);
         let vector = match self.hands.get(place.hand) {
-            Some(hand) if hand.bound <= incumbent.top().wrapping_sub(self.limits.margin.wrapping_mul(STRICT)) => copied(alloc, &hand.vector)?,
+            Some(hand) if hand.bound <= target => copied(alloc, &hand.vector)?,
             _ => return Ok(None),
         };
         self.closed_by(alloc, table, incumbent, place, vector)
@@ -171,6 +160,35 @@ impl Pass {
         }
     }
 
+    /// Hands over what the steps on the sides of a branch begin with.
+    fn hand_over(&mut self, first: Hand, other: Hand) -> Result<(), Memory> {
+        self.hands.push(first)?;
+        self.hands.push(other)?;
+        Ok(())
+    }
+
+    /// A branch that isn't tried: both sides begin with the vector of the path.
+    fn untried(
+        &mut self,
+        alloc: Global,
+        choices: &[Choice],
+        vector: Vector,
+    ) -> Result<Node, Memory> {
+        let first = Hand {
+            vector: copied(alloc, &vector)?,
+            bound: i64::MAX,
+        };
+        let other = Hand {
+            vector,
+            bound: i64::MAX,
+        };
+        self.hand_over(first, other)?;
+        match choices.first() {
+            Some(choice) => Ok(choice.node),
+            None => Ok(Node::Open),
+        }
+    }
+
     /// The branch at a path after steps there, or Open where the limits allow none.
     fn branch_or_open(
         &mut self,
@@ -189,25 +207,24 @@ impl Pass {
             return Ok(Node::Open);
         }
         self.branches = self.branches.saturating_sub(1);
-        let probes = if self.limits.restarts { if place.depth < PROBE_DEPTH { FIRST_PROBES } else { 1 } } else { PROBES };
-        let choices = choices(alloc, table, &place.cut, stepped.shares.as_slice(), probes.max(1))?;
-        if self.pool.has_room() && probes > 1 {
-            let best = best_probed(alloc, problem, table, &self.pool, incumbent, &place.cut, choices.as_slice(), &stepped, self.limits.margin)?;
-            if let Some(probe) = best {
-                let Probe { node, score: _, mut first, mut other } = probe;
-                let lim = if REUSE == 0 { i64::MIN } else if REUSE == 1 { i64::MAX } else { incumbent.top() };
-                if first.bound > lim { first = Hand { vector: copied(alloc, &stepped.vector)?, bound: i64::MAX }; }
-                if other.bound > lim { other = Hand { vector: copied(alloc, &stepped.vector)?, bound: i64::MAX }; }
-                self.hands.push(first)?;
-                self.hands.push(other)?;
-                return Ok(node);
+        let (cut, probes) = (&place.cut, self.limits.probes);
+        let choices = choices(alloc, table, cut, stepped.shares.as_slice(), probes)?;
+        let (pool, tried) = (&self.pool, choices.as_slice());
+        let aim = self.aim(incumbent, PROBE_STEPS);
+        let best = if pool.has_room() {
+            best_probed(
+                alloc, problem, table, pool, incumbent, cut, tried, &stepped, aim,
+            )?
+        } else {
+            None
+        };
+        match best {
+            Some(probe) => {
+                let (node, first, other) = probe.into_parts();
+                self.hand_over(first, other)?;
+                Ok(node)
             }
-        }
-        self.hands.push(Hand { vector: copied(alloc, &stepped.vector)?, bound: i64::MAX })?;
-        self.hands.push(Hand { vector: stepped.vector, bound: i64::MAX })?;
-        match choices.first() {
-            Some(choice) => Ok(choice.node),
-            None => Ok(Node::Open),
+            None => self.untried(alloc, choices.as_slice(), stepped.vector),
         }
     }
 

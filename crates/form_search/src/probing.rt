@@ -1,4 +1,5 @@
-//! Strong branching: the branches that seem best are tried by some steps on both sides.
+//! Strong branching: the branches that seem best are tried by some steps on both sides (Applegate, Bixby, Chvátal and Cook,
+//! Finding Cuts in the TSP, 1995).
 
 ghost use Rattle.exam_model.specs.Validity.{IsWellMade};
 ghost use Rattle.constraint_model.specs.Views.{problem_of};
@@ -17,19 +18,11 @@ use lagrange_bound::{Aim, Cut, climb};
 use proof_tree::{Memory, Vector};
 use std::alloc::Global;
 
-/// x
-const ENOUGH: i64 = 0;
-
-/// x
-const PROBE_MARGIN: i64 = 1;
-
-/// Steps on each side of a branch that is tried.
-const PROBE_STEPS: u32 = 8;
-
 /// How much the side that gains least counts against the other.
 const LEAST_COUNTS: i64 = 6;
 
-/// The vector that the steps on a side of a branch begin with, and its bound there.
+/// The vector that the steps on a side of a branch begin with, and its bound there: the greatest number where no steps were
+/// made there, the least where none are needed.
 #[derive(Debug, Drop)]
 pub struct Hand {
     pub vector: Vector,
@@ -39,13 +32,27 @@ pub struct Hand {
 /// A branch that was tried, and how good it is.
 #[derive(Debug, Drop)]
 pub struct Probe {
-    pub node: Node,
-    pub score: i64,
-    pub first: Hand,
-    pub other: Hand,
+    node: Node,
+    score: i64,
+    first: Hand,
+    other: Hand,
 }
 
-/// What some steps on a side of a branch come to; the least bound where a row is impossible by counting.
+impl Probe {
+    /// The branch, and what the steps on its sides begin with.
+    pub fn into_parts(self) -> (Node, Hand, Hand) {
+        let Probe {
+            node,
+            score: _,
+            first,
+            other,
+        } = self;
+        (node, first, other)
+    }
+}
+
+/// What some steps on a side of a branch come to. None are made where a row is impossible by counting or a vector that is
+/// there closes the side.
 fn side_of(
     alloc: Global,
     problem: &Problem,
@@ -54,10 +61,9 @@ fn side_of(
     incumbent: &mut Incumbent,
     side: &Cut,
     from: &Vector,
-    margin: i64,
+    aim: Aim,
 ) -> Result<Hand, Memory>
-    requires well_made { IsWellMade (problem_of problem.now) }
-    requires cut { IsCut (problem_of problem.now) side.now }
+    requires { IsWellMade (problem_of problem.now) }
 {
     if is_ruled_out(table, side) || pool.has_closing(table, incumbent, side) {
         return Ok(Hand {
@@ -65,11 +71,6 @@ fn side_of(
             bound: i64::MIN,
         });
     }
-    let aim = Aim {
-        ray: incumbent.form.is_none(),
-        target: incumbent.top().wrapping_sub(margin.wrapping_mul(PROBE_MARGIN)),
-        steps: PROBE_STEPS,
-    };
     let ascent = climb(alloc, problem, side, from, aim)?;
     take_form(problem, table, incumbent, &ascent);
     let Stepped {
@@ -85,8 +86,15 @@ fn gain_of(hand: &Hand, bound: i64, most: i64) -> i64 {
     bound.saturating_sub(hand.bound).clamp(0, most)
 }
 
-/// A branch, tried by steps on both sides.
-pub fn probed(
+/// How good a branch is whose sides gain so much.
+fn score_of(gain: i64, other: i64) -> i64 {
+    gain.min(other)
+        .saturating_mul(LEAST_COUNTS)
+        .saturating_add(gain.max(other))
+}
+
+/// A branch, tried by steps on both sides; None where it is found to be no better than a score.
+fn probed(
     alloc: Global,
     problem: &Problem,
     table: &Table,
@@ -95,26 +103,26 @@ pub fn probed(
     cut: &Cut,
     node: Node,
     stepped: &Stepped,
-    margin: i64,
+    aim: Aim,
     least: i64,
 ) -> Result<Option<Probe>, Memory>
     requires well_made { IsWellMade (problem_of problem.now) }
     requires cut { IsCut (problem_of problem.now) cut.now }
 {
+    let from = &stepped.vector;
     let most = stepped.bound.saturating_sub(incumbent.top()).max(0);
     let side = below(problem, cut, &node, true);
-    let first = side_of(alloc, problem, table, pool, incumbent, &side, &stepped.vector, margin)?;
+    let first = side_of(alloc, problem, table, pool, incumbent, &side, from, aim)?;
     let gain = gain_of(&first, stepped.bound, most);
-    if gain.wrapping_mul(LEAST_COUNTS).wrapping_add(most) <= least {
+    if score_of(gain, most) <= least {
         return Ok(None);
     }
     let side = below(problem, cut, &node, false);
-    let other = side_of(alloc, problem, table, pool, incumbent, &side, &stepped.vector, margin)?;
-    let other_gain = gain_of(&other, stepped.bound, most);
-    let score = gain
-        .min(other_gain)
-        .wrapping_mul(LEAST_COUNTS)
-        .wrapping_add(gain.max(other_gain));
+    let other = side_of(alloc, problem, table, pool, incumbent, &side, from, aim)?;
+    let score = score_of(gain, gain_of(&other, stepped.bound, most));
+    if score <= least {
+        return Ok(None);
+    }
     Ok(Some(Probe {
         node,
         score,
@@ -123,7 +131,7 @@ pub fn probed(
     }))
 }
 
-/// The branch that brings the bound down most, of those that seem best.
+/// The branch that brings the bound down most, of those that seem best; none is tried once both sides of one close.
 pub fn best_probed(
     alloc: Global,
     problem: &Problem,
@@ -133,37 +141,24 @@ pub fn best_probed(
     cut: &Cut,
     choices: &[Choice],
     stepped: &Stepped,
-    margin: i64,
+    aim: Aim,
 ) -> Result<Option<Probe>, Memory>
     requires well_made { IsWellMade (problem_of problem.now) }
     requires cut { IsCut (problem_of problem.now) cut.now }
 {
-    let mut best: Option<Probe> = None;
+    let mut best = None;
+    let mut least = -1i64;
     for choice in choices {
-        let least = match &best {
-            Some(old) => old.score,
-            None => i64::MIN,
-        };
         let most = stepped.bound.saturating_sub(incumbent.top()).max(0);
-        if least >= most.wrapping_mul(7 - ENOUGH) {
+        if least >= score_of(most, most) {
             break;
         }
-        let probe = probed(
-            alloc,
-            problem,
-            table,
-            pool,
-            incumbent,
-            cut,
-            choice.node,
-            stepped,
-            margin,
-            least,
-        )?;
-        if let Some(probe) = probe {
-            if probe.score > least {
-                best = Some(probe);
-            }
+        let node = choice.node;
+        if let Some(probe) = probed(
+            alloc, problem, table, pool, incumbent, cut, node, stepped, aim, least,
+        )? {
+            least = probe.score;
+            best = Some(probe);
         }
     }
     Ok(best)

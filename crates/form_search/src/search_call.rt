@@ -25,6 +25,12 @@ const MOST_VECTORS: usize = 32;
 /// The part of the root's gap that the steps of the last pass aim below what closes.
 const MARGIN: i64 = 16;
 
+/// Branches that are tried at a path, in the first passes.
+const FIRST_PROBES: usize = 2;
+
+/// The same in the last pass.
+const LAST_PROBES: usize = 4;
+
 /// Passes with as many vectors as they want, at most.
 const MOST_PASSES: u32 = 8;
 
@@ -85,6 +91,7 @@ fn passes(
         vectors: 255,
         restarts: true,
         margin: 0,
+        probes: FIRST_PROBES,
     };
     for _ in 0..MOST_PASSES {
         let pass = Pass::over(alloc, problem, table, incumbent, at_root, limits)?;
@@ -97,6 +104,7 @@ fn passes(
     }
     limits.vectors = MOST_VECTORS;
     limits.restarts = false;
+    limits.probes = LAST_PROBES;
     limits.margin = at_root.bound.saturating_sub(incumbent.top()).max(0) / MARGIN;
     let pass = Pass::over(alloc, problem, table, incumbent, at_root, limits)?;
     tree_of(alloc, pass)
