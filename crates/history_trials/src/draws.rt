@@ -1,0 +1,83 @@
+//! The draw of eligible items: the inequality at its edge, and the words of ChaCha20 with the key of zeros.
+
+use crate::worked::set_of;
+use eligibility_draw::{admits, draw};
+use exam_model::Rate;
+use exposure_counters::Counters;
+use history_model::Counts;
+use std::alloc::Global;
+use std::test::Fail;
+
+/// What the inequality says of a word at a rate and these counts.
+#[derive(Drop)]
+struct Edge {
+    word: u32,
+    rate: (u32, u32),
+    counts: (u32, u32),
+    admitted: bool,
+}
+
+fn make_edge(word: u32, rate: (u32, u32), counts: (u32, u32), admitted: bool) -> Edge {
+    Edge {
+        word,
+        rate,
+        counts,
+        admitted,
+    }
+}
+
+#[test]
+fn words_at_the_edge(rt: HostRuntime) {
+    let highest = 4_294_967_295;
+    let edges = [
+        // 16 w < 2^34.
+        make_edge(1_073_741_823, (1, 4), (4, 4), true),
+        make_edge(1_073_741_824, (1, 4), (4, 4), false),
+        // An item that was never shown.
+        make_edge(highest, (1, 4), (0, 4), true),
+        make_edge(highest, (1, 1), (3, 3), true),
+        // 65,535 w < 2^32 n, where 65,535 * 65,537 is 2^32 - 1. On both sides there is a factor 65,536 besides.
+        make_edge(65_537, (1, 65_535), (65_536, 65_536), true),
+        make_edge(65_538, (1, 65_535), (65_536, 65_536), false),
+        // At the highest word the left side is 65,535 below 2^32 * 65,535.
+        make_edge(highest, (65_535, 65_535), (65_536, 65_536), true),
+        make_edge(highest, (65_534, 65_535), (65_536, 65_536), false),
+        make_edge(highest, (1, 65_535), (65_536, 65_536), false),
+    ];
+    for Edge {
+        word,
+        rate: (num, den),
+        counts: (alpha, eps),
+        admitted,
+    } in edges {
+        let found = admits(word, Rate { num, den }, Counts { alpha, eps });
+        assert_eq!(rt;
+            found,
+            admitted,
+            "word {word} rate {num}/{den} counts {alpha} {eps}"
+        );
+    }
+}
+
+/// Counters of six items after four sessions in which each item was eligible and shown.
+fn four_sessions(alloc: Global) -> Result<Counters, Fail> {
+    let all = set_of(&[0, 1, 2, 3, 4, 5]);
+    let mut counters = Counters::new(alloc, 6)?;
+    for _ in 0..4 {
+        if counters.finished() >= 65_536 || !all.all_below(counters.items()) {
+            return Err(Fail::from("no room"));
+        }
+        counters.finish(&all, &all);
+    }
+    Ok(counters)
+}
+
+/// The first six words of the stream of ChaCha20 with the key and nonce of zeros, from its published test vector (RFC
+/// 8439), are ade0b876, 903df1a0, e56a5d40, 28bd8653, b819d2bd and 1aed8da0; those below 2^31 are the fourth and the sixth.
+#[test]
+fn a_draw_at_one_half(rt: HostRuntime) -> Result<(), Fail> {
+    let counters = four_sessions(rt.alloc())?;
+    let eligible = draw(&[0; 32], Rate { num: 1, den: 2 }, 0, &counters);
+    assert_eq!(rt; eligible, set_of(&[3, 5]));
+    Ok(())
+}

@@ -1,0 +1,108 @@
+//! The payloads of records: the worked ones, read and written again, and each fault that they can have at its place.
+
+use crate::worked::{ALL, FIRST_BEST, set_of};
+use exam_records::{Entry, RecordFault, decode, encode};
+use std::alloc::{AllocError, Global};
+use std::test::Fail;
+
+/// Step 0 of session 0 is answered with response 1.
+const ANSWERED: [u8; 8] = [4, 0, 0, 0, 0, 0, 0, 1];
+
+/// Session 0 starts for booking 70, up to the eligible items.
+const STARTED: [u8; 13] = [1, 0, 0, 0, 0, 0, 0, 0, 0, 0, 0, 0, 70];
+
+/// Item 2 is served at step 0 of session 0, up to the form.
+const SERVED: [u8; 9] = [3, 0, 0, 0, 0, 0, 0, 0, 2];
+
+/// A front, a set of items of which the first eight are these bits, and what follows.
+fn payload(alloc: Global, front: &[u8], bits: u8, rest: &[u8]) -> Result<Vec<u8>, AllocError> {
+    let mut bytes = front.to_vec(alloc)?;
+    bytes.push(bits)?;
+    bytes.extend_from_slice(&[0; 63])?;
+    bytes.extend_from_slice(rest)?;
+    Ok(bytes)
+}
+
+/// The payload of the served item with this mark and number of nodes.
+fn served(alloc: Global, mark: u8, nodes: u8) -> Result<Vec<u8>, AllocError> {
+    let mut rest = [mark, 0, nodes].to_vec(alloc)?;
+    rest.extend_from_slice(&FIRST_BEST)?;
+    payload(alloc, &SERVED, 0x0e, &rest)
+}
+
+#[test]
+fn an_answer(rt: HostRuntime) -> Result<(), Fail> {
+    let alloc = rt.alloc();
+    let rec = decode(alloc, &ANSWERED)?;
+    let entry = Entry::Answered {
+        session: 0,
+        step: 0,
+        response: 1,
+    };
+    assert_eq!(rt; rec.entry, entry);
+    assert!(rt; rec.tree.is_none());
+    let bytes = encode(alloc, &rec)?;
+    assert_eq!(rt; bytes.as_slice(), ANSWERED.as_slice());
+    Ok(())
+}
+
+#[test]
+fn faults(rt: HostRuntime) -> Result<(), Fail> {
+    let alloc = rt.alloc();
+    let more = [4, 0, 0, 0, 0, 0, 0, 1, 0];
+    let mark = served(alloc, 2, 1)?;
+    let nodes = served(alloc, 1, 2)?;
+    let cases: [(&[u8], RecordFault); 6] = [
+        (&[], RecordFault::Short),
+        (&ANSWERED[..7], RecordFault::Short),
+        (&[6], RecordFault::Kind(0)),
+        (&more, RecordFault::Extra(8)),
+        (&mark, RecordFault::Field(73)),
+        (&nodes, RecordFault::Field(74)),
+    ];
+    for (bytes, fault) in cases {
+        assert_eq!(rt; decode(alloc, bytes).err(), Some(fault));
+    }
+    Ok(())
+}
+
+#[test]
+fn a_start(rt: HostRuntime) -> Result<(), Fail> {
+    let alloc = rt.alloc();
+    let rec = decode(alloc, &payload(alloc, &STARTED, 0x3f, &[])?)?;
+    let entry = Entry::Started {
+        session: 0,
+        booking: 70,
+        eligible: set_of(&ALL),
+    };
+    assert_eq!(rt; rec.entry, entry);
+    assert!(rt; rec.tree.is_none());
+    Ok(())
+}
+
+#[test]
+fn a_serving(rt: HostRuntime) -> Result<(), Fail> {
+    let alloc = rt.alloc();
+    let spelled = served(alloc, 1, 1)?;
+    assert_eq!(rt; spelled.len(), 87);
+    let rec = decode(alloc, &spelled)?;
+    let entry = Entry::Served {
+        session: 0,
+        step: 0,
+        item: 2,
+        form: set_of(&[1, 2, 3]),
+        proved: true,
+        nodes: 1,
+    };
+    assert_eq!(rt; rec.entry, entry);
+    let bytes = encode(alloc, &rec)?;
+    assert_eq!(rt; bytes.as_slice(), spelled.as_slice());
+    let Some(tree) = &rec.tree else {
+        return Err(Fail::from("a tree"));
+    };
+    assert_eq!(rt;
+        proof_tree::encode(alloc, tree)?.as_slice(),
+        FIRST_BEST.as_slice()
+    );
+    Ok(())
+}
