@@ -83,7 +83,7 @@ fn side_of(
 
 /// How far a side brings the bound down, at most to where the path closes.
 fn gain_of(hand: &Hand, bound: i64, most: i64) -> i64 {
-    bound.saturating_sub(hand.bound).clamp(0, most)
+    bound.saturating_sub(hand.bound).min(most).max(0)
 }
 
 /// How good a branch is whose sides gain so much.
