@@ -1,16 +1,16 @@
 -- The items of greatest weight, one after another.
-use Rattle.std.proofs.Common.{◌≡◌, ◌≢◌, ℕ, zero, suc, ◌+◌, ◌≤◌, ◌<◌, ◌⊎◌, inl, inr, Bool, true, false, ◌||◌, ◌==◌, List, length, get_or, set, Some, None, refl, sym, ap, ◌∙◌, subst, arith}
-use Rattle.std.specs.Prelude.{◌≤ℤ◌, ℤ, pos, int_le}
-use Rattle.std.proofs.lemmas.Bool.{eqb-true, eq-eqb, cases_lt}
+use Rattle.std.proofs.Common.{◌≡◌, ◌≢◌, ℕ, zero, suc, ◌+◌, ◌*◌, ◌/◌, ◌≤◌, ◌<◌, ◌⊎◌, inl, inr, Bool, true, false, ◌||◌, ◌==◌, List, length, get_or, set, Some, None, refl, sym, ap, ◌∙◌, subst, arith}
+use Rattle.std.specs.Prelude.{◌≤ℤ◌, ℤ, pos, int_le, Option, IfSome}
+use Rattle.std.proofs.lemmas.Bool.{eqb-true, eq-eqb, cases_lt, cases_eq}
 use Rattle.std.proofs.lemmas.Bool.Decides.{eqb_tells}
-use Rattle.std.proofs.lemmas.List.{get_or-set_same, get_or-set_other}
+use Rattle.std.proofs.lemmas.List.{length-set, get_or-set_same, get_or-set_other, get_or_past}
 use Rattle.std.proofs.lemmas.Int.{ints}
 use Rattle.std.proofs.Math.Bool.{true≢false}
 use Rattle.bank_tables.specs.Items.{Set}
 use Rattle.bank_tables.specs.Sums.{sum_in, count_in}
-use Rattle.exam_model.proofs.SumLaws.{either, or_true, or_false, sum_in-le}
+use Rattle.exam_model.proofs.SumLaws.{either, or_true, or_false, or_right, sum_in-le}
 use Rattle.certificate_check.specs.Weights.{at}
-use Rattle.certificate_check.specs.Tops.{IsNextBest, IsTopOf}
+use Rattle.certificate_check.specs.Tops.{IsBest, AreLeaders, IsNextBest, IsTopOf}
 
 sum_in-same : (n : ℕ) (X Y : Set) (f : ℕ → ℕ) → ((i : ℕ) → i < n → X i ≡ Y i) → sum_in n X f ≡ sum_in n Y f
 sum_in-same zero X Y f h = refl
@@ -75,6 +75,64 @@ written P xs n x within before here k w =
           let e : n ≡ k = omega arith in
           subst (λ (j : ℕ). P j (at (set xs n x) j)) e (subst (P n) (sym (get_or-set_same xs n x (pos 0) within)) here)
     ]
+
+-- ---- leaders of blocks
+pub leader_written : (P : ℕ → Option ℕ → Type 0) (xs : List (Option ℕ)) (n : ℕ) (x : Option ℕ) → n < length xs → ((k : ℕ) → k < n → P k (get_or xs k None)) → P n x → (k : ℕ) → k < n + 1 → P k (get_or (set xs n x) k None)
+leader_written P xs n x within before here k w =
+    elim (cases_lt k n) [
+      | inl low ↦ let ne : k ≢ n = omega arith in subst (P k) (sym (get_or-set_other xs n k x None ne)) (before k low)
+      | inr high ↦
+          let e : n ≡ k = omega arith in
+          subst (λ (j : ℕ). P j (get_or (set xs n x) j None)) e (subst (P n) (sym (get_or-set_same xs n x None within)) here)
+    ]
+
+item_small : (from to n : ℕ) (xs : List ℤ) (F T : Set) (o : Option ℕ) → n ≤ 512 → IsBest from to n xs F T o → IfSome o (λ i. i < 512)
+item_small from to n xs F T None few best = tt
+item_small from to n xs F T (Some i) few best = omega (arith, best.2)
+
+pub leaders_small : (n : ℕ) (xs : List ℤ) (F T : Set) (leaders : List (Option ℕ)) → n ≤ 512 → AreLeaders n xs F T leaders → (b : ℕ) → IfSome (get_or leaders b None) (λ i. i < 512)
+leaders_small n xs F T leaders few are b =
+    elim (cases_lt b 32) [
+      | inl low ↦ item_small (16 * b) (16 * b + 16) n xs F T (get_or leaders b None) few (are.best b low)
+      | inr high ↦ subst (λ (o : Option ℕ). IfSome o (λ i. i < 512)) (sym (get_or_past leaders b None (omega (arith, are.number)))) tt
+    ]
+
+-- what is best stays so when a number elsewhere is put into T
+kept : (from to n : ℕ) (xs : List ℤ) (F T T' : Set) (b : ℕ) (o : Option ℕ) → (b < from) ⊎ (to ≤ b) → ((i : ℕ) → T' i ≡ (i == b || T i)) → IsBest from to n xs F T o → IsBest from to n xs F T' o
+kept from to n xs F T T' b None elsewhere e best = λ i low high w f. e i ∙ or_right (i == b) (T i) (best i low high w f)
+kept from to n xs F T T' b (Some m) elsewhere e best =
+    let ne : m ≢ b = elim elsewhere [ inl before ↦ omega (arith, best.0) | inr behind ↦ omega (arith, best.1) ] in (
+      best.0,
+      best.1,
+      best.2,
+      best.3,
+      e m ∙ other m b (T m) ne ∙ best.4,
+      λ j low high w f out. best.5 j low high w f (or_false (j == b) (T j) (sym (e j) ∙ out)).1,
+    )
+
+-- where one is put into T, the leader of its block alone is sought again
+pub leaders_with : (n : ℕ) (xs : List ℤ) (F T T' : Set) (leaders : List (Option ℕ)) (b block : ℕ) (o : Option ℕ) → block ≡ b / 16 → b < 512 → ((i : ℕ) → T' i ≡ (i == b || T i)) → AreLeaders n xs F T leaders → IsBest (16 * block) (16 * block + 16) n xs F T' o → AreLeaders n xs F T' (set leaders block o)
+leaders_with n xs F T T' leaders b block o at_block small e are best =
+    record {
+      number = length-set leaders block o ∙ are.number;
+      best =
+          λ k w.
+          elim (cases_eq k block) [
+            | inl same ↦
+                subst (λ (j : ℕ). IsBest (16 * j) (16 * j + 16) n xs F T' (get_or (set leaders block o) j None)) (sym same)
+                (subst (IsBest (16 * block) (16 * block + 16) n xs F T') (sym (get_or-set_same leaders block o None (omega (arith, are.number)))) best)
+            | inr ne ↦
+                subst (IsBest (16 * k) (16 * k + 16) n xs F T') (sym (get_or-set_other leaders block k o None ne)) (kept (16 * k) (16 * k + 16) n xs F T T' b (get_or leaders k None) (elsewhere k ne) e (are.best k w))
+          ];
+    }
+  where
+    elsewhere : (k : ℕ) → k ≢ block → (b < 16 * k) ⊎ (16 * k + 16 ≤ b)
+    elsewhere k ne = elim (cases_lt b (16 * k)) [ inl before ↦ inl before | inr behind ↦ inr (omega arith) ]
+
+-- what is best of more numbers than n is best of those below n
+pub next_from : (n to : ℕ) (xs : List ℤ) (F T : Set) (o : Option ℕ) → n ≤ to → IsBest 0 to n xs F T o → IsNextBest n xs F T o
+next_from n to xs F T None long best = λ i w f. best i (omega arith) (omega arith) w f
+next_from n to xs F T (Some m) long best = (best.2, best.3, best.4, λ j w f out. best.5 j (omega arith) (omega arith) w f out)
 
 -- ---- a threshold between the top and the rest
 -- a member of T of the least weight, or T is empty below n

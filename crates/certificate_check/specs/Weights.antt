@@ -1,5 +1,5 @@
 -- The reduced weights of items and stimuli: what each adds to the Lagrangian.
-use Rattle.std.specs.Prelude.{ℕ, suc, ◌+◌, ◌-◌, ◌*◌, Bool, cond, List, length, nat_lt, get_or, ℤ, pos, neg_ℤ, ◌+ℤ◌, ◌-ℤ◌, ◌*ℤ◌, ◌≤ℤ◌}
+use Rattle.std.specs.Prelude.{◌≡◌, ℕ, ◌+◌, ◌-◌, ◌*◌, Bool, cond, List, length, nat_lt, get_or, ℤ, pos, neg_ℤ, ◌+ℤ◌, ◌-ℤ◌, ◌*ℤ◌, ◌≤ℤ◌}
 use Rattle.bank_tables.specs.Items.{has}
 use Rattle.bank_tables.specs.Sums.{total_z}
 use Rattle.bank_tables.specs.Tables.{Tables, stimulus, quantity}
@@ -14,6 +14,11 @@ use Rattle.exam_model.specs.Relaxed.{weight}
 pub record IsWithin (top : ℕ) (z : ℤ) : Type 0 where
   pub low : neg_ℤ (pos top) ≤ℤ z
   pub high : z ≤ℤ pos top
+
+-- the new number is the old one with some added, that lies within so much of 0
+pub record IsAdded (top : ℕ) (old some new : ℤ) : Type 0 where
+  pub within : IsWithin top some
+  pub sum : new ≡ old +ℤ some
 
 -- no weight of an item, and none of a stimulus, is further from 0
 abbrev pub item_top : ℕ
@@ -64,9 +69,12 @@ low_side P s = 2 * length P.plan.rows + 2 * (s - 1)
 abbrev pub stimulus_item : Problem → (ℕ → ℕ) → ℕ → ℤ
 stimulus_item P M s = cond (nat_lt 0 s) (net_multiplier M (low_side P s)) (pos 0)
 
--- the constant, the weight of an item, and that of a chosen stimulus
+-- the constant, the weight of an item with the first rows alone, with all of them, and the weight of a chosen stimulus
 abbrev pub constant_weight : Problem → (ℕ → ℕ) → ℤ
 constant_weight P M = total_z (length P.plan.rows) (row_constant P M)
+
+abbrev pub weight_up_to : Problem → (ℕ → ℕ) → Bool → ℕ → ℕ → ℤ
+weight_up_to P M ray n i = pos (weight P ray i) +ℤ (total_z n (row_item P M i) +ℤ stimulus_item P M (stimulus P.bank i))
 
 abbrev pub item_weight : Problem → (ℕ → ℕ) → Bool → ℕ → ℤ
 item_weight P M ray i = pos (weight P ray i) +ℤ (total_z (length P.plan.rows) (row_item P M i) +ℤ stimulus_item P M (stimulus P.bank i))

@@ -1,25 +1,11 @@
 //! The multiplier of each side of a plan.
 
-ghost use Rattle.std.specs.Prelude.{◌≡◌, ℕ, ◌<◌, ◌≤◌, All, length, slice_index};
+ghost use Rattle.std.specs.Prelude.{◌≡◌, ℕ, ◌<◌, All, slice_index};
 ghost use Rattle.exam_model.specs.ProofTrees.{IsVector};
 ghost use Rattle.exam_model.specs.Relaxed.{multiplier};
 ghost use Rattle.certificate_check.specs.Sides.{AreMultipliers};
 
-/// The multiplier of a side; 0 where the vector doesn't name it.
-fn multiplier(vector: &[(u16, u32)], side: u16) -> u32
-    requires { IsVector 0 vector.now }
-    ensures value { result ≡ multiplier vector.now side }
-    ensures high { result ≤ 16777216 }
-{
-    for (named, times) in vector {
-        if *named == side {
-            return *times;
-        }
-    }
-    0
-}
-
-/// The multiplier of each side.
+/// The multiplier of each side; 0 where the vector doesn't name it.
 pub fn sides_of(vector: &[(u16, u32)]) -> [u32; 384]
     requires vector { IsVector 0 vector.now }
     requires sides { All (λ pair. pair.0 < 384) vector.now }
@@ -27,8 +13,8 @@ pub fn sides_of(vector: &[(u16, u32)]) -> [u32; 384]
     ensures high { AreMultipliers (slice_index result) }
 {
     let mut sides = [0u32; 384];
-    for side in 0..384u16 {
-        sides[side as usize] = multiplier(vector, side);
+    for (side, times) in vector {
+        sides[*side as usize] = *times;
     }
     sides
 }

@@ -1,32 +1,15 @@
 //! The items of greatest weight.
 
-ghost use Rattle.std.specs.Prelude.{◌≡◌, ℕ, ◌*◌, ◌<◌, ◌≤◌, true, cond, pos, slice_index};
-ghost use Rattle.bank_tables.specs.Items.{has};
+ghost use Rattle.std.specs.Prelude.{◌≡◌, ℕ, ◌+◌, ◌*◌, ◌<◌, ◌≤◌, true, cond, pos, IfSome, get_or};
+ghost use Rattle.bank_tables.specs.Items.{Set, has};
 ghost use Rattle.bank_tables.specs.Sums.{count_in, sum_in_z};
-ghost use Rattle.bank_tables.specs.Tables.{size};
-ghost use Rattle.exam_model.specs.Validity.{IsWellMade};
-ghost use Rattle.constraint_model.specs.Views.{problem_of};
-ghost use Rattle.certificate_check.specs.Sides.{AreMultipliers};
-ghost use Rattle.certificate_check.specs.Tops.{IsNextBest, IsTopOf};
-ghost use Rattle.certificate_check.specs.Weights.{IsWithin, at, item_top, item_weight};
+ghost use Rattle.certificate_check.specs.Tops.{IsBest, AreLeaders, IsNextBest, IsTopOf};
+ghost use Rattle.certificate_check.specs.Weights.{IsWithin, at, item_top};
 
-use crate::weights::item_weight;
 use bank_tables::ItemSet;
-use constraint_model::Problem;
 
-/// The weight of each item of the bank.
-pub fn item_weights(problem: &Problem, sides: &[u32; 384], ray: bool) -> [i64; 512]
-    requires well_made { IsWellMade (problem_of problem.now) }
-    requires sides { AreMultipliers (slice_index sides.now) }
-    ensures value { (i : ℕ) → i < size problem.now.bank.now → at result i ≡ item_weight (problem_of problem.now) (slice_index sides.now) ray i }
-    ensures within { (i : ℕ) → i < size problem.now.bank.now → IsWithin item_top (at result i) }
-{
-    let mut weights = [0i64; 512];
-    for i in 0..problem.bank.items() {
-        weights[i as usize] = item_weight(problem, sides, ray, i);
-    }
-    weights
-}
+/// A block has so many items.
+const BLOCK: u16 = 16;
 
 /// The weight of an item that is in the set, else 0.
 fn weight_in(weights: &[i64; 512], items: &ItemSet, item: u16) -> i64
@@ -56,14 +39,41 @@ pub fn sum_of(weights: &[i64; 512], n: u16, items: &ItemSet) -> i64
     sum
 }
 
-/// Of the first n items one of the greatest weight that is free and not taken.
-fn next_best(weights: &[i64; 512], n: u16, free: &ItemSet, taken: &ItemSet) -> Option<u16>
-    requires { n ≤ 512 }
-    ensures { IsNextBest n weights.now (has free.now) (has taken.now) result }
+/// Of two items, or none, the one of the greater weight.
+fn heavier(weights: &[i64; 512], first: Option<u16>, second: Option<u16>) -> Option<u16>
+    requires first { IfSome first (λ i. i < 512) }
+    requires second { IfSome second (λ i. i < 512) }
+    ensures item { IfSome result (λ i. i < 512) }
+    ensures best { (from between to n : ℕ) (F T : Set) → from ≤ between → between ≤ to → IsBest from between n weights.now F T first → IsBest between to n weights.now F T second → IsBest from to n weights.now F T result }
 {
+    match first {
+        None => second,
+        Some(one) => match second {
+            None => Some(one),
+            Some(other) => {
+                if weights[one as usize] < weights[other as usize] {
+                    Some(other)
+                } else {
+                    Some(one)
+                }
+            }
+        },
+    }
+}
+
+/// Of the first n items one of the greatest weight in a block that is free and not taken.
+fn leader(weights: &[i64; 512], n: u16, free: &ItemSet, taken: &ItemSet, block: u16) -> Option<u16>
+    requires few { n ≤ 512 }
+    requires block { block < 32 }
+    ensures { IsBest (16 * block) (16 * block + 16) n weights.now (has free.now) (has taken.now) result }
+{
+    let first = BLOCK * block;
+    if first >= n {
+        return None;
+    }
     let mut best: Option<u16> = None;
-    for i in 0..n {
-        if free.has(i) && !taken.has(i) {
+    for i in first..first + BLOCK {
+        if i < n && free.has(i) && !taken.has(i) {
             best = match best {
                 None => Some(i),
                 Some(old) => {
@@ -79,16 +89,47 @@ fn next_best(weights: &[i64; 512], n: u16, free: &ItemSet, taken: &ItemSet) -> O
     best
 }
 
+/// The leader of each block.
+fn leaders_of(weights: &[i64; 512], n: u16, free: &ItemSet, taken: &ItemSet) -> [Option<u16>; 32]
+    requires { n ≤ 512 }
+    ensures { AreLeaders n weights.now (has free.now) (has taken.now) result }
+{
+    let mut leaders = [None; 32];
+    for block in 0..32u16 {
+        leaders[block as usize] = leader(weights, n, free, taken, block);
+    }
+    leaders
+}
+
+/// Of the leaders of the blocks of the first n items one of the greatest weight.
+fn first_leader(weights: &[i64; 512], n: u16, leaders: &[Option<u16>; 32]) -> Option<u16>
+    requires few { n ≤ 512 }
+    requires items { (b : ℕ) → IfSome (get_or leaders.now b None) (λ i. i < 512) }
+    ensures item { IfSome result (λ i. i < 512) }
+    ensures best { (F T : Set) → AreLeaders n weights.now F T leaders.now → IsNextBest n weights.now F T result }
+{
+    let mut best: Option<u16> = None;
+    for block in 0..n.div_ceil(BLOCK) {
+        best = heavier(weights, best, leaders[block as usize]);
+    }
+    best
+}
+
 /// Of the first n items so many free ones of the greatest weight.
+///
+/// The items are in blocks, and each has a leader, so that a round looks at the leaders and at one block.
 pub fn top_of(weights: &[i64; 512], n: u16, free: &ItemSet, k: u32) -> ItemSet
     requires few { n ≤ 512 }
     requires enough { k ≤ count_in n (has free.now) (λ _. true) }
     ensures { IsTopOf n weights.now (has free.now) k (has result) }
 {
     let mut top = ItemSet::empty();
+    let mut leaders = leaders_of(weights, n, free, &top);
     for _round in 0..k {
-        if let Some(best) = next_best(weights, n, free, &top) {
+        if let Some(best) = first_leader(weights, n, &leaders) {
+            let block = best / BLOCK;
             top = top.with(best);
+            leaders[block as usize] = leader(weights, n, free, &top, block);
         }
     }
     top

@@ -1,6 +1,6 @@
 //! The reduced weights: what each item and stimulus adds to the Lagrangian.
 
-ghost use Rattle.std.specs.Prelude.{◌≡◌, ◌+◌, ◌*◌, ◌-ℤ◌, ◌*ℤ◌, ◌<◌, ◌≤◌, ◌≤ℤ◌, pos, length, slice_index};
+ghost use Rattle.std.specs.Prelude.{◌≡◌, ℕ, ◌+◌, ◌*◌, ◌-ℤ◌, ◌*ℤ◌, ◌<◌, ◌≤◌, ◌≤ℤ◌, pos, length, slice_index};
 ghost use Rattle.bank_tables.specs.Sums.{total_z};
 ghost use Rattle.bank_tables.specs.Tables.{size};
 ghost use Rattle.bank_tables.specs.Validity.{IsBank};
@@ -9,7 +9,7 @@ ghost use Rattle.exam_model.specs.Relaxed.{weight};
 ghost use Rattle.exam_model.specs.Validity.{IsRow, IsWellMade};
 ghost use Rattle.constraint_model.specs.Views.{problem_of};
 ghost use Rattle.certificate_check.specs.Sides.{AreMultipliers};
-ghost use Rattle.certificate_check.specs.Weights.{IsWithin, item_part, stimulus_part, net_multiplier, bounds_weight, row_item, row_stimulus, row_constant, stimulus_item, constant_weight, item_weight, item_top, stimulus_weight, stimulus_top};
+ghost use Rattle.certificate_check.specs.Weights.{IsWithin, IsAdded, at, item_part, stimulus_part, net_multiplier, bounds_weight, row_item, row_stimulus, stimulus_item, constant_weight, weight_up_to, item_weight, item_top, stimulus_weight, stimulus_top};
 
 use crate::activity::{lower_bound, upper_bound};
 use bank_tables::Bank;
@@ -129,43 +129,39 @@ pub fn constant_weight(problem: &Problem, sides: &[u32; 384]) -> i64
     sum
 }
 
-/// What a row adds to the weight of an item; most rows have no multiplier.
-fn row_item(bank: &Bank, sides: &[u32; 384], row: &Row, side: usize, item: u16) -> i64
-    requires item { item < size bank.now }
+/// Adds to the weight of each item what a row adds whose sides have these multipliers.
+fn add_row(bank: &Bank, row: &Row, low: u32, high: u32, weights: &mut [i64])
     requires bank { IsBank bank.now }
     requires row { IsRow bank.now row.now }
-    requires sides { AreMultipliers (slice_index sides.now) }
-    requires side { side + 1 < 384 }
-    ensures value { result ≡ net_multiplier (slice_index sides.now) side *ℤ pos (item_part bank.now row.now item) }
-    ensures within { IsWithin (16777216 * 65535) result }
+    requires low { low ≤ 16777216 }
+    requires high { high ≤ 16777216 }
+    requires room { size bank.now ≤ length weights.old }
+    requires within { (i : ℕ) → i < size bank.now → IsWithin item_top (at weights.old i) }
+    ensures { (i : ℕ) → i < size bank.now → IsAdded (16777216 * 65535) (at weights.old i) ((pos low -ℤ pos high) *ℤ pos (item_part bank.now row.now i)) (at weights.new i) }
 {
-    let low = sides[side];
-    let high = sides[side + 1];
-    if low == high {
-        0
-    } else {
-        scaled(low, high, item_part(bank, row, item))
+    for i in 0..bank.items() {
+        weights[i as usize] += scaled(low, high, item_part(bank, row, i));
     }
 }
 
-/// What the rows add to the weight of an item.
-fn rows_item(problem: &Problem, sides: &[u32; 384], item: u16) -> i64
+/// Adds to the weight of each item what a row of the plan adds; most rows have no multiplier.
+fn add_row_at(problem: &Problem, sides: &[u32; 384], r: usize, weights: &mut [i64])
     requires well_made { IsWellMade (problem_of problem.now) }
     requires sides { AreMultipliers (slice_index sides.now) }
-    requires item { item < size problem.now.bank.now }
-    ensures value { result ≡ total_z (length problem.now.spec.now.rows) (row_item (problem_of problem.now) (slice_index sides.now) item) }
-    ensures within { IsWithin (128 * (16777216 * 65535)) result }
+    requires row { r < length problem.now.spec.now.rows }
+    requires room { size problem.now.bank.now ≤ length weights.old }
+    requires within { (i : ℕ) → i < size problem.now.bank.now → IsWithin item_top (at weights.old i) }
+    ensures { (i : ℕ) → i < size problem.now.bank.now → IsAdded (16777216 * 65535) (at weights.old i) (row_item (problem_of problem.now) (slice_index sides.now) i r) (at weights.new i) }
 {
-    let rows = problem.spec.rows();
-    let mut sum = 0i64;
-    for r in 0..rows.len() {
-        sum += row_item(problem.bank, sides, &rows[r], 2 * r, item);
+    let low = sides[2 * r];
+    let high = sides[2 * r + 1];
+    if low != high {
+        add_row(problem.bank, &problem.spec.rows()[r], low, high, weights);
     }
-    sum
 }
 
 /// What the rows add to the weight of each stimulus.
-fn rows_stimulus(problem: &Problem, sides: &[u32; 384]) -> i64
+pub fn rows_stimulus(problem: &Problem, sides: &[u32; 384]) -> i64
     requires well_made { IsWellMade (problem_of problem.now) }
     requires sides { AreMultipliers (slice_index sides.now) }
     ensures value { result ≡ total_z (length problem.now.spec.now.rows) (row_stimulus (problem_of problem.now) (slice_index sides.now)) }
@@ -209,23 +205,52 @@ fn information(problem: &Problem, ray: bool, item: u16) -> i64
     }
 }
 
-/// The weight of an item; of a ray without its information.
-pub fn item_weight(problem: &Problem, sides: &[u32; 384], ray: bool, item: u16) -> i64
+/// The weight of an item before a row adds to it.
+fn plain_weight(problem: &Problem, sides: &[u32; 384], ray: bool, item: u16) -> i64
     requires well_made { IsWellMade (problem_of problem.now) }
     requires sides { AreMultipliers (slice_index sides.now) }
     requires item { item < size problem.now.bank.now }
-    ensures value { result ≡ item_weight (problem_of problem.now) (slice_index sides.now) ray item }
-    ensures within { IsWithin item_top result }
+    ensures value { result ≡ weight_up_to (problem_of problem.now) (slice_index sides.now) ray 0 item }
+    ensures within { IsWithin (16777216 * 65535 + 256000000) result }
 {
-    information(problem, ray, item)
-        + (rows_item(problem, sides, item)
-            + stimulus_item(problem, sides, problem.bank.stimulus(item)))
+    information(problem, ray, item) + stimulus_item(problem, sides, problem.bank.stimulus(item))
 }
 
-/// The weight of a stimulus.
-pub fn stimulus_weight(problem: &Problem, sides: &[u32; 384], which: u8) -> i64
+/// The weight of each item of the bank before a row adds to it.
+fn plain_weights(problem: &Problem, sides: &[u32; 384], ray: bool) -> [i64; 512]
     requires well_made { IsWellMade (problem_of problem.now) }
     requires sides { AreMultipliers (slice_index sides.now) }
+    ensures value { (i : ℕ) → i < size problem.now.bank.now → at result i ≡ weight_up_to (problem_of problem.now) (slice_index sides.now) ray 0 i }
+    ensures within { (i : ℕ) → i < size problem.now.bank.now → IsWithin (16777216 * 65535 + 256000000) (at result i) }
+{
+    let mut weights = [0i64; 512];
+    for i in 0..problem.bank.items() {
+        weights[i as usize] = plain_weight(problem, sides, ray, i);
+    }
+    weights
+}
+
+/// The weight of each item of the bank; of a ray without its information.
+pub fn item_weights(problem: &Problem, sides: &[u32; 384], ray: bool) -> [i64; 512]
+    requires well_made { IsWellMade (problem_of problem.now) }
+    requires sides { AreMultipliers (slice_index sides.now) }
+    ensures value { (i : ℕ) → i < size problem.now.bank.now → at result i ≡ item_weight (problem_of problem.now) (slice_index sides.now) ray i }
+    ensures within { (i : ℕ) → i < size problem.now.bank.now → IsWithin item_top (at result i) }
+{
+    let rows = problem.spec.rows().len();
+    let mut weights = plain_weights(problem, sides, ray);
+    for r in 0..rows {
+        add_row_at(problem, sides, r, &mut weights);
+    }
+    weights
+}
+
+/// The weight of a stimulus, from what the rows add to it.
+pub fn stimulus_weight(problem: &Problem, sides: &[u32; 384], rows: i64, which: u8) -> i64
+    requires well_made { IsWellMade (problem_of problem.now) }
+    requires sides { AreMultipliers (slice_index sides.now) }
+    requires rows { rows ≡ total_z (length problem.now.spec.now.rows) (row_stimulus (problem_of problem.now) (slice_index sides.now)) }
+    requires few { IsWithin (128 * (16777216 * 65535)) rows }
     requires first { 0 < which }
     requires last { which ≤ stimuli_of problem.now.bank.now }
     ensures value { result ≡ stimulus_weight (problem_of problem.now) (slice_index sides.now) which }
@@ -234,5 +259,5 @@ pub fn stimulus_weight(problem: &Problem, sides: &[u32; 384], which: u8) -> i64
     let place = which as usize - 1;
     let bound = problem.spec.bounds()[place];
     let side = 2 * problem.spec.rows().len() + 2 * place;
-    bounds_weight(sides, side, bound.low, bound.high) + rows_stimulus(problem, sides)
+    bounds_weight(sides, side, bound.low, bound.high) + rows
 }

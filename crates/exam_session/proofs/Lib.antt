@@ -6,3 +6,4 @@ pub mod CountNotes
 pub mod ReasonNotes
 pub mod EmptyBook
 pub mod Applied
+pub mod FormLaws

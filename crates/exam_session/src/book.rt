@@ -89,6 +89,7 @@ impl<'a> Book<'a> {
         ensures bank { IfOk result (λ book. book.bank ≡ bank.now) }
         ensures plan { IfOk result (λ book. book.plan ≡ spec.now) }
         ensures entries { IfOk result (λ book. book.entries ≡ []) }
+        ensures room { IfOk result (λ book. book.room ≡ 0) }
     {
         let counters = Counters::new(alloc, bank.items())?;
         Ok(Book {

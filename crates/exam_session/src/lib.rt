@@ -9,6 +9,7 @@ mod book;
 mod claims;
 mod counting;
 mod judge;
+pub mod laws;
 mod seats;
 
 pub use book::Book;

@@ -11,6 +11,7 @@ mod pass;
 mod paths;
 mod pool;
 mod priced;
+mod probing;
 mod repair;
 mod root;
 mod search_call;

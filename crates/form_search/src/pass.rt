@@ -3,22 +3,28 @@
 ghost use Rattle.exam_model.specs.Validity.{IsWellMade};
 ghost use Rattle.constraint_model.specs.Views.{problem_of};
 ghost use Rattle.lagrange_bound.specs.Cuts.{IsCut};
-ghost use Rattle.form_search.specs.States.{IsPossible};
 
-use crate::branching::branch;
+use crate::branching::{Choice, choices};
 use crate::incumbent::Incumbent;
 use crate::leaves::settled;
-use crate::paths::{Waiting, next_path, push_below, wait};
+use crate::paths::{Sides, Waiting, next_path, push_below, wait};
 use crate::pool::{Pool, closes, copied, empty_vector};
 use crate::priced::Priced;
-use crate::root::Rooted;
-use crate::steps::{steps_on, take_form};
+use crate::probing::{Hand, best_probed};
+use crate::steps::{Stepped, take_form};
 use crate::table::Table;
+use crate::tally::is_ruled_out;
 use constraint_model::Problem;
 use exam_model::Node;
-use lagrange_bound::{Aim, Ascent, Cut, impossible};
+use lagrange_bound::{Aim, Ascent, Cut, climb, impossible};
 use proof_tree::{Memory, Vector};
 use std::alloc::Global;
+
+/// Nodes of a tree, at most.
+const MOST_NODES: u32 = 4095;
+
+/// Steps on each side of a branch that is tried.
+const PROBE_STEPS: u32 = 8;
 
 /// How far a pass may go.
 #[derive(Clone, Copy, Debug)]
@@ -29,6 +35,10 @@ pub struct Limits {
     pub vectors: usize,
     /// Whether it ends early where one that begins anew would be smaller.
     pub restarts: bool,
+    /// How far below what closes a path the steps aim, so that a vector closes other paths too.
+    pub margin: i64,
+    /// Branches that are tried at a path, at most.
+    pub probes: usize,
 }
 
 /// What a pass has made so far.
@@ -36,8 +46,8 @@ pub struct Limits {
 pub struct Pass {
     pub nodes: Vec<Node>,
     pub pool: Pool,
-    /// The vectors that the steps at the branches came to.
-    hands: Vec<Vector>,
+    /// The vectors that the steps on the sides of branches begin with.
+    hands: Vec<Hand>,
     /// Branches that the limits still allow.
     branches: u32,
     /// Whether a leaf is Open.
@@ -46,6 +56,7 @@ pub struct Pass {
     pub is_whole: bool,
     /// The objective of the incumbent as the pass began.
     begun: u64,
+    limits: Limits,
 }
 
 impl Pass {
@@ -54,16 +65,19 @@ impl Pass {
         alloc: Global,
         table: &Table,
         incumbent: &Incumbent,
-        rooted: &Rooted,
+        at_root: &Stepped,
         limits: Limits,
     ) -> Result<Pass, Memory> {
         let mut pool = Pool::new(alloc, table, limits.vectors)?;
-        if !rooted.vector.pairs().is_empty() && pool.has_room() {
-            let vector = copied(alloc, &rooted.vector)?;
+        if !at_root.vector.pairs().is_empty() && pool.has_room() {
+            let vector = copied(alloc, &at_root.vector)?;
             let _ = pool.store(Priced::of(alloc, table, vector, false)?)?;
         }
         let mut hands = Vec::new(alloc);
-        hands.push(copied(alloc, &rooted.vector)?)?;
+        hands.push(Hand {
+            vector: copied(alloc, &at_root.vector)?,
+            bound: i64::MAX,
+        })?;
         Ok(Pass {
             nodes: Vec::new(alloc),
             pool,
@@ -72,54 +86,146 @@ impl Pass {
             is_spent: false,
             is_whole: false,
             begun: incumbent.objective,
+            limits,
         })
     }
 
-    /// Steps at a path, from the vector that its branch came to.
+    /// What steps aim at: somewhat less than what closes a path, as the limits have it.
+    fn aim(&self, incumbent: &Incumbent, steps: u32) -> Aim {
+        Aim {
+            ray: incumbent.form.is_none(),
+            target: incumbent.top().wrapping_sub(self.limits.margin),
+            steps,
+        }
+    }
+
+    /// Steps at a path, fewer where there is no room for a vector, or where its branch was tried or it is deep.
     fn steps(
         &self,
         alloc: Global,
         problem: &Problem,
         incumbent: &Incumbent,
         place: &Waiting,
-    ) -> Result<Option<Ascent>, Memory>
-        requires well_made { IsWellMade (problem_of problem.now) }
-        requires cut { IsCut (problem_of problem.now) place.now.cut }
-        requires possible { IsPossible (problem_of problem.now) place.now.cut }
+    ) -> Result<Ascent, Memory>
+        requires { IsWellMade (problem_of problem.now) }
     {
+        let Some(from) = self.hands.get(place.hand) else {
+            let aim = self.aim(incumbent, 10);
+            return climb(alloc, problem, &place.cut, &empty_vector(alloc), aim);
+        };
         let steps = if !self.pool.has_room() {
             10
-        } else if place.depth < 6 {
+        } else if place.depth < 6 && from.bound == i64::MAX {
             40
         } else {
             25
         };
-        let aim = Aim {
-            ray: incumbent.form.is_none(),
-            target: incumbent.top(),
-            steps,
+        let aim = self.aim(incumbent, steps);
+        climb(alloc, problem, &place.cut, &from.vector, aim)
+    }
+
+    /// The leaf of the vector that a path begins with, if that closes it by the steps that tried its branch.
+    fn closed_before(
+        &mut self,
+        alloc: Global,
+        table: &Table,
+        incumbent: &Incumbent,
+        place: &Waiting,
+    ) -> Result<Option<Node>, Memory> {
+        let target = incumbent.top().wrapping_sub(self.limits.margin);
+        let vector = match self.hands.get(place.hand) {
+            Some(hand) if hand.bound <= target => copied(alloc, &hand.vector)?,
+            _ => return Ok(None),
         };
-        match self.hands.get(place.hand) {
-            Some(from) => steps_on(alloc, problem, &place.cut, from, aim),
-            None => steps_on(alloc, problem, &place.cut, &empty_vector(alloc), aim),
+        self.closed_by(alloc, table, incumbent, place, vector)
+    }
+
+    /// The leaf of a vector, if that closes the path and there is room for it.
+    fn closed_by(
+        &mut self,
+        alloc: Global,
+        table: &Table,
+        incumbent: &Incumbent,
+        place: &Waiting,
+        vector: Vector,
+    ) -> Result<Option<Node>, Memory> {
+        if !self.pool.has_room() {
+            return Ok(None);
+        }
+        let priced = Priced::of(alloc, table, vector, incumbent.form.is_none())?;
+        if closes(&priced, table, incumbent, &place.cut) {
+            self.pool.store(priced)
+        } else {
+            Ok(None)
         }
     }
 
-    /// The branch at a path, or Open where the limits allow none.
+    /// Hands over what the steps on the sides of a branch begin with.
+    fn hand_over(&mut self, first: Hand, other: Hand) -> Result<(), Memory> {
+        self.hands.push(first)?;
+        self.hands.push(other)?;
+        Ok(())
+    }
+
+    /// A branch that isn't tried: both sides begin with the vector of the path.
+    fn untried(
+        &mut self,
+        alloc: Global,
+        choices: &[Choice],
+        vector: Vector,
+    ) -> Result<Node, Memory> {
+        let first = Hand {
+            vector: copied(alloc, &vector)?,
+            bound: i64::MAX,
+        };
+        let other = Hand {
+            vector,
+            bound: i64::MAX,
+        };
+        self.hand_over(first, other)?;
+        match choices.first() {
+            Some(choice) => Ok(choice.node),
+            None => Ok(Node::Open),
+        }
+    }
+
+    /// The branch at a path after steps there, or Open where the limits allow none.
     fn branch_or_open(
         &mut self,
+        alloc: Global,
+        problem: &Problem,
         table: &Table,
+        incumbent: &mut Incumbent,
         place: &Waiting,
-        vector: Vector,
-        shares: &[u16],
-    ) -> Result<Node, Memory> {
+        stepped: Stepped,
+    ) -> Result<Node, Memory>
+        requires well_made { IsWellMade (problem_of problem.now) }
+        requires cut { IsCut (problem_of problem.now) place.now.cut }
+    {
         if self.branches == 0 {
             self.is_spent = true;
             return Ok(Node::Open);
         }
         self.branches = self.branches.saturating_sub(1);
-        self.hands.push(vector)?;
-        Ok(branch(table, &place.cut, shares))
+        let (cut, probes) = (&place.cut, self.limits.probes);
+        let choices = choices(alloc, table, cut, stepped.shares.as_slice(), probes)?;
+        let (pool, tried) = (&self.pool, choices.as_slice());
+        let aim = self.aim(incumbent, PROBE_STEPS);
+        let best = if pool.has_room() {
+            best_probed(
+                alloc, problem, table, pool, incumbent, cut, tried, &stepped, aim,
+            )?
+        } else {
+            None
+        };
+        match best {
+            Some(probe) => {
+                let (node, first, other) = probe.into_parts();
+                self.hand_over(first, other)?;
+                Ok(node)
+            }
+            None => self.untried(alloc, choices.as_slice(), stepped.vector),
+        }
     }
 
     /// The node at a path that no vector of the pool closes, after steps there.
@@ -133,23 +239,19 @@ impl Pass {
     ) -> Result<Node, Memory>
         requires well_made { IsWellMade (problem_of problem.now) }
         requires cut { IsCut (problem_of problem.now) place.now.cut }
-        requires possible { IsPossible (problem_of problem.now) place.now.cut }
     {
-        let ray = incumbent.form.is_none();
-        let Some(ascent) = self.steps(alloc, problem, incumbent, place)? else {
-            return Ok(Node::Open);
-        };
+        if let Some(leaf) = self.closed_before(alloc, table, incumbent, place)? {
+            return Ok(leaf);
+        }
+        let ascent = self.steps(alloc, problem, incumbent, place)?;
         take_form(problem, table, incumbent, &ascent);
-        if ascent.bound <= incumbent.top() && self.pool.has_room() {
+        if ascent.bound <= incumbent.top() {
             let vector = copied(alloc, &ascent.vector)?;
-            let priced = Priced::of(alloc, table, vector, ray)?;
-            if closes(&priced, table, incumbent, &place.cut) {
-                if let Some(leaf) = self.pool.store(priced)? {
-                    return Ok(leaf);
-                }
+            if let Some(leaf) = self.closed_by(alloc, table, incumbent, place, vector)? {
+                return Ok(leaf);
             }
         }
-        self.branch_or_open(table, place, ascent.vector, ascent.shares.as_slice())
+        self.branch_or_open(alloc, problem, table, incumbent, place, Stepped::of(ascent))
     }
 
     /// The node at a path where no row is impossible by counting.
@@ -159,12 +261,11 @@ impl Pass {
         problem: &Problem,
         table: &Table,
         incumbent: &mut Incumbent,
-        rooted: &Rooted,
+        at_root: &Stepped,
         place: &Waiting,
     ) -> Result<Node, Memory>
         requires well_made { IsWellMade (problem_of problem.now) }
         requires cut { IsCut (problem_of problem.now) place.now.cut }
-        requires possible { IsPossible (problem_of problem.now) place.now.cut }
     {
         if let Some(leaf) = settled(problem, table, &mut self.pool, incumbent, &place.cut)? {
             return Ok(leaf);
@@ -173,8 +274,8 @@ impl Pass {
             return Ok(Node::Open);
         }
         if place.depth == 0 && incumbent.form.is_some() {
-            let vector = copied(alloc, &rooted.vector)?;
-            return self.branch_or_open(table, place, vector, rooted.shares.as_slice());
+            let again = at_root.again(alloc)?;
+            return self.branch_or_open(alloc, problem, table, incumbent, place, again);
         }
         self.explored(alloc, problem, table, incumbent, place)
     }
@@ -186,16 +287,18 @@ impl Pass {
         problem: &Problem,
         table: &Table,
         incumbent: &mut Incumbent,
-        rooted: &Rooted,
+        at_root: &Stepped,
         place: &Waiting,
     ) -> Result<Node, Memory>
         requires well_made { IsWellMade (problem_of problem.now) }
         requires cut { IsCut (problem_of problem.now) place.now.cut }
     {
-        match impossible(problem, &place.cut) {
-            Some(row) => Ok(Node::Count(row)),
-            None => self.possible_node(alloc, problem, table, incumbent, rooted, place),
+        if is_ruled_out(table, &place.cut) {
+            if let Some(row) = impossible(problem, &place.cut) {
+                return Ok(Node::Count(row));
+            }
         }
+        self.possible_node(alloc, problem, table, incumbent, at_root, place)
     }
 
     /// Whether a pass that begins anew would be smaller: a better form was met, and there are 32, 64, 128, .. nodes.
@@ -210,35 +313,36 @@ impl Pass {
         problem: &Problem,
         table: &Table,
         incumbent: &mut Incumbent,
-        rooted: &Rooted,
+        at_root: &Stepped,
         limits: Limits,
     ) -> Result<Pass, Memory>
         requires { IsWellMade (problem_of problem.now) }
     {
-        let mut pass = Pass::new(alloc, table, incumbent, rooted, limits)?;
+        let mut pass = Pass::new(alloc, table, incumbent, at_root, limits)?;
         let mut waiting = Vec::new(alloc);
-        wait(
-            problem,
-            &mut waiting,
-            Waiting {
-                cut: Cut::root(problem),
-                depth: 0,
-                hand: 0,
-            },
-        )?;
-        for _ in 0..8191 {
+        let first = Waiting {
+            cut: Cut::root(problem),
+            depth: 0,
+            hand: 0,
+        };
+        wait(problem, &mut waiting, first)?;
+        for _ in 0..MOST_NODES {
             let Some(place) = next_path(problem, &mut waiting) else {
-                pass.is_whole = true;
                 break;
             };
-            let node = pass.node_at(alloc, problem, table, incumbent, rooted, &place)?;
+            let node = pass.node_at(alloc, problem, table, incumbent, at_root, &place)?;
             pass.nodes.push(node)?;
-            let hand = pass.hands.len().saturating_sub(1);
-            push_below(problem, &mut waiting, &place, &node, hand)?;
+            let last = pass.hands.len().saturating_sub(1);
+            let hands = Sides {
+                first: last.saturating_sub(1),
+                other: last,
+            };
+            push_below(problem, &mut waiting, &place, &node, hands)?;
             if limits.restarts && pass.is_stale(incumbent) {
                 break;
             }
         }
+        pass.is_whole = waiting.is_empty();
         Ok(pass)
     }
 }

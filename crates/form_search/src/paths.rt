@@ -11,7 +11,7 @@ use exam_model::Node;
 use lagrange_bound::Cut;
 use proof_tree::Memory;
 
-/// A path that waits for its subtree: how deep it is, and the place of the vector that the steps at its last branch came to.
+/// A path that waits for its subtree: how deep it is, and the place of the vector that the steps there begin with.
 #[derive(Debug, Drop)]
 pub struct Waiting {
     pub cut: Cut,
@@ -41,7 +41,7 @@ pub fn next_path(problem: &Problem, waiting: &mut Vec<Waiting>) -> Option<Waitin
 }
 
 /// The path below a branch, on its first side or the other; the path itself where it can't branch so.
-fn below(problem: &Problem, cut: &Cut, node: &Node, first: bool) -> Cut
+pub fn below(problem: &Problem, cut: &Cut, node: &Node, first: bool) -> Cut
     requires well_made { IsWellMade (problem_of problem.now) }
     requires cut { IsCut (problem_of problem.now) cut.now }
     ensures { IsCut (problem_of problem.now) result }
@@ -65,6 +65,13 @@ fn below(problem: &Problem, cut: &Cut, node: &Node, first: bool) -> Cut
     }
 }
 
+/// The places of the vectors that the steps on both sides of a branch begin with.
+#[derive(Clone, Copy, Debug)]
+pub struct Sides {
+    pub first: usize,
+    pub other: usize,
+}
+
 /// Whether two subtrees stand behind a node.
 fn is_branch(node: &Node) -> bool {
     matches!(node, Node::BranchItem(_) | Node::BranchStimulus(_))
@@ -76,7 +83,7 @@ pub fn push_below(
     waiting: &mut Vec<Waiting>,
     path: &Waiting,
     node: &Node,
-    hand: usize,
+    hands: Sides,
 ) -> Result<(), Memory>
     requires well_made { IsWellMade (problem_of problem.now) }
     requires cut { IsCut (problem_of problem.now) path.now.cut }
@@ -90,13 +97,13 @@ pub fn push_below(
     let other = Waiting {
         cut: below(problem, &path.cut, node, false),
         depth,
-        hand,
+        hand: hands.other,
     };
     wait(problem, waiting, other)?;
     let first = Waiting {
         cut: below(problem, &path.cut, node, true),
         depth,
-        hand,
+        hand: hands.first,
     };
     wait(problem, waiting, first)
 }

@@ -127,6 +127,14 @@ impl Pool {
         None
     }
 
+    /// Whether a vector closes the path.
+    pub fn has_closing(&self, table: &Table, incumbent: &Incumbent, cut: &Cut) -> bool {
+        self.vectors
+            .as_slice()
+            .iter()
+            .any(|priced| closes(priced, table, incumbent, cut))
+    }
+
     /// The leaf of the empty vector, if that closes the path and isn't among the others yet.
     pub fn closing_plain(
         &mut self,

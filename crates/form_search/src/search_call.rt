@@ -10,7 +10,8 @@ use crate::incumbent::Incumbent;
 use crate::pass::{Limits, Pass};
 use crate::pool::empty_vector;
 use crate::repair::repaired;
-use crate::root::{Rooted, steps_at_root};
+use crate::root::steps_at_root;
+use crate::steps::Stepped;
 use crate::table::Table;
 use bank_tables::{ItemSet, List};
 use constraint_model::{Problem, meets};
@@ -20,6 +21,15 @@ use std::alloc::Global;
 
 /// Vectors of a tree, at most.
 const MOST_VECTORS: usize = 32;
+
+/// The part of the root's gap that the steps of the last pass aim below what closes.
+const MARGIN: i64 = 16;
+
+/// Branches that are tried at a path, in the first passes.
+const FIRST_PROBES: usize = 2;
+
+/// The same in the last pass.
+const LAST_PROBES: usize = 4;
 
 /// Passes with as many vectors as they want, at most.
 const MOST_PASSES: u32 = 8;
@@ -70,7 +80,7 @@ fn passes(
     problem: &Problem,
     table: &Table,
     incumbent: &mut Incumbent,
-    rooted: &Rooted,
+    at_root: &Stepped,
     budget: u16,
 ) -> Result<Option<Tree>, Memory>
     requires { IsWellMade (problem_of problem.now) }
@@ -80,9 +90,11 @@ fn passes(
         branches,
         vectors: 255,
         restarts: true,
+        margin: 0,
+        probes: FIRST_PROBES,
     };
     for _ in 0..MOST_PASSES {
-        let pass = Pass::over(alloc, problem, table, incumbent, rooted, limits)?;
+        let pass = Pass::over(alloc, problem, table, incumbent, at_root, limits)?;
         if pass.is_whole {
             if !pass.is_spent && pass.pool.len() <= MOST_VECTORS {
                 return tree_of(alloc, pass);
@@ -92,7 +104,9 @@ fn passes(
     }
     limits.vectors = MOST_VECTORS;
     limits.restarts = false;
-    let pass = Pass::over(alloc, problem, table, incumbent, rooted, limits)?;
+    limits.probes = LAST_PROBES;
+    limits.margin = at_root.bound.saturating_sub(incumbent.top()).max(0) / MARGIN;
+    let pass = Pass::over(alloc, problem, table, incumbent, at_root, limits)?;
     tree_of(alloc, pass)
 }
 

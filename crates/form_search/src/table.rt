@@ -21,14 +21,15 @@ pub struct Limits {
 }
 
 /// An item: its information at the estimate, its stimulus (0 for none), whether it was given, whether it may be taken or
-/// left, and what it adds to each row.
-#[derive(Debug, Drop)]
+/// left, and where what it adds to rows begins and ends.
+#[derive(Clone, Copy, Debug)]
 pub struct Entry {
     pub info: u32,
     pub stimulus: u8,
     pub given: bool,
     pub free: bool,
-    pub parts: Vec<Part>,
+    start: usize,
+    end: usize,
 }
 
 /// The numbers of a problem.
@@ -36,6 +37,8 @@ pub struct Entry {
 pub struct Table {
     pub length: u32,
     pub entries: Vec<Entry>,
+    /// What the items add to rows, item by item.
+    parts: Vec<Part>,
     pub rows: Vec<Limits>,
     /// The bounds of stimulus `s` at `s - 1`.
     pub stimuli: Vec<Limits>,
@@ -57,9 +60,8 @@ fn amount_of(problem: &Problem, row: &Row, item: u16) -> u32 {
     }
 }
 
-/// What an item adds to each row to which it adds something.
-fn parts_of(alloc: Global, problem: &Problem, item: u16) -> Result<Vec<Part>, Memory> {
-    let mut parts = Vec::new(alloc);
+/// Adds what an item adds to each row to which it adds something.
+fn add_parts(parts: &mut Vec<Part>, problem: &Problem, item: u16) -> Result<(), Memory> {
     let mut row = 0u8;
     for given in problem.spec.rows() {
         let amount = amount_of(problem, given, item);
@@ -68,7 +70,7 @@ fn parts_of(alloc: Global, problem: &Problem, item: u16) -> Result<Vec<Part>, Me
         }
         row = row.saturating_add(1);
     }
-    Ok(parts)
+    Ok(())
 }
 
 /// The information of an item at the estimate.
@@ -89,31 +91,27 @@ fn stimulus_of(problem: &Problem, item: u16) -> u8 {
     }
 }
 
-/// The items of the bank.
-fn entries_of(alloc: Global, problem: &Problem) -> Result<Vec<Entry>, Memory> {
-    let mut entries = Vec::new(alloc);
-    for item in 0..problem.bank.items() {
-        let given = problem.given.has(item);
-        let entry = Entry {
-            info: info_of(problem, item),
-            stimulus: stimulus_of(problem, item),
-            given,
-            free: !given && !problem.barred.has(item),
-            parts: parts_of(alloc, problem, item)?,
-        };
-        entries.push(entry)?;
+/// An item, whose parts are still to come.
+fn entry_of(problem: &Problem, item: u16, start: usize) -> Entry {
+    let given = problem.given.has(item);
+    Entry {
+        info: info_of(problem, item),
+        stimulus: stimulus_of(problem, item),
+        given,
+        free: !given && !problem.barred.has(item),
+        start,
+        end: start,
     }
-    Ok(entries)
 }
 
 /// The mean of what the free items add to a row of a quantity, and 1 for another row.
-fn scale_of(entries: &[Entry], row: u8, given: &Row) -> i64 {
+fn scale_of(table: &Table, row: u8, given: &Row) -> i64 {
     match given {
         Row::Quantity { .. } => {
             let mut sum = 0i64;
             let mut count = 0i64;
-            for entry in entries {
-                let amount = amount_in(&entry.parts, row);
+            for entry in table.entries.as_slice() {
+                let amount = amount_in(table.parts_of(entry), row);
                 if entry.free && amount > 0 {
                     sum = sum.wrapping_add(amount);
                     count = count.wrapping_add(1);
@@ -126,8 +124,8 @@ fn scale_of(entries: &[Entry], row: u8, given: &Row) -> i64 {
 }
 
 /// The bounds of a row.
-fn limits_of(entries: &[Entry], row: u8, given: &Row) -> Limits {
-    let scale = scale_of(entries, row, given);
+fn limits_of(table: &Table, row: u8, given: &Row) -> Limits {
+    let scale = scale_of(table, row, given);
     let (low, high, of_stimuli) = match given {
         Row::Count { low, high, .. } => (*low, *high, false),
         Row::Quantity { low, high, .. } => (*low, *high, false),
@@ -140,17 +138,6 @@ fn limits_of(entries: &[Entry], row: u8, given: &Row) -> Limits {
         scale,
         of_stimuli,
     }
-}
-
-/// The rows of the plan.
-fn rows_of(alloc: Global, problem: &Problem, entries: &[Entry]) -> Result<Vec<Limits>, Memory> {
-    let mut rows = Vec::new(alloc);
-    let mut row = 0u8;
-    for given in problem.spec.rows() {
-        rows.push(limits_of(entries, row, given))?;
-        row = row.saturating_add(1);
-    }
-    Ok(rows)
 }
 
 /// The bounds of the stimuli.
@@ -179,16 +166,44 @@ pub fn amount_in(parts: &[Part], row: u8) -> i64 {
 }
 
 impl Table {
+    /// What an item adds to each row to which it adds something.
+    pub fn parts_of(&self, entry: &Entry) -> &[Part] {
+        self.parts.get(entry.start..entry.end).unwrap_or(&[])
+    }
+
+    /// Adds the items of the bank.
+    fn add_entries(&mut self, problem: &Problem) -> Result<(), Memory> {
+        for item in 0..problem.bank.items() {
+            let mut entry = entry_of(problem, item, self.parts.len());
+            add_parts(&mut self.parts, problem, item)?;
+            entry.end = self.parts.len();
+            self.entries.push(entry)?;
+        }
+        Ok(())
+    }
+
+    /// Adds the rows of the plan.
+    fn add_rows(&mut self, problem: &Problem) -> Result<(), Memory> {
+        let mut row = 0u8;
+        for given in problem.spec.rows() {
+            let limits = limits_of(self, row, given);
+            self.rows.push(limits)?;
+            row = row.saturating_add(1);
+        }
+        Ok(())
+    }
+
     /// The numbers of a problem.
     pub fn of(alloc: Global, problem: &Problem) -> Result<Table, Memory> {
-        let entries = entries_of(alloc, problem)?;
-        let rows = rows_of(alloc, problem, entries.as_slice())?;
-        let stimuli = stimuli_of(alloc, problem)?;
-        Ok(Table {
+        let mut table = Table {
             length: problem.spec.length(),
-            entries,
-            rows,
-            stimuli,
-        })
+            entries: Vec::new(alloc),
+            parts: Vec::new(alloc),
+            rows: Vec::new(alloc),
+            stimuli: stimuli_of(alloc, problem)?,
+        };
+        table.add_entries(problem)?;
+        table.add_rows(problem)?;
+        Ok(table)
     }
 }

@@ -2,6 +2,7 @@
 
 use crate::table::{Entry, Limits, Table, amount_in};
 use bank_tables::ItemSet;
+use lagrange_bound::Cut;
 
 /// What a set of items comes to.
 #[derive(Clone, Copy, Debug)]
@@ -43,19 +44,27 @@ impl Tally {
             members: [0; 65],
             used: 0,
         };
-        let mut item = 0u16;
-        for entry in table.entries.as_slice() {
-            if items.has(item) {
-                tally.add(entry);
-            }
-            item = item.saturating_add(1);
-        }
+        tally.add_all(table, items);
         tally
     }
 
+    /// Adds the items of a set.
+    fn add_all(&mut self, table: &Table, items: &ItemSet) {
+        let mut left = *items;
+        for _ in 0..512 {
+            let Some(item) = left.first() else {
+                break;
+            };
+            left = left.without(item);
+            if let Some(entry) = table.entries.get(item as usize) {
+                self.add(table, entry);
+            }
+        }
+    }
+
     /// Adds an item.
-    fn add(&mut self, entry: &Entry) {
-        for part in entry.parts.as_slice() {
+    fn add(&mut self, table: &Table, entry: &Entry) {
+        for part in table.parts_of(entry) {
             let row = part.row as usize;
             if row < 128 {
                 self.activity[row] = self.activity[row].wrapping_add(part.amount as i64);
@@ -107,6 +116,39 @@ impl Tally {
         sum
     }
 
+    /// Whether a row or stimulus has too much in this set, or too little in the other, which has all that may come.
+    pub fn rules_out(&self, table: &Table, all: &Tally, cut: &Cut) -> bool {
+        let chosen = cut.chosen.count() as i64;
+        let usable = chosen.wrapping_add(cut.opened.count() as i64);
+        let mut row = 0u8;
+        for limits in table.rows.as_slice() {
+            let (least, most) = if limits.of_stimuli {
+                (chosen, usable)
+            } else {
+                (self.on_row(row), all.on_row(row))
+            };
+            if least > limits.high || most < limits.low {
+                return true;
+            }
+            row = row.saturating_add(1);
+        }
+        self.rules_out_stimulus(table, all, cut)
+    }
+
+    /// The same of the stimuli alone; one that is only open may have no item.
+    fn rules_out_stimulus(&self, table: &Table, all: &Tally, cut: &Cut) -> bool {
+        let mut stimulus = 1u8;
+        for limits in table.stimuli.as_slice() {
+            let is_short = all.on_stimulus(stimulus) < limits.low;
+            let is_chosen = cut.chosen.has(stimulus as u16);
+            if self.on_stimulus(stimulus) > limits.high || is_chosen && is_short {
+                return true;
+            }
+            stimulus = stimulus.saturating_add(1);
+        }
+        false
+    }
+
     /// How the excess of a row changes where so much is added to it.
     fn row_change(&self, table: &Table, row: u8, added: i64) -> i64 {
         match table.rows.get(row as usize) {
@@ -121,14 +163,14 @@ impl Tally {
     /// How the excess of the rows of two items changes where the one leaves for the other.
     fn rows_change(&self, table: &Table, leaves: &Entry, comes: &Entry) -> i64 {
         let mut sum = 0i64;
-        for part in leaves.parts.as_slice() {
-            let added = amount_in(&comes.parts, part.row).wrapping_sub(part.amount as i64);
+        for part in table.parts_of(leaves) {
+            let added = amount_in(table.parts_of(comes), part.row).wrapping_sub(part.amount as i64);
             if added != 0 {
                 sum = sum.wrapping_add(self.row_change(table, part.row, added));
             }
         }
-        for part in comes.parts.as_slice() {
-            if amount_in(&leaves.parts, part.row) == 0 {
+        for part in table.parts_of(comes) {
+            if amount_in(table.parts_of(leaves), part.row) == 0 {
                 sum = sum.wrapping_add(self.row_change(table, part.row, part.amount as i64));
             }
         }
@@ -184,4 +226,17 @@ impl Tally {
         self.rows_change(table, leaves, comes)
             .wrapping_add(self.stimuli_change(table, leaves, comes))
     }
+}
+
+/// Whether a row is impossible by counting on a path: by the table the answer takes a quarter of the time that `impossible`
+/// takes, which names the row.
+pub fn is_ruled_out(table: &Table, cut: &Cut) -> bool {
+    let taken = cut.taken.count();
+    if taken > table.length || taken.saturating_add(cut.free.count()) < table.length {
+        return true;
+    }
+    let least = Tally::of(table, &cut.taken);
+    let mut most = least;
+    most.add_all(table, &cut.free);
+    least.rules_out(table, &most, cut)
 }

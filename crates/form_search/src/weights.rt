@@ -38,7 +38,7 @@ fn weight_of(table: &Table, prices: &[i64], entry: &Entry, ray: bool) -> i64 {
     } else {
         (entry.info as i64).wrapping_mul(256)
     };
-    for part in entry.parts.as_slice() {
+    for part in table.parts_of(entry) {
         let price = prices.get(part.row as usize).copied().unwrap_or(0);
         weight = weight.wrapping_add(price.wrapping_mul(part.amount as i64));
     }

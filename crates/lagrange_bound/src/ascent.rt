@@ -11,9 +11,9 @@ ghost use Rattle.lagrange_bound.specs.Cuts.{IsCut, IsCutOf};
 
 use crate::cut::Cut;
 use crate::relaxation::bound;
-use crate::steps::climb;
+use crate::steps::stepped;
 use crate::vectors::{copy_of, names_only_sides};
-use bank_tables::ItemSet;
+use bank_tables::{ItemSet, List};
 use constraint_model::Problem;
 use proof_tree::{Memory, Vector};
 use std::alloc::Global;
@@ -76,7 +76,7 @@ pub fn ascend(
     ensures sides { IfOk result (λ ascent. NamesOnlySides (problem_of problem.now) ascent.vector) }
     ensures no_higher { IfOk result (λ ascent. (p : Path) → IsCutOf (problem_of problem.now) p cut.now → IsNoHigher (problem_of problem.now) p aim.ray from.now ascent.vector) }
 {
-    let ascent = climb(alloc, problem, cut, from, aim)?;
+    let ascent = stepped(alloc, problem, cut, from, aim)?;
     if names_only_sides(problem, &ascent.vector)
         && is_no_higher(problem, cut, from, &ascent.vector, aim.ray)
     {
@@ -91,6 +91,36 @@ pub fn ascend(
     Ok(Ascent {
         vector: copy_of(alloc, from)?,
         bound: bound(problem, cut, from, aim.ray).unwrap_or(aim.target),
+        shares,
+        form,
+    })
+}
+
+/// The same steps without the test that the bound is no higher: they take a third less time, and a search that computes the
+/// bounds that it rests on wants no more. The vector is valid for the plan, and nothing else is promised.
+pub fn climb(
+    alloc: Global,
+    problem: &Problem,
+    cut: &Cut,
+    from: &Vector,
+    aim: Aim,
+) -> Result<Ascent, Memory>
+    requires { IsWellMade (problem_of problem.now) }
+    ensures { IfOk result (λ ascent. NamesOnlySides (problem_of problem.now) ascent.vector) }
+{
+    let ascent = stepped(alloc, problem, cut, from, aim)?;
+    if names_only_sides(problem, &ascent.vector) {
+        return Ok(ascent);
+    }
+    let Ascent {
+        vector: _,
+        bound: _,
+        shares,
+        form,
+    } = ascent;
+    Ok(Ascent {
+        vector: Vector::new(List::of(Vec::new(alloc))),
+        bound: i64::MAX,
         shares,
         form,
     })

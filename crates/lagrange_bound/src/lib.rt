@@ -22,7 +22,7 @@ mod threshold;
 mod vectors;
 mod weights;
 
-pub use ascent::{Aim, Ascent, ascend, improve};
+pub use ascent::{Aim, Ascent, ascend, climb, improve};
 pub use counting::impossible;
 pub use cut::Cut;
 pub use proof_tree::Memory;

@@ -156,7 +156,12 @@ impl Search {
     fn run(&mut self, cut: &Cut, aim: &Aim) {
         let (mut bound, mut slope) = self.look(cut, aim.ray);
         self.flat.share(4096);
-        self.level = Level::of(self.level.target, bound, part_of(aim.steps));
+        self.level = Level::of(
+            self.level.target,
+            bound,
+            part_of(aim.steps),
+            reach_of(aim.ray),
+        );
         for _ in 0..aim.steps {
             if self.level.is_reached() || self.level.is_stale() {
                 return;
@@ -177,8 +182,13 @@ fn part_of(steps: u32) -> i64 {
     if steps > 40 { 8 } else { 4 }
 }
 
+/// How far below the target the steps aim at most; a ray is as good at any scale, and at a larger one suffers less by rounding.
+fn reach_of(ray: bool) -> i64 {
+    if ray { 1024 } else { 64 }
+}
+
 /// Goes from a vector by at most so many subgradient steps towards a bound of at most the target.
-pub(crate) fn climb(
+pub(crate) fn stepped(
     alloc: Global,
     problem: &Problem,
     cut: &Cut,
@@ -187,7 +197,7 @@ pub(crate) fn climb(
 ) -> Result<Ascent, Memory> {
     let mut search = Search {
         flat: Flat::of(alloc, problem, cut, from, aim.ray)?,
-        level: Level::of(aim.target, 0, 1),
+        level: Level::of(aim.target, 0, 1, 0),
         form: None,
     };
     search.run(cut, &aim);

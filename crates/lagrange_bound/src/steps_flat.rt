@@ -62,22 +62,26 @@ fn short(place: usize) -> u16 {
     u16::try_from(place).unwrap_or(u16::MAX)
 }
 
-/// The free items: their numbers, their gains, and the place of each.
+/// The free items, by number and by place.
 #[derive(Drop)]
 struct Free {
     numbers: Vec<u16>,
     gains: Vec<i64>,
+    /// The place of each number.
     places: Places,
-    /// The stimulus and the place of those that have one.
-    stimuli: Vec<(u8, u16)>,
+    /// The place of the last item of each stimulus.
+    last_of: [u16; 256],
+    /// The place of the item before each that has the same stimulus.
+    before: Vec<u16>,
 }
 
 fn free_items(alloc: Global, problem: &Problem, free: &ItemSet, ray: bool) -> Result<Free, Memory> {
     let count = free.count() as usize;
     let mut numbers = Vec::with_capacity(alloc, count)?;
     let mut gains = Vec::with_capacity(alloc, count)?;
-    let mut stimuli = Vec::with_capacity(alloc, count)?;
+    let mut before = Vec::with_capacity(alloc, count)?;
     let mut places = [u16::MAX; 512];
+    let mut last_of = [u16::MAX; 256];
     for item in 0..problem.bank.items() {
         if free.has(item) {
             let place = short(numbers.len());
@@ -86,17 +90,17 @@ fn free_items(alloc: Global, problem: &Problem, free: &ItemSet, ray: bool) -> Re
             }
             numbers.push(item)?;
             gains.push(gain_of(problem, ray, item))?;
-            let stimulus = stimulus_of(problem.bank, item);
-            if stimulus != 0 {
-                stimuli.push((stimulus, place))?;
-            }
+            let last = &mut last_of[stimulus_of(problem.bank, item) as usize];
+            before.push(*last)?;
+            *last = place;
         }
     }
     Ok(Free {
         numbers,
         gains,
         places,
-        stimuli,
+        last_of,
+        before,
     })
 }
 
@@ -150,7 +154,7 @@ fn add_measure(
     line: u16,
 ) -> Result<i64, Memory> {
     let count = measure.set.count();
-    let sum = if count < 12 {
+    let sum = if (count as usize) < free.numbers.len() / 2 {
         add_few(selection, problem.bank, &free.places, measure, line)?
     } else {
         add_many(selection, problem.bank, &free.numbers, measure, line)?
@@ -226,6 +230,20 @@ impl Flat {
         Ok(())
     }
 
+    /// Adds what the free items of a stimulus add to the next line.
+    fn add_members(&mut self, free: &Free, stimulus: usize) -> Result<(), Memory> {
+        let line = short(self.lines.len());
+        let mut at = free.last_of.get(stimulus).copied().unwrap_or(u16::MAX);
+        for _ in 0..512 {
+            let Some(before) = free.before.get(at as usize).copied() else {
+                break;
+            };
+            self.selection.add_entry(at, line, 1)?;
+            at = before;
+        }
+        Ok(())
+    }
+
     /// Adds a stimulus that is chosen or open.
     fn add_stimulus(
         &mut self,
@@ -236,12 +254,7 @@ impl Flat {
         side: usize,
     ) -> Result<(), Memory> {
         let mut line = self.new_line(kind, side, bound.low as i64, bound.high as i64);
-        let place = short(self.lines.len());
-        for (named, item) in &free.stimuli {
-            if *named as usize == stimulus {
-                self.selection.add_entry(*item, place, 1)?;
-            }
-        }
+        self.add_members(free, stimulus)?;
         line.end = self.selection.entries.len();
         line.unit = 32768;
         self.lines.push(line)?;

@@ -9,7 +9,9 @@ pub(crate) struct Level {
     pub best: i64,
     /// How far below the best bound the steps aim.
     delta: i64,
-    /// Steps in a row that gained little or nothing.
+    /// How far below the target they aim at most.
+    reach: i64,
+    /// Steps that gained nothing since one gained much.
     fails: u32,
 }
 
@@ -17,13 +19,14 @@ pub(crate) struct Level {
 const PATIENCE: u32 = 4;
 
 impl Level {
-    /// The level after the first bound; the greater the part, the nearer.
-    pub(crate) fn of(target: i64, first: i64, part: i64) -> Level {
+    /// The level after the first bound: the greater the part of the gap, the nearer, and at most so far below the target.
+    pub(crate) fn of(target: i64, first: i64, part: i64, reach: i64) -> Level {
         let gap = first.wrapping_sub(target);
         Level {
             target,
             best: first,
-            delta: gap.checked_div(part).unwrap_or(gap).max(256),
+            delta: gap.checked_div(part).unwrap_or(gap).max(reach.max(256)),
+            reach,
             fails: 0,
         }
     }
@@ -62,7 +65,7 @@ impl Level {
         let aimed = self
             .best
             .wrapping_sub(self.delta)
-            .max(self.target.wrapping_sub(64));
+            .max(self.target.wrapping_sub(self.reach));
         let over = bound.wrapping_sub(aimed).clamp(0, 1 << 40);
         let scaled = (over as i128).wrapping_mul(1 << 32);
         match scaled.checked_div(squares as i128) {
