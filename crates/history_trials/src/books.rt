@@ -237,7 +237,7 @@ struct Told {
 }
 
 /// What a book tells after these records, of bookings 71 and 72, and of sessions 0 and 2.
-fn told(alloc: Global, records: &[Record]) -> Result<Told, Fail> {
+fn what_is_told(alloc: Global, records: &[Record]) -> Result<Told, Fail> {
     let bank = bank(alloc)?;
     let spec = Spec::of(alloc, &bank, plan(alloc, 2_001)?)?;
     let mut book = Book::new(alloc, &bank, &spec)?;
@@ -288,6 +288,6 @@ fn what_a_book_tells(rt: HostRuntime) -> Result<(), Fail> {
         places: (Some(waiting), None),
         seat: Some(seat),
     };
-    assert_eq!(rt; told(alloc, &two_sessions(alloc)?)?, expected);
+    assert_eq!(rt; what_is_told(alloc, &two_sessions(alloc)?)?, expected);
     Ok(())
 }
