@@ -2,7 +2,6 @@
 
 ghost use Rattle.exam_model.specs.Validity.{IsWellMade};
 ghost use Rattle.constraint_model.specs.Views.{problem_of};
-ghost use Rattle.lagrange_bound.specs.Cuts.{IsCut};
 
 use crate::incumbent::Incumbent;
 use crate::pool::{copied, empty_vector, wanted};
@@ -60,8 +59,7 @@ pub fn steps_at_root(
     incumbent: &mut Incumbent,
     cut: &Cut,
 ) -> Result<Stepped, Memory>
-    requires well_made { IsWellMade (problem_of problem.now) }
-    requires cut { IsCut (problem_of problem.now) cut.now }
+    requires { IsWellMade (problem_of problem.now) }
 {
     let mut stepped = no_steps(alloc);
     for _ in 0..PIECES {

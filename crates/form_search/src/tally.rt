@@ -228,8 +228,8 @@ impl Tally {
     }
 }
 
-/// Whether a row is impossible by counting on a path: by the table the answer takes a quarter of the time that `impossible`
-/// takes, which names the row.
+/// Whether a row is impossible by counting on a path. By the table the answer comes sooner than by `impossible`, which names
+/// the row.
 pub fn is_ruled_out(table: &Table, cut: &Cut) -> bool {
     let taken = cut.taken.count();
     if taken > table.length || taken.saturating_add(cut.free.count()) < table.length {
