@@ -15,6 +15,7 @@ use crate::steps::Stepped;
 use crate::table::Table;
 use bank_tables::{ItemSet, List};
 use constraint_model::{Problem, meets};
+use exam_model::Node;
 use lagrange_bound::Cut;
 use proof_tree::{Memory, Tree};
 use std::alloc::Global;
@@ -65,12 +66,26 @@ fn known(
     Ok(incumbent)
 }
 
-/// The tree of a pass.
+/// Whether a leaf names a vector.
+fn names_vector(nodes: &[Node]) -> bool {
+    for node in nodes {
+        if matches!(node, Node::Bound(_) | Node::Ray(_)) {
+            return true;
+        }
+    }
+    false
+}
+
+/// The tree of a pass, without vectors where no leaf names one.
 fn tree_of(alloc: Global, pass: Pass) -> Result<Option<Tree>, Memory> {
     if !pass.is_whole {
         return Ok(None);
     }
-    let vectors = pass.pool.into_vectors(alloc)?;
+    let vectors = if names_vector(&pass.nodes) {
+        pass.pool.into_vectors(alloc)?
+    } else {
+        Vec::new(alloc)
+    };
     Ok(Tree::of(List::of(vectors), List::of(pass.nodes)))
 }
 
