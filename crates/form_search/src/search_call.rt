@@ -81,12 +81,13 @@ fn tree_of(alloc: Global, pass: Pass) -> Result<Option<Tree>, Memory> {
     if !pass.is_whole {
         return Ok(None);
     }
-    let vectors = if names_vector(&pass.nodes) {
+    let nodes = pass.nodes;
+    let vectors = if names_vector(&nodes) {
         pass.pool.into_vectors(alloc)?
     } else {
         Vec::new(alloc)
     };
-    Ok(Tree::of(List::of(vectors), List::of(pass.nodes)))
+    Ok(Tree::of(List::of(vectors), List::of(nodes)))
 }
 
 /// A pass with as many vectors as it wants, and one within the limits of a tree where that doesn't do.
