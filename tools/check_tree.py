@@ -485,8 +485,8 @@ def trials(count, seed):
                 print("problem %d: %s is wrong: %r %r %s" % (number, said, P, X, write_tree(vectors, nodes).hex()))
                 wrong += 1
     print(", ".join("%s %d" % pair for pair in sorted(seen.items())))
-    print("%d wrong" % wrong)
-    return 1 if wrong else 0
+    print("%d passed, %d failed" % (sum(seen.values()) - wrong, wrong))
+    return 1 if wrong or not seen else 0
 
 
 # ---------------------------------------------------------------- command line

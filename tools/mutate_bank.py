@@ -1,17 +1,19 @@
 #!/usr/bin/env python3
 """Changes each byte of a small bank text to each of the 256 values, and runs the built program on every text that comes out.
 
-usage: mutate_bank.py PROGRAM [--first-form] [--check] [--jobs N] [--places A-B]
+usage: mutate_bank.py PROGRAM [--first-form] [--check] [--jobs N] [--places A-B] [--every N]
 
 PROGRAM is the built `shadowd`. Each text is either refused with status 3 and the one line that names its first fault, or it
 is read, and then the items that the program serves are those of the text's own numbers. Both are decided by the small
 reader and the plain enumeration of forms in this file, which share nothing with the program. Printed are how many texts
-were read, and how many were refused for which kind of fault. Exit status 0 where each text had its answer.
+were read, and how many were refused for which kind of fault; the last line is 'N passed, M failed'. Exit status 0 where each text had its
+answer.
 
 --first-form   the program takes banks without stimuli alone: a text whose items have one gives status 15
 --check        the program has the command `check`: a text that is read also has its bank line there
 --jobs N       so many runs at a time (default 4)
 --places A-B   only these places of the text, from 0 on
+--every N      of these only every Nth
 """
 import itertools
 import multiprocessing
@@ -332,7 +334,7 @@ def place_answers(job):
 
 
 def main():
-    words, first_form, has_check, jobs, places = [], False, False, 4, range(len(BANK))
+    words, first_form, has_check, jobs, places, every = [], False, False, 4, range(len(BANK)), 1
     rest = sys.argv[1:]
     while rest:
         word = rest.pop(0)
@@ -345,12 +347,14 @@ def main():
         elif word == "--places":
             low, high = rest.pop(0).split("-")
             places = range(int(low), int(high) + 1)
+        elif word == "--every":
+            every = int(rest.pop(0))
         else:
             words.append(word)
     if len(words) != 1:
         print(__doc__)
         return 2
-    settings = (os.path.abspath(words[0]), first_form, has_check)
+    settings, places = (os.path.abspath(words[0]), first_form, has_check), places[::every]
     with tempfile.TemporaryDirectory() as folder:
         kind, fault = judge(settings, BANK, folder)
     if fault or kind != "read":
@@ -367,8 +371,9 @@ def main():
     print("bytes %d changes %d" % (len(places), sum(total.values())))
     for kind in sorted(total):
         print("%7d %s" % (total[kind], kind))
-    print("%d wrong" % len(faults))
-    return 1 if faults or not total else 0
+    failed = len(faults) if total else 1
+    print("%d passed, %d failed" % (sum(total.values()) - len(faults), failed))
+    return 1 if failed else 0
 
 
 if __name__ == "__main__":
