@@ -1,4 +1,4 @@
--- A short list is told by its numbers: what stands behind them in the array is 0.
+-- The numbers of a short list determine it: the rest of its array is 0.
 use Rattle.std.proofs.Common.{◌≡◌, ℕ, ◌-◌, ◌≤◌, ◌++◌, List, length, take, drop, sym, ◌∙◌, ap, arith}
 use Rattle.std.specs.Prelude.{replicate}
 use Rattle.std.proofs.lemmas.List.{take-append-drop, length-take-le}
@@ -8,7 +8,7 @@ use Rattle.bank_tables.specs.declared.short.Short.TheInside.{Inside}
 pub record IsFilled (s : Inside) : Type 0 where
   pub room : length s.values ≡ 512
   pub few : s.len ≤ 512
-  pub behind : drop s.len s.values ≡ replicate (512 - s.len) 0
+  pub rest : drop s.len s.values ≡ replicate (512 - s.len) 0
 
 abbrev pub filled_from : List ℕ → Inside
 filled_from xs = record { values = xs ++ replicate (512 - length xs) 0; len = length xs }
@@ -20,4 +20,4 @@ pub filled_again : (s : Inside) → IsFilled s → filled_from (take s.len s.val
 filled_again s is =
     let few : s.len ≤ length s.values = omega (arith, is.room, is.few) in
     let number : length (take s.len s.values) ≡ s.len = length-take-le s.len s.values few in
-    same_fields _ _ _ _ (ap (λ (n : ℕ). take s.len s.values ++ replicate (512 - n) 0) number ∙ (ap (λ (rest : List ℕ). take s.len s.values ++ rest) (sym is.behind) ∙ take-append-drop s.len s.values)) number
+    same_fields _ _ _ _ (ap (λ (n : ℕ). take s.len s.values ++ replicate (512 - n) 0) number ∙ (ap (λ (others : List ℕ). take s.len s.values ++ others) (sym is.rest) ∙ take-append-drop s.len s.values)) number

@@ -8,30 +8,51 @@ ghost use Rattle.bank_tables.specs.Faults.{bank_fault};
 
 use crate::bank_fault::BankFault;
 use crate::faults::first_fault;
-use crate::rows::Rows;
+use crate::list::List;
+use crate::rows::{ItemRow, Rows};
 use std::alloc::Global;
 use std::marker::Model;
 
-/// An item bank: rows whose numbers are within their bounds.
+/// An item bank: rows whose numbers are within their bounds, with the greatest stimulus number, so that it is looked up once.
+/// The rows are moved in, so they keep the types that they are given in.
 #[derive(Debug, Drop)]
 pub struct Bank {
-    rows: Rows,
+    grid: u8,
+    quantities: u8,
+    stimuli: u8,
+    items: List<ItemRow>,
 }
 
 impl Model for Bank {
     ghost use Rattle.bank_tables.specs.Tables.{Tables};
-    ghost use Rattle.bank_tables.specs.Validity.{IsBank};
+    ghost use Rattle.bank_tables.specs.Insides.{tables_of, IsInside};
 
     ghost Value = { Tables };
 
-    ghost view = { λ b. b.rows };
+    ghost view = { tables_of };
 
-    ghost invariant = { λ b. IsBank b.rows };
+    ghost invariant = { IsInside };
+}
+
+/// The greatest stimulus number of the rows of a bank.
+fn greatest_stimulus(rows: &Rows) -> u8
+    requires { IsBank rows.now }
+    ensures { result ≡ greatest_below (size rows.now) (stimulus rows.now) }
+{
+    let items = rows.items.as_slice();
+    let mut most = 0;
+    for i in 0..items.len() {
+        let stimulus = items[i].stimulus;
+        if stimulus > most {
+            most = stimulus;
+        }
+    }
+    most as u8
 }
 
 impl Bank {
     /// The bank of these rows, or their first fault: the tests go in the order of `BankFault`'s variants, from `BadStimulus` on
-    /// item by item. It takes no memory of its own, so `BankFault::Memory` doesn't come.
+    /// item by item. It takes no memory of its own, so `BankFault::Memory` is never given.
     pub fn of(_alloc: Global, rows: Rows) -> Result<Bank, BankFault>
         ensures bank { IfOk result (λ b. b ≡ rows) }
         ensures faultless { IfOk result (λ _. bank_fault rows ≡ None) }
@@ -39,7 +60,20 @@ impl Bank {
     {
         match first_fault(&rows) {
             Some(fault) => Err(fault),
-            None => Ok(Bank { rows }),
+            None => {
+                let stimuli = greatest_stimulus(&rows);
+                let Rows {
+                    grid,
+                    quantities,
+                    items,
+                } = rows;
+                Ok(Bank {
+                    grid: grid as u8,
+                    quantities: quantities as u8,
+                    stimuli,
+                    items,
+                })
+            }
         }
     }
 
@@ -48,35 +82,28 @@ impl Bank {
         ensures items { result ≡ size self.now }
         ensures bank { IsBank self.now }
     {
-        self.rows.items.as_slice().len() as u16
+        self.items.as_slice().len() as u16
     }
 
     /// The number of points of the ability grid, 1 to 61.
     pub fn grid(&self) -> u8
         ensures { result ≡ self.now.grid }
     {
-        self.rows.grid as u8
+        self.grid
     }
 
     /// The number of quantities, at most 8.
     pub fn quantities(&self) -> u8
         ensures { result ≡ self.now.quantities }
     {
-        self.rows.quantities as u8
+        self.quantities
     }
 
     /// The greatest stimulus number, at most 64.
     pub fn stimuli(&self) -> u8
         ensures { result ≡ greatest_below (size self.now) (stimulus self.now) }
     {
-        let mut most = 0;
-        for i in 0..self.rows.items.as_slice().len() {
-            let stimulus = self.rows.items.as_slice()[i].stimulus;
-            if stimulus > most {
-                most = stimulus;
-            }
-        }
-        most as u8
+        self.stimuli
     }
 
     /// The stimulus of an item; 0 is none.
@@ -84,7 +111,7 @@ impl Bank {
         requires { item < size self.now }
         ensures { result ≡ stimulus self.now item }
     {
-        self.rows.items.as_slice()[item as usize].stimulus as u8
+        self.items.as_slice()[item as usize].stimulus as u8
     }
 
     /// The number of response categories of an item, 2 to 5.
@@ -92,7 +119,7 @@ impl Bank {
         requires { item < size self.now }
         ensures { result ≡ categories self.now item }
     {
-        self.rows.items.as_slice()[item as usize].categories as u8
+        self.items.as_slice()[item as usize].categories as u8
     }
 
     /// A quantity of an item.
@@ -101,9 +128,7 @@ impl Bank {
         requires which { which < self.now.quantities }
         ensures { result ≡ quantity self.now item which }
     {
-        self.rows.items.as_slice()[item as usize]
-            .quantities
-            .as_slice()[which as usize]
+        self.items.as_slice()[item as usize].quantities.as_slice()[which as usize]
     }
 
     /// The information of an item at a grid point.
@@ -112,7 +137,7 @@ impl Bank {
         requires point { point < self.now.grid }
         ensures { result ≡ info self.now item point }
     {
-        self.rows.items.as_slice()[item as usize].info.as_slice()[point as usize]
+        self.items.as_slice()[item as usize].info.as_slice()[point as usize]
     }
 
     /// The log-likelihood of a response to an item at a grid point.
@@ -122,7 +147,15 @@ impl Bank {
         requires point { point < self.now.grid }
         ensures { result ≡ loglik self.now item response point }
     {
-        let at = response as usize * self.rows.grid as usize + point as usize;
-        self.rows.items.as_slice()[item as usize].loglik.as_slice()[at]
+        let at = response as usize * self.grid as usize + point as usize;
+        self.items.as_slice()[item as usize].loglik.as_slice()[at]
     }
+}
+
+/// Threads may move and share a value of this type.
+fn may_be_shared<T: Send + Sync>() {}
+
+/// Threads may move and share a bank.
+fn a_bank_may_be_shared() {
+    may_be_shared::<Bank>()
 }

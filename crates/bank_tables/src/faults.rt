@@ -6,6 +6,7 @@ ghost use Rattle.bank_tables.specs.Tables.{size};
 ghost use Rattle.bank_tables.specs.Faults.{are_numbers, is_loglik, item_fault, items_fault, bank_fault};
 
 use crate::bank_fault::BankFault;
+use crate::limits::{CATEGORIES, GRID, ITEMS, QUANTITIES, STIMULI};
 use crate::rows::{ItemRow, Rows};
 
 fn are_at_most(most: u32, numbers: &[u32]) -> bool
@@ -31,10 +32,10 @@ fn item_fault(grid: u32, quantities: u32, item: u16, row: &ItemRow) -> Option<Ba
     requires { grid < 62 }
     ensures { result ≡ item_fault grid quantities item row.now }
 {
-    if row.stimulus > 64 {
+    if row.stimulus > STIMULI as u32 {
         return Some(BankFault::BadStimulus(item));
     }
-    if row.categories < 2 || row.categories > 5 {
+    if row.categories < 2 || row.categories > CATEGORIES as u32 {
         return Some(BankFault::BadCategories(item));
     }
     if !are_numbers(quantities, 65_535, row.quantities.as_slice()) {
@@ -75,10 +76,10 @@ pub fn first_fault(rows: &Rows) -> Option<BankFault>
     if count == 0 {
         return Some(BankFault::NoItems);
     }
-    if count > 512 {
+    if count > ITEMS as usize {
         return Some(BankFault::TooMany(count as u64));
     }
-    if rows.grid == 0 || rows.grid > 61 || rows.quantities > 8 {
+    if rows.grid == 0 || rows.grid > GRID as u32 || rows.quantities > QUANTITIES as u32 {
         return Some(BankFault::BadGrid);
     }
     items_fault(rows)

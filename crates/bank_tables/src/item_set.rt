@@ -4,6 +4,7 @@ ghost use Rattle.std.specs.Prelude.{◌≡◌, ℕ, ◌+◌, ◌<◌, ◌≤◌,
 ghost use Rattle.bank_tables.specs.Items.{has, IsLowest, AreWords};
 ghost use Rattle.bank_tables.specs.Sums.{size_of};
 
+use crate::limits::ITEMS;
 use std::marker::Model;
 
 /// A set of items, which are numbers below 512.
@@ -37,7 +38,7 @@ impl ItemSet {
     pub fn has(&self, item: u16) -> bool
         ensures { result ≡ has self.now item }
     {
-        if item < 512 {
+        if item < ITEMS {
             self.words[(item / 64) as usize] >> (item % 64) & 1 == 1
         } else {
             false
@@ -117,7 +118,7 @@ impl ItemSet {
         ensures { IsTrue result ↔ ((i : ℕ) → IsTrue (has self.now i) → i < bound) }
     {
         let _ = &self.words;
-        for i in bound..512 {
+        for i in bound..ITEMS {
             if self.has(i) {
                 return false;
             }

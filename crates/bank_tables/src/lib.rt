@@ -1,9 +1,8 @@
-//! What every crate says of items: sets of items, short lists of numbers, and the item bank with its accessors.
+//! What every crate needs of items: sets of items, lists, limits, and the item bank with its accessors.
 //!
 //! Upward it promises that each set operation is the operation on members, that `Bank::of` takes exactly the rows whose
-//! numbers are within their bounds, else names their first fault, and that a bank's accessors give its numbers. A bank and a
-//! set hold plain values, so threads may share them. It reads no text, calls no device and, once a bank stands, takes no
-//! memory.
+//! numbers are within their bounds, else names their first fault, and that a bank's accessors give its numbers. Threads may
+//! share a bank and a set. It reads no text and calls no device. Only `List::push` takes memory.
 #![tactic(auto)]
 
 mod bank;
@@ -11,6 +10,7 @@ mod bank_fault;
 mod faults;
 mod item_set;
 pub mod laws;
+pub mod limits;
 mod list;
 mod rows;
 mod short;

@@ -1,7 +1,8 @@
 //! A list of values.
 
-ghost use Rattle.std.specs.Prelude.{◌≡◌};
+ghost use Rattle.std.specs.Prelude.{◌≡◌, ◌<◌, [], ◌∷◌, ◌++◌, length, slice_set, is_ok, if◌then◌else◌};
 
+use std::alloc::AllocError;
 use std::marker::Model;
 
 /// A list, which contracts see as such: a thin type over `Vec` for the fields of plain types.
@@ -37,5 +38,23 @@ impl<T> List<T> {
     {
         let List { items } = self;
         items
+    }
+}
+
+impl<T: Drop> List<T> {
+    /// Adds a value at the end; without memory the list stays as it is.
+    pub fn push(&mut self, value: T) -> Result<(), AllocError>
+        ensures { self.new ≡ (if is_ok result then self.old ++ value ∷ [] else self.old) }
+    {
+        self.items.push(value)?;
+        Ok(())
+    }
+
+    /// Puts a value at a place in place of the one there.
+    pub fn set(&mut self, at: usize, value: T)
+        requires { at < length self.old }
+        ensures { self.new ≡ slice_set self.old at value }
+    {
+        self.items[at] = value;
     }
 }

@@ -14,8 +14,8 @@ invariant_of-self c =
     record {
       room = length-set values len c.args.value ∙ c.self.invariant.room;
       few = omega arith;
-      behind =
+      rest =
           let after : len < len + 1 = omega arith in
           drop-set-lt (len + 1) values len c.args.value after
-          ∙ (sym (drop-drop 1 len values) ∙ (ap (drop 1) c.self.invariant.behind ∙ (drop-replicate 1 (512 - len) 0 ∙ ap (λ (n : ℕ). replicate n 0) (omega arith))));
+          ∙ (sym (drop-drop 1 len values) ∙ (ap (drop 1) c.self.invariant.rest ∙ (drop-replicate 1 (512 - len) 0 ∙ ap (λ (n : ℕ). replicate n 0) (omega arith))));
     }
