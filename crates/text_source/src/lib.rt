@@ -6,6 +6,7 @@
 
 ghost use Rattle.std.specs.Prelude.{◌≡◌, ℕ, ◌≤◌, ◌<◌, ◌^◌, List, [], IsTrue, IfOk, IfErr, length};
 ghost use Rattle.exam_edge.specs.Faults.{Rose};
+ghost use Rattle.exam_edge.specs.Lent.{IsLent};
 
 use exam_edge::{Failed, Source};
 use std::alloc::Global;
@@ -17,7 +18,7 @@ pub enum TextFault {
     Source,
     /// The source has more bytes than the limit.
     TooLong,
-    /// Want of memory.
+    /// Out of memory.
     Memory,
 }
 
@@ -30,10 +31,15 @@ pub fn text_of<S: Source>(alloc: Global, source: &mut S, limit: usize) -> Result
     ensures too_long { IfErr result (λ e. e ≡ TextFault.TooLong → IsTrue (S.tells source.old) → limit < length (S.left source.old)) }
     ensures failed { IfErr result (λ e. e ≡ TextFault.Source → Rose (S.faults source.old) (S.faults source.new)) }
 
-    ensures beside { IsTrue (S.tells source.old) → (name : List ℕ) → S.beside source.new name ≡ S.beside source.old name }
-    ensures grows { S.faults source.old ≤ S.faults source.new }
-    ensures tells { S.tells source.new ≡ S.tells source.old }
-    ensures identity { S.identity source.new ≡ S.identity source.old }
+    // A text and `TooLong` are answers only where there is something to read.
+    ensures there { IfOk result (λ _. IsTrue (S.tells source.old) → IsTrue (S.there source.old)) }
+    ensures there_too_long { IfErr result (λ e. e ≡ TextFault.TooLong
+        → IsTrue (S.tells source.old) → IsTrue (S.there source.old)) }
+    ensures has { IsTrue (S.tells source.old)
+        → (name : List ℕ) → S.has source.new name ≡ S.has source.old name }
+    ensures beside { IsTrue (S.tells source.old)
+        → (name : List ℕ) → S.beside source.new name ≡ S.beside source.old name }
+    ensures frame { IsLent S.tells S.identity S.faults source.old source.new }
 {
     let mut text = Vec::new(alloc);
     let mut piece = [0u8; 4096];

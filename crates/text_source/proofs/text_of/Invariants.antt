@@ -1,4 +1,5 @@
 use Rattle.std.proofs.Common.{◌≡◌, ℕ, ◌-◌, ◌≤◌, ◌++◌, List, IsTrue, length}
+use Rattle.exam_edge.specs.Lent.{IsLent}
 use Rattle.text_source.proofs.text_of.Given as goal
 
 abbrev pub invariant-text : goal.invariant-text
@@ -7,9 +8,9 @@ invariant-text g l = record {
   size : length l.piece ≡ 4096;
   read : IsTrue (g.S.Source.tells l.fn.source) → l.text.items ++ g.S.Source.left l.source ≡ g.S.Source.left l.fn.source;
   beside : IsTrue (g.S.Source.tells l.fn.source) → (name : List ℕ) → g.S.Source.beside l.source name ≡ g.S.Source.beside l.fn.source name;
-  grows : g.S.Source.faults l.fn.source ≤ g.S.Source.faults l.source;
-  tells : g.S.Source.tells l.source ≡ g.S.Source.tells l.fn.source;
-  identity : g.S.Source.identity l.source ≡ g.S.Source.identity l.fn.source;
+  there : IsTrue (g.S.Source.tells l.fn.source) → g.S.Source.there l.source ≡ g.S.Source.there l.fn.source;
+  has : IsTrue (g.S.Source.tells l.fn.source) → (name : List ℕ) → g.S.Source.has l.source name ≡ g.S.Source.has l.fn.source name;
+  frame : IsLent g.S.Source.tells g.S.Source.identity g.S.Source.faults l.fn.source l.source;
 }
 
 abbrev pub decreases-text : goal.decreases-text
