@@ -18,15 +18,15 @@ use Rattle.exam_model.specs.Problem.{Problem, whole}
 use Rattle.exam_model.specs.Forms.{Form, Best, RowHolds, objective}
 use Rattle.exam_model.specs.Breaches.{IsFirstBreach}
 use Rattle.exam_model.specs.Paths.{root}
-use Rattle.exam_model.specs.Relaxed.{Multipliers, IsRelaxedMaximum}
+use Rattle.exam_model.specs.Weights.{item_weight, stimulus_weight, rows_constant}
+use Rattle.exam_model.specs.Relaxed.{Multipliers, link_multiplier, IsRelaxedMaximum}
+use Rattle.exam_model.specs.ClosedForm.{excess_of_items}
 use Rattle.exam_model.specs.ProofTrees.{ProofTree}
 use Rattle.exam_model.specs.Verdicts.{IsVerdict}
 use Rattle.exam_model.specs.Ability.{IsPosteriorMode}
 use Rattle.exam_model.specs.Serving.{IsNext}
 use Rattle.exam_model.specs.Validity.{IsRow, IsPlanFor, IsWhole}
 use Rattle.exam_model.proofs.Computed.{these, these_below, one_word, word_below, logliks_are, form_is, is_no_form, maximum_is, not_at_most, at_most, names_sides, mode_is, next_is}
-use Rattle.exam_model.proofs.Reduced.{reduced, row_linear, amount_linear, item_part, stimulus_part, constant_form, items_linear, own_weight, low_stimulus, high_stimulus}
-use Rattle.exam_model.proofs.Greatest.{relaxed_by, best_stimulus}
 use Rattle.exam_model.proofs.TreeLaws.{optimal_is_best}
 
 -- ---- the bank
@@ -159,7 +159,7 @@ one_bound v = record { vectors = v ∷ []; nodes = Bound 0 ∷ [] }
 
 -- the constant 1, and the weights of items 1, 2 and 5: 2048, 2303 and 1791
 maximum_a : IsRelaxedMaximum problem_a (root problem_a) ((3, 1) ∷ []) false (pos 6143)
-unfolding problem_a bank_a item_a plan_of_rows plan_a has relaxed_by best_stimulus reduced row_linear amount_linear item_part stimulus_part constant_form items_linear own_weight low_stimulus high_stimulus
+unfolding problem_a bank_a item_a plan_of_rows plan_a has item_weight stimulus_weight rows_constant link_multiplier excess_of_items
 maximum_a = maximum_is problem_a (root problem_a) ((3, 1) ∷ []) false (these (1 ∷ 2 ∷ 5 ∷ [])) (pos 1600) (pos 6143) (these_below 6 (1 ∷ 2 ∷ 5 ∷ []) refl) refl refl
 
 optimal_a : IsVerdict problem_a (Some (these (1 ∷ 2 ∷ 3 ∷ []))) (one_bound ((3, 1) ∷ [])) Optimal
@@ -182,7 +182,7 @@ best_a = optimal_is_best problem_a (these (1 ∷ 2 ∷ 3 ∷ [])) (one_bound ((3
 
 -- with the multiplier 4,096 the relaxed maximum is 8,960, and the leaf isn't closed
 maximum_4096 : IsRelaxedMaximum problem_a (root problem_a) ((3, 4096) ∷ []) false (pos 8960)
-unfolding problem_a bank_a item_a plan_of_rows plan_a has relaxed_by best_stimulus reduced row_linear amount_linear item_part stimulus_part constant_form items_linear own_weight low_stimulus high_stimulus
+unfolding problem_a bank_a item_a plan_of_rows plan_a has item_weight stimulus_weight rows_constant link_multiplier excess_of_items
 maximum_4096 = maximum_is problem_a (root problem_a) ((3, 4096) ∷ []) false (these (0 ∷ 1 ∷ 3 ∷ [])) (pos 1280) (pos 8960) (these_below 6 (0 ∷ 1 ∷ 3 ∷ []) refl) refl refl
 
 pub not_closed_a : IsVerdict problem_a (Some (these (1 ∷ 2 ∷ 3 ∷ []))) (one_bound ((3, 4096) ∷ [])) (Bad 0 NotClosed)

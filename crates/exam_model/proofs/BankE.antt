@@ -17,16 +17,16 @@ use Rattle.exam_model.specs.Plan.{Plan, row_at}
 use Rattle.exam_model.specs.Problem.{Problem, whole}
 use Rattle.exam_model.specs.Forms.{Form, Best, Firm, HoldsAllButOne, objective}
 use Rattle.exam_model.specs.Paths.{root, is_free}
+use Rattle.exam_model.specs.Weights.{item_weight, stimulus_weight, rows_constant}
 use Rattle.exam_model.specs.Counting.{is_impossible}
-use Rattle.exam_model.specs.Relaxed.{Multipliers, lagrangian, IsRelaxedPair, IsRelaxedMaximum}
+use Rattle.exam_model.specs.Relaxed.{Multipliers, lagrangian_without_links, lagrangian, IsRelaxedPair, link_multiplier, IsRelaxedMaximum}
+use Rattle.exam_model.specs.ClosedForm.{excess_of_items}
 use Rattle.exam_model.specs.ProofTrees.{ProofTree, AreTrees}
 use Rattle.exam_model.specs.Spending.{IsSpent}
 use Rattle.exam_model.specs.Verdicts.{IsVerdict}
 use Rattle.exam_model.specs.Validity.{IsRow, IsPlanFor}
 use Rattle.exam_model.proofs.SumLaws.{or_true, or_left}
 use Rattle.exam_model.proofs.Computed.{these, these_below, these_in, one_word, word_below, logliks_are, form_is, all_possible, maximum_is}
-use Rattle.exam_model.proofs.Reduced.{reduced, row_linear, amount_linear, item_part, stimulus_part, constant_form, items_linear, own_weight, low_stimulus, high_stimulus}
-use Rattle.exam_model.proofs.Greatest.{relaxed_by, best_stimulus}
 use Rattle.exam_model.proofs.TreeLaws.{optimal_is_best}
 
 -- ---- the bank and the plan
@@ -240,7 +240,7 @@ pair_23 =
     }
 
 open_root : (v : Multipliers) (r : ℤ) → IsRelaxedMaximum problem_e (root problem_e) v false r → pos 3712 ≤ℤ r
-unfolding problem_e bank_e item_e plan_e has lagrangian
+unfolding problem_e bank_e item_e plan_e has lagrangian lagrangian_without_links link_multiplier
 open_root v r is =
     let one = is.greatest (these (0 ∷ 1 ∷ [])) (λ _. false) pair_01 in
     let other = is.greatest (these (2 ∷ 3 ∷ [])) (λ _. false) pair_23 in
@@ -251,7 +251,7 @@ unfoldable pub one_open : ProofTree
 one_open = record { vectors = []; nodes = Open ∷ [] }
 
 plain_e : IsRelaxedMaximum problem_e (root problem_e) [] false (pos 4864)
-unfolding problem_e bank_e item_e plan_e has relaxed_by best_stimulus reduced row_linear amount_linear item_part stimulus_part constant_form items_linear own_weight low_stimulus high_stimulus
+unfolding problem_e bank_e item_e plan_e has item_weight stimulus_weight rows_constant link_multiplier excess_of_items
 plain_e = maximum_is problem_e (root problem_e) [] false (these (0 ∷ 1 ∷ [])) (pos 2100) (pos 4864) (these_below 5 (0 ∷ 1 ∷ []) refl) refl refl
 
 spent_e : IsSpent problem_e one_open 1

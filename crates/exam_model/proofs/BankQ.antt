@@ -1,5 +1,5 @@
 -- Four items of ten words each, and room for fifteen words in a test of two: a ray shows that there is no form.
-use Rattle.std.proofs.Common.{◌≡◌, ℕ, zero, suc, ◌<◌, inl, true, false, [], ◌∷◌, pos, negsuc, None, refl, arith}
+use Rattle.std.proofs.Common.{◌≡◌, ℕ, zero, suc, ◌≤◌, ◌<◌, inl, true, false, [], ◌∷◌, length, pos, negsuc, None, refl, arith}
 use Rattle.std.specs.Prelude.{replicate, All}
 use Rattle.std.proofs.Math.Dec.{lit≤}
 use Rattle.bank_tables.specs.Items.{has}
@@ -14,14 +14,14 @@ use Rattle.exam_model.specs.Plan.{Plan, row_at}
 use Rattle.exam_model.specs.Problem.{Problem, whole}
 use Rattle.exam_model.specs.Forms.{HasNoForm}
 use Rattle.exam_model.specs.Paths.{root}
+use Rattle.exam_model.specs.Weights.{item_weight, stimulus_weight, rows_constant}
 use Rattle.exam_model.specs.Counting.{is_impossible}
-use Rattle.exam_model.specs.Relaxed.{IsRelaxedMaximum}
+use Rattle.exam_model.specs.Relaxed.{link_multiplier, IsRelaxedMaximum}
+use Rattle.exam_model.specs.ClosedForm.{excess_of_items}
 use Rattle.exam_model.specs.ProofTrees.{ProofTree, IsProofTree, IsVector, vector_at}
 use Rattle.exam_model.specs.Verdicts.{IsVerdict}
 use Rattle.exam_model.specs.Validity.{IsRow, IsPlanFor}
 use Rattle.exam_model.proofs.Computed.{these, these_below, one_word, word_below, logliks_are, all_possible, maximum_is, at_most, names_sides}
-use Rattle.exam_model.proofs.Reduced.{reduced, row_linear, amount_linear, item_part, stimulus_part, constant_form, items_linear, own_weight, low_stimulus, high_stimulus}
-use Rattle.exam_model.proofs.Greatest.{relaxed_by, best_stimulus}
 use Rattle.exam_model.proofs.TreeLaws.{no_form_is_none}
 
 unfoldable pub item_q : Item
@@ -91,7 +91,7 @@ possible_q = all_possible problem_q (root problem_q) refl
 
 -- side 1, the upper one, by 1: the constant 15, and -10 for each of two items
 ray_q : IsRelaxedMaximum problem_q (root problem_q) ((1, 1) ∷ []) true (negsuc 4)
-unfolding problem_q bank_q item_q plan_q has relaxed_by best_stimulus reduced row_linear amount_linear item_part stimulus_part constant_form items_linear own_weight low_stimulus high_stimulus
+unfolding problem_q bank_q item_q plan_q has item_weight stimulus_weight rows_constant link_multiplier excess_of_items
 ray_q = maximum_is problem_q (root problem_q) ((1, 1) ∷ []) true (these (0 ∷ 1 ∷ [])) (negsuc 9) (negsuc 4) (these_below 4 (0 ∷ 1 ∷ []) refl) refl refl
 
 unfoldable pub one_ray : ProofTree
@@ -112,6 +112,8 @@ is_tree_q =
       few_vectors = lit≤ tt;
       vectors = vectors;
       sides = sides;
+      short = short;
+      few_pairs = lit≤ tt;
       few_nodes = lit≤ tt;
       one_tree = tt;
     }
@@ -120,7 +122,11 @@ is_tree_q =
     vectors zero w = (lit≤ tt, lit≤ tt, lit≤ tt, tt)
     vectors (suc v) w = absurd (omega arith)
 
-    sides : (v : ℕ) → v < 1 → All (λ pair. pair.0 < 384) (vector_at one_ray v)
+    sides : (v : ℕ) → v < 1 → All (λ pair. pair.0 < 386) (vector_at one_ray v)
     sides zero w zero d x = lit≤ tt
     sides zero w (suc k) d x = absurd (omega arith)
     sides (suc v) w k d x = absurd (omega arith)
+
+    short : (v : ℕ) → v < 1 → length (vector_at one_ray v) ≤ 384
+    short zero w = lit≤ tt
+    short (suc v) w = absurd (omega arith)

@@ -17,15 +17,15 @@ use Rattle.exam_model.specs.Problem.{Problem}
 use Rattle.exam_model.specs.Forms.{Form, Best, objective}
 use Rattle.exam_model.specs.Breaches.{IsFirstBreach}
 use Rattle.exam_model.specs.Paths.{root}
-use Rattle.exam_model.specs.Relaxed.{IsRelaxedMaximum}
+use Rattle.exam_model.specs.Weights.{item_weight, stimulus_weight, rows_constant}
+use Rattle.exam_model.specs.Relaxed.{link_multiplier, IsRelaxedMaximum}
+use Rattle.exam_model.specs.ClosedForm.{excess_of_items}
 use Rattle.exam_model.specs.ProofTrees.{ProofTree}
 use Rattle.exam_model.specs.Verdicts.{IsVerdict}
 use Rattle.exam_model.specs.Serving.{IsNext, is_candidate, stimulus_goes_on}
 use Rattle.exam_model.specs.Seats.{IsSeatProblem, seat_problem, is_barred}
 use Rattle.exam_model.specs.Validity.{IsPlanFor}
 use Rattle.exam_model.proofs.Computed.{these, these_below, these_in, one_word, logliks_are, form_is, meets_is, maximum_is, at_most, names_sides, mode_is, next_is}
-use Rattle.exam_model.proofs.Reduced.{reduced, row_linear, amount_linear, item_part, stimulus_part, constant_form, items_linear, own_weight, low_stimulus, high_stimulus}
-use Rattle.exam_model.proofs.Greatest.{relaxed_by, best_stimulus}
 use Rattle.exam_model.proofs.TreeLaws.{optimal_is_best}
 use Rattle.exam_model.proofs.BankA.{one_bound}
 
@@ -138,7 +138,7 @@ unfolding problem_0 seat_0 seat_s bank_s item_s
 objective_0 = refl
 
 maximum_0 : IsRelaxedMaximum problem_0 (root problem_0) [] false (pos 6912)
-unfolding problem_0 seat_0 seat_s bank_s item_s plan_s has relaxed_by best_stimulus reduced row_linear amount_linear item_part stimulus_part constant_form items_linear own_weight low_stimulus high_stimulus
+unfolding problem_0 seat_0 seat_s bank_s item_s plan_s has item_weight stimulus_weight rows_constant link_multiplier excess_of_items
 maximum_0 = maximum_is problem_0 (root problem_0) [] false (these (0 ∷ 1 ∷ 3 ∷ 4 ∷ [])) (pos 600) (pos 6912) (these_below 5 (0 ∷ 1 ∷ 3 ∷ 4 ∷ []) refl) refl refl
 
 optimal_0 : IsVerdict problem_0 (Some (these (0 ∷ 1 ∷ 3 ∷ 4 ∷ []))) (one_bound []) Optimal

@@ -1,22 +1,20 @@
 -- The closed form is the relaxed maximum.
-use Rattle.std.proofs.Common.{◌≡◌, ℕ, zero, suc, ◌-◌, ◌*◌, ◌≤◌, ◌<◌, ◌⊎◌, inl, inr, Bool, false, cond, ◌==◌, length, ℤ, pos, ◌+ℤ◌, ◌*ℤ◌, ◌≤ℤ◌, refl, sym, ap, ◌∙◌, subst, arith}
+use Rattle.std.proofs.Common.{◌≡◌, ℕ, zero, suc, ◌-◌, ◌*◌, ◌≤◌, ◌<◌, ◌⊎◌, inl, inr, Bool, true, false, cond, ◌==◌, length, ℤ, pos, ◌+ℤ◌, ◌*ℤ◌, ◌≤ℤ◌, refl, sym, ap, ◌∙◌, subst, arith}
 use Rattle.std.specs.Prelude.{int_le, int_lt}
 use Rattle.std.specs.Int.{int_max}
 use Rattle.std.proofs.lemmas.Int.{ints}
 use Rattle.std.proofs.lemmas.Bool.{eqb-true, eqb-false, eq-eqb, ne_eqb}
 use Rattle.bank_tables.specs.Items.{Set}
-use Rattle.bank_tables.specs.Sums.{sum_in_z, total_z, greatest_below}
+use Rattle.bank_tables.specs.Sums.{sum_in_z, total_z}
 use Rattle.bank_tables.specs.Tables.{size, stimulus}
-use Rattle.exam_model.specs.declared.row.Row.{Row}
-use Rattle.exam_model.specs.declared.row.Row.TheVariants.{Count, Quantity, Enemies, Stimuli}
-use Rattle.exam_model.specs.Forms.{stimuli_of, lower_bound, upper_bound}
-use Rattle.exam_model.specs.Plan.{row_at}
+use Rattle.exam_model.specs.Forms.{stimuli_of}
 use Rattle.exam_model.specs.Problem.{Problem}
 use Rattle.exam_model.specs.Paths.{Path, is_chosen, is_open}
-use Rattle.exam_model.specs.Relaxed.{Multipliers, IsRelaxedMaximum}
-use Rattle.exam_model.specs.ClosedForm.{price, bounds_price, stimulus_side, item_activity, stimulus_activity, item_weight, stimulus_weight, rows_constant, IsGreatestFill, stimulus_gain, closed_form}
-use Rattle.exam_model.proofs.SumLaws.{either}
-use Rattle.exam_model.proofs.Reduced.{reduced, row_linear, amount_linear, item_part, stimulus_part, constant_form, items_linear, own_weight, low_stimulus, high_stimulus, total_z-same}
+use Rattle.exam_model.specs.Weights.{price, stimulus_side, constant_share, item_share, stimulus_share, price_of_stimulus, item_weight, stimulus_weight, rows_constant}
+use Rattle.exam_model.specs.Relaxed.{Multipliers, multiplier, IsRelaxedMaximum}
+use Rattle.exam_model.specs.ClosedForm.{capped_weight, excess_of_items, IsGreatestFill, stimulus_gain, closed_form}
+use Rattle.exam_model.proofs.SumLaws.{either, at_most_greatest}
+use Rattle.exam_model.proofs.Reduced.{unlinked, reduced, links, row_linear, amount_linear, constant_form, items_linear, own_weight, low_stimulus, high_stimulus, total_z-same, taken_no_link, chosen_no_excess}
 use Rattle.exam_model.proofs.Greatest.{relaxed_by, relaxed_is, best_stimulus}
 
 -- ---- sums with one term, or none
@@ -59,34 +57,15 @@ one_term (suc n) s m some within =
           omega (arith, ints)
     ]
 
-at_most_greatest : (n : ℕ) (f : ℕ → ℕ) (i : ℕ) → i < n → f i ≤ greatest_below n f
-at_most_greatest zero f i w = absurd (omega arith)
-at_most_greatest (suc n) f i w =
-    elim (last_or i n w) [
-      | inl before ↦ omega (arith, at_most_greatest n f i before)
-      | inr at ↦ let e : f i ≡ f n = ap f at in omega arith
-    ]
-
 -- ---- the three kinds of weight
-item_same : (P : Problem) (row : Row) (i : ℕ) → item_part P row i ≡ item_activity P.bank row i
-unfolding item_part
-item_same P (Count set low high) i = refl
-item_same P (Quantity which set low high) i = refl
-item_same P (Enemies set) i = refl
-item_same P (Stimuli low high) i = refl
-
-stimulus_same : (row : Row) (s : ℕ) → stimulus_part row s ≡ stimulus_activity row
-unfolding stimulus_part
-stimulus_same (Count set low high) s = refl
-stimulus_same (Quantity which set low high) s = refl
-stimulus_same (Enemies set) s = refl
-stimulus_same (Stimuli low high) s = refl
-
 module _ (P : Problem) (v : Multipliers) (ray : Bool) where
-  stimulus_price : ℕ → ℤ
-  stimulus_price k = price v (stimulus_side P (suc k))
+  abbrev M : ℕ → ℕ
+  M = multiplier v
 
-  own_price : (i : ℕ) → i < size P.bank → total_z (stimuli_of P.bank) (term (stimulus P.bank i) stimulus_price) ≡ cond (stimulus P.bank i == 0) (pos 0) (price v (stimulus_side P (stimulus P.bank i)))
+  stimulus_price : ℕ → ℤ
+  stimulus_price k = price M (stimulus_side P (suc k))
+
+  own_price : (i : ℕ) → i < size P.bank → total_z (stimuli_of P.bank) (term (stimulus P.bank i) stimulus_price) ≡ price_of_stimulus P M (stimulus P.bank i)
   unfolding stimulus_price
   own_price i w =
       elim (either (stimulus P.bank i == 0)) [
@@ -94,45 +73,41 @@ module _ (P : Problem) (v : Multipliers) (ray : Bool) where
         | inr some ↦
             let first : 0 < stimulus P.bank i = positive (stimulus P.bank i) some in
             let back : suc (stimulus P.bank i - 1) ≡ stimulus P.bank i = omega arith in
-            rw some (one_term (stimuli_of P.bank) (stimulus P.bank i) stimulus_price first (at_most_greatest (size P.bank) (stimulus P.bank) i w) ∙ ap (λ (s : ℕ). price v (stimulus_side P s)) back)
+            rw some (one_term (stimuli_of P.bank) (stimulus P.bank i) stimulus_price first (at_most_greatest (size P.bank) (stimulus P.bank) i w) ∙ ap (λ (s : ℕ). price M (stimulus_side P s)) back)
       ]
     where
       positive : (s : ℕ) → (s == 0) ≡ false → 0 < s
       positive s e = omega (arith, eqb-false s 0 e)
 
-  weight_is : (i : ℕ) → i < size P.bank → (reduced P v ray).item i ≡ item_weight P v ray i
-  unfolding reduced row_linear amount_linear constant_form items_linear low_stimulus high_stimulus item_weight stimulus_price
-  weight_is i w =
-      let rows =
-      total_z-same (length P.plan.rows) (λ r. pos 0 +ℤ (price v (2 * r) *ℤ pos (item_part P (row_at P.plan r) i))) (λ r. price v (2 * r) *ℤ pos (item_activity P.bank (row_at P.plan r) i))
-      (λ r w. let e : price v (2 * r) *ℤ pos (item_part P (row_at P.plan r) i) ≡ price v (2 * r) *ℤ pos (item_activity P.bank (row_at P.plan r) i) = ap (λ (a : ℕ). price v (2 * r) *ℤ pos a) (item_same P (row_at P.plan r) i) in omega (arith, ints)) in
+  item_is : (i : ℕ) → i < size P.bank → (unlinked P v ray).item i ≡ item_weight P M ray i
+  unfolding unlinked row_linear amount_linear constant_form items_linear low_stimulus high_stimulus item_weight stimulus_price
+  item_is i w =
+      let rows = total_z-same (length P.plan.rows) (λ r. pos 0 +ℤ item_share P M i r) (item_share P M i) (λ r w. omega (arith, ints)) in
       let own = own_price i w in
       omega (arith, ints)
 
-  stimulus_weight_is : (s : ℕ) → (reduced P v ray).stimulus s ≡ stimulus_weight P v s
-  unfolding reduced row_linear amount_linear constant_form items_linear own_weight low_stimulus high_stimulus stimulus_weight
-  stimulus_weight_is s =
-      let rows =
-      total_z-same (length P.plan.rows) (λ r. pos 0 +ℤ (price v (2 * r) *ℤ pos (stimulus_part (row_at P.plan r) s))) (λ r. price v (2 * r) *ℤ pos (stimulus_activity (row_at P.plan r)))
-      (λ r w. let e : price v (2 * r) *ℤ pos (stimulus_part (row_at P.plan r) s) ≡ price v (2 * r) *ℤ pos (stimulus_activity (row_at P.plan r)) = ap (λ (a : ℕ). price v (2 * r) *ℤ pos a) (stimulus_same (row_at P.plan r) s) in omega (arith, ints)) in
-      let none = total_none (stimuli_of P.bank) (λ k. price v (stimulus_side P (suc k)) *ℤ pos 0) (λ k w. times_zero (price v (stimulus_side P (suc k)))) in
+  stimulus_is : (s : ℕ) → (unlinked P v ray).stimulus s ≡ stimulus_weight P M s
+  unfolding unlinked row_linear amount_linear constant_form items_linear own_weight low_stimulus high_stimulus stimulus_weight
+  stimulus_is s =
+      let rows = total_z-same (length P.plan.rows) (λ r. pos 0 +ℤ stimulus_share P M r) (stimulus_share P M) (λ r w. omega (arith, ints)) in
+      let none = total_none (stimuli_of P.bank) (λ k. price M (stimulus_side P (suc k)) *ℤ pos 0) (λ k w. times_zero (price M (stimulus_side P (suc k)))) in
       omega (arith, ints)
 
-  constant_is : (reduced P v ray).constant ≡ rows_constant P v
-  unfolding reduced row_linear amount_linear constant_form items_linear low_stimulus high_stimulus rows_constant
+  constant_is : (unlinked P v ray).constant ≡ rows_constant P M
+  unfolding unlinked row_linear amount_linear constant_form items_linear low_stimulus high_stimulus rows_constant
   constant_is =
       let rows =
-      total_z-same (length P.plan.rows) (λ r. bounds_price v (2 * r) (lower_bound (row_at P.plan r)) (upper_bound (row_at P.plan r)) +ℤ (price v (2 * r) *ℤ pos 0)) (λ r. bounds_price v (2 * r) (lower_bound (row_at P.plan r)) (upper_bound (row_at P.plan r)))
-      (λ r w. let e = times_zero (price v (2 * r)) in omega (arith, ints)) in
-      let none = total_none (stimuli_of P.bank) (λ k. price v (stimulus_side P (suc k)) *ℤ pos 0) (λ k w. times_zero (price v (stimulus_side P (suc k)))) in
+      total_z-same (length P.plan.rows) (λ r. constant_share P M r +ℤ (price M (2 * r) *ℤ pos 0)) (constant_share P M)
+      (λ r w. let e = times_zero (price M (2 * r)) in omega (arith, ints)) in
+      let none = total_none (stimuli_of P.bank) (λ k. price M (stimulus_side P (suc k)) *ℤ pos 0) (λ k w. times_zero (price M (stimulus_side P (suc k)))) in
       omega (arith, ints)
 
 -- ---- the closed form
-sum_in_z-same : (n : ℕ) (X : Set) (f g : ℕ → ℤ) → ((i : ℕ) → i < n → f i ≡ g i) → sum_in_z n X f ≡ sum_in_z n X g
+sum_in_z-same : (n : ℕ) (X : Set) (f g : ℕ → ℤ) → ((i : ℕ) → i < n → X i ≡ true → f i ≡ g i) → sum_in_z n X f ≡ sum_in_z n X g
 sum_in_z-same zero X f g h = refl
 sum_in_z-same (suc n) X f g h =
     let rest = sum_in_z-same n X f g (λ i w. h i (omega arith)) in
-    let last : cond (X n) (f n) (pos 0) ≡ cond (X n) (g n) (pos 0) = ap (λ (m : ℤ). cond (X n) m (pos 0)) (h n (omega arith)) in
+    let last : cond (X n) (f n) (pos 0) ≡ cond (X n) (g n) (pos 0) = elim (either (X n)) [ inl member ↦ rw member (h n (omega arith) member) | inr other ↦ rw other refl ] in
     omega (arith, ints)
 
 greater : (u : ℤ) → cond (int_le (pos 0) u) u (pos 0) ≡ int_max (pos 0) u
@@ -142,27 +117,51 @@ greater u =
       | inr not_high ↦ elim (either (int_lt u (pos 0))) [ inl low ↦ rw (not_high, low) refl | inr not_low ↦ absurd (omega (arith, ints)) ]
     ]
 
-module _ (P : Problem) (p : Path) (v : Multipliers) (ray : Bool) (T : Set) where
-  gain_is : (s : ℕ) → best_stimulus P p v ray s ≡ stimulus_gain P p v s
-  unfolding best_stimulus
+module _ (P : Problem) (p : Path) (v : Multipliers) (ray : Bool) where
+  pub weight_is : (i : ℕ) → i < size P.bank → (reduced P p v ray).item i ≡ capped_weight P p v ray i
+  unfolding reduced links
+  weight_is i w = let e = item_is P v ray i w in omega (arith, ints)
+
+  taken_is : (i : ℕ) → i < size P.bank → p.taken i ≡ true → (reduced P p v ray).item i ≡ item_weight P (multiplier v) ray i
+  taken_is i w taken = let e = weight_is i w in let none = taken_no_link P p v ray i taken in omega (arith, ints)
+
+  constant_with_links : (reduced P p v ray).constant ≡ rows_constant P (multiplier v)
+  unfolding reduced links
+  constant_with_links = let e = constant_is P v ray in omega (arith, ints)
+
+  -- a chosen stimulus has no excess, so that both kinds have one weight
+  gain_is : (s : ℕ) → best_stimulus P p v ray s ≡ stimulus_gain P p v ray s
+  unfolding best_stimulus reduced links
   gain_is s =
-      ap (λ (u : ℤ). cond (is_chosen P p s) u (cond (is_open P p s) (cond (int_le (pos 0) u) u (pos 0)) (pos 0))) (stimulus_weight_is P v ray s)
-      ∙ ap (λ (u : ℤ). cond (is_chosen P p s) (stimulus_weight P v s) (cond (is_open P p s) u (pos 0))) (greater (stimulus_weight P v s))
+      ap (λ (u : ℤ). cond (is_chosen P p s) (u +ℤ e) (cond (is_open P p s) (cond (int_le (pos 0) (u +ℤ e)) (u +ℤ e) (pos 0)) (pos 0))) (stimulus_is P v ray s)
+      ∙ ap (λ (u : ℤ). cond (is_chosen P p s) (w +ℤ e) (cond (is_open P p s) u (pos 0))) (greater (w +ℤ e))
+      ∙ chosen (is_chosen P p s) (chosen_no_excess P p v ray s)
+    where
+      w : ℤ
+      w = stimulus_weight P (multiplier v) s
 
-  value_is : relaxed_by P p v ray T ≡ closed_form P p v ray T
-  unfolding relaxed_by
-  value_is =
-      let constant = constant_is P v ray in
-      let taken = sum_in_z-same (size P.bank) p.taken (reduced P v ray).item (item_weight P v ray) (weight_is P v ray) in
-      let new = sum_in_z-same (size P.bank) T (reduced P v ray).item (item_weight P v ray) (weight_is P v ray) in
-      let stimuli = total_z-same (stimuli_of P.bank) (λ k. best_stimulus P p v ray (suc k)) (λ k. stimulus_gain P p v (suc k)) (λ k w. gain_is (suc k)) in
-      omega (arith, ints)
+      e : ℤ
+      e = excess_of_items P p v ray s
 
-  pub closed_form_is : (t : ℤ) → IsGreatestFill P p v ray T t → IsRelaxedMaximum P p v ray (closed_form P p v ray T)
-  closed_form_is t fill =
-      subst (λ (m : ℤ). IsRelaxedMaximum P p v ray m) value_is (relaxed_is P p v ray T t (record {
-        free = fill.free;
-        fills = fill.fills;
-        above = λ i w e. subst (λ (m : ℤ). t ≤ℤ m) (sym (weight_is P v ray i w)) (fill.above i w e);
-        others = λ i w e f. subst (λ (m : ℤ). m ≤ℤ t) (sym (weight_is P v ray i w)) (fill.others i w e f);
-      }))
+      chosen : (c : Bool) → (c ≡ true → e ≡ pos 0) → cond c (w +ℤ e) (cond (is_open P p s) (int_max (pos 0) (w +ℤ e)) (pos 0)) ≡ cond c w (cond (is_open P p s) (int_max (pos 0) (w +ℤ e)) (pos 0))
+      chosen true h = let none = h refl in omega (arith, ints)
+      chosen false h = refl
+
+  module _ (T : Set) where
+    value_is : relaxed_by P p v ray T ≡ closed_form P p v ray T
+    unfolding relaxed_by
+    value_is =
+        let constant = constant_with_links in
+        let taken = sum_in_z-same (size P.bank) p.taken (reduced P p v ray).item (item_weight P (multiplier v) ray) taken_is in
+        let new = sum_in_z-same (size P.bank) T (reduced P p v ray).item (capped_weight P p v ray) (λ i w member. weight_is i w) in
+        let stimuli = total_z-same (stimuli_of P.bank) (λ k. best_stimulus P p v ray (suc k)) (λ k. stimulus_gain P p v ray (suc k)) (λ k w. gain_is (suc k)) in
+        omega (arith, ints)
+
+    pub closed_form_is : (t : ℤ) → IsGreatestFill P p v ray T t → IsRelaxedMaximum P p v ray (closed_form P p v ray T)
+    closed_form_is t fill =
+        subst (λ (m : ℤ). IsRelaxedMaximum P p v ray m) value_is (relaxed_is P p v ray T t (record {
+          free = fill.free;
+          fills = fill.fills;
+          above = λ i w e. subst (λ (m : ℤ). t ≤ℤ m) (sym (weight_is i w)) (fill.above i w e);
+          others = λ i w e f. subst (λ (m : ℤ). m ≤ℤ t) (sym (weight_is i w)) (fill.others i w e f);
+        }))

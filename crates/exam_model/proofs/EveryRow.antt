@@ -16,7 +16,7 @@ use Rattle.exam_model.specs.Forms.{RowHolds, StimulusHolds, Form, stimuli_of, us
 use Rattle.exam_model.specs.Breaches.{IsFirstBreach}
 use Rattle.exam_model.specs.Paths.{Path, root, with_item, with_stimulus, is_free, is_chosen, is_open, undecided}
 use Rattle.exam_model.specs.Counting.{is_impossible, IsFirstImpossible}
-use Rattle.exam_model.specs.Relaxed.{lagrangian, multiplier}
+use Rattle.exam_model.specs.Relaxed.{multiplier, lagrangian_without_links, link_multiplier, lagrangian}
 use Rattle.exam_model.specs.Verdicts.{only_candidate, CandidateIsSettled}
 use Rattle.exam_model.proofs.Computed.{these, these_below, one_word, row_test, stimulus_test, row_is, row_from, stimulus_is, stimulus_from, form_is, meets_is}
 
@@ -252,19 +252,19 @@ lacks_stimulus_2 = inr (inl (record { missing = 2; first = lit≤ tt; last = lit
 -- ---- the Lagrangian, every side at once
 -- items 0, 1 and 3, stimulus 1: 256 times 20 is 5,120. The slacks, low and high, are: Count 1 and 0; Quantity 10 and 30;
 -- Enemies 1 and 0; Stimuli 0 and 0; stimulus 1: 0 and 0; stimulus 2, not chosen: 0 and 0
-lagrangian_r : lagrangian problem_r ((0, 1) ∷ (1, 2) ∷ (2, 3) ∷ (3, 5) ∷ (4, 7) ∷ (5, 11) ∷ (6, 13) ∷ (7, 17) ∷ (8, 19) ∷ (9, 23) ∷ (10, 29) ∷ (11, 31) ∷ []) false (these (0 ∷ 1 ∷ 3 ∷ [])) (λ s. s == 1) ≡ pos 5308
-unfolding problem_r bank_r item_r plan_r has lagrangian
+lagrangian_r : lagrangian problem_r at_root ((0, 1) ∷ (1, 2) ∷ (2, 3) ∷ (3, 5) ∷ (4, 7) ∷ (5, 11) ∷ (6, 13) ∷ (7, 17) ∷ (8, 19) ∷ (9, 23) ∷ (10, 29) ∷ (11, 31) ∷ []) false (these (0 ∷ 1 ∷ 3 ∷ [])) (λ s. s == 1) ≡ pos 5308
+unfolding problem_r bank_r item_r plan_r has lagrangian lagrangian_without_links link_multiplier at_root
 lagrangian_r = refl
 
 -- items 0, 4 and 5, both stimuli: a ray has no objective. The slacks are: Count 0 and 1; Quantity 60 and -20;
 -- Enemies 1 and 0; Stimuli 1 and -1; stimulus 1: -1 and 1; stimulus 2: 0 and 0
-ray_r : lagrangian problem_r ((0, 1) ∷ (1, 2) ∷ (2, 3) ∷ (3, 5) ∷ (4, 7) ∷ (5, 11) ∷ (6, 13) ∷ (7, 17) ∷ (8, 19) ∷ (9, 23) ∷ (10, 29) ∷ (11, 31) ∷ []) true (these (0 ∷ 4 ∷ 5 ∷ [])) (λ s. s == 1 || s == 2) ≡ pos 89
-unfolding problem_r bank_r item_r plan_r has lagrangian
+ray_r : lagrangian problem_r at_root ((0, 1) ∷ (1, 2) ∷ (2, 3) ∷ (3, 5) ∷ (4, 7) ∷ (5, 11) ∷ (6, 13) ∷ (7, 17) ∷ (8, 19) ∷ (9, 23) ∷ (10, 29) ∷ (11, 31) ∷ []) true (these (0 ∷ 4 ∷ 5 ∷ [])) (λ s. s == 1 || s == 2) ≡ pos 89
+unfolding problem_r bank_r item_r plan_r has lagrangian lagrangian_without_links link_multiplier at_root
 ray_r = refl
 
 -- items 0, 4 and 5 with no stimulus chosen: Stimuli -1 and 1; stimulus 1: 1 and -1; stimulus 2: 1 and -1
-dropped_r : lagrangian problem_r ((6, 13) ∷ (7, 17) ∷ (8, 19) ∷ (9, 23) ∷ (10, 29) ∷ (11, 31) ∷ []) true (these (0 ∷ 4 ∷ 5 ∷ [])) (λ _. false) ≡ negsuc 1
-unfolding problem_r bank_r item_r plan_r has lagrangian
+dropped_r : lagrangian problem_r at_root ((6, 13) ∷ (7, 17) ∷ (8, 19) ∷ (9, 23) ∷ (10, 29) ∷ (11, 31) ∷ []) true (these (0 ∷ 4 ∷ 5 ∷ [])) (λ _. false) ≡ negsuc 1
+unfolding problem_r bank_r item_r plan_r has lagrangian lagrangian_without_links link_multiplier at_root
 dropped_r = refl
 
 -- a side not named has the multiplier 0

@@ -88,21 +88,21 @@ module _ (P : Problem) (p : Path) (v : Multipliers) (ray : Bool) where
   pub record IsTop (T : Set) (t : ℤ) : Type 0 where
     pub free : (i : ℕ) → T i ≡ true → is_free P p i ≡ true
     pub fills : size_in P.bank p.taken + size_in P.bank T ≡ P.plan.length
-    pub above : (i : ℕ) → i < size P.bank → T i ≡ true → t ≤ℤ (reduced P v ray).item i
-    pub others : (i : ℕ) → i < size P.bank → is_free P p i ≡ true → T i ≡ false → (reduced P v ray).item i ≤ℤ t
+    pub above : (i : ℕ) → i < size P.bank → T i ≡ true → t ≤ℤ (reduced P p v ray).item i
+    pub others : (i : ℕ) → i < size P.bank → is_free P p i ≡ true → T i ≡ false → (reduced P p v ray).item i ≤ℤ t
 
   -- what a stimulus adds: its weight if chosen, and if open its weight where that is positive
   unfoldable pub best_stimulus : ℕ → ℤ
-  best_stimulus s = cond (is_chosen P p s) ((reduced P v ray).stimulus s) (cond (is_open P p s) (cond (int_le (pos 0) ((reduced P v ray).stimulus s)) ((reduced P v ray).stimulus s) (pos 0)) (pos 0))
+  best_stimulus s = cond (is_chosen P p s) ((reduced P p v ray).stimulus s) (cond (is_open P p s) (cond (int_le (pos 0) ((reduced P p v ray).stimulus s)) ((reduced P p v ray).stimulus s) (pos 0)) (pos 0))
 
   unfoldable pub best_stimuli : Set
-  best_stimuli s = is_chosen P p s || (is_open P p s && int_le (pos 0) ((reduced P v ray).stimulus s))
+  best_stimuli s = is_chosen P p s || (is_open P p s && int_le (pos 0) ((reduced P p v ray).stimulus s))
 
   -- the constant, the weights of the items taken and of the greatest free ones, and what the stimuli add
   unfoldable pub relaxed_by : Set → ℤ
   relaxed_by T =
-      (reduced P v ray).constant
-      +ℤ ((sum_in_z (size P.bank) p.taken (reduced P v ray).item +ℤ sum_in_z (size P.bank) T (reduced P v ray).item)
+      (reduced P p v ray).constant
+      +ℤ ((sum_in_z (size P.bank) p.taken (reduced P p v ray).item +ℤ sum_in_z (size P.bank) T (reduced P p v ray).item)
       +ℤ total_z (stimuli_of P.bank) (λ k. best_stimulus (suc k)))
 
 total_z-le : (n : ℕ) (f g : ℕ → ℤ) → ((i : ℕ) → i < n → f i ≤ℤ g i) → total_z n f ≤ℤ total_z n g
@@ -158,25 +158,25 @@ module _ (P : Problem) (p : Path) (v : Multipliers) (ray : Bool) (T : Set) (t : 
         else_open = λ s first last e. elim (or_true (is_chosen P p s) _ e) [ inl chosen ↦ inl chosen | inr opened ↦ inr (and_parts (is_open P p s) _ opened).0 ];
       }
 
-  reach_value : lagrangian P v ray filled (best_stimuli P p v ray) ≡ relaxed_by P p v ray T
+  reach_value : lagrangian P p v ray filled (best_stimuli P p v ray) ≡ relaxed_by P p v ray T
   unfolding relaxed_by best_stimuli best_stimulus
   reach_value =
-      let e = lagrangian-reduced P v ray filled (best_stimuli P p v ray) in
-      let items = sum_in_z-split (size P.bank) filled p.taken T (reduced P v ray).item filled_split in
-      let stimuli = total_z-cond (stimuli_of P.bank) (λ k. best_stimuli P p v ray (suc k)) (λ k. (reduced P v ray).stimulus (suc k)) in
+      let e = lagrangian-reduced P p v ray filled (best_stimuli P p v ray) in
+      let items = sum_in_z-split (size P.bank) filled p.taken T (reduced P p v ray).item filled_split in
+      let stimuli = total_z-cond (stimuli_of P.bank) (λ k. best_stimuli P p v ray (suc k)) (λ k. (reduced P p v ray).stimulus (suc k)) in
       let same =
-      total_z-same (stimuli_of P.bank) (λ k. cond (best_stimuli P p v ray (suc k)) ((reduced P v ray).stimulus (suc k)) (pos 0)) (λ k. best_stimulus P p v ray (suc k))
-      (λ k w. picked (is_chosen P p (suc k)) (is_open P p (suc k)) (int_le (pos 0) ((reduced P v ray).stimulus (suc k))) ((reduced P v ray).stimulus (suc k))) in
+      total_z-same (stimuli_of P.bank) (λ k. cond (best_stimuli P p v ray (suc k)) ((reduced P p v ray).stimulus (suc k)) (pos 0)) (λ k. best_stimulus P p v ray (suc k))
+      (λ k w. picked (is_chosen P p (suc k)) (is_open P p (suc k)) (int_le (pos 0) ((reduced P p v ray).stimulus (suc k))) ((reduced P p v ray).stimulus (suc k))) in
       omega (arith, ints)
 
-  most : (X Z : Set) → IsRelaxedPair P p X Z → lagrangian P v ray X Z ≤ℤ relaxed_by P p v ray T
+  most : (X Z : Set) → IsRelaxedPair P p X Z → lagrangian P p v ray X Z ≤ℤ relaxed_by P p v ray T
   unfolding relaxed_by best_stimulus
   most X Z fits =
       let n = size P.bank in
       let rest : Set = λ i. X i && not (p.taken i) in
       let split : (i : ℕ) → i < n → (X i ≡ (p.taken i || rest i)) × ((p.taken i && rest i) ≡ false) = λ i w. rest_of (p.taken i) (X i) (fits.holds_taken i) in
-      let e = lagrangian-reduced P v ray X Z in
-      let items = sum_in_z-split n X p.taken rest (reduced P v ray).item split in
+      let e = lagrangian-reduced P p v ray X Z in
+      let items = sum_in_z-split n X p.taken rest (reduced P p v ray).item split in
       let counts = count_in-split n X p.taken rest split in
       let n_items = fits.n_items in
       let fills = top.fills in
@@ -185,11 +185,11 @@ module _ (P : Problem) (p : Path) (v : Multipliers) (ray : Bool) (T : Set) (t : 
       λ i w h.
       let parts = and_parts (X i) (not (p.taken i)) h in
       elim (fits.else_free i parts.0) [ inl taken ↦ absurd (true≢false (sym parts.1 ∙ ap not taken)) | inr free ↦ free ] in
-      let more : sum_in_z n rest (reduced P v ray).item ≤ℤ sum_in_z n T (reduced P v ray).item = greatest_of_size n (is_free P p) T rest (reduced P v ray).item t top.above top.others rest_free same in
-      let own = total_z-cond (stimuli_of P.bank) (λ k. Z (suc k)) (λ k. (reduced P v ray).stimulus (suc k)) in
+      let more : sum_in_z n rest (reduced P p v ray).item ≤ℤ sum_in_z n T (reduced P p v ray).item = greatest_of_size n (is_free P p) T rest (reduced P p v ray).item t top.above top.others rest_free same in
+      let own = total_z-cond (stimuli_of P.bank) (λ k. Z (suc k)) (λ k. (reduced P p v ray).stimulus (suc k)) in
       let stimuli =
-      total_z-le (stimuli_of P.bank) (λ k. cond (Z (suc k)) ((reduced P v ray).stimulus (suc k)) (pos 0)) (λ k. best_stimulus P p v ray (suc k))
-      (λ k w. at_most_best (is_chosen P p (suc k)) (is_open P p (suc k)) (Z (suc k)) ((reduced P v ray).stimulus (suc k)) (fits.holds_chosen (suc k) (omega arith) (omega arith)) (fits.else_open (suc k) (omega arith) (omega arith))) in
+      total_z-le (stimuli_of P.bank) (λ k. cond (Z (suc k)) ((reduced P p v ray).stimulus (suc k)) (pos 0)) (λ k. best_stimulus P p v ray (suc k))
+      (λ k w. at_most_best (is_chosen P p (suc k)) (is_open P p (suc k)) (Z (suc k)) ((reduced P p v ray).stimulus (suc k)) (fits.holds_chosen (suc k) (omega arith) (omega arith)) (fits.else_open (suc k) (omega arith) (omega arith))) in
       omega (arith, ints)
 
   -- by the greatest free weights the relaxed maximum is had

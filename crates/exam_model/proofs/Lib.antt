@@ -18,6 +18,7 @@ pub mod Computed
 pub mod BankA
 pub mod StepsOfA
 pub mod BankS
+pub mod BankC
 pub mod BankE
 pub mod BankQ
 pub mod Ties

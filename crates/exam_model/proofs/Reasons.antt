@@ -10,14 +10,14 @@ use Rattle.exam_model.specs.declared.verdict.Reason.TheVariants.{NotForm, Determ
 use Rattle.exam_model.specs.declared.verdict.Verdict.TheVariants.{Partial, Bad}
 use Rattle.exam_model.specs.Forms.{objective}
 use Rattle.exam_model.specs.Paths.{root, with_item}
+use Rattle.exam_model.specs.Weights.{item_weight, stimulus_weight, rows_constant}
 use Rattle.exam_model.specs.Counting.{is_impossible}
-use Rattle.exam_model.specs.Relaxed.{IsRelaxedMaximum}
+use Rattle.exam_model.specs.Relaxed.{link_multiplier, IsRelaxedMaximum}
+use Rattle.exam_model.specs.ClosedForm.{excess_of_items}
 use Rattle.exam_model.specs.ProofTrees.{ProofTree}
 use Rattle.exam_model.specs.Verdicts.{IsVerdict, NamesOnlySides}
 use Rattle.exam_model.proofs.SumLaws.{or_true}
 use Rattle.exam_model.proofs.Computed.{these, these_below, form_is, maximum_is, not_at_most, names_sides}
-use Rattle.exam_model.proofs.Reduced.{reduced, row_linear, amount_linear, item_part, stimulus_part, constant_form, items_linear, own_weight, low_stimulus, high_stimulus}
-use Rattle.exam_model.proofs.Greatest.{relaxed_by, best_stimulus}
 use Rattle.exam_model.proofs.BankA.{item_a, bank_a, plan_of_rows, plan_a, problem_a, one_bound, form_123, no_form_125, not_closed_a}
 use Rattle.exam_model.proofs.BankS.{item_s, bank_s, plan_s, seat_s, problem_3, form_3}
 use Rattle.exam_model.proofs.BankE.{item_e, bank_e, plan_e, problem_e, form_03, form_24, one_open}
@@ -74,7 +74,7 @@ not_closed_alone = inl (tt, inr (NotClosed, (lit≤ tt, names_sides problem_a ((
 
 -- without multipliers the maximum is 256 times 24, which is 6,144, one above 256 times 23 plus 255
 plain_a : IsRelaxedMaximum problem_a (root problem_a) [] false (pos 6144)
-unfolding problem_a bank_a item_a plan_of_rows plan_a has relaxed_by best_stimulus reduced row_linear amount_linear item_part stimulus_part constant_form items_linear own_weight low_stimulus high_stimulus
+unfolding problem_a bank_a item_a plan_of_rows plan_a has item_weight stimulus_weight rows_constant link_multiplier excess_of_items
 plain_a = maximum_is problem_a (root problem_a) [] false (these (1 ∷ 2 ∷ 5 ∷ [])) (pos 1700) (pos 6144) (these_below 6 (1 ∷ 2 ∷ 5 ∷ []) refl) refl refl
 
 not_closed_by_one : IsVerdict problem_a (Some (these (1 ∷ 2 ∷ 3 ∷ []))) (one_bound []) (Bad 0 NotClosed)
@@ -95,7 +95,7 @@ not_closed_by_one =
 
 -- ---- NotNegative: without multipliers a ray's maximum is 0, which is not below 0
 zero_ray : IsRelaxedMaximum problem_a (root problem_a) [] true (pos 0)
-unfolding problem_a bank_a item_a plan_of_rows plan_a has relaxed_by best_stimulus reduced row_linear amount_linear item_part stimulus_part constant_form items_linear own_weight low_stimulus high_stimulus
+unfolding problem_a bank_a item_a plan_of_rows plan_a has item_weight stimulus_weight rows_constant link_multiplier excess_of_items
 zero_ray = maximum_is problem_a (root problem_a) [] true (these (1 ∷ 2 ∷ 5 ∷ [])) (pos 0) (pos 0) (these_below 6 (1 ∷ 2 ∷ 5 ∷ []) refl) refl refl
 
 unfoldable pub empty_ray : ProofTree

@@ -1,18 +1,22 @@
 -- The relaxed maximum by reduced weights: a constant, a weight for each item, and a weight for each stimulus.
-use Rattle.std.proofs.Common.{◌≡◌, ℕ, zero, suc, ◌+◌, ◌-◌, ◌*◌, ◌<◌, inl, inr, Bool, true, false, cond, ◌==◌, length, ℤ, pos, ◌+ℤ◌, ◌-ℤ◌, ◌*ℤ◌, neg_ℤ, refl, sym, ap, ◌∙◌, arith}
+use Rattle.std.proofs.Common.{◌≡◌, ℕ, zero, suc, ◌+◌, ◌-◌, ◌*◌, ◌≤◌, ◌<◌, ◌⊎◌, inl, inr, Bool, true, false, cond, not, ◌&&◌, ◌==◌, length, ℤ, pos, ◌+ℤ◌, ◌-ℤ◌, ◌*ℤ◌, neg_ℤ, refl, sym, ap, ◌∙◌, arith, nat_lt}
 use Rattle.std.proofs.lemmas.Int.{ints}
+use Rattle.std.proofs.lemmas.Bool.{eqb-true, eq-eqb, ne_eqb}
 use Rattle.std.proofs.Math.IntN.{*ℤ_comm}
 use borrow.Author.Differences.{up, down}
-use Rattle.bank_tables.specs.Items.{Set, has}
-use Rattle.bank_tables.specs.Tables.{size, stimulus, quantity}
+use Rattle.bank_tables.specs.Items.{Set}
+use Rattle.bank_tables.specs.Tables.{size, stimulus}
 use Rattle.exam_model.specs.declared.row.Row.{Row}
 use Rattle.exam_model.specs.declared.row.Row.TheVariants.{Count, Quantity, Enemies, Stimuli}
 use Rattle.bank_tables.specs.Sums.{sum_in, sum_in_z, total_z}
 use Rattle.exam_model.specs.Forms.{activity, lower_bound, upper_bound, items_of, stimuli_of}
 use Rattle.exam_model.specs.Plan.{row_at, bound_at}
 use Rattle.exam_model.specs.Problem.{Problem}
-use Rattle.exam_model.specs.Relaxed.{Multipliers, multiplier, weighted_slacks, weighted_stimulus_slacks, weight, lagrangian}
-use Rattle.exam_model.proofs.SumLaws.{either}
+use Rattle.exam_model.specs.Paths.{Path, is_free, is_chosen}
+use Rattle.exam_model.specs.Weights.{item_activity, stimulus_activity, weight}
+use Rattle.exam_model.specs.Relaxed.{Multipliers, multiplier, weighted_slacks, weighted_stimulus_slacks, lagrangian_without_links, link_multiplier, weighted_link_slack, lagrangian}
+use Rattle.exam_model.specs.ClosedForm.{excess_of_items}
+use Rattle.exam_model.proofs.SumLaws.{either, at_most_greatest}
 
 mul_add : (m a b : ℤ) → m *ℤ (a +ℤ b) ≡ (m *ℤ a) +ℤ (m *ℤ b)
 mul_add m a b =
@@ -104,28 +108,14 @@ total_z-same zero f g h = refl
 total_z-same (suc n) f g h = let rest = total_z-same n f g (λ i w. h i (omega arith)) in let last = h n (omega arith) in omega (arith, ints)
 
 -- ---- the reduced weights
--- what an item, and a stimulus, adds to a row
-unfoldable pub item_part : Problem → Row → ℕ → ℕ
-item_part P (Count set low high) i = cond (has set i) 1 0
-item_part P (Quantity which set low high) i = cond (has set i) (quantity P.bank i which) 0
-item_part P (Enemies set) i = cond (has set i) 1 0
-item_part P (Stimuli low high) i = 0
-
-unfoldable pub stimulus_part : Row → ℕ → ℕ
-stimulus_part (Count set low high) s = 0
-stimulus_part (Quantity which set low high) s = 0
-stimulus_part (Enemies set) s = 0
-stimulus_part (Stimuli low high) s = 1
-
 unfoldable pub amount_linear : Problem → Row → Linear
-unfolding item_part stimulus_part
-amount_linear P row = record { constant = pos 0; item = λ i. pos (item_part P row i); stimulus = λ s. pos (stimulus_part row s) }
+amount_linear P row = record { constant = pos 0; item = λ i. pos (item_activity P.bank row i); stimulus = λ s. pos (stimulus_activity row) }
 
 pos-activity : (P : Problem) (row : Row) (X Z : Set) → pos (activity P.bank row X Z) ≡ at (size P.bank) (stimuli_of P.bank) (amount_linear P row) X Z
 unfolding amount_linear
-pos-activity P (Count set low high) X Z = let a = pos-sum_in (size P.bank) X (item_part P (Count set low high)) in let b = sum_in_z-zero (stimuli_of P.bank) (λ k. Z (suc k)) in omega (arith, ints)
-pos-activity P (Quantity which set low high) X Z = let a = pos-sum_in (size P.bank) X (item_part P (Quantity which set low high)) in let b = sum_in_z-zero (stimuli_of P.bank) (λ k. Z (suc k)) in omega (arith, ints)
-pos-activity P (Enemies set) X Z = let a = pos-sum_in (size P.bank) X (item_part P (Enemies set)) in let b = sum_in_z-zero (stimuli_of P.bank) (λ k. Z (suc k)) in omega (arith, ints)
+pos-activity P (Count set low high) X Z = let a = pos-sum_in (size P.bank) X (item_activity P.bank (Count set low high)) in let b = sum_in_z-zero (stimuli_of P.bank) (λ k. Z (suc k)) in omega (arith, ints)
+pos-activity P (Quantity which set low high) X Z = let a = pos-sum_in (size P.bank) X (item_activity P.bank (Quantity which set low high)) in let b = sum_in_z-zero (stimuli_of P.bank) (λ k. Z (suc k)) in omega (arith, ints)
+pos-activity P (Enemies set) X Z = let a = pos-sum_in (size P.bank) X (item_activity P.bank (Enemies set)) in let b = sum_in_z-zero (stimuli_of P.bank) (λ k. Z (suc k)) in omega (arith, ints)
 pos-activity P (Stimuli low high) X Z = let a = sum_in_z-zero (size P.bank) X in let b = pos-sum_in (stimuli_of P.bank) (λ k. Z (suc k)) (λ _. 1) in omega (arith, ints)
 
 mul_neg : (m b : ℤ) → m *ℤ neg_ℤ b ≡ neg_ℤ (m *ℤ b)
@@ -212,15 +202,15 @@ pub total_z-cond : (n : ℕ) (X : Set) (f : ℕ → ℤ) → total_z n (λ i. co
 total_z-cond zero X f = refl
 total_z-cond (suc n) X f = ap (λ z. z +ℤ cond (X n) (f n) (pos 0)) (total_z-cond n X f)
 
--- ---- the whole: a constant, a weight for each item, and a weight for each stimulus
-unfoldable pub reduced : Problem → Multipliers → Bool → Linear
-reduced P v ray =
+-- ---- without the links
+unfoldable pub unlinked : Problem → Multipliers → Bool → Linear
+unlinked P v ray =
     plus (record { constant = pos 0; item = λ i. pos (weight P ray i); stimulus = own_weight P v })
     (plus (sum_of (length P.plan.rows) (row_linear P v)) (sum_of (stimuli_of P.bank) (λ k. items_linear P v (suc k))))
 
-pub lagrangian-reduced : (P : Problem) (v : Multipliers) (ray : Bool) (X Z : Set) → lagrangian P v ray X Z ≡ at (size P.bank) (stimuli_of P.bank) (reduced P v ray) X Z
-unfolding lagrangian reduced
-lagrangian-reduced P v ray X Z =
+lagrangian-unlinked : (P : Problem) (v : Multipliers) (ray : Bool) (X Z : Set) → lagrangian_without_links P v ray X Z ≡ at (size P.bank) (stimuli_of P.bank) (unlinked P v ray) X Z
+unfolding lagrangian_without_links unlinked
+lagrangian-unlinked P v ray X Z =
     let n = size P.bank in
     let top = stimuli_of P.bank in
     let rows = sum_of (length P.plan.rows) (row_linear P v) in
@@ -236,3 +226,116 @@ lagrangian-reduced P v ray X Z =
     let p = at-plus n top X Z first (plus rows items) in
     let q = at-plus n top X Z rows items in
     omega (arith, ints)
+
+-- ---- the links
+-- of the stimuli up to top one is x, or none where x is 0
+other_stimulus : (x s : ℕ) (z : Bool) (m : ℤ) → (x ≡ s → ⊥) → cond z (cond (x == s) m (pos 0)) (pos 0) ≡ pos 0
+other_stimulus x s true m h = rw (ne_eqb x s h) refl
+other_stimulus x s false m h = refl
+
+none_of : (top x : ℕ) (Z : Set) (m : ℤ) → top < x → sum_in_z top (λ k. Z (suc k)) (λ k. cond (x == suc k) m (pos 0)) ≡ pos 0
+none_of zero x Z m w = refl
+none_of (suc top) x Z m w = let rest = none_of top x Z m (omega arith) in let last = other_stimulus x (suc top) (Z (suc top)) m (λ e. omega arith) in omega (arith, ints)
+
+no_multiplier : (z : Bool) (m : ℤ) → m ≡ pos 0 → cond z m (pos 0) ≡ pos 0
+no_multiplier true m e = e
+no_multiplier false m e = refl
+
+one_of : (top x : ℕ) (Z : Set) (m : ℤ) → x ≤ top → (x ≡ 0 → m ≡ pos 0) → sum_in_z top (λ k. Z (suc k)) (λ k. cond (x == suc k) m (pos 0)) ≡ cond (Z x) m (pos 0)
+one_of zero x Z m w none = sym (no_multiplier (Z x) m (none (omega arith)))
+one_of (suc top) x Z m w none =
+    elim (last_or x (suc top) (omega arith)) [
+      | inl before ↦
+          let rest = one_of top x Z m (omega arith) none in
+          let last = other_stimulus x (suc top) (Z (suc top)) m (λ e. omega arith) in
+          omega (arith, ints)
+      | inr at ↦
+          let rest = none_of top x Z m (omega arith) in
+          let same : cond (Z (suc top)) (cond (x == suc top) m (pos 0)) (pos 0) ≡ cond (Z x) m (pos 0) =
+          ap (λ (b : Bool). cond (Z (suc top)) (cond b m (pos 0)) (pos 0)) (eq-eqb x (suc top) at) ∙ ap (λ (s : ℕ). cond (Z s) m (pos 0)) (sym at) in
+          omega (arith, ints)
+    ]
+  where
+    last_or : (i n : ℕ) → i < suc n → (i < n) ⊎ (i ≡ n)
+    last_or i n w = grind arith
+
+-- a sum over the stimuli of Z and the items of each is a sum over the items whose stimulus is in Z
+by_stimulus : (n top : ℕ) (stimulus : ℕ → ℕ) (Z : Set) (m : ℕ → ℤ) → ((i : ℕ) → i < n → stimulus i ≤ top) → ((i : ℕ) → stimulus i ≡ 0 → m i ≡ pos 0)
+    → sum_in_z top (λ k. Z (suc k)) (λ k. sum_in_z n (λ i. stimulus i == suc k) m) ≡ total_z n (λ i. cond (Z (stimulus i)) (m i) (pos 0))
+by_stimulus zero top stimulus Z m low none = sum_in_z-zero top (λ k. Z (suc k))
+by_stimulus (suc n) top stimulus Z m low none =
+    let rest = by_stimulus n top stimulus Z m (λ i w. low i (omega arith)) none in
+    let split = sum_in_z-add top (λ k. Z (suc k)) (λ k. sum_in_z n (λ i. stimulus i == suc k) m) (λ k. cond (stimulus n == suc k) (m n) (pos 0)) in
+    let last = one_of top (stimulus n) Z (m n) (low n (omega arith)) (none n) in
+    omega (arith, ints)
+
+-- the slack of a link, from its two ends
+both_ends : (m : ℤ) (z x : Bool) → m *ℤ (pos (cond z 1 0) -ℤ pos (cond x 1 0)) ≡ cond z m (pos 0) +ℤ cond x (neg_ℤ m) (pos 0)
+both_ends m true true = omega (arith, ints)
+both_ends m true false = omega (arith, ints)
+both_ends m false true = omega (arith, ints)
+both_ends m false false = omega (arith, ints)
+
+module _ (P : Problem) (p : Path) (v : Multipliers) (ray : Bool) where
+  -- an item of no stimulus has no link
+  no_link : (i : ℕ) → stimulus P.bank i ≡ 0 → link_multiplier P p v ray i ≡ pos 0
+  unfolding link_multiplier
+  no_link i e = rw (eq-eqb (stimulus P.bank i) 0 e) refl
+
+  -- nor has one that is taken, or one of a stimulus that is chosen
+  pub taken_no_link : (i : ℕ) → p.taken i ≡ true → link_multiplier P p v ray i ≡ pos 0
+  unfolding link_multiplier
+  taken_no_link i e = rw e (unlinked_if (stimulus P.bank i == 0) (nat_lt i (size P.bank)) _ _)
+    where
+      unlinked_if : (a b : Bool) (o : Bool) (m : ℤ) → cond (not a && ((b && (false && not (p.out i))) && o)) m (pos 0) ≡ pos 0
+      unlinked_if true b o m = refl
+      unlinked_if false true o m = refl
+      unlinked_if false false o m = refl
+
+  chosen_no_link : (s i : ℕ) → is_chosen P p s ≡ true → stimulus P.bank i ≡ s → link_multiplier P p v ray i ≡ pos 0
+  unfolding link_multiplier
+  chosen_no_link s i chosen at = rw (at, chosen) (unlinked_if (s == 0) (is_free P p i) _)
+    where
+      unlinked_if : (a b : Bool) (m : ℤ) → cond (not a && (b && false)) m (pos 0) ≡ pos 0
+      unlinked_if true b m = refl
+      unlinked_if false true m = refl
+      unlinked_if false false m = refl
+
+  no_excess : (n s : ℕ) → is_chosen P p s ≡ true → sum_in_z n (λ i. stimulus P.bank i == s) (link_multiplier P p v ray) ≡ pos 0
+  no_excess zero s chosen = refl
+  no_excess (suc n) s chosen =
+      let rest = no_excess n s chosen in
+      let last : cond (stimulus P.bank n == s) (link_multiplier P p v ray n) (pos 0) ≡ pos 0 =
+      elim (either (stimulus P.bank n == s)) [ inl at ↦ rw at (chosen_no_link s n chosen (eqb-true _ _ at)) | inr other ↦ rw other refl ] in
+      omega (arith, ints)
+
+  -- a stimulus that is chosen has no excess
+  pub chosen_no_excess : (s : ℕ) → is_chosen P p s ≡ true → excess_of_items P p v ray s ≡ pos 0
+  unfolding excess_of_items
+  chosen_no_excess s chosen = no_excess (size P.bank) s chosen
+
+  unfoldable pub links : Linear
+  links = record { constant = pos 0; item = λ i. neg_ℤ (link_multiplier P p v ray i); stimulus = excess_of_items P p v ray }
+
+  at-links : (X Z : Set) → total_z (size P.bank) (weighted_link_slack P p v ray X Z) ≡ at (size P.bank) (stimuli_of P.bank) links X Z
+  unfolding links excess_of_items
+  at-links X Z =
+      let n = size P.bank in
+      let m = link_multiplier P p v ray in
+      let ends = total_z-same n (weighted_link_slack P p v ray X Z) (λ i. cond (Z (stimulus P.bank i)) (m i) (pos 0) +ℤ cond (X i) (neg_ℤ (m i)) (pos 0)) (λ i w. both_ends (m i) (Z (stimulus P.bank i)) (X i)) in
+      let split = total_z-add n (λ i. cond (Z (stimulus P.bank i)) (m i) (pos 0)) (λ i. cond (X i) (neg_ℤ (m i)) (pos 0)) in
+      let items = total_z-cond n X (λ i. neg_ℤ (m i)) in
+      let stimuli = by_stimulus n (stimuli_of P.bank) (stimulus P.bank) Z m (at_most_greatest n (stimulus P.bank)) no_link in
+      omega (arith, ints)
+
+  -- ---- the whole: a constant, a weight for each item, and a weight for each stimulus
+  unfoldable pub reduced : Linear
+  reduced = plus (unlinked P v ray) links
+
+  pub lagrangian-reduced : (X Z : Set) → lagrangian P p v ray X Z ≡ at (size P.bank) (stimuli_of P.bank) reduced X Z
+  unfolding lagrangian reduced
+  lagrangian-reduced X Z =
+      let e = lagrangian-unlinked P v ray X Z in
+      let f = at-links X Z in
+      let g = at-plus (size P.bank) (stimuli_of P.bank) X Z (unlinked P v ray) links in
+      omega (arith, ints)

@@ -12,7 +12,7 @@ use Rattle.exam_model.specs.Paths.{Path, is_free}
 use Rattle.exam_model.specs.Counting.{taken_or_free, length_impossible}
 use Rattle.exam_model.specs.Problem.{Problem}
 use Rattle.exam_model.specs.Relaxed.{Multipliers, IsRelaxedMaximum}
-use Rattle.exam_model.specs.ClosedForm.{item_weight, IsGreatestFill, closed_form}
+use Rattle.exam_model.specs.ClosedForm.{capped_weight, IsGreatestFill, closed_form}
 use Rattle.exam_model.proofs.SumLaws.{either, or_true, or_left, or_right, or_false, sum_in-le}
 use Rattle.exam_model.proofs.Greatest.{count_in-split, rest_of}
 use Rattle.exam_model.proofs.ClosedFormLaws.{closed_form_is}
@@ -152,7 +152,7 @@ module _ (P : Problem) (p : Path) (v : Multipliers) (ray : Bool) where
       let few = ltb-false P.plan.length (size_in P.bank p.taken) tests.0 in
       let many = ltb-false (size_in P.bank (taken_or_free P p)) P.plan.length tests.1 in
       let all = held in
-      let (T, t, top) = top_of (size P.bank) (is_free P p) (item_weight P v ray) (P.plan.length - size_in P.bank p.taken) (omega arith) in
+      let (T, t, top) = top_of (size P.bank) (is_free P p) (capped_weight P p v ray) (P.plan.length - size_in P.bank p.taken) (omega arith) in
       let number : size_in P.bank T ≡ P.plan.length - size_in P.bank p.taken = top.number in
       let fill : IsGreatestFill P p v ray T t = record { free = top.members; fills = omega arith; above = top.above; others = top.others } in
       (closed_form P p v ray T, closed_form_is P p v ray T t fill)

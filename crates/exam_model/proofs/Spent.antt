@@ -8,14 +8,14 @@ use Rattle.exam_model.specs.declared.node.Node.TheVariants.{BranchItem, BranchSt
 use Rattle.exam_model.specs.declared.verdict.Verdict.TheVariants.{Partial}
 use Rattle.exam_model.specs.Forms.{Form}
 use Rattle.exam_model.specs.Paths.{Path, root, with_item}
+use Rattle.exam_model.specs.Weights.{item_weight, stimulus_weight, rows_constant}
 use Rattle.exam_model.specs.Counting.{is_impossible}
-use Rattle.exam_model.specs.Relaxed.{IsRelaxedMaximum}
+use Rattle.exam_model.specs.Relaxed.{link_multiplier, IsRelaxedMaximum}
+use Rattle.exam_model.specs.ClosedForm.{excess_of_items}
 use Rattle.exam_model.specs.ProofTrees.{ProofTree}
 use Rattle.exam_model.specs.Verdicts.{IsVerdict}
 use Rattle.exam_model.specs.Spending.{IsSpent, IsDepthFirst, IsUnresolved}
 use Rattle.exam_model.proofs.Computed.{these, these_below, one_word, word_below, form_is, all_possible, maximum_is}
-use Rattle.exam_model.proofs.Reduced.{reduced, row_linear, amount_linear, item_part, stimulus_part, constant_form, items_linear, own_weight, low_stimulus, high_stimulus}
-use Rattle.exam_model.proofs.Greatest.{relaxed_by, best_stimulus}
 use Rattle.exam_model.proofs.BankA.{item_a, bank_a, plan_of_rows, plan_a, problem_a}
 use Rattle.exam_model.proofs.StepsOfA.{problem_three, first_impossible}
 use Rattle.exam_model.proofs.BankS.{item_s, bank_s, plan_s, seat_s, problem_1}
@@ -126,7 +126,7 @@ unfolding problem_1 seat_s bank_s item_s plan_s has
 start_s = form_is problem_1 (has (one_word 27)) (word_below 5 27 refl refl) (these_below 5 (0 ∷ []) refl) refl
 
 plain_s : IsRelaxedMaximum problem_1 (root problem_1) [] false (pos 6912)
-unfolding problem_1 seat_s bank_s item_s plan_s has relaxed_by best_stimulus reduced row_linear amount_linear item_part stimulus_part constant_form items_linear own_weight low_stimulus high_stimulus
+unfolding problem_1 seat_s bank_s item_s plan_s has item_weight stimulus_weight rows_constant link_multiplier excess_of_items
 plain_s = maximum_is problem_1 (root problem_1) [] false (these (1 ∷ 3 ∷ 4 ∷ [])) (pos 600) (pos 6912) (these_below 5 (1 ∷ 3 ∷ 4 ∷ []) refl) refl refl
 
 no_room : IsUnresolved problem_1 (root problem_1) → ⊥

@@ -15,8 +15,10 @@ use Rattle.exam_model.specs.Plan.{Plan}
 use Rattle.exam_model.specs.Problem.{Problem, whole}
 use Rattle.exam_model.specs.Forms.{Form, Best, HasNoForm, objective}
 use Rattle.exam_model.specs.Paths.{root}
+use Rattle.exam_model.specs.Weights.{item_weight, stimulus_weight, rows_constant}
 use Rattle.exam_model.specs.Counting.{is_impossible, IsFirstImpossible}
-use Rattle.exam_model.specs.Relaxed.{IsRelaxedMaximum}
+use Rattle.exam_model.specs.Relaxed.{link_multiplier, IsRelaxedMaximum}
+use Rattle.exam_model.specs.ClosedForm.{excess_of_items}
 use Rattle.exam_model.specs.ProofTrees.{ProofTree}
 use Rattle.exam_model.specs.Pruning.{IsPruned}
 use Rattle.exam_model.specs.Verdicts.{IsVerdict}
@@ -24,8 +26,6 @@ use Rattle.exam_model.specs.Ability.{IsPosteriorMode, log_posterior}
 use Rattle.exam_model.specs.Serving.{IsNext}
 use Rattle.exam_model.specs.Seats.{IsSeat, IsPending, IsSeatProblem, seat_problem}
 use Rattle.exam_model.proofs.Computed.{these, these_below, one_word, word_below, form_is, maximum_is, at_most, names_sides, mode_is, next_is}
-use Rattle.exam_model.proofs.Reduced.{reduced, row_linear, amount_linear, item_part, stimulus_part, constant_form, items_linear, own_weight, low_stimulus, high_stimulus}
-use Rattle.exam_model.proofs.Greatest.{relaxed_by, best_stimulus}
 use Rattle.exam_model.proofs.TreeLaws.{optimal_is_best, no_form_is_none}
 use Rattle.exam_model.proofs.BankA.{item_a, sevens, bank_a, plan_of_rows, plan_a, one_bound}
 
@@ -67,7 +67,7 @@ objective_1 = refl
 
 -- side 0, the lower one of the row on items 0 and 1, by 6 times 256 brings item 1 to the weight of item 3
 maximum_1 : IsRelaxedMaximum problem_1 (root problem_1) ((0, 1536) ∷ []) false (pos 3584)
-unfolding problem_1 seat_1 bank_a item_a plan_of_rows plan_a has relaxed_by best_stimulus reduced row_linear amount_linear item_part stimulus_part constant_form items_linear own_weight low_stimulus high_stimulus
+unfolding problem_1 seat_1 bank_a item_a plan_of_rows plan_a has item_weight stimulus_weight rows_constant link_multiplier excess_of_items
 maximum_1 = maximum_is problem_1 (root problem_1) ((0, 1536) ∷ []) false (these (1 ∷ 4 ∷ [])) (pos 2048) (pos 3584) (these_below 6 (1 ∷ 4 ∷ []) refl) refl refl
 
 optimal_1 : IsVerdict problem_1 (Some (these (1 ∷ 2 ∷ 4 ∷ []))) (one_bound ((0, 1536) ∷ [])) Optimal
@@ -121,7 +121,7 @@ objective_2 = refl
 
 -- the plain bound is enough: item 1 has the greatest information that is left
 maximum_2 : IsRelaxedMaximum problem_2 (root problem_2) [] false (pos 5376)
-unfolding problem_2 seat_2 bank_a item_a plan_of_rows plan_a has relaxed_by best_stimulus reduced row_linear amount_linear item_part stimulus_part constant_form items_linear own_weight low_stimulus high_stimulus
+unfolding problem_2 seat_2 bank_a item_a plan_of_rows plan_a has item_weight stimulus_weight rows_constant link_multiplier excess_of_items
 maximum_2 = maximum_is problem_2 (root problem_2) [] false (these (1 ∷ [])) (pos 2048) (pos 5376) (these_below 6 (1 ∷ []) refl) refl refl
 
 optimal_2 : IsVerdict problem_2 (Some (these (1 ∷ 2 ∷ 4 ∷ []))) (one_bound []) Optimal

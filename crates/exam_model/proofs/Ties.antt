@@ -14,13 +14,13 @@ use Rattle.exam_model.specs.Plan.{Plan}
 use Rattle.exam_model.specs.Problem.{Problem, whole}
 use Rattle.exam_model.specs.Forms.{Form, Best, objective}
 use Rattle.exam_model.specs.Paths.{root}
-use Rattle.exam_model.specs.Relaxed.{IsRelaxedMaximum}
+use Rattle.exam_model.specs.Weights.{item_weight, stimulus_weight, rows_constant}
+use Rattle.exam_model.specs.Relaxed.{link_multiplier, IsRelaxedMaximum}
+use Rattle.exam_model.specs.ClosedForm.{excess_of_items}
 use Rattle.exam_model.specs.Verdicts.{IsVerdict}
 use Rattle.exam_model.specs.Ability.{IsPosteriorMode}
 use Rattle.exam_model.specs.Serving.{IsNext}
 use Rattle.exam_model.proofs.Computed.{these, these_below, one_word, form_is, maximum_is, at_most, names_sides, mode_is, next_is}
-use Rattle.exam_model.proofs.Reduced.{reduced, row_linear, amount_linear, item_part, stimulus_part, constant_form, items_linear, own_weight, low_stimulus, high_stimulus}
-use Rattle.exam_model.proofs.Greatest.{relaxed_by, best_stimulus}
 use Rattle.exam_model.proofs.TreeLaws.{optimal_is_best}
 use Rattle.exam_model.proofs.BankA.{one_bound}
 
@@ -85,7 +85,7 @@ unfolding problem_t bank_t item_t plan_t has
 form_02 = form_is problem_t (these (0 ∷ 2 ∷ [])) (these_below 3 (0 ∷ 2 ∷ []) refl) (λ i e. absurd (cc)) refl
 
 plain_t : IsRelaxedMaximum problem_t (root problem_t) [] false (pos 2560)
-unfolding problem_t bank_t item_t plan_t has relaxed_by best_stimulus reduced row_linear amount_linear item_part stimulus_part constant_form items_linear own_weight low_stimulus high_stimulus
+unfolding problem_t bank_t item_t plan_t has item_weight stimulus_weight rows_constant link_multiplier excess_of_items
 plain_t = maximum_is problem_t (root problem_t) [] false (these (0 ∷ 1 ∷ [])) (pos 1280) (pos 2560) (these_below 3 (0 ∷ 1 ∷ []) refl) refl refl
 
 -- the plain bound proves both best

@@ -11,7 +11,7 @@ use Rattle.exam_model.specs.Problem.{Problem}
 use Rattle.exam_model.specs.Forms.{Form, Best, Firm, HasNoForm, objective}
 use Rattle.exam_model.specs.Breaches.{IsFirstBreach}
 use Rattle.exam_model.specs.Paths.{Path, root, undecided, Under}
-use Rattle.exam_model.specs.Relaxed.{Multipliers, IsRelaxedMaximum}
+use Rattle.exam_model.specs.Relaxed.{Multipliers, cap, lagrangian_without_links, lagrangian, IsRelaxedMaximum}
 use Rattle.exam_model.specs.ClosedForm.{IsGreatestFill, closed_form}
 use Rattle.exam_model.specs.Counting.{is_impossible, length_impossible}
 use Rattle.exam_model.specs.ProofTrees.{ProofTree}
@@ -24,6 +24,10 @@ use Rattle.exam_model.specs.Seats.{seat_problem, served_and_answered}
 -- 256 times the objective of a form on a path is at most the relaxed maximum there, whatever the multipliers
 abbrev pub WeakDuality : Type 0
 WeakDuality = (P : Problem) (p : Path) (v : Multipliers) (r : ℤ) (X : Set) → IsRelaxedMaximum P p v false r → Under P p X → pos (256 * objective P X) ≤ℤ r
+
+-- a vector that names neither side of the cap has the Lagrangian without the links
+abbrev pub NoCapNoLinks : Type 0
+NoCapNoLinks = (P : Problem) (p : Path) (v : Multipliers) (ray : Bool) (X Z : Set) → cap v ≡ None → lagrangian P p v ray X Z ≡ lagrangian_without_links P v ray X Z
 
 -- a ray's relaxed maximum is not negative where a form is on the path
 abbrev pub RayIsNotNegative : Type 0
@@ -83,7 +87,7 @@ FewOpen = (P : Problem) (T : ProofTree) (budget : ℕ) → IsSpent P T budget �
 abbrev pub OneBreach : Type 0
 OneBreach = (P : Problem) (X : Set) (b c : Option Breach) → IsFirstBreach P X b → IsFirstBreach P X c → b ≡ c
 
--- the relaxed maximum is its closed form, whatever free items of the greatest reduced weights fill the test
+-- the relaxed maximum is its closed form, whatever free items of the greatest capped weights fill the test
 abbrev pub ClosedFormIsMaximum : Type 0
 ClosedFormIsMaximum = (P : Problem) (p : Path) (v : Multipliers) (ray : Bool) (T : Set) (t : ℤ) → IsGreatestFill P p v ray T t → IsRelaxedMaximum P p v ray (closed_form P p v ray T)
 

@@ -4,6 +4,8 @@ pub mod Forms
 pub mod Breaches
 pub mod Paths
 pub mod Counting
+pub mod Ranges
+pub mod Weights
 pub mod Relaxed
 pub mod ClosedForm
 pub mod ProofTrees

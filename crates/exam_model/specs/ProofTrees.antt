@@ -1,5 +1,5 @@
 -- The shape of proof trees.
-use Rattle.std.specs.Prelude.{ℕ, zero, suc, ◌+◌, ◌<◌, ◌≤◌, List, [], ◌∷◌, length, get_or, All}
+use Rattle.std.specs.Prelude.{ℕ, zero, suc, ◌+◌, ◌<◌, ◌≤◌, List, [], ◌∷◌, length, get_or, All, sum_by}
 use Rattle.exam_model.specs.declared.node.Node.{Node}
 use Rattle.exam_model.specs.declared.node.Node.TheVariants.{BranchItem, BranchStimulus}
 use Rattle.exam_model.specs.Relaxed.{Multipliers}
@@ -26,11 +26,13 @@ AreTrees (suc wait) (BranchItem i ∷ nodes) = AreTrees (suc (suc wait)) nodes
 AreTrees (suc wait) (BranchStimulus s ∷ nodes) = AreTrees (suc (suc wait)) nodes
 AreTrees (suc wait) (node ∷ nodes) = AreTrees wait nodes
 
--- at most 32 vectors of sides below 384, and at most 4,095 nodes, which are one tree (that each node's number is in range
--- is a matter of the tree's bytes)
+-- at most 255 vectors of at most 384 pairs with sides below 386, at most 12,288 pairs in all, and at most 4,095 nodes,
+-- which are one tree (that each node's number is in range is a matter of the tree's bytes)
 pub record IsProofTree (T : ProofTree) : Type 0 where
-  pub few_vectors : length T.vectors ≤ 32
+  pub few_vectors : length T.vectors ≤ 255
   pub vectors : (v : ℕ) → v < length T.vectors → IsVector 0 (vector_at T v)
-  pub sides : (v : ℕ) → v < length T.vectors → All (λ pair. pair.0 < 384) (vector_at T v)
+  pub sides : (v : ℕ) → v < length T.vectors → All (λ pair. pair.0 < 386) (vector_at T v)
+  pub short : (v : ℕ) → v < length T.vectors → length (vector_at T v) ≤ 384
+  pub few_pairs : sum_by length T.vectors ≤ 12288
   pub few_nodes : length T.nodes ≤ 4095
   pub one_tree : AreTrees 1 T.nodes

@@ -12,13 +12,17 @@ use Rattle.exam_model.specs.declared.verdict.Verdict.TheVariants.{Optimal, NoFor
 use Rattle.exam_model.specs.Problem.{Problem}
 use Rattle.exam_model.specs.Forms.{Form, objective, used, stimuli_of, size_in}
 use Rattle.exam_model.specs.Paths.{Path, root, is_free, is_chosen, is_open, with_item, with_stimulus}
-use Rattle.exam_model.specs.Relaxed.{Multipliers, IsRelaxedMaximum}
+use Rattle.exam_model.specs.Relaxed.{Multipliers, cap_side, IsRelaxedMaximum}
 use Rattle.exam_model.specs.Counting.{is_impossible, taken_or_free}
 use Rattle.exam_model.specs.ProofTrees.{ProofTree, vector_at}
 
--- each side named is one of the plan's
+-- the side is one of the plan's, or one of the cap, which each plan has
+abbrev pub IsSide : Problem → ℕ → Type 0
+IsSide P side = (side < 2 * length P.plan.rows + 2 * stimuli_of P.bank) ⊎ ((side ≡ cap_side) ⊎ (side ≡ cap_side + 1))
+
+-- each side named is one of these
 abbrev pub NamesOnlySides : Problem → Multipliers → Type 0
-NamesOnlySides P v = All (λ pair. pair.0 < 2 * length P.plan.rows + 2 * stimuli_of P.bank) v
+NamesOnlySides P v = All (λ pair. IsSide P pair.0) v
 
 -- the relaxed maximum is defined, and at most top
 pub record MaximumIsAtMost (P : Problem) (p : Path) (v : Multipliers) (ray : Bool) (top : ℤ) : Type 0 where

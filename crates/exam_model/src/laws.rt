@@ -1,11 +1,16 @@
 //! What the definitions imply, for every problem, path, vector, tree and set of items.
 
-ghost use Rattle.exam_model.specs.Laws.{WeakDuality, RayIsNotNegative, CountingIsSound, BestIsFirm, OptimalIsBest, NoFormIsNone, SomeMode, OneMode, SomeNext, OneNext, OneVerdict, LastFormStays, PartialCountsOpen, PartialIsSmall, FewOpen, OneBreach, ClosedFormIsMaximum, BetteringKeeps, SomeMaximum, OneMaximum, MaximumMeansPossible};
+ghost use Rattle.exam_model.specs.Laws.{WeakDuality, NoCapNoLinks, RayIsNotNegative, CountingIsSound, BestIsFirm, OptimalIsBest, NoFormIsNone, SomeMode, OneMode, SomeNext, OneNext, OneVerdict, LastFormStays, PartialCountsOpen, PartialIsSmall, FewOpen, OneBreach, ClosedFormIsMaximum, BetteringKeeps, SomeMaximum, OneMaximum, MaximumMeansPossible};
 
 /// No form on a path exceeds the relaxed maximum there, whatever the multipliers (weak duality of Lagrangian
 /// relaxation; Geoffrion, Lagrangean Relaxation for Integer Programming, 1974).
 pub fn weak_duality()
     ensures { WeakDuality }
+{}
+
+/// To a vector that names neither side of the cap the cap changes nothing.
+pub fn no_cap_no_links()
+    ensures { NoCapNoLinks }
 {}
 
 /// A ray whose relaxed maximum is below 0 leaves no form on its path.

@@ -12,12 +12,12 @@ use Rattle.exam_model.specs.Forms.{RowHolds, objective}
 use Rattle.exam_model.specs.Breaches.{IsFirstBreach}
 use Rattle.exam_model.specs.Counting.{is_impossible}
 use Rattle.exam_model.specs.Paths.{root}
-use Rattle.exam_model.specs.Relaxed.{IsRelaxedMaximum}
+use Rattle.exam_model.specs.Weights.{item_weight, stimulus_weight, rows_constant}
+use Rattle.exam_model.specs.Relaxed.{link_multiplier, IsRelaxedMaximum}
+use Rattle.exam_model.specs.ClosedForm.{excess_of_items}
 use Rattle.exam_model.specs.ProofTrees.{ProofTree}
 use Rattle.exam_model.specs.Verdicts.{IsVerdict}
 use Rattle.exam_model.proofs.Computed.{one_word, word_below, maximum_is, not_at_most, names_sides}
-use Rattle.exam_model.proofs.Reduced.{reduced, row_linear, amount_linear, item_part, stimulus_part, constant_form, items_linear, own_weight, low_stimulus, high_stimulus}
-use Rattle.exam_model.proofs.Greatest.{relaxed_by, best_stimulus}
 use Rattle.exam_model.proofs.BankA.{item_a, bank_a, plan_of_rows, plan_a, one_bound}
 use Rattle.history_model.specs.declared.entry.Cause.TheVariants.{NoForm, Spent}
 use Rattle.history_model.specs.declared.entry.Entry.TheVariants.{Started, SetAside, Served, Answered, Closed}
@@ -138,7 +138,7 @@ serve_unproved = (problem_0, is_problem_0, form_0, next_0, λ tree. let e = tree
 
 -- a tree that shows nothing: with the multiplier 4,096 the relaxed maximum is 8,960, and the leaf isn't closed
 maximum_4096 : IsRelaxedMaximum problem_0 (root problem_0) ((3, 4096) ∷ []) false (pos 8960)
-unfolding problem_0 started_a bank_a item_a plan_of_rows plan_a has relaxed_by best_stimulus reduced row_linear amount_linear item_part stimulus_part constant_form items_linear own_weight low_stimulus high_stimulus
+unfolding problem_0 started_a bank_a item_a plan_of_rows plan_a has item_weight stimulus_weight rows_constant link_multiplier excess_of_items
 maximum_4096 = maximum_is problem_0 (root problem_0) ((3, 4096) ∷ []) false (has (one_word 11)) (pos 1280) (pos 8960) (word_below 6 11 refl refl) refl refl
 
 not_closed : IsVerdict problem_0 (Some (has (one_word 14))) (one_bound ((3, 4096) ∷ [])) (Bad 0 NotClosed)

@@ -10,7 +10,9 @@ use Rattle.exam_model.specs.declared.verdict.Verdict.TheVariants.{Optimal}
 use Rattle.exam_model.specs.Problem.{Problem}
 use Rattle.exam_model.specs.Forms.{Meets, Form, objective}
 use Rattle.exam_model.specs.Paths.{root}
-use Rattle.exam_model.specs.Relaxed.{IsRelaxedMaximum}
+use Rattle.exam_model.specs.Weights.{item_weight, stimulus_weight, rows_constant}
+use Rattle.exam_model.specs.Relaxed.{link_multiplier, IsRelaxedMaximum}
+use Rattle.exam_model.specs.ClosedForm.{excess_of_items}
 use Rattle.exam_model.specs.ProofTrees.{ProofTree}
 use Rattle.exam_model.specs.Verdicts.{IsVerdict}
 use Rattle.exam_model.specs.Ability.{IsPosteriorMode}
@@ -18,8 +20,6 @@ use Rattle.exam_model.specs.Serving.{IsNext}
 use Rattle.exam_model.specs.Seats.{seat_problem, is_shown}
 use Rattle.exam_model.proofs.SumLaws.{either}
 use Rattle.exam_model.proofs.Computed.{these_below, one_word, word_below, form_is, maximum_is, at_most, names_sides, mode_is, next_is}
-use Rattle.exam_model.proofs.Reduced.{reduced, row_linear, amount_linear, item_part, stimulus_part, constant_form, items_linear, own_weight, low_stimulus, high_stimulus}
-use Rattle.exam_model.proofs.Greatest.{relaxed_by, best_stimulus}
 use Rattle.exam_model.proofs.BankA.{item_a, sevens, bank_a, plan_of_rows, plan_a, one_bound}
 use Rattle.exam_model.proofs.StepsOfA.{seat_1, seat_2, problem_1, problem_2}
 use Rattle.history_model.specs.declared.entry.Entry.{Entry}
@@ -83,7 +83,7 @@ unfolding problem_0 started_a bank_a item_a has
 next_0 = next_is problem_0 (has (one_word 14)) 2 (word_below 6 14 refl refl) refl
 
 maximum_0 : IsRelaxedMaximum problem_0 (root problem_0) ((3, 1) ∷ []) false (pos 6143)
-unfolding problem_0 started_a bank_a item_a plan_of_rows plan_a has relaxed_by best_stimulus reduced row_linear amount_linear item_part stimulus_part constant_form items_linear own_weight low_stimulus high_stimulus
+unfolding problem_0 started_a bank_a item_a plan_of_rows plan_a has item_weight stimulus_weight rows_constant link_multiplier excess_of_items
 maximum_0 = maximum_is problem_0 (root problem_0) ((3, 1) ∷ []) false (has (one_word 38)) (pos 1600) (pos 6143) (word_below 6 38 refl refl) refl refl
 
 optimal_0 : IsVerdict problem_0 (Some (has (one_word 14))) (one_bound ((3, 1) ∷ [])) Optimal
@@ -120,7 +120,7 @@ unfolding problem_1 seat_1 bank_a item_a has
 next_1 = next_is problem_1 (has (one_word 22)) 4 (word_below 6 22 refl refl) refl
 
 maximum_1 : IsRelaxedMaximum problem_1 (root problem_1) ((0, 1536) ∷ []) false (pos 3584)
-unfolding problem_1 seat_1 bank_a item_a plan_of_rows plan_a has relaxed_by best_stimulus reduced row_linear amount_linear item_part stimulus_part constant_form items_linear own_weight low_stimulus high_stimulus
+unfolding problem_1 seat_1 bank_a item_a plan_of_rows plan_a has item_weight stimulus_weight rows_constant link_multiplier excess_of_items
 maximum_1 = maximum_is problem_1 (root problem_1) ((0, 1536) ∷ []) false (has (one_word 18)) (pos 2048) (pos 3584) (word_below 6 18 refl refl) refl refl
 
 optimal_1 : IsVerdict problem_1 (Some (has (one_word 22))) (one_bound ((0, 1536) ∷ [])) Optimal
@@ -157,7 +157,7 @@ unfolding problem_2 seat_2 bank_a item_a has
 next_2 = next_is problem_2 (has (one_word 22)) 1 (word_below 6 22 refl refl) refl
 
 maximum_2 : IsRelaxedMaximum problem_2 (root problem_2) [] false (pos 5376)
-unfolding problem_2 seat_2 bank_a item_a plan_of_rows plan_a has relaxed_by best_stimulus reduced row_linear amount_linear item_part stimulus_part constant_form items_linear own_weight low_stimulus high_stimulus
+unfolding problem_2 seat_2 bank_a item_a plan_of_rows plan_a has item_weight stimulus_weight rows_constant link_multiplier excess_of_items
 maximum_2 = maximum_is problem_2 (root problem_2) [] false (has (one_word 2)) (pos 2048) (pos 5376) (word_below 6 2 refl refl) refl refl
 
 optimal_2 : IsVerdict problem_2 (Some (has (one_word 22))) (one_bound []) Optimal
