@@ -55,9 +55,25 @@ pub record IsSeatProblem (b : Tables) (plan : Plan) (session : ℕ) (seat : Seat
   pub mode : IsPosteriorMode b plan.prior (answers seat) theta
   pub is : P ≡ seat_problem b plan session seat theta
 
+-- ---- how a seat goes on
+
+-- the seat of a session that begins, with the items that are eligible for it
+abbrev pub new_seat : List ℕ → Seat
+new_seat eligible = record { shown = []; responses = []; eligible = eligible; aside = false; form = None; proved = false; closed = false }
+
+-- the seat after an item of a form was shown; the form is kept with its mark, whether it is proved best
+abbrev pub with_item : Seat → List ℕ → Bool → ℕ → Seat
+with_item seat form proved item = record seat { shown = seat.shown ++ item ∷ []; form = Some form; proved = proved }
+
+-- the seat after a response
+abbrev pub with_response : Seat → ℕ → Seat
+with_response seat response = record seat { responses = seat.responses ++ response ∷ [] }
+
 -- the seat after an item was served from a form, and answered
 abbrev pub served_and_answered : Seat → ℕ → List ℕ → ℕ → Seat
-served_and_answered seat item words response = record seat { shown = seat.shown ++ item ∷ []; responses = seat.responses ++ response ∷ []; form = Some words }
+served_and_answered seat item form response = with_response (with_item seat form seat.proved item) response
+
+-- ---- what is known of a seat
 
 -- the seat waits for an item: it isn't closed, the test isn't complete, and each item shown is answered
 pub record IsPending (plan : Plan) (seat : Seat) : Type 0 where

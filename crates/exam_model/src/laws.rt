@@ -1,5 +1,6 @@
 //! What the definitions imply, for every problem, path, vector, tree and set of items.
 
+ghost use Rattle.exam_model.specs.Ability.{ModeIsModeOf};
 ghost use Rattle.exam_model.specs.Laws.{WeakDuality, NoCapNoLinks, RayIsNotNegative, CountingIsSound, BestIsFirm, OptimalIsBest, NoFormIsNone, SomeMode, OneMode, SomeNext, OneNext, OneVerdict, LastFormStays, PartialCountsOpen, PartialIsSmall, FewOpen, OneBreach, ClosedFormIsMaximum, BetteringKeeps, SomeMaximum, OneMaximum, MaximumMeansPossible};
 
 /// No form on a path exceeds the relaxed maximum there, whatever the multipliers (weak duality of Lagrangian
@@ -46,6 +47,11 @@ pub fn some_mode()
 /// It has only one.
 pub fn one_mode()
     ensures { OneMode }
+{}
+
+/// The mode is a function of the tables, the prior and the answers.
+pub fn mode_is_mode_of()
+    ensures { ModeIsModeOf }
 {}
 
 /// A form with an item not yet given has a next item.
