@@ -6,10 +6,9 @@ use Rattle.exam_model.specs.declared.seat.Seat.{Seat}
 use Rattle.exam_model.specs.Plan.{Plan}
 use Rattle.exam_model.specs.Problem.{Problem}
 use Rattle.exam_model.specs.Forms.{Form}
-use Rattle.exam_model.specs.Seats.{IsSeat, IsPending, IsSeatProblem}
+use Rattle.exam_model.specs.Seats.{IsSeat, IsPending, IsSeatProblem, with_item, with_response}
 use Rattle.exam_model.specs.Serving.{IsNext}
 use Rattle.exam_model.proofs.Staying.{last_shown-push}
-use Rattle.shadow_select.specs.Steps.{with_item, with_response}
 use Rattle.shadow_select.proofs.StepLaws.{served_seat, answered_seat}
 
 -- the next item of a form was shown and answered

@@ -10,10 +10,11 @@ ghost use Rattle.exam_model.specs.Serving.{IsNext};
 ghost use Rattle.exam_model.specs.Validity.{IsPlanFor};
 ghost use Rattle.constraint_model.specs.Views.{problem_of};
 
-use bank_tables::{Bank, ItemSet, Short};
+use bank_tables::{Bank, ItemSet};
 use constraint_model::{Problem, Spec};
 use exam_model::Seat;
 use shadow_select::laws::a_new_seat_is_a_seat;
+use shadow_select::{with_item, with_response};
 
 /// The items of the bank without some.
 fn eligible_items(bank: &Bank, left_out: &ItemSet) -> ItemSet {
@@ -32,15 +33,7 @@ pub fn new_seat(bank: &Bank, left_out: &ItemSet) -> Seat
     ensures { (plan : Plan) → IsSeat bank.now plan result }
 {
     a_new_seat_is_a_seat();
-    Seat {
-        shown: Short::empty(),
-        responses: Short::empty(),
-        eligible: eligible_items(bank, left_out),
-        aside: false,
-        form: None,
-        proved: false,
-        closed: false,
-    }
+    shadow_select::new_seat(&eligible_items(bank, left_out))
 }
 
 /// What a step came to: the form, the item served from it, and the response.
@@ -69,9 +62,6 @@ pub fn seat_after(
     ensures { IsSeat bank.now spec.now result }
 {
     prove!(spec.length() <= bank.items() as u32);
-    let mut after = *seat;
-    after.shown.push(service.item);
-    after.responses.push(service.response as u16);
-    after.form = Some(service.form);
-    after
+    let shown = with_item(seat, &service.form, seat.proved, service.item);
+    with_response(&shown, service.response)
 }

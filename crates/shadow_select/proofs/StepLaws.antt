@@ -14,11 +14,11 @@ use Rattle.exam_model.specs.declared.seat.Seat.{Seat}
 use Rattle.exam_model.specs.Plan.{Plan}
 use Rattle.exam_model.specs.Problem.{Problem}
 use Rattle.exam_model.specs.Forms.{Form}
-use Rattle.exam_model.specs.Seats.{is_shown, seat_problem, IsSeat, IsPending}
+use Rattle.exam_model.specs.Seats.{is_shown, seat_problem, IsSeat, IsPending, with_item}
 use Rattle.exam_model.specs.Serving.{is_not_given, IsNext}
 use Rattle.exam_model.proofs.SumLaws.{and_true, or_true}
 use Rattle.shadow_select.proofs.ShownLaws.{found_at}
-use Rattle.shadow_select.specs.Steps.{with_item, NewSeatIsSeat, ServedSeatIsSeat, AnsweredSeatIsSeat}
+use Rattle.shadow_select.specs.Steps.{NewSeatIsSeat, ServedSeatIsSeat, AnsweredSeatIsSeat}
 
 -- ---- a list with a number more
 last_number : (xs : List ℕ) (x : ℕ) → length (xs ++ x ∷ []) ≡ length xs + 1

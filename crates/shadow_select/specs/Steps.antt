@@ -1,21 +1,13 @@
--- How a seat goes on.
-use Rattle.std.specs.Prelude.{◌≡◌, ℕ, ◌+◌, ◌<◌, Bool, List, [], ◌∷◌, ◌++◌, length, Some, None}
+-- A seat stays a seat from step to step.
+use Rattle.std.specs.Prelude.{◌≡◌, ℕ, ◌+◌, ◌<◌, Bool, List, [], length, Some, None}
 use Rattle.bank_tables.specs.Items.{has}
 use Rattle.bank_tables.specs.Tables.{Tables, categories}
 use Rattle.exam_model.specs.declared.seat.Seat.{Seat}
 use Rattle.exam_model.specs.Plan.{Plan}
 use Rattle.exam_model.specs.Problem.{Problem}
 use Rattle.exam_model.specs.Forms.{Form}
-use Rattle.exam_model.specs.Seats.{IsSeat, IsPending, IsSeatProblem, last_shown}
+use Rattle.exam_model.specs.Seats.{IsSeat, IsPending, IsSeatProblem, last_shown, with_item, with_response}
 use Rattle.exam_model.specs.Serving.{IsNext}
-
--- the seat after an item of a form was shown
-abbrev pub with_item : Seat → List ℕ → Bool → ℕ → Seat
-with_item seat form proved item = record seat { shown = seat.shown ++ item ∷ []; form = Some form; proved = proved }
-
--- the seat after a response
-abbrev pub with_response : Seat → ℕ → Seat
-with_response seat response = record seat { responses = seat.responses ++ response ∷ [] }
 
 -- a seat that was shown nothing is a seat
 abbrev pub NewSeatIsSeat : Type 0

@@ -1,0 +1,44 @@
+//! How a seat goes on: the one place where its steps are made.
+
+ghost use Rattle.std.specs.Prelude.{◌≡◌, ◌<◌, length};
+ghost use Rattle.exam_model.specs.Seats.{new_seat, with_item, with_response};
+
+use bank_tables::{ItemSet, Short};
+use exam_model::Seat;
+
+/// The seat of a session that begins, with the items that are eligible for it.
+pub fn new_seat(eligible: &ItemSet) -> Seat
+    ensures { result ≡ new_seat eligible.now }
+{
+    Seat {
+        shown: Short::empty(),
+        responses: Short::empty(),
+        eligible: *eligible,
+        aside: false,
+        form: None,
+        proved: false,
+        closed: false,
+    }
+}
+
+/// The seat after an item of a form was shown. It keeps the form with its mark, whether the form is proved best.
+pub fn with_item(seat: &Seat, form: &ItemSet, proved: bool, item: u16) -> Seat
+    requires { length seat.now.shown < 512 }
+    ensures { result ≡ with_item seat.now form.now proved item }
+{
+    let mut after = *seat;
+    after.shown.push(item);
+    after.form = Some(*form);
+    after.proved = proved;
+    after
+}
+
+/// The seat after a response to the item shown last.
+pub fn with_response(seat: &Seat, response: u8) -> Seat
+    requires { length seat.now.responses < 512 }
+    ensures { result ≡ with_response seat.now response }
+{
+    let mut after = *seat;
+    after.responses.push(u16::from(response));
+    after
+}
