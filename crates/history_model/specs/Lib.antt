@@ -6,4 +6,8 @@ pub mod SessionProblems
 pub mod Legality
 pub mod Judging
 pub mod Reasons
+pub mod Refusals
+pub mod Requests
+pub mod Halting
+pub mod Summaries
 pub mod Laws

@@ -1,6 +1,7 @@
 //! What a reader must believe about examinations: the entries of a history, and in specs/ what they say of its sessions:
 //! place, seat, problem, exposure counts, the eligibility draw, which entry is legal, which record may follow, and why one
-//! may not. Upward it promises the laws over them; it knows no file and no thread, and has no code but plain types and laws.
+//! may not; what a request refuses and does; and a history in numbers. Upward it promises the laws over them; it knows no
+//! file and no thread, and has no code but plain types and laws.
 #![tactic(auto)]
 
 mod counts;
@@ -8,8 +9,14 @@ mod entry;
 mod illegal;
 pub mod laws;
 mod place;
+mod refusal;
+mod request;
+mod summary;
 
 pub use counts::Counts;
 pub use entry::{Cause, Entry};
 pub use illegal::Illegal;
 pub use place::Place;
+pub use refusal::Refusal;
+pub use request::{Exposure, Reply, Request};
+pub use summary::Summary;

@@ -1,0 +1,54 @@
+-- Why a request is refused.
+use Rattle.std.specs.Prelude.{ℕ, List, slice_get, nat_le, nat_lt, ◌==◌, if◌then◌else◌, Option, Some, None}
+use Rattle.bank_tables.specs.Tables.{Tables, categories}
+use Rattle.exam_model.specs.Plan.{Plan}
+use Rattle.history_model.specs.declared.entry.Entry.{Entry}
+use Rattle.history_model.specs.declared.place.Place.{Place}
+use Rattle.history_model.specs.declared.place.Place.TheVariants.{Pending, Waiting}
+use Rattle.history_model.specs.declared.refusal.Refusal.{Refusal}
+use Rattle.history_model.specs.declared.refusal.Refusal.TheVariants.{NoSession, WrongStep, Other, BadResponse, IsClosed, SessionsFull}
+use Rattle.history_model.specs.declared.request.Request.{Request}
+use Rattle.history_model.specs.declared.request.Request.TheVariants.{Begin, Answer, Close, Look, Exposure}
+use Rattle.history_model.specs.Entries.{sessions, holder, responses}
+use Rattle.history_model.specs.Places.{place}
+
+-- the response that is recorded for a step, if there is one: along a legal run the k-th response is that of step k
+abbrev pub recorded : List Entry → ℕ → ℕ → Option ℕ
+recorded H s step = slice_get (responses H s) step
+
+-- a booking without a session: no more sessions are allowed
+abbrev pub refusal_of_new : Plan → List Entry → Option ℕ → Option Refusal
+refusal_of_new plan H (Some session) = None
+refusal_of_new plan H None = if nat_le plan.sessions (sessions H) then Some (SessionsFull (sessions H)) else None
+
+-- an answer to a step that isn't answered: the session has ended, stands at another step, or has no such response
+abbrev pub refusal_at : Tables → ℕ → ℕ → Place → Option Refusal
+refusal_at b step response (Pending at) = Some (WrongStep at)
+refusal_at b step response (Waiting at item proved) =
+    if at == step then (if nat_lt response (categories b item) then None else Some (BadResponse (categories b item))) else Some (WrongStep at)
+refusal_at b step response ended = Some (IsClosed ended)
+
+-- an answer to a session that stands here: the step has another response, or the answer is refused there
+abbrev pub refusal_of_answer : Tables → ℕ → ℕ → Place → Option ℕ → Option Refusal
+refusal_of_answer b step response at (Some given) = if given == response then None else Some (Other given)
+refusal_of_answer b step response at None = refusal_at b step response at
+
+-- closing a session that stands here: it has ended
+abbrev pub refusal_of_closing : Place → Option Refusal
+refusal_of_closing (Pending step) = None
+refusal_of_closing (Waiting step item proved) = None
+refusal_of_closing ended = Some (IsClosed ended)
+
+-- no such session; or by where it stands
+abbrev pub in_session : List Entry → Option Place → (Place → Option Refusal) → Option Refusal
+in_session H None refusal_where = Some (NoSession (sessions H))
+in_session H (Some at) refusal_where = refusal_where at
+
+-- the first reason why a request is refused
+abbrev pub refusal_of : Tables → Plan → List Entry → Request → Option Refusal
+refusal_of b plan H (Begin booking) = refusal_of_new plan H (holder H booking)
+refusal_of b plan H (Answer session step response) =
+    in_session H (place plan H session) (λ at. refusal_of_answer b step response at (recorded H session step))
+refusal_of b plan H (Close session) = in_session H (place plan H session) refusal_of_closing
+refusal_of b plan H (Look session) = in_session H (place plan H session) (λ at. None)
+refusal_of b plan H Exposure = None

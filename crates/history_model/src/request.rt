@@ -1,0 +1,47 @@
+//! What is asked of an examination, and what is answered.
+
+use crate::counts::Counts;
+use crate::place::Place;
+use crate::refusal::Refusal;
+use bank_tables::List;
+
+/// What one request asks.
+#[derive(Clone, Copy, Debug, PartialEq, Eq)]
+pub enum Request {
+    /// A session for a booking.
+    Begin(u64),
+    /// The response to the item of a step.
+    Answer {
+        session: u32,
+        step: u16,
+        response: u8,
+    },
+    /// A session is closed before its end.
+    Close(u32),
+    /// Where a session stands.
+    Look(u32),
+    /// The exposure counts.
+    Exposure,
+}
+
+/// The number of finished sessions, and the exposure counts of the items of the bank, in order.
+#[derive(Debug, Drop)]
+pub struct Exposure {
+    pub finished: u32,
+    pub rows: List<Counts>,
+}
+
+/// The answer to a request.
+#[derive(Debug, Drop)]
+pub enum Reply {
+    /// Where the session of the request stands, and whether this request started it.
+    At {
+        session: u32,
+        place: Place,
+        fresh: bool,
+    },
+    /// The exposure counts.
+    Exposure(Exposure),
+    /// Why the request wasn't done.
+    Refused(Refusal),
+}
