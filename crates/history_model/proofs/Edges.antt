@@ -47,10 +47,10 @@ unfolding twice
 holder_twice = (refl, refl, refl)
 
 -- ---- counts: session 0 complete, session 1 set aside and closed while it waits, session 2 open
-complete_0 : List Entry
+unfoldable pub complete_0 : List Entry
 complete_0 = Started 0 70 (one_word 31) ∷ Served 0 0 0 (one_word 11) true 1 ∷ Answered 0 0 1 ∷ Served 0 1 3 (one_word 11) true 1 ∷ Answered 0 1 0 ∷ Served 0 2 4 (one_word 25) true 1 ∷ Answered 0 2 0 ∷ []
 
-three : List Entry
+unfoldable pub three : List Entry
 unfolding complete_0
 three = complete_0 ++ Started 1 71 (one_word 1) ∷ SetAside 1 NoForm 1 ∷ Served 1 0 0 (one_word 11) false 1 ∷ Closed 1 ∷ Started 2 72 (one_word 63) ∷ Served 2 0 0 (one_word 11) true 1 ∷ []
 

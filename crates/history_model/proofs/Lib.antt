@@ -10,6 +10,7 @@ pub mod JudgingLaws
 pub mod CompleteLaws
 pub mod ReasonLaws
 pub mod RecordsOfA
+pub mod RequestsOfA
 pub mod ReasonsOfA
 pub mod MarksAndCauses
 pub mod CountLaws

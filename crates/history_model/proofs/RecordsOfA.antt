@@ -58,7 +58,7 @@ draw_first : SameItems (has (one_word 63)) (draw bank_a plan_a [] 0)
 unfolding bank_a item_a
 draw_first i = all_drawn i ∙ sym (and_on (nat_lt i 6))
 
-may_start : MayFollow bank_a plan_a [] (Started 0 70 (one_word 63)) None
+pub may_start : MayFollow bank_a plan_a [] (Started 0 70 (one_word 63)) None
 unfolding plan_of_rows plan_a
 may_start = (record { number = record { next = refl; within = lit≤ tt }; not_booked = refl; drawn = draw_first }, refl)
 
@@ -94,7 +94,7 @@ pub may_serve_0 : MayServe bank_a plan_a started_a 0 0 2 (has (one_word 14)) tru
 unfolding one_bound
 may_serve_0 = record { problem = problem_0; is_problem = is_problem_0; is_form = form_0; next = next_0; shows = record { has_tree = record { number = refl; spent = tt }; verdict = Optimal; has_verdict = optimal_0; asked = refl } }
 
-may_answer_0 : IsLegalAnswer bank_a plan_a served_a 0 0 1
+pub may_answer_0 : IsLegalAnswer bank_a plan_a served_a 0 0 1
 unfolding bank_a item_a plan_of_rows plan_a started_a served_a
 may_answer_0 = record { item = 2; proved = true; waiting = refl; in_range = lit≤ tt }
 
@@ -127,11 +127,11 @@ optimal_1 : IsVerdict problem_1 (Some (has (one_word 22))) (one_bound ((0, 1536)
 unfolding one_bound problem_1 seat_1 bank_a item_a plan_of_rows plan_a has
 optimal_1 = inl (form_1, inl ((lit≤ tt, names_sides problem_1 ((0, 1536) ∷ []) refl, at_most problem_1 (root problem_1) ((0, 1536) ∷ []) false (pos 3584) (pos (256 * objective problem_1 (has (one_word 22)) + 255)) maximum_1 refl), refl))
 
-may_serve_1 : MayServe bank_a plan_a answered_a 0 1 4 (has (one_word 22)) true 1 (Some (one_bound ((0, 1536) ∷ [])))
+pub may_serve_1 : MayServe bank_a plan_a answered_a 0 1 4 (has (one_word 22)) true 1 (Some (one_bound ((0, 1536) ∷ [])))
 unfolding one_bound
 may_serve_1 = record { problem = problem_1; is_problem = is_problem_1; is_form = form_1; next = next_1; shows = record { has_tree = record { number = refl; spent = tt }; verdict = Optimal; has_verdict = optimal_1; asked = refl } }
 
-may_answer_1 : IsLegalAnswer bank_a plan_a served_1 0 1 0
+pub may_answer_1 : IsLegalAnswer bank_a plan_a served_1 0 1 0
 unfolding bank_a item_a plan_of_rows plan_a started_a served_a answered_a served_1
 may_answer_1 = record { item = 4; proved = true; waiting = refl; in_range = lit≤ tt }
 
@@ -164,11 +164,11 @@ optimal_2 : IsVerdict problem_2 (Some (has (one_word 22))) (one_bound []) Optima
 unfolding one_bound problem_2 seat_2 bank_a item_a plan_of_rows plan_a has
 optimal_2 = inl (form_2, inl ((lit≤ tt, names_sides problem_2 [] refl, at_most problem_2 (root problem_2) [] false (pos 5376) (pos (256 * objective problem_2 (has (one_word 22)) + 255)) maximum_2 refl), refl))
 
-may_serve_2 : MayServe bank_a plan_a answered_1 0 2 1 (has (one_word 22)) true 1 (Some (one_bound []))
+pub may_serve_2 : MayServe bank_a plan_a answered_1 0 2 1 (has (one_word 22)) true 1 (Some (one_bound []))
 unfolding one_bound
 may_serve_2 = record { problem = problem_2; is_problem = is_problem_2; is_form = form_2; next = next_2; shows = record { has_tree = record { number = refl; spent = tt }; verdict = Optimal; has_verdict = optimal_2; asked = refl } }
 
-may_answer_2 : IsLegalAnswer bank_a plan_a served_2 0 2 1
+pub may_answer_2 : IsLegalAnswer bank_a plan_a served_2 0 2 1
 unfolding bank_a item_a plan_of_rows plan_a started_a served_a answered_a served_1 answered_1 served_2
 may_answer_2 = record { item = 1; proved = true; waiting = refl; in_range = lit≤ tt }
 
