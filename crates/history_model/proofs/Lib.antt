@@ -15,4 +15,7 @@ pub mod ReasonsOfA
 pub mod MarksAndCauses
 pub mod CountLaws
 pub mod RunParts
+pub mod Staying
+pub mod ProblemStaying
+pub mod AsideForms
 pub mod Bounds

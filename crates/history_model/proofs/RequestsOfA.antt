@@ -1,30 +1,25 @@
 -- Requests on bank A: what they are refused, what they do, and the histories in numbers.
-use Rattle.std.proofs.Common.{◌≡◌, ℕ, zero, suc, ◌<◌, false, true, Bool, List, [], ◌∷◌, ◌++◌, slice_get, None, Some, refl, arith}
+use Rattle.std.proofs.Common.{◌≡◌, ℕ, zero, suc, ◌<◌, false, true, Bool, List, [], ◌∷◌, slice_get, None, Some, refl, arith}
 use Rattle.bank_tables.specs.Items.{has}
 use Rattle.exam_model.specs.Plan.{Plan}
 use Rattle.exam_model.specs.Problem.{Problem}
 use Rattle.exam_model.specs.Forms.{Best, Firm}
 use Rattle.exam_model.proofs.Computed.{one_word}
 use Rattle.exam_model.proofs.BankA.{item_a, bank_a, plan_of_rows, plan_a, one_bound}
-use Rattle.exam_model.proofs.StepsOfA.{seat_1, problem_1}
 use Rattle.history_model.specs.declared.counts.Counts.{Counts}
-use Rattle.history_model.specs.declared.entry.Entry.{Entry}
-use Rattle.history_model.specs.declared.entry.Entry.TheVariants.{Started, Served, Answered, Closed}
-use Rattle.history_model.specs.declared.place.Place.TheVariants.{Pending, Waiting, Complete, Closed as IsClosed}
+use Rattle.history_model.specs.declared.entry.Entry.TheVariants.{Served}
+use Rattle.history_model.specs.declared.place.Place.TheVariants.{Waiting, Complete, Closed as IsClosed}
 use Rattle.history_model.specs.declared.refusal.Refusal.TheVariants as refusal
 use Rattle.history_model.specs.declared.request.Reply.TheVariants as reply
 use Rattle.history_model.specs.declared.request.Request.TheVariants.{Begin, Answer, Close, Look, Exposure}
 use Rattle.history_model.specs.Counts.{counts}
-use Rattle.history_model.specs.Entries.{seat_of}
-use Rattle.history_model.specs.Legality.{Legal}
 use Rattle.history_model.specs.Refusals.{refusal_of}
 use Rattle.history_model.specs.Requests.{Begins, RecordsAnswer, by_begin, by_answer, IsFirmServing, at_once, Does}
-use Rattle.history_model.specs.SessionProblems.{IsProblemOf}
 use Rattle.history_model.specs.Summaries.{summary}
 use Rattle.history_model.proofs.Edges.{complete_0, three}
 use Rattle.history_model.proofs.HistoriesOfA.{started_a, served_a, answered_a, served_1, answered_1, served_2, answered_2, two_a, closed_a}
 use Rattle.history_model.proofs.JudgingLaws.{may_is_legal}
-use Rattle.history_model.proofs.RecordsOfA.{may_start, is_problem_0, problem_0, may_serve_0, may_answer_0, may_serve_1, may_answer_2}
+use Rattle.history_model.proofs.RecordsOfA.{may_start, may_serve_0, may_answer_0, may_serve_1, may_answer_2}
 
 -- ---- two sessions, the second closed, and the first waiting for its second answer
 answers_there : (refusal_of bank_a plan_a closed_a (Answer 0 0 1) ≡ None) × (refusal_of bank_a plan_a closed_a (Answer 0 0 0) ≡ Some (refusal.Other 1)) × (refusal_of bank_a plan_a closed_a (Answer 0 2 1) ≡ Some (refusal.WrongStep 1)) × (refusal_of bank_a plan_a closed_a (Answer 0 1 2) ≡ Some (refusal.BadResponse 2)) × (refusal_of bank_a plan_a closed_a (Answer 0 1 1) ≡ None)

@@ -1,10 +1,12 @@
 -- Along a legal run each entry is legal behind those before it.
 use Rattle.std.proofs.Common.{◌≡◌, ◌⊎◌, inl, inr, List, [], ◌∷◌, ◌++◌, refl, subst}
+use Rattle.std.proofs.lemmas.List.{append-nil}
 use Rattle.bank_tables.specs.Tables.{Tables}
 use Rattle.exam_model.specs.Plan.{Plan}
 use Rattle.history_model.specs.declared.entry.Entry.{Entry}
 use Rattle.history_model.specs.Legality.{Legal, LegalRun, empty, more}
-use Rattle.history_model.specs.Laws.{EachIsLegal}
+use Rattle.history_model.specs.Judging.{Record, MayFollow, entries_of, Backed, empty as no_record, more as one_record}
+use Rattle.history_model.specs.Laws.{EachIsLegal, BeginningIsLegal, EachMayFollow}
 
 not_empty : {A : Type 0} (xs : List A) (y : A) (zs : List A) → [] ≡ xs ++ y ∷ zs → ⊥
 not_empty [] y zs e = cc
@@ -41,3 +43,22 @@ parts b plan K (more before last run legal) H entry G e =
 
 pub each_is_legal : EachIsLegal
 each_is_legal b plan H entry G run = parts b plan (H ++ entry ∷ G) run H entry G refl
+
+pub beginning_is_legal : BeginningIsLegal
+beginning_is_legal b plan H [] run = subst (λ (F : List Entry). LegalRun b plan F) (append-nil H) run
+beginning_is_legal b plan H (entry ∷ G) run = (each_is_legal b plan H entry G run).0
+
+-- ---- the same of records
+record_parts : (b : Tables) (plan : Plan) (K : List Record) → Backed b plan K → (R : List Record) (r : Record) (Q : List Record) → K ≡ R ++ r ∷ Q → Backed b plan R × MayFollow b plan (entries_of R) r.entry r.tree
+record_parts b plan K no_record R r Q e = absurd (not_empty R r Q e)
+record_parts b plan K (one_record before last backed may) R r Q e =
+    elim (last_or_before before last R r Q e) [
+      | inl at ↦ (
+        subst (λ (F : List Record). Backed b plan F) at.0 backed,
+        subst (λ (F : List Record). MayFollow b plan (entries_of F) r.entry r.tree) at.0 (subst (λ (f : Record). MayFollow b plan (entries_of before) f.entry f.tree) at.1 may),
+      )
+      | inr within ↦ record_parts b plan before backed R r within.0 within.1
+    ]
+
+pub each_may_follow : EachMayFollow
+each_may_follow b plan R r Q backed = record_parts b plan (R ++ r ∷ Q) backed R r Q refl

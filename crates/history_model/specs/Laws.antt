@@ -1,6 +1,6 @@
 -- What the definitions imply, as the public laws state it.
 use Rattle.std.specs.Prelude.{◌≡◌, ℕ, ◌+◌, ◌<◌, ◌≤◌, Bool, true, false, ◌||◌, ◌==◌, List, [], ◌∷◌, ◌++◌, length, slice_get, nat_le, is_some, IsTrue, IsFalse, Option, Some, None, if◌then◌else◌}
-use Rattle.bank_tables.specs.Items.{has}
+use Rattle.bank_tables.specs.Items.{Set, has}
 use Rattle.bank_tables.specs.Tables.{Tables}
 use Rattle.bank_tables.specs.Validity.{HoldsItems}
 use Rattle.exam_model.specs.declared.seat.Seat.{Seat}
@@ -15,10 +15,11 @@ use Rattle.history_model.specs.declared.counts.Counts.{Counts}
 use Rattle.history_model.specs.declared.place.Place.{Place}
 use Rattle.history_model.specs.declared.place.Place.TheVariants.{Pending, Waiting, Complete, Closed as IsClosed}
 use Rattle.history_model.specs.declared.illegal.Illegal.{Illegal}
-use Rattle.history_model.specs.Entries.{Serving, StepAnswer, sessions, is_started, servings, step_answers, seat_of}
+use Rattle.history_model.specs.Entries.{Serving, StepAnswer, sessions, is_started, is_set_aside, holder, servings, step_answers, seat_of}
 use Rattle.history_model.specs.Places.{place}
 use Rattle.history_model.specs.Counts.{counts, finished}
-use Rattle.history_model.specs.SessionProblems.{IsProblemOf}
+use Rattle.history_model.specs.Refusals.{recorded}
+use Rattle.history_model.specs.SessionProblems.{IsProblemOf, problem_once_aside, fallback}
 use Rattle.history_model.specs.Legality.{Legal, LegalRun}
 use Rattle.history_model.specs.Judging.{MayFollow, Record, entries_of, Backed}
 use Rattle.history_model.specs.Reasons.{IsIllegal}
@@ -145,3 +146,48 @@ LastFormStays = (b : Tables) (plan : Plan) (H : List Entry) (s theta : ℕ) (wor
 -- the items shown in a complete session meet the plan
 abbrev pub CompleteMeets : Type 0
 CompleteMeets = (b : Tables) (plan : Plan) (H : List Entry) (s : ℕ) → 0 < plan.length → LegalRun b plan H → place plan H s ≡ Some Complete → Meets b plan (is_shown (seat_of H s))
+
+-- once eligibility is set aside, the form last served from, or before the first item any set that meets the plan, is a form
+-- of the session's problem
+abbrev pub FormOnceAside : Type 0
+FormOnceAside = (b : Tables) (plan : Plan) (H : List Entry) (s step : ℕ) (P : Problem) (base : Set) → LegalRun b plan H → IsProblemOf b plan H s step P → Meets b plan base
+    → Form (problem_once_aside b plan H s P.theta) (fallback P base)
+
+-- so where eligibility is set aside, the problem has a form
+abbrev pub FormWhereAside : Type 0
+FormWhereAside = (b : Tables) (plan : Plan) (H : List Entry) (s step : ℕ) (P : Problem) (base : Set) → LegalRun b plan H → IsProblemOf b plan H s step P → Meets b plan base
+    → IsTrue P.aside → Form P (fallback P base)
+
+-- ---- a longer history
+-- a booking keeps its session, a step its response, a closed session its end, and no session goes
+abbrev pub HolderStays : Type 0
+HolderStays = (H more : List Entry) (booking session : ℕ) → holder H booking ≡ Some session → holder (H ++ more) booking ≡ Some session
+
+abbrev pub ResponseStays : Type 0
+ResponseStays = (H more : List Entry) (s step response : ℕ) → recorded H s step ≡ Some response → recorded (H ++ more) s step ≡ Some response
+
+abbrev pub ClosedStays : Type 0
+ClosedStays = (plan : Plan) (H more : List Entry) (s : ℕ) → place plan H s ≡ Some IsClosed → place plan (H ++ more) s ≡ Some IsClosed
+
+abbrev pub SessionsGrow : Type 0
+SessionsGrow = (H more : List Entry) → sessions H ≤ sessions (H ++ more)
+
+-- what a legal run begins with is one, and in it a complete session stays complete
+abbrev pub BeginningIsLegal : Type 0
+BeginningIsLegal = (b : Tables) (plan : Plan) (H more : List Entry) → LegalRun b plan (H ++ more) → LegalRun b plan H
+
+abbrev pub CompleteStays : Type 0
+CompleteStays = (b : Tables) (plan : Plan) (H more : List Entry) (s : ℕ) → LegalRun b plan (H ++ more) → place plan H s ≡ Some Complete → place plan (H ++ more) s ≡ Some Complete
+
+-- where a session waits for the item of the same step, with eligibility set aside or not as before, its problem is the same
+abbrev pub ProblemStays : Type 0
+ProblemStays = (b : Tables) (plan : Plan) (H more : List Entry) (s step : ℕ) (P : Problem) → LegalRun b plan (H ++ more) → IsProblemOf b plan H s step P
+    → place plan (H ++ more) s ≡ Some (Pending step) → is_set_aside (H ++ more) s ≡ is_set_aside H s → IsProblemOf b plan (H ++ more) s step P
+
+abbrev pub SameProblem : Type 0
+SameProblem = (b : Tables) (plan : Plan) (H more : List Entry) (s step : ℕ) (P Q : Problem) → LegalRun b plan (H ++ more)
+    → IsProblemOf b plan H s step P → IsProblemOf b plan (H ++ more) s step Q → P.aside ≡ Q.aside → P ≡ Q
+
+-- each record of a backed run may follow those before it
+abbrev pub EachMayFollow : Type 0
+EachMayFollow = (b : Tables) (plan : Plan) (R : List Record) (r : Record) (Q : List Record) → Backed b plan (R ++ r ∷ Q) → Backed b plan R × MayFollow b plan (entries_of R) r.entry r.tree

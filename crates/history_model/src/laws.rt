@@ -1,6 +1,6 @@
 //! What the definitions imply, for every bank, plan, history and record.
 
-ghost use Rattle.history_model.specs.Laws.{MayIsLegal, BackedIsLegalRun, OneProblem, OneReason, NoReasonIfMay, EachIsLegal, SessionsAreNumbered, SessionsAreFew, FinishedAreFew, StepsAreInOrder, SeatBeforeStart, SeatGoesOn, SeatIsSeat, EligibleIsOfBank, PlaceIsOfSeat, PendingIsOfSeat, CountsGoOn, FinishedGoesOn, LastFormStays, CompleteMeets};
+ghost use Rattle.history_model.specs.Laws.{MayIsLegal, BackedIsLegalRun, OneProblem, OneReason, NoReasonIfMay, EachIsLegal, SessionsAreNumbered, SessionsAreFew, FinishedAreFew, StepsAreInOrder, SeatBeforeStart, SeatGoesOn, SeatIsSeat, EligibleIsOfBank, PlaceIsOfSeat, PendingIsOfSeat, CountsGoOn, FinishedGoesOn, LastFormStays, CompleteMeets, FormOnceAside, FormWhereAside, HolderStays, ResponseStays, ClosedStays, SessionsGrow, BeginningIsLegal, CompleteStays, ProblemStays, SameProblem, EachMayFollow};
 
 /// What may follow, by its tree, is legal: a form marked proved is best, and eligibility is set aside for the stated cause.
 pub fn may_is_legal()
@@ -100,4 +100,61 @@ pub fn last_form_stays()
 /// The items shown in a complete session of a legal run meet the plan.
 pub fn complete_meets()
     ensures { CompleteMeets }
+{}
+
+/// With eligibility set aside, the form last served from is a form of the session's problem; before the first item, each
+/// set that meets the plan is one.
+pub fn form_once_aside()
+    ensures { FormOnceAside }
+{}
+
+/// So a session for which eligibility is set aside never lacks a form.
+pub fn form_where_aside()
+    ensures { FormWhereAside }
+{}
+
+/// A booking keeps its session in every longer history.
+pub fn holder_stays()
+    ensures { HolderStays }
+{}
+
+/// An answered step keeps its response.
+pub fn response_stays()
+    ensures { ResponseStays }
+{}
+
+/// A closed session stays closed.
+pub fn closed_stays()
+    ensures { ClosedStays }
+{}
+
+/// The number of sessions never falls.
+pub fn sessions_grow()
+    ensures { SessionsGrow }
+{}
+
+/// The beginning of a legal run is one.
+pub fn beginning_is_legal()
+    ensures { BeginningIsLegal }
+{}
+
+/// A complete session stays complete along a legal run.
+pub fn complete_stays()
+    ensures { CompleteStays }
+{}
+
+/// While a session waits for the item of one step, with eligibility set aside or not as before, its problem stays the same,
+/// whatever is done in other sessions.
+pub fn problem_stays()
+    ensures { ProblemStays }
+{}
+
+/// Two problems of one step of a session, with the same flag, are one.
+pub fn same_problem()
+    ensures { SameProblem }
+{}
+
+/// Each record of a backed run may follow those before it.
+pub fn each_may_follow()
+    ensures { EachMayFollow }
 {}
