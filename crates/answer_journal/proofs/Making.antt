@@ -6,7 +6,7 @@ use Rattle.std.proofs.lemmas.Nat.{be_bytes_4}
 use Rattle.std.proofs.lemmas.Bool.{eqb-true, eqb-false, ltb-true, ltb-false, lt-leb, cases_Bool, or_parts}
 use Rattle.std.proofs.lemmas.Bool.Decides.{Decides-eqb}
 use Rattle.std.proofs.lemmas.Slice.Eq.{slice_eq-Decides}
-use Rattle.answer_journal.specs.Frames.{header, Fits, frames, Scan, Whole, BadLength, CutOff, Behind, OfNoLength, TooShort, Payload, behind, with_payload, goes_on_behind, scan, whole, begins, payloads}
+use Rattle.answer_journal.specs.Frames.{FileHeader, IsPayload, frames, Scan, Whole, BadLength, CutOff, Behind, OfNoLength, TooShort, Payload, behind, with_payload, goes_on_behind, scan, whole, begins, payloads}
 use Rattle.answer_journal.specs.FrameLaws.{payloads-front}
 use Rattle.answer_journal.specs.Grammar.{IsMadeOf}
 
@@ -45,7 +45,7 @@ below a b c d rest small (suc (suc (suc (suc i)))) = omega arith
 -- a payload that stands behind a gate, spelled out
 record Spelled (rest payload body : List ℕ) : Type 0 where
   is : rest ≡ to_be_bytes w32 (length payload) ++ (payload ++ body)
-  fits : Fits payload
+  fits : IsPayload payload
 
 spelled : (rest payload body : List ℕ) → IsBytes rest → behind rest ≡ Payload payload body → Spelled rest payload body
 spelled [] payload body small is = cc
@@ -75,7 +75,7 @@ record Framed (ps : List (List ℕ)) (bytes : List ℕ) : Type 0 where
   junk : List ℕ
   closed : gate ≢ 1
   is : bytes ≡ frames ps ++ gate ∷ junk
-  fits : AllByRecursion Fits ps
+  fits : AllByRecursion IsPayload ps
 
 regroup : (a b c d : List ℕ) → a ++ (b ++ (c ++ d)) ≡ (a ++ b ++ c) ++ d
 regroup a b c d = sym (simp append_assoc)
@@ -112,17 +112,17 @@ scan-framed (suc more) at (gate ∷ rest) ps small is = elim (cases_Bool (gate =
       subst (λ (qs : List (List ℕ)). Framed qs (gate ∷ rest)) e (record { gate = gate; junk = rest; closed = eqb-false gate 1 shut; is = refl; fits = tt })
 ]
 
-header_is : (bytes : List ℕ) → begins bytes ≡ true → take 8 bytes ≡ header
-header_is bytes is = (slice_eq-Decides Decides-eqb (take 8 bytes) header (begins bytes) refl).0 is
+header_is : (h : FileHeader) (bytes : List ℕ) → begins h bytes ≡ true → take 8 bytes ≡ h.bytes
+header_is h bytes is = (slice_eq-Decides Decides-eqb (take 8 bytes) h.bytes (begins h bytes) refl).0 is
 
 whole-some : (s : Scan) (ps : List (List ℕ)) → whole s ≡ Some ps → s ≡ Whole ps
 whole-some (Whole qs) ps is = let e : qs ≡ ps = cc in ap Whole e
 whole-some (BadLength at) ps is = cc
 whole-some (CutOff at) ps is = cc
 
-by_header : (file : List ℕ) (ps : List (List ℕ)) (b : Bool) → begins file ≡ b → IsBytes file → (if b then whole (scan (length file) 8 (drop 8 file)) else None) ≡ Some ps → IsMadeOf ps file
-by_header file ps false not small is = cc
-by_header file ps true begun small is =
+by_header : (h : FileHeader) (file : List ℕ) (ps : List (List ℕ)) (b : Bool) → begins h file ≡ b → IsBytes file → (if b then whole (scan (length file) 8 (drop 8 file)) else None) ≡ Some ps → IsMadeOf h ps file
+by_header h file ps false not small is = cc
+by_header h file ps true begun small is =
     let scanned : scan (length file) 8 (drop 8 file) ≡ Whole ps = whole-some (scan (length file) 8 (drop 8 file)) ps is in
     let small_rest : IsBytes (drop 8 file) = bytes_behind (take 8 file) (drop 8 file) (subst IsBytes (sym (take-append-drop 8 file)) small) in
     let f : Framed ps (drop 8 file) = scan-framed (length file) 8 (drop 8 file) ps small_rest scanned in
@@ -130,16 +130,16 @@ by_header file ps true begun small is =
       gate = f.gate;
       junk = f.junk;
       closed = f.closed;
-      is = sym (take-append-drop 8 file) ∙ ap (λ (l : List ℕ). l ++ drop 8 file) (header_is file begun) ∙ ap (λ (l : List ℕ). header ++ l) f.is ∙ sym (append_assoc header (frames ps) (f.gate ∷ f.junk));
+      is = sym (take-append-drop 8 file) ∙ ap (λ (l : List ℕ). l ++ drop 8 file) (header_is h file begun) ∙ ap (λ (l : List ℕ). h.bytes ++ l) f.is ∙ sym (append_assoc h.bytes (frames ps) (f.gate ∷ f.junk));
       fits = f.fits;
     }
 
-pub payloads-made : (file : List ℕ) (ps : List (List ℕ)) → IsBytes file → 9 < length file → payloads file ≡ Some ps → IsMadeOf ps file
+pub payloads-made : (h : FileHeader) (file : List ℕ) (ps : List (List ℕ)) → IsBytes file → 9 < length file → payloads h file ≡ Some ps → IsMadeOf h ps file
 unfolding payloads
-payloads-made file ps small more is =
+payloads-made h file ps small more is =
     let long : nat_le (length file) 9 ≡ false = lt-leb (length file) 9 more in
-    let gives : (if begins file then whole (scan (length file) 8 (drop 8 file)) else None) ≡ Some ps = rw long at is in
-    by_header file ps (begins file) refl small gives
+    let gives : (if begins h file then whole (scan (length file) 8 (drop 8 file)) else None) ≡ Some ps = rw long at is in
+    by_header h file ps (begins h file) refl small gives
 
-pub made-payloads : (file : List ℕ) (ps : List (List ℕ)) → IsMadeOf ps file → payloads file ≡ Some ps
-made-payloads file ps m = ap payloads m.is ∙ payloads-front ps m.gate m.junk m.fits m.closed
+pub made-payloads : (h : FileHeader) (file : List ℕ) (ps : List (List ℕ)) → IsMadeOf h ps file → payloads h file ≡ Some ps
+made-payloads h file ps m = ap (payloads h) m.is ∙ payloads-front h ps m.gate m.junk m.fits m.closed

@@ -1,64 +1,69 @@
 -- The device calls that bring a file to rest when it is opened.
 use Rattle.std.proofs.Common.{◌≡◌, ℕ, ◌+◌, ◌<◌, ◌≤◌, nat_le, true, false, List, [], ◌∷◌, ◌++◌, length, take, drop, get_or, map, Some, refl, sym, ◌∙◌, ap, arith, length-append, length-take, take-append-drop}
 use Rattle.std.proofs.lemmas.Bool.{le-leb, lt-leb}
-use Rattle.std.proofs.lemmas.List.{drop_more, drop_all}
+use Rattle.std.proofs.lemmas.List.{drop_more, drop_all, append-nil}
 use Rattle.exam_edge.specs.Images.{Account, IsSettled, latest, written, cut_to, overwritten, Grows, AtEachMoment}
 use Rattle.exam_edge.specs.ImageLaws.{torn, trimmed, only, started, goes_on}
-use Rattle.answer_journal.specs.Frames.{header, front, payloads}
-use Rattle.answer_journal.specs.Standing.{held, IsAtRest, Unopened, tidied}
+use Rattle.answer_journal.specs.Frames.{FileHeader, front, payloads}
+use Rattle.answer_journal.specs.Standing.{payload_list, IsAtRest, Unopened, opened_file}
+use Rattle.answer_journal.specs.StandingLaws.{unopened_gives}
 use Rattle.answer_journal.specs.Payload.{bytes_of}
 use Rattle.answer_journal.specs.Reading.{IsRead}
 use Rattle.answer_journal.specs.declared.payload.Payload.{Payload}
-use Rattle.answer_journal.proofs.Crash.{at_rest, unopened_gives, trimmed_behind, cut_behind}
+use Rattle.answer_journal.proofs.Crash.{at_rest, trimmed_behind, cut_behind}
 
-pub short_gives : (file : List ℕ) → length file ≤ 9 → payloads file ≡ Some []
-unfolding payloads
-short_gives file le = let e : nat_le (length file) 9 ≡ true = le-leb (length file) 9 le in rw e refl
+module _ (h : FileHeader) where
+  pub short_gives : (file : List ℕ) → length file ≤ 9 → payloads h file ≡ Some []
+  unfolding payloads
+  short_gives file le = let e : nat_le (length file) 9 ≡ true = le-leb (length file) 9 le in rw e refl
 
-module _ (content : List ℕ) (a0 a1 : List Account) (settles : IsSettled content a0) where
-  module _ (few : length content ≤ 9) (g : Grows (written 0 9 (latest a0)) a0 a1) where
-    pub begun : AtEachMoment a0 a1 (λ file. payloads file ≡ Some [])
-    begun =
-        let P : List ℕ → Type 0 = λ file. payloads file ≡ Some [] in
-        goes_on P (written 0 9 (latest a0)) a0 a0 a1 (started P a0 (λ file i. short_gives file (omega (arith, few, ap length (only (latest a0) content file settles i))))) g
-        (λ file i. let t = torn 0 9 (latest a0) content file settles i in short_gives file (omega (arith, few, t.greatest)))
+  module _ (content : List ℕ) (a0 a1 : List Account) (settles : IsSettled content a0) where
+    module _ (few : length content ≤ 9) (g : Grows (written 0 9 (latest a0)) a0 a1) where
+      pub begun : AtEachMoment a0 a1 (λ file. payloads h file ≡ Some [])
+      begun =
+          let P : List ℕ → Type 0 = λ file. payloads h file ≡ Some [] in
+          goes_on P (written 0 9 (latest a0)) a0 a0 a1 (started P a0 (λ file i. short_gives file (omega (arith, few, ap length (only (latest a0) content file settles i))))) g
+          (λ file i. let t = torn 0 9 (latest a0) content file settles i in short_gives file (omega (arith, few, t.greatest)))
 
-  module _ (read : List Payload) (end : ℕ) (r : IsRead content read end) where
-    size_is : end + 1 ≡ length (front (map bytes_of read)) + 1
-    size_is = omega (arith, ap length r.before, length-take end content, r.in_file)
+    module _ (read : List Payload) (end : ℕ) (r : IsRead h content read end) where
+      size_is : end + 1 ≡ length (front h (map bytes_of read)) + 1
+      size_is = omega (arith, ap length r.before, length-take end content, r.in_file)
 
-    pub shut : Unopened (map bytes_of read) content
-    shut = record {
-      gate = get_or content end 0;
-      junk = drop (end + 1) content;
-      closed = r.closed;
-      is = sym (take-append-drop end content) ∙ ap (λ (l : List ℕ). l ++ drop end content) r.before ∙ ap (λ (l : List ℕ). front (map bytes_of read) ++ l) (drop_more content end 0 r.in_file);
-    }
+      pub shut : Unopened h (map bytes_of read) content
+      shut = record {
+        gate = get_or content end 0;
+        junk = drop (end + 1) content;
+        closed = r.closed;
+        is = sym (take-append-drop end content) ∙ ap (λ (l : List ℕ). l ++ drop end content) r.before ∙ ap (λ (l : List ℕ). front h (map bytes_of read) ++ l) (drop_more content end 0 r.in_file);
+      }
 
-    pub cut_keeps : Grows (cut_to (end + 1) (latest a0)) a0 a1 → AtEachMoment a0 a1 (λ file. payloads file ≡ Some (map bytes_of read))
-    cut_keeps g =
-        let P : List ℕ → Type 0 = λ file. payloads file ≡ Some (map bytes_of read) in
-        goes_on P (cut_to (end + 1) (latest a0)) a0 a0 a1 (started P a0 (λ file i. ap payloads (only (latest a0) content file settles i) ∙ r.gives)) g
-        (λ file i. unopened_gives (map bytes_of read) file r.fits (trimmed_behind (map bytes_of read) (end + 1) content file size_is shut (trimmed (end + 1) (latest a0) content file settles i)))
+      pub cut_keeps : Grows (cut_to (end + 1) (latest a0)) a0 a1 → AtEachMoment a0 a1 (λ file. payloads h file ≡ Some (map bytes_of read))
+      cut_keeps g =
+          let P : List ℕ → Type 0 = λ file. payloads h file ≡ Some (map bytes_of read) in
+          goes_on P (cut_to (end + 1) (latest a0)) a0 a0 a1 (started P a0 (λ file i. ap (payloads h) (only (latest a0) content file settles i) ∙ r.gives)) g
+          (λ file i. unopened_gives h (map bytes_of read) file r.fits (trimmed_behind h (map bytes_of read) (end + 1) content file size_is shut (trimmed (end + 1) (latest a0) content file settles i)))
 
-    pub cut_rests : (c1 : List ℕ) (a2 : List Account) → c1 ≡ take (end + 1) content → IsSettled c1 a2 → IsAtRest c1 a2 (end + 1) × (held c1 ≡ map bytes_of read)
-    cut_rests c1 a2 is settles1 =
-        let u : Unopened (map bytes_of read) content = shut in
-        let file : c1 ≡ front (map bytes_of read) ++ u.gate ∷ [] = is ∙ cut_behind (map bytes_of read) (end + 1) content size_is u in
-        at_rest (map bytes_of read) u.gate c1 a2 (end + 1) r.fits u.closed file (omega (arith, ap length file, size_is, length-append (front (map bytes_of read)) (u.gate ∷ []))) settles1
+      pub cut_rests : (c1 : List ℕ) (a2 : List Account) → c1 ≡ take (end + 1) content → IsSettled c1 a2 → IsAtRest h c1 a2 (end + 1) × (payload_list h c1 ≡ map bytes_of read)
+      cut_rests c1 a2 is settles1 =
+          let u : Unopened h (map bytes_of read) content = shut in
+          let file : c1 ≡ front h (map bytes_of read) ++ u.gate ∷ [] = is ∙ cut_behind h (map bytes_of read) (end + 1) content size_is u in
+          at_rest h (map bytes_of read) u.gate c1 a2 (end + 1) r.fits u.closed file (omega (arith, ap length file, size_is, length-append (front h (map bytes_of read)) (u.gate ∷ []))) settles1
 
-pub begun_is : (content c1 : List ℕ) → length content ≤ 9 → c1 ≡ overwritten content 0 (header ++ 0 ∷ []) → c1 ≡ header ++ 0 ∷ []
-begun_is content c1 few is = is ∙ ap (λ (l : List ℕ). header ++ 0 ∷ [] ++ l) (drop_all 9 content few)
+  pub begun_is : (content c1 : List ℕ) → length content ≤ 9 → c1 ≡ overwritten content 0 (h.bytes ++ 0 ∷ []) → c1 ≡ h.bytes ++ 0 ∷ []
+  begun_is content c1 few is =
+      let bytes = h.bytes ++ 0 ∷ [] in
+      is ∙ ap (λ (l : List ℕ). bytes ++ l) (drop_all (0 + length bytes) content (omega (arith, few, length-append h.bytes (0 ∷ []), h.eight))) ∙ append-nil bytes
 
-pub tidied-short : (file : List ℕ) (size : ℕ) → length file ≤ 9 → tidied file size ≡ header ++ 0 ∷ []
-unfolding tidied
-tidied-short file size few = let short : nat_le (length file) 9 ≡ true = le-leb (length file) 9 few in rw short refl
+  pub opened_file-short : (file : List ℕ) (size : ℕ) → length file ≤ 9 → opened_file h file size ≡ h.bytes ++ 0 ∷ []
+  unfolding opened_file
+  opened_file-short file size few = let short : nat_le (length file) 9 ≡ true = le-leb (length file) 9 few in rw short refl
 
-pub tidied-long : (file : List ℕ) (size : ℕ) → 9 < length file → tidied file size ≡ take size file
-unfolding tidied
-tidied-long file size more = let long : nat_le (length file) 9 ≡ false = lt-leb (length file) 9 more in rw long refl
+  pub opened_file-long : (file : List ℕ) (size : ℕ) → 9 < length file → opened_file h file size ≡ take size file
+  unfolding opened_file
+  opened_file-long file size more = let long : nat_le (length file) 9 ≡ false = lt-leb (length file) 9 more in rw long refl
 
-pub begun_rests : (content c1 : List ℕ) (a2 : List Account) → length content ≤ 9 → c1 ≡ overwritten content 0 (header ++ 0 ∷ []) → IsSettled c1 a2 → IsAtRest c1 a2 9 × (held c1 ≡ [])
-begun_rests content c1 a2 few is settles =
-    let file : c1 ≡ header ++ 0 ∷ [] = begun_is content c1 few is in
-    at_rest [] 0 c1 a2 9 tt (λ e. absurd (omega (arith, e))) file (omega (arith, ap length file)) settles
+  pub begun_rests : (content c1 : List ℕ) (a2 : List Account) → length content ≤ 9 → c1 ≡ overwritten content 0 (h.bytes ++ 0 ∷ []) → IsSettled c1 a2 → IsAtRest h c1 a2 9 × (payload_list h c1 ≡ [])
+  begun_rests content c1 a2 few is settles =
+      let file : c1 ≡ h.bytes ++ 0 ∷ [] = begun_is content c1 few is in
+      let framed : c1 ≡ front h [] ++ 0 ∷ [] = file ∙ ap (λ (l : List ℕ). l ++ 0 ∷ []) (sym (append-nil h.bytes)) in
+      at_rest h [] 0 c1 a2 9 tt (λ e. absurd (omega (arith, e))) framed (omega (arith, ap length file, length-append h.bytes (0 ∷ []), h.eight)) settles

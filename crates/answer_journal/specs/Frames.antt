@@ -1,22 +1,27 @@
 -- What the bytes of a journal file stand for.
 -- Eight bytes of header, then a gate. Behind an open gate stand a length of four bytes, greatest first, so many payload bytes,
 -- and the next gate. The first closed gate ends the journal, whatever stands behind it.
-use Rattle.std.specs.Prelude.{ℕ, ◌+◌, ◌≤◌, Bool, ◌==◌, nat_eq, nat_lt, nat_le, ◌||◌, if◌then◌else◌, List, [], ◌∷◌, ◌++◌, length, take, drop, Option, Some, None, zero, suc}
+use Rattle.std.specs.Prelude.{◌≡◌, refl, ℕ, ◌+◌, ◌≤◌, Bool, ◌==◌, nat_eq, nat_lt, nat_le, ◌||◌, if◌then◌else◌, List, [], ◌∷◌, ◌++◌, length, take, drop, Option, Some, None, zero, suc}
 use Rattle.std.specs.Cmp.Lexicographic.{pointwise}
 use Rattle.std.specs.Int.{to_be_bytes, from_be_bytes, w32}
 
+-- the header of a format: the eight bytes that a file of it begins with
+pub record FileHeader : Type 0 where
+  pub bytes : List ℕ
+  pub eight : length bytes ≡ 8
+
 -- SHADOWJ1
-abbrev pub header : List ℕ
-header = 83 ∷ 72 ∷ 65 ∷ 68 ∷ 79 ∷ 87 ∷ 74 ∷ 49 ∷ []
+abbrev pub shadowj1 : FileHeader
+shadowj1 = record { bytes = 83 ∷ 72 ∷ 65 ∷ 68 ∷ 79 ∷ 87 ∷ 74 ∷ 49 ∷ []; eight = refl }
 
 -- a payload that a frame can hold
-pub record Fits (payload : List ℕ) : Type 0 where
+pub record IsPayload (payload : List ℕ) : Type 0 where
   pub some : 1 ≤ length payload
   pub few : length payload ≤ 131072
 
 -- what stands behind the gate of a record: its length, its payload and a closed gate
-abbrev pub framed : List ℕ → List ℕ
-framed payload = to_be_bytes w32 (length payload) ++ payload ++ 0 ∷ []
+abbrev pub frame_of : List ℕ → List ℕ
+frame_of payload = to_be_bytes w32 (length payload) ++ payload ++ 0 ∷ []
 
 -- these payloads behind open gates
 abbrev pub frames : List (List ℕ) → List ℕ
@@ -24,8 +29,8 @@ frames [] = []
 frames (payload ∷ payloads) = 1 ∷ (to_be_bytes w32 (length payload) ++ payload ++ frames payloads)
 
 -- header and frames, all but the last gate
-abbrev pub front : List (List ℕ) → List ℕ
-front payloads = header ++ frames payloads
+abbrev pub front : FileHeader → List (List ℕ) → List ℕ
+front h payloads = h.bytes ++ frames payloads
 
 -- what frames say: their payloads, or the place of the first gate whose frame is ill-formed
 pub data Scan : Type 0 where
@@ -68,9 +73,9 @@ whole (BadLength at) = None
 whole (CutOff at) = None
 
 -- whether the file begins with the header
-abbrev pub begins : List ℕ → Bool
-begins file = pointwise nat_eq (take 8 file) header
+abbrev pub begins : FileHeader → List ℕ → Bool
+begins h file = pointwise nat_eq (take 8 file) h.bytes
 
 -- the payloads of a file, if no rule is broken
-unfoldable pub payloads : List ℕ → Option (List (List ℕ))
-payloads file = if nat_le (length file) 9 then Some [] else (if begins file then whole (scan (length file) 8 (drop 8 file)) else None)
+unfoldable pub payloads : FileHeader → List ℕ → Option (List (List ℕ))
+payloads h file = if nat_le (length file) 9 then Some [] else (if begins h file then whole (scan (length file) 8 (drop 8 file)) else None)

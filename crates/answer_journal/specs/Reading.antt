@@ -2,7 +2,7 @@
 use Rattle.std.specs.Prelude.{◌≡◌, ◌≢◌, Some, map, ℕ, ◌+◌, ◌-◌, ◌*◌, ◌<◌, ◌≤◌, true, false, ◌==◌, List, [], ◌∷◌, length, take, drop, get_or}
 use Rattle.std.specs.List.{AllByRecursion}
 use Rattle.std.specs.Int.{from_be_bytes, w32}
-use Rattle.answer_journal.specs.Frames.{OfNoLength, TooShort, Payload as BehindPayload, behind, Scan, with_payload, scan, begins, payloads, front, Fits}
+use Rattle.answer_journal.specs.Frames.{FileHeader, OfNoLength, TooShort, Payload as BehindPayload, behind, Scan, with_payload, scan, begins, payloads, front, IsPayload}
 use Rattle.answer_journal.specs.Payload.{bytes_of, at_of, places_of, end_of}
 use Rattle.answer_journal.specs.declared.payload.Payload.{Payload}
 use Rattle.answer_journal.specs.declared.frames.Found.{Found}
@@ -24,21 +24,21 @@ with_all [] rest = rest
 with_all (payload ∷ payloads) rest = with_payload payload (with_all payloads rest)
 
 -- frames read whole: their payloads, and the place of the closed gate that ends them
-pub record IsRead (bytes : List ℕ) (read : List Payload) (end : ℕ) : Type 0 where
-  pub gives : payloads bytes ≡ Some (map bytes_of read)
+pub record IsRead (h : FileHeader) (bytes : List ℕ) (read : List Payload) (end : ℕ) : Type 0 where
+  pub gives : payloads h bytes ≡ Some (map bytes_of read)
   pub places : map at_of read ≡ places_of 8 (map bytes_of read)
   pub in_file : end < length bytes
   pub closed : get_or bytes end 0 ≢ 1
-  pub before : take end bytes ≡ front (map bytes_of read)
-  pub fits : AllByRecursion Fits (map bytes_of read)
+  pub before : take end bytes ≡ front h (map bytes_of read)
+  pub fits : AllByRecursion IsPayload (map bytes_of read)
 
 -- a walk that has read these payloads, and stands at the next gate
-pub record Walked (bytes : List ℕ) (read : List Payload) (at : ℕ) : Type 0 where
+pub record Walked (h : FileHeader) (bytes : List ℕ) (read : List Payload) (at : ℕ) : Type 0 where
   pub in_file : at < length bytes
   pub count : 8 + 6 * length read ≤ at
   pub places : map at_of read ≡ places_of 8 (map bytes_of read)
   pub place : at ≡ end_of 8 (map bytes_of read)
-  pub header : begins bytes ≡ true
+  pub header : begins h bytes ≡ true
   pub scanned : with_all (map bytes_of read) (scan (length bytes - length read) at (drop at bytes)) ≡ scan (length bytes) 8 (drop 8 bytes)
-  pub before : take at bytes ≡ front (map bytes_of read)
-  pub fits : AllByRecursion Fits (map bytes_of read)
+  pub before : take at bytes ≡ front h (map bytes_of read)
+  pub fits : AllByRecursion IsPayload (map bytes_of read)

@@ -2,9 +2,9 @@
 ghost use Rattle.std.specs.Prelude.{◌≡◌, ◌≤◌, ◌<◌, ◌+◌, ◌-◌, ◌↔◌, ◌==◌, [], ◌∷◌, ◌++◌, length, slice_index, IsTrue, IfOk, OnOk, OnErr};
 ghost use Rattle.exam_edge.specs.Faults.{Rose};
 ghost use Rattle.exam_edge.specs.Images.{AtEachMoment, Grows, IsSettled, latest};
-ghost use Rattle.answer_journal.specs.Frames.{front};
-ghost use Rattle.answer_journal.specs.Outcome.{mended, mended_length};
-ghost use Rattle.answer_journal.specs.Standing.{held, IsAtRest, IsEither, IsInDoubt};
+ghost use Rattle.answer_journal.specs.Frames.{shadowj1, front};
+ghost use Rattle.answer_journal.specs.Outcome.{payloads_after, size_after};
+ghost use Rattle.answer_journal.specs.Standing.{payload_list, IsAtRest, IsEither, IsInDoubt};
 
 use crate::durable::{cut_durably, write_durably};
 use crate::frames::OPEN;
@@ -15,13 +15,13 @@ use exam_edge::{Disk, Failed};
 /// disk.
 pub fn write_record<D: Disk>(disk: &mut D, size: u64, frame: &Frame) -> Result<(), Failed>
     requires some { 9 ≤ size }
-    requires rest { IsTrue (D.tells disk.old) → IsAtRest (D.content disk.old) (D.accounts disk.old) size }
-    ensures rest { OnOk result (IsTrue (D.tells disk.old) → IsAtRest (D.content disk.new) (D.accounts disk.new) (size + 5 + length frame.now)) }
-    ensures added { OnOk result (IsTrue (D.tells disk.old) → held (D.content disk.new) ≡ held (D.content disk.old) ++ frame.now ∷ []) }
+    requires rest { IsTrue (D.tells disk.old) → IsAtRest shadowj1 (D.content disk.old) (D.accounts disk.old) size }
+    ensures rest { OnOk result (IsTrue (D.tells disk.old) → IsAtRest shadowj1 (D.content disk.new) (D.accounts disk.new) (size + 5 + length frame.now)) }
+    ensures added { OnOk result (IsTrue (D.tells disk.old) → payload_list shadowj1 (D.content disk.new) ≡ payload_list shadowj1 (D.content disk.old) ++ frame.now ∷ []) }
     ensures content { OnOk result (IsTrue (D.tells disk.old)
-        → D.content disk.new ≡ front (held (D.content disk.old) ++ frame.now ∷ []) ++ 0 ∷ []) }
+        → D.content disk.new ≡ front shadowj1 (payload_list shadowj1 (D.content disk.old) ++ frame.now ∷ []) ++ 0 ∷ []) }
     ensures moments { IsTrue (D.tells disk.old)
-        → AtEachMoment (D.accounts disk.old) (D.accounts disk.new) (IsEither (held (D.content disk.old)) frame.now) }
+        → AtEachMoment (D.accounts disk.old) (D.accounts disk.new) (IsEither shadowj1 (payload_list shadowj1 (D.content disk.old)) frame.now) }
     ensures grows { D.faults disk.old ≤ D.faults disk.new }
     ensures failed { OnErr result (Rose (D.faults disk.old) (D.faults disk.new)) }
     ensures tells { D.tells disk.new ≡ D.tells disk.old }
@@ -54,15 +54,15 @@ fn sync_and_read_gate<D: Disk>(disk: &mut D, at: u64) -> Result<bool, Failed>
 /// Keeps the record in doubt behind a file of this length where its gate reads open, and else cuts it off.
 pub fn resolve_record<D: Disk>(disk: &mut D, size: u64) -> Result<Adopted, Failed>
     requires some { 9 ≤ size }
-    requires doubt { IsTrue (D.tells disk.old) → (ps : _) × (payload : _) × (with_it : _) × IsInDoubt ps payload (D.accounts disk.old) size with_it }
+    requires doubt { IsTrue (D.tells disk.old) → (ps : _) × (payload : _) × (with_it : _) × IsInDoubt shadowj1 ps payload (D.accounts disk.old) size with_it }
     ensures rest { IfOk result (λ adopted. IsTrue (D.tells disk.old) → (ps : _) (payload : _) (with_it : _)
-        → IsInDoubt ps payload (D.accounts disk.old) size with_it
-        → IsAtRest (D.content disk.new) (D.accounts disk.new) (mended_length adopted size with_it)
-        × (held (D.content disk.new) ≡ mended adopted ps payload)) }
+        → IsInDoubt shadowj1 ps payload (D.accounts disk.old) size with_it
+        → IsAtRest shadowj1 (D.content disk.new) (D.accounts disk.new) (size_after adopted size with_it)
+        × (payload_list shadowj1 (D.content disk.new) ≡ payloads_after adopted ps payload)) }
     ensures gate { IfOk result (λ adopted. IsTrue (D.tells disk.old) → IsTrue (slice_index (D.content disk.old) (size - 1) == 1) ↔ (adopted ≡ Adopted.Kept)) }
     ensures moments { IsTrue (D.tells disk.old) → (ps : _) (payload : _) (with_it : _)
-        → IsInDoubt ps payload (D.accounts disk.old) size with_it
-        → AtEachMoment (D.accounts disk.old) (D.accounts disk.new) (IsEither ps payload) }
+        → IsInDoubt shadowj1 ps payload (D.accounts disk.old) size with_it
+        → AtEachMoment (D.accounts disk.old) (D.accounts disk.new) (IsEither shadowj1 ps payload) }
     ensures grows { D.faults disk.old ≤ D.faults disk.new }
     ensures failed { OnErr result (Rose (D.faults disk.old) (D.faults disk.new)) }
     ensures tells { D.tells disk.new ≡ D.tells disk.old }

@@ -1,6 +1,6 @@
 // A payload, ready to be written.
 ghost use Rattle.std.specs.Prelude.{◌≡◌, List, ℕ, IfOk};
-ghost use Rattle.answer_journal.specs.Frames.{Fits, framed};
+ghost use Rattle.answer_journal.specs.Frames.{IsPayload, frame_of};
 
 use crate::frames::CLOSED;
 use exam_edge::Memory;
@@ -28,7 +28,7 @@ impl Model for Frame {
 impl Frame {
     /// The frame of a payload of 1 to 131,072 bytes. `Memory` where there is no room for it.
     pub fn of(alloc: Global, payload: &[u8]) -> Result<Frame, Memory>
-        requires { Fits payload.now }
+        requires { IsPayload payload.now }
         ensures { IfOk result (λ frame. frame ≡ payload.now) }
     {
         let mut bytes = (payload.len() as u32).to_be_bytes().to_vec(alloc)?;
@@ -39,8 +39,8 @@ impl Frame {
 
     /// What stands behind the gate of the record.
     pub(crate) fn record_bytes(&self) -> &[u8]
-        ensures bytes { result.now ≡ framed self.now }
-        ensures fits { Fits self.now }
+        ensures bytes { result.now ≡ frame_of self.now }
+        ensures fits { IsPayload self.now }
     {
         &self.bytes
     }

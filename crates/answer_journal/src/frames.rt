@@ -1,6 +1,6 @@
 // The frames of a file in memory.
 ghost use Rattle.std.specs.Prelude.{◌≡◌, ◌<◌, ◌≤◌, ◌+◌, length, IfOk, IfErr};
-ghost use Rattle.answer_journal.specs.Frames.{begins};
+ghost use Rattle.answer_journal.specs.Frames.{shadowj1, begins};
 ghost use Rattle.answer_journal.specs.OpenFault.{IsRefused};
 ghost use Rattle.answer_journal.specs.Reading.{IsFound, IsRead};
 
@@ -60,7 +60,7 @@ pub fn frame_at(bytes: &[u8], at: usize) -> Found
 // Whether a file begins with the header.
 fn has_header(bytes: &[u8]) -> bool
     requires { 9 < length bytes.now }
-    ensures { result ≡ begins bytes.now }
+    ensures { result ≡ begins shadowj1 bytes.now }
 {
     bytes[..8] == HEADER[..]
 }
@@ -68,8 +68,8 @@ fn has_header(bytes: &[u8]) -> bool
 /// Reads the frames of a file of more than nine bytes, up to the first closed gate: their payloads, and its place.
 pub fn read_frames(alloc: Global, bytes: &[u8]) -> Result<(Vec<Payload>, usize), OpenFault>
     requires { 9 < length bytes.now }
-    ensures ok { IfOk result (λ read. IsRead bytes.now read.0.items read.1) }
-    ensures err { IfErr result (IsRefused bytes.now) }
+    ensures ok { IfOk result (λ read. IsRead shadowj1 bytes.now read.0.items read.1) }
+    ensures err { IfErr result (IsRefused shadowj1 bytes.now) }
 {
     if !has_header(bytes) {
         return Err(OpenFault::Header);

@@ -18,7 +18,7 @@ pub enum OpenFault {
     Length(u64),
     /// The file ends before the record behind the open gate at this place is whole and followed by the next gate.
     Cut(u64),
-    /// Want of memory.
+    /// Out of memory.
     Memory,
 }
 

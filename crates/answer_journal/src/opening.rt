@@ -2,11 +2,11 @@
 ghost use Rattle.std.specs.Prelude.{◌≡◌, ◌≢◌, ◌≤◌, ◌<◌, ◌+◌, ◌^◌, [], length, take, map, max, Some, IsTrue, IfOk, IfErr, OnOk, OnErr};
 ghost use Rattle.exam_edge.specs.Faults.{Rose};
 ghost use Rattle.exam_edge.specs.Images.{AtEachMoment, IsSettled, latest};
-ghost use Rattle.answer_journal.specs.Frames.{payloads};
+ghost use Rattle.answer_journal.specs.Frames.{shadowj1, payloads};
 ghost use Rattle.answer_journal.specs.OpenFault.{IsOfDevice, IsFramesAnswer, IsAnswerTo};
 ghost use Rattle.answer_journal.specs.Payload.{bytes_of, at_of, places_of};
 ghost use Rattle.answer_journal.specs.Reading.{IsRead};
-ghost use Rattle.answer_journal.specs.Standing.{held, IsAtRest, IsImageOrGives, tidied};
+ghost use Rattle.answer_journal.specs.Standing.{payload_list, IsAtRest, IsImageOrGives, opened_file};
 
 use crate::durable::{cut_tail, write_durably};
 use crate::frames::{EMPTY_JOURNAL, read_frames};
@@ -63,9 +63,9 @@ fn read_file<D: Disk>(alloc: Global, disk: &mut D, size: u64) -> Result<Vec<u8>,
 // Makes a file of at most nine bytes an empty journal.
 fn write_header<D: Disk>(disk: &mut D) -> Result<(), Failed>
     requires { IsTrue (D.tells disk.old) → (length (D.content disk.old) ≤ 9) × IsSettled (D.content disk.old) (D.accounts disk.old) }
-    ensures rest { OnOk result (IsTrue (D.tells disk.old) → IsAtRest (D.content disk.new) (D.accounts disk.new) 9 × (held (D.content disk.new) ≡ [])) }
-    ensures content { OnOk result (IsTrue (D.tells disk.old) → D.content disk.new ≡ tidied (D.content disk.old) 9) }
-    ensures moments { IsTrue (D.tells disk.old) → AtEachMoment (D.accounts disk.old) (D.accounts disk.new) (λ file. payloads file ≡ Some []) }
+    ensures rest { OnOk result (IsTrue (D.tells disk.old) → IsAtRest shadowj1 (D.content disk.new) (D.accounts disk.new) 9 × (payload_list shadowj1 (D.content disk.new) ≡ [])) }
+    ensures content { OnOk result (IsTrue (D.tells disk.old) → D.content disk.new ≡ opened_file shadowj1 (D.content disk.old) 9) }
+    ensures moments { IsTrue (D.tells disk.old) → AtEachMoment (D.accounts disk.old) (D.accounts disk.new) (λ file. payloads shadowj1 file ≡ Some []) }
     ensures grows { D.faults disk.old ≤ D.faults disk.new }
     ensures failed { OnErr result (Rose (D.faults disk.old) (D.faults disk.new)) }
     ensures tells { D.tells disk.new ≡ D.tells disk.old }
@@ -78,12 +78,12 @@ fn write_header<D: Disk>(disk: &mut D) -> Result<(), Failed>
 // Brings a file of this length to rest: nothing stands behind its first closed gate, at the place `end`.
 fn end_file<D: Disk>(disk: &mut D, end: u64, size: u64, read: &[Payload]) -> Result<(), Failed>
     requires few { end < size }
-    requires read { IsTrue (D.tells disk.old) → IsRead (D.content disk.old) read.now end × IsSettled (D.content disk.old) (D.accounts disk.old) }
+    requires read { IsTrue (D.tells disk.old) → IsRead shadowj1 (D.content disk.old) read.now end × IsSettled (D.content disk.old) (D.accounts disk.old) }
     requires all { IsTrue (D.tells disk.old) → size ≡ length (D.content disk.old) }
-    ensures rest { OnOk result (IsTrue (D.tells disk.old) → IsAtRest (D.content disk.new) (D.accounts disk.new) (end + 1)
-        × (held (D.content disk.new) ≡ map bytes_of read.now)) }
+    ensures rest { OnOk result (IsTrue (D.tells disk.old) → IsAtRest shadowj1 (D.content disk.new) (D.accounts disk.new) (end + 1)
+        × (payload_list shadowj1 (D.content disk.new) ≡ map bytes_of read.now)) }
     ensures content { OnOk result (IsTrue (D.tells disk.old) → D.content disk.new ≡ take (end + 1) (D.content disk.old)) }
-    ensures moments { IsTrue (D.tells disk.old) → AtEachMoment (D.accounts disk.old) (D.accounts disk.new) (λ file. payloads file ≡ Some (map bytes_of read.now)) }
+    ensures moments { IsTrue (D.tells disk.old) → AtEachMoment (D.accounts disk.old) (D.accounts disk.new) (λ file. payloads shadowj1 file ≡ Some (map bytes_of read.now)) }
     ensures grows { D.faults disk.old ≤ D.faults disk.new }
     ensures failed { OnErr result (Rose (D.faults disk.old) (D.faults disk.new)) }
     ensures tells { D.tells disk.new ≡ D.tells disk.old }
@@ -105,14 +105,14 @@ fn open_frames<D: Disk>(
     requires all { IsTrue (D.tells disk.old) → (size ≡ length (D.content disk.old)) × IsSettled (D.content disk.old) (D.accounts disk.old) }
     ensures size { IfOk result (λ read. (9 ≤ read.0) × (read.0 ≤ size)) }
     ensures places { IfOk result (λ read. map at_of read.1.items ≡ places_of 8 (map bytes_of read.1.items)) }
-    ensures rest { IfOk result (λ read. IsTrue (D.tells disk.old) → IsAtRest (D.content disk.new) (D.accounts disk.new) read.0
-        × (payloads (D.content disk.old) ≡ Some (map bytes_of read.1.items))
-        × (held (D.content disk.new) ≡ map bytes_of read.1.items)) }
+    ensures rest { IfOk result (λ read. IsTrue (D.tells disk.old) → IsAtRest shadowj1 (D.content disk.new) (D.accounts disk.new) read.0
+        × (payloads shadowj1 (D.content disk.old) ≡ Some (map bytes_of read.1.items))
+        × (payload_list shadowj1 (D.content disk.new) ≡ map bytes_of read.1.items)) }
     ensures content { IfOk result (λ read. IsTrue (D.tells disk.old) → D.content disk.new ≡ take read.0 (D.content disk.old)) }
-    ensures why { IfErr result (λ e. IsTrue (D.tells disk.old) → IsFramesAnswer (D.content disk.old) e) }
+    ensures why { IfErr result (λ e. IsTrue (D.tells disk.old) → IsFramesAnswer shadowj1 (D.content disk.old) e) }
     ensures untouched { IfErr result (λ e. e ≢ OpenFault.Disk → IsTrue (D.tells disk.old) → D.content disk.new ≡ D.content disk.old) }
     ensures cause { IfErr result (λ e. e ≡ OpenFault.Disk → Rose (D.faults disk.old) (D.faults disk.new)) }
-    ensures moments { IsTrue (D.tells disk.old) → AtEachMoment (D.accounts disk.old) (D.accounts disk.new) (λ file. payloads file ≡ payloads (D.content disk.old)) }
+    ensures moments { IsTrue (D.tells disk.old) → AtEachMoment (D.accounts disk.old) (D.accounts disk.new) (λ file. payloads shadowj1 file ≡ payloads shadowj1 (D.content disk.old)) }
     ensures grows { D.faults disk.old ≤ D.faults disk.new }
     ensures tells { D.tells disk.new ≡ D.tells disk.old }
     ensures identity { D.identity disk.new ≡ D.identity disk.old }
@@ -144,16 +144,16 @@ pub fn open_file<D: Disk>(
     requires { limit ≤ 536870912 }
     ensures size { IfOk result (λ read. (9 ≤ read.0) × (read.0 ≤ max limit 9)) }
     ensures places { IfOk result (λ read. map at_of read.1.items ≡ places_of 8 (map bytes_of read.1.items)) }
-    ensures rest { IfOk result (λ read. IsTrue (D.tells disk.old) → IsAtRest (D.content disk.new) (D.accounts disk.new) read.0
-        × (payloads (D.content disk.old) ≡ Some (map bytes_of read.1.items))
-        × (held (D.content disk.new) ≡ map bytes_of read.1.items)) }
-    ensures content { IfOk result (λ read. IsTrue (D.tells disk.old) → D.content disk.new ≡ tidied (D.content disk.old) read.0) }
+    ensures rest { IfOk result (λ read. IsTrue (D.tells disk.old) → IsAtRest shadowj1 (D.content disk.new) (D.accounts disk.new) read.0
+        × (payloads shadowj1 (D.content disk.old) ≡ Some (map bytes_of read.1.items))
+        × (payload_list shadowj1 (D.content disk.new) ≡ map bytes_of read.1.items)) }
+    ensures content { IfOk result (λ read. IsTrue (D.tells disk.old) → D.content disk.new ≡ opened_file shadowj1 (D.content disk.old) read.0) }
     ensures within { IfOk result (λ read. IsTrue (D.tells disk.old) → length (D.content disk.old) ≤ limit) }
-    ensures why { IfErr result (λ e. IsTrue (D.tells disk.old) → IsAnswerTo limit (D.content disk.old) e) }
+    ensures why { IfErr result (λ e. IsTrue (D.tells disk.old) → IsAnswerTo shadowj1 limit (D.content disk.old) e) }
     ensures untouched { IfErr result (λ e. e ≢ OpenFault.Disk → IsTrue (D.tells disk.old) → D.content disk.new ≡ D.content disk.old) }
     ensures cause { IfErr result (λ e. e ≡ OpenFault.Disk → Rose (D.faults disk.old) (D.faults disk.new)) }
     ensures moments { IsTrue (D.tells disk.old) → AtEachMoment (D.accounts disk.old) (D.accounts disk.new)
-        (IsImageOrGives (latest (D.accounts disk.old)) (D.content disk.old)) }
+        (IsImageOrGives shadowj1 (latest (D.accounts disk.old)) (D.content disk.old)) }
     ensures grows { D.faults disk.old ≤ D.faults disk.new }
     ensures tells { D.tells disk.new ≡ D.tells disk.old }
     ensures identity { D.identity disk.new ≡ D.identity disk.old }

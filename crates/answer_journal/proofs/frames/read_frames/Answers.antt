@@ -1,5 +1,5 @@
 use Rattle.std.proofs.Common.{◌≡◌, ℕ, false, ◌+◌, ◌-◌, ◌<◌, [], ◌∷◌, ◌++◌, take, drop, get_or, refl, ◌∙◌, ap, subst, arith, rules}
-use Rattle.answer_journal.specs.Frames.{begins, BadLength, CutOff}
+use Rattle.answer_journal.specs.Frames.{shadowj1, begins, BadLength, CutOff}
 use Rattle.answer_journal.specs.OpenFaultLaws.{header_fault, scanned_fault}
 use Rattle.answer_journal.specs.Reading.{Walked}
 use Rattle.answer_journal.specs.declared.payload.Payload.{Payload}
@@ -7,13 +7,13 @@ use Rattle.answer_journal.proofs.Reading.{closed, refused_length, refused_cut, n
 use Rattle.answer_journal.proofs.frames.read_frames.Goals as goal
 
 pub returns-in-Closed-clause-ok : goal.returns-in-Closed-clause-ok
-returns-in-Closed-clause-ok c = closed c.args.bytes.now c.walk.payloads.items c.walk.at c.walk.invariant c.requires c.in-Closed.ensures
+returns-in-Closed-clause-ok c = closed shadowj1 c.args.bytes.now c.walk.payloads.items c.walk.at c.walk.invariant c.requires c.in-Closed.ensures
 
 pub returns-in-NoLength-clause-err : goal.returns-in-NoLength-clause-err
-returns-in-NoLength-clause-err c = scanned_fault c.args.bytes.now (BadLength c.walk.at) c.walk.invariant.header (refused_length c.args.bytes.now c.walk.payloads.items c.walk.at c.walk.invariant c.in-NoLength.ensures)
+returns-in-NoLength-clause-err c = scanned_fault shadowj1 c.args.bytes.now (BadLength c.walk.at) c.walk.invariant.header (refused_length shadowj1 c.args.bytes.now c.walk.payloads.items c.walk.at c.walk.invariant c.in-NoLength.ensures)
 
 pub returns-in-Short-clause-err : goal.returns-in-Short-clause-err
-returns-in-Short-clause-err c = scanned_fault c.args.bytes.now (CutOff c.walk.at) c.walk.invariant.header (refused_cut c.args.bytes.now c.walk.payloads.items c.walk.at c.walk.invariant c.in-Short.ensures)
+returns-in-Short-clause-err c = scanned_fault shadowj1 c.args.bytes.now (CutOff c.walk.at) c.walk.invariant.header (refused_cut shadowj1 c.args.bytes.now c.walk.payloads.items c.walk.at c.walk.invariant c.in-Short.ensures)
 
 pub walk-preserved : goal.walk-preserved
 walk-preserved c =
@@ -27,9 +27,9 @@ walk-preserved c =
     let pushed : c.push.new.self.items ≡ c.walk.payloads.items ++ payload ∷ [] = search rules in
     let place : at + 5 + n ≡ at + (5 + n) = omega arith in
     let small : (i : ℕ) → get_or bytes i 0 < 256 = λ i. omega (arith, c.type_inv.bytes i) in
-    subst (λ (k : ℕ). Walked bytes c.push.new.self.items k) place (next bytes c.walk.payloads.items at c.walk.invariant n c.in-Record.ensures payload refl is small c.push.new.self.items pushed)
+    subst (λ (k : ℕ). Walked shadowj1 bytes c.push.new.self.items k) place (next shadowj1 bytes c.walk.payloads.items at c.walk.invariant n c.in-Record.ensures payload refl is small c.push.new.self.items pushed)
 
 pub returns-then-not-has_header-clause-err : goal.returns-then-not-has_header-clause-err
 returns-then-not-has_header-clause-err c =
-    let not_so : begins c.args.bytes.now ≡ false = search rules in
-    header_fault c.args.bytes.now not_so
+    let not_so : begins shadowj1 c.args.bytes.now ≡ false = search rules in
+    header_fault shadowj1 c.args.bytes.now not_so

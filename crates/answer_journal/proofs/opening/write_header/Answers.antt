@@ -1,21 +1,22 @@
 use Rattle.std.proofs.Common.{sym, ◌∙◌}
-use Rattle.answer_journal.proofs.Tidying.{begun, begun_is, begun_rests, tidied-short}
+use Rattle.answer_journal.specs.Frames.{shadowj1}
+use Rattle.answer_journal.proofs.Tidying.{begun, begun_is, begun_rests, opened_file-short}
 use Rattle.answer_journal.proofs.opening.write_header.Goals as goal
 
 pub returns-in_err-write_durably-clause-moments : goal.returns-in_err-write_durably-clause-moments
 returns-in_err-write_durably-clause-moments g c = λ told.
-    begun (g.D.Disk.content c.args.disk.now) (g.D.Disk.accounts c.args.disk.now) (g.D.Disk.accounts c.write_durably.new.disk) (c.requires told).1 (c.requires told).0 (c.write_durably.ensures.crash told)
+    begun shadowj1 (g.D.Disk.content c.args.disk.now) (g.D.Disk.accounts c.args.disk.now) (g.D.Disk.accounts c.write_durably.new.disk) (c.requires told).1 (c.requires told).0 (c.write_durably.ensures.crash told)
 
 pub returns-clause-moments : goal.returns-clause-moments
 returns-clause-moments g c = λ told.
-    begun (g.D.Disk.content c.args.disk.now) (g.D.Disk.accounts c.args.disk.now) (g.D.Disk.accounts c.write_durably.new.disk) (c.requires told).1 (c.requires told).0 (c.write_durably.ensures.crash told)
+    begun shadowj1 (g.D.Disk.content c.args.disk.now) (g.D.Disk.accounts c.args.disk.now) (g.D.Disk.accounts c.write_durably.new.disk) (c.requires told).1 (c.requires told).0 (c.write_durably.ensures.crash told)
 
 pub returns-clause-rest : goal.returns-clause-rest
 returns-clause-rest g c = λ told.
-    begun_rests (g.D.Disk.content c.args.disk.now) (g.D.Disk.content c.write_durably.new.disk) (g.D.Disk.accounts c.write_durably.new.disk) (c.requires told).0 (c.in_ok-write_durably.ensures.content told) (c.in_ok-write_durably.ensures.settled told)
+    begun_rests shadowj1 (g.D.Disk.content c.args.disk.now) (g.D.Disk.content c.write_durably.new.disk) (g.D.Disk.accounts c.write_durably.new.disk) (c.requires told).0 (c.in_ok-write_durably.ensures.content told) (c.in_ok-write_durably.ensures.settled told)
 
 pub returns-clause-content : goal.returns-clause-content
 returns-clause-content g c = λ told.
     let c0 = g.D.Disk.content c.args.disk.now in
     let few = (c.requires told).0 in
-    begun_is c0 (g.D.Disk.content c.write_durably.new.disk) few (c.in_ok-write_durably.ensures.content told) ∙ sym (tidied-short c0 9 few)
+    begun_is shadowj1 c0 (g.D.Disk.content c.write_durably.new.disk) few (c.in_ok-write_durably.ensures.content told) ∙ sym (opened_file-short shadowj1 c0 9 few)

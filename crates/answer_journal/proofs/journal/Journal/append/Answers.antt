@@ -1,35 +1,37 @@
 use Rattle.std.proofs.Common.{◌≡◌, ◌+◌, length, Some, refl, sym, ◌∙◌, ap, arith}
+use Rattle.answer_journal.specs.Frames.{shadowj1}
 use Rattle.answer_journal.specs.StandingLaws.{images_give}
-use Rattle.answer_journal.proofs.Lasting.{length-framed, unchanged, lasting, in_doubt}
+use Rattle.answer_journal.proofs.Lasting.{length-frame_of, unchanged, lasting, in_doubt}
 use Rattle.answer_journal.proofs.journal.Journal.append.Goals as goal
 
 pub returns-then-self-with_it-clause-moments : goal.returns-then-self-with_it-clause-moments
 returns-then-self-with_it-clause-moments g c = λ told.
     let j = c.args.self.now in
-    unchanged (g.D.Disk.content j.disk) (g.D.Disk.accounts j.disk) j.length (c.requires.rest told) c.args.frame.now
+    unchanged shadowj1 (g.D.Disk.content j.disk) (g.D.Disk.accounts j.disk) j.length (c.requires.rest told) c.args.frame.now
 
 pub returns-in-Ok-clause-moments : goal.returns-in-Ok-clause-moments
 returns-in-Ok-clause-moments g c = λ told.
     let j = c.args.self.now in
-    lasting (g.D.Disk.content j.disk) (g.D.Disk.accounts j.disk) j.length (c.requires.rest told) c.args.frame.now (g.D.Disk.accounts c.write_record.new.disk) c.record_bytes.ensures.fits (c.write_record.ensures.moments told)
+    lasting shadowj1 (g.D.Disk.content j.disk) (g.D.Disk.accounts j.disk) j.length (c.requires.rest told) c.args.frame.now (g.D.Disk.accounts c.write_record.new.disk) c.record_bytes.ensures.fits (c.write_record.ensures.moments told)
 
 pub returns-in-Err-clause-doubt : goal.returns-in-Err-clause-doubt
 returns-in-Err-clause-doubt g c =
     let j = c.args.self.now in
-    let with_is : j.length + length c.record_bytes.result.now ≡ j.length + 5 + length c.args.frame.now = omega (arith, ap length c.record_bytes.ensures.bytes, length-framed c.args.frame.now) in
+    let with_is : j.length + length c.record_bytes.result.now ≡ j.length + 5 + length c.args.frame.now = omega (arith, ap length c.record_bytes.ensures.bytes, length-frame_of shadowj1 c.args.frame.now) in
     record {
       with_it = j.length + length c.record_bytes.result.now;
       doubt = refl;
+      with_is = with_is;
       is = λ told1.
           let told = sym c.write_record.ensures.tells ∙ told1 in
-          in_doubt (g.D.Disk.content j.disk) (g.D.Disk.accounts j.disk) j.length (c.requires.rest told) c.args.frame.now (g.D.Disk.accounts c.write_record.new.disk) (j.length + length c.record_bytes.result.now) c.record_bytes.ensures.fits with_is (c.write_record.ensures.moments told);
+          in_doubt shadowj1 (g.D.Disk.content j.disk) (g.D.Disk.accounts j.disk) j.length (c.requires.rest told) c.args.frame.now (g.D.Disk.accounts c.write_record.new.disk) (j.length + length c.record_bytes.result.now) c.record_bytes.ensures.fits with_is (c.write_record.ensures.moments told);
     }
 
 pub returns-in-Err-clause-moments : goal.returns-in-Err-clause-moments
 returns-in-Err-clause-moments g c = λ told.
     let j = c.args.self.now in
-    lasting (g.D.Disk.content j.disk) (g.D.Disk.accounts j.disk) j.length (c.requires.rest told) c.args.frame.now (g.D.Disk.accounts c.write_record.new.disk) c.record_bytes.ensures.fits (c.write_record.ensures.moments told)
+    lasting shadowj1 (g.D.Disk.content j.disk) (g.D.Disk.accounts j.disk) j.length (c.requires.rest told) c.args.frame.now (g.D.Disk.accounts c.write_record.new.disk) c.record_bytes.ensures.fits (c.write_record.ensures.moments told)
 
 pub returns-in-Ok-clause-images : goal.returns-in-Ok-clause-images
 returns-in-Ok-clause-images g c = λ told file i.
-    images_give (g.D.Disk.content c.write_record.new.disk) (g.D.Disk.accounts c.write_record.new.disk) _ (c.in-Ok.ensures.rest told) file i ∙ ap Some (c.in-Ok.ensures.added told)
+    images_give shadowj1 (g.D.Disk.content c.write_record.new.disk) (g.D.Disk.accounts c.write_record.new.disk) _ (c.in-Ok.ensures.rest told) file i ∙ ap Some (c.in-Ok.ensures.added told)
