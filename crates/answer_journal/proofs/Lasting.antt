@@ -7,10 +7,10 @@ use Rattle.answer_journal.specs.Frames.{FileHeader, IsPayload, frame_of, front, 
 use Rattle.answer_journal.specs.Standing.{payload_list, IsAtRest, IsEither, IsBeforeOrWith, IsInDoubt}
 use Rattle.answer_journal.specs.StandingLaws.{either_gives}
 
-module _ (h : FileHeader) where
-  pub length-frame_of : (payload : List ℕ) → length (frame_of payload) ≡ 5 + length payload
-  length-frame_of payload = omega (arith, length-append (to_be_bytes w32 (length payload) ++ payload) (0 ∷ []), length-append (to_be_bytes w32 (length payload)) payload)
+pub length-frame_of : (payload : List ℕ) → length (frame_of payload) ≡ 5 + length payload
+length-frame_of payload = omega (arith, length-append (to_be_bytes w32 (length payload) ++ payload) (0 ∷ []), length-append (to_be_bytes w32 (length payload)) payload)
 
+module _ (h : FileHeader) where
   module _ (content : List ℕ) (a0 : List Account) (size : ℕ) (rest : IsAtRest h content a0 size) (payload : List ℕ) where
     pub unchanged : AtEachMoment a0 a0 (IsBeforeOrWith h (payload_list h content) payload)
     unchanged = started (IsBeforeOrWith h (payload_list h content) payload) a0 (λ file i. inl (ap (payloads h) (only (latest a0) content file rest.settled i) ∙ rest.gives))

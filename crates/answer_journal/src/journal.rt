@@ -2,6 +2,7 @@
 ghost use Rattle.std.specs.Prelude.{◌≡◌, ◌≢◌, ◌≤◌, ◌<◌, ◌+◌, ◌-◌, ◌↔◌, ◌==◌, List, ℕ, [], ◌∷◌, ◌++◌, length, slice_index, map, max, Some, None, IsTrue, is_some, unwrap_or, IfOk, IfErr, OnOk, OnErr};
 ghost use Rattle.std.specs.Option.{ForSome};
 ghost use Rattle.exam_edge.specs.Faults.{Rose};
+ghost use Rattle.exam_edge.specs.Lent.{IsLent, FailsOnly};
 ghost use Rattle.exam_edge.specs.Images.{AllImages, AtEachMoment, IsSettled, latest};
 ghost use Rattle.answer_journal.specs.Frames.{shadowj1, front, payloads};
 ghost use Rattle.answer_journal.specs.OpenFault.{IsAnswerTo, first_fault};
@@ -14,6 +15,7 @@ use crate::opening::open_file;
 use crate::{Frame, OpenFault, Payload};
 use exam_edge::{Disk, Failed};
 use std::alloc::Global;
+use std::marker::Model;
 
 /// What became of a record in doubt.
 #[derive(Clone, Copy, Debug, PartialEq, Eq)]
@@ -50,17 +52,33 @@ fn length_after(adopted: Adopted, size: u64, doubt: Option<u64>) -> u64
 /// behind the closed gate that ends the file and synced, and counts once that gate is opened and synced again.
 pub struct Journal<D: Disk> {
     disk: D,
-    length: u64,
+    size: u64,
     limit: u64,
     doubt: Option<u64>,
-    ghost some: { 9 ≤ length },
-    ghost within: { length ≤ max limit 9 },
-    ghost limited: { limit ≤ 536870912 },
-    ghost doubted: { ForSome doubt (λ n. (9 ≤ n) × (n ≤ limit)) },
+}
+
+impl<D: Disk> Model for Journal<D> {
+    ghost use Rattle.answer_journal.specs.Journal.{JournalState, AreLengths};
+
+    ghost Value = { JournalState D };
+
+    ghost view = { λ j. record {
+      disk = j.disk;
+      tells = D.tells j.disk;
+      content = D.content j.disk;
+      accounts = D.accounts j.disk;
+      faults = D.faults j.disk;
+      identity = D.identity j.disk;
+      size = j.size;
+      limit = j.limit;
+      doubt = j.doubt;
+    } };
+
+    ghost invariant = { λ j. AreLengths j.size j.limit j.doubt };
 }
 
 impl<D: Disk> Journal<D> {
-    ghost use Rattle.answer_journal.specs.Journal.{disk_of, length_of, limit_of, doubt_of, tells_of, content_of, accounts_of, payloads_of, IsReady, IsDoubtful};
+    ghost use Rattle.answer_journal.specs.Journal.{disk_of, tells_of, content_of, accounts_of, faults_of, identity_of, length_of, limit_of, doubt_of, payloads_of, AreLengths, IsReady, IsDoubtful};
 
     /// Opens a file, and gives its payloads with the places of their gates. It syncs first, makes a file of at most nine
     /// bytes an empty journal, and cuts what stands behind the first closed gate of any other. The limit of the journal's
@@ -96,19 +114,17 @@ impl<D: Disk> Journal<D> {
         ensures images { IfOk result (λ opened. IsTrue (D.tells disk)
             → AllImages (λ file. payloads shadowj1 file ≡ Some (map bytes_of opened.1.items)) (latest (accounts_of opened.0))) }
 
-        ensures grows { IfOk result (λ opened. D.faults disk ≤ D.faults (disk_of opened.0)) }
-        ensures grows_err { IfErr result (λ e. D.faults disk ≤ D.faults e.0) }
+        ensures grows { IfOk result (λ opened. D.faults disk ≤ faults_of opened.0) }
         ensures tells { IfOk result (λ opened. tells_of opened.0 ≡ D.tells disk) }
-        ensures tells_err { IfErr result (λ e. D.tells e.0 ≡ D.tells disk) }
-        ensures identity { IfOk result (λ opened. D.identity (disk_of opened.0) ≡ D.identity disk) }
-        ensures identity_err { IfErr result (λ e. D.identity e.0 ≡ D.identity disk) }
+        ensures identity { IfOk result (λ opened. identity_of opened.0 ≡ D.identity disk) }
+        ensures frame_err { IfErr result (λ e. IsLent D.tells D.identity D.faults disk e.0) }
     {
         let mut disk = disk;
         match open_file(alloc, &mut disk, limit) {
-            Ok((length, read)) => {
+            Ok((size, read)) => {
                 let journal = Journal {
                     disk,
-                    length,
+                    size,
                     limit,
                     doubt: None,
                 };
@@ -140,21 +156,19 @@ impl<D: Disk> Journal<D> {
         ensures fits { limit_of self.old < length_of self.old + 5 + length frame.now
             → result ≡ Err (AppendFault.Full (length_of self.old + 5 + length frame.now)) }
         ensures doubt { IfErr result (λ e. OnDisk e (IsDoubtful (payloads_of self.old) frame.now self.new)) }
-        ensures cause { IfErr result (λ e. OnDisk e (Rose (D.faults (disk_of self.old)) (D.faults (disk_of self.new)))) }
+        ensures cause { IfErr result (λ e. OnDisk e (Rose (faults_of self.old) (faults_of self.new))) }
         ensures length_err { OnErr result (length_of self.new ≡ length_of self.old) }
 
         ensures limit { limit_of self.new ≡ limit_of self.old }
-        ensures grows { D.faults (disk_of self.old) ≤ D.faults (disk_of self.new) }
-        ensures tells { tells_of self.new ≡ tells_of self.old }
-        ensures identity { D.identity (disk_of self.new) ≡ D.identity (disk_of self.old) }
+        ensures frame { IsLent tells_of identity_of faults_of self.old self.new }
     {
-        let with_it = self.length + frame.record_bytes().len() as u64;
+        let with_it = self.size + frame.record_bytes().len() as u64;
         if self.limit < with_it {
             return Err(AppendFault::Full(with_it));
         }
-        match write_record(&mut self.disk, self.length, frame) {
+        match write_record(&mut self.disk, self.size, frame) {
             Ok(()) => {
-                self.length = with_it;
+                self.size = with_it;
                 Ok(())
             }
             Err(_) => {
@@ -186,19 +200,17 @@ impl<D: Disk> Journal<D> {
         ensures moments { IsTrue (tells_of self.old) → (ps : _) (payload : _) → IsDoubtful ps payload self.old
             → AtEachMoment (accounts_of self.old) (accounts_of self.new) (IsBeforeOrWith shadowj1 ps payload) }
 
-        ensures cause { OnErr result (Rose (D.faults (disk_of self.old)) (D.faults (disk_of self.new))) }
+        ensures cause { FailsOnly faults_of self.old self.new result }
         ensures length_err { OnErr result (length_of self.new ≡ length_of self.old) }
         ensures still { OnErr result ((ps : _) (payload : _) → IsDoubtful ps payload self.old
             → IsDoubtful ps payload self.new) }
 
         ensures limit { limit_of self.new ≡ limit_of self.old }
-        ensures grows { D.faults (disk_of self.old) ≤ D.faults (disk_of self.new) }
-        ensures tells { tells_of self.new ≡ tells_of self.old }
-        ensures identity { D.identity (disk_of self.new) ≡ D.identity (disk_of self.old) }
+        ensures frame { IsLent tells_of identity_of faults_of self.old self.new }
     {
-        match resolve_record(&mut self.disk, self.length) {
+        match resolve_record(&mut self.disk, self.size) {
             Ok(adopted) => {
-                self.length = length_after(adopted, self.length, self.doubt);
+                self.size = length_after(adopted, self.size, self.doubt);
                 self.doubt = None;
                 Ok(adopted)
             }
@@ -208,18 +220,24 @@ impl<D: Disk> Journal<D> {
 
     /// The length of the journal in bytes, without a record in doubt.
     pub fn length(&self) -> u64
-        ensures { result ≡ length_of self.now }
+        ensures length { result ≡ length_of self.now }
+        ensures lengths { AreLengths (length_of self.now) (limit_of self.now) (doubt_of self.now) }
     {
-        self.length
+        self.size
     }
 
     /// The disk as it is.
     pub fn into_disk(self) -> D
-        ensures { result ≡ disk_of self }
+        ensures disk { result ≡ disk_of self }
+        ensures content { D.content result ≡ content_of self }
+        ensures accounts { D.accounts result ≡ accounts_of self }
+        ensures faults { D.faults result ≡ faults_of self }
+        ensures tells { D.tells result ≡ tells_of self }
+        ensures identity { D.identity result ≡ identity_of self }
     {
         let Journal {
             disk,
-            length: _,
+            size: _,
             limit: _,
             doubt: _,
         } = self;

@@ -11,6 +11,7 @@ pub mod laws;
 mod open_fault;
 mod opening;
 mod payload;
+mod threads;
 
 pub use frame::Frame;
 pub use journal::{Adopted, AppendFault, Journal};

@@ -6,32 +6,38 @@ use Rattle.answer_journal.proofs.journal.Journal.append.Goals as goal
 
 pub returns-then-self-with_it-clause-moments : goal.returns-then-self-with_it-clause-moments
 returns-then-self-with_it-clause-moments g c = λ told.
-    let j = c.args.self.now in
-    unchanged shadowj1 (g.D.Disk.content j.disk) (g.D.Disk.accounts j.disk) j.length (c.requires.rest told) c.args.frame.now
+    let v = c.args.self.now in
+    unchanged shadowj1 v.content v.accounts v.size (c.requires.rest told) c.args.frame.now
 
 pub returns-in-Ok-clause-moments : goal.returns-in-Ok-clause-moments
-returns-in-Ok-clause-moments g c = λ told.
-    let j = c.args.self.now in
-    lasting shadowj1 (g.D.Disk.content j.disk) (g.D.Disk.accounts j.disk) j.length (c.requires.rest told) c.args.frame.now (g.D.Disk.accounts c.write_record.new.disk) c.record_bytes.ensures.fits (c.write_record.ensures.moments told)
+returns-in-Ok-clause-moments g c =
+    let j = c.self.inside in
+    let ready = rw (← c.self.view_is) at c.requires in
+    rw (← c.self.view_is)
+    (λ told. lasting shadowj1 (g.D.Disk.content j.disk) (g.D.Disk.accounts j.disk) j.size (ready.rest told) c.args.frame.now (g.D.Disk.accounts c.write_record.new.disk) c.record_bytes.ensures.fits (c.write_record.ensures.moments told))
 
 pub returns-in-Err-clause-doubt : goal.returns-in-Err-clause-doubt
 returns-in-Err-clause-doubt g c =
-    let j = c.args.self.now in
-    let with_is : j.length + length c.record_bytes.result.now ≡ j.length + 5 + length c.args.frame.now = omega (arith, ap length c.record_bytes.ensures.bytes, length-frame_of shadowj1 c.args.frame.now) in
-    record {
-      with_it = j.length + length c.record_bytes.result.now;
+    let j = c.self.inside in
+    let ready = rw (← c.self.view_is) at c.requires in
+    let with_is : j.size + length c.record_bytes.result.now ≡ j.size + 5 + length c.args.frame.now = omega (arith, ap length c.record_bytes.ensures.bytes, length-frame_of c.args.frame.now) in
+    rw (← c.self.view_is) (record {
+      with_it = j.size + length c.record_bytes.result.now;
       doubt = refl;
       with_is = with_is;
       is = λ told1.
           let told = sym c.write_record.ensures.tells ∙ told1 in
-          in_doubt shadowj1 (g.D.Disk.content j.disk) (g.D.Disk.accounts j.disk) j.length (c.requires.rest told) c.args.frame.now (g.D.Disk.accounts c.write_record.new.disk) (j.length + length c.record_bytes.result.now) c.record_bytes.ensures.fits with_is (c.write_record.ensures.moments told);
-    }
+          in_doubt shadowj1 (g.D.Disk.content j.disk) (g.D.Disk.accounts j.disk) j.size (ready.rest told) c.args.frame.now (g.D.Disk.accounts c.write_record.new.disk) (j.size + length c.record_bytes.result.now) c.record_bytes.ensures.fits with_is (c.write_record.ensures.moments told);
+    })
 
 pub returns-in-Err-clause-moments : goal.returns-in-Err-clause-moments
-returns-in-Err-clause-moments g c = λ told.
-    let j = c.args.self.now in
-    lasting shadowj1 (g.D.Disk.content j.disk) (g.D.Disk.accounts j.disk) j.length (c.requires.rest told) c.args.frame.now (g.D.Disk.accounts c.write_record.new.disk) c.record_bytes.ensures.fits (c.write_record.ensures.moments told)
+returns-in-Err-clause-moments g c =
+    let j = c.self.inside in
+    let ready = rw (← c.self.view_is) at c.requires in
+    rw (← c.self.view_is)
+    (λ told. lasting shadowj1 (g.D.Disk.content j.disk) (g.D.Disk.accounts j.disk) j.size (ready.rest told) c.args.frame.now (g.D.Disk.accounts c.write_record.new.disk) c.record_bytes.ensures.fits (c.write_record.ensures.moments told))
 
 pub returns-in-Ok-clause-images : goal.returns-in-Ok-clause-images
-returns-in-Ok-clause-images g c = λ told file i.
-    images_give shadowj1 (g.D.Disk.content c.write_record.new.disk) (g.D.Disk.accounts c.write_record.new.disk) _ (c.in-Ok.ensures.rest told) file i ∙ ap Some (c.in-Ok.ensures.added told)
+returns-in-Ok-clause-images g c =
+    rw (← c.self.view_is)
+    (λ told file i. images_give shadowj1 (g.D.Disk.content c.write_record.new.disk) (g.D.Disk.accounts c.write_record.new.disk) _ (c.in-Ok.ensures.rest told) file i ∙ ap Some (c.in-Ok.ensures.added told))

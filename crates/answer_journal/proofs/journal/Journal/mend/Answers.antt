@@ -8,13 +8,14 @@ use Rattle.answer_journal.proofs.journal.Journal.mend.Goals as goal
 
 pub returns-in-Ok-clause-ready : goal.returns-in-Ok-clause-ready
 returns-in-Ok-clause-ready g c =
-    let j = c.args.self.now in
+    let j = c.self.inside in
     let a = c.in-Ok.adopted in
-    let ps = c.requires.0 in
-    let payload = c.requires.1 in
-    let d = c.requires.2 in
-    let size_is : size_after a j.length d.with_it ≡ c.length_after-self.result =
-    ap (λ (o : Option ℕ). size_after a j.length (unwrap_or o j.length)) (sym d.doubt) ∙ sym c.length_after-self.ensures in
+    let some = rw (← c.self.view_is) at c.requires in
+    let ps = some.0 in
+    let payload = some.1 in
+    let d = some.2 in
+    let size_is : size_after a j.size d.with_it ≡ c.length_after-self-inside.result =
+    ap (λ (o : Option ℕ). size_after a j.size (unwrap_or o j.size)) (sym d.doubt) ∙ sym c.length_after-self-inside.ensures in
     record {
       sure = refl;
       rest = λ told1.
@@ -23,31 +24,36 @@ returns-in-Ok-clause-ready g c =
     }
 
 pub returns-in-Ok-clause-mended : goal.returns-in-Ok-clause-mended
-returns-in-Ok-clause-mended g c = λ told ps payload d. (c.in-Ok.ensures.rest told ps payload d.with_it (d.is told)).1
+returns-in-Ok-clause-mended g c = rw (← c.self.view_is) (λ told ps payload d. (c.in-Ok.ensures.rest told ps payload d.with_it (d.is told)).1)
 
 pub returns-in-Ok-clause-images : goal.returns-in-Ok-clause-images
-returns-in-Ok-clause-images g c = λ told ps payload d file i.
+returns-in-Ok-clause-images g c =
+    rw (← c.self.view_is)
+    (λ told ps payload d file i.
     let rest = c.in-Ok.ensures.rest told ps payload d.with_it (d.is told) in
-    images_give shadowj1 _ _ _ rest.0 file i ∙ ap Some rest.1
+    images_give shadowj1 _ _ _ rest.0 file i ∙ ap Some rest.1)
 
 pub returns-in-Ok-clause-moments : goal.returns-in-Ok-clause-moments
-returns-in-Ok-clause-moments g c = λ told ps payload d.
-    let j = c.args.self.now in
-    doubtful_lasting shadowj1 ps payload (g.D.Disk.accounts j.disk) (g.D.Disk.accounts c.resolve_record.new.disk) j.length d.with_it (d.is told) (c.resolve_record.ensures.moments told ps payload d.with_it (d.is told))
+returns-in-Ok-clause-moments g c =
+    let j = c.self.inside in
+    rw (← c.self.view_is)
+    (λ told ps payload d. doubtful_lasting shadowj1 ps payload (g.D.Disk.accounts j.disk) (g.D.Disk.accounts c.resolve_record.new.disk) j.size d.with_it (d.is told) (c.resolve_record.ensures.moments told ps payload d.with_it (d.is told)))
 
 pub returns-in-Err-clause-still : goal.returns-in-Err-clause-still
-returns-in-Err-clause-still g c = λ ps payload d.
-    let j = c.args.self.now in
-    record {
+returns-in-Err-clause-still g c =
+    let j = c.self.inside in
+    rw (← c.self.view_is)
+    (λ ps payload d. record {
       with_it = d.with_it;
       doubt = d.doubt;
       with_is = d.with_is;
       is = λ told1.
           let told = sym c.resolve_record.ensures.tells ∙ told1 in
-          doubtful_still shadowj1 ps payload (g.D.Disk.accounts j.disk) (g.D.Disk.accounts c.resolve_record.new.disk) j.length d.with_it (d.is told) (c.resolve_record.ensures.moments told ps payload d.with_it (d.is told));
-    }
+          doubtful_still shadowj1 ps payload (g.D.Disk.accounts j.disk) (g.D.Disk.accounts c.resolve_record.new.disk) j.size d.with_it (d.is told) (c.resolve_record.ensures.moments told ps payload d.with_it (d.is told));
+    })
 
 pub returns-in-Err-clause-moments : goal.returns-in-Err-clause-moments
-returns-in-Err-clause-moments g c = λ told ps payload d.
-    let j = c.args.self.now in
-    doubtful_lasting shadowj1 ps payload (g.D.Disk.accounts j.disk) (g.D.Disk.accounts c.resolve_record.new.disk) j.length d.with_it (d.is told) (c.resolve_record.ensures.moments told ps payload d.with_it (d.is told))
+returns-in-Err-clause-moments g c =
+    let j = c.self.inside in
+    rw (← c.self.view_is)
+    (λ told ps payload d. doubtful_lasting shadowj1 ps payload (g.D.Disk.accounts j.disk) (g.D.Disk.accounts c.resolve_record.new.disk) j.size d.with_it (d.is told) (c.resolve_record.ensures.moments told ps payload d.with_it (d.is told)))
