@@ -109,23 +109,19 @@ is_tree_q : IsProofTree one_ray
 unfolding one_ray
 is_tree_q =
     record {
-      few_vectors = lit≤ tt;
-      vectors = vectors;
-      sides = sides;
-      short = short;
-      few_pairs = lit≤ tt;
+      vectors = record { few = lit≤ tt; ascending = ascending; low_sides = low_sides; short = short; few_pairs = lit≤ tt };
       few_nodes = lit≤ tt;
       one_tree = tt;
     }
   where
-    vectors : (v : ℕ) → v < 1 → IsVector 0 (vector_at one_ray v)
-    vectors zero w = (lit≤ tt, lit≤ tt, lit≤ tt, tt)
-    vectors (suc v) w = absurd (omega arith)
+    ascending : (v : ℕ) → v < 1 → IsVector 0 (vector_at one_ray v)
+    ascending zero w = (lit≤ tt, lit≤ tt, lit≤ tt, tt)
+    ascending (suc v) w = absurd (omega arith)
 
-    sides : (v : ℕ) → v < 1 → All (λ pair. pair.0 < 386) (vector_at one_ray v)
-    sides zero w zero d x = lit≤ tt
-    sides zero w (suc k) d x = absurd (omega arith)
-    sides (suc v) w k d x = absurd (omega arith)
+    low_sides : (v : ℕ) → v < 1 → All (λ pair. pair.0 < 386) (vector_at one_ray v)
+    low_sides zero w zero d x = lit≤ tt
+    low_sides zero w (suc k) d x = absurd (omega arith)
+    low_sides (suc v) w k d x = absurd (omega arith)
 
     short : (v : ℕ) → v < 1 → length (vector_at one_ray v) ≤ 384
     short zero w = lit≤ tt

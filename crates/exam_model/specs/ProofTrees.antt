@@ -26,13 +26,17 @@ AreTrees (suc wait) (BranchItem i ∷ nodes) = AreTrees (suc (suc wait)) nodes
 AreTrees (suc wait) (BranchStimulus s ∷ nodes) = AreTrees (suc (suc wait)) nodes
 AreTrees (suc wait) (node ∷ nodes) = AreTrees wait nodes
 
--- at most 255 vectors of at most 384 pairs with sides below 386, at most 12,288 pairs in all, and at most 4,095 nodes,
--- which are one tree (that each node's number is in range is a matter of the tree's bytes)
+-- the vectors of a proof tree: at most 255, each of at most 384 pairs with sides below 386, and at most 12,288 pairs in all
+pub record AreVectors (vs : List Multipliers) : Type 0 where
+  pub few : length vs ≤ 255
+  pub ascending : (v : ℕ) → v < length vs → IsVector 0 (get_or vs v [])
+  pub low_sides : (v : ℕ) → v < length vs → All (λ pair. pair.0 < 386) (get_or vs v [])
+  pub short : (v : ℕ) → v < length vs → length (get_or vs v []) ≤ 384
+  pub few_pairs : sum_by length vs ≤ 12288
+
+-- such vectors, and at most 4,095 nodes, which are one tree (that each node's number is in range is a matter of the tree's
+-- bytes)
 pub record IsProofTree (T : ProofTree) : Type 0 where
-  pub few_vectors : length T.vectors ≤ 255
-  pub vectors : (v : ℕ) → v < length T.vectors → IsVector 0 (vector_at T v)
-  pub sides : (v : ℕ) → v < length T.vectors → All (λ pair. pair.0 < 386) (vector_at T v)
-  pub short : (v : ℕ) → v < length T.vectors → length (vector_at T v) ≤ 384
-  pub few_pairs : sum_by length T.vectors ≤ 12288
+  pub vectors : AreVectors T.vectors
   pub few_nodes : length T.nodes ≤ 4095
   pub one_tree : AreTrees 1 T.nodes

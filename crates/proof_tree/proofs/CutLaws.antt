@@ -69,12 +69,12 @@ cut_byte bytes k at b kb e =
 cut_pair : (bytes : List ℕ) (k at low : ℕ) (pair : ℕ × ℕ) → k ≤ length bytes → pair_at bytes at low ≡ Ok pair → ReadsOrCut k (at + 6) (pair_at (take k bytes) at low) pair
 unfolding pair_at
 cut_pair bytes k at low pair kb e =
-    let a = bind_ok (number_at w16 bytes at) (λ side. unless (fault_where (ltb side low || leb 384 side) (BadVector at)) (number_at w32 bytes (at + 2) >>= λ m. unless (fault_where (eqb m 0 || ltb 16777216 m) (BadVector (at + 2))) (Ok (side, m)))) pair e in
-    let u = unless_ok (fault_where (ltb a.0 low || leb 384 a.0) (BadVector at)) (number_at w32 bytes (at + 2) >>= λ m. unless (fault_where (eqb m 0 || ltb 16777216 m) (BadVector (at + 2))) (Ok (a.0, m))) pair a.2 in
+    let a = bind_ok (number_at w16 bytes at) (λ side. unless (fault_where (ltb side low || leb 386 side) (BadVector at)) (number_at w32 bytes (at + 2) >>= λ m. unless (fault_where (eqb m 0 || ltb 16777216 m) (BadVector (at + 2))) (Ok (side, m)))) pair e in
+    let u = unless_ok (fault_where (ltb a.0 low || leb 386 a.0) (BadVector at)) (number_at w32 bytes (at + 2) >>= λ m. unless (fault_where (eqb m 0 || ltb 16777216 m) (BadVector (at + 2))) (Ok (a.0, m))) pair a.2 in
     let b = bind_ok (number_at w32 bytes (at + 2)) (λ m. unless (fault_where (eqb m 0 || ltb 16777216 m) (BadVector (at + 2))) (Ok (a.0, m))) pair u.1 in
     let v = unless_ok (fault_where (eqb b.0 0 || ltb 16777216 b.0) (BadVector (at + 2))) (Ok (a.0, b.0)) pair b.2 in
-    and_then k (at + 2) (at + 6) (number_at w16 (take k bytes) at) a.0 (λ side. unless (fault_where (ltb side low || leb 384 side) (BadVector at)) (number_at w32 (take k bytes) (at + 2) >>= λ m. unless (fault_where (eqb m 0 || ltb 16777216 m) (BadVector (at + 2))) (Ok (side, m)))) pair (cut_number w16 bytes k at a.0 kb a.1)
-    (λ le. and_passes k (at + 6) (fault_where (ltb a.0 low || leb 384 a.0) (BadVector at)) _ pair u.0
+    and_then k (at + 2) (at + 6) (number_at w16 (take k bytes) at) a.0 (λ side. unless (fault_where (ltb side low || leb 386 side) (BadVector at)) (number_at w32 (take k bytes) (at + 2) >>= λ m. unless (fault_where (eqb m 0 || ltb 16777216 m) (BadVector (at + 2))) (Ok (side, m)))) pair (cut_number w16 bytes k at a.0 kb a.1)
+    (λ le. and_passes k (at + 6) (fault_where (ltb a.0 low || leb 386 a.0) (BadVector at)) _ pair u.0
     (and_then k (at + 2 + 4) (at + 6) (number_at w32 (take k bytes) (at + 2)) b.0 (λ m. unless (fault_where (eqb m 0 || ltb 16777216 m) (BadVector (at + 2))) (Ok (a.0, m))) pair (cut_number w32 bytes k (at + 2) b.0 kb b.1)
     (λ le. and_passes k (at + 6) (fault_where (eqb b.0 0 || ltb 16777216 b.0) (BadVector (at + 2))) _ pair v.0 (inl (omega arith, v.1)))))
 
@@ -89,23 +89,23 @@ cut_pairs (suc count) bytes k at low x kb there e =
     (λ le. and_then k b.0.1 x.1 (pairs_at count (take k bytes) (at + 6) (a.0.0 + 1)) b.0 (λ others. Ok (a.0 ∷ others.0, others.1)) x (cut_pairs count bytes k (at + 6) (a.0.0 + 1) b.0 kb le b.1)
     (λ within. inl (omega (arith, same, within), b.2)))
 
-cut_multipliers : (bytes : List ℕ) (k at : ℕ) (x : Multipliers × ℕ) → k ≤ length bytes → multipliers_at bytes at ≡ Ok x → ReadsOrCut k x.1 (multipliers_at (take k bytes) at) x
+cut_multipliers : (room : ℕ) (bytes : List ℕ) (k at : ℕ) (x : Multipliers × ℕ) → k ≤ length bytes → multipliers_at room bytes at ≡ Ok x → ReadsOrCut k x.1 (multipliers_at room (take k bytes) at) x
 unfolding multipliers_at
-cut_multipliers bytes k at x kb e =
-    let a = bind_ok (number_at w16 bytes at) (λ count. unless (fault_where (ltb 384 count) (BadVector at)) (pairs_at count bytes (at + 2) 0)) x e in
-    let u = unless_ok (fault_where (ltb 384 a.0) (BadVector at)) (pairs_at a.0 bytes (at + 2) 0) x a.2 in
-    and_then k (at + 2) x.1 (number_at w16 (take k bytes) at) a.0 (λ count. unless (fault_where (ltb 384 count) (BadVector at)) (pairs_at count (take k bytes) (at + 2) 0)) x (cut_number w16 bytes k at a.0 kb a.1)
-    (λ le. and_passes k x.1 (fault_where (ltb 384 a.0) (BadVector at)) (pairs_at a.0 (take k bytes) (at + 2) 0) x u.0 (cut_pairs a.0 bytes k (at + 2) 0 x kb le u.1))
+cut_multipliers room bytes k at x kb e =
+    let a = bind_ok (number_at w16 bytes at) (λ count. unless (fault_where (ltb 384 count || ltb room count) (BadVector at)) (pairs_at count bytes (at + 2) 0)) x e in
+    let u = unless_ok (fault_where (ltb 384 a.0 || ltb room a.0) (BadVector at)) (pairs_at a.0 bytes (at + 2) 0) x a.2 in
+    and_then k (at + 2) x.1 (number_at w16 (take k bytes) at) a.0 (λ count. unless (fault_where (ltb 384 count || ltb room count) (BadVector at)) (pairs_at count (take k bytes) (at + 2) 0)) x (cut_number w16 bytes k at a.0 kb a.1)
+    (λ le. and_passes k x.1 (fault_where (ltb 384 a.0 || ltb room a.0) (BadVector at)) (pairs_at a.0 (take k bytes) (at + 2) 0) x u.0 (cut_pairs a.0 bytes k (at + 2) 0 x kb le u.1))
 
-cut_vectors : (count : ℕ) (bytes : List ℕ) (k at : ℕ) (x : List Multipliers × ℕ) → k ≤ length bytes → at ≤ k → vectors_at count bytes at ≡ Ok x → ReadsOrCut k x.1 (vectors_at count (take k bytes) at) x
+cut_vectors : (room count : ℕ) (bytes : List ℕ) (k at : ℕ) (x : List Multipliers × ℕ) → k ≤ length bytes → at ≤ k → vectors_at room count bytes at ≡ Ok x → ReadsOrCut k x.1 (vectors_at room count (take k bytes) at) x
 unfolding vectors_at
-cut_vectors zero bytes k at x kb there e = inl (omega (arith, there, ap (λ (y : List Multipliers × ℕ). y.1) (ok_is {F = TreeFault} ([], at) x e)), e)
-cut_vectors (suc count) bytes k at x kb there e =
-    let a = bind_ok (multipliers_at bytes at) (λ first. vectors_at count bytes first.1 >>= λ others. Ok (first.0 ∷ others.0, others.1)) x e in
-    let b = bind_ok (vectors_at count bytes a.0.1) (λ others. Ok (a.0.0 ∷ others.0, others.1)) x a.2 in
+cut_vectors room zero bytes k at x kb there e = inl (omega (arith, there, ap (λ (y : List Multipliers × ℕ). y.1) (ok_is {F = TreeFault} ([], at) x e)), e)
+cut_vectors room (suc count) bytes k at x kb there e =
+    let a = bind_ok (multipliers_at room bytes at) (λ first. vectors_at (room - length first.0) count bytes first.1 >>= λ others. Ok (first.0 ∷ others.0, others.1)) x e in
+    let b = bind_ok (vectors_at (room - length a.0.0) count bytes a.0.1) (λ others. Ok (a.0.0 ∷ others.0, others.1)) x a.2 in
     let same : b.0.1 ≡ x.1 = ap (λ (y : List Multipliers × ℕ). y.1) (ok_is {F = TreeFault} (a.0.0 ∷ b.0.0, b.0.1) x b.2) in
-    and_then k a.0.1 x.1 (multipliers_at (take k bytes) at) a.0 (λ first. vectors_at count (take k bytes) first.1 >>= λ others. Ok (first.0 ∷ others.0, others.1)) x (cut_multipliers bytes k at a.0 kb a.1)
-    (λ le. and_then k b.0.1 x.1 (vectors_at count (take k bytes) a.0.1) b.0 (λ others. Ok (a.0.0 ∷ others.0, others.1)) x (cut_vectors count bytes k a.0.1 b.0 kb le b.1)
+    and_then k a.0.1 x.1 (multipliers_at room (take k bytes) at) a.0 (λ first. vectors_at (room - length first.0) count (take k bytes) first.1 >>= λ others. Ok (first.0 ∷ others.0, others.1)) x (cut_multipliers room bytes k at a.0 kb a.1)
+    (λ le. and_then k b.0.1 x.1 (vectors_at (room - length a.0.0) count (take k bytes) a.0.1) b.0 (λ others. Ok (a.0.0 ∷ others.0, others.1)) x (cut_vectors (room - length a.0.0) count bytes k a.0.1 b.0 kb le b.1)
     (λ within. inl (omega (arith, same, within), b.2)))
 
 -- ---- nodes
@@ -215,16 +215,14 @@ cut_nodes (suc room) (suc waiting) bytes k at x kb there e =
 cut_read : (bytes : List ℕ) (k : ℕ) (x : ProofTree × ℕ) → k ≤ length bytes → read bytes ≡ Ok x → ReadsOrCut k x.1 (read (take k bytes)) x
 unfolding read
 cut_read bytes k x kb e =
-    let a = bind_ok (byte_at bytes 0) (λ count. unless (fault_where (ltb 32 count) (BadVector 0)) (vectors_at count bytes 1 >>= λ vectors. nodes_at 4095 1 bytes vectors.1 >>= λ nodes. Ok (record { vectors = vectors.0; nodes = nodes.0 }, nodes.1))) x e in
-    let u = unless_ok (fault_where (ltb 32 a.0) (BadVector 0)) (vectors_at a.0 bytes 1 >>= λ vectors. nodes_at 4095 1 bytes vectors.1 >>= λ nodes. Ok (record { vectors = vectors.0; nodes = nodes.0 }, nodes.1)) x a.2 in
-    let b = bind_ok (vectors_at a.0 bytes 1) (λ vectors. nodes_at 4095 1 bytes vectors.1 >>= λ nodes. Ok (record { vectors = vectors.0; nodes = nodes.0 }, nodes.1)) x u.1 in
+    let a = bind_ok (byte_at bytes 0) (λ count. vectors_at 12288 count bytes 1 >>= λ vectors. nodes_at 4095 1 bytes vectors.1 >>= λ nodes. Ok (record { vectors = vectors.0; nodes = nodes.0 }, nodes.1)) x e in
+    let b = bind_ok (vectors_at 12288 a.0 bytes 1) (λ vectors. nodes_at 4095 1 bytes vectors.1 >>= λ nodes. Ok (record { vectors = vectors.0; nodes = nodes.0 }, nodes.1)) x a.2 in
     let n = bind_ok (nodes_at 4095 1 bytes b.0.1) (λ nodes. Ok (record { vectors = b.0.0; nodes = nodes.0 }, nodes.1)) x b.2 in
     let same : n.0.1 ≡ x.1 = ap (λ (y : ProofTree × ℕ). y.1) (ok_is {F = TreeFault} (record { vectors = b.0.0; nodes = n.0.0 }, n.0.1) x n.2) in
-    and_then k 1 x.1 (byte_at (take k bytes) 0) a.0 (λ count. unless (fault_where (ltb 32 count) (BadVector 0)) (vectors_at count (take k bytes) 1 >>= λ vectors. nodes_at 4095 1 (take k bytes) vectors.1 >>= λ nodes. Ok (record { vectors = vectors.0; nodes = nodes.0 }, nodes.1))) x (cut_byte bytes k 0 a.0 kb a.1)
-    (λ le. and_passes k x.1 (fault_where (ltb 32 a.0) (BadVector 0)) _ x u.0
-    (and_then k b.0.1 x.1 (vectors_at a.0 (take k bytes) 1) b.0 (λ vectors. nodes_at 4095 1 (take k bytes) vectors.1 >>= λ nodes. Ok (record { vectors = vectors.0; nodes = nodes.0 }, nodes.1)) x (cut_vectors a.0 bytes k 1 b.0 kb le b.1)
+    and_then k 1 x.1 (byte_at (take k bytes) 0) a.0 (λ count. vectors_at 12288 count (take k bytes) 1 >>= λ vectors. nodes_at 4095 1 (take k bytes) vectors.1 >>= λ nodes. Ok (record { vectors = vectors.0; nodes = nodes.0 }, nodes.1)) x (cut_byte bytes k 0 a.0 kb a.1)
+    (λ le. and_then k b.0.1 x.1 (vectors_at 12288 a.0 (take k bytes) 1) b.0 (λ vectors. nodes_at 4095 1 (take k bytes) vectors.1 >>= λ nodes. Ok (record { vectors = vectors.0; nodes = nodes.0 }, nodes.1)) x (cut_vectors 12288 a.0 bytes k 1 b.0 kb le b.1)
     (λ behind. and_then k n.0.1 x.1 (nodes_at 4095 1 (take k bytes) b.0.1) n.0 (λ nodes. Ok (record { vectors = b.0.0; nodes = nodes.0 }, nodes.1)) x (cut_nodes 4095 1 bytes k b.0.1 n.0 kb behind n.1)
-    (λ within. inl (omega (arith, same, within), n.2)))))
+    (λ within. inl (omega (arith, same, within), n.2))))
 
 never_past : {A : Type 0} (k next : ℕ) (r : Result A TreeFault) (x : A) → k < next → ReadsOrCut k next r x → IsCutOff k r
 never_past k next r x lt (inl h) = absurd (omega (arith, h.0))

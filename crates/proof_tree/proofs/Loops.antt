@@ -46,29 +46,29 @@ pairs_done front count i bytes at low total le so_far =
 
 -- ---- vectors
 
-pub vectors_go_on : (front : List Multipliers) (count i : ℕ) (bytes : List ℕ) (at : ℕ) (v : Multipliers) (next : ℕ) (total : Result (List Multipliers × ℕ) TreeFault) → i < count → multipliers_at bytes at ≡ Ok (v, next)
-    → with_front front (vectors_at (count - i) bytes at) ≡ total → with_front (front ++ v ∷ []) (vectors_at (count - (i + 1)) bytes next) ≡ total
+pub vectors_go_on : (front : List Multipliers) (room count i : ℕ) (bytes : List ℕ) (at : ℕ) (v : Multipliers) (next : ℕ) (total : Result (List Multipliers × ℕ) TreeFault) → i < count → multipliers_at room bytes at ≡ Ok (v, next)
+    → with_front front (vectors_at room (count - i) bytes at) ≡ total → with_front (front ++ v ∷ []) (vectors_at (room - length v) (count - (i + 1)) bytes next) ≡ total
 unfolding vectors_at
-vectors_go_on front count i bytes at v next total lt h so_far =
+vectors_go_on front room count i bytes at v next total lt h so_far =
     let k : count - i ≡ suc (count - (i + 1)) = omega arith in
-    let one : with_front front (vectors_at (count - i) bytes at) ≡ with_front (front ++ v ∷ []) (vectors_at (count - (i + 1)) bytes next) = rw (k, h) (regroup front v (vectors_at (count - (i + 1)) bytes next)) in
+    let one : with_front front (vectors_at room (count - i) bytes at) ≡ with_front (front ++ v ∷ []) (vectors_at (room - length v) (count - (i + 1)) bytes next) = rw (k, h) (regroup front v (vectors_at (room - length v) (count - (i + 1)) bytes next)) in
     sym one ∙ so_far
 
-pub vectors_end : (front : List Multipliers) (count i : ℕ) (bytes : List ℕ) (at : ℕ) (fault : TreeFault) (total : Result (List Multipliers × ℕ) TreeFault) → i < count → (fault ≡ Memory) ⊎ (multipliers_at bytes at ≡ Err fault)
-    → with_front front (vectors_at (count - i) bytes at) ≡ total → (fault ≡ Memory) ⊎ (total ≡ Err fault)
+pub vectors_end : (front : List Multipliers) (room count i : ℕ) (bytes : List ℕ) (at : ℕ) (fault : TreeFault) (total : Result (List Multipliers × ℕ) TreeFault) → i < count → (fault ≡ Memory) ⊎ (multipliers_at room bytes at ≡ Err fault)
+    → with_front front (vectors_at room (count - i) bytes at) ≡ total → (fault ≡ Memory) ⊎ (total ≡ Err fault)
 unfolding vectors_at
-vectors_end front count i bytes at fault total lt (inl m) so_far = inl m
-vectors_end front count i bytes at fault total lt (inr h) so_far =
+vectors_end front room count i bytes at fault total lt (inl m) so_far = inl m
+vectors_end front room count i bytes at fault total lt (inr h) so_far =
     let k : count - i ≡ suc (count - (i + 1)) = omega arith in
-    let one : with_front front (vectors_at (count - i) bytes at) ≡ Err fault = rw (k, h) refl in
+    let one : with_front front (vectors_at room (count - i) bytes at) ≡ Err fault = rw (k, h) refl in
     inr (sym so_far ∙ one)
 
-pub vectors_done : (front : List Multipliers) (count i : ℕ) (bytes : List ℕ) (at : ℕ) (total : Result (List Multipliers × ℕ) TreeFault) → count ≤ i
-    → with_front front (vectors_at (count - i) bytes at) ≡ total → total ≡ Ok (front, at)
+pub vectors_done : (front : List Multipliers) (room count i : ℕ) (bytes : List ℕ) (at : ℕ) (total : Result (List Multipliers × ℕ) TreeFault) → count ≤ i
+    → with_front front (vectors_at room (count - i) bytes at) ≡ total → total ≡ Ok (front, at)
 unfolding vectors_at
-vectors_done front count i bytes at total le so_far =
+vectors_done front room count i bytes at total le so_far =
     let k : count - i ≡ 0 = omega arith in
-    let one : with_front front (vectors_at (count - i) bytes at) ≡ Ok (front, at) = rw k (ap (λ (vs : List Multipliers). Ok (vs, at)) (append-nil front)) in
+    let one : with_front front (vectors_at room (count - i) bytes at) ≡ Ok (front, at) = rw k (ap (λ (vs : List Multipliers). Ok (vs, at)) (append-nil front)) in
     sym so_far ∙ one
 
 -- ---- nodes

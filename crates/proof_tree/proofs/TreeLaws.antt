@@ -1,25 +1,26 @@
 -- A tree that is read is the tree that was written, and what was written is read again, whatever follows.
 use Rattle.std.proofs.Common.{◌≡◌, ℕ, zero, suc, ◌+◌, ◌*◌, ◌<◌, ◌≤◌, Bool, true, false, cond, ltb, List, [], ◌∷◌, ◌++◌, length, All, drop, Result, Ok, Err, refl, sym, ap, subst, arith, length-append, ◌∙◌}
 use Rattle.std.specs.Prelude.{IfOk}
-use Rattle.std.specs.List.{flat_map, AllByRecursion}
-use Rattle.std.proofs.lemmas.Bool.{ltb-false, lt-ltb, le-ltb}
+use Rattle.std.specs.List.{flat_map, AllByRecursion, sum_by}
+use Rattle.std.proofs.lemmas.Bool.{lt-ltb}
 use Rattle.std.proofs.lemmas.List.{drop_at}
+use Rattle.std.proofs.lemmas.List.Sums.{sum_by-cons}
 use Rattle.std.proofs.lemmas.List.Concat.{flat_map-cons}
 use Rattle.std.proofs.lemmas.List.Elements.{All-from_recursion, All-from_get_or, recursion_from_All}
-use Rattle.exam_text.specs.First.{◌>>=◌, unless, fault_where, Gives}
-use Rattle.exam_text.proofs.Firsts.{bind_ok, unless_ok, none_where, ok_is}
+use Rattle.exam_text.specs.First.{◌>>=◌, Gives}
+use Rattle.exam_text.proofs.Firsts.{bind_ok, ok_is}
 use Rattle.exam_model.specs.declared.node.Node.{Node}
 use Rattle.exam_model.specs.declared.node.Node.TheVariants.{BranchItem, BranchStimulus, Bound, Ray, Count, Whole, Open}
 use Rattle.exam_model.specs.Relaxed.{Multipliers}
-use Rattle.exam_model.specs.ProofTrees.{ProofTree, AreTrees, IsProofTree, vector_at}
+use Rattle.exam_model.specs.ProofTrees.{ProofTree, AreTrees, IsProofTree}
 use Rattle.proof_tree.specs.declared.fault.TreeFault.{TreeFault}
-use Rattle.proof_tree.specs.declared.fault.TreeFault.TheVariants.{BadVector, Unfinished, TooLong, Memory}
+use Rattle.proof_tree.specs.declared.fault.TreeFault.TheVariants.{Unfinished, TooLong, Memory}
 use Rattle.proof_tree.specs.Shape.{IsTree, IsNode, children}
 use Rattle.proof_tree.specs.Spelling.{pair_bytes, vector_bytes, node_bytes, bytes_of, BeginsWith}
 use Rattle.proof_tree.specs.Reading.{byte_at, vectors_at, node_at, nodes_at, read}
 use Rattle.proof_tree.proofs.Shapes.{BothWays}
 use Rattle.proof_tree.proofs.Fields.{IsBytes, Stands, nothing_stands, stand_both, stand_first, stand_second, stands_within, byte_stands, byte_again}
-use Rattle.proof_tree.proofs.VectorLaws.{IsListed, vectors_stand, vectors_again, few_pairs}
+use Rattle.proof_tree.proofs.VectorLaws.{IsListed, vectors_stand, vectors_again}
 use Rattle.proof_tree.proofs.NodeLaws.{node_stands, node_again}
 
 -- ---- nodes
@@ -104,14 +105,18 @@ nodes_again (node ∷ nodes) (suc room) (suc waiting) bytes at next p trees few 
 -- ---- the tree
 
 -- vectors that were read are vectors of a tree
-pub is_tree : (vectors : List Multipliers) (nodes : List Node) → length vectors ≤ 32 → AllByRecursion IsListed vectors → length nodes ≤ 4095 → AreTrees 1 nodes → AllByRecursion IsNode nodes → IsTree (record { vectors = vectors; nodes = nodes })
-is_tree vectors nodes few_vectors listed few_nodes trees numbers =
+pub is_tree : (vectors : List Multipliers) (nodes : List Node) → length vectors ≤ 255 → AllByRecursion IsListed vectors → sum_by length vectors ≤ 12288 → length nodes ≤ 4095 → AreTrees 1 nodes → AllByRecursion IsNode nodes → IsTree (record { vectors = vectors; nodes = nodes })
+is_tree vectors nodes few_vectors listed few_pairs few_nodes trees numbers =
     let each : All IsListed vectors = All-from_recursion IsListed vectors listed in
     record {
       shape = record {
-        few_vectors = few_vectors;
-        vectors = λ v lt. (each v [] lt).0;
-        sides = λ v lt. All-from_recursion (λ pair. pair.0 < 384) _ (each v [] lt).1;
+        vectors = record {
+          few = few_vectors;
+          ascending = λ v lt. (each v [] lt).0;
+          low_sides = λ v lt. All-from_recursion (λ pair. pair.0 < 386) _ (each v [] lt).1;
+          short = λ v lt. (each v [] lt).2;
+          few_pairs = few_pairs;
+        };
         few_nodes = few_nodes;
         one_tree = trees;
       };
@@ -120,43 +125,38 @@ is_tree vectors nodes few_vectors listed few_nodes trees numbers =
 
 -- and the other way round
 listed_from : (T : ProofTree) → IsProofTree T → AllByRecursion IsListed T.vectors
-listed_from T is = recursion_from_All IsListed T.vectors (All-from_get_or IsListed T.vectors [] (λ v lt. (is.vectors v lt, recursion_from_All (λ pair. pair.0 < 384) _ (is.sides v lt))))
+listed_from T is = recursion_from_All IsListed T.vectors (All-from_get_or IsListed T.vectors [] (λ v lt. (is.vectors.ascending v lt, recursion_from_All (λ pair. pair.0 < 386) _ (is.vectors.low_sides v lt), is.vectors.short v lt)))
 
 pub read_stands : (bytes : List ℕ) (x : ProofTree × ℕ) → IsBytes bytes → read bytes ≡ Ok x → IsTree x.0 × Stands bytes 0 (bytes_of x.0) x.1
 unfolding read bytes_of
 read_stands bytes x fits e =
-    let a = bind_ok (byte_at bytes 0) (λ count. unless (fault_where (ltb 32 count) (BadVector 0)) (vectors_at count bytes 1 >>= λ vectors. nodes_at 4095 1 bytes vectors.1 >>= λ nodes. Ok (record { vectors = vectors.0; nodes = nodes.0 }, nodes.1))) x e in
-    let u = unless_ok (fault_where (ltb 32 a.0) (BadVector 0)) (vectors_at a.0 bytes 1 >>= λ vectors. nodes_at 4095 1 bytes vectors.1 >>= λ nodes. Ok (record { vectors = vectors.0; nodes = nodes.0 }, nodes.1)) x a.2 in
-    let b = bind_ok (vectors_at a.0 bytes 1) (λ vectors. nodes_at 4095 1 bytes vectors.1 >>= λ nodes. Ok (record { vectors = vectors.0; nodes = nodes.0 }, nodes.1)) x u.1 in
+    let a = bind_ok (byte_at bytes 0) (λ count. vectors_at 12288 count bytes 1 >>= λ vectors. nodes_at 4095 1 bytes vectors.1 >>= λ nodes. Ok (record { vectors = vectors.0; nodes = nodes.0 }, nodes.1)) x e in
+    let b = bind_ok (vectors_at 12288 a.0 bytes 1) (λ vectors. nodes_at 4095 1 bytes vectors.1 >>= λ nodes. Ok (record { vectors = vectors.0; nodes = nodes.0 }, nodes.1)) x a.2 in
     let n = bind_ok (nodes_at 4095 1 bytes b.0.1) (λ nodes. Ok (record { vectors = b.0.0; nodes = nodes.0 }, nodes.1)) x b.2 in
-    let few : a.0 ≤ 32 = ltb-false _ _ (none_where (ltb 32 a.0) (BadVector 0) u.0) in
     let count = byte_stands bytes 0 a.0 fits a.1 in
-    let vectors = vectors_stand a.0 bytes 1 b.0 fits b.1 in
+    let vectors = vectors_stand 12288 a.0 bytes 1 b.0 fits b.1 in
     let nodes = nodes_stand 4095 1 bytes b.0.1 n.0 fits n.1 in
-    let behind = stand_both bytes 1 (flat_map vector_bytes b.0.0) b.0.1 (flat_map node_bytes n.0.0) n.0.1 vectors.0 nodes.stand in
-    let all : Stands bytes 0 (a.0 ∷ (flat_map vector_bytes b.0.0 ++ flat_map node_bytes n.0.0)) n.0.1 = stand_both bytes 0 (a.0 ∷ []) 1 (flat_map vector_bytes b.0.0 ++ flat_map node_bytes n.0.0) n.0.1 count.0 behind in
+    let after = stand_both bytes 1 (flat_map vector_bytes b.0.0) b.0.1 (flat_map node_bytes n.0.0) n.0.1 vectors.0 nodes.stand in
+    let all : Stands bytes 0 (a.0 ∷ (flat_map vector_bytes b.0.0 ++ flat_map node_bytes n.0.0)) n.0.1 = stand_both bytes 0 (a.0 ∷ []) 1 (flat_map vector_bytes b.0.0 ++ flat_map node_bytes n.0.0) n.0.1 count.0 after in
     let made : ProofTree × ℕ = (record { vectors = b.0.0; nodes = n.0.0 }, n.0.1) in
     let stands : Stands bytes 0 (bytes_of made.0) made.1 = subst (λ (k : ℕ). Stands bytes 0 (k ∷ (flat_map vector_bytes b.0.0 ++ flat_map node_bytes n.0.0)) n.0.1) (sym vectors.1) all in
-    subst (λ (y : ProofTree × ℕ). IsTree y.0 × Stands bytes 0 (bytes_of y.0) y.1) (ok_is {F = TreeFault} made x n.2) (is_tree b.0.0 n.0.0 (omega (arith, vectors.1, few)) vectors.2 nodes.few nodes.trees nodes.numbers, stands)
+    subst (λ (y : ProofTree × ℕ). IsTree y.0 × Stands bytes 0 (bytes_of y.0) y.1) (ok_is {F = TreeFault} made x n.2) (is_tree b.0.0 n.0.0 (omega (arith, vectors.1, count.1)) vectors.2 vectors.3 nodes.few nodes.trees nodes.numbers, stands)
 
 pub read_again : (T : ProofTree) (bytes : List ℕ) (next : ℕ) → IsTree T → Stands bytes 0 (bytes_of T) next → read bytes ≡ Ok (T, next)
 unfolding read bytes_of
 read_again T bytes next is p =
-    let body : List ℕ = flat_map vector_bytes T.vectors ++ flat_map node_bytes T.nodes in
     let first = stand_first bytes 0 (length T.vectors ∷ []) (flat_map vector_bytes T.vectors ++ flat_map node_bytes T.nodes) next p in
     let second : Stands bytes 1 (flat_map vector_bytes T.vectors ++ flat_map node_bytes T.nodes) next = stand_second bytes 0 (length T.vectors ∷ []) (flat_map vector_bytes T.vectors ++ flat_map node_bytes T.nodes) next p in
     let vectors_there = stand_first bytes 1 (flat_map vector_bytes T.vectors) (flat_map node_bytes T.nodes) next second in
     let nodes_there = stand_second bytes 1 (flat_map vector_bytes T.vectors) (flat_map node_bytes T.nodes) next second in
     let count_read : byte_at bytes 0 ≡ Ok (length T.vectors) = byte_again bytes 0 (length T.vectors) 1 first in
-    let test : ltb 32 (length T.vectors) ≡ false = le-ltb 32 (length T.vectors) is.shape.few_vectors in
-    let vectors_read = vectors_again T.vectors bytes 1 (1 + length (flat_map vector_bytes T.vectors)) vectors_there (listed_from T is.shape) in
+    let vectors_read = vectors_again T.vectors 12288 bytes 1 (1 + length (flat_map vector_bytes T.vectors)) vectors_there (listed_from T is.shape) is.shape.vectors.few_pairs in
     let nodes_read = nodes_again T.nodes 4095 1 bytes (1 + length (flat_map vector_bytes T.vectors)) next nodes_there is.shape.one_tree is.shape.few_nodes (recursion_from_All IsNode T.nodes is.numbers) in
-    rw (count_read, test, vectors_read, nodes_read) refl
+    rw (count_read, vectors_read, nodes_read) refl
 
 -- the vectors of a tree are short
 pub short_vectors : (T : ProofTree) → IsProofTree T → All (λ v. length v ≤ 384) T.vectors
-short_vectors T is =
-    All-from_get_or (λ v. length v ≤ 384) T.vectors [] (λ v lt. let few = few_pairs 0 (vector_at T v) (omega arith) (is.vectors v lt) (recursion_from_All (λ pair. pair.0 < 384) _ (is.sides v lt)) in omega (arith, few))
+short_vectors T is = All-from_get_or (λ v. length v ≤ 384) T.vectors [] is.vectors.short
 
 -- what was read is what the bytes begin with
 pub is_found : (bytes : List ℕ) (r : Result (ProofTree × ℕ) TreeFault) → IsBytes bytes → Gives Memory (λ (x : ProofTree × ℕ). x) r (read bytes)
@@ -180,11 +180,10 @@ pairs_len : (v : Multipliers) → length (flat_map pair_bytes v) ≡ 6 * length 
 pairs_len [] = refl
 pairs_len (pair ∷ v) = omega (arith, pairs_len v, ap length (flat_map-cons pair_bytes pair v), length-append (pair_bytes pair) (flat_map pair_bytes v))
 
-vectors_len : (vs : List Multipliers) → AllByRecursion (λ v. length v ≤ 384) vs → length (flat_map vector_bytes vs) ≤ 2306 * length vs
-vectors_len [] short = omega arith
-vectors_len (v ∷ vs) short =
-    let here : length (vector_bytes v) ≤ 2306 = omega (arith, short.0, pairs_len v) in
-    omega (arith, vectors_len vs short.1, here, ap length (flat_map-cons vector_bytes v vs), length-append (vector_bytes v) (flat_map vector_bytes vs))
+vectors_len : (vs : List Multipliers) → length (flat_map vector_bytes vs) ≡ 2 * length vs + 6 * sum_by length vs
+vectors_len [] = refl
+vectors_len (v ∷ vs) =
+    omega (arith, vectors_len vs, pairs_len v, sum_by-cons length v vs, ap length (flat_map-cons vector_bytes v vs), length-append (vector_bytes v) (flat_map vector_bytes vs))
 
 node_len : (node : Node) → length (node_bytes node) ≤ 3
 node_len (BranchItem i) = omega arith
@@ -199,12 +198,12 @@ nodes_len : (nodes : List Node) → length (flat_map node_bytes nodes) ≤ 3 * l
 nodes_len [] = omega arith
 nodes_len (node ∷ nodes) = omega (arith, nodes_len nodes, node_len node, ap length (flat_map-cons node_bytes node nodes), length-append (node_bytes node) (flat_map node_bytes nodes))
 
-pub few_bytes : (T : ProofTree) → IsTree T → length (bytes_of T) ≤ 86078
+pub few_bytes : (T : ProofTree) → IsTree T → length (bytes_of T) ≤ 86524
 unfolding bytes_of
 few_bytes T is =
-    let vectors = vectors_len T.vectors (recursion_from_All (λ v. length v ≤ 384) T.vectors (short_vectors T is.shape)) in
+    let vectors = vectors_len T.vectors in
     let nodes = nodes_len T.nodes in
-    omega (arith, vectors, nodes, is.shape.few_vectors, is.shape.few_nodes, length-append (flat_map vector_bytes T.vectors) (flat_map node_bytes T.nodes))
+    omega (arith, vectors, nodes, is.shape.vectors.few, is.shape.vectors.few_pairs, is.shape.few_nodes, length-append (flat_map vector_bytes T.vectors) (flat_map node_bytes T.nodes))
 
 -- ---- the laws
 

@@ -1,6 +1,5 @@
--- Reading a proof tree from left to right, up to the first fault, which is told with the place of the field or node
--- in which it stands.
-use Rattle.std.specs.Prelude.{ℕ, zero, suc, ◌+◌, ◌||◌, ◌==◌, nat_lt, nat_le, List, [], ◌∷◌, length, take, drop, slice_index, Result, Ok, Err, if◌then◌else◌}
+-- Reading a proof tree from left to right, up to the first fault, with the place where the faulty field or node begins.
+use Rattle.std.specs.Prelude.{ℕ, zero, suc, ◌+◌, ◌-◌, ◌||◌, ◌==◌, nat_lt, nat_le, List, [], ◌∷◌, length, take, drop, slice_index, Result, Ok, Err, if◌then◌else◌}
 use Rattle.std.specs.Int.{Width, w16, w32, byte_len, from_be_bytes}
 use Rattle.exam_text.specs.First.{◌>>=◌, unless, fault_where}
 use Rattle.exam_model.specs.declared.node.Node.{Node}
@@ -24,12 +23,12 @@ byte_at bytes at = if nat_lt at (length bytes) then Ok (slice_index bytes at) el
 unfoldable pub pair_at : List ℕ → ℕ → ℕ → Result (ℕ × ℕ) TreeFault
 pair_at bytes at low = do
   side ← number_at w16 bytes at
-  unless (fault_where (nat_lt side low || nat_le 384 side) (BadVector at)) (do
+  unless (fault_where (nat_lt side low || nat_le 386 side) (BadVector at)) (do
     multiplier ← number_at w32 bytes (at + 2)
     unless (fault_where ((multiplier == 0) || nat_lt 16777216 multiplier) (BadVector (at + 2)))
         (Ok (side, multiplier)))
 
--- so many pairs, sides ascending from `low` on, and the place behind them
+-- so many pairs, sides ascending from `low` on, and the place after them
 unfoldable pub pairs_at : ℕ → List ℕ → ℕ → ℕ → Result (Multipliers × ℕ) TreeFault
 pairs_at zero bytes at low = Ok ([], at)
 pairs_at (suc count) bytes at low = do
@@ -37,23 +36,23 @@ pairs_at (suc count) bytes at low = do
   others ← pairs_at count bytes (at + 6) (first.0 + 1)
   Ok (first ∷ others.0, others.1)
 
--- a vector, and the place behind it
-unfoldable pub multipliers_at : List ℕ → ℕ → Result (Multipliers × ℕ) TreeFault
-multipliers_at bytes at = do
+-- a vector of at most `room` pairs, and never more than 384, and the place after it
+unfoldable pub multipliers_at : ℕ → List ℕ → ℕ → Result (Multipliers × ℕ) TreeFault
+multipliers_at room bytes at = do
   count ← number_at w16 bytes at
-  unless (fault_where (nat_lt 384 count) (BadVector at)) (pairs_at count bytes (at + 2) 0)
+  unless (fault_where (nat_lt 384 count || nat_lt room count) (BadVector at)) (pairs_at count bytes (at + 2) 0)
 
--- so many vectors, and the place behind them
-unfoldable pub vectors_at : ℕ → List ℕ → ℕ → Result (List Multipliers × ℕ) TreeFault
-vectors_at zero bytes at = Ok ([], at)
-vectors_at (suc count) bytes at = do
-  first ← multipliers_at bytes at
-  others ← vectors_at count bytes first.1
+-- so many vectors of at most `room` pairs in all, and the place after them
+unfoldable pub vectors_at : ℕ → ℕ → List ℕ → ℕ → Result (List Multipliers × ℕ) TreeFault
+vectors_at room zero bytes at = Ok ([], at)
+vectors_at room (suc count) bytes at = do
+  first ← multipliers_at room bytes at
+  others ← vectors_at (room - length first.0) count bytes first.1
   Ok (first.0 ∷ others.0, others.1)
 
 -- ---- nodes
 
--- a node that begins at a place, with the place behind it
+-- a node that begins at a place, with the place after it
 unfoldable pub item_branch_at : List ℕ → ℕ → Result (Node × ℕ) TreeFault
 item_branch_at bytes at = do
   item ← number_at w16 bytes (at + 1)
@@ -95,7 +94,7 @@ node_at bytes at = do
   kind ← byte_at bytes at
   node_of_kind kind bytes at
 
--- the nodes of so many trees in preorder, `room` nodes at most, and the place behind them
+-- the nodes of so many trees in preorder, `room` nodes at most, and the place after them
 unfoldable pub nodes_at : ℕ → ℕ → List ℕ → ℕ → Result (List Node × ℕ) TreeFault
 nodes_at room zero bytes at = Ok ([], at)
 nodes_at zero (suc waiting) bytes at = if nat_lt at (length bytes) then Err (TooLong at) else Err (Unfinished at)
@@ -112,7 +111,6 @@ nodes_at (suc room) (suc waiting) bytes at =
 unfoldable pub read : List ℕ → Result (ProofTree × ℕ) TreeFault
 read bytes = do
   count ← byte_at bytes 0
-  unless (fault_where (nat_lt 32 count) (BadVector 0)) (do
-    vectors ← vectors_at count bytes 1
-    nodes ← nodes_at 4095 1 bytes vectors.1
-    Ok (record { vectors = vectors.0; nodes = nodes.0 }, nodes.1))
+  vectors ← vectors_at 12288 count bytes 1
+  nodes ← nodes_at 4095 1 bytes vectors.1
+  Ok (record { vectors = vectors.0; nodes = nodes.0 }, nodes.1)

@@ -18,7 +18,7 @@ pub record IsTree (T : ProofTree) : Type 0 where
   pub shape : IsProofTree T
   pub numbers : All IsNode T.nodes
 
--- how many subtrees stand behind a node
+-- how many subtrees follow a node
 abbrev pub children : Node → ℕ
 children (BranchItem i) = 2
 children (BranchStimulus s) = 2

@@ -1,12 +1,11 @@
 //! Proof trees: what an assembler hands over so that a separate checker can say that a form is best. A tree is vectors
 //! of Lagrange multipliers and nodes of branch and bound, and has one spelling in bytes. Upward it promises that what
-//! is written is read again whatever follows, that what is read was spelled so, and where each fault stands; it never
+//! is written is read again whatever follows, that what is read was spelled so, and where each fault is; it never
 //! judges what a tree shows.
 #![tactic(auto)]
 
 mod fault;
 pub mod laws;
-mod memory;
 mod reading;
 mod tree;
 mod vector;
@@ -14,8 +13,8 @@ mod writing;
 
 pub use exam_model::Node;
 pub use fault::TreeFault;
-pub use memory::Memory;
 pub use reading::decode;
+pub use std::alloc::AllocError as Memory;
 pub use tree::Tree;
 pub use vector::Vector;
 pub use writing::encode;

@@ -57,11 +57,11 @@ fn u32_of(bytes: &[u8], at: usize) -> Result<u32, TreeFault>
 fn pair_of(bytes: &[u8], at: usize, low: u16) -> Result<(u16, u32), TreeFault>
     requires { at ≤ length bytes.now }
     ensures pair { result ≡ pair_at bytes.now at low }
-    ensures low_side { IfOk result (λ pair. pair.0 < 384) }
+    ensures low_side { IfOk result (λ pair. pair.0 < 386) }
     ensures there { OnOk result (at + 6 ≤ length bytes.now) }
 {
     let side = u16_of(bytes, at)?;
-    if side < low || 384 <= side {
+    if side < low || 386 <= side {
         return Err(TreeFault::BadVector(at as u64));
     }
     let multiplier = u32_of(bytes, at + 2)?;
@@ -157,7 +157,7 @@ fn node_of(bytes: &[u8], at: usize) -> Result<(Node, usize), TreeFault>
     node_of_kind(bytes[at], bytes, at)
 }
 
-/// So many pairs, and the place behind them.
+/// So many pairs, and the place after them.
 fn pairs_of(
     alloc: Global,
     count: u16,
@@ -180,21 +180,31 @@ fn pairs_of(
     Ok((pairs, at))
 }
 
+/// A vector of at most `room` pairs, and the place after it.
 #[tactic(auto, unfolding(crate::specs::Reading::multipliers_at))]
-fn vector_of(alloc: Global, bytes: &[u8], at: usize) -> Result<(Vector, usize), TreeFault>
+fn vector_of(
+    alloc: Global,
+    room: u16,
+    bytes: &[u8],
+    at: usize,
+) -> Result<(Vector, usize), TreeFault>
     requires { at ≤ length bytes.now }
-    ensures vector { Gives Memory (λ x. x) result (multipliers_at bytes.now at) }
+    ensures vector { Gives Memory (λ x. x) result (multipliers_at room bytes.now at) }
     ensures there { IfOk result (λ x. x.1 ≤ length bytes.now) }
+    ensures few { IfOk result (λ x. length x.0 ≤ room) }
 {
     let count = u16_of(bytes, at)?;
-    if 384 < count {
+    if 384 < count || room < count {
         return Err(TreeFault::BadVector(at as u64));
     }
     let (pairs, next) = pairs_of(alloc, count, bytes, at + 2)?;
     Ok((Vector::new(List::of(pairs)), next))
 }
 
-/// So many vectors, and the place behind them.
+/// The greatest number of pairs in all.
+const PAIRS: u16 = 12_288;
+
+/// So many vectors, and the place after them.
 fn vectors_of(
     alloc: Global,
     count: u8,
@@ -202,20 +212,22 @@ fn vectors_of(
     at: usize,
 ) -> Result<(Vec<Vector>, usize), TreeFault>
     requires { at ≤ length bytes.now }
-    ensures vectors { Gives Memory (λ x. (x.0.items, x.1)) result (vectors_at count bytes.now at) }
+    ensures vectors { Gives Memory (λ x. (x.0.items, x.1)) result (vectors_at 12288 count bytes.now at) }
     ensures there { IfOk result (λ x. x.1 ≤ length bytes.now) }
 {
     let mut vectors = Vec::new(alloc);
+    let mut room = PAIRS;
     let mut at = at;
     for _ in 0..count {
-        let (vector, next) = vector_of(alloc, bytes, at)?;
+        let (vector, next) = vector_of(alloc, room, bytes, at)?;
+        room -= vector.pairs().len() as u16;
         vectors.push(vector)?;
         at = next;
     }
     Ok((vectors, at))
 }
 
-/// The nodes of one tree, and the place behind them.
+/// The nodes of one tree, and the place after them.
 fn nodes_of(alloc: Global, bytes: &[u8], at: usize) -> Result<(Vec<Node>, usize), TreeFault>
     requires { at ≤ length bytes.now }
     ensures { Gives Memory (λ x. (x.0.items, x.1)) result (nodes_at 4095 1 bytes.now at) }
@@ -245,9 +257,6 @@ fn tree_of(alloc: Global, bytes: &[u8]) -> Result<(Tree, usize), TreeFault>
     ensures { Gives Memory (λ x. x) result (read bytes.now) }
 {
     let count = byte_of(bytes, 0)?;
-    if 32 < count {
-        return Err(TreeFault::BadVector(0));
-    }
     let (vectors, next) = vectors_of(alloc, count, bytes, 1)?;
     let (nodes, next) = nodes_of(alloc, bytes, next)?;
     Ok((Tree::new(List::of(vectors), List::of(nodes)), next))

@@ -1,7 +1,7 @@
 //! A proof tree.
 
-ghost use Rattle.std.specs.Prelude.{◌≡◌, ◌↔◌, ◌≤◌, ◌<◌, ℕ, IsTrue, IsSome, IfSome, All, length, slice_index_or, []};
-ghost use Rattle.exam_model.specs.ProofTrees.{AreTrees, IsVector};
+ghost use Rattle.std.specs.Prelude.{◌≡◌, ◌↔◌, ◌≤◌, ◌<◌, ℕ, IsTrue, IsSome, IfSome, All, length, slice_index_or, sum_by, []};
+ghost use Rattle.exam_model.specs.ProofTrees.{AreTrees, AreVectors, IsVector};
 ghost use Rattle.proof_tree.specs.Shape.{IsTree, IsNode, children};
 
 use crate::vector::Vector;
@@ -10,8 +10,9 @@ use exam_model::Node;
 use std::marker::Model;
 
 /// A proof tree (branch and bound; Land and Doig, An Automatic Method of Solving Discrete Programming Problems, 1960):
-/// at most 32 vectors with sides below 384, and at most 4,095 nodes, which are one binary tree in preorder, the side
-/// with the item or stimulus first. A node names an item below 512, a stimulus from 1 to 64, or a row of at most 192.
+/// at most 255 vectors with sides below 386, of at most 384 pairs each and 12,288 in all, and at most 4,095 nodes, which
+/// are one binary tree in preorder, the side with the item or stimulus first. A node names an item below 512, a stimulus
+/// from 1 to 64, or a row of at most 192.
 #[derive(Debug, Drop)]
 pub struct Tree {
     vectors: List<Vector>,
@@ -30,13 +31,13 @@ impl Model for Tree {
 }
 
 fn sides_are_low(pairs: &[(u16, u32)]) -> bool
-    ensures { IsTrue result ↔ All (λ pair. pair.0 < 384) pairs.now }
+    ensures { IsTrue result ↔ All (λ pair. pair.0 < 386) pairs.now }
 {
-    pairs.iter().all(|pair| pair.0 < 384)
+    pairs.iter().all(|pair| pair.0 < 386)
 }
 
 fn have_low_sides(vectors: &[Vector]) -> bool
-    ensures sides { IsTrue result ↔ ((v : ℕ) → v < length vectors.now → All (λ pair. pair.0 < 384) (slice_index_or vectors.now v [])) }
+    ensures sides { IsTrue result ↔ ((v : ℕ) → v < length vectors.now → All (λ pair. pair.0 < 386) (slice_index_or vectors.now v [])) }
     ensures vectors { IsTrue result → (v : ℕ) → v < length vectors.now → IsVector 0 (slice_index_or vectors.now v []) }
 {
     for vector in vectors {
@@ -47,7 +48,38 @@ fn have_low_sides(vectors: &[Vector]) -> bool
     true
 }
 
-/// How many subtrees stand behind a node.
+fn are_short(vectors: &[Vector]) -> bool
+    ensures { IsTrue result ↔ ((v : ℕ) → v < length vectors.now → length (slice_index_or vectors.now v []) ≤ 384) }
+{
+    for vector in vectors {
+        if vector.pairs().len() > 384 {
+            return false;
+        }
+    }
+    true
+}
+
+fn have_few_pairs(vectors: &[Vector]) -> bool
+    ensures { IsTrue result ↔ (sum_by length vectors.now ≤ 12288) }
+{
+    let mut room: usize = 12_288;
+    for vector in vectors {
+        let pairs = vector.pairs().len();
+        if room < pairs {
+            return false;
+        }
+        room -= pairs;
+    }
+    true
+}
+
+fn are_vectors(vectors: &[Vector]) -> bool
+    ensures { IsTrue result ↔ AreVectors vectors.now }
+{
+    vectors.len() <= 255 && have_low_sides(vectors) && are_short(vectors) && have_few_pairs(vectors)
+}
+
+/// How many subtrees follow a node.
 pub(crate) fn children(node: &Node) -> usize
     ensures { result ≡ children node.now }
 {
@@ -107,9 +139,8 @@ impl Tree {
         ensures some { IsSome result ↔ IsTree (record { vectors = vectors; nodes = nodes }) }
         ensures tree { IfSome result (λ t. t ≡ record { vectors = vectors; nodes = nodes }) }
     {
-        if vectors.as_slice().len() <= 32
+        if are_vectors(vectors.as_slice())
             && nodes.as_slice().len() <= 4095
-            && have_low_sides(vectors.as_slice())
             && are_one_tree(nodes.as_slice())
             && are_nodes(nodes.as_slice())
         {

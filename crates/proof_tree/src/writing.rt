@@ -4,7 +4,6 @@ ghost use Rattle.std.specs.Prelude.{◌≡◌, ◌≤◌, ◌++◌, length, All,
 ghost use Rattle.std.specs.List.{flat_map};
 ghost use Rattle.proof_tree.specs.Spelling.{pair_bytes, vector_bytes, node_bytes, bytes_of};
 
-use crate::memory::Memory;
 use crate::tree::Tree;
 use crate::vector::Vector;
 use exam_model::Node;
@@ -67,9 +66,9 @@ fn push_nodes(out: &mut Vec<u8>, nodes: &[Node]) -> Result<(), AllocError>
 
 /// The one spelling of the tree.
 #[tactic(auto, unfolding(crate::specs::Spelling::bytes_of))]
-pub fn encode(alloc: Global, tree: &Tree) -> Result<Vec<u8>, Memory>
+pub fn encode(alloc: Global, tree: &Tree) -> Result<Vec<u8>, AllocError>
     ensures spelling { IfOk result (λ bytes. bytes.items ≡ bytes_of tree.now) }
-    ensures few { IfOk result (λ bytes. length bytes.items ≤ 86078) }
+    ensures few { IfOk result (λ bytes. length bytes.items ≤ 86524) }
 {
     let vectors = tree.vectors();
     let mut out = Vec::new(alloc);

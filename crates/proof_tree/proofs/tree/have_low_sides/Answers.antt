@@ -7,6 +7,6 @@ returns-then-not-sides_are_low-clause-sides c =
     let here : c.pairs.result.now ≡ get_or c.args.vectors.now c.loop-vector.vector-index [] =
     c.pairs.ensures.pairs ∙ get_or_read c.args.vectors.now c.loop-vector.vector-index c.vector-item.result c.loop-vector-test.true c.vector-item.is [] in (
       λ e. absurd cc,
-      λ all. let low : All (λ pair. pair.0 < 384) c.pairs.result.now = subst (λ (v : List (ℕ × ℕ)). All (λ pair. pair.0 < 384) v) (sym here) (all c.loop-vector.vector-index c.loop-vector-test.true) in
+      λ all. let low : All (λ pair. pair.0 < 386) c.pairs.result.now = subst (λ (v : List (ℕ × ℕ)). All (λ pair. pair.0 < 386) v) (sym here) (all c.loop-vector.vector-index c.loop-vector-test.true) in
           let yes : c.sides_are_low.result ≡ true = c.sides_are_low.ensures.1 low in absurd cc,
     )
