@@ -1,6 +1,6 @@
 // The device calls that add a record, and those that resolve one in doubt.
 ghost use Rattle.std.specs.Prelude.{◌≡◌, ◌≤◌, ◌<◌, ◌+◌, ◌-◌, ◌↔◌, ◌==◌, [], ◌∷◌, ◌++◌, length, slice_index, IsTrue, IfOk, OnOk, OnErr};
-ghost use Rattle.exam_edge.specs.Faults.{Rose};
+ghost use Rattle.exam_edge.specs.Lent.{IsLent, FailsOnly};
 ghost use Rattle.exam_edge.specs.Images.{AtEachMoment, Grows, IsSettled, latest};
 ghost use Rattle.answer_journal.specs.Frames.{shadowj1, front};
 ghost use Rattle.answer_journal.specs.Outcome.{payloads_after, size_after};
@@ -22,10 +22,8 @@ pub fn write_record<D: Disk>(disk: &mut D, size: u64, frame: &Frame) -> Result<(
         → D.content disk.new ≡ front shadowj1 (payload_list shadowj1 (D.content disk.old) ++ frame.now ∷ []) ++ 0 ∷ []) }
     ensures moments { IsTrue (D.tells disk.old)
         → AtEachMoment (D.accounts disk.old) (D.accounts disk.new) (IsEither shadowj1 (payload_list shadowj1 (D.content disk.old)) frame.now) }
-    ensures grows { D.faults disk.old ≤ D.faults disk.new }
-    ensures failed { OnErr result (Rose (D.faults disk.old) (D.faults disk.new)) }
-    ensures tells { D.tells disk.new ≡ D.tells disk.old }
-    ensures identity { D.identity disk.new ≡ D.identity disk.old }
+    ensures failed { FailsOnly D.faults disk.old disk.new result }
+    ensures frame { IsLent D.tells D.identity D.faults disk.old disk.new }
 {
     write_durably(disk, size, frame.record_bytes())?;
     write_durably(disk, size - 1, &[OPEN])?;
@@ -40,10 +38,8 @@ fn sync_and_read_gate<D: Disk>(disk: &mut D, at: u64) -> Result<bool, Failed>
     ensures content { IsTrue (D.tells disk.old) → D.content disk.new ≡ D.content disk.old }
     ensures settled { OnOk result (IsTrue (D.tells disk.old) → IsSettled (D.content disk.new) (D.accounts disk.new)) }
     ensures crash { IsTrue (D.tells disk.old) → Grows (latest (D.accounts disk.old)) (D.accounts disk.old) (D.accounts disk.new) }
-    ensures grows { D.faults disk.old ≤ D.faults disk.new }
-    ensures failed { OnErr result (Rose (D.faults disk.old) (D.faults disk.new)) }
-    ensures tells { D.tells disk.new ≡ D.tells disk.old }
-    ensures identity { D.identity disk.new ≡ D.identity disk.old }
+    ensures failed { FailsOnly D.faults disk.old disk.new result }
+    ensures frame { IsLent D.tells D.identity D.faults disk.old disk.new }
 {
     disk.sync()?;
     let mut gate = [0u8; 1];
@@ -63,10 +59,8 @@ pub fn resolve_record<D: Disk>(disk: &mut D, size: u64) -> Result<Adopted, Faile
     ensures moments { IsTrue (D.tells disk.old) → (ps : _) (payload : _) (with_it : _)
         → IsInDoubt shadowj1 ps payload (D.accounts disk.old) size with_it
         → AtEachMoment (D.accounts disk.old) (D.accounts disk.new) (IsEither shadowj1 ps payload) }
-    ensures grows { D.faults disk.old ≤ D.faults disk.new }
-    ensures failed { OnErr result (Rose (D.faults disk.old) (D.faults disk.new)) }
-    ensures tells { D.tells disk.new ≡ D.tells disk.old }
-    ensures identity { D.identity disk.new ≡ D.identity disk.old }
+    ensures failed { FailsOnly D.faults disk.old disk.new result }
+    ensures frame { IsLent D.tells D.identity D.faults disk.old disk.new }
 {
     if sync_and_read_gate(disk, size - 1)? {
         return Ok(Adopted::Kept);

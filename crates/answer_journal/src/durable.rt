@@ -1,6 +1,6 @@
 // Changes of a file that are synced at once.
 ghost use Rattle.std.specs.Prelude.{◌≡◌, ◌≤◌, length, take, IsTrue, OnOk, OnErr};
-ghost use Rattle.exam_edge.specs.Faults.{Rose};
+ghost use Rattle.exam_edge.specs.Lent.{IsLent, FailsOnly};
 ghost use Rattle.exam_edge.specs.Images.{Grows, IsSettled, cut_to, latest, overwritten, written};
 
 use exam_edge::{Disk, Failed};
@@ -13,10 +13,8 @@ pub fn write_durably<D: Disk>(disk: &mut D, at: u64, bytes: &[u8]) -> Result<(),
     ensures settled { OnOk result (IsTrue (D.tells disk.old) → IsSettled (D.content disk.new) (D.accounts disk.new)) }
     ensures crash { IsTrue (D.tells disk.old)
         → Grows (written at (length bytes.now) (latest (D.accounts disk.old))) (D.accounts disk.old) (D.accounts disk.new) }
-    ensures grows { D.faults disk.old ≤ D.faults disk.new }
-    ensures failed { OnErr result (Rose (D.faults disk.old) (D.faults disk.new)) }
-    ensures tells { D.tells disk.new ≡ D.tells disk.old }
-    ensures identity { D.identity disk.new ≡ D.identity disk.old }
+    ensures failed { FailsOnly D.faults disk.old disk.new result }
+    ensures frame { IsLent D.tells D.identity D.faults disk.old disk.new }
 {
     disk.write_at(at, bytes)?;
     disk.sync()?;
@@ -31,10 +29,8 @@ pub fn cut_durably<D: Disk>(disk: &mut D, end: u64) -> Result<(), Failed>
     ensures settled { OnOk result (IsTrue (D.tells disk.old) → IsSettled (D.content disk.new) (D.accounts disk.new)) }
     ensures crash { IsTrue (D.tells disk.old)
         → Grows (cut_to end (latest (D.accounts disk.old))) (D.accounts disk.old) (D.accounts disk.new) }
-    ensures grows { D.faults disk.old ≤ D.faults disk.new }
-    ensures failed { OnErr result (Rose (D.faults disk.old) (D.faults disk.new)) }
-    ensures tells { D.tells disk.new ≡ D.tells disk.old }
-    ensures identity { D.identity disk.new ≡ D.identity disk.old }
+    ensures failed { FailsOnly D.faults disk.old disk.new result }
+    ensures frame { IsLent D.tells D.identity D.faults disk.old disk.new }
 {
     disk.cut(end)?;
     disk.sync()?;
@@ -49,10 +45,8 @@ pub fn cut_tail<D: Disk>(disk: &mut D, end: u64, size: u64) -> Result<(), Failed
     ensures settled { OnOk result (IsTrue (D.tells disk.old) → IsSettled (D.content disk.new) (D.accounts disk.new)) }
     ensures crash { IsTrue (D.tells disk.old)
         → Grows (cut_to end (latest (D.accounts disk.old))) (D.accounts disk.old) (D.accounts disk.new) }
-    ensures grows { D.faults disk.old ≤ D.faults disk.new }
-    ensures failed { OnErr result (Rose (D.faults disk.old) (D.faults disk.new)) }
-    ensures tells { D.tells disk.new ≡ D.tells disk.old }
-    ensures identity { D.identity disk.new ≡ D.identity disk.old }
+    ensures failed { FailsOnly D.faults disk.old disk.new result }
+    ensures frame { IsLent D.tells D.identity D.faults disk.old disk.new }
 {
     if end < size {
         cut_durably(disk, end)

@@ -1,6 +1,7 @@
 // The device calls that open a file.
 ghost use Rattle.std.specs.Prelude.{◌≡◌, ◌≢◌, ◌≤◌, ◌<◌, ◌+◌, ◌^◌, [], length, take, map, max, Some, IsTrue, IfOk, IfErr, OnOk, OnErr};
 ghost use Rattle.exam_edge.specs.Faults.{Rose};
+ghost use Rattle.exam_edge.specs.Lent.{IsLent, FailsOnly};
 ghost use Rattle.exam_edge.specs.Images.{AtEachMoment, IsSettled, latest};
 ghost use Rattle.answer_journal.specs.Frames.{shadowj1, payloads};
 ghost use Rattle.answer_journal.specs.OpenFault.{IsOfDevice, IsFramesAnswer, IsAnswerTo};
@@ -21,10 +22,8 @@ fn read_from_start<D: Disk>(disk: &mut D, buffer: &mut [u8]) -> Result<usize, Fa
     ensures all { IfOk result (λ k. IsTrue (D.tells disk.old) → k < length buffer.old → length (D.content disk.old) ≤ k) }
     ensures content { IsTrue (D.tells disk.old) → D.content disk.new ≡ D.content disk.old }
     ensures accounts { IsTrue (D.tells disk.old) → D.accounts disk.new ≡ D.accounts disk.old }
-    ensures grows { D.faults disk.old ≤ D.faults disk.new }
-    ensures failed { OnErr result (Rose (D.faults disk.old) (D.faults disk.new)) }
-    ensures tells { D.tells disk.new ≡ D.tells disk.old }
-    ensures identity { D.identity disk.new ≡ D.identity disk.old }
+    ensures failed { FailsOnly D.faults disk.old disk.new result }
+    ensures frame { IsLent D.tells D.identity D.faults disk.old disk.new }
 {
     let mut at = 0;
     'read_from_start: while at < buffer.len() {
@@ -46,9 +45,7 @@ fn read_file<D: Disk>(alloc: Global, disk: &mut D, size: u64) -> Result<Vec<u8>,
     ensures err { IfErr result (IsOfDevice (Rose (D.faults disk.old) (D.faults disk.new))) }
     ensures content { IsTrue (D.tells disk.old) → D.content disk.new ≡ D.content disk.old }
     ensures accounts { IsTrue (D.tells disk.old) → D.accounts disk.new ≡ D.accounts disk.old }
-    ensures grows { D.faults disk.old ≤ D.faults disk.new }
-    ensures tells { D.tells disk.new ≡ D.tells disk.old }
-    ensures identity { D.identity disk.new ≡ D.identity disk.old }
+    ensures frame { IsLent D.tells D.identity D.faults disk.old disk.new }
 {
     let mut bytes = vec![in alloc; 0u8; size as usize]?;
     match read_from_start(disk, &mut bytes) {
@@ -66,10 +63,8 @@ fn write_header<D: Disk>(disk: &mut D) -> Result<(), Failed>
     ensures rest { OnOk result (IsTrue (D.tells disk.old) → IsAtRest shadowj1 (D.content disk.new) (D.accounts disk.new) 9 × (payload_list shadowj1 (D.content disk.new) ≡ [])) }
     ensures content { OnOk result (IsTrue (D.tells disk.old) → D.content disk.new ≡ opened_file shadowj1 (D.content disk.old) 9) }
     ensures moments { IsTrue (D.tells disk.old) → AtEachMoment (D.accounts disk.old) (D.accounts disk.new) (λ file. payloads shadowj1 file ≡ Some []) }
-    ensures grows { D.faults disk.old ≤ D.faults disk.new }
-    ensures failed { OnErr result (Rose (D.faults disk.old) (D.faults disk.new)) }
-    ensures tells { D.tells disk.new ≡ D.tells disk.old }
-    ensures identity { D.identity disk.new ≡ D.identity disk.old }
+    ensures failed { FailsOnly D.faults disk.old disk.new result }
+    ensures frame { IsLent D.tells D.identity D.faults disk.old disk.new }
 {
     write_durably(disk, 0, &EMPTY_JOURNAL)?;
     Ok(())
@@ -84,10 +79,8 @@ fn end_file<D: Disk>(disk: &mut D, end: u64, size: u64, read: &[Payload]) -> Res
         × (payload_list shadowj1 (D.content disk.new) ≡ map bytes_of read.now)) }
     ensures content { OnOk result (IsTrue (D.tells disk.old) → D.content disk.new ≡ take (end + 1) (D.content disk.old)) }
     ensures moments { IsTrue (D.tells disk.old) → AtEachMoment (D.accounts disk.old) (D.accounts disk.new) (λ file. payloads shadowj1 file ≡ Some (map bytes_of read.now)) }
-    ensures grows { D.faults disk.old ≤ D.faults disk.new }
-    ensures failed { OnErr result (Rose (D.faults disk.old) (D.faults disk.new)) }
-    ensures tells { D.tells disk.new ≡ D.tells disk.old }
-    ensures identity { D.identity disk.new ≡ D.identity disk.old }
+    ensures failed { FailsOnly D.faults disk.old disk.new result }
+    ensures frame { IsLent D.tells D.identity D.faults disk.old disk.new }
 {
     let _ = read.len();
     cut_tail(disk, end + 1, size)?;
@@ -113,9 +106,7 @@ fn open_frames<D: Disk>(
     ensures untouched { IfErr result (λ e. e ≢ OpenFault.Disk → IsTrue (D.tells disk.old) → D.content disk.new ≡ D.content disk.old) }
     ensures cause { IfErr result (λ e. e ≡ OpenFault.Disk → Rose (D.faults disk.old) (D.faults disk.new)) }
     ensures moments { IsTrue (D.tells disk.old) → AtEachMoment (D.accounts disk.old) (D.accounts disk.new) (λ file. payloads shadowj1 file ≡ payloads shadowj1 (D.content disk.old)) }
-    ensures grows { D.faults disk.old ≤ D.faults disk.new }
-    ensures tells { D.tells disk.new ≡ D.tells disk.old }
-    ensures identity { D.identity disk.new ≡ D.identity disk.old }
+    ensures frame { IsLent D.tells D.identity D.faults disk.old disk.new }
 {
     let bytes = match read_file(alloc, disk, size) {
         Ok(bytes) => bytes,
@@ -154,9 +145,7 @@ pub fn open_file<D: Disk>(
     ensures cause { IfErr result (λ e. e ≡ OpenFault.Disk → Rose (D.faults disk.old) (D.faults disk.new)) }
     ensures moments { IsTrue (D.tells disk.old) → AtEachMoment (D.accounts disk.old) (D.accounts disk.new)
         (IsImageOrGives shadowj1 (latest (D.accounts disk.old)) (D.content disk.old)) }
-    ensures grows { D.faults disk.old ≤ D.faults disk.new }
-    ensures tells { D.tells disk.new ≡ D.tells disk.old }
-    ensures identity { D.identity disk.new ≡ D.identity disk.old }
+    ensures frame { IsLent D.tells D.identity D.faults disk.old disk.new }
 {
     match disk.sync() {
         Ok(()) => {}

@@ -56,7 +56,7 @@ returns-then-branch-clause-gate g c = λ told.
 
 pub cut_durably-requires : goal.cut_durably-requires
 cut_durably-requires g c = λ told1.
-    let told = sym c.sync_and_read_gate.ensures.tells ∙ told1 in
+    let told = sym c.sync_and_read_gate.ensures.frame.tells ∙ told1 in
     let some = c.requires.doubt told in
     let ps = some.0 in
     let p = some.1 in
@@ -79,7 +79,7 @@ returns-in_err-cut_durably-clause-moments g c = λ told ps p n d.
     let in_file : size - 1 < length c0 = omega (arith, bounds, c.requires.some) in
     let gate_is : c.in_ok-sync_and_read_gate.field-0 ≡ (get_or c0 (size - 1) 0 == 1) = c.in_ok-sync_and_read_gate.ensures.gate told in_file in
     let synced = still (IsEither shadowj1 ps p) a0 a0 (g.D.Disk.accounts c.sync_and_read_gate.new.disk) (at_start shadowj1 c0 a0 image size ps p n d) (c.sync_and_read_gate.ensures.crash told) in
-    let told1 = c.sync_and_read_gate.ensures.tells ∙ told in
+    let told1 = c.sync_and_read_gate.ensures.frame.tells ∙ told in
     let c1 = g.D.Disk.content c.sync_and_read_gate.new.disk in
     let a1 = g.D.Disk.accounts c.sync_and_read_gate.new.disk in
     let same1 = c.sync_and_read_gate.ensures.content told in
@@ -97,7 +97,7 @@ returns-clause-moments g c = λ told ps p n d.
     let in_file : size - 1 < length c0 = omega (arith, bounds, c.requires.some) in
     let gate_is : c.in_ok-sync_and_read_gate.field-0 ≡ (get_or c0 (size - 1) 0 == 1) = c.in_ok-sync_and_read_gate.ensures.gate told in_file in
     let synced = still (IsEither shadowj1 ps p) a0 a0 (g.D.Disk.accounts c.sync_and_read_gate.new.disk) (at_start shadowj1 c0 a0 image size ps p n d) (c.sync_and_read_gate.ensures.crash told) in
-    let told1 = c.sync_and_read_gate.ensures.tells ∙ told in
+    let told1 = c.sync_and_read_gate.ensures.frame.tells ∙ told in
     let c1 = g.D.Disk.content c.sync_and_read_gate.new.disk in
     let a1 = g.D.Disk.accounts c.sync_and_read_gate.new.disk in
     let same1 = c.sync_and_read_gate.ensures.content told in
@@ -114,7 +114,7 @@ returns-clause-rest g c = λ told ps p n d.
     let bounds = long shadowj1 c0 a0 image size ps p n d in
     let in_file : size - 1 < length c0 = omega (arith, bounds, c.requires.some) in
     let gate_is : c.in_ok-sync_and_read_gate.field-0 ≡ (get_or c0 (size - 1) 0 == 1) = c.in_ok-sync_and_read_gate.ensures.gate told in_file in
-    let told1 = c.sync_and_read_gate.ensures.tells ∙ told in
+    let told1 = c.sync_and_read_gate.ensures.frame.tells ∙ told in
     let c1 = g.D.Disk.content c.sync_and_read_gate.new.disk in
     let a1 = g.D.Disk.accounts c.sync_and_read_gate.new.disk in
     let same1 = c.sync_and_read_gate.ensures.content told in

@@ -27,7 +27,7 @@ returns-in-Ok-end_file-clause-moments g c = λ told.
     let a1 = g.D.Disk.accounts c.end_file.new.disk in
     let gives : payloads shadowj1 c0 ≡ Some (map bytes_of c.in-Ok-read_frames.found.0.items) =
     ap (payloads shadowj1) (sym (c.deref.ensures.value ∙ c.in-Ok.ensures.bytes told)) ∙ c.in-Ok-read_frames.ensures.ok.gives in
-    let cut_moments = c.end_file.ensures.moments (c.read_file.ensures.tells ∙ told) in
+    let cut_moments = c.end_file.ensures.moments (c.read_file.ensures.frame.tells ∙ told) in
     let Q : List ℕ → Type 0 = λ file. payloads shadowj1 file ≡ Some (map bytes_of c.in-Ok-read_frames.found.0.items) in
     let cut_at : AtEachMoment (g.D.Disk.accounts c.read_file.new.disk) a1 Q = rw c.deref-2.ensures.value at cut_moments in
     weaker Q P (λ file is. is ∙ sym gives) a0 a1 (subst (λ (l : List Account). AtEachMoment l a1 Q) (c.read_file.ensures.accounts told) cut_at)
@@ -40,7 +40,7 @@ returns-clause-moments g c = λ told.
     let a1 = g.D.Disk.accounts c.end_file.new.disk in
     let gives : payloads shadowj1 c0 ≡ Some (map bytes_of c.in-Ok-read_frames.found.0.items) =
     ap (payloads shadowj1) (sym (c.deref.ensures.value ∙ c.in-Ok.ensures.bytes told)) ∙ c.in-Ok-read_frames.ensures.ok.gives in
-    let cut_moments = c.end_file.ensures.moments (c.read_file.ensures.tells ∙ told) in
+    let cut_moments = c.end_file.ensures.moments (c.read_file.ensures.frame.tells ∙ told) in
     let Q : List ℕ → Type 0 = λ file. payloads shadowj1 file ≡ Some (map bytes_of c.in-Ok-read_frames.found.0.items) in
     let cut_at : AtEachMoment (g.D.Disk.accounts c.read_file.new.disk) a1 Q = rw c.deref-2.ensures.value at cut_moments in
     weaker Q P (λ file is. is ∙ sym gives) a0 a1 (subst (λ (l : List Account). AtEachMoment l a1 Q) (c.read_file.ensures.accounts told) cut_at)

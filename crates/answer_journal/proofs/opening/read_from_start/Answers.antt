@@ -13,12 +13,14 @@ read_from_start-preserved g c =
     record {
       within = room c.read_from_start.buffer c.read.new.buffer a n k i.within some;
       read = λ told.
-          let told1 = i.tells ∙ told in
+          let told1 = i.frame.tells ∙ told in
           let piece = (c.in_ok-count.ensures.bytes told1).bytes ∙ ap (λ (f : List ℕ). take n (drop a f)) (i.content told) in
           more c.read_from_start.buffer c.read.new.buffer a n k i.within some file (i.read told) piece;
-      content = λ told. c.read.ensures.content (i.tells ∙ told) ∙ i.content told;
-      accounts = λ told. c.read.ensures.crash (i.tells ∙ told) ∙ i.accounts told;
-      grows = omega (arith, i.grows, c.read.ensures.grows);
-      tells = c.read.ensures.tells ∙ i.tells;
-      identity = c.read.ensures.identity ∙ i.identity;
+      content = λ told. c.read.ensures.content (i.frame.tells ∙ told) ∙ i.content told;
+      accounts = λ told. c.read.ensures.crash (i.frame.tells ∙ told) ∙ i.accounts told;
+      frame = record {
+        grows = omega (arith, i.frame.grows, c.read.ensures.grows);
+        tells = c.read.ensures.tells ∙ i.frame.tells;
+        identity = c.read.ensures.identity ∙ i.frame.identity;
+      };
     }

@@ -1,4 +1,5 @@
 use Rattle.std.proofs.Common.{◌≡◌, ◌-◌, ◌≤◌, IsTrue, length, take}
+use Rattle.exam_edge.specs.Lent.{IsLent}
 use Rattle.answer_journal.proofs.opening.read_from_start.Given as goal
 
 abbrev pub invariant-read_from_start : goal.invariant-read_from_start
@@ -7,9 +8,7 @@ invariant-read_from_start g l = record {
   read : IsTrue (g.D.Disk.tells l.fn.disk) → take l.at l.buffer ≡ take l.at (g.D.Disk.content l.fn.disk);
   content : IsTrue (g.D.Disk.tells l.fn.disk) → g.D.Disk.content l.disk ≡ g.D.Disk.content l.fn.disk;
   accounts : IsTrue (g.D.Disk.tells l.fn.disk) → g.D.Disk.accounts l.disk ≡ g.D.Disk.accounts l.fn.disk;
-  grows : g.D.Disk.faults l.fn.disk ≤ g.D.Disk.faults l.disk;
-  tells : g.D.Disk.tells l.disk ≡ g.D.Disk.tells l.fn.disk;
-  identity : g.D.Disk.identity l.disk ≡ g.D.Disk.identity l.fn.disk;
+  frame : IsLent g.D.Disk.tells g.D.Disk.identity g.D.Disk.faults l.fn.disk l.disk;
 }
 
 abbrev pub decreases-read_from_start : goal.decreases-read_from_start

@@ -26,7 +26,7 @@ returns-in-Err-clause-doubt g c =
       doubt = refl;
       with_is = with_is;
       is = λ told1.
-          let told = sym c.write_record.ensures.tells ∙ told1 in
+          let told = sym c.write_record.ensures.frame.tells ∙ told1 in
           in_doubt shadowj1 (g.D.Disk.content j.disk) (g.D.Disk.accounts j.disk) j.size (ready.rest told) c.args.frame.now (g.D.Disk.accounts c.write_record.new.disk) (j.size + length c.record_bytes.result.now) c.record_bytes.ensures.fits with_is (c.write_record.ensures.moments told);
     })
 

@@ -19,7 +19,7 @@ returns-in-Ok-clause-ready g c =
     record {
       sure = refl;
       rest = λ told1.
-          let told = sym c.resolve_record.ensures.tells ∙ told1 in
+          let told = sym c.resolve_record.ensures.frame.tells ∙ told1 in
           subst (λ (n : ℕ). IsAtRest shadowj1 (g.D.Disk.content c.resolve_record.new.disk) (g.D.Disk.accounts c.resolve_record.new.disk) n) size_is (c.in-Ok.ensures.rest told ps payload d.with_it (d.is told)).0;
     }
 
@@ -48,7 +48,7 @@ returns-in-Err-clause-still g c =
       doubt = d.doubt;
       with_is = d.with_is;
       is = λ told1.
-          let told = sym c.resolve_record.ensures.tells ∙ told1 in
+          let told = sym c.resolve_record.ensures.frame.tells ∙ told1 in
           doubtful_still shadowj1 ps payload (g.D.Disk.accounts j.disk) (g.D.Disk.accounts c.resolve_record.new.disk) j.size d.with_it (d.is told) (c.resolve_record.ensures.moments told ps payload d.with_it (d.is told));
     })
 
