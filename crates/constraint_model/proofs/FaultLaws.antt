@@ -1,5 +1,5 @@
 -- The first fault of a draft.
-use Rattle.std.proofs.Common.{◌≡◌, ℕ, zero, suc, Bool, true, false, Option, Some, None, List, length, get_or, ◌+◌, subst}
+use Rattle.std.proofs.Common.{◌≡◌, ℕ, zero, suc, Bool, true, false, Option, Some, None, List, length, get_or, ◌+◌, subst, refl}
 use Rattle.exam_text.specs.First.{fault_where, ◌orelse◌, first_below}
 use Rattle.bank_tables.specs.Tables.{Tables}
 use Rattle.exam_model.specs.declared.row.Row.{Row}
@@ -68,3 +68,11 @@ pub numbers_first : (b : Tables) (plan : Plan) (fault : SpecFault) → numbers_f
 numbers_first b plan (BadBase breach) e = absurd ((numbers_give b plan).each (BadBase breach) e)
 numbers_first b plan Memory e = (numbers_give b plan).each Memory e
 numbers_first b plan fault e = e
+
+-- past the tests of the front only the others are left
+pub after_front : (b : Tables) (plan : Plan) → front_fault b plan ≡ None → numbers_fault b plan ≡ (bounds_fault b plan orelse limits_fault plan)
+after_front b plan e = rw e refl
+
+-- a fault of the front is the first
+pub front_first : (b : Tables) (plan : Plan) (fault : SpecFault) → front_fault b plan ≡ Some fault → IsSpecFault b plan fault
+front_first b plan fault e = numbers_first b plan fault (rw e refl)

@@ -1,9 +1,10 @@
 //! Whether a set of items is a form.
 
-ghost use Rattle.std.specs.Prelude.{◌≡◌};
+ghost use Rattle.std.specs.Prelude.{◌≡◌, ◌↔◌, IsTrue};
 ghost use Rattle.bank_tables.specs.Items.{has};
 ghost use Rattle.bank_tables.specs.Validity.{HoldsItems};
 ghost use Rattle.exam_model.specs.Breaches.{IsFirstBreach};
+ghost use Rattle.exam_model.specs.Forms.{Form};
 ghost use Rattle.exam_model.specs.Validity.{IsWellMade};
 ghost use Rattle.constraint_model.specs.Views.{problem_of};
 ghost use Rattle.constraint_model.specs.Countable.{IsCountable};
@@ -105,4 +106,12 @@ pub fn meets(problem: &Problem, form: &ItemSet) -> Option<Breach>
         return Some(Breach::Barred(item));
     }
     None
+}
+
+/// Whether the set is a form of the problem.
+pub fn is_form(problem: &Problem, form: &ItemSet) -> bool
+    requires { IsWellMade (problem_of problem.now) }
+    ensures { IsTrue result ↔ Form (problem_of problem.now) (has form.now) }
+{
+    meets(problem, form).is_none()
 }

@@ -1,15 +1,17 @@
 //! The tests that a draft must pass to be a plan for an item bank.
 
-ghost use Rattle.std.specs.Prelude.{◌≡◌, ◌≤◌, length, MatchOption};
+ghost use Rattle.std.specs.Prelude.{◌≡◌, ◌≤◌, length, None, MatchOption};
+ghost use Rattle.exam_text.specs.First.{◌orelse◌};
 ghost use Rattle.std.specs.List.{list_all};
 ghost use Rattle.bank_tables.specs.Faults.{is_loglik};
 ghost use Rattle.exam_model.specs.Forms.{stimuli_of};
 ghost use Rattle.exam_model.specs.Validity.{IsPlanFor};
 ghost use Rattle.constraint_model.specs.Countable.{IsCountable};
-ghost use Rattle.constraint_model.specs.Faults.{is_empty, has_unknown, range_fault, set_fault, quantity_fault, row_fault, rows_fault, is_prior, front_fault, bound_fault, bounds_fault, is_rate, is_budget, limits_fault, numbers_fault, IsBaseFault, IsSpecFault};
+ghost use Rattle.constraint_model.specs.Faults.{is_empty, has_unknown, range_fault, set_fault, quantity_fault, row_fault, rows_fault, is_prior, front_fault, bound_fault, bounds_fault, is_rate, is_budget, limits_fault, IsBaseFault, IsSpecFault};
 
 use crate::breaches::plan_breach;
 use crate::spec_fault::SpecFault;
+use bank_tables::limits::{ITEMS, JOURNAL, NODES, ROWS, SESSIONS, STIMULI};
 use bank_tables::{Bank, ItemSet};
 use exam_model::{Breach, Draft, Rate, Row, StimulusBound};
 
@@ -61,7 +63,7 @@ fn row_fault(bank: &Bank, r: u8, row: &Row) -> Option<SpecFault>
 {
     match row {
         Row::Count { set, low, high } => {
-            if let Some(fault) = range_fault(r, *low, *high, 512) {
+            if let Some(fault) = range_fault(r, *low, *high, ITEMS as u32) {
                 return Some(fault);
             }
             set_fault(bank, r, set)
@@ -81,7 +83,7 @@ fn row_fault(bank: &Bank, r: u8, row: &Row) -> Option<SpecFault>
             quantity_fault(bank, r, *which)
         }
         Row::Enemies { set } => set_fault(bank, r, set),
-        Row::Stimuli { low, high } => range_fault(r, *low, *high, 64),
+        Row::Stimuli { low, high } => range_fault(r, *low, *high, STIMULI as u32),
     }
 }
 
@@ -124,7 +126,7 @@ pub fn front_fault(bank: &Bank, draft: &Draft) -> Option<SpecFault>
     if !is_prior(bank, draft) {
         return Some(SpecFault::BadPrior);
     }
-    if draft.rows.as_slice().len() > 128 {
+    if draft.rows.as_slice().len() > ROWS as usize {
         return Some(SpecFault::TooManyRows);
     }
     rows_fault(bank, draft)
@@ -133,7 +135,7 @@ pub fn front_fault(bank: &Bank, draft: &Draft) -> Option<SpecFault>
 fn bound_fault(stimulus: u8, bound: &StimulusBound) -> Option<SpecFault>
     ensures { result ≡ bound_fault stimulus bound.now }
 {
-    if bound.low == 0 || bound.low > bound.high || bound.high > 512 {
+    if bound.low == 0 || bound.low > bound.high || bound.high > ITEMS as u32 {
         return Some(SpecFault::BadStimulus(stimulus));
     }
     None
@@ -178,7 +180,7 @@ fn is_rate(rate: Rate) -> bool
 fn is_budget(nodes: u32) -> bool
     ensures { result ≡ is_budget nodes }
 {
-    nodes % 2 == 1 && nodes <= 4_095
+    nodes % 2 == 1 && nodes <= NODES as u32
 }
 
 /// The first fault of a draft's exposure rate, node budgets and limits.
@@ -193,9 +195,9 @@ fn limits_fault(draft: &Draft) -> Option<SpecFault>
         return Some(SpecFault::BadBudget);
     }
     if draft.sessions < 1
-        || draft.sessions > 65_536
+        || draft.sessions > SESSIONS
         || draft.journal < 64
-        || draft.journal > 536_870_912
+        || draft.journal > JOURNAL
     {
         return Some(SpecFault::BadLimit);
     }
@@ -213,28 +215,36 @@ fn base_breach(bank: &Bank, draft: &Draft) -> Option<Breach>
     }
 }
 
-/// The first fault of all but the base.
-fn numbers_fault(bank: &Bank, draft: &Draft) -> Option<SpecFault>
-    ensures { result ≡ numbers_fault bank.now draft.now }
+/// The first fault of a draft's bounds and limits.
+fn end_fault(bank: &Bank, draft: &Draft) -> Option<SpecFault>
+    ensures { result ≡ (bounds_fault bank.now draft.now orelse limits_fault draft.now) }
 {
-    if let Some(fault) = front_fault(bank, draft) {
-        return Some(fault);
-    }
     if let Some(fault) = bounds_fault(bank, draft) {
         return Some(fault);
     }
     limits_fault(draft)
 }
 
-/// The first fault of a draft, or none where it is a plan for the bank.
-pub fn first_fault(bank: &Bank, draft: &Draft) -> Option<SpecFault>
+/// The first fault of a draft whose length, prior and rows have none, or none where it is a plan for the bank.
+pub fn remaining_fault(bank: &Bank, draft: &Draft) -> Option<SpecFault>
+    requires { front_fault bank.now draft.now ≡ None }
     ensures { MatchOption result (IsPlanFor bank.now draft.now) (IsSpecFault bank.now draft.now) }
 {
-    if let Some(fault) = numbers_fault(bank, draft) {
+    if let Some(fault) = end_fault(bank, draft) {
         return Some(fault);
     }
     match base_breach(bank, draft) {
         Some(breach) => Some(SpecFault::BadBase(breach)),
         None => None,
     }
+}
+
+/// The first fault of a draft, or none where it is a plan for the bank.
+pub fn first_fault(bank: &Bank, draft: &Draft) -> Option<SpecFault>
+    ensures { MatchOption result (IsPlanFor bank.now draft.now) (IsSpecFault bank.now draft.now) }
+{
+    if let Some(fault) = front_fault(bank, draft) {
+        return Some(fault);
+    }
+    remaining_fault(bank, draft)
 }

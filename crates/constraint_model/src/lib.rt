@@ -3,11 +3,13 @@
 //! Upward it promises that `Spec::of` takes exactly the drafts that are valid for the bank, else names the first fault in a
 //! stated order; that `meets` finds none exactly where a set is a form, else the first breach with the value found; that
 //! `objective` is the information of a set at the estimate; and that `Problem::whole` is the plan's problem at the mode of
-//! its prior. It reads no text, searches for no form, and takes no memory.
+//! its prior. It reads no text, searches for no form, and takes no memory but for the text of a fault. Threads may share a
+//! plan.
 #![tactic(auto)]
 
 mod breaches;
 mod counts;
+mod fault_text;
 mod faults;
 mod information;
 pub mod laws;
@@ -15,7 +17,7 @@ mod problem;
 mod spec;
 mod spec_fault;
 
-pub use breaches::meets;
+pub use breaches::{is_form, meets};
 pub use exam_model::{Breach, Draft, Rate, Row, StimulusBound};
 pub use faults::front_fault;
 pub use information::objective;

@@ -1,5 +1,6 @@
 //! The problem of assembling a form.
 
+ghost use Rattle.std.specs.Prelude.{◌≡◌};
 ghost use Rattle.exam_model.specs.Validity.{IsPlanFor, IsWellMade, IsWhole};
 ghost use Rattle.constraint_model.specs.Views.{problem_of};
 
@@ -49,6 +50,25 @@ impl<'a> Problem<'a> {
             theta: Sums::of_prior(spec.prior()).mode(),
             last: None,
             start: None,
+        }
+    }
+
+    /// The same problem, made anew from its parts. A function that keeps a problem takes it by this call, since no proof is
+    /// generated where a parameter that holds references is moved as a whole.
+    pub fn again(&self) -> Problem<'a>
+        ensures { result ≡ self.now }
+    {
+        Problem {
+            bank: self.bank,
+            spec: self.spec,
+            session: self.session,
+            step: self.step,
+            aside: self.aside,
+            given: self.given,
+            barred: self.barred,
+            theta: self.theta,
+            last: self.last,
+            start: self.start,
         }
     }
 }

@@ -1,10 +1,11 @@
 //! A plan that was tested against an item bank.
 
-ghost use Rattle.std.specs.Prelude.{◌≡◌, IfOk, IfErr};
+ghost use Rattle.std.specs.Prelude.{◌≡◌, None, IfOk, IfErr};
 ghost use Rattle.exam_model.specs.Validity.{IsPlanFor};
-ghost use Rattle.constraint_model.specs.Faults.{IsSpecFault};
+ghost use Rattle.constraint_model.specs.Faults.{front_fault, IsSpecFault};
+ghost use Rattle.exam_text.specs.Keys.{IsKey};
 
-use crate::faults::first_fault;
+use crate::faults::{first_fault, remaining_fault};
 use crate::spec_fault::SpecFault;
 use bank_tables::{Bank, ItemSet};
 use exam_model::{Draft, Rate, Row, StimulusBound};
@@ -19,15 +20,27 @@ pub struct Spec {
 
 impl Model for Spec {
     ghost use Rattle.exam_model.specs.Plan.{Plan};
+    ghost use Rattle.exam_text.specs.Keys.{IsKey};
 
     ghost Value = { Plan };
 
     ghost view = { λ s. s.draft };
+
+    ghost invariant = { λ s. IsKey s.draft.key };
+}
+
+/// What the type of a key says of it.
+fn facts_of_key(key: &[u8; 32])
+    ensures { IsKey key.now }
+{
+    for i in 0..32 {
+        prove!(key[i] <= 255);
+    }
 }
 
 impl Spec {
     /// The plan of a draft, valid for the bank, or the draft's first fault: the tests go in the order of `SpecFault`'s
-    /// variants. It takes no memory of its own, so `SpecFault::Memory` doesn't come.
+    /// variants. It takes no memory of its own, so `SpecFault::Memory` is never given.
     pub fn of(_alloc: Global, bank: &Bank, draft: Draft) -> Result<Spec, SpecFault>
         ensures same { IfOk result (λ spec. spec ≡ draft) }
         ensures valid { IfOk result (λ spec. IsPlanFor bank.now spec) }
@@ -35,7 +48,27 @@ impl Spec {
     {
         match first_fault(bank, &draft) {
             Some(fault) => Err(fault),
-            None => Ok(Spec { draft }),
+            None => Ok(Spec::tested(draft)),
+        }
+    }
+
+    fn tested(draft: Draft) -> Spec
+        ensures { result ≡ draft }
+    {
+        facts_of_key(&draft.key);
+        Spec { draft }
+    }
+
+    /// The same of a draft whose length, prior and rows `front_fault` has tested; they are not tested again.
+    pub fn of_tested(bank: &Bank, draft: Draft) -> Result<Spec, SpecFault>
+        requires { front_fault bank.now draft ≡ None }
+        ensures same { IfOk result (λ spec. spec ≡ draft) }
+        ensures valid { IfOk result (λ spec. IsPlanFor bank.now spec) }
+        ensures fault { IfErr result (λ fault. IsSpecFault bank.now draft fault) }
+    {
+        match remaining_fault(bank, &draft) {
+            Some(fault) => Err(fault),
+            None => Ok(Spec::tested(draft)),
         }
     }
 
@@ -83,7 +116,8 @@ impl Spec {
 
     /// The key of the eligibility draw.
     pub fn key(&self) -> &[u8; 32]
-        ensures { result.now ≡ self.now.key }
+        ensures value { result.now ≡ self.now.key }
+        ensures bytes { IsKey self.now.key }
     {
         &self.draft.key
     }
@@ -122,4 +156,12 @@ impl Spec {
     {
         self.draft.base
     }
+}
+
+/// Threads may move and share a value of this type.
+fn may_be_shared<T: Send + Sync>() {}
+
+/// Threads may move and share a plan.
+fn a_plan_may_be_shared() {
+    may_be_shared::<Spec>()
 }
