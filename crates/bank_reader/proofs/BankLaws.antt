@@ -3,7 +3,7 @@ use Rattle.std.proofs.Common.{◌≡◌, ℕ, ◌+◌, ◌-◌, ◌<◌, ◌≤�
 use Rattle.std.specs.Prelude.{IfOk, IfErr, nat_lt}
 use Rattle.std.specs.Option.{option_map}
 use Rattle.std.proofs.lemmas.Bool.{ltb-false, ltb-true, le-ltb, lt-ltb}
-use Rattle.exam_text.specs.First.{◌>>=◌, unless, fault_where, each_below, Gives}
+use Rattle.exam_text.specs.First.{fault_where, each_below, Gives}
 use Rattle.exam_text.proofs.Firsts.{bind_ok, unless_ok, none_where, ok_is, each_is, each_from}
 use Rattle.bank_reader.specs.declared.fault.ReadFault.{ReadFault}
 use Rattle.bank_reader.specs.declared.fault.ReadFault.TheVariants.{Source, TooLong, Header, Csv, Field, Bank, Memory}
@@ -72,6 +72,10 @@ pub text_again : (text : List ℕ) (b : Tables) → IsBankText text b → bank_o
 unfolding bank_of
 text_again text b h =
     rw (le-ltb longest (length text) h.short, rows_again (records_of text) b h.rows, bank_from b h.bank) refl
+
+-- a text is of one bank
+pub one_bank : (text : List ℕ) (a b : Tables) → IsBankText text a → IsBankText text b → a ≡ b
+one_bank text a b ha hb = ok_is {F = ReadFault} a b (sym (text_again text a ha) ∙ text_again text b hb)
 
 ok_or_err : {A : Type 0} (x : A) (e : ReadFault) → (let r : Result A ReadFault = Ok x in r ≡ Err e) → ⊥
 ok_or_err x e h = cc

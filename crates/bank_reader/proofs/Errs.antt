@@ -1,6 +1,6 @@
 -- Taking a fault apart: which step gave it.
-use Rattle.std.proofs.Common.{◌≡◌, ℕ, zero, suc, ◌+◌, ◌<◌, ◌⊎◌, inl, inr, Bool, true, false, List, [], ◌∷◌, ◌++◌, Option, Some, None, Result, Ok, Err, refl, sym, ap, subst, ◌∙◌, arith}
-use Rattle.exam_text.specs.First.{◌>>=◌, unless, or_fault, fault_where, each_below, first_below, IsFirst}
+use Rattle.std.proofs.Common.{◌≡◌, ℕ, zero, suc, ◌<◌, ◌⊎◌, inl, inr, Bool, true, false, List, [], ◌∷◌, ◌++◌, Option, Some, None, Result, Ok, Err, refl, ap, arith}
+use Rattle.exam_text.specs.First.{◌>>=◌, unless, or_fault, fault_where, each_below}
 
 abbrev pub refuse : {A F : Type 0} → F → Result A F
 refuse e = Err e

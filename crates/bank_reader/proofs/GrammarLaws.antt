@@ -1,10 +1,9 @@
 -- What is read is in the grammar, and what is in the grammar is read.
-use Rattle.std.proofs.Common.{◌≡◌, ℕ, suc, ◌+◌, ◌-◌, ◌*◌, ◌^◌, ◌<◌, ◌≤◌, Bool, true, false, not, cond, eqb, ltb, List, [], length, get_or, min, Option, Some, None, Result, Ok, Err, ℤ, pos, refl, sym, ap, subst, ◌∙◌, arith}
+use Rattle.std.proofs.Common.{◌≡◌, ℕ, ◌+◌, ◌-◌, ◌*◌, true, not, eqb, List, length, get_or, min, Option, Some, None, Ok, ℤ, pos, refl, ap, subst, ◌∙◌, arith}
 use Rattle.std.specs.Prelude.{nat_lt}
-use Rattle.std.proofs.lemmas.Bool.{not-false, eqb-true, eq-eqb, ltb-false, le-ltb}
-use Rattle.std.specs.Fmt.{decimal, signed_decimal}
+use Rattle.std.proofs.lemmas.Bool.{not-false, eqb-true, eq-eqb, ltb-false}
 use Rattle.exam_text.specs.Numbers.{number_of, signed_of}
-use Rattle.exam_text.specs.First.{◌>>=◌, unless, or_fault, fault_where, each_below, first_below}
+use Rattle.exam_text.specs.First.{or_fault, fault_where}
 use Rattle.exam_text.proofs.Numerals.{number_is, number_again, signed_is, signed_again}
 use Rattle.exam_text.proofs.Firsts.{bind_ok, unless_ok, or_fault_ok, none_where, ok_is, each_is, each_from, none_each, none_from}
 use Rattle.bank_reader.specs.declared.fault.ReadFault.{ReadFault}

@@ -1,8 +1,7 @@
 -- A header is read, and columns that are none are refused where they depart from every header.
-use Rattle.std.proofs.Common.{◌≡◌, ℕ, zero, suc, ◌+◌, ◌*◌, ◌/◌, ◌%◌, ◌<◌, ◌≤◌, Bool, true, false, not, cond, eqb, ltb, ◌&&◌, List, [], ◌∷◌, length, get_or, Result, Ok, Err, refl, sym, ap, subst, ◌∙◌, arith, inl, inr, ◌⊎◌, add-one}
+use Rattle.std.proofs.Common.{◌≡◌, ℕ, zero, suc, ◌+◌, ◌*◌, ◌/◌, ◌%◌, ◌<◌, ◌≤◌, Bool, true, false, not, cond, eqb, ◌&&◌, List, [], ◌∷◌, length, get_or, Result, Ok, Err, refl, sym, ap, subst, ◌∙◌, arith, inl, inr, add-one}
 use Rattle.std.specs.Prelude.{nat_lt, nat_le, codes}
-use Rattle.std.specs.Str.{bytes_eq}
-use Rattle.std.proofs.lemmas.Bool.{and_parts, and_from, eqb-true, eqb-false, eq-eqb, ne_eqb, ltb-false, ltb-true, lt-ltb, le-ltb, le-leb, cases_Bool, cases_lt, cases_eq, false≢true}
+use Rattle.std.proofs.lemmas.Bool.{and_from, eqb-true, eqb-false, eq-eqb, ne_eqb, ltb-false, ltb-true, le-leb, cases_Bool, cases_lt, cases_eq, false≢true}
 use Rattle.std.proofs.Math.Nat.{mul-div_left, mul-mod_left, mul-le-mul_right}
 use Rattle.std.proofs.lemmas.List.{get_or_past}
 use Rattle.std.proofs.lemmas.Slice.Eq.{bytes_eq-Decides}
@@ -10,7 +9,7 @@ use Rattle.std.specs.Fmt.{decimal}
 use Rattle.bank_reader.specs.declared.fault.ReadFault.{ReadFault}
 use Rattle.bank_reader.specs.declared.fault.ReadFault.TheVariants.{Header}
 use Rattle.bank_reader.specs.declared.item.Shape.{Shape}
-use Rattle.bank_reader.specs.Columns.{field, first_loglik, width, quantity_name, point_name, loglik_name, name_of, IsShape}
+use Rattle.bank_reader.specs.Columns.{field, first_loglik, width, quantity_name, point_name, loglik_name, IsShape}
 use Rattle.bank_reader.specs.Reading.{lead, is_named, leading_fixed, leading_quantities, leading_points, leading_loglik, header_of}
 use Rattle.bank_reader.specs.Grammar.{IsHeader, BeginsAs, IsHeaderFault}
 use Rattle.bank_reader.proofs.Leads.{lead_stops, lead_more}

@@ -1,16 +1,14 @@
 -- A header that is read has the names of its shape.
-use Rattle.std.proofs.Common.{◌≡◌, ℕ, zero, suc, ◌+◌, ◌*◌, ◌/◌, ◌%◌, ◌<◌, ◌≤◌, Bool, true, false, not, cond, eqb, ltb, ◌&&◌, List, [], ◌∷◌, length, get_or, Result, Ok, Err, refl, sym, ap, subst, ◌∙◌, arith, inl, inr, ◌⊎◌, add-zero}
+use Rattle.std.proofs.Common.{◌≡◌, ℕ, zero, suc, ◌+◌, ◌*◌, ◌/◌, ◌%◌, ◌<◌, ◌≤◌, Bool, true, false, not, cond, eqb, ◌&&◌, List, [], length, get_or, Result, Ok, Err, refl, sym, ap, subst, ◌∙◌, arith, inl, inr, ◌⊎◌, add-zero}
 use Rattle.std.specs.Prelude.{nat_lt, nat_le, codes}
-use Rattle.std.specs.Str.{bytes_eq}
 use Rattle.std.proofs.lemmas.Bool.{and_parts, eqb-true, eqb-false, ltb-false, leb-true, cases_Bool}
 use Rattle.std.proofs.lemmas.Nat.{div-add-mod'}
 use Rattle.std.proofs.Math.Nat.{div-le_of_le-mul}
 use Rattle.std.proofs.lemmas.Slice.Eq.{bytes_eq-Decides}
 use Rattle.bank_reader.proofs.Names.{AreNamed, names_from}
-use Rattle.bank_reader.specs.declared.fault.ReadFault.{ReadFault}
 use Rattle.bank_reader.specs.declared.fault.ReadFault.TheVariants.{Header}
 use Rattle.bank_reader.specs.declared.item.Shape.{Shape}
-use Rattle.bank_reader.specs.Columns.{field, first_loglik, width, quantity_name, point_name, loglik_name}
+use Rattle.bank_reader.specs.Columns.{field, width, quantity_name, point_name, loglik_name}
 use Rattle.bank_reader.specs.Grammar.{IsHeader}
 use Rattle.bank_reader.specs.Reading.{lead, is_named, leading_fixed, leading_quantities, leading_points, leading_loglik, header_of}
 

@@ -1,11 +1,11 @@
 -- A record that is refused is no item, in the first column that holds what it may not.
-use Rattle.std.proofs.Common.{◌≡◌, ◌≢◌, ℕ, zero, suc, ◌+◌, ◌-◌, ◌*◌, ◌<◌, ◌≤◌, Bool, true, false, not, eqb, ltb, List, [], length, get_or, min, Option, Some, None, Result, Ok, Err, ℤ, pos, refl, sym, ap, subst, ◌∙◌, arith, inl, inr, ◌⊎◌}
+use Rattle.std.proofs.Common.{◌≡◌, ◌≢◌, ℕ, ◌+◌, ◌-◌, ◌*◌, ◌<◌, ◌≤◌, not, eqb, List, [], length, get_or, min, Option, Some, Result, Ok, Err, ℤ, pos, refl, sym, ap, subst, ◌∙◌, arith, inl, inr}
 use Rattle.std.specs.Prelude.{nat_lt}
-use Rattle.std.proofs.lemmas.Bool.{cases_lt, not-true, not-false, eqb-true, eqb-false, eq-eqb, ltb-true, ltb-false}
+use Rattle.std.proofs.lemmas.Bool.{cases_lt, not-true, not-false, eqb-true, eqb-false, ltb-true, ltb-false}
 use Rattle.std.proofs.lemmas.List.{nil_from_length}
 use Rattle.std.proofs.Math.Nat.{mul-le-mul_right, min-le_right}
 use Rattle.exam_text.specs.Numbers.{number_of, signed_of}
-use Rattle.exam_text.specs.First.{◌>>=◌, unless, or_fault, fault_where, each_below, first_below}
+use Rattle.exam_text.specs.First.{◌>>=◌, unless, fault_where}
 use Rattle.exam_text.proofs.Firsts.{ok_is, each_is, none_where, first_is}
 use Rattle.bank_tables.specs.Tables.{Item}
 use Rattle.bank_reader.specs.declared.fault.ReadFault.{ReadFault}
@@ -14,7 +14,7 @@ use Rattle.bank_reader.specs.declared.item.Shape.{Shape}
 use Rattle.bank_reader.specs.Columns.{field, nine_digits, first_loglik, width}
 use Rattle.bank_reader.specs.Grammar.{IsNumber, IsSigned, IsColumn, IsItemFault}
 use Rattle.bank_reader.specs.Reading.{number_at, signed_at, numbers_at, signeds_at, not_empty_at, item_at}
-use Rattle.bank_reader.proofs.Errs.{err_is, bind_err, unless_err, or_fault_err, where_some, each_err}
+use Rattle.bank_reader.proofs.Errs.{bind_err, unless_err, or_fault_err, where_some, each_err}
 use Rattle.bank_reader.proofs.GrammarLaws.{column_is, column_again, signed_column_is, signed_column_again}
 
 ok_or_err : {A : Type 0} (x : A) (e : ReadFault) → (let r : Result A ReadFault = Ok x in r ≡ Err e) → ⊥

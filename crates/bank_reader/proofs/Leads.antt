@@ -1,6 +1,6 @@
-use Rattle.std.proofs.Common.{◌≡◌, ℕ, zero, suc, ◌+◌, ◌<◌, ◌≤◌, Bool, true, false, cond, ◌&&◌, eqb, ◌⊎◌, inl, inr, refl, sym, ap, subst, ◌∙◌, arith, add-one, List, [], ◌∷◌, ◌++◌, length, take, drop}
+use Rattle.std.proofs.Common.{◌≡◌, ℕ, zero, suc, ◌+◌, ◌<◌, ◌≤◌, Bool, true, false, ◌&&◌, eqb, ◌⊎◌, inl, inr, refl, sym, subst, ◌∙◌, arith, add-one, List, [], ◌∷◌, ◌++◌, length, take, drop}
 use Rattle.std.specs.Str.{bytes_eq}
-use Rattle.std.proofs.lemmas.Bool.{ne_eqb, eq-eqb, and_left, and_right, cases_Bool}
+use Rattle.std.proofs.lemmas.Bool.{ne_eqb, eq-eqb, and_right, cases_Bool}
 use Rattle.bank_reader.specs.Reading.{lead}
 
 last_or_below : (i n : ℕ) → i < suc n → (i < n) ⊎ (i ≡ n)

@@ -1,11 +1,10 @@
 -- The names of the columns, kind by kind.
-use Rattle.std.proofs.Common.{◌≡◌, ℕ, ◌+◌, ◌-◌, ◌*◌, ◌/◌, ◌%◌, ◌<◌, ◌≤◌, true, false, cond, eqb, ltb, List, [], ◌∷◌, length, get_or, refl, sym, ap, ap₂, subst, ◌∙◌, arith, inl, inr}
+use Rattle.std.proofs.Common.{◌≡◌, ℕ, ◌+◌, ◌-◌, ◌/◌, ◌%◌, ◌<◌, ◌≤◌, true, false, cond, eqb, List, [], length, refl, sym, ap, subst, ◌∙◌, arith, inl, inr}
 use Rattle.std.specs.Prelude.{nat_lt, codes}
-use Rattle.std.proofs.lemmas.Bool.{ne_eqb, eqb-true, lt-ltb, le-ltb, cases_Bool, cases_lt, cases_eq}
+use Rattle.std.proofs.lemmas.Bool.{ne_eqb, lt-ltb, le-ltb, cases_Bool, cases_lt, cases_eq}
 use Rattle.std.proofs.lemmas.List.{get_or_past}
 use Rattle.bank_reader.specs.declared.item.Shape.{Shape}
-use Rattle.bank_reader.specs.Columns.{field, first_loglik, width, quantity_name, point_name, loglik_name, name_of, IsShape}
-use Rattle.bank_reader.specs.Grammar.{BeginsAs}
+use Rattle.bank_reader.specs.Columns.{field, first_loglik, quantity_name, point_name, loglik_name, name_of}
 
 -- from the third column on, the first three names are behind
 behind : (s : Shape) (k : ℕ) → name_of s (3 + k) ≡ cond (nat_lt (3 + k) (3 + s.quantities)) (quantity_name (3 + k - 3)) (cond (nat_lt (3 + k) (first_loglik s)) (point_name (3 + k - (3 + s.quantities))) (loglik_name ((3 + k - first_loglik s) / s.grid) ((3 + k - first_loglik s) % s.grid)))

@@ -1,8 +1,8 @@
--- The errors of `csv` that say nothing of a text.
+-- The errors of `csv` that are no fault of a text.
 use Rattle.csv.specs.declared.error.ErrorKind.{ErrorKind}
 use Rattle.csv.specs.declared.error.ErrorKind.TheVariants as kind
 
--- want of memory, or a failed read of the reader underneath: bytes in memory, whose reads don't fail
+-- out of memory, or a failed read of the reader below: that is bytes in memory, whose reads do not fail
 abbrev pub IsOfMemory : ErrorKind → Type 0
 IsOfMemory (kind.Io e) = Unit {0}
 IsOfMemory kind.OutOfMemory = Unit {0}

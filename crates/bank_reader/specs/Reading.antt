@@ -1,9 +1,8 @@
 -- How a bank text is read: each column in its order, from left to right, up to the first fault.
-use Rattle.std.specs.Prelude.{◌≡◌, ℕ, zero, suc, ◌+◌, ◌*◌, ◌/◌, ◌%◌, ◌-◌, ◌<◌, ◌≤◌, Bool, not, ◌&&◌, ◌==◌, nat_lt, nat_le, if◌then◌else◌, List, [], ◌∷◌, ◌++◌, length, get_or, min, bytes_eq, codes, Option, Some, None, Result, Ok, Err, ℤ, ◌⊎◌}
+use Rattle.std.specs.Prelude.{◌≡◌, ℕ, zero, suc, ◌+◌, ◌*◌, ◌/◌, ◌%◌, ◌-◌, Bool, not, ◌&&◌, ◌==◌, nat_lt, nat_le, if◌then◌else◌, List, [], length, get_or, min, bytes_eq, codes, Option, Result, Ok, Err, ℤ, ◌⊎◌}
 use Rattle.std.specs.Option.{option_map}
-use Rattle.csv.specs.Reading.{default_config, strip_bom, records}
 use Rattle.exam_text.specs.Numbers.{number_of, signed_of}
-use Rattle.exam_text.specs.First.{fault_where, ◌orelse◌, first_below, ◌>>=◌, or_fault, unless, each_below}
+use Rattle.exam_text.specs.First.{fault_where, first_below, ◌>>=◌, or_fault, unless, each_below}
 use Rattle.bank_tables.specs.Tables.{Tables, Item}
 use Rattle.bank_tables.specs.Faults.{bank_fault}
 use Rattle.bank_reader.specs.declared.fault.ReadFault.{ReadFault}

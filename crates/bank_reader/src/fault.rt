@@ -16,15 +16,15 @@ pub enum ReadFault {
     Source,
     /// The text has more than 4,194,304 bytes.
     TooLong,
-    /// The header departs from every header at this column, or has so many columns where some are missing.
+    /// The first column that no header has after the columns before it; or the number of columns, where some are missing.
     Header(u64),
-    /// The number of fields of this record isn't that of the header.
+    /// The number of fields of this record is not that of the header.
     Csv(u64),
     /// The text in this record and column is ill-formed.
     Field(u64, u64),
     /// A number is out of its bounds.
     Bank(BankFault),
-    /// Want of memory.
+    /// Out of memory.
     Memory,
 }
 

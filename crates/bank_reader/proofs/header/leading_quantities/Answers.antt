@@ -1,9 +1,8 @@
-use Rattle.std.proofs.Common.{◌≡◌, ◌+◌, ◌∙◌, ◌++◌, ◌*◌, ◌/◌, ◌%◌, [], ◌∷◌, ℕ, List, Bool, false, sym, ap}
+use Rattle.std.proofs.Common.{◌≡◌, ◌+◌, ◌∙◌, ℕ, List, false, sym, ap}
 use Rattle.std.specs.Str.{bytes_eq}
-use Rattle.std.specs.Fmt.{decimal}
 use Rattle.csv.specs.Records.{fields_of}
 use Rattle.bank_reader.specs.Columns.{quantity_name}
-use Rattle.bank_reader.specs.Reading.{lead, is_named, leading_quantities}
+use Rattle.bank_reader.specs.Reading.{is_named, leading_quantities}
 use Rattle.bank_reader.proofs.Leads.{lead_stops}
 use Rattle.bank_reader.proofs.header.leading_quantities.Goals as goal
 

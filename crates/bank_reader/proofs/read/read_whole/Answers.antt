@@ -1,9 +1,5 @@
-use Rattle.std.proofs.Common.{◌≡◌, Err, Result, sym, subst}
 use Rattle.std.proofs.lemmas.Result.{err_from_is_err_and}
 use Rattle.exam_edge.specs.Faults.{Rose}
-use Rattle.bank_tables.specs.Tables.{Tables}
-use Rattle.bank_reader.specs.declared.fault.ReadFault.{ReadFault}
-use Rattle.bank_reader.specs.Reading.{Reads}
 use Rattle.bank_reader.proofs.BankLaws.{no_source, no_text}
 use Rattle.bank_reader.proofs.read.read_whole.Goals as goal
 

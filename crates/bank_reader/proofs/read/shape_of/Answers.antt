@@ -1,4 +1,4 @@
-use Rattle.std.proofs.Common.{◌≡◌, ◌∙◌, [], List, map, get_or, length, Err, refl, sym, ap, inr, ◌==◌, rules}
+use Rattle.std.proofs.Common.{◌≡◌, ◌∙◌, [], List, map, get_or, Err, refl, sym, ap, inr}
 use Rattle.std.proofs.lemmas.Bool.{eqb-true}
 use Rattle.std.proofs.lemmas.List.{nil_from_length}
 use Rattle.csv.specs.Records.{Row, fields_of}
