@@ -1,0 +1,5 @@
+pub mod Histories
+pub mod Passes
+pub mod Seats
+pub mod Rule
+pub mod Plays
