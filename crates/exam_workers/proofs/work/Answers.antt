@@ -1,0 +1,25 @@
+use Rattle.std.proofs.Common.{rules, arith, ◌≡◌, refl}
+use Rattle.exam_workers.proofs.Serving.{serves_none, serves_then}
+use Rattle.exam_workers.proofs.work.Goals as goal
+
+pub loop-init : goal.loop-init
+loop-init g c =
+    let s = c.args.station.now in (
+      tt,
+      tt,
+      serves_none g.L.Door.tells g.L.Door.coming g.L.Door.returned g.L.Door.is_out g.L.Door.faults g.L.Door.identity g.S.Service.serves
+          s s (search) refl refl (λ h. refl) (λ h. refl) refl refl c.requires.home (omega arith),
+    )
+
+pub loop-preserved : goal.loop-preserved
+loop-preserved g c = (
+  tt,
+  tt,
+  serves_then g.L.Door.tells g.L.Door.coming g.L.Door.returned g.L.Door.is_out g.L.Door.faults g.L.Door.identity g.S.Service.serves
+      c.args.station.now c.loop.station c.serve_next.new.station c.loop.invariant.2 c.serve_next.ensures.serves,
+)
+
+pub returns-then-serve_next-clause-serves : goal.returns-then-serve_next-clause-serves
+returns-then-serve_next-clause-serves g c =
+    serves_then g.L.Door.tells g.L.Door.coming g.L.Door.returned g.L.Door.is_out g.L.Door.faults g.L.Door.identity g.S.Service.serves
+    c.args.station.now c.loop.station c.serve_next.new.station c.loop.invariant.2 c.serve_next.ensures.serves
