@@ -1,0 +1,5 @@
+use Rattle.wire_http.proofs.MessageLaws.{no_message_of_no_bytes}
+use Rattle.wire_http.proofs.laws.no_message_of_no_bytes.Goals as goal
+
+pub returns : goal.returns
+returns c = no_message_of_no_bytes
