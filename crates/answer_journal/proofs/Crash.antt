@@ -6,8 +6,8 @@ use Rattle.std.proofs.lemmas.Bool.{cases_eq, cases_lt}
 use Rattle.exam_edge.specs.Images.{Account, IsSettled, settled, overwritten}
 use Rattle.exam_edge.specs.ImageLaws.{Torn, Trimmed}
 use Rattle.answer_journal.specs.Frames.{FileHeader, IsPayload, frame_of, front, payloads}
-use Rattle.answer_journal.specs.FrameLaws.{payloads-front, front-push, fits-push}
-use Rattle.answer_journal.specs.Standing.{payload_list, IsAtRest, Unopened, IsEither, IsBeforeOrWith}
+use Rattle.answer_journal.specs.FrameLaws.{payloads-front, front-push}
+use Rattle.answer_journal.specs.Standing.{payload_list, IsAtRest, Unopened, IsEither}
 
 module _ (h : FileHeader) where
   tail_same : (a b : ℕ) (xs : List ℕ) (k : ℕ) → 1 ≤ k → get_or (a ∷ xs) k 0 ≡ get_or (b ∷ xs) k 0

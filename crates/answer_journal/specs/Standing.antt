@@ -2,7 +2,7 @@
 use Rattle.std.specs.Prelude.{◌≡◌, ◌≢◌, ◌⊎◌, ℕ, ◌+◌, List, [], ◌∷◌, ◌++◌, length, take, nat_le, if◌then◌else◌, Some, unwrap_or}
 use Rattle.std.specs.List.{AllByRecursion}
 use Rattle.exam_edge.specs.Images.{Account, latest, IsSettled, IsImage, AllImages}
-use Rattle.answer_journal.specs.Frames.{FileHeader, IsPayload, front, payloads}
+use Rattle.answer_journal.specs.Frames.{FileHeader, IsPayload, frame_of, front, payloads}
 
 -- the payloads of a file, none where a rule is broken
 abbrev pub payload_list : FileHeader → List ℕ → List (List ℕ)
@@ -16,6 +16,16 @@ pub record IsAtRest (h : FileHeader) (content : List ℕ) (accounts : List Accou
   pub file : content ≡ front h (payload_list h content) ++ gate ∷ []
   pub fits : AllByRecursion IsPayload (payload_list h content)
   pub size_is : size ≡ length content
+  pub settled : IsSettled content accounts
+
+-- one more record is whole behind the closed gate, all of it on the disk
+pub record IsStaged (h : FileHeader) (ps : List (List ℕ)) (payload content : List ℕ) (accounts : List Account) (size : ℕ) : Type 0 where
+  pub fits : AllByRecursion IsPayload ps
+  pub one : IsPayload payload
+  pub size_is : size ≡ length (front h ps) + 1
+  pub gate : ℕ
+  pub closed : gate ≢ 1
+  pub file : content ≡ front h ps ++ gate ∷ frame_of payload
   pub settled : IsSettled content accounts
 
 -- header and frames of these payloads, a closed gate, and whatever stands behind it

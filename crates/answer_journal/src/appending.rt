@@ -4,12 +4,51 @@ ghost use Rattle.exam_edge.specs.Lent.{IsLent, FailsOnly};
 ghost use Rattle.exam_edge.specs.Images.{AtEachMoment, Grows, IsSettled, latest};
 ghost use Rattle.answer_journal.specs.Frames.{shadowj1, front};
 ghost use Rattle.answer_journal.specs.Outcome.{payloads_after, size_after};
-ghost use Rattle.answer_journal.specs.Standing.{payload_list, IsAtRest, IsEither, IsInDoubt};
+ghost use Rattle.answer_journal.specs.Standing.{payload_list, IsAtRest, IsStaged, IsEither, IsInDoubt};
 
 use crate::durable::{cut_durably, write_durably};
 use crate::frames::OPEN;
 use crate::{Adopted, Frame};
 use exam_edge::{Disk, Failed};
+
+// Writes a record behind the closed gate that ends the file, and syncs. The gate stays closed.
+fn stage_record<D: Disk>(disk: &mut D, size: u64, frame: &Frame) -> Result<(), Failed>
+    requires { IsTrue (D.tells disk.old)
+        → IsAtRest shadowj1 (D.content disk.old) (D.accounts disk.old) size }
+    ensures staged { OnOk result (IsTrue (D.tells disk.old)
+        → IsStaged shadowj1 (payload_list shadowj1 (D.content disk.old)) frame.now
+        (D.content disk.new) (D.accounts disk.new) size) }
+    ensures moments { IsTrue (D.tells disk.old)
+        → AtEachMoment (D.accounts disk.old) (D.accounts disk.new)
+        (IsEither shadowj1 (payload_list shadowj1 (D.content disk.old)) frame.now) }
+    ensures failed { FailsOnly D.faults disk.old disk.new result }
+    ensures frame { IsLent D.tells D.identity D.faults disk.old disk.new }
+{
+    write_durably(disk, size, frame.record_bytes())?;
+    Ok(())
+}
+
+// Opens the gate before a record that is whole on the disk, and syncs.
+fn open_gate<D: Disk>(disk: &mut D, size: u64) -> Result<(), Failed>
+    requires some { 9 ≤ size }
+    requires staged { IsTrue (D.tells disk.old) → (ps : _) × (payload : _)
+        × IsStaged shadowj1 ps payload (D.content disk.old) (D.accounts disk.old) size }
+    ensures rest { OnOk result (IsTrue (D.tells disk.old) → (ps : _) (payload : _)
+        → IsStaged shadowj1 ps payload (D.content disk.old) (D.accounts disk.old) size
+        → IsAtRest shadowj1 (D.content disk.new) (D.accounts disk.new) (size + 5 + length payload)
+        × (payload_list shadowj1 (D.content disk.new) ≡ ps ++ payload ∷ [])) }
+    ensures content { OnOk result (IsTrue (D.tells disk.old) → (ps : _) (payload : _)
+        → IsStaged shadowj1 ps payload (D.content disk.old) (D.accounts disk.old) size
+        → D.content disk.new ≡ front shadowj1 (ps ++ payload ∷ []) ++ 0 ∷ []) }
+    ensures moments { IsTrue (D.tells disk.old) → (ps : _) (payload : _)
+        → IsStaged shadowj1 ps payload (D.content disk.old) (D.accounts disk.old) size
+        → AtEachMoment (D.accounts disk.old) (D.accounts disk.new) (IsEither shadowj1 ps payload) }
+    ensures failed { FailsOnly D.faults disk.old disk.new result }
+    ensures frame { IsLent D.tells D.identity D.faults disk.old disk.new }
+{
+    write_durably(disk, size - 1, &[OPEN])?;
+    Ok(())
+}
 
 /// Writes a record behind the closed gate that ends a file of this length, and opens that gate once the record is on the
 /// disk.
@@ -25,9 +64,8 @@ pub fn write_record<D: Disk>(disk: &mut D, size: u64, frame: &Frame) -> Result<(
     ensures failed { FailsOnly D.faults disk.old disk.new result }
     ensures frame { IsLent D.tells D.identity D.faults disk.old disk.new }
 {
-    write_durably(disk, size, frame.record_bytes())?;
-    write_durably(disk, size - 1, &[OPEN])?;
-    // The gate stands open on the disk.
+    stage_record(disk, size, frame)?;
+    open_gate(disk, size)?;
     Ok(())
 }
 

@@ -1,6 +1,6 @@
-// The journal: what is found after a call of the disk has failed, after a crash, and in a damaged file. What is expected
-// was worked out by hand from the format: header `SHADOWJ1`, then a gate at place 8, and behind each open gate a length of
-// four bytes, the payload and the next gate.
+//! The journal: what is found after a call of the disk has failed, after a crash, and in a damaged file. What is expected
+//! was worked out by hand from the format: header `SHADOWJ1`, then a gate at place 8, and after each open gate a length of
+//! four bytes, the payload and the next gate.
 
 #[cfg(test)]
 mod tests {
@@ -186,6 +186,8 @@ mod tests {
     // What stands on the disk of a new journal after the first calls of adding the answered record: it stops at this one.
     fn stopped<R: Abort>(rt: &R, alloc: Global, call: u64) -> Result<Vec<u8>, Fail> {
         let disk = MemoryDisk::of(alloc, Vec::new(alloc), vec![in alloc; call]?);
+        // There is room for the call that fails, so a crash leaves what the model says.
+        assert_eq!(rt; disk.room(), 1);
         let frame = Frame::of(alloc, &ANSWER).expect(rt, "memory");
         match Journal::open(alloc, disk, LIMIT) {
             Err(_) => panic!(rt; "the journal was not opened"),
