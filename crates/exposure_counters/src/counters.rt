@@ -4,7 +4,7 @@ ghost use Rattle.std.specs.Prelude.{◌≡◌, ◌+◌, ◌<◌, ◌≤◌, ℕ,
 ghost use Rattle.bank_tables.specs.Items.{has};
 ghost use Rattle.exposure_counters.specs.Tallies.{no_counts, counts_at, counted, FinishedSession, IsTallyOf};
 
-use crate::memory::Memory;
+use crate::Memory;
 use bank_tables::ItemSet;
 use history_model::Counts;
 use std::alloc::Global;

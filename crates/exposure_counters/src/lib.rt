@@ -4,7 +4,7 @@
 #![tactic(auto)]
 
 mod counters;
-mod memory;
 
 pub use counters::Counters;
-pub use memory::Memory;
+pub use history_model::Counts;
+pub use std::alloc::AllocError as Memory;
