@@ -22,7 +22,8 @@ use Rattle.spec_reader.specs.Rules.{Said, Stimulus}
 use Rattle.spec_reader.specs.Lines.{mark_of, is_mark, has_mark, missing}
 use Rattle.spec_reader.specs.Plans.{SaidPlan, row_said, plan_said, drafted}
 use Rattle.spec_reader.specs.Canonical.{bounds_below, base_rules, setting_rules, canonical_rules, canonical}
-use Rattle.spec_reader.specs.Grammar.{most, IsSet, IsPrinted, ArePrinted, AreFresh, IsKey}
+use Rattle.spec_reader.specs.Grammar.{most, IsSet, IsPrinted, ArePrinted, AreFresh}
+use Rattle.exam_text.specs.Keys.{IsKey}
 use Rattle.spec_reader.specs.Reading.{rule_at, number_fault, numbers_fault, IsPlanText}
 use Rattle.spec_reader.proofs.PlainLaws.{printed_again}
 use Rattle.spec_reader.proofs.DraftLaws.{drafted_again}

@@ -9,3 +9,5 @@ pub mod PlainLaws
 pub mod DraftLaws
 pub mod BackLaws
 pub mod ShortLaws
+mod OneFault
+mod ReadKeys

@@ -52,21 +52,21 @@ from_said b (row.Quantity which set low high) h = h
 from_said b (row.Enemies set) h = h
 from_said b (row.Stimuli low high) h = h
 
-activity_said : Tables → Said → Set → Set → ℕ
+unfoldable pub activity_said : Tables → Said → Set → Set → ℕ
 activity_said b (Count low high X) Y Z = count_in (size b) Y X
 activity_said b (Quantity which low high X) Y Z = sum_in (size b) Y (λ i. cond (X i) (quantity b i which) 0)
 activity_said b (Enemies X) Y Z = count_in (size b) Y X
 activity_said b (Stimuli low high) Y Z = stimuli_in (stimuli_of b) Z
 activity_said b _ Y Z = 0
 
-activity_is : (b : Tables) (r : Row) (Y Z : Set) → activity b r Y Z ≡ activity_said b (row_said r) Y Z
+pub activity_is : (b : Tables) (r : Row) (Y Z : Set) → activity b r Y Z ≡ activity_said b (row_said r) Y Z
 unfolding activity_said
 activity_is b (row.Count set low high) Y Z = refl
 activity_is b (row.Quantity which set low high) Y Z = refl
 activity_is b (row.Enemies set) Y Z = refl
 activity_is b (row.Stimuli low high) Y Z = refl
 
-lower_said : Said → ℕ
+unfoldable pub lower_said : Said → ℕ
 lower_said (Count low high X) = low
 lower_said (Quantity which low high X) = low
 lower_said (Stimuli low high) = low
@@ -79,7 +79,7 @@ lower_is (row.Quantity which set low high) = refl
 lower_is (row.Enemies set) = refl
 lower_is (row.Stimuli low high) = refl
 
-upper_said : Said → ℕ
+unfoldable pub upper_said : Said → ℕ
 upper_said (Count low high X) = high
 upper_said (Quantity which low high X) = high
 upper_said (Stimuli low high) = high
@@ -92,16 +92,16 @@ upper_is (row.Quantity which set low high) = refl
 upper_is (row.Enemies set) = refl
 upper_is (row.Stimuli low high) = refl
 
-same_count : (p q : Plan) → plan_said p ≡ plan_said q → length p.rows ≡ length q.rows
+pub same_count : (p q : Plan) → plan_said p ≡ plan_said q → length p.rows ≡ length q.rows
 same_count p q e = sym (length-map p.rows row_said) ∙ (ap (λ (s : SaidPlan). length s.rows) e ∙ length-map q.rows row_said)
 
-same_row : (p q : Plan) → plan_said p ≡ plan_said q → (r : ℕ) → r < length q.rows → row_said (row_at p r) ≡ row_said (row_at q r)
+pub same_row : (p q : Plan) → plan_said p ≡ plan_said q → (r : ℕ) → r < length q.rows → row_said (row_at p r) ≡ row_said (row_at q r)
 same_row p q e r lt =
     let other : r < length p.rows = omega (arith, lt, same_count p q e) in
     sym (get_or-map row_said p.rows r no_row (row_said no_row) other)
     ∙ (ap (λ (s : SaidPlan). get_or s.rows r (row_said no_row)) e ∙ get_or-map row_said q.rows r no_row (row_said no_row) lt)
 
-row_holds : (b : Tables) (p q : Plan) (X : Set) (r : ℕ) → row_said (row_at p r) ≡ row_said (row_at q r) → RowHolds b p X r → RowHolds b q X r
+pub row_holds : (b : Tables) (p q : Plan) (X : Set) (r : ℕ) → row_said (row_at p r) ≡ row_said (row_at q r) → RowHolds b p X r → RowHolds b q X r
 row_holds b p q X r e h =
     let lower : lower_bound (row_at p r) ≡ lower_bound (row_at q r) = lower_is (row_at p r) ∙ (ap lower_said e ∙ sym (lower_is (row_at q r))) in
     let upper : upper_bound (row_at p r) ≡ upper_bound (row_at q r) = upper_is (row_at p r) ∙ (ap upper_said e ∙ sym (upper_is (row_at q r))) in
@@ -111,10 +111,10 @@ row_holds b p q X r e h =
     let high : activity b (row_at p r) X (used b X) ≤ upper_bound (row_at p r) = h.high in
     record { low = omega (arith, low, lower, act); high = omega (arith, high, upper, act) }
 
-same_bound : (p q : Plan) → plan_said p ≡ plan_said q → (s : ℕ) → bound_at p s ≡ bound_at q s
+pub same_bound : (p q : Plan) → plan_said p ≡ plan_said q → (s : ℕ) → bound_at p s ≡ bound_at q s
 same_bound p q e s = ap (λ (said : SaidPlan). get_or said.bounds (s - 1) no_bound) e
 
-meets_same : (b : Tables) (p q : Plan) (X : Set) → plan_said p ≡ plan_said q → Meets b p X → Meets b q X
+pub meets_same : (b : Tables) (p q : Plan) (X : Set) → plan_said p ≡ plan_said q → Meets b p X → Meets b q X
 meets_same b p q X e h = record {
   right_length = record { in_bank = h.right_length.in_bank; n_items = h.right_length.n_items ∙ ap (λ (s : SaidPlan). s.length) e };
   rows = λ r lt. row_holds b p q X r (same_row p q e r lt) (h.rows r (omega (arith, lt, same_count p q e)));
@@ -126,7 +126,7 @@ meets_same b p q X e h = record {
       });
 }
 
-base_of : (o : Option (List ℕ)) (X : Set) → option_map has o ≡ Some X → (words : List ℕ) × (o ≡ Some words) × (has words ≡ X)
+pub base_of : (o : Option (List ℕ)) (X : Set) → option_map has o ≡ Some X → (words : List ℕ) × (o ≡ Some words) × (has words ≡ X)
 base_of None X e = absurd cc
 base_of (Some words) X e = (words, refl, some_is (has words) X e)
   where
@@ -166,19 +166,19 @@ plan_same b p q e h =
 
 -- ---- one answer a text
 
-same_rules : (lines : List (List ℕ)) (rules others : List Said) → rules_of lines ≡ Ok rules → rules_of lines ≡ Ok others → rules ≡ others
+pub same_rules : (lines : List (List ℕ)) (rules others : List Said) → rules_of lines ≡ Ok rules → rules_of lines ≡ Ok others → rules ≡ others
 same_rules lines rules others e f = ok_is rules others (sym e ∙ f)
   where
     ok_is : (a c : List Said) → (let r : Result (List Said) LineFault = Ok a in r ≡ Ok c) → a ≡ c
     ok_is a c h = cc
 
-no_err : (lines : List (List ℕ)) (rules : List Said) (f : LineFault) → rules_of lines ≡ Ok rules → rules_of lines ≡ Err f → ⊥
+pub no_err : (lines : List (List ℕ)) (rules : List Said) (f : LineFault) → rules_of lines ≡ Ok rules → rules_of lines ≡ Err f → ⊥
 no_err lines rules f e g = clash (sym e ∙ g)
   where
     clash : (let r : Result (List Said) LineFault = Ok rules in r ≡ Err f) → ⊥
     clash h = cc
 
-some_none : {A : Type 0} (o : Option A) (x : A) → o ≡ None → o ≡ Some x → ⊥
+pub some_none : {A : Type 0} (o : Option A) (x : A) → o ≡ None → o ≡ Some x → ⊥
 some_none None x e f = absurd cc
 some_none (Some y) x e f = absurd cc
 

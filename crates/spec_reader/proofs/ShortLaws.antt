@@ -23,7 +23,8 @@ use Rattle.exam_text.specs.Runs.{IsRun, run_word}
 use Rattle.exam_text.specs.Words.{spaced}
 use Rattle.spec_reader.specs.Sets.{start_of, is_last, runs_below, runs_of}
 use Rattle.spec_reader.specs.Rules.{Said, Length, Prior, Rate, Key, Budget, BaseBudget, Sessions, Journal, Count, Quantity, Enemies, Stimuli, Stimulus, Base}
-use Rattle.spec_reader.specs.Grammar.{most, run, IsSet, IsPrinted, ArePrinted, IsKey}
+use Rattle.spec_reader.specs.Grammar.{most, run, IsSet, IsPrinted, ArePrinted}
+use Rattle.exam_text.specs.Keys.{IsKey}
 use Rattle.spec_reader.specs.Plans.{SaidPlan, row_said, plan_said}
 use Rattle.spec_reader.specs.Canonical.{set_words, words_text, line_text, bounds_below, base_rules, setting_rules, canonical_rules, canonical}
 use Rattle.spec_reader.specs.declared.plan_fault.PlanFault.{PlanFault}

@@ -118,8 +118,3 @@ ArePrinted (rule ∷ rules) = IsPrinted rule × ArePrinted rules
 abbrev pub AreFresh : List Said → List Said → Type 0
 AreFresh before [] = Unit {0}
 AreFresh before (rule ∷ rules) = (stands (mark_of rule) before ≡ false) × AreFresh (before ++ rule ∷ []) rules
-
--- a key has 32 bytes
-pub record IsKey (key : List ℕ) : Type 0 where
-  pub count : length key ≡ 32
-  pub bytes : IsBytes key

@@ -80,6 +80,12 @@ IsPlanFault b text Source = ⊥
 IsPlanFault b text TooLong = ⊥
 IsPlanFault b text Memory = ⊥
 
+-- a fault of the text itself
+abbrev pub IsOfText : PlanFault → Type 0
+IsOfText Source = ⊥
+IsOfText Memory = ⊥
+IsOfText fault = Unit {0}
+
 -- how long a plan text may be, in bytes
 abbrev pub most_bytes : ℕ
 most_bytes = 1048576

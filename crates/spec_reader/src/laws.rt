@@ -1,14 +1,15 @@
 //! Laws of the plan text: the grammar is what is read, and what is printed is read again.
 
 ghost use Rattle.std.specs.Prelude.{◌≡◌, ◌⊎◌, ◌≤◌, ℕ, List, [], Ok, length};
+ghost use Rattle.exam_text.specs.Keys.{IsKey};
 ghost use Rattle.exam_text.specs.Words.{lines_of};
 ghost use Rattle.bank_tables.specs.Items.{Set};
 ghost use Rattle.spec_reader.specs.Sets.{runs_of};
 ghost use Rattle.spec_reader.specs.Rules.{Said, line_of};
 ghost use Rattle.spec_reader.specs.Lines.{rules_of};
-ghost use Rattle.spec_reader.specs.Grammar.{Says, SayBehind, AreRuns, IsSet, in_runs, ArePrinted, AreFresh, IsKey};
+ghost use Rattle.spec_reader.specs.Grammar.{Says, SayBehind, AreRuns, IsSet, in_runs, ArePrinted, AreFresh};
 ghost use Rattle.spec_reader.specs.Canonical.{words_text, line_text, canonical_rules, canonical};
-ghost use Rattle.spec_reader.specs.Reading.{IsPlanText, IsPlanFault, IsReadFault, most_bytes};
+ghost use Rattle.spec_reader.specs.Reading.{IsPlanText, IsPlanFault, IsReadFault, IsOfText, most_bytes};
 ghost use Rattle.spec_reader.specs.declared.plan_fault.PlanFault.{PlanFault};
 ghost use Rattle.spec_reader.specs.declared.plan_fault.PlanFault.TheVariants as outside;
 ghost use Rattle.bank_tables.specs.Tables.{Tables};
@@ -60,6 +61,21 @@ pub fn a_text_says_one_plan()
 pub fn a_text_of_a_plan_is_read()
     ensures no_fault { (b : Tables) (text : List ℕ) (plan : Plan) (fault : PlanFault) → IsPlanText b text plan → IsPlanFor b plan → IsPlanFault b text fault → ⊥ }
     ensures only { (b : Tables) (bytes : List ℕ) (plan : Plan) (fault : PlanFault) → length bytes ≤ most_bytes → IsPlanText b bytes plan → IsPlanFor b plan → IsReadFault b bytes fault → (fault ≡ outside.Memory) ⊎ (fault ≡ outside.Source) }
+{}
+
+/// A text has at most one first fault.
+pub fn a_text_has_one_fault()
+    ensures { (b : Tables) (bytes : List ℕ) (f g : PlanFault) → IsOfText f → IsOfText g → IsReadFault b bytes f → IsReadFault b bytes g → f ≡ g }
+{}
+
+/// The key of the plan that a text says has 32 bytes.
+pub fn a_text_has_a_key()
+    ensures { (b : Tables) (text : List ℕ) (plan : Plan) → IsPlanText b text plan → IsKey plan.key }
+{}
+
+/// A plan that was read from a text is printed as a text of the same plan: the premise on the key is met by reading.
+pub fn a_read_plan_prints_a_text_of_it()
+    ensures { (b : Tables) (text : List ℕ) (plan : Plan) → IsBank b → IsPlanFor b plan → IsPlanText b text plan → IsPlanText b (canonical plan) plan }
 {}
 
 /// What is printed reads back: the canonical text of a plan is read as a plan of the same numbers and sets, which prints as

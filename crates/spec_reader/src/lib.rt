@@ -6,6 +6,7 @@
 #![tactic(auto)]
 
 mod bounds;
+mod fault_text;
 mod keyword;
 pub mod laws;
 mod line_fault;

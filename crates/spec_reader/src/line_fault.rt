@@ -25,7 +25,7 @@ pub enum LineFault {
     Line(u64, Kind),
     /// This line repeats an earlier one that may stand once.
     Twice(u64),
-    /// Want of memory.
+    /// Out of memory.
     Memory,
 }
 

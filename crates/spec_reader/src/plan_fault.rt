@@ -32,7 +32,7 @@ pub enum PlanFault {
     Missing(Name),
     /// The lines say no plan for the bank.
     Spec(SpecFault),
-    /// Want of memory.
+    /// Out of memory.
     Memory,
 }
 

@@ -6,6 +6,7 @@ ghost use Rattle.std.specs.List.{flat_map};
 ghost use Rattle.std.specs.Option.{option_map};
 ghost use Rattle.hex.specs.Hex.{encode_lower};
 ghost use Rattle.bank_tables.specs.Items.{has};
+ghost use Rattle.exam_text.specs.Keys.{IsKey};
 ghost use Rattle.exam_text.specs.Runs.{run_word};
 ghost use Rattle.spec_reader.specs.Sets.{runs_of};
 ghost use Rattle.spec_reader.specs.Rules.{said, Prior, Key, Stimulus, Base, Rate as RateLine};
@@ -139,7 +140,8 @@ fn push_rate(alloc: Global, out: &mut Vec<u8>, rate: Rate) -> Result<(), AllocEr
 
 /// The lines that stand in each canonical text.
 fn push_settings(alloc: Global, out: &mut Vec<u8>, spec: &Spec) -> Result<(), AllocError>
-    ensures { OnOk result (out.new.items ≡ out.old.items ++ flat_map line_text (setting_rules (plan_said spec.now))) }
+    ensures lines { OnOk result (out.new.items ≡ out.old.items ++ flat_map line_text (setting_rules (plan_said spec.now))) }
+    ensures key { OnOk result (IsKey spec.now.key) }
 {
     push_line(alloc, out, b"length", &[u64::from(spec.length())])?;
     push_prior(alloc, out, spec.prior())?;
@@ -222,7 +224,8 @@ fn push_base(alloc: Global, out: &mut Vec<u8>, base: Option<ItemSet>) -> Result<
 
 /// The canonical text of a plan, which reads back to the same plan. `Memory` is want of memory.
 pub fn print_plan(alloc: Global, spec: &Spec) -> Result<Vec<u8>, Memory>
-    ensures { IfOk result (λ text. text.items ≡ canonical spec.now) }
+    ensures text { IfOk result (λ text. text.items ≡ canonical spec.now) }
+    ensures key { IfOk result (λ _. IsKey spec.now.key) }
 {
     let mut out = Vec::new(alloc);
     push_settings(alloc, &mut out, spec)?;

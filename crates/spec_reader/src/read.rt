@@ -1,6 +1,6 @@
 //! The plan of a text.
 
-ghost use Rattle.std.specs.Prelude.{◌≡◌, ℕ, ◌⊎◌, ◌<◌, ◌≤◌, List, length, map, Some, None, IsTrue, IfOk, IfErr};
+ghost use Rattle.std.specs.Prelude.{◌≡◌, ℕ, ◌⊎◌, ◌<◌, ◌≤◌, List, [], length, map, Some, None, IsTrue, IfOk, IfErr};
 ghost use Rattle.bank_tables.specs.Tables.{Tables};
 ghost use Rattle.exam_edge.specs.Faults.{Rose};
 ghost use Rattle.exam_model.specs.Plan.{Plan};
@@ -68,7 +68,7 @@ fn early_fault(bank: &Bank, rules: &[Rule], draft: &Draft) -> Option<SpecFault>
 }
 
 /// The plan that the rules say, or its first fault.
-fn spec_of(alloc: Global, bank: &Bank, rules: &[Rule], draft: Draft) -> Result<Spec, SpecFault>
+fn spec_of(bank: &Bank, rules: &[Rule], draft: Draft) -> Result<Spec, SpecFault>
     ensures same { IfOk result (λ spec. spec ≡ draft) }
     ensures valid { IfOk result (λ spec. IsPlanFor bank.now spec) }
     ensures stimuli { IfOk result (λ _. numbers_fault (stimuli_of bank.now) (map said rules.now) ≡ None) }
@@ -76,7 +76,7 @@ fn spec_of(alloc: Global, bank: &Bank, rules: &[Rule], draft: Draft) -> Result<S
 {
     match early_fault(bank, rules, &draft) {
         Some(fault) => Err(fault),
-        None => Spec::of(alloc, bank, draft),
+        None => Spec::of_tested(bank, draft),
     }
 }
 
@@ -91,7 +91,7 @@ fn plan_in(alloc: Global, bank: &Bank, text: &[u8]) -> Result<Spec, PlanFault>
         return Err(PlanFault::Missing(name));
     }
     let draft = Outline::of(alloc, &rules, bank.stimuli())?.into_draft();
-    match spec_of(alloc, bank, &rules, draft) {
+    match spec_of(bank, &rules, draft) {
         Ok(spec) => Ok(spec),
         Err(fault) => Err(PlanFault::Spec(fault)),
     }
@@ -103,6 +103,7 @@ fn plan_in(alloc: Global, bank: &Bank, text: &[u8]) -> Result<Spec, PlanFault>
 pub fn read_plan<S: Source>(alloc: Global, bank: &Bank, source: &mut S) -> Result<Spec, PlanFault>
     ensures found { IfOk result (λ spec. IsTrue (S.tells source.old) → IsPlanText bank.now (S.left source.old) spec) }
     ensures within { IfOk result (λ _. IsTrue (S.tells source.old) → length (S.left source.old) ≤ most_bytes) }
+    ensures whole { IfOk result (λ _. IsTrue (S.tells source.old) → S.left source.new ≡ []) }
     ensures valid { IfOk result (IsPlanFor bank.now) }
     ensures fault { IfErr result (λ e. IsTrue (S.tells source.old) → IsReadFault bank.now (S.left source.old) e) }
     // The text of a plan that is valid for the bank is read.
