@@ -1,5 +1,5 @@
 -- The one set of items left on a path.
-use Rattle.std.proofs.Common.{◌≡◌, ℕ, zero, suc, ◌<◌, ◌≤◌, true, false, arith, sym, ap, ◌∙◌}
+use Rattle.std.proofs.Common.{◌≡◌, ℕ, zero, suc, ◌<◌, ◌≤◌, true, false, arith, ap, ◌∙◌}
 use Rattle.bank_tables.specs.Items.{Set}
 use Rattle.exam_model.specs.Forms.{used, stimuli_of}
 use Rattle.exam_model.specs.Paths.{Path, is_chosen}

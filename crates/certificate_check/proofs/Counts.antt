@@ -1,7 +1,6 @@
 -- Counts of items.
-use Rattle.std.proofs.Common.{◌≡◌, ℕ, zero, suc, ◌+◌, ◌<◌, ◌≤◌, Bool, true, false, cond, ◌&&◌, refl, sym, ◌∙◌, arith, inl, inr}
+use Rattle.std.proofs.Common.{◌≡◌, ℕ, zero, suc, ◌<◌, ◌≤◌, Bool, true, false, cond, ◌&&◌, refl, sym, ◌∙◌, arith, inl, inr}
 use Rattle.std.proofs.lemmas.Bool.{and_parts}
-use Rattle.std.proofs.Math.Bool.{true≢false}
 use Rattle.bank_tables.specs.Items.{Set}
 use Rattle.bank_tables.specs.Sums.{count_in, size_of}
 use Rattle.bank_tables.proofs.Bits.{size_of-below}

@@ -4,7 +4,7 @@ pub mod SideLaws
 pub mod Candidates
 pub mod Steps
 pub mod TopLaws
-pub mod Closed
+pub mod CapLaws
 pub mod MaximumLaws
 pub mod WalkSteps
 pub mod CheckLaws

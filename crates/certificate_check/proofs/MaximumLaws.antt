@@ -1,91 +1,84 @@
 -- What the code computes is the relaxed maximum.
-use Rattle.std.proofs.Common.{◌≡◌, ℕ, zero, suc, ◌+◌, ◌<◌, ◌≤◌, ◌⊎◌, inl, inr, Bool, true, false, cond, not, ◌&&◌, ◌||◌, List, ℤ, pos, ◌+ℤ◌, refl, sym, ap, ◌∙◌, subst, arith, w64, to_z, of_z}
-use Rattle.std.specs.Prelude.{int_le, ◌≤ℤ◌}
+use Rattle.std.proofs.Common.{◌≡◌, ℕ, zero, suc, ◌+◌, ◌<◌, ◌⊎◌, inl, inr, Bool, true, false, cond, not, ◌||◌, List, ℤ, pos, ◌+ℤ◌, refl, sym, ap, ◌∙◌, subst, arith, w64, to_z, of_z}
+use Rattle.std.specs.Prelude.{◌≤ℤ◌, ◌-ℤ◌}
 use Rattle.std.proofs.lemmas.Int.{ints}
 use Rattle.std.proofs.lemmas.Bool.{and_parts}
 use Rattle.std.proofs.Math.Bool.{true≢false}
 use Rattle.bank_tables.specs.Items.{Set}
-use Rattle.bank_tables.specs.Sums.{sum_in_z, total_z, count_in, greatest_below}
-use Rattle.bank_tables.specs.Tables.{size, stimulus}
+use Rattle.bank_tables.specs.Sums.{sum_in_z, total_z, count_in}
+use Rattle.bank_tables.specs.Tables.{size}
 use Rattle.exam_model.specs.Forms.{stimuli_of, size_in}
 use Rattle.exam_model.specs.Counting.{taken_or_free}
-use Rattle.exam_model.specs.Paths.{Path, is_free, is_chosen, is_open}
+use Rattle.exam_model.specs.Paths.{Path, is_free}
 use Rattle.exam_model.specs.Problem.{Problem}
-use Rattle.exam_model.specs.Relaxed.{Multipliers, multiplier, IsRelaxedMaximum}
-use Rattle.exam_model.proofs.Greatest.{IsTop, best_stimulus, relaxed_by, relaxed_is}
-use Rattle.exam_model.proofs.Reduced.{reduced, total_z-same}
-use Rattle.exam_model.proofs.SumLaws.{sum_in-le, or_left, or_right}
-use Rattle.certificate_check.specs.Maximum.{best_of_stimulus}
+use Rattle.exam_model.specs.Ranges.{IsWithin, at}
+use Rattle.exam_model.specs.Weights.{item_weight, rows_constant}
+use Rattle.exam_model.specs.Relaxed.{Multipliers, multiplier, link_multiplier, IsRelaxedMaximum}
+use Rattle.exam_model.specs.ClosedForm.{capped_weight, IsGreatestFill, stimulus_gain}
+use Rattle.exam_model.proofs.ClosedFormLaws.{closed_form_is}
+use Rattle.exam_model.proofs.Reduced.{total_z-same, taken_no_link}
+use Rattle.exam_model.proofs.SumLaws.{either, sum_in-le, or_left, or_right}
+use Rattle.certificate_check.specs.Caps.{AreCapped}
+use Rattle.certificate_check.specs.Maximum.{gain_of_stimulus}
 use Rattle.certificate_check.specs.Tops.{IsTopOf}
-use Rattle.certificate_check.specs.Weights.{IsWithin, at, constant_weight, item_weight, stimulus_weight}
-use Rattle.certificate_check.proofs.Closed.{item_is, stimulus_is, constant_is}
 use Rattle.certificate_check.proofs.TopLaws.{threshold}
 
-sum_in_z-same : (n : ℕ) (X : Set) (f g : ℕ → ℤ) → ((i : ℕ) → i < n → f i ≡ g i) → sum_in_z n X f ≡ sum_in_z n X g
+sum_in_z-same : (n : ℕ) (X : Set) (f g : ℕ → ℤ) → ((i : ℕ) → i < n → X i ≡ true → f i ≡ g i) → sum_in_z n X f ≡ sum_in_z n X g
 sum_in_z-same zero X f g h = refl
-sum_in_z-same (suc n) X f g h = rw (sum_in_z-same n X f g (λ i w. h i (omega arith)), h n (omega arith)) refl
-
-last_or_before : (i n : ℕ) → i < suc n → (i < n) ⊎ (i ≡ n)
-last_or_before i n h = grind arith
-
-pub below_greatest : (n i : ℕ) (f : ℕ → ℕ) → i < n → f i ≤ greatest_below n f
-below_greatest zero i f w = absurd (omega arith)
-below_greatest (suc n) i f w =
-    elim (last_or_before i n w) [
-      | inl before ↦ omega (arith, below_greatest n i f before)
-      | inr last ↦ omega (arith, ap f last)
-    ]
+sum_in_z-same (suc n) X f g h =
+    let rest = sum_in_z-same n X f g (λ i w. h i (omega arith)) in
+    let last : cond (X n) (f n) (pos 0) ≡ cond (X n) (g n) (pos 0) = elim (either (X n)) [ inl member ↦ rw member (h n (omega arith) member) | inr other ↦ rw other refl ] in
+    omega (arith, ints)
 
 joined : (a b c d a' b' c' d' : ℤ) → a ≡ a' → b ≡ b' → c ≡ c' → d ≡ d' → a +ℤ ((b +ℤ c) +ℤ d) ≡ a' +ℤ ((b' +ℤ c') +ℤ d')
 joined a b c d a' b' c' d' e f g h = cc
 
 -- the sums of the code don't wrap
-pub four_summed : (a b c d : ℤ) → IsWithin 72056494526300160 a → IsWithin 72619566961786880 b → IsWithin 72619566961786880 c → IsWithin 45035309078937600 d →
+pub four_summed : (a b c d : ℤ) → IsWithin 72056494526300160 a → IsWithin 72619566961786880 b → IsWithin 72619566961786880 c → IsWithin 4692688144389111808 d →
     to_z w64 (of_z w64 (to_z w64 (of_z w64 a) +ℤ to_z w64 (of_z w64 (to_z w64 (of_z w64 (to_z w64 (of_z w64 b) +ℤ to_z w64 (of_z w64 c))) +ℤ to_z w64 (of_z w64 d))))) ≡ a +ℤ ((b +ℤ c) +ℤ d)
 four_summed a b c d wa wb wc wd = omega (arith, ints)
 
-module _ (P : Problem) (p : Path) (v : Multipliers) (ray : Bool) (M : ℕ → ℕ) (multipliers : M ≡ multiplier v) (weights : List ℤ)
-    (values : (i : ℕ) → i < size P.bank → at weights i ≡ item_weight P M ray i)
+module _ (P : Problem) (p : Path) (v : Multipliers) (ray : Bool) (weights excesses : List ℤ) (are : AreCapped P p v ray weights excesses)
     (T : Set) (k : ℕ) (top : IsTopOf (size P.bank) weights (is_free P p) k T)
     (fills : size_in P.bank p.taken + k ≡ P.plan.length)
   where
-    weight_is : (i : ℕ) → i < size P.bank → at weights i ≡ (reduced P v ray).item i
-    weight_is i w = values i w ∙ ap (λ (N : ℕ → ℕ). item_weight P N ray i) multipliers ∙ item_is P v ray i (below_greatest (size P.bank) i (stimulus P.bank) w)
-
-    best_is : (s : ℕ) → best_of_stimulus P p M s ≡ best_stimulus P p v ray s
-    unfolding best_stimulus
-    best_is s =
-        ap (λ (u : ℤ). cond (is_chosen P p s) u (cond (is_open P p s) (cond (int_le (pos 0) u) u (pos 0)) (pos 0)))
-        (ap (λ (N : ℕ → ℕ). stimulus_weight P N s) multipliers ∙ stimulus_is P v ray s)
-
-    is_top : (t : ℤ) × IsTop P p v ray T t
-    is_top =
+    is_fill : (t : ℤ) × IsGreatestFill P p v ray T t
+    is_fill =
         let (t, above, others) = threshold (size P.bank) weights (is_free P p) k T top in (
           t,
           record {
             free = top.within;
             fills = ap (λ (n : ℕ). size_in P.bank p.taken + n) top.number ∙ fills;
-            above = λ i w e. subst (λ z. t ≤ℤ z) (weight_is i w) (above i w e);
-            others = λ i w f e. subst (λ z. z ≤ℤ t) (weight_is i w) (others i w f e);
+            above = λ i w e. subst (λ z. t ≤ℤ z) (are.weights_are i w) (above i w e);
+            others = λ i w f e. subst (λ z. z ≤ℤ t) (are.weights_are i w) (others i w f e);
           },
         )
 
+    -- an item that is taken is under no cap
+    taken_weight : (i : ℕ) → i < size P.bank → p.taken i ≡ true → at weights i ≡ item_weight P (multiplier v) ray i
+    taken_weight i w taken = are.weights_are i w ∙ less_none (item_weight P (multiplier v) ray i) (link_multiplier P p v ray i) (taken_no_link P p v ray i taken)
+      where
+        less_none : (a m : ℤ) → m ≡ pos 0 → a -ℤ m ≡ a
+        less_none a m e = omega (arith, ints)
+
+    gain_is : (j : ℕ) → j < stimuli_of P.bank → gain_of_stimulus P p (multiplier v) (at excesses j) (suc j) ≡ stimulus_gain P p v ray (suc j)
+    gain_is j w = ap (λ (e : ℤ). gain_of_stimulus P p (multiplier v) e (suc j)) (are.excesses_are j w)
+
     pub maximum_is : (constant taken free stimuli : ℤ)
-        → constant ≡ constant_weight P M
+        → constant ≡ rows_constant P (multiplier v)
         → taken ≡ sum_in_z (size P.bank) p.taken (at weights)
         → free ≡ sum_in_z (size P.bank) T (at weights)
-        → stimuli ≡ total_z (stimuli_of P.bank) (λ j. best_of_stimulus P p M (suc j))
+        → stimuli ≡ total_z (stimuli_of P.bank) (λ j. gain_of_stimulus P p (multiplier v) (at excesses j) (suc j))
         → IsRelaxedMaximum P p v ray (constant +ℤ ((taken +ℤ free) +ℤ stimuli))
-    unfolding relaxed_by
     maximum_is constant taken free stimuli e f g h =
-        let (t, is) = is_top in
+        let (t, fill) = is_fill in
         let same =
-        joined constant taken free stimuli (reduced P v ray).constant (sum_in_z (size P.bank) p.taken (reduced P v ray).item) (sum_in_z (size P.bank) T (reduced P v ray).item) (total_z (stimuli_of P.bank) (λ j. best_stimulus P p v ray (suc j)))
-        (e ∙ ap (λ (N : ℕ → ℕ). constant_weight P N) multipliers ∙ constant_is P v ray)
-        (f ∙ sum_in_z-same (size P.bank) p.taken (at weights) (reduced P v ray).item weight_is)
-        (g ∙ sum_in_z-same (size P.bank) T (at weights) (reduced P v ray).item weight_is)
-        (h ∙ total_z-same (stimuli_of P.bank) (λ j. best_of_stimulus P p M (suc j)) (λ j. best_stimulus P p v ray (suc j)) (λ j w. best_is (suc j))) in
-        subst (IsRelaxedMaximum P p v ray) (sym same) (relaxed_is P p v ray T t is)
+        joined constant taken free stimuli (rows_constant P (multiplier v)) (sum_in_z (size P.bank) p.taken (item_weight P (multiplier v) ray)) (sum_in_z (size P.bank) T (capped_weight P p v ray)) (total_z (stimuli_of P.bank) (λ j. stimulus_gain P p v ray (suc j)))
+        e
+        (f ∙ sum_in_z-same (size P.bank) p.taken (at weights) (item_weight P (multiplier v) ray) taken_weight)
+        (g ∙ sum_in_z-same (size P.bank) T (at weights) (capped_weight P p v ray) (λ i w member. are.weights_are i w))
+        (h ∙ total_z-same (stimuli_of P.bank) (λ j. gain_of_stimulus P p (multiplier v) (at excesses j) (suc j)) (λ j. stimulus_gain P p v ray (suc j)) gain_is) in
+        subst (IsRelaxedMaximum P p v ray) (sym same) (closed_form_is P p v ray T t fill)
 
 -- ---- where the length is impossible
 count_split : (n : ℕ) (X A B : Set) → ((i : ℕ) → X i ≡ (A i || B i)) → ((i : ℕ) → B i ≡ true → A i ≡ false) → count_in n X (λ _. true) ≡ count_in n A (λ _. true) + count_in n B (λ _. true)

@@ -1,6 +1,6 @@
 -- The steps of sums of weights.
 use Rattle.std.proofs.Common.{◌≡◌, ℕ, zero, suc, Bool, true, false, cond, ◌+◌, ◌*◌, ◌<◌, ◌≤◌, List, length, get_or, w64, to_z, of_z, refl, ap, ◌∙◌, arith}
-use Rattle.std.specs.Prelude.{ℤ, pos, ◌+ℤ◌, ◌-ℤ◌, ◌*ℤ◌, ◌≤ℤ◌, max}
+use Rattle.std.specs.Prelude.{ℤ, pos, ◌+ℤ◌, ◌-ℤ◌, ◌*ℤ◌, ◌≤ℤ◌}
 use Rattle.std.proofs.lemmas.Int.{ints}
 use Rattle.std.proofs.lemmas.List.{get_or_read_under}
 use Rattle.bank_tables.specs.Items.{Set}
@@ -11,7 +11,7 @@ use Rattle.exam_model.specs.Forms.{objective}
 use Rattle.exam_model.specs.Problem.{Problem}
 use Rattle.exam_model.specs.declared.row.Row.{Row}
 use Rattle.exam_model.specs.Plan.{Plan, no_row, row_at}
-use Rattle.certificate_check.specs.Weights.{IsWithin}
+use Rattle.exam_model.specs.Ranges.{IsWithin}
 
 -- the sum of two numbers in range is what the code computes
 pub item_step : (r : ℕ) (a b a' : ℤ) → r < 128 → a' ≡ a → IsWithin (r * 1099494850560) a → IsWithin 1099494850560 b → to_z w64 (of_z w64 (a' +ℤ to_z w64 (of_z w64 b))) ≡ a +ℤ b

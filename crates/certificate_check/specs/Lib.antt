@@ -1,6 +1,6 @@
 pub mod Cuts
-pub mod Sides
 pub mod Weights
+pub mod Caps
 pub mod Tops
 pub mod Maximum
 pub mod Answers

@@ -1,5 +1,5 @@
 -- A walk through a tree that may have spent its node budget.
-use Rattle.std.specs.Prelude.{ℕ, suc, ◌+◌, ◌≤◌, ◌<◌, List, ◌∷◌, length, drop, Option, Some, None}
+use Rattle.std.specs.Prelude.{ℕ, suc, ◌≤◌, ◌<◌, List, ◌∷◌, length, drop, Option, Some, None}
 use Rattle.bank_tables.specs.Items.{Set}
 use Rattle.exam_model.specs.Problem.{Problem}
 use Rattle.exam_model.specs.Paths.{Path}

@@ -7,6 +7,7 @@
 mod activity;
 mod branch;
 mod candidate;
+mod cap;
 mod checker;
 mod counting;
 mod cut;

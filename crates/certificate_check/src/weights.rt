@@ -5,22 +5,22 @@ ghost use Rattle.bank_tables.specs.Sums.{total_z};
 ghost use Rattle.bank_tables.specs.Tables.{size};
 ghost use Rattle.bank_tables.specs.Validity.{IsBank};
 ghost use Rattle.exam_model.specs.Forms.{stimuli_of};
-ghost use Rattle.exam_model.specs.Relaxed.{weight};
+ghost use Rattle.exam_model.specs.Weights.{weight, item_activity, stimulus_activity, price, bounds_price, item_share, stimulus_share, price_of_stimulus, rows_constant, item_weight, stimulus_weight};
 ghost use Rattle.exam_model.specs.Validity.{IsRow, IsWellMade};
 ghost use Rattle.constraint_model.specs.Views.{problem_of};
-ghost use Rattle.certificate_check.specs.Sides.{AreMultipliers};
-ghost use Rattle.certificate_check.specs.Weights.{IsWithin, IsAdded, at, item_part, stimulus_part, net_multiplier, bounds_weight, row_item, row_stimulus, stimulus_item, constant_weight, weight_up_to, item_weight, item_top, stimulus_weight, stimulus_top};
+ghost use Rattle.exam_model.specs.Ranges.{AreMultipliers, IsWithin, at};
+ghost use Rattle.certificate_check.specs.Weights.{IsAdded, weight_up_to, item_top, stimulus_top};
 
 use crate::activity::{lower_bound, upper_bound};
 use bank_tables::Bank;
 use constraint_model::{Problem, Row};
 
 /// What an item adds to a row.
-fn item_part(bank: &Bank, row: &Row, item: u16) -> u32
+fn item_activity(bank: &Bank, row: &Row, item: u16) -> u32
     requires item { item < size bank.now }
     requires bank { IsBank bank.now }
     requires row { IsRow bank.now row.now }
-    ensures part { result ≡ item_part bank.now row.now item }
+    ensures part { result ≡ item_activity bank.now row.now item }
     ensures few { result ≤ 65535 }
 {
     match row {
@@ -47,8 +47,8 @@ fn item_part(bank: &Bank, row: &Row, item: u16) -> u32
 }
 
 /// What a stimulus adds to a row.
-fn stimulus_part(row: &Row) -> u32
-    ensures part { result ≡ stimulus_part row.now }
+fn stimulus_activity(row: &Row) -> u32
+    ensures part { result ≡ stimulus_activity row.now }
     ensures few { result ≤ 1 }
 {
     match row {
@@ -80,11 +80,11 @@ fn scaled(low: u32, high: u32, part: u32) -> i64
 }
 
 /// The multiplier of a low side less that of the high side behind it, times a number.
-fn net_times(sides: &[u32; 384], side: usize, part: u32) -> i64
+fn net_times(sides: &[u32; 386], side: usize, part: u32) -> i64
     requires sides { AreMultipliers (slice_index sides.now) }
-    requires side { side + 1 < 384 }
+    requires side { side + 1 < 386 }
     requires part { part ≤ 65535 }
-    ensures value { result ≡ net_multiplier (slice_index sides.now) side *ℤ pos part }
+    ensures value { result ≡ price (slice_index sides.now) side *ℤ pos part }
     ensures within { IsWithin (16777216 * 65535) result }
 {
     scaled(sides[side], sides[side + 1], part)
@@ -102,29 +102,29 @@ fn product(multiplier: u32, bound: u32) -> i64
 }
 
 /// The multiplier of the high side times the upper bound less that of the low side times the lower.
-fn bounds_weight(sides: &[u32; 384], side: usize, low: u32, high: u32) -> i64
+fn bounds_price(sides: &[u32; 386], side: usize, low: u32, high: u32) -> i64
     requires sides { AreMultipliers (slice_index sides.now) }
-    requires side { side + 1 < 384 }
+    requires side { side + 1 < 386 }
     requires low { low ≤ 33553920 }
     requires high { high ≤ 33553920 }
-    ensures value { result ≡ bounds_weight (slice_index sides.now) side low high }
+    ensures value { result ≡ bounds_price (slice_index sides.now) side low high }
     ensures within { IsWithin (16777216 * 33553920) result }
 {
     product(sides[side + 1], high) - product(sides[side], low)
 }
 
 /// What the rows add to the constant.
-pub fn constant_weight(problem: &Problem, sides: &[u32; 384]) -> i64
+pub fn rows_constant(problem: &Problem, sides: &[u32; 386]) -> i64
     requires well_made { IsWellMade (problem_of problem.now) }
     requires sides { AreMultipliers (slice_index sides.now) }
-    ensures value { result ≡ constant_weight (problem_of problem.now) (slice_index sides.now) }
+    ensures value { result ≡ rows_constant (problem_of problem.now) (slice_index sides.now) }
     ensures within { IsWithin (128 * (16777216 * 33553920)) result }
 {
     let rows = problem.spec.rows();
     let mut sum = 0i64;
     for r in 0..rows.len() {
         let row = &rows[r];
-        sum += bounds_weight(sides, 2 * r, lower_bound(row), upper_bound(row));
+        sum += bounds_price(sides, 2 * r, lower_bound(row), upper_bound(row));
     }
     sum
 }
@@ -137,21 +137,21 @@ fn add_row(bank: &Bank, row: &Row, low: u32, high: u32, weights: &mut [i64])
     requires high { high ≤ 16777216 }
     requires room { size bank.now ≤ length weights.old }
     requires within { (i : ℕ) → i < size bank.now → IsWithin item_top (at weights.old i) }
-    ensures { (i : ℕ) → i < size bank.now → IsAdded (16777216 * 65535) (at weights.old i) ((pos low -ℤ pos high) *ℤ pos (item_part bank.now row.now i)) (at weights.new i) }
+    ensures { (i : ℕ) → i < size bank.now → IsAdded (16777216 * 65535) (at weights.old i) ((pos low -ℤ pos high) *ℤ pos (item_activity bank.now row.now i)) (at weights.new i) }
 {
     for i in 0..bank.items() {
-        weights[i as usize] += scaled(low, high, item_part(bank, row, i));
+        weights[i as usize] += scaled(low, high, item_activity(bank, row, i));
     }
 }
 
 /// Adds to the weight of each item what a row of the plan adds; most rows have no multiplier.
-fn add_row_at(problem: &Problem, sides: &[u32; 384], r: usize, weights: &mut [i64])
+fn add_row_at(problem: &Problem, sides: &[u32; 386], r: usize, weights: &mut [i64])
     requires well_made { IsWellMade (problem_of problem.now) }
     requires sides { AreMultipliers (slice_index sides.now) }
     requires row { r < length problem.now.spec.now.rows }
     requires room { size problem.now.bank.now ≤ length weights.old }
     requires within { (i : ℕ) → i < size problem.now.bank.now → IsWithin item_top (at weights.old i) }
-    ensures { (i : ℕ) → i < size problem.now.bank.now → IsAdded (16777216 * 65535) (at weights.old i) (row_item (problem_of problem.now) (slice_index sides.now) i r) (at weights.new i) }
+    ensures { (i : ℕ) → i < size problem.now.bank.now → IsAdded (16777216 * 65535) (at weights.old i) (item_share (problem_of problem.now) (slice_index sides.now) i r) (at weights.new i) }
 {
     let low = sides[2 * r];
     let high = sides[2 * r + 1];
@@ -161,26 +161,26 @@ fn add_row_at(problem: &Problem, sides: &[u32; 384], r: usize, weights: &mut [i6
 }
 
 /// What the rows add to the weight of each stimulus.
-pub fn rows_stimulus(problem: &Problem, sides: &[u32; 384]) -> i64
+pub fn rows_stimulus(problem: &Problem, sides: &[u32; 386]) -> i64
     requires well_made { IsWellMade (problem_of problem.now) }
     requires sides { AreMultipliers (slice_index sides.now) }
-    ensures value { result ≡ total_z (length problem.now.spec.now.rows) (row_stimulus (problem_of problem.now) (slice_index sides.now)) }
+    ensures value { result ≡ total_z (length problem.now.spec.now.rows) (stimulus_share (problem_of problem.now) (slice_index sides.now)) }
     ensures within { IsWithin (128 * (16777216 * 65535)) result }
 {
     let rows = problem.spec.rows();
     let mut sum = 0i64;
     for r in 0..rows.len() {
-        sum += net_times(sides, 2 * r, stimulus_part(&rows[r]));
+        sum += net_times(sides, 2 * r, stimulus_activity(&rows[r]));
     }
     sum
 }
 
 /// What its stimulus adds to the weight of an item.
-fn stimulus_item(problem: &Problem, sides: &[u32; 384], which: u8) -> i64
+fn price_of_stimulus(problem: &Problem, sides: &[u32; 386], which: u8) -> i64
     requires well_made { IsWellMade (problem_of problem.now) }
     requires sides { AreMultipliers (slice_index sides.now) }
     requires which { which ≤ 64 }
-    ensures value { result ≡ stimulus_item (problem_of problem.now) (slice_index sides.now) which }
+    ensures value { result ≡ price_of_stimulus (problem_of problem.now) (slice_index sides.now) which }
     ensures within { IsWithin (16777216 * 65535) result }
 {
     if which == 0 {
@@ -206,18 +206,18 @@ fn information(problem: &Problem, ray: bool, item: u16) -> i64
 }
 
 /// The weight of an item before a row adds to it.
-fn plain_weight(problem: &Problem, sides: &[u32; 384], ray: bool, item: u16) -> i64
+fn plain_weight(problem: &Problem, sides: &[u32; 386], ray: bool, item: u16) -> i64
     requires well_made { IsWellMade (problem_of problem.now) }
     requires sides { AreMultipliers (slice_index sides.now) }
     requires item { item < size problem.now.bank.now }
     ensures value { result ≡ weight_up_to (problem_of problem.now) (slice_index sides.now) ray 0 item }
     ensures within { IsWithin (16777216 * 65535 + 256000000) result }
 {
-    information(problem, ray, item) + stimulus_item(problem, sides, problem.bank.stimulus(item))
+    information(problem, ray, item) + price_of_stimulus(problem, sides, problem.bank.stimulus(item))
 }
 
 /// The weight of each item of the bank before a row adds to it.
-fn plain_weights(problem: &Problem, sides: &[u32; 384], ray: bool) -> [i64; 512]
+fn plain_weights(problem: &Problem, sides: &[u32; 386], ray: bool) -> [i64; 512]
     requires well_made { IsWellMade (problem_of problem.now) }
     requires sides { AreMultipliers (slice_index sides.now) }
     ensures value { (i : ℕ) → i < size problem.now.bank.now → at result i ≡ weight_up_to (problem_of problem.now) (slice_index sides.now) ray 0 i }
@@ -231,7 +231,7 @@ fn plain_weights(problem: &Problem, sides: &[u32; 384], ray: bool) -> [i64; 512]
 }
 
 /// The weight of each item of the bank; of a ray without its information.
-pub fn item_weights(problem: &Problem, sides: &[u32; 384], ray: bool) -> [i64; 512]
+pub fn item_weights(problem: &Problem, sides: &[u32; 386], ray: bool) -> [i64; 512]
     requires well_made { IsWellMade (problem_of problem.now) }
     requires sides { AreMultipliers (slice_index sides.now) }
     ensures value { (i : ℕ) → i < size problem.now.bank.now → at result i ≡ item_weight (problem_of problem.now) (slice_index sides.now) ray i }
@@ -246,10 +246,10 @@ pub fn item_weights(problem: &Problem, sides: &[u32; 384], ray: bool) -> [i64; 5
 }
 
 /// The weight of a stimulus, from what the rows add to it.
-pub fn stimulus_weight(problem: &Problem, sides: &[u32; 384], rows: i64, which: u8) -> i64
+pub fn stimulus_weight(problem: &Problem, sides: &[u32; 386], rows: i64, which: u8) -> i64
     requires well_made { IsWellMade (problem_of problem.now) }
     requires sides { AreMultipliers (slice_index sides.now) }
-    requires rows { rows ≡ total_z (length problem.now.spec.now.rows) (row_stimulus (problem_of problem.now) (slice_index sides.now)) }
+    requires rows { rows ≡ total_z (length problem.now.spec.now.rows) (stimulus_share (problem_of problem.now) (slice_index sides.now)) }
     requires few { IsWithin (128 * (16777216 * 65535)) rows }
     requires first { 0 < which }
     requires last { which ≤ stimuli_of problem.now.bank.now }
@@ -259,5 +259,5 @@ pub fn stimulus_weight(problem: &Problem, sides: &[u32; 384], rows: i64, which: 
     let place = which as usize - 1;
     let bound = problem.spec.bounds()[place];
     let side = 2 * problem.spec.rows().len() + 2 * place;
-    bounds_weight(sides, side, bound.low, bound.high) + rows
+    bounds_price(sides, side, bound.low, bound.high) + rows
 }

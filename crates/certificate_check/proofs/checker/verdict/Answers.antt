@@ -1,4 +1,4 @@
-use Rattle.std.proofs.Common.{◌≡◌, inl, inr, refl, sym, ◌∙◌, false, arith}
+use Rattle.std.proofs.Common.{inl, inr, refl, sym, ◌∙◌}
 use Rattle.std.specs.Option.{option_map}
 use Rattle.std.proofs.Math.Bool.{true≢false}
 use Rattle.bank_tables.specs.Items.{has}

@@ -1,8 +1,6 @@
-use Rattle.std.proofs.Common.{◌≤◌, ◌≡◌, ◌+◌, ◌*◌, arith, w64, to_z}
-use Rattle.std.specs.Prelude.{ℤ, pos}
+use Rattle.std.proofs.Common.{arith}
 use Rattle.std.proofs.lemmas.Int.{ints}
 use Rattle.bank_tables.specs.Items.{has}
-use Rattle.exam_model.specs.Forms.{objective}
 use Rattle.constraint_model.specs.Views.{problem_of}
 use Rattle.certificate_check.proofs.Steps.{objective_high}
 use Rattle.certificate_check.proofs.leaf.closing_value.Goals as goal

@@ -1,4 +1,4 @@
-use Rattle.std.proofs.Common.{◌<◌, ◌+◌, ◌≡◌, arith, inl, inr, ap, ◌∙◌}
+use Rattle.std.proofs.Common.{◌≡◌, arith, inl, inr, ap, ◌∙◌}
 use Rattle.bank_tables.specs.Items.{Set}
 use Rattle.exam_model.specs.Forms.{size_in}
 use Rattle.exam_model.specs.Paths.{Path, is_free}

@@ -1,7 +1,5 @@
-use Rattle.std.proofs.Common.{◌↔◌, drop, Bool, true, false}
-use Rattle.std.specs.Prelude.{List}
-use Rattle.exam_model.specs.declared.node.Node.{Node}
-use Rattle.exam_model.specs.Spending.{IsDepthFirst, HasNoBranch}
+use Rattle.std.proofs.Common.{◌↔◌, drop}
+use Rattle.exam_model.specs.Spending.{IsDepthFirst}
 use Rattle.certificate_check.proofs.ShapeLaws.{IsRestDepthFirst}
 use Rattle.certificate_check.proofs.shape.is_depth_first.Given as goal
 

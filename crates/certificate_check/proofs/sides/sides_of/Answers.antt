@@ -6,14 +6,14 @@ use Rattle.certificate_check.proofs.SideLaws.{IsRead, none_read, more_read, all_
 use Rattle.certificate_check.proofs.sides.sides_of.Goals as goal
 
 pub loop-side-init : goal.loop-side-init
-loop-side-init c = (refl, (0, none_read c.args.vector.now 384 c.requires.vector))
+loop-side-init c = (refl, (0, none_read c.args.vector.now 386 c.requires.vector))
 
 pub loop-side-preserved : goal.loop-side-preserved
 loop-side-preserved c =
     let v : Multipliers = c.args.vector.now in
     let i = c.loop-side.side-index in
     let pair : ℕ × ℕ = get_or v i (0, 0) in
-    let low : pair.0 < 384 = c.requires.sides i (0, 0) c.loop-side-test.true in
+    let low : pair.0 < 386 = c.requires.sides i (0, 0) c.loop-side-test.true in
     let (from, read) = c.loop-side.invariant.1 in (
       length-set c.loop-side.sides pair.0 pair.1 ∙ c.loop-side.invariant.0,
       (

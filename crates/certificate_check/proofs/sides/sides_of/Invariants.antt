@@ -3,4 +3,4 @@ use Rattle.certificate_check.proofs.SideLaws.{IsRead}
 use Rattle.certificate_check.proofs.sides.sides_of.Given as goal
 
 abbrev pub invariant-loop-side : goal.invariant-loop-side
-invariant-loop-side l = (length l.sides ≡ 384) × ((from : ℕ) × IsRead l.vector (drop l.side-index l.vector) l.sides from)
+invariant-loop-side l = (length l.sides ≡ 386) × ((from : ℕ) × IsRead l.vector (drop l.side-index l.vector) l.sides from)

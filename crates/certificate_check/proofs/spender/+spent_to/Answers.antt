@@ -1,5 +1,4 @@
-use Rattle.std.proofs.Common.{◌≡◌, ℕ, ◌<◌, length, inl, inr, refl, ap, subst}
-use Rattle.exam_model.specs.declared.node.Node.{Node}
+use Rattle.std.proofs.Common.{◌≡◌, ◌<◌, length, inl, inr, refl, ap, subst}
 use Rattle.exam_model.specs.declared.node.Node.TheVariants.{BranchItem, Bound, Ray, Count, Whole, Open}
 use Rattle.exam_model.specs.Paths.{Path}
 use Rattle.exam_model.specs.Spending.{IsSpentNode}

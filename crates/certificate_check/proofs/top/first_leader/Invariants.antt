@@ -1,4 +1,4 @@
-use Rattle.std.proofs.Common.{ℕ, ◌*◌, ◌<◌}
+use Rattle.std.proofs.Common.{◌*◌, ◌<◌}
 use Rattle.std.specs.Prelude.{IfSome}
 use Rattle.bank_tables.specs.Items.{Set}
 use Rattle.certificate_check.specs.Tops.{IsBest, AreLeaders}

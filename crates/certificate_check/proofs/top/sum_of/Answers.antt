@@ -1,9 +1,10 @@
-use Rattle.std.proofs.Common.{◌≡◌, ◌+◌, ◌*◌, ◌<◌, ◌≤◌, ℕ, arith, ◌∙◌, ap, w64, to_z, of_z, sym, subst, add-one, refl}
+use Rattle.std.proofs.Common.{◌≡◌, ◌+◌, ◌*◌, ◌<◌, ℕ, arith, ◌∙◌, ap, w64, to_z, of_z, sym, subst, add-one, refl}
 use Rattle.std.specs.Prelude.{ℤ, ◌+ℤ◌}
 use Rattle.std.proofs.lemmas.Int.{ints}
 use Rattle.bank_tables.specs.Items.{has}
 use Rattle.bank_tables.specs.Sums.{sum_in_z}
-use Rattle.certificate_check.specs.Weights.{IsWithin, at, item_top}
+use Rattle.exam_model.specs.Ranges.{IsWithin, at}
+use Rattle.certificate_check.specs.Weights.{item_top}
 use Rattle.certificate_check.proofs.top.sum_of.Goals as goal
 
 step : (i : ℕ) (a b a' : ℤ) → i < 512 → a' ≡ a → IsWithin (i * 141835091722240) a → IsWithin item_top b → to_z w64 (of_z w64 (a' +ℤ to_z w64 (of_z w64 b))) ≡ a +ℤ b

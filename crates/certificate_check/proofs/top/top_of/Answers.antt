@@ -1,4 +1,4 @@
-use Rattle.std.proofs.Common.{◌/◌, arith, refl}
+use Rattle.std.proofs.Common.{◌/◌, refl}
 use Rattle.bank_tables.specs.Items.{has, Set}
 use Rattle.certificate_check.proofs.TopLaws.{empty_top, more_top, none_left, leaders_small, leaders_with}
 use Rattle.certificate_check.proofs.top.top_of.Goals as goal

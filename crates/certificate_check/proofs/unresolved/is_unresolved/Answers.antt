@@ -1,4 +1,3 @@
-use Rattle.constraint_model.specs.Views.{problem_of}
 use Rattle.certificate_check.specs.Cuts.{path_of}
 use Rattle.certificate_check.proofs.unresolved.is_unresolved.Goals as goal
 

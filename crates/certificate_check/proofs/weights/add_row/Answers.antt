@@ -2,7 +2,9 @@ use Rattle.std.proofs.Common.{◌≡◌, ◌≢◌, ◌<◌, ◌+◌, ◌⊎◌,
 use Rattle.std.specs.Prelude.{ℤ, pos, ◌+ℤ◌, ◌-ℤ◌, ◌*ℤ◌}
 use Rattle.std.proofs.lemmas.Int.{ints}
 use Rattle.std.proofs.lemmas.List.{get_or-set_same, get_or-set_other}
-use Rattle.certificate_check.specs.Weights.{IsWithin, IsAdded, at, item_part, item_top}
+use Rattle.exam_model.specs.Weights.{item_activity}
+use Rattle.exam_model.specs.Ranges.{IsWithin, at}
+use Rattle.certificate_check.specs.Weights.{IsAdded, item_top}
 use Rattle.certificate_check.proofs.weights.add_row.Goals as goal
 
 -- what the code adds is the sum
@@ -22,14 +24,14 @@ loop-i-preserved c =
     let within : i < length c.loop-i.weights = omega (arith, c.requires.room) in
     let old : a ≡ at c.args.weights.now i = c.loop-i.invariant.rest i (omega arith) in
     let e : new ≡ a +ℤ b = added a b (subst (IsWithin item_top) (sym old) (c.requires.within i (omega arith))) c.scaled.ensures.within in
-    let term : b ≡ net *ℤ pos (item_part c.args.bank.now c.args.row.now i) = c.scaled.ensures.value ∙ ap (λ (m : ℕ). net *ℤ pos m) c.item_part.ensures.part in
+    let term : b ≡ net *ℤ pos (item_activity c.args.bank.now c.args.row.now i) = c.scaled.ensures.value ∙ ap (λ (m : ℕ). net *ℤ pos m) c.item_activity.ensures.part in
     record {
       done =
           λ h w.
           elim (last_or_before h i w) [
-            | inl before ↦ let ne : h ≢ i = omega arith in subst (IsAdded 1099494850560 (at c.args.weights.now h) (net *ℤ pos (item_part c.args.bank.now c.args.row.now h))) (sym (get_or-set_other c.loop-i.weights i h new (pos 0) ne)) (c.loop-i.invariant.done h before)
+            | inl before ↦ let ne : h ≢ i = omega arith in subst (IsAdded 1099494850560 (at c.args.weights.now h) (net *ℤ pos (item_activity c.args.bank.now c.args.row.now h))) (sym (get_or-set_other c.loop-i.weights i h new (pos 0) ne)) (c.loop-i.invariant.done h before)
             | inr this ↦
-                subst (λ (k : ℕ). IsAdded 1099494850560 (at c.args.weights.now k) (net *ℤ pos (item_part c.args.bank.now c.args.row.now k)) (at (set c.loop-i.weights i new) k)) (sym this)
+                subst (λ (k : ℕ). IsAdded 1099494850560 (at c.args.weights.now k) (net *ℤ pos (item_activity c.args.bank.now c.args.row.now k)) (at (set c.loop-i.weights i new) k)) (sym this)
                 (record {
                   within = subst (IsWithin 1099494850560) term c.scaled.ensures.within;
                   sum = get_or-set_same c.loop-i.weights i new (pos 0) within ∙ e ∙ ap (λ z. z +ℤ b) old ∙ ap (λ z. at c.args.weights.now i +ℤ z) term;

@@ -4,9 +4,10 @@ use Rattle.std.proofs.lemmas.Int.{ints}
 use Rattle.bank_tables.specs.Sums.{total_z}
 use Rattle.bank_tables.specs.Tables.{stimulus}
 use Rattle.exam_model.specs.declared.row.Row.{Row}
-use Rattle.exam_model.specs.Relaxed.{weight}
+use Rattle.exam_model.specs.Weights.{weight, item_share, price_of_stimulus, item_weight}
 use Rattle.constraint_model.specs.Views.{problem_of}
-use Rattle.certificate_check.specs.Weights.{IsWithin, IsAdded, at, row_item, stimulus_item, weight_up_to, item_top}
+use Rattle.exam_model.specs.Ranges.{IsWithin, at}
+use Rattle.certificate_check.specs.Weights.{IsAdded, weight_up_to, item_top}
 use Rattle.certificate_check.proofs.weights.item_weights.Goals as goal
 
 -- a row more goes to the rows
@@ -31,11 +32,12 @@ loop-r-preserved c =
     let M : ℕ → ℕ = slice_index c.args.sides.now in
     let r = c.loop-r.r in
     record {
-      value = λ i w. rw add-one (regrouped (at c.add_row_at.new.weights i) (at c.loop-r.weights i) (row_item P M i r) (pos (weight P c.args.ray i)) (total_z r (row_item P M i)) (stimulus_item P M (stimulus P.bank i)) (c.add_row_at.ensures i w).sum (c.loop-r.invariant.value i w));
-      within = λ i w. more_within r (at c.add_row_at.new.weights i) (at c.loop-r.weights i) (row_item P M i r) (c.loop-r.invariant.within i w) (c.add_row_at.ensures i w);
+      value = λ i w. rw add-one (regrouped (at c.add_row_at.new.weights i) (at c.loop-r.weights i) (item_share P M i r) (pos (weight P c.args.ray i)) (total_z r (item_share P M i)) (price_of_stimulus P M (stimulus P.bank i)) (c.add_row_at.ensures i w).sum (c.loop-r.invariant.value i w));
+      within = λ i w. more_within r (at c.add_row_at.new.weights i) (at c.loop-r.weights i) (item_share P M i r) (c.loop-r.invariant.within i w) (c.add_row_at.ensures i w);
     }
 
 pub returns-clause-value : goal.returns-clause-value
+unfolding item_weight
 returns-clause-value c =
     let P = problem_of c.args.problem.now in
     let M : ℕ → ℕ = slice_index c.args.sides.now in

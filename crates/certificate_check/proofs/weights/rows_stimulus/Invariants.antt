@@ -2,12 +2,13 @@ use Rattle.std.proofs.Common.{◌≡◌, ◌*◌}
 use Rattle.std.specs.Prelude.{slice_index}
 use Rattle.bank_tables.specs.Sums.{total_z}
 use Rattle.constraint_model.specs.Views.{problem_of}
-use Rattle.certificate_check.specs.Weights.{IsWithin, row_stimulus}
+use Rattle.exam_model.specs.Weights.{stimulus_share}
+use Rattle.exam_model.specs.Ranges.{IsWithin}
 use Rattle.certificate_check.proofs.weights.rows_stimulus.Given as goal
 
 abbrev pub invariant-loop-r : goal.invariant-loop-r
 invariant-loop-r l =
     record {
-      value : l.sum ≡ total_z l.r (row_stimulus (problem_of l.problem) (slice_index l.sides));
+      value : l.sum ≡ total_z l.r (stimulus_share (problem_of l.problem) (slice_index l.sides));
       within : IsWithin (l.r * (16777216 * 65535)) l.sum;
     }

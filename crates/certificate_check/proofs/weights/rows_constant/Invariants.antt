@@ -2,12 +2,13 @@ use Rattle.std.proofs.Common.{◌≡◌, ◌*◌}
 use Rattle.std.specs.Prelude.{slice_index}
 use Rattle.bank_tables.specs.Sums.{total_z}
 use Rattle.constraint_model.specs.Views.{problem_of}
-use Rattle.certificate_check.specs.Weights.{IsWithin, row_constant}
-use Rattle.certificate_check.proofs.weights.constant_weight.Given as goal
+use Rattle.exam_model.specs.Weights.{constant_share}
+use Rattle.exam_model.specs.Ranges.{IsWithin}
+use Rattle.certificate_check.proofs.weights.rows_constant.Given as goal
 
 abbrev pub invariant-loop-r : goal.invariant-loop-r
 invariant-loop-r l =
     record {
-      value : l.sum ≡ total_z l.r (row_constant (problem_of l.problem) (slice_index l.sides));
+      value : l.sum ≡ total_z l.r (constant_share (problem_of l.problem) (slice_index l.sides));
       within : IsWithin (l.r * (16777216 * 33553920)) l.sum;
     }
