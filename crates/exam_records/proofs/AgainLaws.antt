@@ -19,8 +19,8 @@ use Rattle.proof_tree.proofs.Fields.{IsBytes, Stands, stand_first, stand_second,
 use Rattle.proof_tree.proofs.TreeLaws.{stands_at_front, few_bytes}
 use Rattle.exam_records.specs.declared.fault.RecordFault.{RecordFault}
 use Rattle.exam_records.specs.declared.fault.RecordFault.TheVariants.{Extra, Memory}
-use Rattle.exam_records.specs.declared.spelled.Record.{Record}
-use Rattle.exam_records.specs.Shape.{GoesWith, Fits, IsTreeOrNone, IsRecord}
+use Rattle.history_model.specs.Judging.{Record}
+use Rattle.exam_records.specs.Shape.{GoesWith, IsInRange, IsTreeOrNone, IsRecord}
 use Rattle.exam_records.specs.Sets.{set_bytes}
 use Rattle.exam_records.specs.Spelling.{cause_byte, mark_byte, entry_bytes, tree_bytes, payload_of}
 use Rattle.exam_records.specs.Reading.{field, flag_at, cause_of, started, set_aside, served, answered, closed, record_of_kind, record_of}
@@ -130,7 +130,7 @@ closed_again session bytes next fits p =
 alone : (bytes text : List ℕ) (next : ℕ) → Stands bytes 0 (text ++ []) next → Stands bytes 0 text next
 alone bytes text next p = subst (λ (t : List ℕ). Stands bytes 0 t next) (append-nil text) p
 
-entry_again : (entry : Entry) (tree : Option ProofTree) (bytes : List ℕ) (next : ℕ) → GoesWith entry tree → Fits entry → IsTreeOrNone tree → Stands bytes 0 (entry_bytes entry ++ tree_bytes tree) next → ReadsTo bytes (record { entry = entry; tree = tree }) next
+entry_again : (entry : Entry) (tree : Option ProofTree) (bytes : List ℕ) (next : ℕ) → GoesWith entry tree → IsInRange entry → IsTreeOrNone tree → Stands bytes 0 (entry_bytes entry ++ tree_bytes tree) next → ReadsTo bytes (record { entry = entry; tree = tree }) next
 entry_again (Started session booking eligible) None bytes next goes fits is p = started_again session booking eligible bytes next fits (alone bytes (entry_bytes (Started session booking eligible)) next p)
 entry_again (Started session booking eligible) (Some T) bytes next goes fits is p = absurd goes
 entry_again (SetAside session cause nodes) None bytes next goes fits is p = absurd goes

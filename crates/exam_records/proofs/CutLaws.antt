@@ -21,8 +21,8 @@ use Rattle.proof_tree.proofs.Fields.{Stands, IsWide, stand_first, stand_second, 
 use Rattle.proof_tree.proofs.CutLaws.{cut_off_is_told as cut_off_tree_is_told}
 use Rattle.exam_records.specs.declared.fault.RecordFault.{RecordFault}
 use Rattle.exam_records.specs.declared.fault.RecordFault.TheVariants.{Short, Tree, Extra}
-use Rattle.exam_records.specs.declared.spelled.Record.{Record}
-use Rattle.exam_records.specs.Shape.{GoesWith, Fits, IsTreeOrNone, IsRecord}
+use Rattle.history_model.specs.Judging.{Record}
+use Rattle.exam_records.specs.Shape.{GoesWith, IsInRange, IsTreeOrNone, IsRecord}
 use Rattle.exam_records.specs.Sets.{set_bytes}
 use Rattle.exam_records.specs.Spelling.{cause_byte, mark_byte, entry_bytes, tree_bytes, payload_of}
 use Rattle.exam_records.specs.Reading.{field, of_tree, set_at, flag_at, tree_at, started, set_aside, served, answered, closed, record_of_kind, record_of}
@@ -228,7 +228,7 @@ cut_closed session bytes k lt fits p =
 alone : (bytes text : List ℕ) (next : ℕ) → Stands bytes 0 (text ++ []) next → Stands bytes 0 text next
 alone bytes text next p = subst (λ (t : List ℕ). Stands bytes 0 t next) (append-nil text) p
 
-cut_entry : (entry : Entry) (tree : Option ProofTree) (bytes : List ℕ) (k : ℕ) → GoesWith entry tree → Fits entry → IsTreeOrNone tree → k < length bytes → Stands bytes 0 (entry_bytes entry ++ tree_bytes tree) (length bytes) → IsCutOff (length (entry_bytes entry)) k (record_of (take k bytes))
+cut_entry : (entry : Entry) (tree : Option ProofTree) (bytes : List ℕ) (k : ℕ) → GoesWith entry tree → IsInRange entry → IsTreeOrNone tree → k < length bytes → Stands bytes 0 (entry_bytes entry ++ tree_bytes tree) (length bytes) → IsCutOff (length (entry_bytes entry)) k (record_of (take k bytes))
 cut_entry (Started session booking eligible) None bytes k goes fits is lt p = cut_started session booking eligible bytes k lt fits (alone bytes (entry_bytes (Started session booking eligible)) (length bytes) p)
 cut_entry (Started session booking eligible) (Some T) bytes k goes fits is lt p = absurd goes
 cut_entry (SetAside session cause nodes) None bytes k goes fits is lt p = absurd goes

@@ -14,7 +14,7 @@ use Rattle.proof_tree.specs.Reading.{number_at, byte_at}
 use Rattle.proof_tree.proofs.Fields.{IsBytes, Stands, stand_both, wide16, wide32}
 use Rattle.proof_tree.proofs.NodeLaws.{chosen}
 use Rattle.exam_records.specs.declared.fault.RecordFault.{RecordFault}
-use Rattle.exam_records.specs.declared.spelled.Record.{Record}
+use Rattle.history_model.specs.Judging.{Record}
 use Rattle.exam_records.specs.Shape.{IsRecord}
 use Rattle.exam_records.specs.Sets.{set_bytes}
 use Rattle.exam_records.specs.Spelling.{cause_byte, mark_byte, entry_bytes, payload_of}

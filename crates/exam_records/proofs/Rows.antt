@@ -10,7 +10,7 @@ use Rattle.proof_tree.specs.declared.fault.TreeFault.TheVariants as tree
 use Rattle.proof_tree.specs.Spelling.{bytes_of}
 use Rattle.proof_tree.specs.Reading.{pair_at, pairs_at, multipliers_at, vectors_at, bound_at, node_of_kind, node_at, nodes_at, read}
 use Rattle.exam_records.specs.declared.fault.RecordFault.TheVariants.{Short, Kind, Field, Tree, Extra}
-use Rattle.exam_records.specs.declared.spelled.Record.{Record}
+use Rattle.history_model.specs.Judging.{Record}
 use Rattle.exam_records.specs.Sets.{number_of, numbers_of, items_at}
 use Rattle.exam_records.specs.Spelling.{entry_bytes, payload_of}
 use Rattle.exam_records.specs.Reading.{set_at, flag_at, tree_at, started, set_aside, served, answered, record_of_kind, record_of}

@@ -11,7 +11,7 @@ use Rattle.proof_tree.specs.declared.fault.TreeFault.{TreeFault}
 use Rattle.proof_tree.specs.Reading.{number_at, byte_at, read}
 use Rattle.exam_records.specs.declared.fault.RecordFault.{RecordFault}
 use Rattle.exam_records.specs.declared.fault.RecordFault.TheVariants.{Short, Kind, Field, Tree, Extra}
-use Rattle.exam_records.specs.declared.spelled.Record.{Record}
+use Rattle.history_model.specs.Judging.{Record}
 use Rattle.exam_records.specs.Sets.{words_of, items_at}
 
 -- a field before the tree: where it isn't whole, the payload is short

@@ -5,7 +5,7 @@ use Rattle.exam_model.specs.ProofTrees.{ProofTree}
 use Rattle.history_model.specs.declared.entry.Entry.{Entry}
 use Rattle.history_model.specs.declared.entry.Entry.TheVariants.{Started, SetAside, Served, Answered, Closed}
 use Rattle.proof_tree.specs.Shape.{IsTree}
-use Rattle.exam_records.specs.declared.spelled.Record.{Record}
+use Rattle.history_model.specs.Judging.{Record}
 
 -- a proof tree stands exactly where an item was served or eligibility was set aside, and the entry tells the number of
 -- its nodes
@@ -18,12 +18,12 @@ GoesWith (Closed session) None = Unit {0}
 GoesWith entry tree = ⊥
 
 -- the numbers of an entry fit the bytes that they are written in, and its set is one of items
-abbrev pub Fits : Entry → Type 0
-Fits (Started session booking eligible) = (session < 2 ^ 32) × (booking < 2 ^ 64) × AreWords eligible
-Fits (SetAside session cause nodes) = session < 2 ^ 32
-Fits (Served session step item form proved nodes) = (session < 2 ^ 32) × (step < 2 ^ 16) × (item < 2 ^ 16) × AreWords form
-Fits (Answered session step response) = (session < 2 ^ 32) × (step < 2 ^ 16) × (response < 2 ^ 8)
-Fits (Closed session) = session < 2 ^ 32
+abbrev pub IsInRange : Entry → Type 0
+IsInRange (Started session booking eligible) = (session < 2 ^ 32) × (booking < 2 ^ 64) × AreWords eligible
+IsInRange (SetAside session cause nodes) = session < 2 ^ 32
+IsInRange (Served session step item form proved nodes) = (session < 2 ^ 32) × (step < 2 ^ 16) × (item < 2 ^ 16) × AreWords form
+IsInRange (Answered session step response) = (session < 2 ^ 32) × (step < 2 ^ 16) × (response < 2 ^ 8)
+IsInRange (Closed session) = session < 2 ^ 32
 
 -- the tree, where one stands, has a spelling
 abbrev pub IsTreeOrNone : Option ProofTree → Type 0
@@ -32,5 +32,5 @@ IsTreeOrNone (Some T) = IsTree T
 
 pub record IsRecord (r : Record) : Type 0 where
   pub goes_with : GoesWith r.entry r.tree
-  pub fits : Fits r.entry
+  pub fits : IsInRange r.entry
   pub tree : IsTreeOrNone r.tree

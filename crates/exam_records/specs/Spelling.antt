@@ -8,7 +8,7 @@ use Rattle.history_model.specs.declared.entry.Cause.TheVariants.{NoForm, Spent}
 use Rattle.history_model.specs.declared.entry.Entry.{Entry}
 use Rattle.history_model.specs.declared.entry.Entry.TheVariants.{Started, SetAside, Served, Answered, Closed}
 use Rattle.proof_tree.specs.Spelling.{bytes_of}
-use Rattle.exam_records.specs.declared.spelled.Record.{Record}
+use Rattle.history_model.specs.Judging.{Record}
 use Rattle.exam_records.specs.Sets.{set_bytes}
 
 -- why eligibility was set aside, in one byte

@@ -20,7 +20,7 @@ pub enum RecordFault {
     Tree(TreeFault),
     /// The record ends here, and a byte is left.
     Extra(u64),
-    /// Want of memory.
+    /// Out of memory.
     Memory,
 }
 

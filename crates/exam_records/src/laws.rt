@@ -4,7 +4,7 @@ ghost use Rattle.std.specs.Prelude.{◌≡◌, ℕ, ◌/◌, ◌%◌, ◌<◌, �
 ghost use Rattle.std.specs.Int.{bit_at};
 ghost use Rattle.bank_tables.specs.Items.{Set};
 ghost use Rattle.exam_records.specs.declared.fault.RecordFault.TheVariants.{Extra};
-ghost use Rattle.exam_records.specs.declared.spelled.Record.{Record};
+ghost use Rattle.history_model.specs.Judging.{Record};
 ghost use Rattle.exam_records.specs.Shape.{IsRecord};
 ghost use Rattle.exam_records.specs.Sets.{set_bytes};
 ghost use Rattle.exam_records.specs.Spelling.{entry_bytes, payload_of};

@@ -3,17 +3,17 @@
 //! where each fault of a payload stands; it never judges whether an entry is legal or what a tree shows.
 #![tactic(auto)]
 
-mod condition;
 mod fault;
 pub mod laws;
 mod reading;
+mod record;
 mod sets;
-mod spelled;
+mod spellable;
 mod writing;
 
 pub use fault::RecordFault;
 pub use history_model::{Cause, Entry};
 pub use proof_tree::Memory;
 pub use reading::decode;
-pub use spelled::Record;
-pub use writing::encode;
+pub use record::Record;
+pub use writing::{encode, encode_parts};

@@ -5,14 +5,14 @@ ghost use Rattle.std.specs.Int.{w16, w32, w64};
 ghost use Rattle.exam_text.specs.First.{Gives};
 ghost use Rattle.proof_tree.specs.Reading.{number_at, byte_at};
 ghost use Rattle.exam_records.specs.declared.fault.RecordFault.TheVariants.{Memory};
-ghost use Rattle.exam_records.specs.declared.spelled.Record.{Record};
+ghost use Rattle.history_model.specs.Judging.{Record};
 ghost use Rattle.exam_records.specs.Shape.{IsRecord};
 ghost use Rattle.exam_records.specs.Spelling.{payload_of};
 ghost use Rattle.exam_records.specs.Reading.{field, flag_at, cause_of, tree_at, started, set_aside, served, answered, closed, record_of_kind, record_of};
 
 use crate::fault::RecordFault;
+use crate::record::Record;
 use crate::sets::set_of;
-use crate::spelled::Record;
 use history_model::{Cause, Entry};
 use proof_tree::{Tree, TreeFault};
 use std::alloc::Global;
@@ -229,7 +229,7 @@ fn record_of(alloc: Global, payload: &[u8]) -> Result<Record, RecordFault>
 
 /// The record that the payload spells, all of its bytes. The payload is the bytes of one record: the kind in a byte, the
 /// fields of the entry, and the tree where there is one; numbers are big-endian (docs/FORMATS.md has the table). Fails
-/// with the first fault in the order of reading, or for want of memory.
+/// with the first fault in the order of reading, or out of memory.
 pub fn decode(alloc: Global, payload: &[u8]) -> Result<Record, RecordFault>
     // What is read is a record, and the payload its one spelling.
     ensures found { IfOk result (λ rec. IsRecord rec × (payload.now ≡ payload_of rec)) }

@@ -2,12 +2,13 @@
 
 ghost use Rattle.std.specs.Prelude.{◌≡◌, ◌≤◌, ◌<◌, ◌∷◌, ◌++◌, length, OnOk, IfOk};
 ghost use Rattle.std.specs.Int.{w32, to_be_bytes};
+ghost use Rattle.std.specs.Option.{option_copied};
 ghost use Rattle.exam_records.specs.Shape.{GoesWith, IsRecord};
 ghost use Rattle.exam_records.specs.Spelling.{cause_byte, entry_bytes, tree_bytes, payload_of};
 
-use crate::condition::is_record;
+use crate::record::Record;
 use crate::sets::push_set;
-use crate::spelled::Record;
+use crate::spellable::is_record;
 use history_model::{Cause, Entry};
 use proof_tree::{Memory, Tree};
 use std::alloc::{AllocError, Global};
@@ -80,8 +81,8 @@ fn push_entry(out: &mut Vec<u8>, entry: &Entry) -> Result<(), AllocError>
     }
 }
 
-fn push_tree(alloc: Global, out: &mut Vec<u8>, tree: &Option<Tree>) -> Result<(), Memory>
-    ensures { OnOk result (out.new.items ≡ out.old.items ++ tree_bytes tree.now) }
+fn push_tree(alloc: Global, out: &mut Vec<u8>, tree: Option<&Tree>) -> Result<(), Memory>
+    ensures { OnOk result (out.new.items ≡ out.old.items ++ tree_bytes (option_copied tree.entry)) }
 {
     if let Some(tree) = tree {
         let bytes = proof_tree::encode(alloc, tree)?;
@@ -90,20 +91,32 @@ fn push_tree(alloc: Global, out: &mut Vec<u8>, tree: &Option<Tree>) -> Result<()
     Ok(())
 }
 
-/// The one spelling of the record, at most 86,154 bytes. The condition is that a tree stands exactly where the entry is
-/// SetAside or Served, and that the entry's number of nodes is the tree's. Fails only for want of memory.
+/// The one spelling of the record of an entry and its tree, at most 86,154 bytes. The condition is that a tree stands
+/// exactly where the entry is SetAside or Served, and that the entry's number of nodes is the tree's. Fails only where it
+/// is out of memory.
 #[tactic(auto, unfolding(crate::specs::Spelling::payload_of))]
+pub fn encode_parts(alloc: Global, entry: &Entry, tree: Option<&Tree>) -> Result<Vec<u8>, Memory>
+    requires { GoesWith entry.now (option_copied tree) }
+    ensures spelling { IfOk result (λ bytes. bytes.items ≡ payload_of (record { entry = entry.now; tree = option_copied tree.entry })) }
+    // A record that keeps the condition is one that `decode` gives.
+    ensures is_record { IsRecord (record { entry = entry.now; tree = option_copied tree.entry }) }
+    ensures some { IfOk result (λ bytes. 0 < length bytes.items) }
+    ensures few { IfOk result (λ bytes. length bytes.items ≤ 86154) }
+{
+    is_record(entry, tree);
+    let mut out = Vec::new(alloc);
+    push_entry(&mut out, entry)?;
+    push_tree(alloc, &mut out, tree)?;
+    Ok(out)
+}
+
+/// The one spelling of the record, as that of its entry and its tree.
 pub fn encode(alloc: Global, rec: &Record) -> Result<Vec<u8>, Memory>
     requires { GoesWith rec.now.entry rec.now.tree }
     ensures spelling { IfOk result (λ bytes. bytes.items ≡ payload_of rec.now) }
-    // A record that keeps the condition is one that `decode` gives.
     ensures is_record { IsRecord rec.now }
     ensures some { IfOk result (λ bytes. 0 < length bytes.items) }
     ensures few { IfOk result (λ bytes. length bytes.items ≤ 86154) }
 {
-    is_record(rec);
-    let mut out = Vec::new(alloc);
-    push_entry(&mut out, &rec.entry)?;
-    push_tree(alloc, &mut out, &rec.tree)?;
-    Ok(out)
+    encode_parts(alloc, &rec.entry, rec.tree.as_ref())
 }

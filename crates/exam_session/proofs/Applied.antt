@@ -1,5 +1,6 @@
 -- What a book needs for an entry that is legal behind its own.
 use Rattle.std.proofs.Common.{◌≡◌, ℕ, ◌+◌, ◌-◌, ◌≤◌, ◌<◌, Bool, true, false, cond, List, Some, None, refl, ap, ◌∙◌, arith}
+use Rattle.std.specs.Prelude.{min}
 use Rattle.bank_tables.specs.Tables.{Tables}
 use Rattle.bank_tables.specs.Validity.{IsBank}
 use Rattle.exam_model.specs.declared.seat.Seat.{Seat}
@@ -7,7 +8,7 @@ use Rattle.exam_model.specs.Plan.{Plan}
 use Rattle.exam_model.specs.Validity.{IsPlanFor}
 use Rattle.history_model.specs.declared.entry.Entry.{Entry}
 use Rattle.history_model.specs.declared.entry.Entry.TheVariants.{Started, SetAside, Served, Answered, Closed}
-use Rattle.history_model.specs.Entries.{starts, is_started, seat_of}
+use Rattle.history_model.specs.Entries.{starts, sessions, is_started, seat_of}
 use Rattle.history_model.specs.Legality.{Legal, LegalRun}
 use Rattle.history_model.proofs.Standing.{there, waiting}
 use Rattle.history_model.proofs.Running.{pending_is_of_seat, responses_number}
@@ -51,9 +52,22 @@ is_seated b plan H seats e bank valid no_start run legal kept =
 pub room_left : (len cap room new_len new_cap added : ℕ) → len + room ≤ cap → 0 < room → new_len ≡ len + added → new_cap ≡ cap → added ≤ 1 → new_len + (room - 1) ≤ new_cap
 room_left len cap room new_len new_cap added fits some longer same few = omega arith
 
-pub one_at_most : (t : Bool) → cond t 1 0 ≤ 1
-one_at_most true = omega arith
-one_at_most false = omega arith
+-- the session that starts is below the plan's limit
+pub is_below : (b : Tables) (plan : Plan) (H : List Entry) (e : Entry) → Legal b plan H e → starts e ≡ true → sessions H < plan.sessions
+is_below b plan H (Started session booking eligible) legal start = let number = legal.number.next in let within = legal.number.within in omega arith
+is_below b plan H (SetAside session cause nodes) legal start = absurd (cc)
+is_below b plan H (Served session step item form proved nodes) legal start = absurd (cc)
+is_below b plan H (Answered session step response) legal start = absurd (cc)
+is_below b plan H (Closed session) legal start = absurd (cc)
+
+-- so a list with an element for each session has room for it
+pub seat_free : (limit count len cap room : ℕ) → min limit (len + room) ≤ cap → 0 < room → len ≡ count → count < limit → len < cap
+seat_free limit count len cap room fits some number below = omega arith
+
+-- and room is left, where one was added for a start and none else
+pub seats_left : (limit count len cap room new_len new_cap : ℕ) (start : Bool) → min limit (len + room) ≤ cap → 0 < room → len ≡ count → (start ≡ true → count < limit) → new_len ≡ len + cond start 1 0 → new_cap ≡ cap → min limit (new_len + (room - 1)) ≤ new_cap
+seats_left limit count len cap room new_len new_cap true fits some number below longer same = omega arith
+seats_left limit count len cap room new_len new_cap false fits some number below longer same = omega arith
 
 -- an entry that isn't Started isn't a start
 pub no_start : (e : Entry) → ((session booking : ℕ) (eligible : List ℕ) → e ≡ Started session booking eligible → ⊥) → starts e ≡ false

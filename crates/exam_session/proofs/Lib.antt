@@ -3,7 +3,10 @@ pub mod BookLaws
 pub mod SeatNotes
 pub mod BookingNotes
 pub mod CountNotes
+pub mod DrawNotes
+pub mod RecordedLaws
 pub mod ReasonNotes
+pub mod TotalLaws
 pub mod EmptyBook
 pub mod Applied
 pub mod FormLaws

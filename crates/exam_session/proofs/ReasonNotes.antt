@@ -15,7 +15,8 @@ use Rattle.history_model.specs.declared.illegal.Illegal.{Illegal}
 use Rattle.history_model.specs.declared.illegal.Illegal.TheVariants.{NotNumber, Booked, NotDrawn, NoSession, NotPending, IsAside, NotForm, NotItem, NotSpent, Tree, NotWaiting, BadResponse, Ended}
 use Rattle.history_model.specs.Entries.{is_set_aside}
 use Rattle.history_model.specs.SessionProblems.{IsProblemOf}
-use Rattle.history_model.specs.Judging.{Claim, claim_of_mark, claim_of_cause}
+use Rattle.history_model.specs.declared.claim.Claim.{Claim}
+use Rattle.history_model.specs.Judging.{claim_of_mark, claim_of_cause}
 use Rattle.history_model.specs.Reasons.{IsIllegal}
 use Rattle.exam_session.specs.Claims.{IsNotShown}
 

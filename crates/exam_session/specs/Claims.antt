@@ -1,18 +1,12 @@
--- What a record claims of its tree, and why the tree doesn't show it.
+-- Why a tree doesn't show what an entry claims of it.
 use Rattle.std.specs.Prelude.{◌≡◌, ℕ, Option}
 use Rattle.bank_tables.specs.Items.{Set}
 use Rattle.exam_model.specs.Problem.{Problem}
 use Rattle.exam_model.specs.ProofTrees.{ProofTree}
 use Rattle.history_model.specs.declared.illegal.Illegal.{Illegal}
 use Rattle.history_model.specs.declared.illegal.Illegal.TheVariants.{NotSpent, Tree}
-use Rattle.history_model.specs.Judging.{Claim, form_is_best, none_is_form, budget_is_spent, HasTree, HasVerdict, IsAsked}
-use Rattle.exam_session.specs.declared.claims.Claim.{Claim as Claimed}
-use Rattle.exam_session.specs.declared.claims.Claim.TheVariants.{FormIsBest, NoneIsForm, BudgetIsSpent}
-
-abbrev pub claim_of : Claimed → Claim
-claim_of FormIsBest = form_is_best
-claim_of NoneIsForm = none_is_form
-claim_of BudgetIsSpent = budget_is_spent
+use Rattle.history_model.specs.declared.claim.Claim.{Claim}
+use Rattle.history_model.specs.Judging.{HasTree, HasVerdict, IsAsked}
 
 -- there is no tree of so many nodes, spent where that is asked for; or its verdict isn't the one asked for
 abbrev pub IsNotShown : Problem → Option Set → ℕ → ℕ → Claim → Option ProofTree → Illegal → Type 0

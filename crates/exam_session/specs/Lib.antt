@@ -1,5 +1,6 @@
 pub mod Ledgers
 pub mod Kept
+pub mod Totals
 pub mod Claims
 pub mod Waits
 pub mod Laws

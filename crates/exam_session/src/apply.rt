@@ -1,29 +1,40 @@
 //! How a book grows.
 
-ghost use Rattle.std.specs.Prelude.{◌≡◌, ◌+◌, ◌<◌, [], ◌∷◌, ◌++◌, OnOk, OnErr};
+ghost use Rattle.std.specs.Prelude.{◌≡◌, ◌+◌, ◌<◌, max, [], ◌∷◌, ◌++◌, OnOk, OnErr};
 ghost use Rattle.history_model.specs.Legality.{Legal};
 
 use crate::book::Book;
 use crate::counting::count_entry;
 use crate::seats::{note_booking, note_seat};
+use crate::totals::totals_with;
 use exposure_counters::Memory;
 use history_model::Entry;
 use std::alloc::Global;
 
+/// As many entries as a book may have, far beyond what any disk holds.
+const ENTRIES: u64 = 1 << 47;
+
 impl<'a> Book<'a> {
-    /// Takes room for one entry more.
+    /// Makes room for one entry, where there is none: in the lists with an element for each session only while the plan
+    /// allows a further one.
     pub fn reserve(&mut self, _alloc: Global) -> Result<(), Memory>
         ensures bank { self.new.bank ≡ self.old.bank }
         ensures plan { self.new.plan ≡ self.old.plan }
         ensures entries { self.new.entries ≡ self.old.entries }
-        ensures room { OnOk result (self.new.room ≡ self.old.room + 1) }
+        ensures room { OnOk result (self.new.room ≡ max 1 self.old.room) }
         ensures memory { OnErr result (self.new.room ≡ self.old.room) }
     {
-        let room = self.room.checked_add(1).ok_or(Memory)?;
-        self.entries.reserve(room)?;
-        self.seats.reserve(room)?;
-        self.bookings.reserve(room)?;
-        self.room = room;
+        if self.room > 0 {
+            return Ok(());
+        }
+        if self.entries.count() >= ENTRIES {
+            return Err(Memory);
+        }
+        if self.seats.len() < self.spec.sessions() as usize {
+            self.seats.reserve(1)?;
+            self.bookings.reserve(1)?;
+        }
+        self.room = 1;
         Ok(())
     }
 
@@ -45,7 +56,8 @@ impl<'a> Book<'a> {
         );
         note_seat(&mut self.seats, &entry);
         note_booking(&mut self.bookings, &entry);
-        self.entries.push_reserved(entry);
+        self.totals = totals_with(self.totals, &entry);
+        self.entries.push(&entry);
         self.room -= 1;
     }
 }

@@ -1,27 +1,35 @@
 //! The book.
 
-ghost use Rattle.std.specs.Prelude.{◌≡◌, ◌↔◌, ℕ, ◌+◌, ◌<◌, ◌≤◌, [], length, Option, Some, None, IsTrue, IsSome, IfOk, IfSome, IfNone, OnOk, OnErr, if◌then◌else◌};
+ghost use Rattle.std.specs.Prelude.{◌≡◌, ◌↔◌, ℕ, Bool, ◌+◌, ◌<◌, ◌≤◌, [], length, Option, Some, None, IsTrue, IsSome, IfOk, IfSome, IfNone, OnOk, OnErr, if◌then◌else◌};
 ghost use Rattle.std.specs.Option.{option_copied};
 ghost use Rattle.std.specs.Vec.{vec_len, vec_capacity};
-ghost use Rattle.bank_tables.specs.Items.{Set};
+ghost use Rattle.bank_tables.specs.Items.{Set, has};
+ghost use Rattle.bank_tables.specs.Tables.{size};
+ghost use Rattle.bank_tables.specs.Validity.{HoldsItems};
 ghost use Rattle.exam_model.specs.Forms.{Form};
 ghost use Rattle.exam_model.specs.Validity.{IsPlanFor, IsWellMade};
 ghost use Rattle.constraint_model.specs.Views.{problem_of};
 ghost use Rattle.shadow_select.specs.Next.{HasFreeItem};
-ghost use Rattle.history_model.specs.declared.place.Place.TheVariants.{Pending};
+ghost use Rattle.history_model.specs.declared.place.Place.TheVariants.{Pending, Waiting};
 ghost use Rattle.history_model.specs.Entries.{sessions, is_started, holder, seat_of};
 ghost use Rattle.history_model.specs.Places.{place};
 ghost use Rattle.history_model.specs.Counts.{counts, finished};
+ghost use Rattle.history_model.specs.Draws.{draw, SameItems};
 ghost use Rattle.history_model.specs.Laws.{seat_place};
+ghost use Rattle.history_model.specs.Refusals.{recorded};
+ghost use Rattle.history_model.specs.Summaries.{summary};
 ghost use Rattle.history_model.specs.SessionProblems.{IsProblemOf};
 ghost use Rattle.exam_session.specs.Ledgers.{IsExamination};
 ghost use Rattle.exam_session.specs.Kept.{AreCounts};
 
-use bank_tables::Bank;
+use crate::totals::Totals;
+use bank_tables::{Bank, ItemSet};
 use constraint_model::{Problem, Spec};
+use eligibility_draw::draw;
 use exam_model::Seat;
 use exposure_counters::{Counters, Memory};
-use history_model::{Entry, Place};
+use history_log::Counted;
+use history_model::{Entry, Place, Summary};
 use shadow_select::next_problem;
 use std::alloc::Global;
 use std::marker::Model;
@@ -31,34 +39,38 @@ use std::marker::Model;
 pub struct Book<'a> {
     pub(crate) bank: &'a Bank,
     pub(crate) spec: &'a Spec,
-    pub(crate) entries: Vec<Entry>,
+    /// The entries, for contracts alone.
+    pub(crate) entries: Counted<Entry>,
     /// The seat of each session.
     pub(crate) seats: Vec<Seat>,
     /// The booking of each session.
     pub(crate) bookings: Vec<u64>,
     pub(crate) counters: Counters,
-    /// For how many entries more each list has room.
+    pub(crate) totals: Totals,
+    /// For how many entries more there is room: in the seats and the bookings up to the plan's limit of sessions.
     pub(crate) room: usize,
 }
 
 impl<'a> Model for Book<'a> {
-    ghost use Rattle.std.specs.Prelude.{◌+◌, ◌≤◌};
+    ghost use Rattle.std.specs.Prelude.{◌+◌, ◌^◌, ◌≤◌, min, length};
     ghost use Rattle.std.specs.Vec.{vec_len, vec_capacity};
     ghost use Rattle.exam_session.specs.Ledgers.{Ledger, IsExamination};
     ghost use Rattle.exam_session.specs.Kept.{AreSeats, AreBookings, AreCounts};
+    ghost use Rattle.exam_session.specs.Totals.{AreTotals};
 
     ghost Value = { Ledger };
 
-    ghost view = { λ b. record { bank = b.bank.now; plan = b.spec.now; entries = b.entries.items; room = b.room } };
+    ghost view = { λ b. record { bank = b.bank.now; plan = b.spec.now; entries = b.entries; room = b.room } };
 
     ghost invariant = { λ b.
-        IsExamination (record { bank = b.bank.now; plan = b.spec.now; entries = b.entries.items; room = b.room })
-        × AreSeats b.entries.items b.seats.items
-        × AreBookings b.entries.items b.bookings.items
-        × AreCounts b.bank.now b.spec.now b.entries.items b.counters
-        × (vec_len b.entries + b.room ≤ vec_capacity b.entries)
-        × (vec_len b.seats + b.room ≤ vec_capacity b.seats)
-        × (vec_len b.bookings + b.room ≤ vec_capacity b.bookings) };
+        IsExamination (record { bank = b.bank.now; plan = b.spec.now; entries = b.entries; room = b.room })
+        × AreSeats b.entries b.seats.items
+        × AreBookings b.entries b.bookings.items
+        × AreCounts b.bank.now b.spec.now b.entries b.counters
+        × AreTotals b.entries b.totals
+        × (length b.entries + b.room ≤ 2 ^ 47)
+        × (min b.spec.now.sessions (vec_len b.seats + b.room) ≤ vec_capacity b.seats)
+        × (min b.spec.now.sessions (vec_len b.bookings + b.room) ≤ vec_capacity b.bookings) };
 }
 
 /// Where a seat stands.
@@ -82,6 +94,13 @@ fn seat_place(spec: &Spec, seat: &Seat) -> Place
     }
 }
 
+/// A book may be moved to another thread.
+fn moves<T: Send>() {}
+
+fn book_moves<'a>() {
+    moves::<Book<'a>>();
+}
+
 impl<'a> Book<'a> {
     /// A book of no entries.
     pub fn new(alloc: Global, bank: &'a Bank, spec: &'a Spec) -> Result<Book<'a>, Memory>
@@ -95,12 +114,32 @@ impl<'a> Book<'a> {
         Ok(Book {
             bank,
             spec,
-            entries: Vec::new(alloc),
+            entries: Counted::new(),
             seats: Vec::new(alloc),
             bookings: Vec::new(alloc),
             counters,
+            totals: Totals {
+                proved: 0,
+                unproved: 0,
+                aside: 0,
+                nodes: 0,
+            },
             room: 0,
         })
+    }
+
+    /// The bank.
+    pub fn bank(&self) -> &'a Bank
+        ensures { result.now ≡ self.now.bank }
+    {
+        self.bank
+    }
+
+    /// The plan.
+    pub fn spec(&self) -> &'a Spec
+        ensures { result.now ≡ self.now.plan }
+    {
+        self.spec
     }
 
     /// The number of entries.
@@ -109,7 +148,7 @@ impl<'a> Book<'a> {
         // the entries are a legal run, whatever was done with the book
         ensures examination { IsExamination self.now }
     {
-        self.entries.len() as u64
+        self.entries.count()
     }
 
     /// For how many entries more there is room.
@@ -137,7 +176,9 @@ impl<'a> Book<'a> {
     #[tactic(auto, using(crate::proofs::BookLaws::placed, crate::proofs::BookLaws::not_placed))]
     /// Where a session stands; none where it isn't there.
     pub fn place(&self, session: u32) -> Option<Place>
-        ensures { result ≡ place self.now.plan self.now.entries session }
+        ensures place { result ≡ place self.now.plan self.now.entries session }
+        // the item that waits for its answer is one of the bank
+        ensures item { (step item : ℕ) (proved : Bool) → result ≡ Some (Waiting step item proved) → item < size self.now.bank }
     {
         match self.seat(session) {
             Some(seat) => Some(seat_place(self.spec, seat)),
@@ -152,6 +193,28 @@ impl<'a> Book<'a> {
         &self.counters
     }
 
+    /// The items that are eligible for the next session: its draw, at the counts of the entries so far.
+    pub fn drawn(&self) -> ItemSet
+        ensures drawn { SameItems (has result) (draw self.now.bank self.now.plan self.now.entries (sessions self.now.entries)) }
+        ensures items { HoldsItems self.now.bank (has result) }
+    {
+        let session = self.sessions();
+        draw(self.spec.key(), self.spec.rate(), session, &self.counters)
+    }
+
+    /// The response that is recorded for a step of a session; none where there is none.
+    pub fn recorded(&self, session: u32, step: u16) -> Option<u8>
+        ensures { result ≡ recorded self.now.entries session step }
+    {
+        let Some(seat) = self.seats.get(session as usize) else {
+            return None;
+        };
+        match seat.responses.get(step as usize) {
+            Some(response) => Some(response as u8),
+            None => None,
+        }
+    }
+
     /// The session of a booking; none where it has none.
     pub fn booked(&self, booking: u64) -> Option<u32>
         ensures { result ≡ holder self.now.entries booking }
@@ -163,6 +226,21 @@ impl<'a> Book<'a> {
             }
         }
         None
+    }
+
+    /// The entries in numbers.
+    pub fn summary(&self) -> Summary
+        ensures { result ≡ summary self.now.plan self.now.entries }
+    {
+        Summary {
+            entries: self.entries(),
+            sessions: self.sessions(),
+            finished: self.counters.finished(),
+            proved: self.totals.proved,
+            unproved: self.totals.unproved,
+            aside: self.totals.aside,
+            nodes: self.totals.nodes,
+        }
     }
 
     /// The problem of a session that waits for an item; none where it doesn't.

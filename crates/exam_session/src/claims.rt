@@ -6,25 +6,17 @@ ghost use Rattle.bank_tables.specs.Items.{has};
 ghost use Rattle.exam_model.specs.Validity.{IsWellMade};
 ghost use Rattle.constraint_model.specs.Views.{problem_of};
 ghost use Rattle.history_model.specs.Judging.{claim_of_mark, claim_of_cause, IsAsked, Shows};
-ghost use Rattle.exam_session.specs.Claims.{claim_of, IsNotShown};
+ghost use Rattle.exam_session.specs.Claims.{IsNotShown};
 
 use bank_tables::ItemSet;
 use certificate_check::{Verdict, check, spent};
 use constraint_model::Problem;
-use history_model::{Cause, Illegal};
+use history_model::{Cause, Claim, Illegal};
 use proof_tree::Tree;
-
-/// What an entry claims of its tree.
-#[derive(Clone, Copy, Debug, PartialEq, Eq)]
-pub(crate) enum Claim {
-    FormIsBest,
-    NoneIsForm,
-    BudgetIsSpent,
-}
 
 /// What the mark of a form claims.
 pub(crate) fn claim_of_mark(proved: bool) -> Claim
-    ensures { claim_of result ≡ claim_of_mark proved }
+    ensures { result ≡ claim_of_mark proved }
 {
     if proved {
         Claim::FormIsBest
@@ -35,7 +27,7 @@ pub(crate) fn claim_of_mark(proved: bool) -> Claim
 
 /// What the cause of setting eligibility aside claims.
 pub(crate) fn claim_of_cause(cause: Cause) -> Claim
-    ensures { claim_of result ≡ claim_of_cause cause }
+    ensures { result ≡ claim_of_cause cause }
 {
     match cause {
         Cause::NoForm => Claim::NoneIsForm,
@@ -45,7 +37,7 @@ pub(crate) fn claim_of_cause(cause: Cause) -> Claim
 
 /// Whether a verdict is the one that a claim asks for.
 fn is_asked(claim: Claim, verdict: Verdict) -> bool
-    ensures { IsTrue result ↔ IsAsked (claim_of claim) verdict }
+    ensures { IsTrue result ↔ IsAsked claim verdict }
 {
     match claim {
         Claim::FormIsBest => verdict == Verdict::Optimal,
@@ -61,11 +53,11 @@ pub(crate) fn shows(
     form: Option<&ItemSet>,
     claim: Claim,
     nodes: u16,
-    tree: &Option<Tree>,
+    tree: Option<&Tree>,
 ) -> Result<(), Illegal>
     requires { IsWellMade (problem_of problem.now) }
-    ensures shown { IfOk result (λ _. Shows (problem_of problem.now) (option_map has (option_copied form.entry)) problem.now.spec.now.budget nodes (claim_of claim) tree.now) }
-    ensures reason { IfErr result (IsNotShown (problem_of problem.now) (option_map has (option_copied form.entry)) problem.now.spec.now.budget nodes (claim_of claim) tree.now) }
+    ensures shown { IfOk result (λ _. Shows (problem_of problem.now) (option_map has (option_copied form.entry)) problem.now.spec.now.budget nodes claim (option_copied tree.entry)) }
+    ensures reason { IfErr result (IsNotShown (problem_of problem.now) (option_map has (option_copied form.entry)) problem.now.spec.now.budget nodes claim (option_copied tree.entry)) }
 {
     let Some(tree) = tree else {
         return Err(Illegal::NotSpent(nodes));

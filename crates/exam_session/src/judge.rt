@@ -1,6 +1,7 @@
 //! Whether a record may follow the entries of a book.
 
 ghost use Rattle.std.specs.Prelude.{◌≡◌, ℕ, Option, Some, None, IfOk, IfErr, IfSome, IfNone};
+ghost use Rattle.std.specs.Option.{option_copied};
 ghost use Rattle.bank_tables.specs.Items.{Set, has};
 ghost use Rattle.exam_model.specs.Forms.{Form};
 ghost use Rattle.shadow_select.specs.Next.{HasFreeItem};
@@ -17,7 +18,6 @@ use crate::book::Book;
 use crate::claims::{claim_of_cause, claim_of_mark, shows};
 use bank_tables::ItemSet;
 use constraint_model::{Problem, meets};
-use eligibility_draw::draw;
 use exam_records::Record;
 use history_model::{Cause, Entry, Illegal, Place};
 use proof_tree::Tree;
@@ -56,10 +56,10 @@ impl<'a> Book<'a> {
         session: u32,
         booking: u64,
         eligible: ItemSet,
-        tree: &Option<Tree>,
+        tree: Option<&Tree>,
     ) -> Result<(), Illegal>
-        ensures may { IfOk result (λ _. MayFollow self.now.bank self.now.plan self.now.entries (Started session booking eligible) tree.now) }
-        ensures reason { IfErr result (IsIllegal self.now.bank self.now.plan self.now.entries (Started session booking eligible) tree.now) }
+        ensures may { IfOk result (λ _. MayFollow self.now.bank self.now.plan self.now.entries (Started session booking eligible) (option_copied tree.entry)) }
+        ensures reason { IfErr result (IsIllegal self.now.bank self.now.plan self.now.entries (Started session booking eligible) (option_copied tree.entry)) }
     {
         let count = self.sessions();
         if session != count || session >= self.spec.sessions() {
@@ -68,8 +68,7 @@ impl<'a> Book<'a> {
         if let Some(holder) = self.booked(booking) {
             return Err(Illegal::Booked(holder));
         }
-        let drawn = draw(self.spec.key(), self.spec.rate(), session, &self.counters);
-        if let Some(item) = first_difference(eligible, drawn) {
+        if let Some(item) = first_difference(eligible, self.drawn()) {
             return Err(Illegal::NotDrawn(item));
         }
         if tree.is_some() {
@@ -83,10 +82,10 @@ impl<'a> Book<'a> {
         session: u32,
         cause: Cause,
         nodes: u16,
-        tree: &Option<Tree>,
+        tree: Option<&Tree>,
     ) -> Result<(), Illegal>
-        ensures may { IfOk result (λ _. MayFollow self.now.bank self.now.plan self.now.entries (SetAside session cause nodes) tree.now) }
-        ensures reason { IfErr result (IsIllegal self.now.bank self.now.plan self.now.entries (SetAside session cause nodes) tree.now) }
+        ensures may { IfOk result (λ _. MayFollow self.now.bank self.now.plan self.now.entries (SetAside session cause nodes) (option_copied tree.entry)) }
+        ensures reason { IfErr result (IsIllegal self.now.bank self.now.plan self.now.entries (SetAside session cause nodes) (option_copied tree.entry)) }
     {
         let problem = match self.problem_at(session, 0) {
             Ok(problem) => problem,
@@ -106,10 +105,10 @@ impl<'a> Book<'a> {
         form: &ItemSet,
         proved: bool,
         nodes: u16,
-        tree: &Option<Tree>,
+        tree: Option<&Tree>,
     ) -> Result<(), Illegal>
-        ensures may { IfOk result (λ _. MayFollow self.now.bank self.now.plan self.now.entries (Served session step item form.now proved nodes) tree.now) }
-        ensures reason { IfErr result (IsIllegal self.now.bank self.now.plan self.now.entries (Served session step item form.now proved nodes) tree.now) }
+        ensures may { IfOk result (λ _. MayFollow self.now.bank self.now.plan self.now.entries (Served session step item form.now proved nodes) (option_copied tree.entry)) }
+        ensures reason { IfErr result (IsIllegal self.now.bank self.now.plan self.now.entries (Served session step item form.now proved nodes) (option_copied tree.entry)) }
     {
         let problem = match self.problem_at(session, step) {
             Ok(problem) => problem,
@@ -130,10 +129,10 @@ impl<'a> Book<'a> {
         session: u32,
         step: u16,
         response: u8,
-        tree: &Option<Tree>,
+        tree: Option<&Tree>,
     ) -> Result<(), Illegal>
-        ensures may { IfOk result (λ _. MayFollow self.now.bank self.now.plan self.now.entries (Answered session step response) tree.now) }
-        ensures reason { IfErr result (IsIllegal self.now.bank self.now.plan self.now.entries (Answered session step response) tree.now) }
+        ensures may { IfOk result (λ _. MayFollow self.now.bank self.now.plan self.now.entries (Answered session step response) (option_copied tree.entry)) }
+        ensures reason { IfErr result (IsIllegal self.now.bank self.now.plan self.now.entries (Answered session step response) (option_copied tree.entry)) }
     {
         let Some(place) = self.place(session) else {
             return Err(Illegal::NoSession(self.sessions()));
@@ -154,9 +153,9 @@ impl<'a> Book<'a> {
         }
     }
 
-    fn judge_closing(&self, session: u32, tree: &Option<Tree>) -> Result<(), Illegal>
-        ensures may { IfOk result (λ _. MayFollow self.now.bank self.now.plan self.now.entries (Closed session) tree.now) }
-        ensures reason { IfErr result (IsIllegal self.now.bank self.now.plan self.now.entries (Closed session) tree.now) }
+    fn judge_closing(&self, session: u32, tree: Option<&Tree>) -> Result<(), Illegal>
+        ensures may { IfOk result (λ _. MayFollow self.now.bank self.now.plan self.now.entries (Closed session) (option_copied tree.entry)) }
+        ensures reason { IfErr result (IsIllegal self.now.bank self.now.plan self.now.entries (Closed session) (option_copied tree.entry)) }
     {
         let Some(place) = self.place(session) else {
             return Err(Illegal::NoSession(self.sessions()));
@@ -170,13 +169,12 @@ impl<'a> Book<'a> {
         }
     }
 
-    /// Tests whether a record may follow the entries of the book, its proof tree included, and says otherwise the first
-    /// reason, in the order of `Illegal`'s variants for the record's kind. Takes no memory.
-    pub fn judge(&self, rec: &Record) -> Result<(), Illegal>
-        ensures may { IfOk result (λ _. MayFollow self.now.bank self.now.plan self.now.entries rec.now.entry rec.now.tree) }
-        ensures reason { IfErr result (IsIllegal self.now.bank self.now.plan self.now.entries rec.now.entry rec.now.tree) }
+    /// Tests whether the record of an entry and its proof tree may follow the entries of the book, and gives otherwise the
+    /// first reason, in the order of `Illegal`'s variants for the record's kind. Takes no memory.
+    pub fn judge_parts(&self, entry: &Entry, tree: Option<&Tree>) -> Result<(), Illegal>
+        ensures may { IfOk result (λ _. MayFollow self.now.bank self.now.plan self.now.entries entry.now (option_copied tree.entry)) }
+        ensures reason { IfErr result (IsIllegal self.now.bank self.now.plan self.now.entries entry.now (option_copied tree.entry)) }
     {
-        let Record { entry, tree } = rec;
         match *entry {
             Entry::Started {
                 session,
@@ -203,5 +201,13 @@ impl<'a> Book<'a> {
             } => self.judge_answer(session, step, response, tree),
             Entry::Closed { session } => self.judge_closing(session, tree),
         }
+    }
+
+    /// Tests a record, as its entry and its tree.
+    pub fn judge(&self, rec: &Record) -> Result<(), Illegal>
+        ensures may { IfOk result (λ _. MayFollow self.now.bank self.now.plan self.now.entries rec.now.entry rec.now.tree) }
+        ensures reason { IfErr result (IsIllegal self.now.bank self.now.plan self.now.entries rec.now.entry rec.now.tree) }
+    {
+        self.judge_parts(&rec.entry, rec.tree.as_ref())
     }
 }

@@ -11,8 +11,9 @@ mod counting;
 mod judge;
 pub mod laws;
 mod seats;
+mod totals;
 
 pub use book::Book;
 pub use exam_records::{Cause, Entry, Record};
 pub use exposure_counters::{Counters, Memory};
-pub use history_model::{Illegal, Place};
+pub use history_model::{Illegal, Place, Summary};

@@ -27,7 +27,8 @@ use Rattle.history_model.specs.Places.{place}
 use Rattle.history_model.specs.Draws.{draw, SameItems, IsFirstDifference}
 use Rattle.history_model.specs.SessionProblems.{IsProblemOf}
 use Rattle.history_model.specs.Legality.{GoesOn}
-use Rattle.history_model.specs.Judging.{Claim, claim_of_mark, claim_of_cause, HasTree, HasVerdict, IsAsked, MayFollow}
+use Rattle.history_model.specs.declared.claim.Claim.{Claim}
+use Rattle.history_model.specs.Judging.{claim_of_mark, claim_of_cause, HasTree, HasVerdict, IsAsked, MayFollow}
 use Rattle.history_model.specs.Reasons.{IsWaitingAt, IsIllegal}
 use Rattle.history_model.specs.Laws.{OneReason, NoReasonIfMay}
 use Rattle.history_model.proofs.JudgingLaws.{one_problem}

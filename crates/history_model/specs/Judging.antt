@@ -2,6 +2,8 @@
 use Rattle.std.specs.Prelude.{◌≡◌, ℕ, Bool, true, false, List, [], ◌∷◌, ◌++◌, length, map, IsFalse, Option, Some, None}
 use Rattle.bank_tables.specs.Items.{Set, has}
 use Rattle.bank_tables.specs.Tables.{Tables}
+use Rattle.history_model.specs.declared.claim.Claim.{Claim}
+use Rattle.history_model.specs.declared.claim.Claim.TheVariants.{FormIsBest, NoneIsForm, BudgetIsSpent}
 use Rattle.history_model.specs.declared.entry.Cause.{Cause}
 use Rattle.history_model.specs.declared.entry.Cause.TheVariants.{NoForm as CauseNoForm, Spent}
 use Rattle.history_model.specs.declared.entry.Entry.{Entry}
@@ -19,20 +21,14 @@ use Rattle.history_model.specs.Entries.{is_set_aside}
 use Rattle.history_model.specs.SessionProblems.{IsProblemOf}
 use Rattle.history_model.specs.Legality.{Legal}
 
--- what an entry claims of its tree: that the form is best, that no set is a form, or that the node budget was spent
-pub data Claim : Type 0 where
-  form_is_best : Claim
-  none_is_form : Claim
-  budget_is_spent : Claim
-
 -- a form that isn't marked proved was found within a spent budget
 abbrev pub claim_of_mark : Bool → Claim
-claim_of_mark true = form_is_best
-claim_of_mark false = budget_is_spent
+claim_of_mark true = FormIsBest
+claim_of_mark false = BudgetIsSpent
 
 abbrev pub claim_of_cause : Cause → Claim
-claim_of_cause CauseNoForm = none_is_form
-claim_of_cause Spent = budget_is_spent
+claim_of_cause CauseNoForm = NoneIsForm
+claim_of_cause Spent = BudgetIsSpent
 
 abbrev pub IsPartial : Verdict → Type 0
 IsPartial (Partial leaves) = Unit {0}
@@ -40,13 +36,13 @@ IsPartial verdict = ⊥
 
 -- the verdict is the one that the claim asks for
 abbrev pub IsAsked : Claim → Verdict → Type 0
-IsAsked form_is_best verdict = verdict ≡ Optimal
-IsAsked none_is_form verdict = verdict ≡ NoForm
-IsAsked budget_is_spent verdict = IsPartial verdict
+IsAsked FormIsBest verdict = verdict ≡ Optimal
+IsAsked NoneIsForm verdict = verdict ≡ NoForm
+IsAsked BudgetIsSpent verdict = IsPartial verdict
 
 -- where the claim asks for a spent tree, the tree is spent
 abbrev pub IsSpentIfAsked : Claim → Problem → ProofTree → ℕ → Type 0
-IsSpentIfAsked budget_is_spent P T budget = IsSpent P T budget
+IsSpentIfAsked BudgetIsSpent P T budget = IsSpent P T budget
 IsSpentIfAsked claim P T budget = Unit {0}
 
 -- the tree has the number of nodes that the entry says, and is spent where that is asked for

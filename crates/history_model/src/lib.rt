@@ -4,6 +4,7 @@
 //! file and no thread, and has no code but plain types and laws.
 #![tactic(auto)]
 
+mod claim;
 mod counts;
 mod entry;
 mod illegal;
@@ -13,6 +14,7 @@ mod refusal;
 mod request;
 mod summary;
 
+pub use claim::Claim;
 pub use counts::Counts;
 pub use entry::{Cause, Entry};
 pub use illegal::Illegal;

@@ -7,7 +7,7 @@ use Rattle.exam_session.proofs.book.Book.booked.Goals as goal
 pub overflow_cast-result : goal.overflow_cast-result
 overflow_cast-result c =
     let kept = c.self.invariant in
-    let few = sessions_are_few c.self.inside.bank.now c.self.inside.spec.now c.self.inside.entries.items kept.0.legal in
+    let few = sessions_are_few c.self.inside.bank.now c.self.inside.spec.now c.self.inside.entries kept.0.legal in
     let high = kept.0.plan.few_sessions in
     let number = kept.2.number in
     let same : length c.as_slice-bookings.result.now ≡ length c.self.inside.bookings.items = ap (λ (xs : List ℕ). length xs) c.as_slice-bookings.ensures.value in
@@ -29,7 +29,7 @@ returns c =
     let kept = c.self.invariant in
     let bookings = c.as_slice-bookings.result.now in
     let past = c.loop-session-test.false in
-    rw (← c.self.view_is) (not_held c.self.inside.entries.items c.self.inside.bookings.items c.args.booking kept.2
+    rw (← c.self.view_is) (not_held c.self.inside.entries c.self.inside.bookings.items c.args.booking kept.2
     (λ s e.
     let at : slice_get bookings s ≡ Some c.args.booking = ap (λ (xs : List ℕ). slice_get xs s) c.as_slice-bookings.ensures.value ∙ e in
     let within = slice_get_within bookings s c.args.booking at in

@@ -1,11 +1,12 @@
 use Rattle.std.proofs.Common.{◌∙◌, arith}
 use Rattle.history_model.specs.Legality.{empty}
 use Rattle.exam_session.proofs.EmptyBook.{no_seats, no_bookings, no_counts}
+use Rattle.exam_session.proofs.TotalLaws.{no_totals}
 use Rattle.exam_session.proofs.book.Book.new.Goals as goal
 
 pub invariant_of-result : goal.invariant_of-result
 invariant_of-result c =
-    let none = c.new-2.ensures.items in
+    let none = c.new-2.ensures in
     let seats = c.new-3.ensures.items in
     let bookings = c.new-4.ensures.items in
     rw (none, seats, bookings) (
@@ -13,7 +14,8 @@ invariant_of-result c =
       no_seats,
       no_bookings,
       no_counts c.args.bank.now c.args.spec.now c.in_ok-counters.counters (c.in_ok-counters.ensures.items ∙ c.items.ensures.items) c.in_ok-counters.ensures.none,
-      (let long = c.new-2.ensures.len in omega arith),
+      no_totals,
+      omega arith,
       (let long = c.new-3.ensures.len in omega arith),
       (let long = c.new-4.ensures.len in omega arith),
     )

@@ -9,4 +9,4 @@ returns c =
     rw (← c.self.view_is)
     (looked_up c.deref.result.now c.args.session c.get.result c.get.ensures.lookup
     ∙ (ap (λ (seats : List Seat). slice_get seats c.args.session) c.deref.ensures.value
-    ∙ found_seat c.self.inside.bank.now c.self.inside.spec.now c.self.inside.entries.items c.self.inside.seats.items c.args.session kept.0.legal kept.1))
+    ∙ found_seat c.self.inside.bank.now c.self.inside.spec.now c.self.inside.entries c.self.inside.seats.items c.args.session kept.0.legal kept.1))

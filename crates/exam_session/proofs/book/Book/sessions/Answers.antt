@@ -5,7 +5,7 @@ use Rattle.exam_session.proofs.book.Book.sessions.Goals as goal
 pub overflow_cast-result : goal.overflow_cast-result
 overflow_cast-result c =
     let kept = c.self.invariant in
-    let few = sessions_are_few c.self.inside.bank.now c.self.inside.spec.now c.self.inside.entries.items kept.0.legal in
+    let few = sessions_are_few c.self.inside.bank.now c.self.inside.spec.now c.self.inside.entries kept.0.legal in
     let high = kept.0.plan.few_sessions in
     let number = kept.1.number in
     let len = c.len.ensures in
@@ -14,7 +14,7 @@ overflow_cast-result c =
 pub returns-clause-few : goal.returns-clause-few
 returns-clause-few c =
     let kept = c.self.invariant in
-    let few = sessions_are_few c.self.inside.bank.now c.self.inside.spec.now c.self.inside.entries.items kept.0.legal in
+    let few = sessions_are_few c.self.inside.bank.now c.self.inside.spec.now c.self.inside.entries kept.0.legal in
     let number = kept.1.number in
     let len = c.len.ensures in
     rw (← c.self.view_is) (omega arith)

@@ -2,6 +2,7 @@
 
 use history_model::Entry;
 use proof_tree::Tree;
+use std::marker::Model;
 
 /// An entry and its proof tree. A tree stands exactly where the entry is SetAside or Served, and the entry's `nodes` is
 /// the number of the tree's nodes.
@@ -9,4 +10,12 @@ use proof_tree::Tree;
 pub struct Record {
     pub entry: Entry,
     pub tree: Option<Tree>,
+}
+
+impl Model for Record {
+    ghost use Rattle.history_model.specs.Judging;
+
+    ghost Value = { Judging.Record };
+
+    ghost view = { λ r. record { entry = r.entry; tree = r.tree } };
 }

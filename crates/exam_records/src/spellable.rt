@@ -1,15 +1,15 @@
-//! What every record has that keeps its condition.
+//! What every record has that goes with its tree: a spelling.
 
-ghost use Rattle.exam_records.specs.Shape.{GoesWith, Fits, IsTreeOrNone, IsRecord};
+ghost use Rattle.std.specs.Option.{option_copied};
+ghost use Rattle.exam_records.specs.Shape.{GoesWith, IsInRange, IsTreeOrNone, IsRecord};
 
 use crate::sets::is_set;
-use crate::spelled::Record;
 use history_model::Entry;
 use proof_tree::Tree;
 
 /// The numbers of an entry fit the bytes that they are written in, and its set is one of items.
 fn is_entry(entry: &Entry)
-    ensures { Fits entry.now }
+    ensures { IsInRange entry.now }
 {
     match entry {
         Entry::Started {
@@ -47,19 +47,19 @@ fn is_entry(entry: &Entry)
 }
 
 /// A tree has a spelling.
-fn is_tree(tree: &Option<Tree>)
-    ensures { IsTreeOrNone tree.now }
+fn is_tree(tree: Option<&Tree>)
+    ensures { IsTreeOrNone (option_copied tree.entry) }
 {
     if let Some(tree) = tree {
         let _ = tree.nodes();
     }
 }
 
-/// The record has a spelling.
-pub(crate) fn is_record(rec: &Record)
-    requires { GoesWith rec.now.entry rec.now.tree }
-    ensures { IsRecord rec.now }
+/// An entry and the tree that goes with it have a spelling.
+pub(crate) fn is_record(entry: &Entry, tree: Option<&Tree>)
+    requires { GoesWith entry.now (option_copied tree) }
+    ensures { IsRecord (record { entry = entry.now; tree = option_copied tree.entry }) }
 {
-    is_entry(&rec.entry);
-    is_tree(&rec.tree);
+    is_entry(entry);
+    is_tree(tree);
 }
