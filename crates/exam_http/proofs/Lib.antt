@@ -1,0 +1,5 @@
+pub mod Bodies
+pub mod Names
+pub mod RoutePaths
+pub mod ServingLaws
+pub mod Turns

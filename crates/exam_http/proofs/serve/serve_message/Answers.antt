@@ -1,0 +1,19 @@
+use Rattle.std.proofs.Common.{◌++◌, ℕ, List, IsTrue, ap, subst, sym, ◌∙◌}
+use Rattle.wire_http.specs.Messages.{bytes_of, IsMessage}
+use Rattle.exam_http.proofs.Turns.{answered_turn}
+use Rattle.exam_http.proofs.serve.serve_message.Goals as goal
+
+pub returns-in-Ok-Some-clause-turns : goal.returns-in-Ok-Some-clause-turns
+returns-in-Ok-Some-clause-turns g c tells =
+    let told : IsTrue (g.K.Link.tells c.read_request.new.link) = rw c.in-Ok-Some.ensures.frame.tells tells in
+    let becomes = c.answer.ensures.becomes told in
+    let message = rw c.in-Ok-Some.field-0-is at c.in-Ok-Some.ensures.message in
+    let whole = bytes_of c.args.kept.now ++ g.K.Link.left c.args.link.now in
+    let kept = bytes_of c.read_request.new.kept in
+    let reads : IsMessage whole c.in-Ok-Some.message (kept ++ g.K.Link.left c.answer.new.link) =
+    subst (λ (left : List ℕ). IsMessage whole c.in-Ok-Some.message (kept ++ left)) (sym (c.answer.ensures.left told)) (message tells) in (
+      becomes.0,
+      becomes.1 ∙ ap (λ (x : List ℕ). x ++ becomes.0) (c.in-Ok-Some.ensures.written tells),
+      answered_turn g.H.Handler.does g.H.Handler.idles whole becomes.0 _ c.args.handler.now c.answer.new.handler
+          c.in-Ok-Some.message c.answer.result reads becomes.2,
+    )

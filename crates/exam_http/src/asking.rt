@@ -1,0 +1,145 @@
+//! What a message asks.
+ghost use Rattle.std.specs.Prelude.{◌≡◌, ◌≤◌, IfOk};
+ghost use Rattle.serde_json.specs.View.{view};
+ghost use Rattle.exam_http.specs.Asks.{IsJson, number_member, begin_of, answer_of, IsParsedBy, AsksOn, AsksBy, Asks, view_of};
+ghost use Rattle.exam_http.specs.Table.{table};
+
+use crate::route::{RouteKind, method_of, route_of};
+use crate::{MessageFault, Route};
+use history_model::Request;
+use matchit::Router;
+use serde_json::Value;
+use std::alloc::{AllocError, Global};
+use wire_http::Message;
+
+// The value of a body, or none where it is no JSON.
+fn value_of(alloc: Global, body: &[u8]) -> Result<Option<Value>, AllocError>
+    ensures { IfOk result (λ value. IsJson body.now (view_of value)) }
+{
+    match Value::from_slice(alloc, body) {
+        Ok(value) => Ok(Some(value)),
+        Err(e) => {
+            if e.is_memory() {
+                return Err(AllocError);
+            }
+            Ok(None)
+        }
+    }
+}
+
+// The number that the member of this name is, if it is at most so much.
+fn number_member(value: &Value, name: &str, most: u64) -> Result<u64, MessageFault>
+    ensures value { result ≡ number_member (view value.now) name.now most }
+    ensures most { IfOk result (λ n. n ≤ most) }
+{
+    match value.get(name).and_then(Value::as_u64) {
+        Some(n) if n <= most => Ok(n),
+        _ => Err(MessageFault::BadBody),
+    }
+}
+
+#[tactic(auto, unfolding(crate::specs::Asks::begin_of))]
+fn begin_of(value: &Value) -> Result<Request, MessageFault>
+    ensures { result ≡ begin_of (view value.now) }
+{
+    match number_member(value, "booking", u64::MAX) {
+        Ok(booking) => Ok(Request::Begin(booking)),
+        Err(fault) => Err(fault),
+    }
+}
+
+#[tactic(auto, unfolding(crate::specs::Asks::answer_of))]
+fn answer_of(session: u32, value: &Value) -> Result<Request, MessageFault>
+    ensures { result ≡ answer_of session (view value.now) }
+{
+    match number_member(value, "step", 65_535) {
+        Err(fault) => Err(fault),
+        Ok(step) => match number_member(value, "response", 255) {
+            Err(fault) => Err(fault),
+            Ok(response) => Ok(Request::Answer {
+                session,
+                step: step as u16,
+                response: response as u8,
+            }),
+        },
+    }
+}
+
+fn parse_begin(alloc: Global, body: &[u8]) -> Result<Result<Request, MessageFault>, AllocError>
+    ensures { IfOk result (IsParsedBy begin_of body.now) }
+{
+    match value_of(alloc, body) {
+        Err(e) => Err(e),
+        Ok(None) => Ok(Err(MessageFault::BadJson)),
+        Ok(Some(value)) => Ok(begin_of(&value)),
+    }
+}
+
+fn parse_answer(
+    alloc: Global,
+    session: u32,
+    body: &[u8],
+) -> Result<Result<Request, MessageFault>, AllocError>
+    ensures { IfOk result (IsParsedBy (answer_of session) body.now) }
+{
+    match value_of(alloc, body) {
+        Err(e) => Err(e),
+        Ok(None) => Ok(Err(MessageFault::BadJson)),
+        Ok(Some(value)) => Ok(answer_of(session, &value)),
+    }
+}
+
+// What a body asks on a route.
+fn request_on(
+    alloc: Global,
+    route: Route,
+    body: &[u8],
+) -> Result<Result<Request, MessageFault>, AllocError>
+    ensures { IfOk result (AsksOn route body.now) }
+{
+    match route {
+        Route::Sessions => parse_begin(alloc, body),
+        Route::Session(session) => Ok(Ok(Request::Look(session))),
+        Route::Answers(session) => parse_answer(alloc, session, body),
+        Route::Close(session) => Ok(Ok(Request::Close(session))),
+        Route::Exposure => Ok(Ok(Request::Exposure)),
+    }
+}
+
+// What a method and a body ask, where the path names this route, or none.
+fn request_by(
+    alloc: Global,
+    route: Option<Route>,
+    method: &[u8],
+    body: &[u8],
+) -> Result<Result<Request, MessageFault>, AllocError>
+    ensures { IfOk result (AsksBy route method.now body.now) }
+{
+    match route {
+        None => Ok(Err(MessageFault::NoRoute)),
+        Some(route) => {
+            if method != method_of(route) {
+                return Ok(Err(MessageFault::NoMethod));
+            }
+            request_on(alloc, route, body)
+        }
+    }
+}
+
+/// What a message asks, or why it asks nothing.
+pub(crate) fn request_of(
+    alloc: Global,
+    router: &Router<RouteKind>,
+    message: &Message,
+) -> Result<Result<Request, MessageFault>, AllocError>
+    requires { router.now ≡ table }
+    ensures { IfOk result (Asks message.now) }
+{
+    let route = route_of(router, &message.path);
+    request_by(
+        alloc,
+        route,
+        message.method.as_str().as_bytes(),
+        &message.body,
+    )
+}

@@ -1,0 +1,21 @@
+//! An examination over one connection: what a message asks, and the responses that a connection gets for its messages.
+//! Upward it promises that the responses written are those to the messages of the connection's bytes, in order, whoever
+//! answers the requests. It never opens a connection.
+#![tactic(auto)]
+
+mod asking;
+mod body;
+mod ended;
+mod handler;
+pub mod laws;
+mod message_fault;
+mod route;
+mod serve;
+mod status;
+mod texts;
+
+pub use ended::Ended;
+pub use handler::Handler;
+pub use message_fault::MessageFault;
+pub use route::Route;
+pub use serve::serve_connection;

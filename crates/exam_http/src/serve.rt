@@ -1,0 +1,190 @@
+//! One connection.
+ghost use Rattle.std.specs.Prelude.{◌≡◌, ◌≢◌, ◌++◌, ◌⊎◌, List, ℕ, IsTrue, IfOk, OnErr, OnOk};
+ghost use Rattle.exam_edge.specs.Faults.{Rose};
+ghost use Rattle.exam_edge.specs.Lent.{IsLent, FailsOnly};
+ghost use Rattle.wire_http.specs.Messages.{bytes_of};
+ghost use Rattle.exam_http.specs.Serving.{Begins, IsResponse, Becomes, Refuses, Turns, IsServed};
+ghost use Rattle.exam_http.specs.Table.{table};
+
+use crate::asking::request_of;
+use crate::ended::Turn;
+use crate::route::{RouteKind, router};
+use crate::texts::{message_fault_text, reply_text, wire_fault_text};
+use crate::{Ended, Handler};
+use exam_edge::{Failed, Link};
+use matchit::Router;
+use std::alloc::{AllocError, Global};
+use std::sync::Wait;
+use wire_http::{Kept, Message, WireFault, read_request};
+
+// Writes a whole text.
+fn write_all<K: Link>(link: &mut K, text: &[u8]) -> Result<(), Failed>
+    ensures whole { OnOk result (IsTrue (K.tells link.old)
+        → K.written link.new ≡ K.written link.old ++ text.now) }
+    ensures part { OnErr result (IsTrue (K.tells link.old) → (part : List ℕ)
+        × Begins part text.now × (K.written link.new ≡ K.written link.old ++ part)) }
+    ensures left { IsTrue (K.tells link.old) → K.left link.new ≡ K.left link.old }
+    ensures failed { FailsOnly K.faults link.old link.new result }
+    ensures frame { IsLent K.tells K.identity K.faults link.old link.new }
+{
+    let mut done = 0;
+    'pieces: while done < text.len() {
+        match link.write(text.split_at(done).1) {
+            Ok(count) => done += count,
+            Err(Failed) => return Err(Failed),
+        }
+    }
+    Ok(())
+}
+
+// Does what a message asks, and returns the response. When memory runs out, it may have been done or not.
+fn respond<R: Wait + Sync, H: Handler>(
+    rt: &R,
+    alloc: Global,
+    router: &Router<RouteKind>,
+    handler: &mut H,
+    message: &Message,
+) -> Result<Vec<u8>, AllocError>
+    requires { router.now ≡ table }
+    ensures response { IfOk result (λ text.
+        IsResponse H.does handler.old message.now text.items handler.new) }
+    ensures memory { OnErr result ((handler.new ≡ handler.old)
+        ⊎ ((text : List ℕ) × IsResponse H.does handler.old message.now text handler.new)) }
+{
+    let asked = match request_of(alloc, router, message) {
+        Ok(asked) => asked,
+        Err(e) => return Err(e),
+    };
+    match asked {
+        Ok(request) => {
+            let reply = handler.handle(rt, alloc, &request);
+            reply_text(alloc, &reply, message.close)
+        }
+        Err(fault) => message_fault_text(alloc, fault, message.close),
+    }
+}
+
+// Does what a message asks, writes the response, and then lets the handler use idle time.
+fn answer<R: Wait + Sync, H: Handler, K: Link>(
+    rt: &R,
+    alloc: Global,
+    router: &Router<RouteKind>,
+    handler: &mut H,
+    link: &mut K,
+    message: &Message,
+) -> Turn
+    requires { router.now ≡ table }
+    ensures becomes { IsTrue (K.tells link.old) → (text : List ℕ)
+        × (K.written link.new ≡ K.written link.old ++ text)
+        × Becomes H.does H.idles handler.old message.now text handler.new result }
+    ensures left { IsTrue (K.tells link.old) → K.left link.new ≡ K.left link.old }
+    ensures failed { result ≡ Turn.Over Ended.Link → Rose (K.faults link.old) (K.faults link.new) }
+    ensures frame { IsLent K.tells K.identity K.faults link.old link.new }
+{
+    match respond(rt, alloc, router, handler, message) {
+        Err(_) => Turn::Over(Ended::Memory),
+        Ok(text) => match write_all(link, &text) {
+            Err(Failed) => Turn::Over(Ended::Link),
+            Ok(()) => {
+                handler.idle(rt, alloc);
+                if message.close {
+                    Turn::Over(Ended::Done)
+                } else {
+                    Turn::Answered
+                }
+            }
+        },
+    }
+}
+
+// Writes the response of a fault.
+fn refuse<K: Link>(alloc: Global, link: &mut K, fault: WireFault) -> Turn
+    ensures refuses { IsTrue (K.tells link.old) → (text : List ℕ)
+        × (K.written link.new ≡ K.written link.old ++ text) × Refuses fault text result }
+    ensures left { IsTrue (K.tells link.old) → K.left link.new ≡ K.left link.old }
+    ensures over { result ≢ Turn.Answered }
+    ensures failed { result ≡ Turn.Over Ended.Link → Rose (K.faults link.old) (K.faults link.new) }
+    ensures frame { IsLent K.tells K.identity K.faults link.old link.new }
+{
+    match wire_fault_text(alloc, fault) {
+        Err(_) => Turn::Over(Ended::Memory),
+        Ok(text) => match write_all(link, &text) {
+            Err(Failed) => Turn::Over(Ended::Link),
+            Ok(()) => Turn::Over(Ended::BadInput(fault)),
+        },
+    }
+}
+
+// Reads one message and answers it.
+fn serve_message<R: Wait + Sync, H: Handler, K: Link>(
+    rt: &R,
+    alloc: Global,
+    router: &Router<RouteKind>,
+    handler: &mut H,
+    link: &mut K,
+    kept: &mut Kept,
+) -> Turn
+    requires { router.now ≡ table }
+    ensures turns { IsTrue (K.tells link.old) → (text : List ℕ)
+        × (K.written link.new ≡ K.written link.old ++ text)
+        × Turns H.does H.idles handler.old (bytes_of kept.old ++ K.left link.old) text
+        (bytes_of kept.new ++ K.left link.new) handler.new result }
+    ensures failed { result ≡ Turn.Over Ended.Link → Rose (K.faults link.old) (K.faults link.new) }
+    ensures frame { IsLent K.tells K.identity K.faults link.old link.new }
+{
+    match read_request(alloc, link, kept) {
+        Ok(Some(message)) => answer(rt, alloc, router, handler, link, &message),
+        Ok(None) => Turn::Over(Ended::Done),
+        Err(WireFault::Link) => Turn::Over(Ended::Link),
+        Err(WireFault::Memory) => Turn::Over(Ended::Memory),
+        Err(fault) => refuse(alloc, link, fault),
+    }
+}
+
+// Serves what was kept of a connection and what its link still gives.
+fn serve_all<R: Wait + Sync, H: Handler, K: Link>(
+    rt: &R,
+    alloc: Global,
+    router: &Router<RouteKind>,
+    handler: &mut H,
+    link: &mut K,
+    kept: &mut Kept,
+) -> Ended
+    requires { router.now ≡ table }
+    ensures served { IsTrue (K.tells link.old) → (text : List ℕ)
+        × (K.written link.new ≡ K.written link.old ++ text)
+        × IsServed H.does H.idles handler.old (bytes_of kept.old ++ K.left link.old) text
+        handler.new result }
+    ensures failed { result ≡ Ended.Link → Rose (K.faults link.old) (K.faults link.new) }
+    ensures frame { IsLent K.tells K.identity K.faults link.old link.new }
+{
+    'messages: for _ in rt.forever() {
+        match serve_message(rt, alloc, router, handler, link, kept) {
+            Turn::Answered => {}
+            Turn::Over(ended) => return ended,
+        }
+    }
+    unreachable!()
+}
+
+/// Serves one connection to its end: what each message asks is done, and its response written, in order; then the response
+/// of a fault, if there is one. If the link fails or memory runs out, the last response may be cut off.
+pub fn serve_connection<R: Wait + Sync, H: Handler, K: Link>(
+    rt: &R,
+    alloc: Global,
+    handler: &mut H,
+    link: &mut K,
+) -> Ended
+    ensures served { IsTrue (K.tells link.old) → (text : List ℕ)
+        × (K.written link.new ≡ K.written link.old ++ text)
+        × IsServed H.does H.idles handler.old (K.left link.old) text handler.new result }
+    ensures failed { result ≡ Ended.Link → Rose (K.faults link.old) (K.faults link.new) }
+    ensures frame { IsLent K.tells K.identity K.faults link.old link.new }
+{
+    let router = match router(alloc) {
+        Ok(router) => router,
+        Err(_) => return Ended::Memory,
+    };
+    let mut kept = Kept::new(alloc);
+    serve_all(rt, alloc, &router, handler, link, &mut kept)
+}
