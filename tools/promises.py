@@ -45,7 +45,7 @@ def exports(crate):
     public = set(re.findall(rf"^pub mod ({NAME});", text, re.M))
     names = set(re.findall(rf"^pub (?:fn|struct|enum|trait) ({NAME})", text, re.M))
     for path, many, one in re.findall(rf"^pub use ((?:{NAME}::)+)(?:\{{([^}}]*)\}}|({NAME}));", text, re.M):
-        if path.split("::")[0] in modules:
+        if path.replace("crate::", "").split("::")[0] in modules:
             names |= {it.strip() for it in (many or one).split(",") if it.strip()}
     return names, public
 
