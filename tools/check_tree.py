@@ -135,19 +135,18 @@ def read_tree(data):
         return value
 
     vectors, nodes = [], []
-    count = number(1)
-    if count > 32:
-        raise Fault("BadVector 0")
+    count, room = number(1), 12288
     for _ in range(count):
         begin = at
         pairs = number(2)
-        if pairs > 384:
+        if pairs > min(384, room):
             raise Fault("BadVector %d" % begin)
+        room -= pairs
         vector, before = {}, -1
         for _ in range(pairs):
             begin = at
             side = number(2)
-            if side <= before or side >= 384:
+            if side <= before or side >= 386:
                 raise Fault("BadVector %d" % begin)
             begin = at
             multiplier = number(4)
@@ -194,7 +193,9 @@ ITEM, STIMULUS, BOUND, RAY, COUNT, WHOLE, OPEN = 1, 2, 3, 4, 5, 6, 7
 # ---------------------------------------------------------------- paths
 
 Path = namedtuple("Path", "taken free branched")
-Reduced = namedtuple("Reduced", "constant weight stimulus")
+Reduced = namedtuple("Reduced", "constant weight stimulus cap")
+
+LOW_CAP, HIGH_CAP = 384, 385
 
 
 def root(P):
@@ -261,6 +262,8 @@ def reduced(P, vector, ray):
     weight = [0 if ray else 256 * item.info[P.theta] for item in P.bank.items]
     stimulus = [0] * (P.bank.stimuli + 1)
     for side, m in vector.items():
+        if side in (LOW_CAP, HIGH_CAP):
+            continue
         k, sign = side // 2, 1 if side % 2 == 0 else -1
         if k < len(P.plan.rows):
             row = P.plan.rows[k]
@@ -279,16 +282,33 @@ def reduced(P, vector, ray):
             for i, item in enumerate(P.bank.items):
                 if item.stimulus == s:
                     weight[i] += sign * m
-    return Reduced(constant, weight, stimulus)
+    return Reduced(constant, weight, stimulus, cap_of(vector))
+
+
+def cap_of(vector):
+    """The cap, or None where the vector names neither of its sides."""
+    if LOW_CAP not in vector and HIGH_CAP not in vector:
+        return None
+    return vector.get(LOW_CAP, 0) - vector.get(HIGH_CAP, 0)
 
 
 def maximum(P, p, r):
-    """The relaxed maximum with reduced weights, or None where it isn't defined."""
+    """The relaxed maximum with reduced weights, or None where it isn't defined.
+
+    What a free item of an open stimulus weighs above the cap goes to the stimulus."""
     if length_impossible(P, p):
         return None
-    free = sorted((r.weight[i] for i in p.free), reverse=True)[:P.plan.length - len(p.taken)]
+    may = opened(P, p)
+    free, excess = [], dict.fromkeys(may, 0)
+    for i in p.free:
+        weight, s = r.weight[i], P.bank.items[i].stimulus
+        if r.cap is not None and s in may and weight > r.cap:
+            excess[s] += weight - r.cap
+            weight = r.cap
+        free.append(weight)
+    free = sorted(free, reverse=True)[:P.plan.length - len(p.taken)]
     return (r.constant + sum(r.weight[i] for i in p.taken) + sum(free) + sum(r.stimulus[s] for s in chosen(P, p))
-            + sum(max(0, r.stimulus[s]) for s in opened(P, p)))
+            + sum(max(0, r.stimulus[s] + excess[s]) for s in may))
 
 
 def last_set(P, p):
@@ -312,7 +332,7 @@ def reason(P, X, vectors, p, kind, value, known=None):
     if kind in (BOUND, RAY):
         if value >= len(vectors):
             return "NoVector"
-        if any(side >= 2 * len(P.plan.rows) + 2 * P.bank.stimuli for side in vectors[value]):
+        if any(side >= 2 * len(P.plan.rows) + 2 * P.bank.stimuli and side not in (LOW_CAP, HIGH_CAP) for side in vectors[value]):
             return "NoSide"
         if (kind, value) not in known:
             known[kind, value] = reduced(P, vectors[value], kind == RAY)
@@ -427,7 +447,11 @@ def any_problem(rng):
 
 def any_vectors(rng, P):
     sides = 2 * len(P.plan.rows) + 2 * P.bank.stimuli
-    return [{s: rng.randint(1, 900) for s in rng.sample(range(sides), rng.randint(0, sides))} for _ in range(rng.randint(0, 4))]
+    vectors = [{s: rng.randint(1, 900) for s in rng.sample(range(sides), rng.randint(0, sides))} for _ in range(rng.randint(0, 4))]
+    for vector in vectors:
+        for side in rng.choice([(), (), (LOW_CAP,), (LOW_CAP,), (HIGH_CAP,), (LOW_CAP, HIGH_CAP)]):
+            vector[side] = rng.randint(1, 4000)
+    return vectors
 
 
 def search(rng, P, X, vectors, p, nodes):
