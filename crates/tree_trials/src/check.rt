@@ -10,7 +10,7 @@ ghost use Rattle.constraint_model.specs.Views.{problem_of};
 mod tests {
     use bank_tables::{Bank, ItemRow, ItemSet, List, Rows};
     use certificate_check::{Reason, Verdict, check, spent};
-    use constraint_model::{Draft, Problem, Rate, Row, Spec};
+    use constraint_model::{Draft, Problem, Rate, Row, Spec, StimulusBound};
     use proof_tree::{Tree, decode};
     use std::alloc::{AllocError, Global};
     use std::test::Fail;
@@ -139,6 +139,90 @@ mod tests {
         let problem = Problem::whole(&bank, &spec);
         let tree = tree_of(alloc, bytes)?;
         Ok(check(&problem, None, &tree))
+    }
+
+    fn passage_item(alloc: Global, stimulus: u32, info: u32) -> Result<ItemRow, AllocError> {
+        let row = item(alloc, &[], &[info], &[-1, -1])?;
+        Ok(ItemRow { stimulus, ..row })
+    }
+
+    /// The verdict on a tree with the form {3, 4, 5}, of 13: the passage of items 0, 1 and 2, of 9, 1 and 1, is in a form
+    /// whole or not at all, and items 3, 4 and 5, of 5, 4 and 4, have no passage.
+    fn passage_verdict(alloc: Global, bytes: &[u8]) -> Result<Verdict, Fail> {
+        let mut items = Vec::new(alloc);
+        for (stimulus, info) in [(1, 9), (1, 1), (1, 1), (0, 5), (0, 4), (0, 4)] {
+            items.push(passage_item(alloc, stimulus, info)?)?;
+        }
+        let rows = Rows {
+            grid: 1,
+            quantities: 0,
+            items: List::of(items),
+        };
+        let bank = Bank::of(alloc, rows)?;
+        let bounds = vec![in alloc; StimulusBound { low: 3, high: 3 }]?;
+        let draft = Draft {
+            bounds: List::of(bounds),
+            ..plan(alloc, 3, &[0], &[])?
+        };
+        let spec = Spec::of(alloc, &bank, draft)?;
+        let problem = Problem::whole(&bank, &spec);
+        let tree = tree_of(alloc, bytes)?;
+        Ok(check(&problem, Some(&set_of(&[3, 4, 5])), &tree))
+    }
+
+    /// Side 0, the low one of the passage, has the multiplier 768: its items weigh 12, 4 and 4 units of 256, and it weighs -9.
+    #[test]
+    fn caps(rt: HostRuntime) -> Result<(), Fail> {
+        let alloc = rt.alloc();
+        let cases: [(&[u8], Verdict); 8] = [
+            // The cap of 4 units leaves the passage 8 of item 0, so -1: the maximum is 5 + 4 + 4, the form's value.
+            (
+                &[1, 0, 2, 0, 0, 0, 0, 3, 0, 1, 0x80, 0, 0, 4, 0, 3, 0],
+                Verdict::Optimal,
+            ),
+            // Without the cap it is 12 + 5 + 4.
+            (
+                &[1, 0, 1, 0, 0, 0, 0, 3, 0, 3, 0],
+                Verdict::Bad(0, Reason::NotClosed),
+            ),
+            // The cap as 2,024 less 1,000.
+            (
+                &[
+                    1, 0, 3, 0, 0, 0, 0, 3, 0, 1, 0x80, 0, 0, 7, 0xe8, 1, 0x81, 0, 0, 3, 0xe8, 3, 0,
+                ],
+                Verdict::Optimal,
+            ),
+            // Its sides exchanged, so -4 units: the passage has 32 of its items, and is worth 23.
+            (
+                &[1, 0, 2, 0, 0, 0, 0, 3, 0, 1, 0x81, 0, 0, 4, 0, 3, 0],
+                Verdict::Bad(0, Reason::NotClosed),
+            ),
+            // A cap of 2 units: the passage has 14 of its items, and is worth 5.
+            (
+                &[1, 0, 2, 0, 0, 0, 0, 3, 0, 1, 0x80, 0, 0, 2, 0, 3, 0],
+                Verdict::Bad(0, Reason::NotClosed),
+            ),
+            // Where the passage is chosen there is no cap, and the maximum is 12 + 5 + 4 - 9; where it is dropped it is 13.
+            (
+                &[
+                    1, 0, 2, 0, 0, 0, 0, 3, 0, 1, 0x80, 0, 0, 2, 0, 2, 1, 3, 0, 3, 0,
+                ],
+                Verdict::Optimal,
+            ),
+            // The plan has sides 0 and 1.
+            (
+                &[1, 0, 1, 0, 2, 0, 0, 0, 1, 3, 0],
+                Verdict::Bad(0, Reason::NoSide),
+            ),
+            (
+                &[1, 0, 1, 1, 0x7f, 0, 0, 0, 1, 3, 0],
+                Verdict::Bad(0, Reason::NoSide),
+            ),
+        ];
+        for (bytes, verdict) in cases {
+            assert_eq!(rt; passage_verdict(alloc, bytes)?, verdict);
+        }
+        Ok(())
     }
 
     /// Whether a tree over the plain bank spends a budget.

@@ -2,6 +2,7 @@
 
 use bank_tables::List;
 use proof_tree::{Node, Tree, TreeFault, Vector, decode, encode};
+use std::alloc::{AllocError, Global};
 use std::test::Fail;
 
 #[test]
@@ -13,7 +14,7 @@ fn shortest_faults(rt: HostRuntime) -> Result<(), Fail> {
     assert_eq!(rt; decode(alloc, &[0, 0]).err(), Some(TreeFault::BadKind(1)));
     assert_eq!(rt; decode(alloc, &[0, 1, 0]).err(), Some(TreeFault::Short));
     assert_eq!(rt; decode(alloc, &[1]).err(), Some(TreeFault::Short));
-    assert_eq!(rt; decode(alloc, &[33]).err(), Some(TreeFault::BadVector(0)));
+    assert_eq!(rt; decode(alloc, &[33]).err(), Some(TreeFault::Short));
     Ok(())
 }
 
@@ -35,13 +36,13 @@ fn vector_faults(rt: HostRuntime) -> Result<(), Fail> {
         decode(alloc, &[1, 0, 1, 0, 1, 0, 0, 0]).err(),
         Some(TreeFault::Short)
     );
-    // Side 384, also where the multiplier is missing.
+    // Side 386, also where the multiplier is missing.
     assert_eq!(rt;
-        decode(alloc, &[1, 0, 1, 1, 0x80, 0, 0, 0, 1]).err(),
+        decode(alloc, &[1, 0, 1, 1, 0x82, 0, 0, 0, 1]).err(),
         Some(TreeFault::BadVector(3))
     );
     assert_eq!(rt;
-        decode(alloc, &[1, 0, 1, 1, 0x80]).err(),
+        decode(alloc, &[1, 0, 1, 1, 0x82]).err(),
         Some(TreeFault::BadVector(3))
     );
     // Multipliers 0 and 16,777,217.
@@ -61,6 +62,51 @@ fn vector_faults(rt: HostRuntime) -> Result<(), Fail> {
         decode(alloc, &descending).err(),
         Some(TreeFault::BadVector(9))
     );
+    Ok(())
+}
+
+/// 33 vectors: 32 of 384 pairs, which are all that a tree may have, and the number of pairs of one more.
+fn many_pairs(alloc: Global, last: u8) -> Result<Vec<u8>, AllocError> {
+    let mut bytes = vec![in alloc; 33]?;
+    for _ in 0..32 {
+        bytes.extend_from_slice(&[1, 0x80])?;
+        for side in 0..384u16 {
+            bytes.extend_from_slice(&side.to_be_bytes())?;
+            bytes.extend_from_slice(&[0, 0, 0, 1])?;
+        }
+    }
+    bytes.extend_from_slice(&[0, last])?;
+    Ok(bytes)
+}
+
+#[test]
+fn most_pairs(rt: HostRuntime) -> Result<(), Fail> {
+    let alloc = rt.alloc();
+    let mut bytes = many_pairs(alloc, 0)?;
+    bytes.push(7)?;
+    let (tree, used) = decode(alloc, &bytes).ok().ok_or("a tree")?;
+    assert_eq!(rt; used, 73_796);
+    assert_eq!(rt; tree.vectors().len(), 33);
+    // The 12,289th pair.
+    let over = many_pairs(alloc, 1)?;
+    assert_eq!(rt;
+        decode(alloc, &over).err(),
+        Some(TreeFault::BadVector(73_793))
+    );
+    Ok(())
+}
+
+#[test]
+fn most_vectors(rt: HostRuntime) -> Result<(), Fail> {
+    let alloc = rt.alloc();
+    let mut bytes = vec![in alloc; 255]?;
+    for _ in 0..255 {
+        bytes.extend_from_slice(&[0, 0])?;
+    }
+    bytes.push(7)?;
+    let (tree, used) = decode(alloc, &bytes).ok().ok_or("a tree")?;
+    assert_eq!(rt; used, 512);
+    assert_eq!(rt; tree.vectors().len(), 255);
     Ok(())
 }
 
@@ -84,7 +130,7 @@ fn node_faults(rt: HostRuntime) -> Result<(), Fail> {
         decode(alloc, &[0, 5, 193]).err(),
         Some(TreeFault::BadKind(1))
     );
-    // Behind a branch: the second node.
+    // After a branch: the second node.
     assert_eq!(rt;
         decode(alloc, &[0, 2, 1, 6, 5, 193]).err(),
         Some(TreeFault::BadKind(4))
@@ -136,7 +182,7 @@ fn eleven_bytes(rt: HostRuntime) -> Result<(), Fail> {
 #[test]
 fn made_and_read_again(rt: HostRuntime) -> Result<(), Fail> {
     let alloc = rt.alloc();
-    let pairs = vec![in alloc; (0, 1), (383, 16_777_216)]?;
+    let pairs = vec![in alloc; (0, 1), (385, 16_777_216)]?;
     let vector = Vector::of(List::of(pairs)).ok_or("a vector")?;
     let nodes = vec![in alloc;
         Node::BranchItem(511),
@@ -148,7 +194,7 @@ fn made_and_read_again(rt: HostRuntime) -> Result<(), Fail> {
     let tree = Tree::of(List::of(vec![in alloc; vector]?), List::of(nodes)).ok_or("a tree")?;
     let mut bytes = encode(alloc, &tree).ok().ok_or("memory")?;
     let spelled = [
-        1, 0, 2, 0, 0, 0, 0, 0, 1, 1, 0x7f, 1, 0, 0, 0, 1, 1, 0xff, 2, 64, 3, 255, 5, 192, 7,
+        1, 0, 2, 0, 0, 0, 0, 0, 1, 1, 0x81, 1, 0, 0, 0, 1, 1, 0xff, 2, 64, 3, 255, 5, 192, 7,
     ];
     assert_eq!(rt; bytes.as_slice(), spelled.as_slice());
     // What follows isn't read.
