@@ -1,5 +1,5 @@
 -- How a replay goes on, and where it stops.
-use Rattle.std.proofs.Common.{◌≡◌, ℕ, suc, ◌+◌, ◌<◌, ◌⊎◌, inl, inr, List, ◌∷◌, ◌++◌, length, take, drop, get_or, drop-cons, refl, sym, ◌∙◌, ap, subst, append_assoc}
+use Rattle.std.proofs.Common.{◌≡◌, ℕ, Bool, IsTrue, suc, ◌+◌, ◌<◌, ◌⊎◌, inl, inr, List, ◌∷◌, ◌++◌, length, take, drop, get_or, drop-cons, refl, sym, ◌∙◌, ap, subst, append_assoc}
 use Rattle.std.proofs.lemmas.List.{take-append-drop, take_more}
 use Rattle.bank_tables.specs.Tables.{Tables}
 use Rattle.exam_model.specs.declared.seat.Seat.{Seat}
@@ -8,27 +8,27 @@ use Rattle.exam_program.specs.declared.script.Answer.{Answer}
 use Rattle.exam_program.specs.declared.stop.Stop.{Stop}
 use Rattle.exam_program.specs.declared.stop.Stop.TheVariants.{Refused, Memory, Sink}
 use Rattle.exam_program.specs.Sessions.{Session, answered, Answers, IsRefused, place_line}
-use Rattle.exam_program.specs.Writing.{WritesPart}
+use Rattle.exam_program.specs.Writing.{IsWritten, WritesPart}
 use Rattle.exam_program.specs.Replays.{IsPrinted, lines, Stops, StopsAtRefusal}
 
 -- a line that can't be printed, after the text
-pub stop_at_line : (b : Tables) (plan : Plan) (base : List ℕ) (answers : List Answer) (old mid new text line : List ℕ) (stop : Stop)
+pub stop_at_line : (b : Tables) (plan : Plan) (base : List ℕ) (answers : List Answer) (told : Bool) (old mid new text line : List ℕ) (stop : Stop)
     → IsPrinted b plan base answers text
     → IsPrinted b plan base answers (text ++ line)
-    → mid ≡ old ++ text
+    → IsWritten told old mid text
     → (stop ≡ Memory) ⊎ (stop ≡ Sink)
-    → (stop ≡ Memory → new ≡ mid)
-    → (stop ≡ Sink → WritesPart mid new line)
-    → Stops b plan base answers old new stop
-stop_at_line b plan base answers old mid new text line stop before after there (inl is) memory sink =
-    subst (λ (s : Stop). Stops b plan base answers old new s) (sym is) (record { text = text; printed = before; written = memory is ∙ there })
-stop_at_line b plan base answers old mid new text line stop before after there (inr is) memory sink =
+    → (stop ≡ Memory → IsTrue told → new ≡ mid)
+    → (stop ≡ Sink → WritesPart told mid new line)
+    → Stops b plan base answers told old new stop
+stop_at_line b plan base answers told old mid new text line stop before after there (inl is) memory sink =
+    subst (λ (s : Stop). Stops b plan base answers told old new s) (sym is) (record { text = text; printed = before; written = λ t. memory is t ∙ there t })
+stop_at_line b plan base answers told old mid new text line stop before after there (inr is) memory sink =
     let part = sink is in
-    subst (λ (s : Stop). Stops b plan base answers old new s) (sym is) (record {
+    subst (λ (s : Stop). Stops b plan base answers told old new s) (sym is) (record {
       text = text ++ part.part;
       rest = part.rest;
       printed = subst (λ (t : List ℕ). IsPrinted b plan base answers t) (ap (λ (t : List ℕ). text ++ t) part.whole ∙ sym (append_assoc text part.part part.rest)) after;
-      written = part.written ∙ (ap (λ (t : List ℕ). t ++ part.part) there ∙ append_assoc old text part.part);
+      written = λ t. part.written t ∙ (ap (λ (t : List ℕ). t ++ part.part) (there t) ∙ append_assoc old text part.part);
       unfinished = part.unfinished;
     })
 
@@ -56,30 +56,30 @@ parted all i lt = sym (take-append-drop i all) ∙ ap (λ (xs : List Answer). ta
 pub split : (all : List Answer) (i : ℕ) → all ≡ take i all ++ drop i all
 split all i = sym (take-append-drop i all)
 
-stops_refused : (b : Tables) (plan : Plan) (base : List ℕ) (all : List Answer) (i : ℕ) (old new : List ℕ) (seat : Seat) (text : List ℕ)
+stops_refused : (b : Tables) (plan : Plan) (base : List ℕ) (all : List Answer) (i : ℕ) (told : Bool) (old new : List ℕ) (seat : Seat) (text : List ℕ)
     → i < length all
     → Session b plan base (take i all) seat text
-    → new ≡ old ++ text
+    → IsWritten told old new text
     → IsRefused b seat (get_or all i no_answer)
-    → StopsAtRefusal b plan base all old new
-stops_refused b plan base all i old new seat text lt session written refused =
+    → StopsAtRefusal b plan base all told old new
+stops_refused b plan base all i told old new seat text lt session written refused =
     record { done = take i all; answer = get_or all i no_answer; rest = drop (suc i) all; seat = seat; text = text; all = parted all i lt; session = session; refused = refused; written = written }
 
--- want of memory before a line
-stops_between : (b : Tables) (plan : Plan) (base : List ℕ) (all : List Answer) (i : ℕ) (old new : List ℕ) (seat : Seat) (text : List ℕ)
+-- out of memory before a line
+stops_between : (b : Tables) (plan : Plan) (base : List ℕ) (all : List Answer) (i : ℕ) (told : Bool) (old new : List ℕ) (seat : Seat) (text : List ℕ)
     → Session b plan base (take i all) seat text
-    → new ≡ old ++ text
-    → Stops b plan base all old new Memory
-stops_between b plan base all i old new seat text session written = record { text = text; printed = lines (take i all) (drop i all) seat text (split all i) session; written = written }
+    → IsWritten told old new text
+    → Stops b plan base all told old new Memory
+stops_between b plan base all i told old new seat text session written = record { text = text; printed = lines (take i all) (drop i all) seat text (split all i) session; written = written }
 
 -- an answer that isn't taken
-pub stops_at_answer : (b : Tables) (plan : Plan) (base : List ℕ) (all : List Answer) (i : ℕ) (old new : List ℕ) (seat : Seat) (text : List ℕ) (stop : Stop)
+pub stops_at_answer : (b : Tables) (plan : Plan) (base : List ℕ) (all : List Answer) (i : ℕ) (told : Bool) (old new : List ℕ) (seat : Seat) (text : List ℕ) (stop : Stop)
     → i < length all
     → Session b plan base (take i all) seat text
-    → new ≡ old ++ text
+    → IsWritten told old new text
     → (stop ≡ Refused → IsRefused b seat (get_or all i no_answer))
     → (stop ≡ Sink → ⊥)
-    → Stops b plan base all old new stop
-stops_at_answer b plan base all i old new seat text Refused lt session written refused no_sink = stops_refused b plan base all i old new seat text lt session written (refused refl)
-stops_at_answer b plan base all i old new seat text Memory lt session written refused no_sink = stops_between b plan base all i old new seat text session written
-stops_at_answer b plan base all i old new seat text Sink lt session written refused no_sink = absurd (no_sink refl)
+    → Stops b plan base all told old new stop
+stops_at_answer b plan base all i told old new seat text Refused lt session written refused no_sink = stops_refused b plan base all i told old new seat text lt session written (refused refl)
+stops_at_answer b plan base all i told old new seat text Memory lt session written refused no_sink = stops_between b plan base all i told old new seat text session written
+stops_at_answer b plan base all i told old new seat text Sink lt session written refused no_sink = absurd (no_sink refl)

@@ -8,21 +8,20 @@ use Rattle.std.proofs.lemmas.Option.{slice_get-get_or}
 use Rattle.std.proofs.Math.Bool.{true≢false}
 use Rattle.bank_tables.specs.Items.{Set, has}
 use Rattle.bank_tables.specs.Tables.{Tables, size, stimulus}
-use Rattle.proof_tree.specs.declared.memory.Memory.{Memory}
 use Rattle.exam_model.specs.declared.seat.Seat.{Seat}
 use Rattle.exam_model.specs.Plan.{Plan}
 use Rattle.exam_model.specs.Problem.{Problem}
 use Rattle.exam_model.specs.Forms.{Form, Meets}
 use Rattle.exam_model.specs.ProofTrees.{ProofTree}
 use Rattle.exam_model.specs.Serving.{IsNext}
-use Rattle.exam_model.specs.Seats.{is_shown, last_shown, is_of_stimulus_left_behind, is_barred, seat_problem, IsSeat}
+use Rattle.exam_model.specs.Seats.{is_shown, last_shown, is_of_stimulus_left_behind, is_barred, seat_problem, IsSeat, with_response}
 use Rattle.exam_model.proofs.SumLaws.{either, and_true, or_true}
 use Rattle.exam_model.proofs.Staying.{last_form_stays}
 use Rattle.branch_bound.specs.declared.outcome.Outcome.{Outcome}
 use Rattle.branch_bound.specs.declared.outcome.Outcome.TheVariants.{Found}
 use Rattle.branch_bound.specs.Assemblies.{IsAssembly}
 use Rattle.shadow_select.specs.Steps.{AnsweredSeatIsSeat}
-use Rattle.exam_program.specs.Sessions.{with_response, IsNewSeat, IsAwaited, Serves, Session, begins, place_line}
+use Rattle.exam_program.specs.Sessions.{IsNewSeat, IsAwaited, Serves, Session, begins, place_line}
 use Rattle.exam_program.specs.Standing.{IsStanding, SeatHasForm}
 use Rattle.exam_program.specs.declared.script.Answer.{Answer}
 
@@ -120,7 +119,7 @@ new_has_form b plan base empty new meets P of = inl (subst (λ (Q : Problem). Fo
     form = record { meets = meets; holds_given = λ i e. absurd (true≢false (sym e ∙ none_shown i)); holds_no_barred = λ i e. absurd (not_barred i e) }
 
 -- ---- a session that begins
-pub session_begins : (b : Tables) (plan : Plan) (base : List ℕ) (empty : Seat) (seat : Result Seat Memory) → IsNewSeat b empty → IfOk seat (Serves b plan base empty) → IfOk seat (λ s. Session b plan base [] s (place_line plan s))
+pub session_begins : {E : Type 0} (b : Tables) (plan : Plan) (base : List ℕ) (empty : Seat) (seat : Result Seat E) → IsNewSeat b empty → IfOk seat (Serves b plan base empty) → IfOk seat (λ s. Session b plan base [] s (place_line plan s))
 session_begins b plan base empty (Err e) new serves = tt
 session_begins b plan base empty (Ok seat) new serves = begins empty seat new serves
 

@@ -8,3 +8,4 @@ pub mod Texts
 pub mod Replays
 pub mod Halts
 pub mod Outcomes
+pub mod Laws

@@ -20,7 +20,11 @@ use Rattle.exam_program.specs.Commands.{Command, Check, Assemble, Replay, comman
 use Rattle.exam_program.specs.Halts.{Reads, IsOfText, IsScript, HaltsAtScript}
 use Rattle.exam_program.specs.Sessions.{Session, IsRefused}
 use Rattle.exam_program.specs.Replays.{IsPrinted}
-use Rattle.exam_program.specs.Texts.{usage, not_yet, no_form, no_base_form, files_failed, no_memory, bank_line, form_text, bank_text, plan_text}
+use Rattle.exam_program.specs.Writing.{IsWritten}
+use Rattle.exam_text.specs.Texts.{files_failed, no_memory}
+use Rattle.bank_reader.specs.Texts.{bank_text}
+use Rattle.spec_reader.specs.Texts.{plan_text}
+use Rattle.exam_program.specs.Texts.{usage, not_yet, no_form, no_base_form, bank_line, form_text}
 
 -- the files of a replay say this bank, plan and script, and this is the base form
 pub record ReadsAll (content : List ℕ → List ℕ) (bank plan name : List ℕ) (b : Tables) (p : Plan) (script : Script) (base : List ℕ) : Type 0 where
@@ -35,7 +39,8 @@ IsReady content (Assemble bank plan) b p = Reads content bank plan b p
 IsReady content (Replay bank plan name) b p = Reads content bank plan b p × ((script : Script) × IsScript (content name) script)
 
 -- the status and what is printed, for words, what the files hold, and the files' count of faults before and after; each rule
--- says when it applies, and the rules of two statuses other than 7, 10 and 12 apply never both
+-- says when it applies. The rules of two statuses other than 7, 10 and 12 never apply both, save 0 and 15 of a replay, where
+-- two best forms serve items with different numbers of categories; and where 12 applies, 11 may too
 pub data Outcome (words : List (List ℕ)) (content : List ℕ → List ℕ) (before after : ℕ) : ℕ → List ℕ → Type 0 where
   -- the words are not in the table
   faulty_words : command_of words ≡ None → Outcome words content before after 2 usage
@@ -65,41 +70,41 @@ pub data Outcome (words : List (List ℕ)) (content : List ℕ → List ℕ) (be
   without_more_memory : (bank plan name : List ℕ) (b : Tables) (p : Plan) (script : Script) (base text : List ℕ) → command_of words ≡ Some (Replay bank plan name) → ReadsAll content bank plan name b p script base → IsPrinted b p base script.answers text → Outcome words content before after 10 (text ++ no_memory)
 
 -- this was printed
-pub record Prints (words : List (List ℕ)) (content : List ℕ → List ℕ) (before after : ℕ) (old new : List ℕ) (status : ℕ) : Type 0 where
+pub record Prints (words : List (List ℕ)) (content : List ℕ → List ℕ) (before after : ℕ) (told : Bool) (old new : List ℕ) (status : ℕ) : Type 0 where
   pub text : List ℕ
-  pub written : new ≡ old ++ text
+  pub written : IsWritten told old new text
   pub outcome : Outcome words content before after status text
 
 -- or, where the sink failed, a beginning of what the program would have printed, and not the whole
-pub record PrintsPart (words : List (List ℕ)) (content : List ℕ → List ℕ) (before after : ℕ) (old new : List ℕ) : Type 0 where
+pub record PrintsPart (words : List (List ℕ)) (content : List ℕ → List ℕ) (before after : ℕ) (told : Bool) (old new : List ℕ) : Type 0 where
   pub text : List ℕ
   pub rest : List ℕ
   pub status : ℕ
-  pub written : new ≡ old ++ text
+  pub written : IsWritten told old new text
   pub outcome : Outcome words content before after status (text ++ rest)
   pub unfinished : 0 < length rest
 
 -- status 8 is that of a sink that failed
-abbrev pub Answers : List (List ℕ) → (List ℕ → List ℕ) → ℕ → ℕ → List ℕ → List ℕ → ℕ → Type 0
-Answers words content before after old new status = (Prints words content before after old new status) ⊎ ((status ≡ 8) × PrintsPart words content before after old new)
+abbrev pub Ends : List (List ℕ) → (List ℕ → List ℕ) → ℕ → ℕ → Bool → List ℕ → List ℕ → ℕ → Type 0
+Ends words content before after told old new status = (Prints words content before after told old new status) ⊎ ((status ≡ 8) × PrintsPart words content before after told old new)
 
 -- ---- what a command has printed when it halts, before the text of its halt
-pub record PrintsBefore (words : List (List ℕ)) (content : List ℕ → List ℕ) (before after : ℕ) (old new : List ℕ) (status : ℕ) (last : List ℕ) : Type 0 where
+pub record PrintsBefore (words : List (List ℕ)) (content : List ℕ → List ℕ) (before after : ℕ) (told : Bool) (old new : List ℕ) (status : ℕ) (last : List ℕ) : Type 0 where
   pub text : List ℕ
-  pub written : new ≡ old ++ text
+  pub written : IsWritten told old new text
   pub outcome : Outcome words content before after status (text ++ last)
 
-abbrev pub Halts : List (List ℕ) → (List ℕ → List ℕ) → ℕ → ℕ → List ℕ → List ℕ → Halt → Type 0
-Halts words content before after old new (halt.Bank fault) = (new ≡ old) × Outcome words content before after 3 (bank_text fault) × Outcome words content before after 10 no_memory
-Halts words content before after old new (halt.Plan fault) = (new ≡ old) × Outcome words content before after 4 (plan_text fault) × Outcome words content before after 10 no_memory
-Halts words content before after old new halt.NotYet = PrintsBefore words content before after old new 15 not_yet
-Halts words content before after old new (halt.NoForm text) = PrintsBefore words content before after old new 11 text.items
-Halts words content before after old new (halt.NoBaseForm text) = PrintsBefore words content before after old new 12 text.items
-Halts words content before after old new halt.Files = PrintsBefore words content before after old new 7 files_failed
-Halts words content before after old new halt.Memory = PrintsBefore words content before after old new 10 no_memory
-Halts words content before after old new halt.Sink = PrintsPart words content before after old new
+abbrev pub Halts : List (List ℕ) → (List ℕ → List ℕ) → ℕ → ℕ → Bool → List ℕ → List ℕ → Halt → Type 0
+Halts words content before after told old new (halt.Bank fault) = PrintsBefore words content before after told old new 3 (bank_text fault) × PrintsBefore words content before after told old new 10 no_memory
+Halts words content before after told old new (halt.Plan fault) = PrintsBefore words content before after told old new 4 (plan_text fault) × PrintsBefore words content before after told old new 10 no_memory
+Halts words content before after told old new halt.NotYet = PrintsBefore words content before after told old new 15 not_yet
+Halts words content before after told old new (halt.NoForm text) = PrintsBefore words content before after told old new 11 text.items
+Halts words content before after told old new (halt.NoBaseForm text) = PrintsBefore words content before after told old new 12 text.items
+Halts words content before after told old new halt.Files = PrintsBefore words content before after told old new 7 files_failed
+Halts words content before after told old new halt.Memory = PrintsBefore words content before after told old new 10 no_memory
+Halts words content before after told old new halt.Sink = PrintsPart words content before after told old new
 
--- the status of a halt; want of memory may come while a fault's text is made
+-- the status of a halt; out of memory may come while a fault's text is made
 abbrev pub EndsBy : Halt → ℕ → Type 0
 EndsBy (halt.Bank fault) status = (status ≡ 3) ⊎ (status ≡ 10)
 EndsBy (halt.Plan fault) status = (status ≡ 4) ⊎ (status ≡ 10)

@@ -1,5 +1,5 @@
 -- What a replay prints, and why it stops.
-use Rattle.std.specs.Prelude.{◌≡◌, ℕ, ◌<◌, List, [], ◌∷◌, ◌++◌, length}
+use Rattle.std.specs.Prelude.{◌≡◌, ℕ, ◌<◌, Bool, List, [], ◌∷◌, ◌++◌, length}
 use Rattle.bank_tables.specs.Tables.{Tables}
 use Rattle.exam_model.specs.declared.seat.Seat.{Seat}
 use Rattle.exam_model.specs.Plan.{Plan}
@@ -7,6 +7,7 @@ use Rattle.exam_program.specs.declared.script.Answer.{Answer}
 use Rattle.exam_program.specs.declared.stop.Stop.{Stop}
 use Rattle.exam_program.specs.declared.stop.Stop.TheVariants.{Refused, Memory, Sink}
 use Rattle.exam_program.specs.Sessions.{Session, IsRefused}
+use Rattle.exam_program.specs.Writing.{IsWritten}
 
 -- the text was printed for the first of the answers, none of them, or not even the beginning
 pub data IsPrinted (b : Tables) (plan : Plan) (base : List ℕ) (answers : List Answer) : List ℕ → Type 0 where
@@ -14,14 +15,14 @@ pub data IsPrinted (b : Tables) (plan : Plan) (base : List ℕ) (answers : List 
   lines : (done rest : List Answer) (seat : Seat) (text : List ℕ) → answers ≡ done ++ rest → Session b plan base done seat text → IsPrinted b plan base answers text
 
 -- the whole session was served, and its lines stand written
-pub record Finishes (b : Tables) (plan : Plan) (base : List ℕ) (answers : List Answer) (old new : List ℕ) : Type 0 where
+pub record Finishes (b : Tables) (plan : Plan) (base : List ℕ) (answers : List Answer) (told : Bool) (old new : List ℕ) : Type 0 where
   pub seat : Seat
   pub text : List ℕ
   pub session : Session b plan base answers seat text
-  pub written : new ≡ old ++ text
+  pub written : IsWritten told old new text
 
 -- the first answer that is refused: the lines before it stand written
-pub record StopsAtRefusal (b : Tables) (plan : Plan) (base : List ℕ) (answers : List Answer) (old new : List ℕ) : Type 0 where
+pub record StopsAtRefusal (b : Tables) (plan : Plan) (base : List ℕ) (answers : List Answer) (told : Bool) (old new : List ℕ) : Type 0 where
   pub done : List Answer
   pub answer : Answer
   pub rest : List Answer
@@ -30,24 +31,24 @@ pub record StopsAtRefusal (b : Tables) (plan : Plan) (base : List ℕ) (answers 
   pub all : answers ≡ done ++ answer ∷ rest
   pub session : Session b plan base done seat text
   pub refused : IsRefused b seat answer
-  pub written : new ≡ old ++ text
+  pub written : IsWritten told old new text
 
 -- whole lines stand written
-pub record StopsBetweenLines (b : Tables) (plan : Plan) (base : List ℕ) (answers : List Answer) (old new : List ℕ) : Type 0 where
+pub record StopsBetweenLines (b : Tables) (plan : Plan) (base : List ℕ) (answers : List Answer) (told : Bool) (old new : List ℕ) : Type 0 where
   pub text : List ℕ
   pub printed : IsPrinted b plan base answers text
-  pub written : new ≡ old ++ text
+  pub written : IsWritten told old new text
 
 -- a beginning of the lines stands written
-pub record StopsWithinLines (b : Tables) (plan : Plan) (base : List ℕ) (answers : List Answer) (old new : List ℕ) : Type 0 where
+pub record StopsWithinLines (b : Tables) (plan : Plan) (base : List ℕ) (answers : List Answer) (told : Bool) (old new : List ℕ) : Type 0 where
   pub text : List ℕ
   pub rest : List ℕ
   pub printed : IsPrinted b plan base answers (text ++ rest)
-  pub written : new ≡ old ++ text
+  pub written : IsWritten told old new text
   pub unfinished : 0 < length rest
 
 -- why a replay stopped, and what stands written then
-abbrev pub Stops : Tables → Plan → List ℕ → List Answer → List ℕ → List ℕ → Stop → Type 0
-Stops b plan base answers old new Refused = StopsAtRefusal b plan base answers old new
-Stops b plan base answers old new Memory = StopsBetweenLines b plan base answers old new
-Stops b plan base answers old new Sink = StopsWithinLines b plan base answers old new
+abbrev pub Stops : Tables → Plan → List ℕ → List Answer → Bool → List ℕ → List ℕ → Stop → Type 0
+Stops b plan base answers told old new Refused = StopsAtRefusal b plan base answers told old new
+Stops b plan base answers told old new Memory = StopsBetweenLines b plan base answers told old new
+Stops b plan base answers told old new Sink = StopsWithinLines b plan base answers told old new

@@ -9,7 +9,8 @@ use Rattle.exam_model.specs.Problem.{Problem}
 use Rattle.exam_model.specs.Forms.{Best, Firm}
 use Rattle.exam_model.specs.ProofTrees.{ProofTree}
 use Rattle.exam_model.specs.Serving.{IsNext}
-use Rattle.exam_model.specs.Seats.{IsSeatProblem}
+use Rattle.exam_model.specs.Seats.{IsSeatProblem, with_item, with_response}
+use Rattle.proof_tree.specs.Shape.{IsTree}
 use Rattle.branch_bound.specs.declared.outcome.Outcome.TheVariants.{Found}
 use Rattle.branch_bound.specs.Assemblies.{IsUndecided, IsNoWorseThan}
 use Rattle.exam_program.specs.declared.script.Answer.{Answer}
@@ -24,11 +25,11 @@ pub record IsNewSeat (b : Tables) (seat : Seat) : Type 0 where
   pub no_form : seat.form ≡ None
   pub not_closed : IsFalse seat.closed
 
--- the mark of a form is true: proved, no set of items is a better form; else some tree leaves that open, and spends the
--- node budget
+-- the mark of a form is true: proved, no set of items is a better form; else some tree, which has a spelling, leaves that
+-- open and spends the node budget
 abbrev pub IsTrueMark : Problem → ℕ → List ℕ → Bool → Type 0
 IsTrueMark P budget form true = Best P (has form)
-IsTrueMark P budget form false = (T : ProofTree) × IsUndecided P (Some (has form)) T budget
+IsTrueMark P budget form false = (T : ProofTree) × IsTree T × IsUndecided P (Some (has form)) T budget
 
 -- a form to serve from, with its mark: no exchange of one item betters it, and it is no worse than the base form and the
 -- form last served from, where these are forms of the problem
@@ -48,11 +49,7 @@ pub record Serves (b : Tables) (plan : Plan) (base : List ℕ) (before after : S
   pub served : IsServedForm problem plan.budget base form proved
   pub item : ℕ
   pub next : IsNext problem (has form) item
-  pub is : after ≡ record before { shown = before.shown ++ item ∷ []; form = Some form; proved = proved }
-
--- the seat with one more response
-abbrev pub with_response : Seat → ℕ → Seat
-with_response seat response = record seat { responses = seat.responses ++ response ∷ [] }
+  pub is : after ≡ with_item before form proved item
 
 -- the test is complete, or the next item is served
 abbrev pub GoesOn : Tables → Plan → List ℕ → Seat → Seat → Type 0

@@ -4,8 +4,8 @@ ghost use Rattle.std.specs.Prelude.{◌≡◌};
 ghost use Rattle.exam_program.specs.declared.halt.Halt.TheVariants.{Memory};
 
 use bank_reader::ReadFault;
-use proof_tree::Memory as NoMemory;
 use spec_reader::PlanFault;
+use std::alloc::AllocError;
 
 /// The first fault that is met.
 #[derive(Debug, Drop)]
@@ -24,14 +24,14 @@ pub enum Halt {
     Files,
     /// A call of the sink failed.
     Sink,
-    /// Want of memory.
+    /// Out of memory.
     Memory,
 }
 
-impl From<NoMemory> for Halt {
+impl From<AllocError> for Halt {
     ghost from_gives = { λ _ e. e ≡ Memory };
 
-    fn from(_: NoMemory) -> Halt {
+    fn from(_: AllocError) -> Halt {
         Halt::Memory
     }
 }

@@ -3,14 +3,13 @@
 //! and all files; it opens no file of the host itself, and waits for nobody.
 #![tactic(auto)]
 
-mod bank_faults;
 mod base;
 mod command;
 mod halt;
+pub mod laws;
 mod lines;
 mod marked_form;
 mod output;
-mod plan_faults;
 mod program;
 mod reading;
 mod replay;
@@ -23,5 +22,4 @@ mod work;
 mod world;
 
 pub use program::run;
-pub use script::{Answer, Script};
 pub use world::{Finish, World};

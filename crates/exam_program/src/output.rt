@@ -1,15 +1,15 @@
 //! Writing to a sink.
 
-ghost use Rattle.std.specs.Prelude.{◌≡◌, ◌≤◌, ◌++◌, IsTrue, OnOk, OnErr};
+ghost use Rattle.std.specs.Prelude.{◌≡◌, ◌≤◌, OnOk, OnErr};
 ghost use Rattle.exam_edge.specs.Faults.{Rose};
-ghost use Rattle.exam_program.specs.Writing.{WritesPart};
+ghost use Rattle.exam_program.specs.Writing.{IsWritten, WritesPart};
 
 use exam_edge::{Failed, Sink};
 
 /// Writes a whole piece. Failed, a part of it may stand written, and not the whole.
 pub(crate) fn put<O: Sink>(out: &mut O, piece: &[u8]) -> Result<(), Failed>
-    ensures ok { OnOk result (IsTrue (O.tells out.old) → O.written out.new ≡ O.written out.old ++ piece.now) }
-    ensures err { OnErr result (IsTrue (O.tells out.old) → WritesPart (O.written out.old) (O.written out.new) piece.now) }
+    ensures ok { OnOk result (IsWritten (O.tells out.old) (O.written out.old) (O.written out.new) piece.now) }
+    ensures err { OnErr result (WritesPart (O.tells out.old) (O.written out.old) (O.written out.new) piece.now) }
     ensures failed { OnErr result (Rose (O.faults out.old) (O.faults out.new)) }
     ensures grows { O.faults out.old ≤ O.faults out.new }
     ensures tells { O.tells out.new ≡ O.tells out.old }

@@ -3,7 +3,7 @@
 ghost use Rattle.std.specs.Prelude.{◌≡◌, ℕ, ◌≤◌, ◌⊎◌, List, map, None, Some, OnOk, IfErr, IsTrue, string_bytes};
 ghost use Rattle.exam_edge.specs.Faults.{Rose};
 ghost use Rattle.exam_program.specs.Commands.{command_of, said};
-ghost use Rattle.exam_program.specs.Outcomes.{Answers, Prints, Halts, IsStatus};
+ghost use Rattle.exam_program.specs.Outcomes.{Ends, Prints, Halts, IsStatus};
 
 use crate::command::{Command, command_of};
 use crate::halt::Halt;
@@ -19,8 +19,14 @@ fn work<F: Files, O: Sink>(
     files: &mut F,
     out: &mut O,
 ) -> Result<(), Halt>
-    ensures ok { OnOk result (IsTrue (F.tells files.old) → IsTrue (O.tells out.old) → (words : List (List ℕ)) → command_of words ≡ Some (said command.entry) → Prints words (F.content files.old) (F.faults files.old) (F.faults files.new) (O.written out.old) (O.written out.new) 0) }
-    ensures err { IfErr result (λ halt. IsTrue (F.tells files.old) → IsTrue (O.tells out.old) → (words : List (List ℕ)) → command_of words ≡ Some (said command.entry) → Halts words (F.content files.old) (F.faults files.old) (F.faults files.new) (O.written out.old) (O.written out.new) halt) }
+    ensures ok { OnOk result (IsTrue (F.tells files.old) → (words : List (List ℕ))
+        → command_of words ≡ Some (said command.entry)
+        → Prints words (F.content files.old) (F.faults files.old) (F.faults files.new)
+        (O.tells out.old) (O.written out.old) (O.written out.new) 0) }
+    ensures err { IfErr result (λ halt. IsTrue (F.tells files.old) → (words : List (List ℕ))
+        → command_of words ≡ Some (said command.entry)
+        → Halts words (F.content files.old) (F.faults files.old) (F.faults files.new)
+        (O.tells out.old) (O.written out.old) (O.written out.new) halt) }
     ensures files { result ≡ Err Halt.Files → Rose (F.faults files.old) (F.faults files.new) }
     ensures sink { result ≡ Err Halt.Sink → Rose (O.faults out.old) (O.faults out.new) }
     ensures files_grow { F.faults files.old ≤ F.faults files.new }
@@ -36,9 +42,12 @@ fn work<F: Files, O: Sink>(
 }
 
 fn status_of<F: Files, O: Sink>(alloc: Global, words: &[String], files: &mut F, out: &mut O) -> u8
-    ensures answers { IsTrue (F.tells files.old) → IsTrue (O.tells out.old)
-        → Answers (map (λ w. string_bytes w) words.now) (F.content files.old) (F.faults files.old) (F.faults files.new) (O.written out.old) (O.written out.new) result }
-    ensures faulty { command_of (map (λ w. string_bytes w) words.now) ≡ None → (result ≡ 2) ⊎ (result ≡ 8) }
+    ensures answers { IsTrue (F.tells files.old)
+        → Ends (map (λ w. string_bytes w) words.now)
+        (F.content files.old) (F.faults files.old) (F.faults files.new)
+        (O.tells out.old) (O.written out.old) (O.written out.new) result }
+    ensures faulty { command_of (map (λ w. string_bytes w) words.now) ≡ None
+        → (result ≡ 2) ⊎ (result ≡ 8) }
     ensures usage { result ≡ 2 → command_of (map (λ w. string_bytes w) words.now) ≡ None }
     ensures files { result ≡ 7 → Rose (F.faults files.old) (F.faults files.new) }
     ensures sink { result ≡ 8 → Rose (O.faults out.old) (O.faults out.new) }
@@ -63,7 +72,7 @@ fn status_of<F: Files, O: Sink>(alloc: Global, words: &[String], files: &mut F, 
 
 /// Does what the words ask for, which are those behind the program's name, and gives the status to end with:
 /// 0 the work was done, 2 the words are not in the table, 3 and 4 the bank or the plan text is refused, 7 a call of the files
-/// failed, 8 a call of the sink failed, 10 want of memory, 11 no set of items is a form, 12 the plan has no base and none was
+/// failed, 8 a call of the sink failed, 10 out of memory, 11 no set of items is a form, 12 the plan has no base and none was
 /// found within the base budget, 15 not built yet.
 pub fn run<R, F: Files, O: Sink>(
     _rt: &R,
@@ -71,11 +80,15 @@ pub fn run<R, F: Files, O: Sink>(
     words: &[String],
     world: World<F, O>,
 ) -> Finish<F, O>
-    // What is printed, and with which status, where files and sink tell their bytes.
-    ensures answers { IsTrue (F.tells world.files) → IsTrue (O.tells world.out)
-        → Answers (map (λ w. string_bytes w) words.now) (F.content world.files) (F.faults world.files) (F.faults result.files) (O.written world.out) (O.written result.out) result.status }
+    // What is printed, and with which status, where the files tell their bytes; and that it is written,
+    // where the sink tells too.
+    ensures answers { IsTrue (F.tells world.files)
+        → Ends (map (λ w. string_bytes w) words.now)
+        (F.content world.files) (F.faults world.files) (F.faults result.files)
+        (O.tells world.out) (O.written world.out) (O.written result.out) result.status }
     // The causes, whatever they tell.
-    ensures faulty { command_of (map (λ w. string_bytes w) words.now) ≡ None → (result.status ≡ 2) ⊎ (result.status ≡ 8) }
+    ensures faulty { command_of (map (λ w. string_bytes w) words.now) ≡ None
+        → (result.status ≡ 2) ⊎ (result.status ≡ 8) }
     ensures usage { result.status ≡ 2 → command_of (map (λ w. string_bytes w) words.now) ≡ None }
     ensures files { result.status ≡ 7 → Rose (F.faults world.files) (F.faults result.files) }
     ensures sink { result.status ≡ 8 → Rose (O.faults world.out) (O.faults result.out) }

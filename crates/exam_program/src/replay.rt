@@ -1,12 +1,12 @@
 //! The session of a script, line by line.
 
-ghost use Rattle.std.specs.Prelude.{◌≡◌, ◌≤◌, ◌++◌, ◌⊎◌, IsTrue, IfErr, OnOk, string_bytes};
+ghost use Rattle.std.specs.Prelude.{◌≡◌, ◌≤◌, ◌⊎◌, IsTrue, IfErr, OnOk, string_bytes};
 ghost use Rattle.bank_tables.specs.Items.{has};
 ghost use Rattle.exam_edge.specs.Faults.{Rose};
 ghost use Rattle.exam_model.specs.Forms.{Meets};
 ghost use Rattle.exam_model.specs.Validity.{IsPlanFor};
 ghost use Rattle.exam_program.specs.Sessions.{place_line};
-ghost use Rattle.exam_program.specs.Writing.{WritesPart};
+ghost use Rattle.exam_program.specs.Writing.{IsWritten, WritesPart};
 ghost use Rattle.exam_program.specs.Replays.{Finishes, Stops};
 
 use crate::lines::place_line;
@@ -21,9 +21,12 @@ use exam_model::Seat;
 use std::alloc::Global;
 
 fn print_place<O: Sink>(alloc: Global, spec: &Spec, seat: &Seat, out: &mut O) -> Result<(), Stop>
-    ensures ok { OnOk result (IsTrue (O.tells out.old) → O.written out.new ≡ O.written out.old ++ place_line spec.now seat.now) }
+    ensures ok { OnOk result (IsWritten (O.tells out.old) (O.written out.old) (O.written out.new)
+        (place_line spec.now seat.now)) }
     ensures memory { result ≡ Err Stop.Memory → IsTrue (O.tells out.old) → O.written out.new ≡ O.written out.old }
-    ensures sink { result ≡ Err Stop.Sink → IsTrue (O.tells out.old) → WritesPart (O.written out.old) (O.written out.new) (place_line spec.now seat.now) }
+    ensures sink { result ≡ Err Stop.Sink
+        → WritesPart (O.tells out.old) (O.written out.old) (O.written out.new)
+        (place_line spec.now seat.now) }
     ensures failed { result ≡ Err Stop.Sink → Rose (O.faults out.old) (O.faults out.new) }
     ensures either { IfErr result (λ e. (e ≡ Stop.Memory) ⊎ (e ≡ Stop.Sink)) }
     ensures grows { O.faults out.old ≤ O.faults out.new }
@@ -52,8 +55,10 @@ pub(crate) fn replay<'a, O: Sink>(
 ) -> Result<(), Stop>
     requires plan { IsPlanFor bank.now spec.now }
     requires base { Meets bank.now spec.now (has base.now) }
-    ensures ok { OnOk result (IsTrue (O.tells out.old) → Finishes bank.now spec.now base.now answers.now (O.written out.old) (O.written out.new)) }
-    ensures err { IfErr result (λ e. IsTrue (O.tells out.old) → Stops bank.now spec.now base.now answers.now (O.written out.old) (O.written out.new) e) }
+    ensures ok { OnOk result (Finishes bank.now spec.now base.now answers.now
+        (O.tells out.old) (O.written out.old) (O.written out.new)) }
+    ensures err { IfErr result (Stops bank.now spec.now base.now answers.now
+        (O.tells out.old) (O.written out.old) (O.written out.new)) }
     ensures failed { result ≡ Err Stop.Sink → Rose (O.faults out.old) (O.faults out.new) }
     ensures grows { O.faults out.old ≤ O.faults out.new }
     ensures tells { O.tells out.new ≡ O.tells out.old }

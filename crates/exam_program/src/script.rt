@@ -29,7 +29,7 @@ pub struct Script {
 pub enum ScriptFault {
     /// It isn't one line `begin B` and then lines `answer 0 K R`.
     OutOfForm,
-    /// Want of memory.
+    /// Out of memory.
     Memory,
 }
 

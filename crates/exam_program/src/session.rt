@@ -6,43 +6,38 @@ ghost use Rattle.bank_tables.specs.Tables.{size};
 ghost use Rattle.exam_model.specs.Forms.{Meets};
 ghost use Rattle.exam_model.specs.Seats.{IsSeat, IsPending};
 ghost use Rattle.exam_model.specs.Validity.{IsPlanFor};
-ghost use Rattle.exam_program.specs.Sessions.{IsNewSeat, Serves, Session, place_line, with_response, IsAwaited, IsRecorded, Answers, IsRefused};
+ghost use Rattle.exam_program.specs.Sessions.{IsNewSeat, Serves, Session, place_line, IsAwaited, IsRecorded, Answers, IsRefused};
 ghost use Rattle.exam_program.specs.Standing.{IsStanding, SeatHasForm, IsFound};
+ghost use Rattle.proof_tree.specs.Shape.{IsTree};
 ghost use Rattle.branch_bound.specs.declared.outcome.Outcome.TheVariants.{Found};
 
 use crate::marked_form::MarkedForm;
 use crate::script::Answer;
 use crate::stop::Stop;
-use bank_tables::{Bank, ItemSet, Short};
+use bank_tables::{Bank, ItemSet};
 use branch_bound::{Assembled, Memory, Outcome, assemble};
 use constraint_model::Spec;
 use exam_model::Seat;
 use shadow_select::laws::{
     a_free_item_is_left, a_served_seat_is_a_seat, an_answered_seat_is_a_seat,
 };
-use shadow_select::{all_items, next_item, next_problem};
+use shadow_select::{all_items, next_item, next_problem, with_item, with_response};
 use std::alloc::Global;
 
 /// The seat of a session that begins, with all items eligible.
 fn new_seat(bank: &Bank) -> Seat
     ensures { IsNewSeat bank.now result }
 {
-    Seat {
-        shown: Short::empty(),
-        responses: Short::empty(),
-        eligible: all_items(bank),
-        aside: false,
-        form: None,
-        proved: false,
-        closed: false,
-    }
+    shadow_select::new_seat(&all_items(bank))
 }
 
 /// The form that an assembly found.
 fn form_in<'a>(assembled: &Assembled<'a>) -> MarkedForm
     requires { IsFound assembled.now.outcome }
-    ensures { assembled.now.outcome ≡ Found result.form result.proved }
+    ensures found { assembled.now.outcome ≡ Found result.form result.proved }
+    ensures tree { IsTree assembled.now.tree }
 {
+    let _nodes = assembled.tree().nodes();
     match assembled.outcome() {
         Outcome::Found { form, proved } => MarkedForm { form, proved },
         _ => unreachable!(),
@@ -72,11 +67,7 @@ fn served<'a>(
     a_free_item_is_left();
     a_served_seat_is_a_seat();
     let item = next_item(assembled.problem(), &found.form);
-    let mut after = *seat;
-    after.shown.push(item);
-    after.form = Some(found.form);
-    after.proved = found.proved;
-    Ok(after)
+    Ok(with_item(seat, &found.form, found.proved, item))
 }
 
 /// The seat of a session that begins, with its first item served; the base form meets the plan.
@@ -116,15 +107,6 @@ fn is_recorded(seat: &Seat, answer: Answer) -> bool
     ensures { IsTrue result ↔ IsRecorded seat.now answer }
 {
     seat.responses.get(answer.step as usize) == Some(answer.response as u16)
-}
-
-fn with_response(seat: &Seat, response: u8) -> Seat
-    requires { length seat.now.responses < 512 }
-    ensures { result ≡ with_response seat.now response }
-{
-    let mut after = *seat;
-    after.responses.push(response as u16);
-    after
 }
 
 /// The seat after an answer, where the session goes on by it.

@@ -41,8 +41,14 @@ pub(crate) fn check<F: Files, O: Sink>(
     bank: &str,
     plan: &str,
 ) -> Result<(), Halt>
-    ensures ok { OnOk result (IsTrue (F.tells files.old) → IsTrue (O.tells out.old) → (words : List (List ℕ)) → command_of words ≡ Some (Check bank.now plan.now) → Prints words (F.content files.old) (F.faults files.old) (F.faults files.new) (O.written out.old) (O.written out.new) 0) }
-    ensures err { IfErr result (λ halt. IsTrue (F.tells files.old) → IsTrue (O.tells out.old) → (words : List (List ℕ)) → command_of words ≡ Some (Check bank.now plan.now) → Halts words (F.content files.old) (F.faults files.old) (F.faults files.new) (O.written out.old) (O.written out.new) halt) }
+    ensures ok { OnOk result (IsTrue (F.tells files.old) → (words : List (List ℕ))
+        → command_of words ≡ Some (Check bank.now plan.now)
+        → Prints words (F.content files.old) (F.faults files.old) (F.faults files.new)
+        (O.tells out.old) (O.written out.old) (O.written out.new) 0) }
+    ensures err { IfErr result (λ halt. IsTrue (F.tells files.old) → (words : List (List ℕ))
+        → command_of words ≡ Some (Check bank.now plan.now)
+        → Halts words (F.content files.old) (F.faults files.old) (F.faults files.new)
+        (O.tells out.old) (O.written out.old) (O.written out.new) halt) }
     ensures files { result ≡ Err Halt.Files → Rose (F.faults files.old) (F.faults files.new) }
     ensures sink { result ≡ Err Halt.Sink → Rose (O.faults out.old) (O.faults out.new) }
     ensures files_grow { F.faults files.old ≤ F.faults files.new }
@@ -71,8 +77,14 @@ pub(crate) fn assemble<F: Files, O: Sink>(
     bank: &str,
     plan: &str,
 ) -> Result<(), Halt>
-    ensures ok { OnOk result (IsTrue (F.tells files.old) → IsTrue (O.tells out.old) → (words : List (List ℕ)) → command_of words ≡ Some (Assemble bank.now plan.now) → Prints words (F.content files.old) (F.faults files.old) (F.faults files.new) (O.written out.old) (O.written out.new) 0) }
-    ensures err { IfErr result (λ halt. IsTrue (F.tells files.old) → IsTrue (O.tells out.old) → (words : List (List ℕ)) → command_of words ≡ Some (Assemble bank.now plan.now) → Halts words (F.content files.old) (F.faults files.old) (F.faults files.new) (O.written out.old) (O.written out.new) halt) }
+    ensures ok { OnOk result (IsTrue (F.tells files.old) → (words : List (List ℕ))
+        → command_of words ≡ Some (Assemble bank.now plan.now)
+        → Prints words (F.content files.old) (F.faults files.old) (F.faults files.new)
+        (O.tells out.old) (O.written out.old) (O.written out.new) 0) }
+    ensures err { IfErr result (λ halt. IsTrue (F.tells files.old) → (words : List (List ℕ))
+        → command_of words ≡ Some (Assemble bank.now plan.now)
+        → Halts words (F.content files.old) (F.faults files.old) (F.faults files.new)
+        (O.tells out.old) (O.written out.old) (O.written out.new) halt) }
     ensures files { result ≡ Err Halt.Files → Rose (F.faults files.old) (F.faults files.new) }
     ensures sink { result ≡ Err Halt.Sink → Rose (O.faults out.old) (O.faults out.new) }
     ensures files_grow { F.faults files.old ≤ F.faults files.new }
@@ -113,8 +125,14 @@ pub(crate) fn serve<F: Files, O: Sink>(
     plan: &str,
     script: &str,
 ) -> Result<(), Halt>
-    ensures ok { OnOk result (IsTrue (F.tells files.old) → IsTrue (O.tells out.old) → (words : List (List ℕ)) → command_of words ≡ Some (Replay bank.now plan.now script.now) → Prints words (F.content files.old) (F.faults files.old) (F.faults files.new) (O.written out.old) (O.written out.new) 0) }
-    ensures err { IfErr result (λ halt. IsTrue (F.tells files.old) → IsTrue (O.tells out.old) → (words : List (List ℕ)) → command_of words ≡ Some (Replay bank.now plan.now script.now) → Halts words (F.content files.old) (F.faults files.old) (F.faults files.new) (O.written out.old) (O.written out.new) halt) }
+    ensures ok { OnOk result (IsTrue (F.tells files.old) → (words : List (List ℕ))
+        → command_of words ≡ Some (Replay bank.now plan.now script.now)
+        → Prints words (F.content files.old) (F.faults files.old) (F.faults files.new)
+        (O.tells out.old) (O.written out.old) (O.written out.new) 0) }
+    ensures err { IfErr result (λ halt. IsTrue (F.tells files.old) → (words : List (List ℕ))
+        → command_of words ≡ Some (Replay bank.now plan.now script.now)
+        → Halts words (F.content files.old) (F.faults files.old) (F.faults files.new)
+        (O.tells out.old) (O.written out.old) (O.written out.new) halt) }
     ensures files { result ≡ Err Halt.Files → Rose (F.faults files.old) (F.faults files.new) }
     ensures sink { result ≡ Err Halt.Sink → Rose (O.faults out.old) (O.faults out.new) }
     ensures files_grow { F.faults files.old ≤ F.faults files.new }

@@ -21,12 +21,11 @@ piece-preserved g c =
     }
 
 pub returns-in-Err-clause-err : goal.returns-in-Err-clause-err
-returns-in-Err-clause-err g c = λ told.
-    let there : g.O.Sink.tells c.piece.out ≡ true = c.piece.invariant.tells ∙ told in
+returns-in-Err-clause-err g c =
     record {
       part = take c.piece.done c.args.piece.now;
       rest = drop c.piece.done c.args.piece.now;
-      written = c.in-Err.ensures.kept there ∙ c.piece.invariant.written told;
+      written = λ told. c.in-Err.ensures.kept (c.piece.invariant.tells ∙ told) ∙ c.piece.invariant.written told;
       whole = sym (take-append-drop c.piece.done c.args.piece.now);
       unfinished = omega (arith, length-drop c.piece.done c.args.piece.now);
     }

@@ -1,0 +1,28 @@
+//! What the definitions imply, for all words and all files.
+
+ghost use Rattle.exam_program.specs.Laws.{PrintedTreeIsReadBack, OneTreeOfText, CheckIsComplete, AssembleIsComplete, ReplayIsComplete};
+
+/// A tree that is printed can be read: its digits give its bytes, and these give the tree.
+pub fn a_printed_tree_is_read_back()
+    ensures { PrintedTreeIsReadBack }
+{}
+
+/// No other tree is printed so.
+pub fn one_tree_of_a_text()
+    ensures { OneTreeOfText }
+{}
+
+/// `check` over accepted texts and files that never failed ends with status 0, or 10.
+pub fn check_is_complete()
+    ensures { CheckIsComplete }
+{}
+
+/// So does `assemble` of a plan with a base.
+pub fn assemble_is_complete()
+    ensures { AssembleIsComplete }
+{}
+
+/// `replay` of a plan with a base and a script in its form ends so too, or with status 15 where an answer is refused.
+pub fn replay_is_complete()
+    ensures { ReplayIsComplete }
+{}
