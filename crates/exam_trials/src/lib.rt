@@ -1,7 +1,17 @@
-//! Tests of the program as a whole: worked sessions, the statuses and their texts, and each failing call. It promises nothing
-//! upward and holds no code of the product.
+//! Tests of the program as a whole over files and a sink in memory: worked sessions, the statuses and their texts, and each
+//! failing call. What is expected is in the worked cases, or was worked out by hand. It promises nothing upward and holds no
+//! code of the product.
 #![tactic(auto)]
 
 #[cfg(test)]
-mod guide;
-mod program;
+mod bank_l;
+#[cfg(test)]
+mod faults;
+#[cfg(test)]
+mod outcome;
+#[cfg(test)]
+mod sessions;
+#[cfg(test)]
+mod statuses;
+#[cfg(test)]
+mod texts;
