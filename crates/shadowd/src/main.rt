@@ -1,6 +1,9 @@
 //! The program `shadowd`: it hands the host's files and standard output to `run`, and ends with its status.
 #![tactic(auto)]
 
+ghost use Rattle.std.specs.Prelude.{◌≡◌};
+ghost use Rattle.std.specs.Process.{exit_status};
+
 mod host_files;
 mod host_sink;
 
@@ -11,7 +14,7 @@ use std::io::ErrorKind;
 use std::process::ExitCode;
 use std::{env, io};
 
-/// The status of want of memory.
+/// The status of a program that is out of memory.
 const NO_MEMORY: u8 = 10;
 
 /// The words behind the program's name. Words that aren't UTF-8 ask for nothing, as no words do.
@@ -22,6 +25,18 @@ fn words_of(rt: &HostRuntime) -> io::Result<Vec<String>> {
         Err(fault) if fault.kind() == ErrorKind::OutOfMemory => Err(fault),
         Err(_) => Ok(Vec::new(alloc)),
     }
+}
+
+/// The process ends with the status of the program.
+fn exit_code(finish: Finish<HostFiles, HostSink>) -> ExitCode
+    ensures { exit_status result ≡ finish.status }
+{
+    let Finish {
+        status,
+        files: _,
+        out: _,
+    } = finish;
+    ExitCode::from(status)
 }
 
 fn main(rt: HostRuntime) -> ExitCode {
@@ -35,10 +50,5 @@ fn main(rt: HostRuntime) -> ExitCode {
         files: HostFiles::of(handle),
         out: HostSink::of(rt.stdout()),
     };
-    let Finish {
-        status,
-        files: _,
-        out: _,
-    } = run(&rt, rt.alloc(), &words, world);
-    ExitCode::from(status)
+    exit_code(run(&rt, rt.alloc(), &words, world))
 }
