@@ -8,11 +8,11 @@ use Rattle.exam_model.specs.Plan.{Plan}
 use Rattle.exam_model.specs.Validity.{IsPlanFor}
 use Rattle.history_model.specs.declared.entry.Entry.{Entry}
 use Rattle.history_model.specs.declared.entry.Entry.TheVariants.{Started, SetAside, Served, Answered, Closed}
-use Rattle.history_model.specs.Entries.{starts, sessions, is_started, seat_of}
+use Rattle.history_model.specs.Entries.{session_of, starts, sessions, is_started, seat_of}
 use Rattle.history_model.specs.Legality.{Legal, LegalRun}
 use Rattle.history_model.proofs.Standing.{there, waiting}
 use Rattle.history_model.proofs.Running.{pending_is_of_seat, responses_number}
-use Rattle.exam_session.specs.Kept.{session_of, HasRoomFor, IsSeated, AreSeats}
+use Rattle.exam_session.specs.Kept.{HasRoomFor, IsSeated, AreSeats}
 use Rattle.exam_session.proofs.BookLaws.{found_seat}
 
 session_there : (b : Tables) (plan : Plan) (H : List Entry) (e : Entry) → starts e ≡ false → Legal b plan H e → is_started H (session_of e) ≡ true

@@ -9,13 +9,13 @@ use Rattle.exam_model.specs.declared.seat.Seat.{Seat}
 use Rattle.exam_model.specs.Plan.{Plan}
 use Rattle.history_model.specs.declared.entry.Entry.{Entry}
 use Rattle.history_model.specs.declared.entry.Entry.TheVariants.{Started, SetAside, Served, Answered, Closed}
-use Rattle.history_model.specs.Entries.{starts, sessions, is_started, seat_of}
+use Rattle.history_model.specs.Entries.{session_of, starts, sessions, is_started, seat_of}
 use Rattle.history_model.specs.Legality.{Legal, LegalRun}
 use Rattle.history_model.specs.Laws.{no_seat, seat_with}
 use Rattle.history_model.proofs.Pushed.{sessions-push}
 use Rattle.history_model.proofs.Standing.{before_end}
 use Rattle.history_model.proofs.Running.{sessions_are_numbered, seat_before_start, the_seat_goes_on}
-use Rattle.exam_session.specs.Kept.{session_of, AreSeats}
+use Rattle.exam_session.specs.Kept.{AreSeats}
 use Rattle.exam_session.proofs.Lists.{pushed}
 
 -- an entry of another session leaves a seat as it is

@@ -4,7 +4,8 @@ use Rattle.std.specs.Prelude.{count_by, sum_by}
 use Rattle.std.proofs.lemmas.List.Sums.{sum_by_push, count_by-le-length}
 use Rattle.history_model.specs.declared.entry.Entry.{Entry}
 use Rattle.history_model.specs.declared.entry.Entry.TheVariants.{Started, SetAside, Served, Answered, Closed}
-use Rattle.history_model.specs.Summaries.{serves_proved, serves_unproved, is_setting_aside, nodes_of}
+use Rattle.history_model.specs.Entries.{sets_aside}
+use Rattle.history_model.specs.Summaries.{serves_proved, serves_unproved, nodes_of}
 use Rattle.exam_session.specs.declared.totals.Totals.{Totals}
 use Rattle.exam_session.specs.Totals.{totals_of, totals_with, HaveRoom, AreTotals}
 
@@ -18,14 +19,14 @@ number p x = cond (p x) 1 0
 pushed : (H : List Entry) (e : Entry) → (let t : Totals = record {
   proved = count_by serves_proved H + cond (serves_proved e) 1 0;
   unproved = count_by serves_unproved H + cond (serves_unproved e) 1 0;
-  aside = count_by is_setting_aside H + cond (is_setting_aside e) 1 0;
+  aside = count_by sets_aside H + cond (sets_aside e) 1 0;
   nodes = sum_by nodes_of H + nodes_of e;
 } in totals_of (H ++ e ∷ []) ≡ t)
 pushed H e =
     same_totals _ _ _ _ _ _ _ _
     (sum_by_push (λ (x : Entry). cond (serves_proved x) 1 0) H e)
     (sum_by_push (λ (x : Entry). cond (serves_unproved x) 1 0) H e)
-    (sum_by_push (λ (x : Entry). cond (is_setting_aside x) 1 0) H e)
+    (sum_by_push (λ (x : Entry). cond (sets_aside x) 1 0) H e)
     (sum_by_push nodes_of H e)
 
 none_more : (n : ℕ) → n + 0 ≡ n
@@ -49,10 +50,10 @@ have_room H totals kept few =
     let small = kept.small in
     let p : totals.proved ≡ count_by serves_proved H = ap (λ (t : Totals). t.proved) are in
     let u : totals.unproved ≡ count_by serves_unproved H = ap (λ (t : Totals). t.unproved) are in
-    let a : totals.aside ≡ count_by is_setting_aside H = ap (λ (t : Totals). t.aside) are in
+    let a : totals.aside ≡ count_by sets_aside H = ap (λ (t : Totals). t.aside) are in
     let p1 = count_by-le-length serves_proved H in
     let u1 = count_by-le-length serves_unproved H in
-    let a1 = count_by-le-length is_setting_aside H in
+    let a1 = count_by-le-length sets_aside H in
     record { proved = omega arith; unproved = omega arith; aside = omega arith; nodes = omega arith }
 
 pub totals_pushed : (H : List Entry) (e : Entry) (totals after : Totals) → AreTotals H totals → nodes_of e ≤ 65535 → after ≡ totals_with totals e → AreTotals (H ++ e ∷ []) after

@@ -2,10 +2,10 @@
 use Rattle.std.specs.Prelude.{◌≡◌, ℕ, ◌<◌, List, length, slice_get, Some}
 use Rattle.bank_tables.specs.Tables.{Tables, size}
 use Rattle.history_model.specs.declared.entry.Entry.{Entry}
-use Rattle.history_model.specs.declared.entry.Entry.TheVariants.{Started, SetAside, Served, Answered, Closed}
+use Rattle.history_model.specs.declared.entry.Entry.TheVariants.{Served, Answered}
 use Rattle.exam_model.specs.declared.seat.Seat.{Seat}
 use Rattle.exam_model.specs.Plan.{Plan}
-use Rattle.history_model.specs.Entries.{sessions, holder, seat_of}
+use Rattle.history_model.specs.Entries.{session_of, sessions, holder, seat_of}
 use Rattle.history_model.specs.Counts.{counts, finished}
 use Rattle.exposure_counters.specs.Tallies.{Tally, counts_at}
 
@@ -25,14 +25,6 @@ pub record AreCounts (b : Tables) (plan : Plan) (H : List Entry) (tally : Tally)
   pub number : length tally.counts ≡ size b
   pub each : (i : ℕ) → i < size b → counts_at tally i ≡ counts plan H i
   pub finished : tally.finished ≡ finished plan H
-
--- the session that an entry is of
-abbrev pub session_of : Entry → ℕ
-session_of (Started session booking eligible) = session
-session_of (SetAside session cause nodes) = session
-session_of (Served session step item form proved nodes) = session
-session_of (Answered session step response) = session
-session_of (Closed session) = session
 
 -- the seat has room for what the entry adds to it
 abbrev pub HasRoomFor : Entry → Seat → Type 0

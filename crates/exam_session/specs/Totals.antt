@@ -2,11 +2,12 @@
 use Rattle.std.specs.Prelude.{◌≡◌, ◌+◌, ◌*◌, ◌^◌, ◌<◌, ◌≤◌, List, length, count_by, sum_by, if◌then◌else◌}
 use Rattle.history_model.specs.declared.entry.Entry.{Entry}
 use Rattle.history_model.specs.declared.entry.Entry.TheVariants.{SetAside, Served}
-use Rattle.history_model.specs.Summaries.{serves_proved, serves_unproved, is_setting_aside, nodes_of}
+use Rattle.history_model.specs.Entries.{sets_aside}
+use Rattle.history_model.specs.Summaries.{serves_proved, serves_unproved, nodes_of}
 use Rattle.exam_session.specs.declared.totals.Totals.{Totals}
 
 abbrev pub totals_of : List Entry → Totals
-totals_of H = record { proved = count_by serves_proved H; unproved = count_by serves_unproved H; aside = count_by is_setting_aside H; nodes = sum_by nodes_of H }
+totals_of H = record { proved = count_by serves_proved H; unproved = count_by serves_unproved H; aside = count_by sets_aside H; nodes = sum_by nodes_of H }
 
 -- the totals with an entry more
 abbrev pub totals_with : Totals → Entry → Totals

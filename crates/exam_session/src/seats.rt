@@ -5,10 +5,10 @@ ghost use Rattle.std.specs.Vec.{vec_len, vec_capacity};
 ghost use Rattle.bank_tables.specs.Tables.{Tables};
 ghost use Rattle.exam_model.specs.Plan.{Plan};
 ghost use Rattle.history_model.specs.declared.entry.Entry.{Entry};
-ghost use Rattle.history_model.specs.Entries.{starts};
+ghost use Rattle.history_model.specs.Entries.{session_of, starts};
 ghost use Rattle.history_model.specs.Legality.{Legal, LegalRun};
 ghost use Rattle.history_model.specs.Laws.{no_seat, seat_with};
-ghost use Rattle.exam_session.specs.Kept.{session_of, HasRoomFor, IsSeated, AreSeats, AreBookings};
+ghost use Rattle.exam_session.specs.Kept.{HasRoomFor, IsSeated, AreSeats, AreBookings};
 
 use bank_tables::{ItemSet, Short};
 use exam_model::Seat;

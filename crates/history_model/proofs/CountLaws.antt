@@ -16,14 +16,15 @@ use Rattle.history_model.specs.declared.entry.Entry.{Entry}
 use Rattle.history_model.specs.declared.entry.Entry.TheVariants.{Started, SetAside, Served, Answered, Closed}
 use Rattle.history_model.specs.declared.place.Place.{Place}
 use Rattle.history_model.specs.declared.place.Place.TheVariants.{Pending, Waiting, Complete, Closed as IsClosed}
-use Rattle.history_model.specs.Entries.{starts, starts_session, serving_of, Serving, answer_of, StepAnswer, closes, sessions, is_started, is_closed, servings, step_answers, seat_of}
+use Rattle.history_model.specs.Entries.{session_of, starts, starts_session, Serving, StepAnswer, sessions, is_started, is_closed, servings, step_answers, seat_of}
+use Rattle.history_model.proofs.SessionEntries.{session_serving, session_answer, closes_session}
 use Rattle.history_model.specs.Places.{place_at, place, is_over, is_finished}
 use Rattle.history_model.specs.Counts.{counts, finished}
 use Rattle.history_model.specs.Legality.{Legal, GoesOn, LegalRun}
 use Rattle.history_model.specs.Laws.{seat_with, finished_by, counts_with, counts_after, CountsGoOn, FinishedGoesOn}
 use Rattle.history_model.proofs.Pushed.{list_end, or_end, servings-push, answers-push, started-push, closed-push, sessions-push}
 use Rattle.history_model.proofs.Standing.{pending, waiting}
-use Rattle.history_model.proofs.Running.{session_of, not_of, legal_there, legal_number, along, responses_number, the_seat_goes_on}
+use Rattle.history_model.proofs.Running.{not_of, legal_there, legal_number, along, responses_number, the_seat_goes_on}
 
 -- ---- sums over sessions
 -- what a session adds
@@ -58,7 +59,7 @@ place_from plan is_there closed A S =
     cond (not is_there) None (cond closed (Some IsClosed) (cond (nat_le plan.length (length A)) (Some Complete) (Some (place_at (length A) (find (λ (x : Serving). x.step == length A) S)))))
 
 -- an entry that doesn't start, close, serve or answer in the session leaves its place
-place_stays : (plan : Plan) (H : List Entry) (e : Entry) (s : ℕ) → starts_session s e ≡ false → closes s e ≡ false → filter_map (answer_of s) (e ∷ []) ≡ [] → filter_map (serving_of s) (e ∷ []) ≡ [] → place plan (H ++ e ∷ []) s ≡ place plan H s
+place_stays : (plan : Plan) (H : List Entry) (e : Entry) (s : ℕ) → starts_session s e ≡ false → closes_session s e ≡ false → filter_map (session_answer s) (e ∷ []) ≡ [] → filter_map (session_serving s) (e ∷ []) ≡ [] → place plan (H ++ e ∷ []) s ≡ place plan H s
 place_stays plan H e s no_start no_close no_answer no_serving =
     ap (λ (there : Bool). place_from plan there (is_closed (H ++ e ∷ []) s) (step_answers (H ++ e ∷ []) s) (servings (H ++ e ∷ []) s)) there
     ∙ (ap (λ (closed : Bool). place_from plan (is_started H s) closed (step_answers (H ++ e ∷ []) s) (servings (H ++ e ∷ []) s)) closed
@@ -79,7 +80,6 @@ place_stays plan H e s no_start no_close no_answer no_serving =
 
 -- so does one of another session
 place_elsewhere : (plan : Plan) (H : List Entry) (e : Entry) (s : ℕ) → (session_of e == s) ≡ false → place plan (H ++ e ∷ []) s ≡ place plan H s
-unfolding session_of
 place_elsewhere plan H (Started session booking eligible) s other = place_stays plan H (Started session booking eligible) s other refl refl refl
 place_elsewhere plan H (SetAside session cause nodes) s other = place_stays plan H (SetAside session cause nodes) s refl refl refl refl
 place_elsewhere plan H (Served session step item form proved nodes) s other = place_stays plan H (Served session step item form proved nodes) s refl refl refl (rw other refl)
@@ -114,7 +114,6 @@ goes_on_is_not_over o IsClosed e goes = absurd goes
 
 module _ (b : Tables) (plan : Plan) (H : List Entry) (some : 0 < plan.length) (run : LegalRun b plan H) where
   before : (e : Entry) → Legal b plan H e → starts e ≡ false → is_finished plan H (session_of e) ≡ false
-  unfolding session_of
   before (Started session booking eligible) legal none = absurd (true≢false none)
   before (SetAside session cause nodes) legal none = ap is_over legal.is_problem.pending
   before (Served session step item form proved nodes) legal none = ap is_over legal.is_problem.pending
@@ -145,7 +144,6 @@ module _ (b : Tables) (plan : Plan) (H : List Entry) (some : 0 < plan.length) (r
           omega arith
 
   after : (e : Entry) → Legal b plan H e → is_finished plan (H ++ e ∷ []) (session_of e) ≡ is_some (finished_by plan e)
-  unfolding session_of
   after (Started session booking eligible) legal = after_start session booking eligible legal
   after (SetAside session cause nodes) legal = ap is_over (place_stays plan H (SetAside session cause nodes) session refl refl refl refl ∙ legal.is_problem.pending)
   after (Served session step item form proved nodes) legal =
@@ -256,7 +254,6 @@ kept_by P answered closed plan (Answered session step response) s t seat is = ke
 kept_by P answered closed plan (Closed session) s t seat is = kept_if P (session == s) seat (record seat { closed = true }) (closed seat)
 
 finished_is : (plan : Plan) (e : Entry) (s : ℕ) → finished_by plan e ≡ Some s → session_of e ≡ s
-unfolding session_of
 finished_is plan (Started session booking eligible) s is = absurd (cc)
 finished_is plan (SetAside session cause nodes) s is = absurd (cc)
 finished_is plan (Served session step item form proved nodes) s is = absurd (cc)

@@ -1,6 +1,7 @@
 pub mod HistoriesOfA
 pub mod Edges
 pub mod DrawRows
+pub mod SessionEntries
 pub mod Pushed
 pub mod Standing
 pub mod Ordered

@@ -9,7 +9,8 @@ use Rattle.exam_model.proofs.SumLaws.{either}
 use Rattle.history_model.specs.declared.entry.Entry.{Entry}
 use Rattle.history_model.specs.declared.entry.Entry.TheVariants.{Started, SetAside, Served, Answered, Closed}
 use Rattle.history_model.specs.declared.place.Place.TheVariants.{Pending, Waiting}
-use Rattle.history_model.specs.Entries.{Serving, serving_of, StepAnswer, answer_of, servings, step_answers}
+use Rattle.history_model.specs.Entries.{Serving, StepAnswer, servings, step_answers}
+use Rattle.history_model.proofs.SessionEntries.{session_serving, session_answer}
 use Rattle.history_model.specs.Places.{serving_at, place}
 use Rattle.history_model.specs.Legality.{Legal, LegalRun, empty, more}
 use Rattle.history_model.specs.Laws.{AreInOrder}
@@ -30,10 +31,10 @@ found_at H s k order =
     sym (ap (λ (n : ℕ). find (λ (x : Serving). x.step == n) (servings H s)) e) ∙ find_step (servings H s) 0 k (λ j x f. let o = order.servings_steps j x f in omega arith)
 
 module _ (H : List Entry) (e : Entry) (s : ℕ) (order : AreInOrder H s) where
-  same_servings : filter_map (serving_of s) (e ∷ []) ≡ [] → servings (H ++ e ∷ []) s ≡ servings H s
+  same_servings : filter_map (session_serving s) (e ∷ []) ≡ [] → servings (H ++ e ∷ []) s ≡ servings H s
   same_servings none = servings-push H e s ∙ (ap (λ (xs : List Serving). servings H s ++ xs) none ∙ list_end (servings H s))
 
-  same_answers : filter_map (answer_of s) (e ∷ []) ≡ [] → step_answers (H ++ e ∷ []) s ≡ step_answers H s
+  same_answers : filter_map (session_answer s) (e ∷ []) ≡ [] → step_answers (H ++ e ∷ []) s ≡ step_answers H s
   same_answers none = answers-push H e s ∙ (ap (λ (xs : List StepAnswer). step_answers H s ++ xs) none ∙ list_end (step_answers H s))
 
   by_lists : (S : List Serving) (A : List StepAnswer) → servings (H ++ e ∷ []) s ≡ S → step_answers (H ++ e ∷ []) s ≡ A → length A ≤ length S → length S ≤ length A + 1 → ((k : ℕ) (x : Serving) → slice_get S k ≡ Some x → x.step ≡ k) → ((k : ℕ) (x : StepAnswer) → slice_get A k ≡ Some x → x.step ≡ k) → AreInOrder (H ++ e ∷ []) s
@@ -45,11 +46,11 @@ module _ (H : List Entry) (e : Entry) (s : ℕ) (order : AreInOrder H s) where
         answers_steps = λ k x f. steps-A k x (sym (ap (λ (xs : List StepAnswer). slice_get xs k) e-A) ∙ f);
       }
 
-  unchanged : filter_map (serving_of s) (e ∷ []) ≡ [] → filter_map (answer_of s) (e ∷ []) ≡ [] → AreInOrder (H ++ e ∷ []) s
+  unchanged : filter_map (session_serving s) (e ∷ []) ≡ [] → filter_map (session_answer s) (e ∷ []) ≡ [] → AreInOrder (H ++ e ∷ []) s
   unchanged no_serving no_answer =
       by_lists (servings H s) (step_answers H s) (same_servings no_serving) (same_answers no_answer) order.few order.many order.servings_steps order.answers_steps
 
-  more_served : (x : Serving) → filter_map (serving_of s) (e ∷ []) ≡ x ∷ [] → filter_map (answer_of s) (e ∷ []) ≡ [] → x.step ≡ length (step_answers H s) → serving_at H s (length (step_answers H s)) ≡ None → AreInOrder (H ++ e ∷ []) s
+  more_served : (x : Serving) → filter_map (session_serving s) (e ∷ []) ≡ x ∷ [] → filter_map (session_answer s) (e ∷ []) ≡ [] → x.step ≡ length (step_answers H s) → serving_at H s (length (step_answers H s)) ≡ None → AreInOrder (H ++ e ∷ []) s
   more_served x serving no_answer at none =
       let little = past_end (servings H s) (length (step_answers H s)) (sym (found_at H s (length (step_answers H s)) order) ∙ none) in
       let few = order.few in
@@ -58,7 +59,7 @@ module _ (H : List Entry) (e : Entry) (s : ℕ) (order : AreInOrder H s) where
       (λ k y f. let r = steps_push (λ (z : Serving). z.step) (servings H s) x 0 (λ j z g. let o = order.servings_steps j z g in omega arith) (omega arith) k y f in omega arith)
       order.answers_steps
 
-  more_answered : (x : StepAnswer) (serving : Serving) → filter_map (serving_of s) (e ∷ []) ≡ [] → filter_map (answer_of s) (e ∷ []) ≡ x ∷ [] → x.step ≡ length (step_answers H s) → serving_at H s (length (step_answers H s)) ≡ Some serving → AreInOrder (H ++ e ∷ []) s
+  more_answered : (x : StepAnswer) (serving : Serving) → filter_map (session_serving s) (e ∷ []) ≡ [] → filter_map (session_answer s) (e ∷ []) ≡ x ∷ [] → x.step ≡ length (step_answers H s) → serving_at H s (length (step_answers H s)) ≡ Some serving → AreInOrder (H ++ e ∷ []) s
   more_answered x serving no_serving answer at some =
       let room = before_end (servings H s) (length (step_answers H s)) serving (sym (found_at H s (length (step_answers H s)) order) ∙ some) in
       let many = order.many in

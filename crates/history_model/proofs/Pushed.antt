@@ -1,5 +1,5 @@
 -- What one entry more changes.
-use Rattle.std.proofs.Common.{◌≡◌, ℕ, ◌+◌, ◌-◌, Bool, true, false, cond, ◌||◌, ◌==◌, List, [], ◌∷◌, ◌++◌, length, slice_get, Option, Some, None, refl, ap, ◌∙◌, arith, map, unwrap_or, length-append}
+use Rattle.std.proofs.Common.{◌≡◌, ℕ, ◌+◌, ◌-◌, Bool, true, false, cond, ◌||◌, ◌==◌, List, [], ◌∷◌, ◌++◌, length, slice_get, Option, Some, None, refl, sym, ap, ◌∙◌, arith, map, unwrap_or, length-append}
 use Rattle.std.specs.List.{cons_option, filter_map}
 use Rattle.std.specs.Option.{option_map, option_map_or}
 use Rattle.std.proofs.lemmas.List.{map-append}
@@ -10,7 +10,8 @@ use Rattle.std.proofs.Math.Bool.{true≢false}
 use Rattle.exam_model.specs.declared.seat.Seat.{Seat}
 use Rattle.history_model.specs.declared.entry.Entry.{Entry}
 use Rattle.history_model.specs.declared.entry.Entry.TheVariants.{Started, SetAside, Served, Answered, Closed}
-use Rattle.history_model.specs.Entries.{starts, starts_session, eligible_of, sets_aside, Serving, serving_of, StepAnswer, answer_of, closes, sessions, is_started, servings, step_answers, is_set_aside, is_closed, seat_of}
+use Rattle.history_model.specs.Entries.{starts, starts_session, eligible_of, Serving, StepAnswer, sessions, is_started, servings, step_answers, is_set_aside, is_closed, seat_of}
+use Rattle.history_model.proofs.SessionEntries.{sets_session_aside, session_serving, session_answer, closes_session, servings_by, answers_by, aside_by, closed_by}
 use Rattle.history_model.specs.Laws.{seat_with}
 
 pub list_end : {A : Type 0} (xs : List A) → xs ++ [] ≡ xs
@@ -34,20 +35,20 @@ pub last-push : {A : Type 0} (xs : List A) (x : A) → slice_get (xs ++ x ∷ []
 last-push xs x = let e : length (xs ++ x ∷ []) - 1 ≡ length xs = omega (arith, length-append xs (x ∷ [])) in ap (slice_get (xs ++ x ∷ [])) e ∙ last_push xs x
 
 -- ---- filters
-pub servings-push : (H : List Entry) (e : Entry) (s : ℕ) → servings (H ++ e ∷ []) s ≡ servings H s ++ filter_map (serving_of s) (e ∷ [])
-servings-push H e s = filter_map-append (serving_of s) H (e ∷ [])
+pub servings-push : (H : List Entry) (e : Entry) (s : ℕ) → servings (H ++ e ∷ []) s ≡ servings H s ++ filter_map (session_serving s) (e ∷ [])
+servings-push H e s = servings_by (H ++ e ∷ []) s ∙ (filter_map-append (session_serving s) H (e ∷ []) ∙ ap (λ (xs : List Serving). xs ++ filter_map (session_serving s) (e ∷ [])) (sym (servings_by H s)))
 
-pub answers-push : (H : List Entry) (e : Entry) (s : ℕ) → step_answers (H ++ e ∷ []) s ≡ step_answers H s ++ filter_map (answer_of s) (e ∷ [])
-answers-push H e s = filter_map-append (answer_of s) H (e ∷ [])
+pub answers-push : (H : List Entry) (e : Entry) (s : ℕ) → step_answers (H ++ e ∷ []) s ≡ step_answers H s ++ filter_map (session_answer s) (e ∷ [])
+answers-push H e s = answers_by (H ++ e ∷ []) s ∙ (filter_map-append (session_answer s) H (e ∷ []) ∙ ap (λ (xs : List StepAnswer). xs ++ filter_map (session_answer s) (e ∷ [])) (sym (answers_by H s)))
 
 pub started-push : (H : List Entry) (e : Entry) (s : ℕ) → is_started (H ++ e ∷ []) s ≡ (is_started H s || (starts_session s e || false))
 started-push H e s = list_any-append (starts_session s) H (e ∷ [])
 
-pub aside-push : (H : List Entry) (e : Entry) (s : ℕ) → is_set_aside (H ++ e ∷ []) s ≡ (is_set_aside H s || (sets_aside s e || false))
-aside-push H e s = list_any-append (sets_aside s) H (e ∷ [])
+pub aside-push : (H : List Entry) (e : Entry) (s : ℕ) → is_set_aside (H ++ e ∷ []) s ≡ (is_set_aside H s || (sets_session_aside s e || false))
+aside-push H e s = aside_by (H ++ e ∷ []) s ∙ (list_any-append (sets_session_aside s) H (e ∷ []) ∙ ap (λ (t : Bool). t || (sets_session_aside s e || false)) (sym (aside_by H s)))
 
-pub closed-push : (H : List Entry) (e : Entry) (s : ℕ) → is_closed (H ++ e ∷ []) s ≡ (is_closed H s || (closes s e || false))
-closed-push H e s = list_any-append (closes s) H (e ∷ [])
+pub closed-push : (H : List Entry) (e : Entry) (s : ℕ) → is_closed (H ++ e ∷ []) s ≡ (is_closed H s || (closes_session s e || false))
+closed-push H e s = closed_by (H ++ e ∷ []) s ∙ (list_any-append (closes_session s) H (e ∷ []) ∙ ap (λ (t : Bool). t || (closes_session s e || false)) (sym (closed_by H s)))
 
 pub sessions-push : (H : List Entry) (e : Entry) → sessions (H ++ e ∷ []) ≡ sessions H + cond (starts e) 1 0
 sessions-push H e = omega (arith, sum_by-append (λ (x : Entry). cond (starts x) 1 0) H (e ∷ []))
@@ -68,14 +69,14 @@ seat_by S A E aside closed =
 eligibles : List Entry → ℕ → List (List ℕ)
 eligibles H s = filter_map (eligible_of s) H
 
-seat-push : (H : List Entry) (e : Entry) (s : ℕ) → seat_of (H ++ e ∷ []) s ≡ seat_by (servings H s ++ filter_map (serving_of s) (e ∷ [])) (step_answers H s ++ filter_map (answer_of s) (e ∷ [])) (eligibles H s ++ filter_map (eligible_of s) (e ∷ [])) (is_set_aside H s || (sets_aside s e || false)) (is_closed H s || (closes s e || false))
+seat-push : (H : List Entry) (e : Entry) (s : ℕ) → seat_of (H ++ e ∷ []) s ≡ seat_by (servings H s ++ filter_map (session_serving s) (e ∷ [])) (step_answers H s ++ filter_map (session_answer s) (e ∷ [])) (eligibles H s ++ filter_map (eligible_of s) (e ∷ [])) (is_set_aside H s || (sets_session_aside s e || false)) (is_closed H s || (closes_session s e || false))
 unfolding eligibles
 seat-push H e s =
     ap (λ (S : List Serving). seat_by S (step_answers (H ++ e ∷ []) s) (filter_map (eligible_of s) (H ++ e ∷ [])) (is_set_aside (H ++ e ∷ []) s) (is_closed (H ++ e ∷ []) s)) (servings-push H e s)
-    ∙ (ap (λ (A : List StepAnswer). seat_by (servings H s ++ filter_map (serving_of s) (e ∷ [])) A (filter_map (eligible_of s) (H ++ e ∷ [])) (is_set_aside (H ++ e ∷ []) s) (is_closed (H ++ e ∷ []) s)) (answers-push H e s)
-    ∙ (ap (λ (E : List (List ℕ)). seat_by (servings H s ++ filter_map (serving_of s) (e ∷ [])) (step_answers H s ++ filter_map (answer_of s) (e ∷ [])) E (is_set_aside (H ++ e ∷ []) s) (is_closed (H ++ e ∷ []) s)) (filter_map-append (eligible_of s) H (e ∷ []))
-    ∙ (ap (λ (aside : Bool). seat_by (servings H s ++ filter_map (serving_of s) (e ∷ [])) (step_answers H s ++ filter_map (answer_of s) (e ∷ [])) (filter_map (eligible_of s) H ++ filter_map (eligible_of s) (e ∷ [])) aside (is_closed (H ++ e ∷ []) s)) (aside-push H e s)
-    ∙ ap (λ (closed : Bool). seat_by (servings H s ++ filter_map (serving_of s) (e ∷ [])) (step_answers H s ++ filter_map (answer_of s) (e ∷ [])) (filter_map (eligible_of s) H ++ filter_map (eligible_of s) (e ∷ [])) (is_set_aside H s || (sets_aside s e || false)) closed) (closed-push H e s))))
+    ∙ (ap (λ (A : List StepAnswer). seat_by (servings H s ++ filter_map (session_serving s) (e ∷ [])) A (filter_map (eligible_of s) (H ++ e ∷ [])) (is_set_aside (H ++ e ∷ []) s) (is_closed (H ++ e ∷ []) s)) (answers-push H e s)
+    ∙ (ap (λ (E : List (List ℕ)). seat_by (servings H s ++ filter_map (session_serving s) (e ∷ [])) (step_answers H s ++ filter_map (session_answer s) (e ∷ [])) E (is_set_aside (H ++ e ∷ []) s) (is_closed (H ++ e ∷ []) s)) (filter_map-append (eligible_of s) H (e ∷ []))
+    ∙ (ap (λ (aside : Bool). seat_by (servings H s ++ filter_map (session_serving s) (e ∷ [])) (step_answers H s ++ filter_map (session_answer s) (e ∷ [])) (filter_map (eligible_of s) H ++ filter_map (eligible_of s) (e ∷ [])) aside (is_closed (H ++ e ∷ []) s)) (aside-push H e s)
+    ∙ ap (λ (closed : Bool). seat_by (servings H s ++ filter_map (session_serving s) (e ∷ [])) (step_answers H s ++ filter_map (session_answer s) (e ∷ [])) (filter_map (eligible_of s) H ++ filter_map (eligible_of s) (e ∷ [])) (is_set_aside H s || (sets_session_aside s e || false)) closed) (closed-push H e s))))
 
 same_seat : (shown shown' responses responses' eligible eligible' : List ℕ) (aside aside' : Bool) (form form' : Option (List ℕ)) (proved proved' closed closed' : Bool)
     → shown ≡ shown' → responses ≡ responses' → eligible ≡ eligible' → aside ≡ aside' → form ≡ form' → proved ≡ proved' → closed ≡ closed'
@@ -90,11 +91,11 @@ module _ (S : List Serving) (A : List StepAnswer) (E : List (List ℕ)) (aside c
   started_by : (words : List ℕ) → E ≡ [] → seat_by (S ++ []) (A ++ []) (E ++ words ∷ []) (aside || false) (closed || false) ≡ record (seat_by S A E aside closed) { eligible = words }
   started_by words none = rw (list_end S, list_end A, none, or_end aside, or_end closed) refl
 
-  aside_by : seat_by (S ++ []) (A ++ []) (E ++ []) (aside || true) (closed || false) ≡ record (seat_by S A E aside closed) { aside = true }
-  aside_by = rw (list_end S, list_end A, list_end E, or_on aside, or_end closed) refl
+  set_aside_by : seat_by (S ++ []) (A ++ []) (E ++ []) (aside || true) (closed || false) ≡ record (seat_by S A E aside closed) { aside = true }
+  set_aside_by = rw (list_end S, list_end A, list_end E, or_on aside, or_end closed) refl
 
-  closed_by : seat_by (S ++ []) (A ++ []) (E ++ []) (aside || false) (closed || true) ≡ record (seat_by S A E aside closed) { closed = true }
-  closed_by = rw (list_end S, list_end A, list_end E, or_end aside, or_on closed) refl
+  was_closed_by : seat_by (S ++ []) (A ++ []) (E ++ []) (aside || false) (closed || true) ≡ record (seat_by S A E aside closed) { closed = true }
+  was_closed_by = rw (list_end S, list_end A, list_end E, or_end aside, or_on closed) refl
 
   served_by : (serving : Serving) → seat_by (S ++ serving ∷ []) (A ++ []) (E ++ []) (aside || false) (closed || false) ≡ record (seat_by S A E aside closed) { shown = map (λ (serving : Serving). serving.item) S ++ serving.item ∷ []; form = Some serving.form; proved = serving.proved }
   served_by serving =
@@ -135,7 +136,7 @@ seat_goes_on H (Started session booking eligible) s new = seat-push H (Started s
 seat_goes_on H (SetAside session cause nodes) s new = seat-push H (SetAside session cause nodes) s ∙ by (session == s)
   where
     by : (this : Bool) → seat_by (servings H s ++ []) (step_answers H s ++ []) (filter_map (eligible_of s) H ++ []) (is_set_aside H s || (this || false)) (is_closed H s || false) ≡ cond this (record (seat_of H s) { aside = true }) (seat_of H s)
-    by true = aside_by (servings H s) (step_answers H s) (filter_map (eligible_of s) H) (is_set_aside H s) (is_closed H s)
+    by true = set_aside_by (servings H s) (step_answers H s) (filter_map (eligible_of s) H) (is_set_aside H s) (is_closed H s)
     by false = same_by (servings H s) (step_answers H s) (filter_map (eligible_of s) H) (is_set_aside H s) (is_closed H s)
 seat_goes_on H (Served session step item form proved nodes) s new = seat-push H (Served session step item form proved nodes) s ∙ by (session == s)
   where
@@ -156,5 +157,5 @@ seat_goes_on H (Answered session step response) s new = seat-push H (Answered se
 seat_goes_on H (Closed session) s new = seat-push H (Closed session) s ∙ by (session == s)
   where
     by : (this : Bool) → seat_by (servings H s ++ []) (step_answers H s ++ []) (filter_map (eligible_of s) H ++ []) (is_set_aside H s || false) (is_closed H s || (this || false)) ≡ cond this (record (seat_of H s) { closed = true }) (seat_of H s)
-    by true = closed_by (servings H s) (step_answers H s) (filter_map (eligible_of s) H) (is_set_aside H s) (is_closed H s)
+    by true = was_closed_by (servings H s) (step_answers H s) (filter_map (eligible_of s) H) (is_set_aside H s) (is_closed H s)
     by false = same_by (servings H s) (step_answers H s) (filter_map (eligible_of s) H) (is_set_aside H s) (is_closed H s)

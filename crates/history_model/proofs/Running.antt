@@ -18,7 +18,7 @@ use Rattle.history_model.specs.declared.entry.Entry.{Entry}
 use Rattle.history_model.specs.declared.entry.Entry.TheVariants.{Started, SetAside, Served, Answered, Closed}
 use Rattle.history_model.specs.declared.place.Place.{Place}
 use Rattle.history_model.specs.declared.place.Place.TheVariants.{Pending, Waiting, Complete, Closed as IsClosed}
-use Rattle.history_model.specs.Entries.{starts, starts_session, Serving, StepAnswer, sessions, is_started, is_closed, servings, step_answers, seat_of}
+use Rattle.history_model.specs.Entries.{session_of, starts, starts_session, Serving, StepAnswer, sessions, is_started, is_closed, servings, step_answers, seat_of}
 use Rattle.history_model.specs.Places.{serving_at, place_at, place}
 use Rattle.history_model.specs.Legality.{Legal, IsLegalServing, IsLegalAnswer, LegalRun, empty, more}
 use Rattle.history_model.specs.Laws.{AreInOrder, no_seat, seat_with, step_place, SessionsAreNumbered, StepsAreInOrder, SeatBeforeStart, SeatGoesOn, SeatIsSeat, PlaceIsOfSeat, PendingIsOfSeat, LastFormStays}
@@ -55,17 +55,8 @@ item_shown plan H s k item proved order at =
     ∙ (ap (option_map (λ (serving : Serving). serving.item)) (sym (found_at H s (length (step_answers H s)) order) ∙ at.served)
     ∙ ap (λ (i : ℕ). Some i) at.item_is))
 
--- ---- entries and sessions
-unfoldable pub session_of : Entry → ℕ
-session_of (Started session booking eligible) = session
-session_of (SetAside session cause nodes) = session
-session_of (Served session step item form proved nodes) = session
-session_of (Answered session step response) = session
-session_of (Closed session) = session
-
 -- an entry of another session leaves the seat as it is
 pub not_of : (s : ℕ) (seat : Seat) (e : Entry) → (session_of e == s) ≡ false → seat_with s seat e ≡ seat
-unfolding session_of
 not_of s seat (Started session booking eligible) other = rw other refl
 not_of s seat (SetAside session cause nodes) other = rw other refl
 not_of s seat (Served session step item form proved nodes) other = rw other refl
@@ -74,7 +65,6 @@ not_of s seat (Closed session) other = rw other refl
 
 -- it doesn't start this one
 pub not_start_of : (s : ℕ) (e : Entry) → (session_of e == s) ≡ false → starts_session s e ≡ false
-unfolding session_of
 not_start_of s (Started session booking eligible) other = other
 not_start_of s (SetAside session cause nodes) other = refl
 not_start_of s (Served session step item form proved nodes) other = refl
@@ -83,7 +73,6 @@ not_start_of s (Closed session) other = refl
 
 -- a legal entry that starts no session is of one that is started
 pub legal_there : (b : Tables) (plan : Plan) (H : List Entry) (e : Entry) → Legal b plan H e → starts e ≡ false → is_started H (session_of e) ≡ true
-unfolding session_of
 legal_there b plan H (Started session booking eligible) legal none = absurd (true≢false none)
 legal_there b plan H (SetAside session cause nodes) legal none = there plan H session (Pending 0) legal.is_problem.pending
 legal_there b plan H (Served session step item form proved nodes) legal none = there plan H session (Pending step) legal.is_problem.pending
@@ -92,7 +81,6 @@ legal_there b plan H (Closed session) legal none = there plan H session legal.at
 
 -- one that starts a session has the next number
 pub legal_number : (b : Tables) (plan : Plan) (H : List Entry) (e : Entry) → Legal b plan H e → starts e ≡ true → session_of e ≡ sessions H
-unfolding session_of
 legal_number b plan H (Started session booking eligible) legal one = legal.number.next
 legal_number b plan H (SetAside session cause nodes) legal one = absurd (true≢false (sym one))
 legal_number b plan H (Served session step item form proved nodes) legal one = absurd (true≢false (sym one))
@@ -100,7 +88,6 @@ legal_number b plan H (Answered session step response) legal one = absurd (true�
 legal_number b plan H (Closed session) legal one = absurd (true≢false (sym one))
 
 pub starts_this : (s : ℕ) (e : Entry) → starts_session s e ≡ true → (starts e ≡ true) × (session_of e ≡ s)
-unfolding session_of
 starts_this s (Started session booking eligible) one = (refl, eqb-true session s one)
 starts_this s (SetAside session cause nodes) one = absurd (true≢false (sym one))
 starts_this s (Served session step item form proved nodes) one = absurd (true≢false (sym one))
@@ -108,7 +95,6 @@ starts_this s (Answered session step response) one = absurd (true≢false (sym o
 starts_this s (Closed session) one = absurd (true≢false (sym one))
 
 pub starts_that : (s : ℕ) (e : Entry) → starts e ≡ true → (session_of e == s) ≡ true → starts_session s e ≡ true
-unfolding session_of
 starts_that s (Started session booking eligible) one same = same
 starts_that s (SetAside session cause nodes) one same = absurd (true≢false (sym one))
 starts_that s (Served session step item form proved nodes) one same = absurd (true≢false (sym one))

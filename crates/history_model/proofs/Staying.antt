@@ -1,7 +1,7 @@
 -- What a longer history keeps.
 use Rattle.std.proofs.Common.{◌≡◌, inl, inr, ℕ, zero, suc, ◌+◌, ◌≤◌, Bool, true, false, cond, not, ◌==◌, List, [], ◌∷◌, ◌++◌, length, slice_get, map, Option, Some, None, refl, sym, ap, ◌∙◌, subst, arith, append_assoc, length-append}
 use Rattle.std.specs.Prelude.{nat_le}
-use Rattle.std.specs.List.{filter_map}
+use Rattle.std.specs.List.{filter_map, list_any}
 use Rattle.std.proofs.lemmas.Bool.{cases_Bool, eqb-true, leb-true, le-leb}
 use Rattle.std.proofs.lemmas.List.{append-nil, map-append}
 use Rattle.std.proofs.lemmas.List.Elements.{filter_map-append}
@@ -13,11 +13,12 @@ use Rattle.history_model.specs.declared.entry.Entry.{Entry}
 use Rattle.history_model.specs.declared.entry.Entry.TheVariants.{Started, SetAside, Served, Answered, Closed}
 use Rattle.history_model.specs.declared.place.Place.{Place}
 use Rattle.history_model.specs.declared.place.Place.TheVariants.{Complete, Closed as IsClosed}
-use Rattle.history_model.specs.Entries.{Serving, StepAnswer, starts, starts_session, holder_of, answer_of, closes, is_started, step_answers, is_closed}
+use Rattle.history_model.specs.Entries.{Serving, StepAnswer, starts, starts_session, holder_of, is_started, step_answers, is_closed}
+use Rattle.history_model.proofs.SessionEntries.{session_answer, closes_session, answers_by, closed_by as session_closed_by}
 use Rattle.history_model.specs.Places.{serving_at, place_at, place}
 use Rattle.history_model.specs.Legality.{Legal, LegalRun, GoesOn}
 use Rattle.history_model.specs.Laws.{HolderStays, ResponseStays, ClosedStays, SessionsGrow, CompleteStays}
-use Rattle.history_model.proofs.Pushed.{closed-push, answers-push}
+use Rattle.history_model.proofs.Pushed.{closed-push}
 use Rattle.history_model.proofs.RunParts.{each_is_legal}
 
 -- what stands in a list stands in a longer one
@@ -30,9 +31,15 @@ pub holder_stays : HolderStays
 holder_stays H more booking session e =
     ap (λ (xs : List ℕ). slice_get xs 0) (filter_map-append (holder_of booking) H more) ∙ get_longer (filter_map (holder_of booking) H) (filter_map (holder_of booking) more) 0 session e
 
+longer_answers : (H more : List Entry) (s : ℕ) → step_answers (H ++ more) s ≡ step_answers H s ++ step_answers more s
+longer_answers H more s =
+    answers_by (H ++ more) s
+    ∙ (filter_map-append (session_answer s) H more
+    ∙ (ap (λ (xs : List StepAnswer). xs ++ filter_map (session_answer s) more) (sym (answers_by H s)) ∙ ap (λ (xs : List StepAnswer). step_answers H s ++ xs) (sym (answers_by more s))))
+
 pub response_stays : ResponseStays
 response_stays H more s step response e =
-    ap (λ (xs : List ℕ). slice_get xs step) (ap (map (λ (answer : StepAnswer). answer.response)) (filter_map-append (answer_of s) H more) ∙ map-append (λ (answer : StepAnswer). answer.response) (step_answers H s) (step_answers more s))
+    ap (λ (xs : List ℕ). slice_get xs step) (ap (map (λ (answer : StepAnswer). answer.response)) (longer_answers H more s) ∙ map-append (λ (answer : StepAnswer). answer.response) (step_answers H s) (step_answers more s))
     ∙ get_longer (map (λ (answer : StepAnswer). answer.response) (step_answers H s)) (map (λ (answer : StepAnswer). answer.response) (step_answers more s)) step response e
 
 pub sessions_grow : SessionsGrow
@@ -43,7 +50,9 @@ pub still_started : (H more : List Entry) (s : ℕ) → is_started H s ≡ true 
 still_started H more s e = list_any-append (starts_session s) H more ∙ rw e refl
 
 pub still_closed : (H more : List Entry) (s : ℕ) → is_closed H s ≡ true → is_closed (H ++ more) s ≡ true
-still_closed H more s e = list_any-append (closes s) H more ∙ rw e refl
+still_closed H more s e =
+    let before : list_any (closes_session s) H ≡ true = sym (session_closed_by H s) ∙ e in
+    session_closed_by (H ++ more) s ∙ (list_any-append (closes_session s) H more ∙ rw before refl)
 
 closed_by : (is_there closed full : Bool) (n : ℕ) (o : Option Serving) → ◌≡◌ {A = Option Place} (cond (not is_there) None (cond closed (Some IsClosed) (cond full (Some Complete) (Some (place_at n o))))) (Some IsClosed) → (is_there ≡ true) × (closed ≡ true)
 closed_by false closed full n o e = absurd (cc)
@@ -76,7 +85,7 @@ not_over plan H s at complete is goes_on =
     let same : Complete ≡ at = cc in
     subst GoesOn (sym same) goes_on
 
-not_closing : (b : Tables) (plan : Plan) (H : List Entry) (e : Entry) (s : ℕ) → Legal b plan H e → place plan H s ≡ Some Complete → closes s e ≡ false
+not_closing : (b : Tables) (plan : Plan) (H : List Entry) (e : Entry) (s : ℕ) → Legal b plan H e → place plan H s ≡ Some Complete → closes_session s e ≡ false
 not_closing b plan H (Started session booking eligible) s legal complete = refl
 not_closing b plan H (SetAside session cause nodes) s legal complete = refl
 not_closing b plan H (Served session step item form proved nodes) s legal complete = refl
@@ -92,7 +101,7 @@ one_more : (b : Tables) (plan : Plan) (H : List Entry) (e : Entry) (s : ℕ) →
 one_more b plan H e s legal complete =
     let p = complete_by (is_started H s) (is_closed H s) (nat_le plan.length (length (step_answers H s))) (length (step_answers H s)) (serving_at H s (length (step_answers H s))) complete in
     let before : plan.length ≤ length (step_answers H s) = leb-true _ _ p.enough in
-    let number : length (step_answers (H ++ e ∷ []) s) ≡ length (step_answers H s) + length (step_answers (e ∷ []) s) = ap (λ (xs : List StepAnswer). length xs) (answers-push H e s) ∙ length-append (step_answers H s) (step_answers (e ∷ []) s) in
+    let number : length (step_answers (H ++ e ∷ []) s) ≡ length (step_answers H s) + length (step_answers (e ∷ []) s) = ap (λ (xs : List StepAnswer). length xs) (longer_answers H (e ∷ []) s) ∙ length-append (step_answers H s) (step_answers (e ∷ []) s) in
     let enough : nat_le plan.length (length (step_answers (H ++ e ∷ []) s)) ≡ true = le-leb _ _ (omega arith) in
     let open_yet : is_closed (H ++ e ∷ []) s ≡ false = closed-push H e s ∙ rw (p.not_closed, not_closing b plan H e s legal complete) refl in
     rw (still_started H (e ∷ []) s p.there, open_yet, enough) refl

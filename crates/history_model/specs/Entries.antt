@@ -1,6 +1,6 @@
 -- What the entries of a history say of a session.
 use Rattle.std.specs.Prelude.{ℕ, ◌-◌, Bool, true, false, ◌==◌, List, [], length, slice_get, Option, Some, None, if◌then◌else◌, count_by, map, unwrap_or}
-use Rattle.std.specs.List.{filter_map, list_any}
+use Rattle.std.specs.List.{filter, filter_map, list_any}
 use Rattle.std.specs.Option.{option_map, option_map_or}
 use Rattle.history_model.specs.declared.entry.Entry.{Entry}
 use Rattle.history_model.specs.declared.entry.Entry.TheVariants.{Started, SetAside, Served, Answered, Closed}
@@ -25,9 +25,17 @@ abbrev pub holder_of : ℕ → Entry → Option ℕ
 holder_of booking (Started session other eligible) = if other == booking then Some session else None
 holder_of booking entry = None
 
-abbrev pub sets_aside : ℕ → Entry → Bool
-sets_aside s (SetAside session cause nodes) = session == s
-sets_aside s entry = false
+-- the session that an entry is of
+abbrev pub session_of : Entry → ℕ
+session_of (Started session booking eligible) = session
+session_of (SetAside session cause nodes) = session
+session_of (Served session step item form proved nodes) = session
+session_of (Answered session step response) = session
+session_of (Closed session) = session
+
+abbrev pub sets_aside : Entry → Bool
+sets_aside (SetAside session cause nodes) = true
+sets_aside entry = false
 
 -- what a Served entry says: the item of a step, and the form, proved best or not, that it was served from
 pub record Serving : Type 0 where
@@ -36,22 +44,22 @@ pub record Serving : Type 0 where
   pub form : List ℕ
   pub proved : Bool
 
-abbrev pub serving_of : ℕ → Entry → Option Serving
-serving_of s (Served session step item form proved nodes) = if session == s then Some (record { step = step; item = item; form = form; proved = proved }) else None
-serving_of s entry = None
+abbrev pub serving_of : Entry → Option Serving
+serving_of (Served session step item form proved nodes) = Some (record { step = step; item = item; form = form; proved = proved })
+serving_of entry = None
 
 -- what an Answered entry says: the response to the item of a step
 pub record StepAnswer : Type 0 where
   pub step : ℕ
   pub response : ℕ
 
-abbrev pub answer_of : ℕ → Entry → Option StepAnswer
-answer_of s (Answered session step response) = if session == s then Some (record { step = step; response = response }) else None
-answer_of s entry = None
+abbrev pub answer_of : Entry → Option StepAnswer
+answer_of (Answered session step response) = Some (record { step = step; response = response })
+answer_of entry = None
 
-abbrev pub closes : ℕ → Entry → Bool
-closes s (Closed session) = session == s
-closes s entry = false
+abbrev pub closes : Entry → Bool
+closes (Closed session) = true
+closes entry = false
 
 -- ---- a history
 -- the number of sessions
@@ -65,17 +73,21 @@ is_started H s = list_any (starts_session s) H
 abbrev pub holder : List Entry → ℕ → Option ℕ
 holder H booking = slice_get (filter_map (holder_of booking) H) 0
 
+-- the entries of a session, in order
+abbrev pub entries_of_session : List Entry → ℕ → List Entry
+entries_of_session H s = filter (λ entry. session_of entry == s) H
+
 abbrev pub servings : List Entry → ℕ → List Serving
-servings H s = filter_map (serving_of s) H
+servings H s = filter_map serving_of (entries_of_session H s)
 
 abbrev pub step_answers : List Entry → ℕ → List StepAnswer
-step_answers H s = filter_map (answer_of s) H
+step_answers H s = filter_map answer_of (entries_of_session H s)
 
 abbrev pub is_set_aside : List Entry → ℕ → Bool
-is_set_aside H s = list_any (sets_aside s) H
+is_set_aside H s = list_any sets_aside (entries_of_session H s)
 
 abbrev pub is_closed : List Entry → ℕ → Bool
-is_closed H s = list_any (closes s) H
+is_closed H s = list_any closes (entries_of_session H s)
 
 -- the eligible set of the session's Started entry
 abbrev pub eligible_set : List Entry → ℕ → List ℕ

@@ -1,11 +1,11 @@
 -- What a history comes down to in numbers.
-use Rattle.std.specs.Prelude.{ℕ, Bool, true, false, not, List, length, count_by, sum_by}
+use Rattle.std.specs.Prelude.{ℕ, Bool, false, not, List, length, count_by, sum_by}
 use Rattle.exam_model.specs.Plan.{Plan}
 use Rattle.history_model.specs.declared.entry.Entry.{Entry}
 use Rattle.history_model.specs.declared.entry.Entry.TheVariants.{SetAside, Served}
 use Rattle.history_model.specs.declared.summary.Summary.{Summary}
 use Rattle.history_model.specs.Counts.{finished}
-use Rattle.history_model.specs.Entries.{sessions}
+use Rattle.history_model.specs.Entries.{sets_aside, sessions}
 
 -- an item is served from a form that is proved best
 abbrev pub serves_proved : Entry → Bool
@@ -16,10 +16,6 @@ serves_proved entry = false
 abbrev pub serves_unproved : Entry → Bool
 serves_unproved (Served session step item form proved nodes) = not proved
 serves_unproved entry = false
-
-abbrev pub is_setting_aside : Entry → Bool
-is_setting_aside (SetAside session cause nodes) = true
-is_setting_aside entry = false
 
 -- the number of nodes of the entry's tree, if it has one
 abbrev pub nodes_of : Entry → ℕ
@@ -35,6 +31,6 @@ summary plan H =
       finished = finished plan H;
       proved = count_by serves_proved H;
       unproved = count_by serves_unproved H;
-      aside = count_by is_setting_aside H;
+      aside = count_by sets_aside H;
       nodes = sum_by nodes_of H;
     }

@@ -2,7 +2,8 @@ use Rattle.std.proofs.Common.{◌≡◌, ◌++◌, ◌∷◌, [], ℕ, sym, ap, 
 use Rattle.std.proofs.lemmas.Option.{get_or_from_slice_get}
 use Rattle.exam_model.specs.declared.seat.Seat.{Seat}
 use Rattle.history_model.specs.Laws.{seat_with}
-use Rattle.exam_session.specs.Kept.{session_of, AreSeats}
+use Rattle.history_model.specs.Entries.{session_of}
+use Rattle.exam_session.specs.Kept.{AreSeats}
 use Rattle.exam_session.proofs.SeatNotes.{seats_changed}
 use Rattle.exam_session.proofs.seats.change_seat.Goals as goal
 
