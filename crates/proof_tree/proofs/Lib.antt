@@ -5,3 +5,4 @@ pub mod VectorLaws
 pub mod NodeLaws
 pub mod TreeLaws
 pub mod CutLaws
+pub mod TextLaws

@@ -1,6 +1,7 @@
 //! What the bytes of a tree promise, for all trees and all bytes.
 
 ghost use Rattle.std.specs.Prelude.{◌≡◌, ℕ, ◌<◌, ◌++◌, List, length, take, slice_index, Ok};
+ghost use Rattle.hex.specs.Hex.{encode_lower, decode_of};
 ghost use Rattle.exam_model.specs.ProofTrees.{ProofTree};
 ghost use Rattle.proof_tree.specs.Shape.{IsTree};
 ghost use Rattle.proof_tree.specs.Spelling.{bytes_of, BeginsWith};
@@ -25,4 +26,9 @@ pub fn no_spelling_begins_another()
 /// A tree that is cut off anywhere is told as such: Short within a field, Unfinished between two nodes.
 pub fn cut_off_is_told()
     ensures { (T : ProofTree) (k : ℕ) → IsTree T → k < length (bytes_of T) → IsCutOff k (read (take k (bytes_of T))) }
+{}
+
+/// A tree's bytes in hexadecimal digits are read back as its bytes, so that a printed tree is one that can be read.
+pub fn text_is_read()
+    ensures { (T : ProofTree) → IsTree T → decode_of (encode_lower (bytes_of T)) ≡ Ok (bytes_of T) }
 {}
