@@ -8,7 +8,8 @@ use Rattle.bank_tables.specs.Items.{Set}
 use Rattle.bank_tables.specs.Sums.{count_in, sum_in_z, total_z}
 use Rattle.exam_model.proofs.SumLaws.{either, or_true, or_false}
 use Rattle.exam_model.proofs.Greatest.{count_in-split, rest_of}
-use Rattle.lagrange_bound.specs.Ranges.{IsWithin, at, item_top}
+use Rattle.exam_model.specs.Ranges.{IsWithin, at}
+use Rattle.lagrange_bound.specs.Ranges.{item_top}
 use Rattle.lagrange_bound.specs.Fills.{at_least, above, excess, no_weight}
 use Rattle.lagrange_bound.proofs.Used.{not_true}
 

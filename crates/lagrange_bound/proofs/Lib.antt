@@ -6,3 +6,4 @@ pub mod Sides
 pub mod Thresholds
 pub mod Filled
 pub mod Maximum
+pub mod Linked

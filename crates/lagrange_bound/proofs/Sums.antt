@@ -1,6 +1,6 @@
 -- Sums that don't wrap, and ranges.
-use Rattle.std.proofs.Common.{◌≡◌, ℕ, suc, ◌+◌, ◌*◌, ◌<◌, ◌≤◌, Bool, true, false, cond, inl, inr, List, length, get_or, w64, to_z, of_z, add-one, refl, ap, ◌∙◌, arith}
-use Rattle.std.specs.Prelude.{ℤ, pos, negsuc, ◌+ℤ◌, ◌*ℤ◌}
+use Rattle.std.proofs.Common.{◌≡◌, ℕ, suc, ◌+◌, ◌*◌, ◌<◌, ◌≤◌, Bool, true, false, cond, inl, inr, List, length, get_or, w64, FitsSigned, to_z, of_z, add-one, refl, ap, ◌∙◌, arith}
+use Rattle.std.specs.Prelude.{ℤ, pos, negsuc, ◌+ℤ◌, ◌-ℤ◌, ◌*ℤ◌}
 use Rattle.std.proofs.lemmas.Int.{ints}
 use Rattle.std.proofs.lemmas.List.{get_or_read_under}
 use Rattle.exam_model.specs.declared.row.Row.{Row}
@@ -9,13 +9,16 @@ use Rattle.bank_tables.specs.Sums.{total_z}
 use Rattle.bank_tables.specs.Tables.{Tables}
 use Rattle.bank_tables.specs.Validity.{IsBank}
 use Rattle.exam_model.specs.declared.row.Row.TheVariants.{Count, Quantity, Enemies, Stimuli}
-use Rattle.exam_model.specs.ClosedForm.{item_activity}
+use Rattle.exam_model.specs.Weights.{item_activity}
 use Rattle.exam_model.specs.Plan.{Plan, no_row, row_at}
 use Rattle.exam_model.proofs.SumLaws.{either}
-use Rattle.lagrange_bound.specs.Ranges.{IsWithin}
+use Rattle.exam_model.specs.Ranges.{IsWithin}
 
 pub read_back : (m : ℕ) (z : ℤ) → m ≤ 9223372036854775807 → IsWithin m z → to_z w64 (of_z w64 z) ≡ z
 read_back m z few w = omega (arith, ints)
+
+pub negated : (m : ℕ) (z : ℤ) → m ≤ 9223372036854775807 → IsWithin m z → to_z w64 (of_z w64 (pos 0 -ℤ to_z w64 (of_z w64 z))) ≡ pos 0 -ℤ z
+negated m z few w = omega (arith, ints)
 
 pub summed : (m n : ℕ) (a b : ℤ) → m + n ≤ 9223372036854775807 → IsWithin m a → IsWithin n b → to_z w64 (of_z w64 (a +ℤ to_z w64 (of_z w64 b))) ≡ a +ℤ b
 summed m n a b few wa wb = omega (arith, ints)
@@ -56,7 +59,7 @@ total_more r f = rw add-one refl
 pub two_summed : (m n : ℕ) (a b : ℤ) → m + n ≤ 9223372036854775807 → IsWithin m a → IsWithin n b → to_z w64 (of_z w64 (to_z w64 (of_z w64 a) +ℤ to_z w64 (of_z w64 b))) ≡ a +ℤ b
 two_summed m n a b few wa wb = omega (arith, ints)
 
-pub four_summed : (a b d e : ℤ) → IsWithin 72056494526300160 a → IsWithin 72057594037927936 b → IsWithin 216172782113783808 d → IsWithin 36028384702103552 e →
+pub four_summed : (a b d e : ℤ) → IsWithin 72056494526300160 a → IsWithin 72057594037927936 b → IsWithin 216172782113783808 d → IsWithin 4647714952885305344 e →
     to_z w64 (of_z w64 (to_z w64 (of_z w64 a) +ℤ to_z w64 (of_z w64 (to_z w64 (of_z w64 (to_z w64 (of_z w64 b) +ℤ to_z w64 (of_z w64 d))) +ℤ to_z w64 (of_z w64 e))))) ≡ a +ℤ ((b +ℤ d) +ℤ e)
 four_summed a b d e wa wb wd we = omega (arith, ints)
 
@@ -65,3 +68,6 @@ activity_high b bank (Count set low high) i = small (has set i)
 activity_high b bank (Quantity which set low high) i = elim (either (has set i)) [ inl member ↦ rw member (bank.quantity_high i which) | inr other ↦ rw other (omega arith) ]
 activity_high b bank (Enemies set) i = small (has set i)
 activity_high b bank (Stimuli low high) i = omega arith
+
+pub fits_sum : (m n : ℕ) (a b : ℤ) → m + n ≤ 9223372036854775807 → IsWithin m a → IsWithin n b → FitsSigned w64 (a +ℤ to_z w64 (of_z w64 b))
+fits_sum m n a b few wa wb = omega (arith, ints)

@@ -4,3 +4,4 @@ pub mod Counted
 pub mod Ranges
 pub mod Shares
 pub mod Fills
+pub mod Links

@@ -1,16 +1,11 @@
--- Numbers near 0, and the elements of arrays of signed numbers.
-use Rattle.std.specs.Prelude.{ℕ, List, get_or, ℤ, pos, neg_ℤ, ◌≤ℤ◌}
-
--- the number lies within so much of 0
-pub record IsWithin (top : ℕ) (z : ℤ) : Type 0 where
-  pub low : neg_ℤ (pos top) ≤ℤ z
-  pub high : z ≤ℤ pos top
+-- How far from 0 the numbers of a bound are.
+use Rattle.std.specs.Prelude.{ℕ, ℤ, pos, neg_ℤ, ◌≤ℤ◌}
 
 -- no reduced weight of an item is further from 0: 2 ^ 47
 abbrev pub item_top : ℕ
 item_top = 140737488355328
 
--- what stands in the array of weights: a weight, or what is below each
+-- a weight in the array of them, or the number below each
 pub record IsWeight (z : ℤ) : Type 0 where
   pub low : neg_ℤ (pos 140737488355329) ≤ℤ z
   pub high : z ≤ℤ pos item_top
@@ -27,5 +22,10 @@ bounds_top = 562941363486720
 abbrev pub stimulus_top : ℕ
 stimulus_top = 562943510970368
 
-abbrev pub at : List ℤ → ℕ → ℤ
-at xs i = get_or xs i (pos 0)
+-- no reduced weight is further above a cap: 2 ^ 47 and 2 ^ 24
+abbrev pub excess_top : ℕ
+excess_top = 140737505132544
+
+-- nor are 512 of them together
+abbrev pub excesses_top : ℕ
+excesses_top = 72057602627862528

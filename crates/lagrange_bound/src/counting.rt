@@ -21,7 +21,8 @@ use constraint_model::{Problem, Row};
 
 /// How many items the test wants beyond those taken; None exactly where the length is impossible.
 pub fn items_wanted(problem: &Problem, cut: &Cut) -> Option<u32>
-    ensures { (p : Path) → IsCutOf (problem_of problem.now) p cut.now → IsWanted (problem_of problem.now) p result }
+    ensures { (p : Path) → IsCutOf (problem_of problem.now) p cut.now →
+        IsWanted (problem_of problem.now) p result }
 {
     let length = problem.spec.length();
     let taken = size_in(problem.bank, &cut.taken);
@@ -38,7 +39,8 @@ pub fn items_wanted(problem: &Problem, cut: &Cut) -> Option<u32>
 /// The sum of a quantity over the items of the bank that are in both sets.
 fn quantity_in(bank: &Bank, which: u8, set: &ItemSet, items: &ItemSet) -> u32
     requires { which < bank.now.quantities }
-    ensures { result ≡ sum_in (size bank.now) (has items.now) (λ i. cond (has set.now i) (quantity bank.now i which) 0) }
+    ensures { result ≡ sum_in (size bank.now) (has items.now) (λ i.
+        cond (has set.now i) (quantity bank.now i which) 0) }
 {
     let mut sum = 0;
     for i in 0..bank.items() {
@@ -108,7 +110,8 @@ fn is_outside(bounds: (u32, u32), least: u32, most: u32, counts: bool) -> bool
 /// Whether what is taken exceeds the row's upper bound, or what is taken or free is below its lower bound.
 fn row_impossible(problem: &Problem, cut: &Cut, row: &Row) -> bool
     requires { IsRow problem.now.bank.now row.now }
-    ensures { (p : Path) → IsCutOf (problem_of problem.now) p cut.now → result ≡ row_impossible (problem_of problem.now) p row.now }
+    ensures { (p : Path) → IsCutOf (problem_of problem.now) p cut.now →
+        result ≡ row_impossible (problem_of problem.now) p row.now }
 {
     let items = cut.taken.union(cut.free);
     let stimuli = cut.chosen.union(cut.opened);
@@ -120,7 +123,9 @@ fn row_impossible(problem: &Problem, cut: &Cut, row: &Row) -> bool
 /// The first row of the plan that is impossible.
 fn first_row(problem: &Problem, cut: &Cut) -> Option<u8>
     requires { IsWellMade (problem_of problem.now) }
-    ensures { (p : Path) → IsCutOf (problem_of problem.now) p cut.now → IsFirstWhere (length problem.now.spec.now.rows) (λ r. row_impossible (problem_of problem.now) p (row_at problem.now.spec.now r)) result }
+    ensures { (p : Path) → IsCutOf (problem_of problem.now) p cut.now →
+        IsFirstWhere (length problem.now.spec.now.rows) (λ r.
+        row_impossible (problem_of problem.now) p (row_at problem.now.spec.now r)) result }
 {
     let rows = problem.spec.rows();
     for r in 0..rows.len() {
@@ -149,8 +154,10 @@ fn stimulus_impossible(problem: &Problem, cut: &Cut, which: u16, least: u32, mos
     requires first { 0 < which }
     requires last { which ≤ length problem.now.spec.now.bounds }
     requires least { least ≡ items_of problem.now.bank.now which (has cut.now.taken) }
-    requires most { most ≡ items_of problem.now.bank.now which (λ i. has cut.now.taken i || has cut.now.free i) }
-    ensures { (p : Path) → IsCutOf (problem_of problem.now) p cut.now → result ≡ stimulus_impossible (problem_of problem.now) p which }
+    requires most { most ≡ items_of problem.now.bank.now which (λ i.
+        has cut.now.taken i || has cut.now.free i) }
+    ensures { (p : Path) → IsCutOf (problem_of problem.now) p cut.now →
+        result ≡ stimulus_impossible (problem_of problem.now) p which }
 {
     let bound = problem.spec.bounds()[which as usize - 1];
     is_outside((bound.low, bound.high), least, most, cut.chosen.has(which))
@@ -159,7 +166,9 @@ fn stimulus_impossible(problem: &Problem, cut: &Cut, which: u16, least: u32, mos
 /// The first stimulus that is impossible, counted from 0 on.
 fn first_stimulus(problem: &Problem, cut: &Cut) -> Option<u8>
     requires { IsWellMade (problem_of problem.now) }
-    ensures { (p : Path) → IsCutOf (problem_of problem.now) p cut.now → IsFirstWhere (stimuli_of problem.now.bank.now) (λ k. stimulus_impossible (problem_of problem.now) p (suc k)) result }
+    ensures { (p : Path) → IsCutOf (problem_of problem.now) p cut.now →
+        IsFirstWhere (stimuli_of problem.now.bank.now) (λ k.
+        stimulus_impossible (problem_of problem.now) p (suc k)) result }
 {
     let items = cut.taken.union(cut.free);
     let least = items_by_stimulus(problem.bank, &cut.taken);
@@ -178,7 +187,8 @@ fn first_stimulus(problem: &Problem, cut: &Cut) -> Option<u8>
 pub fn impossible(problem: &Problem, cut: &Cut) -> Option<u8>
     requires well_made { IsWellMade (problem_of problem.now) }
     requires cut { IsCut (problem_of problem.now) cut.now }
-    ensures { (p : Path) → IsCutOf (problem_of problem.now) p cut.now → IsFirstImpossible (problem_of problem.now) p result }
+    ensures { (p : Path) → IsCutOf (problem_of problem.now) p cut.now →
+        IsFirstImpossible (problem_of problem.now) p result }
 {
     let rows = problem.spec.rows().len();
     match items_wanted(problem, cut) {

@@ -46,7 +46,8 @@ impl Cut {
         requires well_made { IsWellMade (problem_of problem.now) }
         requires cut { IsCut (problem_of problem.now) self.now }
         requires free { IsTrue (has self.now.free item) }
-        ensures { (p : Path) → IsCutOf (problem_of problem.now) p self.now → IsCutOf (problem_of problem.now) (with_item p item true) result }
+        ensures { (p : Path) → IsCutOf (problem_of problem.now) p self.now →
+            IsCutOf (problem_of problem.now) (with_item p item true) result }
     {
         let stimulus = problem.bank.stimulus(item);
         Cut {
@@ -63,7 +64,8 @@ impl Cut {
         requires well_made { IsWellMade (problem_of problem.now) }
         requires cut { IsCut (problem_of problem.now) self.now }
         requires free { IsTrue (has self.now.free item) }
-        ensures { (p : Path) → IsCutOf (problem_of problem.now) p self.now → IsCutOf (problem_of problem.now) (with_item p item false) result }
+        ensures { (p : Path) → IsCutOf (problem_of problem.now) p self.now →
+            IsCutOf (problem_of problem.now) (with_item p item false) result }
     {
         let stimulus = problem.bank.stimulus(item);
         let free = self.free.without(item);
@@ -86,7 +88,8 @@ impl Cut {
         requires well_made { IsWellMade (problem_of problem.now) }
         requires cut { IsCut (problem_of problem.now) self.now }
         requires free { IsTrue (has self.now.free item) }
-        ensures { (p : Path) → IsCutOf (problem_of problem.now) p self.now → IsCutOf (problem_of problem.now) (with_item p item taken) result }
+        ensures { (p : Path) → IsCutOf (problem_of problem.now) p self.now →
+            IsCutOf (problem_of problem.now) (with_item p item taken) result }
     {
         if taken {
             self.with_taken(problem, item)
@@ -97,7 +100,8 @@ impl Cut {
 
     /// The state where the stimulus is chosen.
     fn with_chosen(&self, stimulus: u8) -> Cut
-        ensures { (P : ProblemOf) (p : Path) → IsCutOf P p self.now → IsCutOf P (with_stimulus P p stimulus true) result }
+        ensures { (P : ProblemOf) (p : Path) → IsCutOf P p self.now →
+            IsCutOf P (with_stimulus P p stimulus true) result }
     {
         let which = stimulus as u16;
         Cut {
@@ -112,7 +116,9 @@ impl Cut {
     /// The state where the stimulus is dropped: its free items are out.
     fn with_dropped(&self, problem: &Problem, stimulus: u8) -> Cut
         requires { IsWellMade (problem_of problem.now) }
-        ensures { (p : Path) → IsCutOf (problem_of problem.now) p self.now → IsCutOf (problem_of problem.now) (with_stimulus (problem_of problem.now) p stimulus false) result }
+        ensures { (p : Path) → IsCutOf (problem_of problem.now) p self.now →
+            IsCutOf (problem_of problem.now) (with_stimulus
+            (problem_of problem.now) p stimulus false) result }
     {
         let dropped = those_of(problem.bank, &self.free, stimulus);
         Cut {
@@ -129,7 +135,9 @@ impl Cut {
         requires well_made { IsWellMade (problem_of problem.now) }
         requires cut { IsCut (problem_of problem.now) self.now }
         requires opened { IsTrue (has self.now.opened stimulus) }
-        ensures { (p : Path) → IsCutOf (problem_of problem.now) p self.now → IsCutOf (problem_of problem.now) (with_stimulus (problem_of problem.now) p stimulus chosen) result }
+        ensures { (p : Path) → IsCutOf (problem_of problem.now) p self.now →
+            IsCutOf (problem_of problem.now) (with_stimulus
+            (problem_of problem.now) p stimulus chosen) result }
     {
         if chosen {
             self.with_chosen(stimulus)

@@ -10,7 +10,9 @@ use bank_tables::{Bank, ItemSet};
 
 /// The items of the bank that are in neither set.
 pub fn others(bank: &Bank, taken: &ItemSet, out: &ItemSet) -> ItemSet
-    ensures { (i : ℕ) → has result i ≡ (nat_lt i (size bank.now) && (not (has taken.now i) && not (has out.now i))) }
+    ensures { (i : ℕ) →
+        has result i ≡
+        (nat_lt i (size bank.now) && (not (has taken.now i) && not (has out.now i))) }
 {
     let mut rest = ItemSet::empty();
     for i in 0..bank.items() {
@@ -47,7 +49,8 @@ pub fn stimuli_used(bank: &Bank, items: &ItemSet) -> ItemSet
 
 /// Whether an item of the set has the stimulus.
 pub fn has_one_of(bank: &Bank, items: &ItemSet, which: u8) -> bool
-    ensures { result ≡ any_below (size bank.now) (λ i. has items.now i && stimulus bank.now i == which) }
+    ensures { result ≡ any_below (size bank.now) (λ i.
+        has items.now i && stimulus bank.now i == which) }
 {
     for i in 0..bank.items() {
         if items.has(i) && bank.stimulus(i) == which {
@@ -59,7 +62,9 @@ pub fn has_one_of(bank: &Bank, items: &ItemSet, which: u8) -> bool
 
 /// The items of the bank in the set that have the stimulus.
 pub fn those_of(bank: &Bank, items: &ItemSet, which: u8) -> ItemSet
-    ensures { (i : ℕ) → has result i ≡ (nat_lt i (size bank.now) && (has items.now i && stimulus bank.now i == which)) }
+    ensures { (i : ℕ) →
+        has result i ≡
+        (nat_lt i (size bank.now) && (has items.now i && stimulus bank.now i == which)) }
 {
     let mut those = ItemSet::empty();
     for i in 0..bank.items() {

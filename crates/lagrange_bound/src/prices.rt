@@ -1,26 +1,28 @@
 //! The prices that a vector of multipliers puts on rows and stimuli.
 
-ghost use Rattle.std.specs.Prelude.{◌≡◌, ℕ, ◌+◌, ◌*◌, ◌<◌, ◌≤◌, All, length, pos, ◌*ℤ◌, ◌≤ℤ◌};
+ghost use Rattle.std.specs.Prelude.{◌≡◌, ◌+◌, ◌*◌, ◌<◌, ◌≤◌, All, length, pos, slice_index, ◌*ℤ◌, ◌≤ℤ◌};
 ghost use Rattle.bank_tables.specs.Sums.{total_z};
-ghost use Rattle.exam_model.specs.ClosedForm.{price, bounds_price, stimulus_activity};
-ghost use Rattle.exam_model.specs.Relaxed.{Multipliers};
+ghost use Rattle.exam_model.specs.ProofTrees.{IsVector};
+ghost use Rattle.exam_model.specs.Ranges.{AreMultipliers, IsWithin};
+ghost use Rattle.exam_model.specs.Relaxed.{multiplier};
 ghost use Rattle.exam_model.specs.Validity.{IsWellMade};
+ghost use Rattle.exam_model.specs.Weights.{price, bounds_price, rows_constant, stimulus_activity, stimulus_share};
 ghost use Rattle.constraint_model.specs.Views.{problem_of};
-ghost use Rattle.lagrange_bound.specs.Ranges.{IsWithin, bounds_top};
-ghost use Rattle.lagrange_bound.specs.Shares.{AreSidesOf, AreMultipliers, constant_share, stimulus_share};
+ghost use Rattle.lagrange_bound.specs.Ranges.{bounds_top};
 
 use crate::counting::bounds_of;
 use constraint_model::{Problem, Row};
 use proof_tree::Vector;
 
-/// The multiplier of each side; a side that the vector doesn't name has 0.
-pub fn sides_of(vector: &Vector) -> [u32; 384]
-    requires { All (λ pair. pair.0 < 384) vector.now }
-    ensures value { AreSidesOf vector.now result }
-    ensures high { AreMultipliers result }
+/// The multiplier of each side, the last two of which are those of the cap; a side that the vector doesn't name has 0.
+pub fn sides_of(vector: &Vector) -> [u32; 386]
+    requires { All (λ pair. pair.0 < 386) vector.now }
+    ensures value { slice_index result ≡ multiplier vector.now }
+    ensures high { AreMultipliers (slice_index result) }
+    ensures vector { IsVector 0 vector.now }
 {
     let pairs = vector.pairs();
-    let mut sides = [0u32; 384];
+    let mut sides = [0u32; 386];
     for k in 0..pairs.len() {
         let (side, multiplier) = pairs[pairs.len() - 1 - k];
         sides[side as usize] = multiplier;
@@ -29,10 +31,10 @@ pub fn sides_of(vector: &Vector) -> [u32; 384]
 }
 
 /// The price of the row or stimulus with the low side.
-pub fn price(sides: &[u32; 384], low_side: usize) -> i64
-    requires sides { AreMultipliers sides.now }
-    requires side { low_side + 1 < 384 }
-    ensures value { (v : Multipliers) → AreSidesOf v sides.now → result ≡ price v low_side }
+pub fn price(sides: &[u32; 386], low_side: usize) -> i64
+    requires sides { AreMultipliers (slice_index sides.now) }
+    requires side { low_side + 1 < 386 }
+    ensures value { result ≡ price (slice_index sides.now) low_side }
     ensures within { IsWithin 16777216 result }
 {
     sides[low_side] as i64 - sides[low_side + 1] as i64
@@ -50,12 +52,12 @@ fn product(multiplier: u32, bound: u32) -> i64
 }
 
 /// The price of the bounds of the row or stimulus with the low side.
-pub fn bounds_price(sides: &[u32; 384], low_side: usize, bounds: (u32, u32)) -> i64
-    requires sides { AreMultipliers sides.now }
-    requires side { low_side + 1 < 384 }
+pub fn bounds_price(sides: &[u32; 386], low_side: usize, bounds: (u32, u32)) -> i64
+    requires sides { AreMultipliers (slice_index sides.now) }
+    requires side { low_side + 1 < 386 }
     requires low { bounds.0 ≤ 33553920 }
     requires high { bounds.1 ≤ 33553920 }
-    ensures value { (v : Multipliers) → AreSidesOf v sides.now → result ≡ bounds_price v low_side bounds.0 bounds.1 }
+    ensures value { result ≡ bounds_price (slice_index sides.now) low_side bounds.0 bounds.1 }
     ensures within { IsWithin bounds_top result }
 {
     let (low, high) = bounds;
@@ -63,10 +65,10 @@ pub fn bounds_price(sides: &[u32; 384], low_side: usize, bounds: (u32, u32)) -> 
 }
 
 /// The price of the bounds of all rows.
-pub fn rows_constant(problem: &Problem, sides: &[u32; 384]) -> i64
+pub fn rows_constant(problem: &Problem, sides: &[u32; 386]) -> i64
     requires well_made { IsWellMade (problem_of problem.now) }
-    requires sides { AreMultipliers sides.now }
-    ensures value { (v : Multipliers) → AreSidesOf v sides.now → result ≡ total_z (length problem.now.spec.now.rows) (constant_share (problem_of problem.now) v) }
+    requires sides { AreMultipliers (slice_index sides.now) }
+    ensures value { result ≡ rows_constant (problem_of problem.now) (slice_index sides.now) }
     ensures within { IsWithin (128 * bounds_top) result }
 {
     let rows = problem.spec.rows();
@@ -90,10 +92,12 @@ fn price_of_stimuli(row: &Row, price: i64) -> i64
 }
 
 /// The price of the rows that count stimuli: what they add to the weight of each stimulus.
-pub fn rows_on_stimuli(problem: &Problem, sides: &[u32; 384]) -> i64
+pub fn rows_on_stimuli(problem: &Problem, sides: &[u32; 386]) -> i64
     requires well_made { IsWellMade (problem_of problem.now) }
-    requires sides { AreMultipliers sides.now }
-    ensures value { (v : Multipliers) → AreSidesOf v sides.now → result ≡ total_z (length problem.now.spec.now.rows) (stimulus_share (problem_of problem.now) v) }
+    requires sides { AreMultipliers (slice_index sides.now) }
+    ensures value { result ≡
+        total_z (length problem.now.spec.now.rows)
+        (stimulus_share (problem_of problem.now) (slice_index sides.now)) }
     ensures within { IsWithin (128 * 16777216) result }
 {
     let rows = problem.spec.rows();

@@ -3,7 +3,8 @@
 ghost use Rattle.std.specs.Prelude.{◌≡◌, ℕ, ◌+◌, ◌*◌, ◌<◌, ◌≤◌, pos, neg_ℤ, ◌+ℤ◌, ◌-ℤ◌, ◌*ℤ◌, ◌≤ℤ◌};
 ghost use Rattle.bank_tables.specs.Sums.{total_z};
 ghost use Rattle.lagrange_bound.specs.Fills.{at_least, excess, IsThreshold, IsSumOfGreatest};
-ghost use Rattle.lagrange_bound.specs.Ranges.{IsWithin, IsWeight, at, item_top};
+ghost use Rattle.exam_model.specs.Ranges.{IsWithin, at};
+ghost use Rattle.lagrange_bound.specs.Ranges.{IsWeight, item_top};
 
 /// The least weight.
 const LEAST: i64 = -140_737_488_355_328;
@@ -47,7 +48,8 @@ fn least(weights: &[i64; 512], n: u16, greatest: i64) -> i64
     requires high { greatest ≤ℤ pos item_top }
     ensures low { neg_ℤ (pos item_top) ≤ℤ result }
     ensures high { result ≤ℤ greatest }
-    ensures below { (i : ℕ) → i < n → neg_ℤ (pos item_top) ≤ℤ at weights.now i → result ≤ℤ at weights.now i }
+    ensures below { (i : ℕ) → i < n → neg_ℤ (pos item_top) ≤ℤ at weights.now i →
+        result ≤ℤ at weights.now i }
 {
     let mut low = greatest;
     for i in 0..n {

@@ -1,17 +1,17 @@
 //! The reduced weights of items: what each adds to the Lagrangian.
 
-ghost use Rattle.std.specs.Prelude.{◌≡◌, ℕ, ◌*◌, ◌<◌, ◌≤◌, cond, length, slice_set, pos, ◌+ℤ◌, ◌*ℤ◌};
+ghost use Rattle.std.specs.Prelude.{◌≡◌, ℕ, ◌*◌, ◌<◌, ◌≤◌, cond, slice_index, slice_set, pos, ◌+ℤ◌, ◌*ℤ◌};
 ghost use Rattle.bank_tables.specs.Items.{has};
-ghost use Rattle.bank_tables.specs.Sums.{sum_in_z, total_z};
+ghost use Rattle.bank_tables.specs.Sums.{sum_in_z};
 ghost use Rattle.bank_tables.specs.Tables.{size};
 ghost use Rattle.bank_tables.specs.Validity.{IsBank};
-ghost use Rattle.exam_model.specs.ClosedForm.{item_activity};
-ghost use Rattle.exam_model.specs.Relaxed.{Multipliers, weight};
+ghost use Rattle.exam_model.specs.Ranges.{AreMultipliers, IsWithin, at};
 ghost use Rattle.exam_model.specs.Validity.{IsRow, IsWellMade};
+ghost use Rattle.exam_model.specs.Weights.{item_activity, item_weight, price_of_stimulus, weight};
 ghost use Rattle.constraint_model.specs.Views.{problem_of};
 ghost use Rattle.lagrange_bound.specs.Fills.{no_weight};
-ghost use Rattle.lagrange_bound.specs.Ranges.{IsWithin, IsWeight, at, item_top, row_top};
-ghost use Rattle.lagrange_bound.specs.Shares.{AreSidesOf, AreMultipliers, item_share, own_weight, price_of_stimulus};
+ghost use Rattle.lagrange_bound.specs.Ranges.{IsWeight, excess_top, item_top, row_top};
+ghost use Rattle.lagrange_bound.specs.Shares.{own_weight};
 
 use crate::prices::price;
 use bank_tables::{Bank, ItemSet};
@@ -35,11 +35,12 @@ fn information(problem: &Problem, ray: bool, item: u16) -> u32
 }
 
 /// The price of a stimulus; 0 is none.
-fn price_of_stimulus(problem: &Problem, sides: &[u32; 384], which: u8) -> i64
+fn price_of_stimulus(problem: &Problem, sides: &[u32; 386], which: u8) -> i64
     requires well_made { IsWellMade (problem_of problem.now) }
-    requires sides { AreMultipliers sides.now }
+    requires sides { AreMultipliers (slice_index sides.now) }
     requires which { which ≤ 64 }
-    ensures value { (v : Multipliers) → AreSidesOf v sides.now → result ≡ price_of_stimulus (problem_of problem.now) v which }
+    ensures value { result ≡
+        price_of_stimulus (problem_of problem.now) (slice_index sides.now) which }
     ensures within { IsWithin 16777216 result }
 {
     if which == 0 {
@@ -53,11 +54,11 @@ fn price_of_stimulus(problem: &Problem, sides: &[u32; 384], which: u8) -> i64
 }
 
 /// The weight of an item without the rows.
-fn own_weight(problem: &Problem, sides: &[u32; 384], ray: bool, item: u16) -> i64
+fn own_weight(problem: &Problem, sides: &[u32; 386], ray: bool, item: u16) -> i64
     requires well_made { IsWellMade (problem_of problem.now) }
-    requires sides { AreMultipliers sides.now }
+    requires sides { AreMultipliers (slice_index sides.now) }
     requires item { item < size problem.now.bank.now }
-    ensures value { (v : Multipliers) → AreSidesOf v sides.now → result ≡ own_weight (problem_of problem.now) v ray item }
+    ensures value { result ≡ own_weight (problem_of problem.now) (slice_index sides.now) ray item }
     ensures within { IsWithin 272777216 result }
 {
     let stimulus = problem.bank.stimulus(item);
@@ -65,10 +66,11 @@ fn own_weight(problem: &Problem, sides: &[u32; 384], ray: bool, item: u16) -> i6
 }
 
 /// The weight of each item without the rows.
-fn own_weights(problem: &Problem, sides: &[u32; 384], ray: bool) -> [i64; 512]
+fn own_weights(problem: &Problem, sides: &[u32; 386], ray: bool) -> [i64; 512]
     requires well_made { IsWellMade (problem_of problem.now) }
-    requires sides { AreMultipliers sides.now }
-    ensures value { (v : Multipliers) → AreSidesOf v sides.now → (i : ℕ) → i < size problem.now.bank.now → at result i ≡ own_weight (problem_of problem.now) v ray i }
+    requires sides { AreMultipliers (slice_index sides.now) }
+    ensures value { (i : ℕ) → i < size problem.now.bank.now →
+        at result i ≡ own_weight (problem_of problem.now) (slice_index sides.now) ray i }
     ensures within { (i : ℕ) → i < size problem.now.bank.now → IsWithin 272777216 (at result i) }
 {
     let mut weights = [0i64; 512];
@@ -112,10 +114,10 @@ fn share(bank: &Bank, row: &Row, price: i64, item: u16) -> i64
 }
 
 /// Adds a number to the weight of an item.
-fn raise(weights: &mut [i64; 512], item: u16, by: i64)
+pub fn raise(weights: &mut [i64; 512], item: u16, by: i64)
     requires item { item < 512 }
     requires weight { IsWithin item_top (at weights.old item) }
-    requires by { IsWithin item_top by }
+    requires by { IsWithin excess_top by }
     ensures { weights.new ≡ slice_set weights.old item (at weights.old item +ℤ by) }
 {
     weights[item as usize] += by;
@@ -127,7 +129,8 @@ fn add_row(weights: &mut [i64; 512], bank: &Bank, row: &Row, price: i64)
     requires row { IsRow bank.now row.now }
     requires price { IsWithin 16777216 price }
     requires within { (i : ℕ) → i < size bank.now → IsWithin item_top (at weights.old i) }
-    ensures { (i : ℕ) → i < size bank.now → at weights.new i ≡ at weights.old i +ℤ (price *ℤ pos (item_activity bank.now row.now i)) }
+    ensures { (i : ℕ) → i < size bank.now →
+        at weights.new i ≡ at weights.old i +ℤ (price *ℤ pos (item_activity bank.now row.now i)) }
 {
     for i in 0..bank.items() {
         raise(weights, i, share(bank, row, price, i));
@@ -140,7 +143,8 @@ fn add_priced_row(weights: &mut [i64; 512], bank: &Bank, row: &Row, price: i64)
     requires row { IsRow bank.now row.now }
     requires price { IsWithin 16777216 price }
     requires within { (i : ℕ) → i < size bank.now → IsWithin item_top (at weights.old i) }
-    ensures { (i : ℕ) → i < size bank.now → at weights.new i ≡ at weights.old i +ℤ (price *ℤ pos (item_activity bank.now row.now i)) }
+    ensures { (i : ℕ) → i < size bank.now →
+        at weights.new i ≡ at weights.old i +ℤ (price *ℤ pos (item_activity bank.now row.now i)) }
 {
     if price != 0 {
         add_row(weights, bank, row, price);
@@ -148,10 +152,11 @@ fn add_priced_row(weights: &mut [i64; 512], bank: &Bank, row: &Row, price: i64)
 }
 
 /// The reduced weight of each item; of a ray without its information.
-pub fn item_weights(problem: &Problem, sides: &[u32; 384], ray: bool) -> [i64; 512]
+pub fn item_weights(problem: &Problem, sides: &[u32; 386], ray: bool) -> [i64; 512]
     requires well_made { IsWellMade (problem_of problem.now) }
-    requires sides { AreMultipliers sides.now }
-    ensures value { (v : Multipliers) → AreSidesOf v sides.now → (i : ℕ) → i < size problem.now.bank.now → at result i ≡ own_weight (problem_of problem.now) v ray i +ℤ total_z (length problem.now.spec.now.rows) (item_share (problem_of problem.now) v i) }
+    requires sides { AreMultipliers (slice_index sides.now) }
+    ensures value { (i : ℕ) → i < size problem.now.bank.now →
+        at result i ≡ item_weight (problem_of problem.now) (slice_index sides.now) ray i }
     ensures within { (i : ℕ) → i < size problem.now.bank.now → IsWithin item_top (at result i) }
 {
     let mut weights = own_weights(problem, sides, ray);
@@ -194,7 +199,8 @@ pub fn sum_over(weights: &[i64; 512], n: u16, items: &ItemSet) -> i64
 pub fn mark_others(weights: &mut [i64; 512], n: u16, items: &ItemSet)
     requires few { n ≤ 512 }
     requires within { (i : ℕ) → i < n → IsWithin item_top (at weights.old i) }
-    ensures value { (i : ℕ) → i < n → at weights.new i ≡ cond (has items.now i) (at weights.old i) no_weight }
+    ensures value { (i : ℕ) → i < n →
+        at weights.new i ≡ cond (has items.now i) (at weights.old i) no_weight }
     ensures weights { (i : ℕ) → i < n → IsWeight (at weights.new i) }
 {
     for i in 0..n {

@@ -1,13 +1,13 @@
-use Rattle.std.proofs.Common.{◌≡◌, ℕ, ◌+◌, ◌*◌, ◌<◌, w64, to_z, of_z, add-one, sym, ap, ◌∙◌, subst, arith}
-use Rattle.std.specs.Prelude.{ℤ, ◌+ℤ◌}
+use Rattle.std.proofs.Common.{◌≡◌, ℕ, ◌+◌, ◌*◌, ◌<◌, List, length, w64, to_z, of_z, add-one, sym, ap, ◌∙◌, subst, arith}
+use Rattle.std.specs.Prelude.{ℤ, ◌+ℤ◌, slice_index}
 use Rattle.bank_tables.specs.Sums.{total_z}
 use Rattle.exam_model.specs.declared.row.Row.{Row}
 use Rattle.exam_model.specs.Plan.{row_at}
 use Rattle.exam_model.specs.Forms.{lower_bound, upper_bound}
-use Rattle.exam_model.specs.ClosedForm.{bounds_price}
+use Rattle.exam_model.specs.Ranges.{IsWithin}
+use Rattle.exam_model.specs.Weights.{bounds_price, constant_share, rows_constant}
 use Rattle.constraint_model.specs.Views.{problem_of}
-use Rattle.lagrange_bound.specs.Ranges.{IsWithin, bounds_top}
-use Rattle.lagrange_bound.specs.Shares.{constant_share}
+use Rattle.lagrange_bound.specs.Ranges.{bounds_top}
 use Rattle.lagrange_bound.proofs.Sums.{summed, summed_within, row_read, row_number}
 use Rattle.lagrange_bound.proofs.prices.rows_constant.Goals as goal
 
@@ -15,6 +15,7 @@ pub loop-r-preserved : goal.loop-r-preserved
 loop-r-preserved c =
     let P = problem_of c.args.problem.now in
     let r = c.loop-r.r in
+    let M : ℕ → ℕ = slice_index c.args.sides.now in
     let sum : ℤ = to_z w64 c.loop-r.sum-bits in
     let term : ℤ = c.bounds_price-sum.result in
     let few : r < 128 = row_number P.plan c.rows-rows.result.now r c.rows-rows.ensures c.loop-r-test.true c.requires.well_made.plan.few_rows in
@@ -23,9 +24,17 @@ loop-r-preserved c =
     let high : c.bounds_of.result.1 ≡ upper_bound (row_at P.plan r) = c.bounds_of.ensures.high ∙ ap (λ (x : Row). upper_bound x) row in
     let e-sum : to_z w64 (of_z w64 (sum +ℤ to_z w64 (of_z w64 term))) ≡ sum +ℤ term = summed (r * bounds_top) bounds_top sum term (omega arith) c.loop-r.invariant.within c.bounds_price-sum.ensures.within in
     record {
-      value = λ v is.
-          let e-term : term ≡ constant_share P v r =
-          c.bounds_price-sum.ensures.value v is ∙ ap (λ (m : ℕ). bounds_price v (2 * r) m c.bounds_of.result.1) low ∙ ap (λ (m : ℕ). bounds_price v (2 * r) (lower_bound (row_at P.plan r)) m) high in
-          rw add-one (e-sum ∙ ap (λ z. z +ℤ term) (c.loop-r.invariant.value v is) ∙ ap (λ z. total_z r (constant_share P v) +ℤ z) e-term);
+      value =
+          let e-term : term ≡ constant_share P M r =
+          c.bounds_price-sum.ensures.value ∙ ap (λ (m : ℕ). bounds_price M (2 * r) m c.bounds_of.result.1) low ∙ ap (λ (m : ℕ). bounds_price M (2 * r) (lower_bound (row_at P.plan r)) m) high in
+          rw add-one (e-sum ∙ ap (λ z. z +ℤ term) c.loop-r.invariant.value ∙ ap (λ z. total_z r (constant_share P M) +ℤ z) e-term);
       within = subst (IsWithin ((r + 1) * bounds_top)) (sym e-sum) (summed_within (r * bounds_top) bounds_top ((r + 1) * bounds_top) sum term (omega arith) c.loop-r.invariant.within c.bounds_price-sum.ensures.within);
     }
+
+pub returns-clause-value : goal.returns-clause-value
+unfolding rows_constant
+returns-clause-value c =
+    let P = problem_of c.args.problem.now in
+    let same : length c.rows-rows.result.now ≡ length P.plan.rows = ap (λ (xs : List Row). length xs) c.rows-rows.ensures in
+    let all : c.loop-r.r ≡ length P.plan.rows = omega (arith, same) in
+    c.loop-r.invariant.value ∙ ap (λ (n : ℕ). total_z n (constant_share P (slice_index c.args.sides.now))) all

@@ -1,6 +1,7 @@
 use Rattle.std.proofs.Common.{ℕ, ◌<◌}
 use Rattle.std.specs.Prelude.{pos, neg_ℤ, ◌≤ℤ◌}
-use Rattle.lagrange_bound.specs.Ranges.{at, item_top}
+use Rattle.exam_model.specs.Ranges.{at}
+use Rattle.lagrange_bound.specs.Ranges.{item_top}
 use Rattle.lagrange_bound.proofs.threshold.least.Given as goal
 
 abbrev pub invariant-loop-i : goal.invariant-loop-i

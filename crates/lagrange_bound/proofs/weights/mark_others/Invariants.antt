@@ -1,7 +1,7 @@
 use Rattle.std.proofs.Common.{◌≡◌, ℕ, ◌<◌, ◌≤◌, cond, length}
 use Rattle.bank_tables.specs.Items.{has}
+use Rattle.exam_model.specs.Ranges.{at}
 use Rattle.lagrange_bound.specs.Fills.{no_weight}
-use Rattle.lagrange_bound.specs.Ranges.{at}
 use Rattle.lagrange_bound.proofs.weights.mark_others.Given as goal
 
 abbrev pub invariant-loop-i : goal.invariant-loop-i

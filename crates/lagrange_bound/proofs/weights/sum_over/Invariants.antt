@@ -1,7 +1,8 @@
 use Rattle.std.proofs.Common.{◌≡◌, ◌*◌}
 use Rattle.bank_tables.specs.Items.{has}
 use Rattle.bank_tables.specs.Sums.{sum_in_z}
-use Rattle.lagrange_bound.specs.Ranges.{IsWithin, at, item_top}
+use Rattle.exam_model.specs.Ranges.{IsWithin, at}
+use Rattle.lagrange_bound.specs.Ranges.{item_top}
 use Rattle.lagrange_bound.proofs.weights.sum_over.Given as goal
 
 abbrev pub invariant-loop-i : goal.invariant-loop-i

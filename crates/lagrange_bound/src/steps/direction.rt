@@ -1,6 +1,6 @@
 //! What the lines add to the relaxed maximum, and the direction of the next step.
 
-use crate::steps_lines::{Kind, Line, Multiplier, rounded};
+use crate::steps::constraints::{Kind, Line, Multiplier, rounded};
 
 /// What the lines add to the relaxed maximum, and the stimuli counted in it.
 #[derive(Clone, Copy)]

@@ -1,6 +1,6 @@
 //! The free items of a path by their reduced weights, and the selection of those of the greatest weights.
 
-use crate::steps_lines::Line;
+use crate::steps::constraints::Line;
 use std::alloc::{AllocError, Global};
 
 /// What a free item adds to a line.

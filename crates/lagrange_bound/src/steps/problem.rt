@@ -1,11 +1,11 @@
 //! A problem on a path as flat arrays: its free items, and lines for its rows and stimuli.
 
 use crate::cut::Cut;
-use crate::steps_items::{Selection, reweigh};
-use crate::steps_lines::{Kind, Line, Multiplier};
-use crate::steps_measures::{
+use crate::steps::coefficients::{
     Bounds, Measure, Taken, bounds_of, coefficient, gain_of, stimulus_of, sum_over,
 };
+use crate::steps::constraints::{Kind, Line, Multiplier};
+use crate::steps::selection::{Selection, reweigh};
 use bank_tables::{Bank, ItemSet};
 use constraint_model::{Problem, Row, StimulusBound};
 use proof_tree::{Memory, Vector};
