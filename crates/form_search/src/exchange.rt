@@ -12,7 +12,7 @@ pub struct Swap {
 }
 
 /// The set after a swap.
-pub fn swapped(items: &ItemSet, swap: Swap) -> ItemSet {
+pub fn after_swap(items: &ItemSet, swap: Swap) -> ItemSet {
     if swap.leaves < 512 && swap.comes < 512 {
         items.without(swap.leaves).with(swap.comes)
     } else {
@@ -63,11 +63,11 @@ fn best_exchange(table: &Table, items: &ItemSet) -> Option<Swap> {
 }
 
 /// A form with exchanges made, best first, until none betters it.
-pub fn exchanged(table: &Table, form: &ItemSet) -> ItemSet {
+pub fn best_exchanges(table: &Table, form: &ItemSet) -> ItemSet {
     let mut items = *form;
     for _ in 0..512 {
         match best_exchange(table, &items) {
-            Some(swap) => items = swapped(&items, swap),
+            Some(swap) => items = after_swap(&items, swap),
             None => break,
         }
     }

@@ -3,10 +3,10 @@
 ghost use Rattle.exam_model.specs.Validity.{IsWellMade};
 ghost use Rattle.constraint_model.specs.Views.{problem_of};
 
-use crate::exchange::exchanged;
+use crate::exchange::best_exchanges;
 use crate::table::Table;
 use bank_tables::ItemSet;
-use constraint_model::{Problem, meets, objective};
+use constraint_model::{Problem, is_form, objective};
 
 /// The best form known, with its objective.
 #[derive(Debug, Drop)]
@@ -43,7 +43,7 @@ impl Incumbent {
         if self.form.is_some() && found <= self.objective {
             return false;
         }
-        if meets(problem, items).is_some() {
+        if !is_form(problem, items) {
             return false;
         }
         self.form = Some(*items);
@@ -56,7 +56,7 @@ impl Incumbent {
         requires { IsWellMade (problem_of problem.now) }
     {
         if self.take(problem, items) {
-            let firm = exchanged(table, items);
+            let firm = best_exchanges(table, items);
             let _ = self.take(problem, &firm);
         }
     }

@@ -229,7 +229,7 @@ impl Pass {
     }
 
     /// The node at a path that no vector of the pool closes, after steps there.
-    fn explored(
+    fn node_after_steps(
         &mut self,
         alloc: Global,
         problem: &Problem,
@@ -277,7 +277,7 @@ impl Pass {
             let again = at_root.again(alloc)?;
             return self.branch_or_open(alloc, problem, table, incumbent, place, again);
         }
-        self.explored(alloc, problem, table, incumbent, place)
+        self.node_after_steps(alloc, problem, table, incumbent, place)
     }
 
     /// The node at a path: the leaf of the lowest row that is impossible by counting, where there is one.

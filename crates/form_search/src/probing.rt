@@ -94,7 +94,7 @@ fn score_of(gain: i64, other: i64) -> i64 {
 }
 
 /// A branch, tried by steps on both sides; None where it is found to be no better than a score.
-fn probed(
+fn probe_of(
     alloc: Global,
     problem: &Problem,
     table: &Table,
@@ -154,7 +154,7 @@ pub fn best_probed(
             break;
         }
         let node = choice.node;
-        if let Some(probe) = probed(
+        if let Some(probe) = probe_of(
             alloc, problem, table, pool, incumbent, cut, node, stepped, aim, least,
         )? {
             least = probe.score;

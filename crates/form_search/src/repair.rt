@@ -1,6 +1,6 @@
 //! Forms near to the items of the greatest weight.
 
-use crate::exchange::{Swap, swapped};
+use crate::exchange::{Swap, after_swap};
 use crate::table::Table;
 use crate::tally::Tally;
 use crate::weights::weights_of;
@@ -109,7 +109,7 @@ fn lowering(table: &Table, weights: &[i64], items: &ItemSet) -> Option<Found> {
 
 /// The set begun, filled with items of the greatest weight, and with swaps that lower how far it is from the bounds:
 /// perhaps a form.
-pub fn repaired(
+pub fn nearby_form(
     alloc: Global,
     table: &Table,
     vector: &Vector,
@@ -119,7 +119,7 @@ pub fn repaired(
     let mut items = filled(table, weights.as_slice(), begun);
     for _ in 0..MOST_SWAPS {
         match lowering(table, weights.as_slice(), &items) {
-            Some(found) => items = swapped(&items, found.swap),
+            Some(found) => items = after_swap(&items, found.swap),
             None => break,
         }
     }

@@ -6,7 +6,7 @@ ghost use Rattle.constraint_model.specs.Views.{problem_of};
 use crate::incumbent::Incumbent;
 use crate::pool::{copied, empty_vector, wanted};
 use crate::priced::Priced;
-use crate::repair::repaired;
+use crate::repair::nearby_form;
 use crate::steps::{Stepped, take_form};
 use crate::table::Table;
 use constraint_model::Problem;
@@ -73,7 +73,7 @@ pub fn steps_at_root(
         let gained = stepped.bound.saturating_sub(ascent.bound);
         stepped = Stepped::of(ascent);
         if incumbent.form.is_none() {
-            let items = repaired(alloc, table, &stepped.vector, &problem.given)?;
+            let items = nearby_form(alloc, table, &stepped.vector, &problem.given)?;
             incumbent.offer(problem, table, &items);
         }
         if gained < LEAST_GAIN || stepped.bound <= incumbent.top() {

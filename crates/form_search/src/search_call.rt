@@ -9,18 +9,18 @@ ghost use Rattle.constraint_model.specs.Views.{problem_of};
 use crate::incumbent::Incumbent;
 use crate::pass::{Limits, Pass};
 use crate::pool::empty_vector;
-use crate::repair::repaired;
+use crate::repair::nearby_form;
 use crate::root::steps_at_root;
 use crate::steps::Stepped;
 use crate::table::Table;
 use bank_tables::{ItemSet, List};
-use constraint_model::{Problem, meets};
+use constraint_model::{Problem, is_form};
 use exam_model::Node;
 use lagrange_bound::Cut;
 use proof_tree::{Memory, Tree};
 use std::alloc::Global;
 
-/// Vectors of a tree, at most.
+/// Vectors of a tree, at most. A proof tree may have more; the search makes do with these.
 const MOST_VECTORS: usize = 32;
 
 /// The part of the root's gap that the steps of the last pass aim below what closes.
@@ -59,7 +59,7 @@ fn known(
         incumbent.offer(problem, table, items);
         if incumbent.form.is_none() {
             let begun = items.minus(problem.barred).union(problem.given);
-            let near = repaired(alloc, table, &empty_vector(alloc), &begun)?;
+            let near = nearby_form(alloc, table, &empty_vector(alloc), &begun)?;
             incumbent.offer(problem, table, &near);
         }
     }
@@ -127,14 +127,15 @@ fn passes(
 }
 
 /// The form, tested once more.
-fn tested(problem: &Problem, form: &Option<ItemSet>) -> Option<ItemSet>
+fn form_or_none(problem: &Problem, form: &Option<ItemSet>) -> Option<ItemSet>
     requires { IsWellMade (problem_of problem.now) }
     ensures { IfSome result (λ x. Form (problem_of problem.now) (has x)) }
 {
     let items = form.as_ref()?;
-    match meets(problem, items) {
-        None => Some(*items),
-        Some(_) => None,
+    if is_form(problem, items) {
+        Some(*items)
+    } else {
+        None
     }
 }
 
@@ -155,7 +156,7 @@ pub fn search(
     let root = steps_at_root(alloc, problem, &table, &mut incumbent, &Cut::root(problem))?;
     let tree = passes(alloc, problem, &table, &mut incumbent, &root, budget)?;
     Ok(Searched {
-        form: tested(problem, &incumbent.form),
+        form: form_or_none(problem, &incumbent.form),
         tree,
     })
 }
