@@ -22,8 +22,7 @@ use Rattle.lagrange_bound.specs.Bounds.{IsBound}
 use Rattle.exam_model.specs.Validity.{IsWellMade}
 use Rattle.exam_model.specs.Verdicts.{IsStimulusBranch, only_candidate, CandidateIsSettled, ClosesByBound, IsFormOrNone, below}
 use Rattle.exam_model.specs.Spending.{IsBranch, ExceedsStart}
-use Rattle.exam_model.proofs.SumLaws.{either, any_elim, any_intro, or_right, or_true}
-use Rattle.certificate_check.proofs.MaximumLaws.{below_greatest}
+use Rattle.exam_model.proofs.SumLaws.{at_most_greatest, either, any_elim, any_intro, or_right, or_true}
 use Rattle.branch_bound.specs.Comparing.{IsAsGood}
 use Rattle.branch_bound.specs.Searches.{Suits, ExceedsForm, Ends, GoesOn, IsBranchOn, side_of}
 use Rattle.branch_bound.proofs.Comparisons.{as_good-refl}
@@ -70,7 +69,7 @@ open_is_branch P p s e =
     let uses = and_parts (nat_lt 0 s) _ (and_parts (not (is_chosen P p s)) _ e).1 in
     let (i, within, at) = any_elim (size P.bank) (λ i. is_free P p i && stimulus P.bank i == s) uses.1 in
     let same : stimulus P.bank i ≡ s = eqb-true _ _ (and_parts (is_free P p i) _ at).1 in
-    record { first = ltb-true 0 s uses.0; last = omega (arith, below_greatest (size P.bank) i (stimulus P.bank) within); is_open = e }
+    record { first = ltb-true 0 s uses.0; last = omega (arith, at_most_greatest (size P.bank) (stimulus P.bank) i within); is_open = e }
 
 pub few_stimuli : (P : Problem) → IsBank P.bank → stimuli_of P.bank ≤ 64
 few_stimuli P bank = greatest_at_most (size P.bank) 64 (stimulus P.bank) bank.stimulus_high

@@ -1,4 +1,4 @@
--- The steps of the plain search at one path.
+-- The steps of the fallback search at one path.
 use Rattle.std.proofs.Common.{◌≡◌, ℕ, ◌+◌, inr, true, false, List, [], ◌∷◌, ◌++◌, sym, ap, ◌∙◌, subst, arith, append_assoc, Option}
 use Rattle.bank_tables.specs.Items.{Set}
 use Rattle.bank_tables.specs.Validity.{IsBank, HoldsItems}

@@ -33,9 +33,13 @@ module _ (P : Problem) (B C : Option Set) (k m : ℕ) (nodes : List Node) (searc
   is_tree few =
       record {
         shape = record {
-          few_vectors = omega arith;
-          vectors = λ v within. rw (one_vector v within) tt;
-          sides = λ v within. rw (one_vector v within) (All-nil _);
+          vectors = record {
+            few = omega arith;
+            ascending = λ v within. rw (one_vector v within) tt;
+            low_sides = λ v within. rw (one_vector v within) (All-nil _);
+            short = λ v within. rw (one_vector v within) (omega arith);
+            few_pairs = omega arith;
+          };
           few_nodes = few;
           one_tree = all_trees P C nodes (root P ∷ []) suit;
         };

@@ -1,4 +1,4 @@
--- What the plain search did on a path: nodes in preorder, and the best form known.
+-- What the fallback search did on a path: nodes in preorder, and the best form known.
 use Rattle.std.specs.Prelude.{◌≡◌, ℕ, ◌+◌, ◌*◌, ◌⊎◌, List, [], ◌∷◌, ◌++◌, length, IsTrue, Bool, Option, Some, None}
 use Rattle.bank_tables.specs.Items.{Set}
 use Rattle.exam_model.specs.declared.node.Node.{Node}

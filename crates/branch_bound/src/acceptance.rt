@@ -54,9 +54,10 @@ fn shown_without(problem: &Problem, tree: &Tree, budget: u16) -> Option<Outcome>
     }
 }
 
-/// The outcome of what a search says, a form or none and a tree, where it passes every test: by the separate checker the
-/// tree shows it, it is no worse than the start and the hint, and no path goes on past a row that is impossible by counting.
-pub fn accepted(
+/// The outcome that the form or none and the tree of a search show, where they pass every test: the verdict of the separate
+/// checker on the tree gives it, the form is no worse than the start and the hint, and no path goes on past a row that is
+/// impossible by counting.
+pub fn outcome_shown(
     problem: &Problem,
     hint: &Option<ItemSet>,
     budget: u16,
@@ -64,7 +65,8 @@ pub fn accepted(
     tree: &Tree,
 ) -> Option<Outcome>
     requires { IsWellMade (problem_of problem.now) }
-    ensures { IfSome result (IsAssembly (problem_of problem.now) (option_map has hint.now) budget tree.now) }
+    ensures { IfSome result (IsAssembly (problem_of problem.now)
+        (option_map has hint.now) budget tree.now) }
 {
     if !is_as_good(problem, &problem.start, &form) || !is_as_good(problem, hint, &form) {
         return None;

@@ -9,8 +9,8 @@ ghost use Rattle.constraint_model.specs.Views.{problem_of};
 ghost use Rattle.branch_bound.specs.Assembled.{KeepsPromise};
 ghost use Rattle.branch_bound.specs.Assemblies.{IsAssembly, IsTrueOutcome, IsDecided};
 
-use crate::acceptance::accepted;
-use crate::depth_first::search_plainly;
+use crate::acceptance::outcome_shown;
+use crate::fallback::search_fallback;
 use crate::outcome::Outcome;
 use bank_tables::ItemSet;
 use constraint_model::Problem;
@@ -19,16 +19,18 @@ use proof_tree::{Memory, Tree};
 use std::alloc::Global;
 use std::marker::Model;
 
-/// An outcome, with the problem, the node budget and the tree that shows it: by its type, and so of every value, the tree
-/// shows the outcome by the rules that the separate checker tests; a form is no worse than the start and firm; and no path
-/// of the tree goes on past a row that is impossible by counting.
+/// An outcome, with the problem, the hint, the node budget and the tree that shows it. By its type, and so of every value: the
+/// tree shows the outcome by the rules that the separate checker tests; a form is firm, and no worse than the start and the
+/// hint where these are forms, and without a form neither is one; and no path of the tree goes on past a row that is
+/// impossible by counting.
 #[derive(Debug, Drop)]
 pub struct Assembled<'a> {
     problem: Problem<'a>,
+    hint: Option<ItemSet>,
     tree: Tree,
     budget: u16,
     outcome: Outcome,
-    plainly: bool,
+    used_fallback: bool,
 }
 
 impl<'a> Model for Assembled<'a> {
@@ -36,9 +38,23 @@ impl<'a> Model for Assembled<'a> {
 
     ghost Value = { Assembly };
 
-    ghost view = { λ a. record { problem = a.problem; tree = a.tree; budget = a.budget; outcome = a.outcome; plainly = a.plainly } };
+    ghost view = { λ a. record {
+      problem = a.problem;
+      hint = a.hint;
+      tree = a.tree;
+      budget = a.budget;
+      outcome = a.outcome;
+      used_fallback = a.used_fallback;
+    } };
 
-    ghost invariant = { λ a. KeepsPromise (record { problem = a.problem; tree = a.tree; budget = a.budget; outcome = a.outcome; plainly = a.plainly }) };
+    ghost invariant = { λ a. KeepsPromise (record {
+      problem = a.problem;
+      hint = a.hint;
+      tree = a.tree;
+      budget = a.budget;
+      outcome = a.outcome;
+      used_fallback = a.used_fallback;
+    }) };
 }
 
 impl<'a> Assembled<'a> {
@@ -65,50 +81,51 @@ impl<'a> Assembled<'a> {
         self.outcome
     }
 
-    /// Whether the plain search made the tree, since what the search proper gave failed a test: it is written so that it
-    /// never does, and a benchmark counts how often it did.
-    pub fn searched_plainly(&self) -> bool
-        ensures { result ≡ self.now.plainly }
+    /// Whether the fallback search made the tree, since what the search gave failed a test. The search is written so that this
+    /// never happens, and a benchmark counts how often it did.
+    pub fn used_fallback(&self) -> bool
+        ensures { result ≡ self.now.used_fallback }
     {
-        self.plainly
+        self.used_fallback
     }
 }
 
-/// A tree, the outcome that it shows, and whether the plain search made it.
+/// A tree, the outcome that it shows, and whether the fallback search made it.
 #[derive(Debug, Drop)]
 struct Made {
     tree: Tree,
     outcome: Outcome,
-    plainly: bool,
+    used_fallback: bool,
 }
 
-/// Searches, and where what the search gave fails a test searches plainly.
+/// Searches, and where what the search gave fails a test falls back.
 fn make(
     alloc: Global,
     problem: &Problem,
-    hint: Option<&ItemSet>,
+    hint: &Option<ItemSet>,
     budget: u16,
 ) -> Result<Made, Memory>
     requires well_made { IsWellMade (problem_of problem.now) }
     requires budget { IsBudget budget }
-    ensures { IfOk result (λ made. IsAssembly (problem_of problem.now) (option_map has (option_copied hint.entry)) budget made.tree made.outcome) }
+    ensures { IfOk result (λ made.
+        IsAssembly (problem_of problem.now) (option_map has hint.now) budget made.tree
+        made.outcome) }
 {
-    let known = hint.copied();
-    let Searched { form, tree } = search(alloc, problem, hint, budget)?;
+    let Searched { form, tree } = search(alloc, problem, hint.as_ref(), budget)?;
     if let Some(tree) = tree {
-        if let Some(outcome) = accepted(problem, &known, budget, form, &tree) {
+        if let Some(outcome) = outcome_shown(problem, hint, budget, form, &tree) {
             return Ok(Made {
                 tree,
                 outcome,
-                plainly: false,
+                used_fallback: false,
             });
         }
     }
-    let plain = search_plainly(alloc, problem, &known, budget)?;
+    let fallback = search_fallback(alloc, problem, hint, budget)?;
     Ok(Made {
-        tree: plain.tree,
-        outcome: plain.outcome,
-        plainly: true,
+        tree: fallback.tree,
+        outcome: fallback.outcome,
+        used_fallback: true,
     })
 }
 
@@ -123,42 +140,26 @@ pub fn assemble<'a>(
     requires budget { IsBudget budget }
     ensures problem { IfOk result (λ a. a.problem ≡ problem.entry) }
     ensures budget { IfOk result (λ a. a.budget ≡ budget) }
-    ensures assembly { IfOk result (λ a. IsAssembly (problem_of problem.entry) (option_map has (option_copied hint.entry)) budget a.tree a.outcome) }
+    ensures hint { IfOk result (λ a. a.hint ≡ option_copied hint.entry) }
+    ensures assembly { IfOk result (λ a.
+        IsAssembly (problem_of problem.entry) (option_map has
+        (option_copied hint.entry)) budget a.tree a.outcome) }
     ensures is_true { IfOk result (λ a. IsTrueOutcome (problem_of problem.entry) a.outcome) }
-    ensures decided { IfOk result (λ a. 2 ^ (undecided (problem_of problem.entry) (root (problem_of problem.entry)) + 1) ≤ budget + 1 → IsDecided a.outcome) }
+    ensures decided { IfOk result (λ a.
+        2 ^ (undecided (problem_of problem.entry) (root
+        (problem_of problem.entry)) + 1) ≤ budget + 1 → IsDecided a.outcome) }
 {
-    // A problem is taken apart and made again, since no proof is generated where a parameter that holds references is moved
-    // as a whole.
-    let Problem {
-        bank,
-        spec,
-        session,
-        step,
-        aside,
-        given,
-        barred,
-        theta,
-        last,
-        start,
-    } = problem;
-    let asked = Problem {
-        bank,
-        spec,
-        session,
-        step,
-        aside,
-        given,
-        barred,
-        theta,
-        last,
-        start,
-    };
-    let made = make(alloc, &asked, hint, budget)?;
+    // The parts are moved one by one: no proof is generated where a parameter that holds references
+    // is moved as a whole.
+    let asked = Problem { ..problem };
+    let known = hint.copied();
+    let made = make(alloc, &asked, &known, budget)?;
     Ok(Assembled {
         problem: asked,
+        hint: known,
         tree: made.tree,
         budget,
         outcome: made.outcome,
-        plainly: made.plainly,
+        used_fallback: made.used_fallback,
     })
 }

@@ -15,7 +15,8 @@ use lagrange_bound::Cut;
 /// Whether a node is a branch on a free item or an open stimulus.
 pub fn is_branch_on(problem: &Problem, cut: &Cut, node: &Node) -> bool
     requires { IsWellMade (problem_of problem.now) }
-    ensures { (p : Path) → IsCutOf (problem_of problem.now) p cut.now → IsTrue result ↔ IsBranchOn (problem_of problem.now) p node.now }
+    ensures { (p : Path) → IsCutOf (problem_of problem.now) p cut.now →
+        IsTrue result ↔ IsBranchOn (problem_of problem.now) p node.now }
 {
     match node {
         Node::BranchItem(item) => cut.free.has(*item),
@@ -28,9 +29,12 @@ pub fn is_branch_on(problem: &Problem, cut: &Cut, node: &Node) -> bool
 pub fn side(problem: &Problem, cut: &Cut, branch: &Node, with: bool) -> Cut
     requires well_made { IsWellMade (problem_of problem.now) }
     requires cut { IsCut (problem_of problem.now) cut.now }
-    requires branch { (p : Path) → IsCutOf (problem_of problem.now) p cut.now → IsBranchOn (problem_of problem.now) p branch.now }
+    requires branch { (p : Path) → IsCutOf (problem_of problem.now) p cut.now →
+        IsBranchOn (problem_of problem.now) p branch.now }
     ensures cut { IsCut (problem_of problem.now) result }
-    ensures paths { (p : Path) → IsCutOf (problem_of problem.now) p cut.now → IsCutOf (problem_of problem.now) (side_of (problem_of problem.now) p branch.now with) result }
+    ensures paths { (p : Path) → IsCutOf (problem_of problem.now) p cut.now →
+        IsCutOf (problem_of problem.now) (side_of
+        (problem_of problem.now) p branch.now with) result }
 {
     match branch {
         Node::BranchItem(item) => cut.with_item(problem, *item, with),
@@ -43,8 +47,10 @@ pub fn side(problem: &Problem, cut: &Cut, branch: &Node, with: bool) -> Cut
 pub fn branching(problem: &Problem, cut: &Cut) -> Node
     requires well_made { IsWellMade (problem_of problem.now) }
     requires cut { IsCut (problem_of problem.now) cut.now }
-    requires several { (p : Path) → IsCutOf (problem_of problem.now) p cut.now → only_candidate (problem_of problem.now) p ≡ None }
-    ensures { (p : Path) → IsCutOf (problem_of problem.now) p cut.now → IsBranchOn (problem_of problem.now) p result }
+    requires several { (p : Path) → IsCutOf (problem_of problem.now) p cut.now →
+        only_candidate (problem_of problem.now) p ≡ None }
+    ensures { (p : Path) → IsCutOf (problem_of problem.now) p cut.now →
+        IsBranchOn (problem_of problem.now) p result }
 {
     if let Some(stimulus) = cut.opened.first() {
         return Node::BranchStimulus(stimulus as u8);

@@ -8,14 +8,14 @@ ghost use Rattle.exam_model.specs.Verdicts.{IsFormOrNone};
 ghost use Rattle.constraint_model.specs.Views.{problem_of};
 ghost use Rattle.branch_bound.specs.Comparing.{IsAsGood};
 
-use crate::forms::is_form;
 use bank_tables::ItemSet;
-use constraint_model::{Problem, objective};
+use constraint_model::{Problem, is_form, objective};
 
 /// Whether a set that was given is there and a form only where a form is there and no worse.
 pub fn is_as_good(problem: &Problem, given: &Option<ItemSet>, form: &Option<ItemSet>) -> bool
     requires { IsWellMade (problem_of problem.now) }
-    ensures { IsTrue result ↔ IsAsGood (problem_of problem.now) (option_map has given.now) (option_map has form.now) }
+    ensures { IsTrue result ↔
+        IsAsGood (problem_of problem.now) (option_map has given.now) (option_map has form.now) }
 {
     match given {
         Some(set) => match form {
@@ -59,8 +59,10 @@ pub fn better_form(
 ) -> Option<ItemSet>
     requires { IsWellMade (problem_of problem.now) }
     ensures form { IsFormOrNone (problem_of problem.now) (option_map has result) }
-    ensures first { IsAsGood (problem_of problem.now) (option_map has first) (option_map has result) }
-    ensures second { IsAsGood (problem_of problem.now) (option_map has second) (option_map has result) }
+    ensures first { IsAsGood (problem_of problem.now) (option_map has first)
+        (option_map has result) }
+    ensures second { IsAsGood (problem_of problem.now) (option_map has second)
+        (option_map has result) }
 {
     let kept = match first {
         Some(set) => better(problem, None, set),

@@ -8,9 +8,8 @@ ghost use Rattle.exam_model.specs.Validity.{IsWellMade};
 ghost use Rattle.constraint_model.specs.Views.{problem_of};
 ghost use Rattle.branch_bound.specs.Exchanges.{exchange, IsExchange, IsBettering};
 
-use crate::forms::is_form;
 use bank_tables::ItemSet;
-use constraint_model::Problem;
+use constraint_model::{Problem, is_form};
 
 /// The form with one item in and another out.
 fn exchange(form: &ItemSet, out: u16, item: u16) -> ItemSet
@@ -22,7 +21,7 @@ fn exchange(form: &ItemSet, out: u16, item: u16) -> ItemSet
 }
 
 /// A better form that has one item in for the item out; none where no such exchange betters the form.
-fn exchanged(problem: &Problem, form: &ItemSet, out: u16) -> Option<ItemSet>
+fn exchange_of(problem: &Problem, form: &ItemSet, out: u16) -> Option<ItemSet>
     requires well_made { IsWellMade (problem_of problem.now) }
     requires form { Form (problem_of problem.now) (has form.now) }
     requires out { IsTrue (has form.now out) }
@@ -42,14 +41,14 @@ fn exchanged(problem: &Problem, form: &ItemSet, out: u16) -> Option<ItemSet>
 }
 
 /// A better form by an exchange of one item; none where the form is firm.
-fn bettered(problem: &Problem, form: &ItemSet) -> Option<ItemSet>
+fn better_exchange(problem: &Problem, form: &ItemSet) -> Option<ItemSet>
     requires well_made { IsWellMade (problem_of problem.now) }
     requires form { Form (problem_of problem.now) (has form.now) }
     ensures { IsBettering (problem_of problem.now) (has form.now) (option_map has result) }
 {
     for out in 0..problem.bank.items() {
         if form.has(out) {
-            if let Some(better) = exchanged(problem, form, out) {
+            if let Some(better) = exchange_of(problem, form, out) {
                 return Some(better);
             }
         }
@@ -62,10 +61,11 @@ pub fn firm(problem: &Problem, form: ItemSet) -> ItemSet
     requires well_made { IsWellMade (problem_of problem.now) }
     requires form { Form (problem_of problem.now) (has form) }
     ensures firm { Firm (problem_of problem.now) (has result) }
-    ensures no_worse { objective (problem_of problem.now) (has form) ≤ objective (problem_of problem.now) (has result) }
+    ensures no_worse { objective (problem_of problem.now) (has form) ≤ objective
+        (problem_of problem.now) (has result) }
 {
     let mut best = form;
-    while let Some(better) = bettered(problem, &best) {
+    while let Some(better) = better_exchange(problem, &best) {
         best = better;
     }
     best

@@ -46,7 +46,8 @@ fn pruned_to(problem: &Problem, tree: &Tree, at: u16, cut: &Cut) -> Option<u16>
     requires well_made { IsWellMade (problem_of problem.now) }
     requires cut { IsCut (problem_of problem.now) cut.now }
     requires tree { (wait : ℕ) × AreTrees (suc wait) (drop at tree.now.nodes) }
-    ensures { (p : Path) → IsCutOf (problem_of problem.now) p cut.now → IsPruning (problem_of problem.now) tree.now at p result }
+    ensures { (p : Path) → IsCutOf (problem_of problem.now) p cut.now →
+        IsPruning (problem_of problem.now) tree.now at p result }
 {
     let node = tree.nodes()[at as usize];
     if !is_count_of(impossible(problem, cut), &node) {

@@ -5,7 +5,7 @@ use Rattle.exam_model.specs.Relaxed.{Multipliers, IsRelaxedMaximum}
 use Rattle.constraint_model.specs.Views.{problem_of}
 use Rattle.lagrange_bound.specs.Bounds.{IsBound}
 use Rattle.branch_bound.proofs.LeafLaws.{bound_there}
-use Rattle.branch_bound.proofs.depth_first.plain_bound.Goals as goal
+use Rattle.branch_bound.proofs.fallback.plain_bound.Goals as goal
 
 pub unwrap-requires : goal.unwrap-requires
 unwrap-requires c =

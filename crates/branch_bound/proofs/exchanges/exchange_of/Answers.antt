@@ -7,8 +7,8 @@ use Rattle.exam_model.specs.Forms.{Form}
 use Rattle.constraint_model.specs.Views.{problem_of}
 use Rattle.branch_bound.specs.Exchanges.{exchange}
 use Rattle.branch_bound.proofs.ExchangeLaws.{no_better, exchange_is_better}
-use Rattle.branch_bound.proofs.exchanges.exchanged.Goals as goal
-use Rattle.branch_bound.proofs.exchanges.exchanged.Goals.{then-not-has+then-info-worth+else-is_form, else-not-has, else-not-has-via-then-not-has+else-info-worth, else-not-has-via-else-not-has}
+use Rattle.branch_bound.proofs.exchanges.exchange_of.Goals as goal
+use Rattle.branch_bound.proofs.exchanges.exchange_of.Goals.{then-not-has+then-info-worth+else-is_form, else-not-has, else-not-has-via-then-not-has+else-info-worth, else-not-has-via-else-not-has}
 
 pub returns-then-is_form : goal.returns-then-is_form
 returns-then-is_form c =

@@ -2,7 +2,7 @@ use Rattle.std.proofs.Common.{arith}
 use Rattle.bank_tables.specs.Items.{has}
 use Rattle.constraint_model.specs.Views.{problem_of}
 use Rattle.branch_bound.proofs.ExchangeLaws.{firm_where}
-use Rattle.branch_bound.proofs.exchanges.bettered.Goals as goal
+use Rattle.branch_bound.proofs.exchanges.better_exchange.Goals as goal
 
 pub returns : goal.returns
 returns c =

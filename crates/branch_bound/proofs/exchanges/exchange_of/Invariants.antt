@@ -4,7 +4,7 @@ use Rattle.bank_tables.specs.Tables.{info}
 use Rattle.exam_model.specs.Forms.{Form}
 use Rattle.constraint_model.specs.Views.{problem_of}
 use Rattle.branch_bound.specs.Exchanges.{exchange}
-use Rattle.branch_bound.proofs.exchanges.exchanged.Given as goal
+use Rattle.branch_bound.proofs.exchanges.exchange_of.Given as goal
 
 -- no exchange for an earlier item of more information is a form
 abbrev pub invariant-loop-i : goal.invariant-loop-i

@@ -17,7 +17,7 @@ use Rattle.branch_bound.specs.Comparing.{IsAsGood}
 use Rattle.branch_bound.specs.Searches.{plain_tree, Adds}
 use Rattle.branch_bound.specs.Showing.{Shows}
 use Rattle.branch_bound.proofs.WholeSearch.{is_tree, is_assembly, number}
-use Rattle.branch_bound.proofs.depth_first.search_plainly.Goals as goal
+use Rattle.branch_bound.proofs.fallback.search_fallback.Goals as goal
 
 -- a list that was empty before the search is what the search added
 module _ (P : Problem) (B C : Option Set) (k m : _) (before after : List Node) (empty : before ≡ []) (adds : Adds P (root P) B k before C m after) where

@@ -1,4 +1,4 @@
-use Rattle.branch_bound.proofs.depth_first.+search.Given as goal
+use Rattle.branch_bound.proofs.fallback.+search.Given as goal
 
 -- the branches that the budget leaves
 abbrev pub decreases-search : goal.decreases-search

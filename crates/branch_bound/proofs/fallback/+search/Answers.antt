@@ -7,7 +7,7 @@ use Rattle.branch_bound.specs.Searches.{side_of}
 use Rattle.branch_bound.proofs.Comparisons.{as_good-trans}
 use Rattle.branch_bound.proofs.SearchLaws.{leaf_search}
 use Rattle.branch_bound.proofs.SearchSteps.{form_stays, start_stays, open_search, branch_adds, side_taken}
-use Rattle.branch_bound.proofs.depth_first.+search.Goals as goal
+use Rattle.branch_bound.proofs.fallback.+search.Goals as goal
 
 pub returns-in-Some : goal.returns-in-Some
 returns-in-Some t c = λ p is.

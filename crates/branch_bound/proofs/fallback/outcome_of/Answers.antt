@@ -10,7 +10,7 @@ use Rattle.constraint_model.specs.Views.{problem_of}
 use Rattle.branch_bound.specs.declared.outcome.Outcome.TheVariants.{Found}
 use Rattle.branch_bound.specs.Showing.{Shows}
 use Rattle.branch_bound.proofs.OutcomeLaws.{best_shown, firm_shown, verdict_of_some}
-use Rattle.branch_bound.proofs.depth_first.outcome_of.Goals as goal
+use Rattle.branch_bound.proofs.fallback.outcome_of.Goals as goal
 
 none_open : (k : ℕ) → (0 < k → ⊥) → k ≡ 0
 none_open zero h = sym (omega arith)

@@ -1,4 +1,5 @@
-//! The plain search: depth first, with counting, the plain bound and nothing else.
+//! The fallback search: depth first, with counting, the plain bound and nothing else. It answers where what the search gave
+//! fails a test.
 
 ghost use Rattle.std.specs.Prelude.{◌≡◌, ℕ, ◌+◌, ◌*◌, ◌<◌, ◌↔◌, IsTrue, IsFalse, OnOk, IfOk, [], None, pos, false};
 ghost use Rattle.std.specs.Option.{option_map};
@@ -42,7 +43,8 @@ struct SearchState {
 fn only_candidate(problem: &Problem, cut: &Cut) -> Option<ItemSet>
     requires well_made { IsWellMade (problem_of problem.now) }
     requires taken { HoldsItems (problem_of problem.now).bank (has cut.now.taken) }
-    ensures { (p : Path) → IsCutOf (problem_of problem.now) p cut.now → option_map has result ≡ only_candidate (problem_of problem.now) p }
+    ensures { (p : Path) → IsCutOf (problem_of problem.now) p cut.now →
+        option_map has result ≡ only_candidate (problem_of problem.now) p }
 {
     let Some(_lowest) = cut.free.first() else {
         return Some(cut.taken);
@@ -71,9 +73,11 @@ fn closing_value(problem: &Problem, form: &ItemSet) -> i64
 fn plain_bound(problem: &Problem, plain: &Vector, cut: &Cut) -> i64
     requires well_made { IsWellMade (problem_of problem.now) }
     requires cut { IsCut (problem_of problem.now) cut.now }
-    requires possible { (p : Path) → IsCutOf (problem_of problem.now) p cut.now → IsFalse (length_impossible (problem_of problem.now) p) }
+    requires possible { (p : Path) → IsCutOf (problem_of problem.now) p cut.now →
+        IsFalse (length_impossible (problem_of problem.now) p) }
     requires plain { plain.now ≡ [] }
-    ensures { (p : Path) → IsCutOf (problem_of problem.now) p cut.now → IsRelaxedMaximum (problem_of problem.now) p [] false result }
+    ensures { (p : Path) → IsCutOf (problem_of problem.now) p cut.now →
+        IsRelaxedMaximum (problem_of problem.now) p [] false result }
 {
     bound(problem, cut, plain, false).unwrap()
 }
@@ -82,10 +86,13 @@ fn plain_bound(problem: &Problem, plain: &Vector, cut: &Cut) -> i64
 fn closes(problem: &Problem, plain: &Vector, cut: &Cut, best: &Option<ItemSet>) -> bool
     requires well_made { IsWellMade (problem_of problem.now) }
     requires cut { IsCut (problem_of problem.now) cut.now }
-    requires possible { (p : Path) → IsCutOf (problem_of problem.now) p cut.now → IsFalse (length_impossible (problem_of problem.now) p) }
+    requires possible { (p : Path) → IsCutOf (problem_of problem.now) p cut.now →
+        IsFalse (length_impossible (problem_of problem.now) p) }
     requires plain { plain.now ≡ [] }
-    ensures closed { (p : Path) → IsCutOf (problem_of problem.now) p cut.now → IsTrue result → ClosesByBound (problem_of problem.now) (option_map has best.now) p [] }
-    ensures not_closed { (p : Path) → IsCutOf (problem_of problem.now) p cut.now → IsFalse result → ExceedsForm (problem_of problem.now) p (option_map has best.now) }
+    ensures closed { (p : Path) → IsCutOf (problem_of problem.now) p cut.now → IsTrue result →
+        ClosesByBound (problem_of problem.now) (option_map has best.now) p [] }
+    ensures not_closed { (p : Path) → IsCutOf (problem_of problem.now) p cut.now →
+        IsFalse result → ExceedsForm (problem_of problem.now) p (option_map has best.now) }
 {
     match best {
         Some(form) => plain_bound(problem, plain, cut) <= closing_value(problem, form),
@@ -100,8 +107,11 @@ fn leaf(problem: &Problem, plain: &Vector, cut: &Cut, best: &mut Option<ItemSet>
     requires taken { HoldsItems (problem_of problem.now).bank (has cut.now.taken) }
     requires plain { plain.now ≡ [] }
     requires form { IsFormOrNone (problem_of problem.now) (option_map has best.old) }
-    requires start { IsAsGood (problem_of problem.now) (problem_of problem.now).start (option_map has best.old) }
-    ensures { (p : Path) → IsCutOf (problem_of problem.now) p cut.now → IsLeafOrNone (problem_of problem.now) p (option_map has best.old) (option_map has best.new) result }
+    requires start { IsAsGood (problem_of problem.now) (problem_of problem.now).start
+        (option_map has best.old) }
+    ensures { (p : Path) → IsCutOf (problem_of problem.now) p cut.now →
+        IsLeafOrNone (problem_of problem.now) p (option_map has best.old)
+        (option_map has best.new) result }
 {
     if let Some(row) = impossible(problem, cut) {
         return Some(Node::Count(row));
@@ -129,8 +139,12 @@ fn search(
     requires taken { HoldsItems (problem_of problem.now).bank (has cut.now.taken) }
     requires plain { plain.now ≡ [] }
     requires form { IsFormOrNone (problem_of problem.now) (option_map has state.old.best) }
-    requires start { IsAsGood (problem_of problem.now) (problem_of problem.now).start (option_map has state.old.best) }
-    ensures { OnOk result ((p : Path) → IsCutOf (problem_of problem.now) p cut.now → Adds (problem_of problem.now) p (option_map has state.old.best) state.old.branches state.old.nodes.items (option_map has state.new.best) state.new.branches state.new.nodes.items) }
+    requires start { IsAsGood (problem_of problem.now) (problem_of problem.now).start
+        (option_map has state.old.best) }
+    ensures { OnOk result ((p : Path) → IsCutOf (problem_of problem.now) p cut.now →
+        Adds (problem_of problem.now) p
+        (option_map has state.old.best) state.old.branches state.old.nodes.items
+        (option_map has state.new.best) state.new.branches state.new.nodes.items) }
 {
     if let Some(end) = leaf(problem, plain, cut, &mut state.best) {
         state.nodes.push(end)?;
@@ -166,7 +180,11 @@ fn has_open_leaf(nodes: &[Node]) -> bool
 fn outcome_of(problem: &Problem, form: Option<ItemSet>, nodes: &[Node]) -> Outcome
     requires well_made { IsWellMade (problem_of problem.now) }
     requires form { IsFormOrNone (problem_of problem.now) (option_map has form) }
-    ensures { (T : ProofTree) (budget : ℕ) → IsVerdict (problem_of problem.now) (option_map has form) T (verdict_of (option_map has form) (open_leaves nodes.now)) → (0 < open_leaves nodes.now → IsSpent (problem_of problem.now) T budget) → Shows (problem_of problem.now) (option_map has form) T budget result }
+    ensures { (T : ProofTree) (budget : ℕ) →
+        IsVerdict (problem_of problem.now) (option_map has form) T (verdict_of
+        (option_map has form) (open_leaves nodes.now)) →
+        (0 < open_leaves nodes.now → IsSpent (problem_of problem.now) T budget) →
+        Shows (problem_of problem.now) (option_map has form) T budget result }
 {
     if has_open_leaf(nodes) {
         match form {
@@ -189,7 +207,7 @@ fn outcome_of(problem: &Problem, form: Option<ItemSet>, nodes: &[Node]) -> Outco
 
 /// A tree and the outcome that it shows.
 #[derive(Debug, Drop)]
-pub struct Searched {
+pub struct Fallback {
     pub tree: Tree,
     pub outcome: Outcome,
 }
@@ -197,15 +215,16 @@ pub struct Searched {
 /// Searches depth first within a budget of nodes: at each node the Count leaf of the lowest impossible row, else a Whole
 /// leaf where one set is left, else a Bound leaf where the plain bound is too low, else a branch, or an Open leaf once the
 /// budget leaves no branch.
-pub fn search_plainly(
+pub fn search_fallback(
     alloc: Global,
     problem: &Problem,
     hint: &Option<ItemSet>,
     budget: u16,
-) -> Result<Searched, Memory>
+) -> Result<Fallback, Memory>
     requires well_made { IsWellMade (problem_of problem.now) }
     requires budget { IsBudget budget }
-    ensures { IfOk result (λ s. IsAssembly (problem_of problem.now) (option_map has hint.now) budget s.tree s.outcome) }
+    ensures { IfOk result (λ s.
+        IsAssembly (problem_of problem.now) (option_map has hint.now) budget s.tree s.outcome) }
 {
     let plain = Vector::new(List::of(Vec::new(alloc)));
     let mut state = SearchState {
@@ -219,5 +238,5 @@ pub fn search_plainly(
     let mut vectors = Vec::new(alloc);
     vectors.push(plain)?;
     let tree = Tree::new(List::of(vectors), List::of(nodes));
-    Ok(Searched { tree, outcome })
+    Ok(Fallback { tree, outcome })
 }

@@ -7,7 +7,7 @@ use Rattle.exam_model.specs.Forms.{objective}
 use Rattle.exam_model.specs.Verdicts.{ClosesByBound}
 use Rattle.constraint_model.specs.Views.{problem_of}
 use Rattle.branch_bound.specs.Searches.{ExceedsForm}
-use Rattle.branch_bound.proofs.depth_first.closes.Goals as goal
+use Rattle.branch_bound.proofs.fallback.closes.Goals as goal
 
 pub returns-in-Some-clause-closed : goal.returns-in-Some-clause-closed
 returns-in-Some-clause-closed c = λ p is closed.

@@ -6,7 +6,7 @@ use Rattle.exam_model.specs.Counting.{taken_or_free}
 use Rattle.exam_model.specs.Paths.{is_free}
 use Rattle.constraint_model.specs.Views.{problem_of}
 use Rattle.branch_bound.proofs.LeafLaws.{none_free, full_of_taken, full_of_all, several_left, candidate_found, counts_as, may_hold_in_bank}
-use Rattle.branch_bound.proofs.depth_first.only_candidate.Goals as goal
+use Rattle.branch_bound.proofs.fallback.only_candidate.Goals as goal
 
 pub returns-in_default : goal.returns-in_default
 returns-in_default c = λ p is.
