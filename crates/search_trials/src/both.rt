@@ -1,68 +1,15 @@
-//! Both searches on two small banks. What is expected was worked out by hand.
+//! The assembler and the enumeration on two small banks. What is expected was worked out by hand.
 
 ghost use Rattle.exam_model.specs.Validity.{IsPlanFor, IsWellMade};
 ghost use Rattle.constraint_model.specs.Views.{problem_of};
 
-use bank_tables::{Bank, ItemRow, ItemSet, List, Rows};
+use bank_tables::{Bank, ItemSet};
 use branch_bound::{Assembled, Outcome, assemble};
-use constraint_model::{Draft, Problem, Rate, Row, Spec, StimulusBound, objective};
-use plain_search::best_form;
-use std::alloc::{AllocError, Global};
+use constraint_model::{Draft, Problem, Row, Spec, StimulusBound, objective};
+use form_enumeration::best_form;
+use std::alloc::Global;
 use std::test::Fail;
-
-fn set_of(items: &[u16]) -> ItemSet {
-    let mut set = ItemSet::empty();
-    for item in items {
-        if *item < 512 {
-            set = set.with(*item);
-        }
-    }
-    set
-}
-
-/// A bank of items without quantities, of two categories: a stimulus, and the information at each grid point.
-fn bank_of(alloc: Global, grid: u32, rows: &[(u32, &[u32])]) -> Result<Bank, Fail> {
-    let mut items = Vec::new(alloc);
-    for (stimulus, info) in rows {
-        items.push(ItemRow {
-            stimulus: *stimulus,
-            categories: 2,
-            quantities: List::of(Vec::new(alloc)),
-            info: List::of(info.to_vec(alloc)?),
-            loglik: List::of(vec![in alloc; -7; 2 * grid as usize]?),
-        })?;
-    }
-    Ok(Bank::of(
-        alloc,
-        Rows {
-            grid,
-            quantities: 0,
-            items: List::of(items),
-        },
-    )?)
-}
-
-/// Tests of three items.
-fn plan(
-    alloc: Global,
-    prior: &[i32],
-    rows: &[Row],
-    bounds: &[StimulusBound],
-) -> Result<Draft, AllocError> {
-    Ok(Draft {
-        length: 3,
-        prior: List::of(prior.to_vec(alloc)?),
-        rows: List::of(rows.to_vec(alloc)?),
-        bounds: List::of(bounds.to_vec(alloc)?),
-        rate: Rate { num: 1, den: 1 },
-        key: [0; 32],
-        budget: 2_001,
-        base_budget: 4_095,
-        sessions: 1_000,
-        journal: 67_108_864,
-        base: None,
-    })
-}
+use trial_cases::{bank_a, draft_a, draft_of, item, rows_of};
 
 /// The objective of the best form among all sets of items.
 fn enumerated(problem: &Problem) -> Result<Option<u64>, Fail>
@@ -96,7 +43,7 @@ fn assembled<'a>(alloc: Global, bank: &'a Bank, spec: &'a Spec) -> Result<Option
     }
 }
 
-/// What both searches find for a bank and a plan, the assembler's first.
+/// What the assembler and the enumeration find for a bank and a plan.
 fn objectives(alloc: Global, bank: Bank, draft: Draft) -> Result<(Option<u64>, Option<u64>), Fail> {
     let spec = Spec::of(alloc, &bank, draft)?;
     let enumerated = enumerated(&Problem::whole(&bank, &spec))?;
@@ -109,40 +56,18 @@ fn objectives(alloc: Global, bank: Bank, draft: Draft) -> Result<(Option<u64>, O
 #[test]
 fn a_bank_without_stimuli(rt: HostRuntime) -> Result<(), Fail> {
     let alloc = rt.alloc();
-    let bank = bank_of(
-        alloc,
-        3,
-        &[
-            (0, &[9, 5, 1]),
-            (0, &[7, 8, 2]),
-            (0, &[4, 9, 3]),
-            (0, &[2, 6, 8]),
-            (0, &[1, 4, 9]),
-            (0, &[3, 7, 5]),
-        ],
-    )?;
-    let rows = [
-        Row::Count {
-            set: set_of(&[0, 1]),
-            low: 1,
-            high: 1,
-        },
-        Row::Enemies {
-            set: set_of(&[2, 5]),
-        },
-    ];
-    let found = objectives(alloc, bank, plan(alloc, &[-10, 0, -10], &rows, &[])?)?;
+    let found = objectives(alloc, bank_a(alloc)?, draft_a(alloc)?)?;
     assert_eq!(rt; found, (Some(23), Some(23)));
     Ok(())
 }
 
 /// Items 0 and 1 are of stimulus 1, items 2 and 3 of stimulus 2, item 4 of none.
 fn stimulus_bank(alloc: Global) -> Result<Bank, Fail> {
-    bank_of(
-        alloc,
-        1,
-        &[(1, &[9]), (1, &[1]), (2, &[6]), (2, &[5]), (0, &[7])],
-    )
+    let mut items = Vec::new(alloc);
+    for (stimulus, info) in [(1u32, 9u32), (1, 1), (2, 6), (2, 5), (0, 7)] {
+        items.push(item(alloc, stimulus, &[], &[info], &[-7, -7])?)?;
+    }
+    Ok(Bank::of(alloc, rows_of(1, 0, items))?)
 }
 
 /// A form has both items of stimulus 1 or none: the forms are {0, 1, 2}, {0, 1, 3}, {0, 1, 4} and {2, 3, 4}, of 16, 15, 17
@@ -154,11 +79,11 @@ fn a_bank_with_stimuli(rt: HostRuntime) -> Result<(), Fail> {
         StimulusBound { low: 2, high: 2 },
         StimulusBound { low: 1, high: 2 },
     ];
-    let free = plan(alloc, &[0], &[], &bounds)?;
+    let free = draft_of(alloc, 3, &[0], &[], &bounds)?;
     let found = objectives(alloc, stimulus_bank(alloc)?, free)?;
     assert_eq!(rt; found, (Some(18), Some(18)));
     let rows = [Row::Stimuli { low: 2, high: 2 }];
-    let both = plan(alloc, &[0], &rows, &bounds)?;
+    let both = draft_of(alloc, 3, &[0], &rows, &bounds)?;
     let found = objectives(alloc, stimulus_bank(alloc)?, both)?;
     assert_eq!(rt; found, (Some(16), Some(16)));
     Ok(())

@@ -2,7 +2,7 @@
 
 ghost use Rattle.std.specs.Prelude.{◌≡◌, ℕ, ◌≤◌};
 ghost use Rattle.bank_tables.specs.Items.{has};
-ghost use Rattle.plain_search.specs.Enumeration.{masked};
+ghost use Rattle.form_enumeration.specs.Enumeration.{masked};
 
 use bank_tables::ItemSet;
 

@@ -8,7 +8,7 @@ ghost use Rattle.exam_model.specs.Forms.{Best, HasNoForm};
 ghost use Rattle.exam_model.specs.Validity.{IsWellMade};
 ghost use Rattle.exam_model.specs.Verdicts.{IsFormOrNone};
 ghost use Rattle.constraint_model.specs.Views.{problem_of};
-ghost use Rattle.plain_search.specs.Enumeration.{IsBetterOf};
+ghost use Rattle.form_enumeration.specs.Enumeration.{IsBetterOf};
 
 use crate::mask::masked;
 use bank_tables::ItemSet;
@@ -18,7 +18,8 @@ use constraint_model::{Problem, meets, objective};
 fn better_of(problem: &Problem, kept: Option<ItemSet>, set: ItemSet) -> Option<ItemSet>
     requires well_made { IsWellMade (problem_of problem.now) }
     requires kept { IsFormOrNone (problem_of problem.now) (option_map has kept) }
-    ensures { IsBetterOf (problem_of problem.now) (option_map has kept) (has set) (option_map has result) }
+    ensures { IsBetterOf (problem_of problem.now) (option_map has kept) (has set)
+        (option_map has result) }
 {
     match meets(problem, &set) {
         Some(_) => kept,
@@ -39,7 +40,8 @@ fn better_of(problem: &Problem, kept: Option<ItemSet>, set: ItemSet) -> Option<I
 pub fn best_form(problem: &Problem) -> Option<ItemSet>
     requires well_made { IsWellMade (problem_of problem.now) }
     requires small { size problem.now.bank.now ≤ 16 }
-    ensures { MatchOption result (HasNoForm (problem_of problem.now)) (λ form. Best (problem_of problem.now) (has form)) }
+    ensures { MatchOption result (HasNoForm (problem_of problem.now)) (λ form.
+        Best (problem_of problem.now) (has form)) }
 {
     let items = problem.bank.items();
     let length = problem.spec.length();

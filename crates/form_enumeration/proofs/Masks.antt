@@ -7,7 +7,7 @@ use lib.Count.{ones, ones_step}
 use Rattle.bank_tables.specs.Items.{Set}
 use Rattle.bank_tables.specs.Sums.{sum_in, count_in}
 use Rattle.exam_model.proofs.SumLaws.{either}
-use Rattle.plain_search.specs.Enumeration.{masked}
+use Rattle.form_enumeration.specs.Enumeration.{masked}
 
 -- the mask of the members below n
 abbrev pub mask_of : ℕ → Set → ℕ

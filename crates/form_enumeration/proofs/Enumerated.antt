@@ -9,8 +9,8 @@ use Rattle.bank_tables.specs.Tables.{size}
 use Rattle.exam_model.specs.Problem.{Problem}
 use Rattle.exam_model.specs.Forms.{Form, Best, HasNoForm}
 use Rattle.exam_model.specs.Verdicts.{IsFormOrNone, IsAtLeast}
-use Rattle.plain_search.specs.Enumeration.{masked, IsBetterOf}
-use Rattle.plain_search.proofs.Masks.{mask_of, mask_below, masked_mask, ones_of_mask}
+use Rattle.form_enumeration.specs.Enumeration.{masked, IsBetterOf}
+use Rattle.form_enumeration.proofs.Masks.{mask_of, mask_below, masked_mask, ones_of_mask}
 
 module _ (P : Problem) where
   abbrev pub Before : ℕ → Option Set → Type 0

@@ -5,10 +5,10 @@ use lib.Count.{ones}
 use Rattle.bank_tables.specs.Items.{Set, has}
 use Rattle.bank_tables.specs.Tables.{size}
 use Rattle.constraint_model.specs.Views.{problem_of}
-use Rattle.plain_search.specs.Enumeration.{masked}
-use Rattle.plain_search.proofs.Enumerated.{after_set, after_skip, all_masks}
-use Rattle.plain_search.proofs.enumeration.best_form.Goals as goal
-use Rattle.plain_search.proofs.enumeration.best_form.Goals.{then-mask-length, else-mask-length}
+use Rattle.form_enumeration.specs.Enumeration.{masked}
+use Rattle.form_enumeration.proofs.Enumerated.{after_set, after_skip, all_masks}
+use Rattle.form_enumeration.proofs.enumeration.best_form.Goals as goal
+use Rattle.form_enumeration.proofs.enumeration.best_form.Goals.{then-mask-length, else-mask-length}
 
 pub loop-mask-preserved : goal.loop-mask-preserved
 loop-mask-preserved c =

@@ -5,8 +5,8 @@ use Rattle.bank_tables.specs.Tables.{size}
 use Rattle.exam_model.specs.Forms.{Form}
 use Rattle.exam_model.specs.Verdicts.{IsFormOrNone, IsAtLeast}
 use Rattle.constraint_model.specs.Views.{problem_of}
-use Rattle.plain_search.proofs.Masks.{mask_of}
-use Rattle.plain_search.proofs.enumeration.best_form.Given as goal
+use Rattle.form_enumeration.proofs.Masks.{mask_of}
+use Rattle.form_enumeration.proofs.enumeration.best_form.Given as goal
 
 -- what is kept is a form, and at least each form of an earlier mask
 abbrev pub invariant-loop-mask : goal.invariant-loop-mask

@@ -1,0 +1,44 @@
+//! Better multipliers by subgradient steps. What is expected was worked out by hand.
+
+ghost use Rattle.exam_model.specs.Validity.{IsWellMade};
+ghost use Rattle.constraint_model.specs.Views.{problem_of};
+
+use bank_tables::List;
+use constraint_model::{Problem, Spec};
+use lagrange_bound::{Cut, bound, improve};
+use proof_tree::Vector;
+use std::alloc::Global;
+use std::test::Fail;
+use trial_cases::{bank_a, draft_a};
+
+/// The bound at the root without multipliers, and that of the vector to which steps towards a target lead.
+fn bounds_at_root(alloc: Global, problem: &Problem, target: u64) -> Result<[Option<i64>; 2], Fail>
+    requires { IsWellMade (problem_of problem.now) }
+{
+    let root = Cut::root(problem);
+    let empty = Vector::new(List::of(Vec::new(alloc)));
+    let Ok(improved) = improve(alloc, problem, &root, &empty, target, 100) else {
+        return Err(Fail::from("out of memory"));
+    };
+    Ok([
+        bound(problem, &root, &empty, false),
+        bound(problem, &root, &improved, false),
+    ])
+}
+
+/// The three items of most information, 2, 1 and 5, have 9 + 8 + 7 = 24, and 256 * 24 = 6,144. Items 2 and 5 are enemies: with
+/// the multiplier 256 on their upper bound they have 8 and 6, the greatest are 8, 8 and 6, and the bound is
+/// 256 * (8 + 8 + 6) + 256 * 1 = 5,888. That is 256 times the 23 of the form {1, 2, 3}, so no bound is lower, and one of at
+/// most 256 * 23 + 255 = 6,143 shows that form best.
+#[test]
+fn steps_find_a_lower_bound(rt: HostRuntime) -> Result<(), Fail> {
+    let alloc = rt.alloc();
+    let bank = bank_a(alloc)?;
+    let spec = Spec::of(alloc, &bank, draft_a(alloc)?)?;
+    let [plain, improved] = bounds_at_root(alloc, &Problem::whole(&bank, &spec), 6_143)?;
+    assert_eq!(rt; plain, Some(6_144));
+    let improved = improved.ok_or("no bound")?;
+    assert!(rt; 5_888 <= improved);
+    assert!(rt; improved <= 6_143);
+    Ok(())
+}
