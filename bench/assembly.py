@@ -169,7 +169,7 @@ def row_of(result, names):
     nodes = sorted(step.nodes for step in result.steps)
     cells = [result.name, str(len(own)), milliseconds(own), "%d / %.1f / %d" % (nodes[len(nodes) // 2], mean(nodes), nodes[-1]),
              str(sum(step.mark != "proved" for step in result.steps)),
-             str(sum(step.search == "plain" for step in result.steps + result.bases))]
+             str(sum(step.search == "fallback" for step in result.steps + result.bases))]
     for name in names:
         solved = result.peers[name]
         late = sum(not s.optimal for s in solved)
@@ -192,7 +192,7 @@ def together(name, group, names):
 
 
 def table(results, names):
-    heads = ["Bank", "Steps", "Assembler, ms", "Nodes", "Unproved", "Plain"] + ["%s, ms; ratio" % name for name in names]
+    heads = ["Bank", "Steps", "Assembler, ms", "Nodes", "Unproved", "Fallback"] + ["%s, ms; ratio" % name for name in names]
     print("| " + " | ".join(heads) + " |")
     print("|" + "---|" * len(heads))
     for result in results:
@@ -203,7 +203,7 @@ def table(results, names):
             print(row_of(together(name, group, names), names))
     print()
     print("Times are median / 95th in a hundred / greatest / mean a step; nodes are median / mean / greatest. A ratio is the mean")
-    print("of the peer by that of the assembler. Plain is how often the plain search was called.")
+    print("of the peer by that of the assembler. Fallback is how often the fallback search was called.")
 
 
 def measure(program, problem, commands, folder, rounds):

@@ -45,10 +45,10 @@ pub fn outcome_words(
     let outcome = assembled.outcome();
     let nodes = assembled.tree().nodes().len();
     let mark = mark(&outcome);
-    let search = if assembled.searched_plainly() {
-        "plain"
+    let search = if assembled.used_fallback() {
+        "fallback"
     } else {
-        "rich"
+        "search"
     };
     let best = match form_of(&outcome) {
         Some(form) => objective(problem, &form),

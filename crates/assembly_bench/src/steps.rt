@@ -1,6 +1,6 @@
 //! The times of the assembler.
 
-ghost use Rattle.std.specs.Prelude.{◌≡◌, IfOk};
+ghost use Rattle.std.specs.Prelude.{IfOk};
 ghost use Rattle.branch_bound.specs.Assemblies.{IsTrueOutcome};
 ghost use Rattle.exam_model.specs.Seats.{IsSeat};
 ghost use Rattle.exam_model.specs.Validity.{IsBudget, IsPlanFor, IsWellMade};
@@ -30,24 +30,6 @@ struct Session<'a> {
     trees: bool,
 }
 
-/// The same problem, made again: no proof is generated where a value that holds references is moved as a whole.
-fn copied<'a>(problem: &Problem<'a>) -> Problem<'a>
-    ensures { result ≡ problem.now }
-{
-    Problem {
-        bank: problem.bank,
-        spec: problem.spec,
-        session: problem.session,
-        step: problem.step,
-        aside: problem.aside,
-        given: problem.given,
-        barred: problem.barred,
-        theta: problem.theta,
-        last: problem.last,
-        start: problem.start,
-    }
-}
-
 /// Assembles a form, and tells what it took.
 fn timed<'a, R: Clock + AllocGlobal>(
     rt: &R,
@@ -59,10 +41,10 @@ fn timed<'a, R: Clock + AllocGlobal>(
     requires budget { IsBudget budget }
     ensures { IfOk result (λ a. IsTrueOutcome (problem_of problem.now) a.0.outcome) }
 {
-    let copy = copied(problem);
+    let copy = problem.again();
     let start = Instant::now(rt)?;
     let Ok(assembled) = assemble(rt.alloc(), copy, hint, budget) else {
-        bail!("want of memory");
+        bail!("out of memory");
     };
     let took = microseconds(start.elapsed(rt)?);
     Ok((assembled, took))
