@@ -15,5 +15,5 @@ returns-in_ok-text-in-NoneFound-clause-halts c =
       a.tree,
       shows_no_base c.args.bank.now c.args.spec.now (problem_of a.problem) a.tree a.outcome c.requires.plan c.requires.assembly none tree,
       c.in_ok-text-in-NoneFound.ensures
-      ∙ (ap (λ (n : ℕ). no_base_form n c.tree-in-NoneFound.result.now) c.base_budget.ensures ∙ ap (λ (T : ProofTree). no_base_form c.args.spec.now.base_budget T) c.tree-in-NoneFound.ensures),
+          ∙ (ap (λ (n : ℕ). no_base_form n c.tree-in-NoneFound.result.now) c.base_budget.ensures ∙ ap (λ (T : ProofTree). no_base_form c.args.spec.now.base_budget T) c.tree-in-NoneFound.ensures),
     )
