@@ -205,7 +205,7 @@ is_read r payload is spelled = ap record_of spelled ∙ written_is_read r is
 
 -- ---- how many bytes
 
-whole_len : (entry : Entry) (tree : Option ProofTree) → GoesWith entry tree → IsTreeOrNone tree → (0 < length (entry_bytes entry ++ tree_bytes tree)) × (length (entry_bytes entry ++ tree_bytes tree) ≤ 86154)
+whole_len : (entry : Entry) (tree : Option ProofTree) → GoesWith entry tree → IsTreeOrNone tree → (0 < length (entry_bytes entry ++ tree_bytes tree)) × (length (entry_bytes entry ++ tree_bytes tree) ≤ 86600)
 unfolding entry_bytes
 whole_len (Started session booking eligible) None goes is = (omega arith, omega (arith, length-append (set_bytes (has eligible)) [], numbers_len 64 8 (has eligible)))
 whole_len (Started session booking eligible) (Some T) goes is = absurd goes
@@ -219,6 +219,6 @@ whole_len (Closed session) None goes is = (omega arith, omega arith)
 whole_len (Closed session) (Some T) goes is = absurd goes
 
 -- a payload has some bytes, and not many
-pub record_len : (r : Record) → IsRecord r → (0 < length (payload_of r)) × (length (payload_of r) ≤ 86154)
+pub record_len : (r : Record) → IsRecord r → (0 < length (payload_of r)) × (length (payload_of r) ≤ 86600)
 unfolding payload_of
 record_len r is = whole_len r.entry r.tree is.goes_with is.tree

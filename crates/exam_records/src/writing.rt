@@ -91,7 +91,7 @@ fn push_tree(alloc: Global, out: &mut Vec<u8>, tree: Option<&Tree>) -> Result<()
     Ok(())
 }
 
-/// The one spelling of the record of an entry and its tree, at most 86,154 bytes. The condition is that a tree stands
+/// The one spelling of the record of an entry and its tree, at most 86,600 bytes. The condition is that a tree stands
 /// exactly where the entry is SetAside or Served, and that the entry's number of nodes is the tree's. Fails only where it
 /// is out of memory.
 #[tactic(auto, unfolding(crate::specs::Spelling::payload_of))]
@@ -101,7 +101,7 @@ pub fn encode_parts(alloc: Global, entry: &Entry, tree: Option<&Tree>) -> Result
     // A record that keeps the condition is one that `decode` gives.
     ensures is_record { IsRecord (record { entry = entry.now; tree = option_copied tree.entry }) }
     ensures some { IfOk result (λ bytes. 0 < length bytes.items) }
-    ensures few { IfOk result (λ bytes. length bytes.items ≤ 86154) }
+    ensures few { IfOk result (λ bytes. length bytes.items ≤ 86600) }
 {
     is_record(entry, tree);
     let mut out = Vec::new(alloc);
@@ -116,7 +116,7 @@ pub fn encode(alloc: Global, rec: &Record) -> Result<Vec<u8>, Memory>
     ensures spelling { IfOk result (λ bytes. bytes.items ≡ payload_of rec.now) }
     ensures is_record { IsRecord rec.now }
     ensures some { IfOk result (λ bytes. 0 < length bytes.items) }
-    ensures few { IfOk result (λ bytes. length bytes.items ≤ 86154) }
+    ensures few { IfOk result (λ bytes. length bytes.items ≤ 86600) }
 {
     encode_parts(alloc, &rec.entry, rec.tree.as_ref())
 }
