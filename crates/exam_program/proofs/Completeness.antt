@@ -9,7 +9,7 @@ use Rattle.spec_reader.specs.declared.plan_fault.PlanFault.{PlanFault}
 use Rattle.spec_reader.specs.declared.plan_fault.PlanFault.TheVariants as fault
 use Rattle.spec_reader.specs.Reading.{IsReadFault}
 use Rattle.spec_reader.specs.Plans.{SaidPlan, plan_said}
-use Rattle.spec_reader.proofs.SameLaws.{base_of, one_plan, only_outside}
+use Rattle.spec_reader.proofs.SameLaws.{one_plan, only_outside}
 use Rattle.exam_edge.specs.Faults.{Rose}
 use Rattle.exam_model.specs.declared.seat.Seat.{Seat}
 use Rattle.exam_model.specs.Plan.{Plan}
@@ -41,11 +41,15 @@ command_same o c d e f = cc
 bank_same : (r : Result Tables ReadFault) (b c : Tables) → r ≡ Ok b → r ≡ Ok c → b ≡ c
 bank_same r b c e f = cc
 
+some_base : (o : Option (List ℕ)) (X : Set) → option_map has o ≡ Some X → (words : List ℕ) × (o ≡ Some words)
+some_base (Some words) X e = (words, refl)
+some_base None X e = cc
+
 -- what a plan says of its base
 has_base : (p q : Plan) (base : List ℕ) → plan_said p ≡ plan_said q → p.base ≡ Some base → (other : List ℕ) × (q.base ≡ Some other)
 has_base p q base same e =
     let said : option_map has q.base ≡ Some (has base) = ap (λ (s : SaidPlan). s.base) (sym same) ∙ ap (option_map has) e in
-    base_of q.base (has base) said
+    some_base q.base (has base) said
 
 -- two readings of the same files: the plan of the one has a base where that of the other has
 base_there : (content : List ℕ → List ℕ) (bank plan base : List ℕ) (b c : Tables) (p q : Plan)

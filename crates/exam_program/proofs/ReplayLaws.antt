@@ -65,7 +65,7 @@ stops_refused : (b : Tables) (plan : Plan) (base : List ℕ) (all : List Answer)
 stops_refused b plan base all i told old new seat text lt session written refused =
     record { done = take i all; answer = get_or all i no_answer; rest = drop (suc i) all; seat = seat; text = text; all = parted all i lt; session = session; refused = refused; written = written }
 
--- out of memory before a line
+-- memory ran out before a line
 stops_between : (b : Tables) (plan : Plan) (base : List ℕ) (all : List Answer) (i : ℕ) (told : Bool) (old new : List ℕ) (seat : Seat) (text : List ℕ)
     → Session b plan base (take i all) seat text
     → IsWritten told old new text

@@ -104,7 +104,7 @@ Halts words content before after told old new halt.Files = PrintsBefore words co
 Halts words content before after told old new halt.Memory = PrintsBefore words content before after told old new 10 no_memory
 Halts words content before after told old new halt.Sink = PrintsPart words content before after told old new
 
--- the status of a halt; out of memory may come while a fault's text is made
+-- the status of a halt; memory may run out while a fault's text is made
 abbrev pub EndsBy : Halt → ℕ → Type 0
 EndsBy (halt.Bank fault) status = (status ≡ 3) ⊎ (status ≡ 10)
 EndsBy (halt.Plan fault) status = (status ≡ 4) ⊎ (status ≡ 10)

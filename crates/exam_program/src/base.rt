@@ -42,7 +42,7 @@ fn found_form<'a>(
     ensures found { IfOk result (λ found. FindsForm bank.now spec.now (problem_of assembled.now.problem) found.form found.proved assembled.now.tree) }
     ensures halts { IfErr result (HaltsAtBase bank.now spec.now) }
 {
-    // That the tree has a spelling is told where its nodes are read.
+    // `nodes` gives that the tree has a spelling.
     let _nodes = assembled.tree().nodes();
     match assembled.outcome() {
         Outcome::Found { form, proved } => Ok(MarkedForm { form, proved }),

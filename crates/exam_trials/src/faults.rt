@@ -1,8 +1,9 @@
 //! Each failing call.
 
 use crate::outcome::{REPLAY, outcome};
-use crate::texts::{BANK_A, LINES_A, PLAN_A, SCRIPT_A};
+use crate::texts::{LINES_A, SCRIPT_A};
 use std::test::Fail;
+use trial_cases::{BANK_A, PLAN_A};
 
 #[test]
 fn each_failing_call_of_the_files(rt: HostRuntime) -> Result<(), Fail> {

@@ -1,8 +1,9 @@
 //! Sessions that are served from a script.
 
 use crate::outcome::{REPLAY, prints};
-use crate::texts::{BANK_A, BANK_E, BANK_S, BANK_TIE, LINES_A, PLAN_A, PLAN_E, SCRIPT_A};
+use crate::texts::{BANK_E, BANK_S, BANK_TIE, LINES_A, SCRIPT_A};
 use std::test::Fail;
+use trial_cases::{BANK_A, PLAN_A, PLAN_E};
 
 #[test]
 fn a_session_of_bank_a(rt: HostRuntime) -> Result<(), Fail> {

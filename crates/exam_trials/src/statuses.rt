@@ -1,8 +1,9 @@
 //! The statuses with their texts.
 
 use crate::outcome::{ASSEMBLE, CHECK, REPLAY, begins, prints};
-use crate::texts::{BANK_A, BANK_E, BANK_ODD, PLAN_A, SCRIPT_A};
+use crate::texts::{BANK_E, BANK_ODD, SCRIPT_A};
 use std::test::Fail;
+use trial_cases::{BANK_A, PLAN_A};
 
 #[test]
 fn forms_of_whole_plans(rt: HostRuntime) -> Result<(), Fail> {
