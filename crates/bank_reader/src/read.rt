@@ -70,6 +70,10 @@ fn read_whole<S: Source>(alloc: Global, source: &mut S) -> Result<Bank, ReadFaul
     ensures reads { IsTrue (S.tells source.old) → Reads (S.left source.old) result }
     ensures whole { IfOk result (λ _. IsTrue (S.tells source.old) → S.left source.new ≡ []) }
     ensures failed { IfErr result (λ e. e ≡ fault.Source → Rose (S.faults source.old) (S.faults source.new)) }
+    ensures there { IfOk result (λ _. IsTrue (S.tells source.old) → IsTrue (S.there source.old)) }
+    ensures there_refused { IfErr result (λ e. IsTrue (S.tells source.old)
+        → (e ≡ Memory) ⊎ (e ≡ fault.Source) ⊎ IsTrue (S.there source.old)) }
+    ensures has { IsTrue (S.tells source.old) → (name : List ℕ) → S.has source.new name ≡ S.has source.old name }
     ensures beside { IsTrue (S.tells source.old) → (name : List ℕ) → S.beside source.new name ≡ S.beside source.old name }
     ensures grows { S.faults source.old ≤ S.faults source.new }
     ensures tells { S.tells source.new ≡ S.tells source.old }
@@ -97,6 +101,11 @@ pub fn read_bank<S: Source>(alloc: Global, source: &mut S) -> Result<Bank, ReadF
     ensures whole { IfOk result (λ _. IsTrue (S.tells source.old) → S.left source.new ≡ []) }
     ensures failed { IfErr result (λ e. e ≡ fault.Source → Rose (S.faults source.old) (S.faults source.new)) }
 
+    // A bank, and what refuses a text, are answers only where there is something to read.
+    ensures there { IfOk result (λ _. IsTrue (S.tells source.old) → IsTrue (S.there source.old)) }
+    ensures there_refused { IfErr result (λ e. IsTrue (S.tells source.old)
+        → (e ≡ Memory) ⊎ (e ≡ fault.Source) ⊎ IsTrue (S.there source.old)) }
+    ensures has { IsTrue (S.tells source.old) → (name : List ℕ) → S.has source.new name ≡ S.has source.old name }
     ensures beside { IsTrue (S.tells source.old) → (name : List ℕ) → S.beside source.new name ≡ S.beside source.old name }
     ensures grows { S.faults source.old ≤ S.faults source.new }
     ensures tells { S.tells source.new ≡ S.tells source.old }

@@ -9,7 +9,7 @@ ghost use Rattle.exam_model.specs.Validity.{IsPlanFor};
 ghost use Rattle.constraint_model.specs.Faults.{IsSpecFault};
 ghost use Rattle.spec_reader.specs.Rules.{said};
 ghost use Rattle.spec_reader.specs.Plans.{plan_said, drafted};
-ghost use Rattle.spec_reader.specs.Reading.{rule_at, number_fault, numbers_fault, IsDraft, IsPlanText, early_fault, IsFirstFault, IsPlanFault, most_bytes, IsReadFault};
+ghost use Rattle.spec_reader.specs.Reading.{rule_at, number_fault, numbers_fault, IsDraft, IsPlanText, early_fault, IsFirstFault, IsPlanFault, IsOfText, most_bytes, IsReadFault};
 ghost use Rattle.spec_reader.specs.declared.plan_fault.PlanFault.TheVariants as fault;
 
 use crate::outline::Outline;
@@ -111,6 +111,11 @@ pub fn read_plan<S: Source>(alloc: Global, bank: &Bank, source: &mut S) -> Resul
         → (plan : Plan) → IsPlanText bank.now (S.left source.old) plan → IsPlanFor bank.now plan → (e ≡ fault.Memory) ⊎ (e ≡ fault.Source)) }
     ensures failed { IfErr result (λ e. e ≡ fault.Source → Rose (S.faults source.old) (S.faults source.new)) }
 
+    // A plan, and what refuses a text, are answers only where there is something to read.
+    ensures there { IfOk result (λ _. IsTrue (S.tells source.old) → IsTrue (S.there source.old)) }
+    ensures there_refused { IfErr result (λ e. IsOfText e
+        → IsTrue (S.tells source.old) → IsTrue (S.there source.old)) }
+    ensures has { IsTrue (S.tells source.old) → (name : List ℕ) → S.has source.new name ≡ S.has source.old name }
     ensures beside { IsTrue (S.tells source.old) → (name : List ℕ) → S.beside source.new name ≡ S.beside source.old name }
     ensures grows { S.faults source.old ≤ S.faults source.new }
     ensures tells { S.tells source.new ≡ S.tells source.old }
