@@ -26,105 +26,105 @@ rose_later before now after le rose = omega (arith, le, rose)
 -- ---- what a command has printed when it halts
 
 -- nothing was printed before
-nothing_before : (words : List (List ℕ)) (content : List ℕ → List ℕ) (before after : ℕ) (told : Bool) (old : List ℕ) (status : ℕ) (last : List ℕ) → Outcome words content before after status last → PrintsBefore words content before after told old old status last
-nothing_before words content before after told old status last outcome = record { text = []; written = λ t. sym (append-nil old); outcome = outcome }
+nothing_before : (words : List (List ℕ)) (named : List ℕ → Bool) (content : List ℕ → List ℕ) (before after : ℕ) (told : Bool) (old : List ℕ) (status : ℕ) (last : List ℕ) → Outcome words named content before after status last → PrintsBefore words named content before after told old old status last
+nothing_before words named content before after told old status last outcome = record { text = []; written = λ t. sym (append-nil old); outcome = outcome }
 
-pub halts_at_exam : (words : List (List ℕ)) (content : List ℕ → List ℕ) (before after : ℕ) (told : Bool) (old : List ℕ) (command : Command) (h : Halt)
+pub halts_at_exam : (words : List (List ℕ)) (named : List ℕ → Bool) (content : List ℕ → List ℕ) (before after : ℕ) (told : Bool) (old : List ℕ) (command : Command) (h : Halt)
     → command_of words ≡ Some command
     → (h ≡ halt.Files → Rose before after)
-    → HaltsAtExam content (bank_name command) (plan_name command) h
-    → Halts words content before after told old old h
-halts_at_exam words content before after told old command (halt.Bank fault) e rose is = (nothing_before words content before after told old 3 _ (bank_refused command fault e is), nothing_before words content before after told old 10 _ (without_memory command e))
-halts_at_exam words content before after told old command (halt.Plan fault) e rose is = (nothing_before words content before after told old 4 _ (plan_refused command is.0 fault e is.1 is.2 is.3), nothing_before words content before after told old 10 _ (without_memory command e))
-halts_at_exam words content before after told old command halt.NotYet e rose is = absurd is
-halts_at_exam words content before after told old command (halt.NoForm text) e rose is = absurd is
-halts_at_exam words content before after told old command (halt.NoBaseForm text) e rose is = absurd is
-halts_at_exam words content before after told old command halt.Files e rose is = nothing_before words content before after told old 7 _ (without_files command e (rose refl))
-halts_at_exam words content before after told old command halt.Sink e rose is = absurd is
-halts_at_exam words content before after told old command halt.Memory e rose is = nothing_before words content before after told old 10 _ (without_memory command e)
+    → HaltsAtExam named content (bank_name command) (plan_name command) h
+    → Halts words named content before after told old old h
+halts_at_exam words named content before after told old command (halt.Bank fault) e rose is = (nothing_before words named content before after told old 3 _ (bank_refused command fault e is.0 is.1), nothing_before words named content before after told old 10 _ (without_memory command e))
+halts_at_exam words named content before after told old command (halt.Plan fault) e rose is = (nothing_before words named content before after told old 4 _ (plan_refused command is.0 fault e is.1 is.2 is.3 is.4 is.5), nothing_before words named content before after told old 10 _ (without_memory command e))
+halts_at_exam words named content before after told old command halt.NotYet e rose is = absurd is
+halts_at_exam words named content before after told old command (halt.NoForm text) e rose is = absurd is
+halts_at_exam words named content before after told old command (halt.NoBaseForm text) e rose is = absurd is
+halts_at_exam words named content before after told old command halt.Files e rose is = nothing_before words named content before after told old 7 _ (without_files command e (rose refl))
+halts_at_exam words named content before after told old command halt.Sink e rose is = absurd is
+halts_at_exam words named content before after told old command halt.Memory e rose is = nothing_before words named content before after told old 10 _ (without_memory command e)
 
-pub halts_at_script : (words : List (List ℕ)) (content : List ℕ → List ℕ) (before after : ℕ) (told : Bool) (old bank plan script : List ℕ) (b : Tables) (p : Plan) (h : Halt)
+pub halts_at_script : (words : List (List ℕ)) (named : List ℕ → Bool) (content : List ℕ → List ℕ) (before after : ℕ) (told : Bool) (old bank plan script : List ℕ) (b : Tables) (p : Plan) (h : Halt)
     → command_of words ≡ Some (Replay bank plan script)
-    → Reads content bank plan b p
+    → Reads named content bank plan b p
     → (h ≡ halt.Files → Rose before after)
-    → HaltsAtScript (content script) h
-    → Halts words content before after told old old h
-halts_at_script words content before after told old bank plan script b p (halt.Bank fault) e reads rose is = absurd is
-halts_at_script words content before after told old bank plan script b p (halt.Plan fault) e reads rose is = absurd is
-halts_at_script words content before after told old bank plan script b p halt.NotYet e reads rose is = nothing_before words content before after told old 15 _ (other_script bank plan script b p e reads is)
-halts_at_script words content before after told old bank plan script b p (halt.NoForm text) e reads rose is = absurd is
-halts_at_script words content before after told old bank plan script b p (halt.NoBaseForm text) e reads rose is = absurd is
-halts_at_script words content before after told old bank plan script b p halt.Files e reads rose is = nothing_before words content before after told old 7 _ (without_files (Replay bank plan script) e (rose refl))
-halts_at_script words content before after told old bank plan script b p halt.Sink e reads rose is = absurd is
-halts_at_script words content before after told old bank plan script b p halt.Memory e reads rose is = nothing_before words content before after told old 10 _ (without_memory (Replay bank plan script) e)
+    → HaltsAtScript (named script) (content script) h
+    → Halts words named content before after told old old h
+halts_at_script words named content before after told old bank plan script b p (halt.Bank fault) e reads rose is = absurd is
+halts_at_script words named content before after told old bank plan script b p (halt.Plan fault) e reads rose is = absurd is
+halts_at_script words named content before after told old bank plan script b p halt.NotYet e reads rose is = nothing_before words named content before after told old 15 _ (other_script bank plan script b p e reads is)
+halts_at_script words named content before after told old bank plan script b p (halt.NoForm text) e reads rose is = absurd is
+halts_at_script words named content before after told old bank plan script b p (halt.NoBaseForm text) e reads rose is = absurd is
+halts_at_script words named content before after told old bank plan script b p halt.Files e reads rose is = nothing_before words named content before after told old 7 _ (without_files (Replay bank plan script) e (rose refl))
+halts_at_script words named content before after told old bank plan script b p halt.Sink e reads rose is = absurd is
+halts_at_script words named content before after told old bank plan script b p halt.Memory e reads rose is = nothing_before words named content before after told old 10 _ (without_memory (Replay bank plan script) e)
 
-pub halts_at_base : (words : List (List ℕ)) (content : List ℕ → List ℕ) (before after : ℕ) (told : Bool) (old : List ℕ) (command : Command) (b : Tables) (p : Plan) (h : Halt)
+pub halts_at_base : (words : List (List ℕ)) (named : List ℕ → Bool) (content : List ℕ → List ℕ) (before after : ℕ) (told : Bool) (old : List ℕ) (command : Command) (b : Tables) (p : Plan) (h : Halt)
     → command_of words ≡ Some command
-    → IsReady content command b p
+    → IsReady named content command b p
     → HaltsAtBase b p h
-    → Halts words content before after told old old h
-halts_at_base words content before after told old command b p (halt.Bank fault) e ready is = absurd is
-halts_at_base words content before after told old command b p (halt.Plan fault) e ready is = absurd is
-halts_at_base words content before after told old command b p halt.NotYet e ready is = absurd is
-halts_at_base words content before after told old command b p (halt.NoForm text) e ready is =
-    nothing_before words content before after told old 11 text.items (subst (λ (t : List ℕ). Outcome words content before after 11 t) (sym is.2) (without_form command b p is.0 e ready is.1))
-halts_at_base words content before after told old command b p (halt.NoBaseForm text) e ready is =
-    nothing_before words content before after told old 12 text.items (subst (λ (t : List ℕ). Outcome words content before after 12 t) (sym is.2) (without_base_form command b p is.0 e ready is.1))
-halts_at_base words content before after told old command b p halt.Files e ready is = absurd is
-halts_at_base words content before after told old command b p halt.Sink e ready is = absurd is
-halts_at_base words content before after told old command b p halt.Memory e ready is = nothing_before words content before after told old 10 _ (without_memory command e)
+    → Halts words named content before after told old old h
+halts_at_base words named content before after told old command b p (halt.Bank fault) e ready is = absurd is
+halts_at_base words named content before after told old command b p (halt.Plan fault) e ready is = absurd is
+halts_at_base words named content before after told old command b p halt.NotYet e ready is = absurd is
+halts_at_base words named content before after told old command b p (halt.NoForm text) e ready is =
+    nothing_before words named content before after told old 11 text.items (subst (λ (t : List ℕ). Outcome words named content before after 11 t) (sym is.2) (without_form command b p is.0 e ready is.1))
+halts_at_base words named content before after told old command b p (halt.NoBaseForm text) e ready is =
+    nothing_before words named content before after told old 12 text.items (subst (λ (t : List ℕ). Outcome words named content before after 12 t) (sym is.2) (without_base_form command b p is.0 e ready is.1))
+halts_at_base words named content before after told old command b p halt.Files e ready is = absurd is
+halts_at_base words named content before after told old command b p halt.Sink e ready is = absurd is
+halts_at_base words named content before after told old command b p halt.Memory e ready is = nothing_before words named content before after told old 10 _ (without_memory command e)
 
-pub halts_without_memory : (words : List (List ℕ)) (content : List ℕ → List ℕ) (before after : ℕ) (told : Bool) (old : List ℕ) (command : Command) → command_of words ≡ Some command → Halts words content before after told old old halt.Memory
-halts_without_memory words content before after told old command e = nothing_before words content before after told old 10 _ (without_memory command e)
+pub halts_without_memory : (words : List (List ℕ)) (named : List ℕ → Bool) (content : List ℕ → List ℕ) (before after : ℕ) (told : Bool) (old : List ℕ) (command : Command) → command_of words ≡ Some command → Halts words named content before after told old old halt.Memory
+halts_without_memory words named content before after told old command e = nothing_before words named content before after told old 10 _ (without_memory command e)
 
 -- ---- one text that is printed whole, or in part
-pub prints : (words : List (List ℕ)) (content : List ℕ → List ℕ) (before after : ℕ) (told : Bool) (old new text : List ℕ) → Outcome words content before after 0 text → IsWritten told old new text → Prints words content before after told old new 0
-prints words content before after told old new text outcome written = record { text = text; written = written; outcome = outcome }
+pub prints : (words : List (List ℕ)) (named : List ℕ → Bool) (content : List ℕ → List ℕ) (before after : ℕ) (told : Bool) (old new text : List ℕ) → Outcome words named content before after 0 text → IsWritten told old new text → Prints words named content before after told old new 0
+prints words named content before after told old new text outcome written = record { text = text; written = written; outcome = outcome }
 
-pub prints_part : (words : List (List ℕ)) (content : List ℕ → List ℕ) (before after : ℕ) (told : Bool) (old new text : List ℕ) → Outcome words content before after 0 text → WritesPart told old new text → PrintsPart words content before after told old new
-prints_part words content before after told old new text outcome part =
-    record { text = part.part; rest = part.rest; status = 0; written = part.written; outcome = subst (λ (t : List ℕ). Outcome words content before after 0 t) part.whole outcome; unfinished = part.unfinished }
+pub prints_part : (words : List (List ℕ)) (named : List ℕ → Bool) (content : List ℕ → List ℕ) (before after : ℕ) (told : Bool) (old new text : List ℕ) → Outcome words named content before after 0 text → WritesPart told old new text → PrintsPart words named content before after told old new
+prints_part words named content before after told old new text outcome part =
+    record { text = part.part; rest = part.rest; status = 0; written = part.written; outcome = subst (λ (t : List ℕ). Outcome words named content before after 0 t) part.whole outcome; unfinished = part.unfinished }
 
-pub outcome_checked : (words : List (List ℕ)) (content : List ℕ → List ℕ) (before after : ℕ) (text bank plan : List ℕ) (b : Tables) (p : Plan)
+pub outcome_checked : (words : List (List ℕ)) (named : List ℕ → Bool) (content : List ℕ → List ℕ) (before after : ℕ) (text bank plan : List ℕ) (b : Tables) (p : Plan)
     → command_of words ≡ Some (Check bank plan)
-    → Reads content bank plan b p
+    → Reads named content bank plan b p
     → text ≡ bank_line b ++ canonical p
-    → Outcome words content before after 0 text
-outcome_checked words content before after text bank plan b p e reads is = subst (λ (t : List ℕ). Outcome words content before after 0 t) (sym is) (checked bank plan b p e reads)
+    → Outcome words named content before after 0 text
+outcome_checked words named content before after text bank plan b p e reads is = subst (λ (t : List ℕ). Outcome words named content before after 0 t) (sym is) (checked bank plan b p e reads)
 
-pub outcome_assembled : (words : List (List ℕ)) (content : List ℕ → List ℕ) (before after : ℕ) (text bank plan : List ℕ) (b : Tables) (p : Plan)
+pub outcome_assembled : (words : List (List ℕ)) (named : List ℕ → Bool) (content : List ℕ → List ℕ) (before after : ℕ) (text bank plan : List ℕ) (b : Tables) (p : Plan)
     → command_of words ≡ Some (Assemble bank plan)
-    → Reads content bank plan b p
+    → Reads named content bank plan b p
     → TellsForm b p text
-    → Outcome words content before after 0 text
-outcome_assembled words content before after text bank plan b p e reads tells =
-    subst (λ (t : List ℕ). Outcome words content before after 0 t) (sym tells.is) (form_found bank plan b p tells.problem tells.form tells.proved tells.tree e reads tells.finds)
+    → Outcome words named content before after 0 text
+outcome_assembled words named content before after text bank plan b p e reads tells =
+    subst (λ (t : List ℕ). Outcome words named content before after 0 t) (sym tells.is) (form_found bank plan b p tells.problem tells.form tells.proved tells.tree e reads tells.finds)
 
 -- ---- a replay
-pub prints_replayed : (words : List (List ℕ)) (content : List ℕ → List ℕ) (before after : ℕ) (told : Bool) (old new bank plan name : List ℕ) (b : Tables) (p : Plan) (script : Script) (base : List ℕ)
+pub prints_replayed : (words : List (List ℕ)) (named : List ℕ → Bool) (content : List ℕ → List ℕ) (before after : ℕ) (told : Bool) (old new bank plan name : List ℕ) (b : Tables) (p : Plan) (script : Script) (base : List ℕ)
     → command_of words ≡ Some (Replay bank plan name)
-    → ReadsAll content bank plan name b p script base
+    → ReadsAll named content bank plan name b p script base
     → Finishes b p base script.answers told old new
-    → Prints words content before after told old new 0
-prints_replayed words content before after told old new bank plan name b p script base e reads finishes =
+    → Prints words named content before after told old new 0
+prints_replayed words named content before after told old new bank plan name b p script base e reads finishes =
     record { text = finishes.text; written = finishes.written; outcome = replayed bank plan name b p script base finishes.seat finishes.text e reads finishes.session }
 
-pub halts_replayed : (words : List (List ℕ)) (content : List ℕ → List ℕ) (before after : ℕ) (told : Bool) (old new bank plan name : List ℕ) (b : Tables) (p : Plan) (script : Script) (base : List ℕ) (s : Stop)
+pub halts_replayed : (words : List (List ℕ)) (named : List ℕ → Bool) (content : List ℕ → List ℕ) (before after : ℕ) (told : Bool) (old new bank plan name : List ℕ) (b : Tables) (p : Plan) (script : Script) (base : List ℕ) (s : Stop)
     → command_of words ≡ Some (Replay bank plan name)
-    → ReadsAll content bank plan name b p script base
+    → ReadsAll named content bank plan name b p script base
     → Stops b p base script.answers told old new s
-    → Halts words content before after told old new (halt_of s)
-halts_replayed words content before after told old new bank plan name b p script base stop.Refused e reads is =
+    → Halts words named content before after told old new (halt_of s)
+halts_replayed words named content before after told old new bank plan name b p script base stop.Refused e reads is =
     record { text = is.text; written = is.written; outcome = answer_refused bank plan name b p script base is.done is.rest is.answer is.seat is.text e reads is.all is.session is.refused }
-halts_replayed words content before after told old new bank plan name b p script base stop.Memory e reads is =
+halts_replayed words named content before after told old new bank plan name b p script base stop.Memory e reads is =
     record { text = is.text; written = is.written; outcome = without_more_memory bank plan name b p script base is.text e reads is.printed }
-halts_replayed words content before after told old new bank plan name b p script base stop.Sink e reads is =
+halts_replayed words named content before after told old new bank plan name b p script base stop.Sink e reads is =
     record {
       text = is.text;
       rest = is.rest ++ no_memory;
       status = 10;
       written = is.written;
-      outcome = subst (λ (t : List ℕ). Outcome words content before after 10 t) (append_assoc is.text is.rest no_memory) (without_more_memory bank plan name b p script base (is.text ++ is.rest) e reads is.printed);
+      outcome = subst (λ (t : List ℕ). Outcome words named content before after 10 t) (append_assoc is.text is.rest no_memory) (without_more_memory bank plan name b p script base (is.text ++ is.rest) e reads is.printed);
       unfinished = omega (arith, length-append is.rest no_memory, is.unfinished);
     }
 
@@ -155,5 +155,5 @@ ends_by halt.Sink status e = also 8 status e is_8
 ends_by halt.Memory status e = also 10 status e is_10
 
 -- the usage is printed where the words are faulty
-pub before_usage : (words : List (List ℕ)) (content : List ℕ → List ℕ) (before after : ℕ) (told : Bool) (old : List ℕ) → command_of words ≡ None → PrintsBefore words content before after told old old 2 usage
-before_usage words content before after told old e = nothing_before words content before after told old 2 usage (faulty_words e)
+pub before_usage : (words : List (List ℕ)) (named : List ℕ → Bool) (content : List ℕ → List ℕ) (before after : ℕ) (told : Bool) (old : List ℕ) → command_of words ≡ None → PrintsBefore words named content before after told old old 2 usage
+before_usage words named content before after told old e = nothing_before words named content before after told old 2 usage (faulty_words e)

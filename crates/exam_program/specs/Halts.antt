@@ -1,5 +1,5 @@
 -- Why a command ends before its work is done.
-use Rattle.std.specs.Prelude.{◌≡◌, ℕ, ◌⊎◌, ◌<◌, ◌≤◌, List, length, Ok, Err}
+use Rattle.std.specs.Prelude.{◌≡◌, ℕ, ◌⊎◌, ◌<◌, ◌≤◌, Bool, IsTrue, List, length, Ok, Err}
 use Rattle.bank_tables.specs.Tables.{Tables}
 use Rattle.bank_reader.specs.Reading.{bank_of}
 use Rattle.exam_model.specs.Plan.{Plan as Numbers}
@@ -18,12 +18,12 @@ use Rattle.exam_program.specs.Bases.{ShowsNoForm, ShowsNoBase}
 use Rattle.exam_program.specs.Scripts.{script_of}
 use Rattle.exam_program.specs.Texts.{no_form, no_base_form}
 
--- the bank text is refused with this fault, unless its files failed or memory ran out
-abbrev pub HaltsAtBank : List ℕ → Halt → Type 0
-HaltsAtBank text (Bank fault) = bank_of text ≡ Err fault
-HaltsAtBank text Files = Unit {0}
-HaltsAtBank text Memory = Unit {0}
-HaltsAtBank text halt = ⊥
+-- the bank text is there and refused with this fault, unless its files failed or memory ran out
+abbrev pub HaltsAtBank : Bool → List ℕ → Halt → Type 0
+HaltsAtBank there text (Bank fault) = IsTrue there × (bank_of text ≡ Err fault)
+HaltsAtBank there text Files = Unit {0}
+HaltsAtBank there text Memory = Unit {0}
+HaltsAtBank there text halt = ⊥
 
 -- the text is a plan text for the bank, and says this plan, which is valid for it
 pub record IsPlanIn (b : Tables) (text : List ℕ) (plan : Numbers) : Type 0 where
@@ -37,25 +37,27 @@ IsOfText fault.Source = ⊥
 IsOfText fault.Memory = ⊥
 IsOfText other = Unit {0}
 
--- the plan text is refused with this fault, unless its files failed or memory ran out
-abbrev pub HaltsAtPlan : Tables → List ℕ → Halt → Type 0
-HaltsAtPlan b text (Plan fault) = IsOfText fault × IsReadFault b text fault
-HaltsAtPlan b text Files = Unit {0}
-HaltsAtPlan b text Memory = Unit {0}
-HaltsAtPlan b text halt = ⊥
+-- the plan text is there and refused with this fault, unless its files failed or memory ran out
+abbrev pub HaltsAtPlan : Tables → Bool → List ℕ → Halt → Type 0
+HaltsAtPlan b there text (Plan fault) = IsTrue there × IsOfText fault × IsReadFault b text fault
+HaltsAtPlan b there text Files = Unit {0}
+HaltsAtPlan b there text Memory = Unit {0}
+HaltsAtPlan b there text halt = ⊥
 
--- the files of these names say this bank, and this plan, which is valid for it
-pub record Reads (content : List ℕ → List ℕ) (bank plan : List ℕ) (b : Tables) (p : Numbers) : Type 0 where
+-- there are files of these names, and they say this bank, and this plan, which is valid for it
+pub record Reads (named : List ℕ → Bool) (content : List ℕ → List ℕ) (bank plan : List ℕ) (b : Tables) (p : Numbers) : Type 0 where
+  pub has_bank : IsTrue (named bank)
+  pub has_plan : IsTrue (named plan)
   pub says_bank : bank_of (content bank) ≡ Ok b
   pub says_plan : IsPlanIn b (content plan) p
 
--- the text of the bank is refused, or that of the plan, unless the files failed or memory ran out
-abbrev pub HaltsAtExam : (List ℕ → List ℕ) → List ℕ → List ℕ → Halt → Type 0
-HaltsAtExam content bank plan (Bank fault) = bank_of (content bank) ≡ Err fault
-HaltsAtExam content bank plan (Plan fault) = (b : Tables) × (bank_of (content bank) ≡ Ok b) × IsOfText fault × IsReadFault b (content plan) fault
-HaltsAtExam content bank plan Files = Unit {0}
-HaltsAtExam content bank plan Memory = Unit {0}
-HaltsAtExam content bank plan halt = ⊥
+-- the text of the bank is there and refused, or that of the plan after the bank is read, unless the files failed or memory ran out
+abbrev pub HaltsAtExam : (List ℕ → Bool) → (List ℕ → List ℕ) → List ℕ → List ℕ → Halt → Type 0
+HaltsAtExam named content bank plan (Bank fault) = IsTrue (named bank) × (bank_of (content bank) ≡ Err fault)
+HaltsAtExam named content bank plan (Plan fault) = (b : Tables) × IsTrue (named bank) × IsTrue (named plan) × (bank_of (content bank) ≡ Ok b) × IsOfText fault × IsReadFault b (content plan) fault
+HaltsAtExam named content bank plan Files = Unit {0}
+HaltsAtExam named content bank plan Memory = Unit {0}
+HaltsAtExam named content bank plan halt = ⊥
 
 -- the most bytes that a script has
 abbrev pub longest_script : ℕ
@@ -66,12 +68,12 @@ pub record IsScript (text : List ℕ) (script : Script) : Type 0 where
   pub short : length text ≤ longest_script
   pub says : script_of text ≡ Ok script
 
--- the text is no script, unless its files failed or memory ran out
-abbrev pub HaltsAtScript : List ℕ → Halt → Type 0
-HaltsAtScript text NotYet = (longest_script < length text) ⊎ (script_of text ≡ Err OutOfForm)
-HaltsAtScript text Files = Unit {0}
-HaltsAtScript text Memory = Unit {0}
-HaltsAtScript text halt = ⊥
+-- the text is there and no script, unless its files failed or memory ran out
+abbrev pub HaltsAtScript : Bool → List ℕ → Halt → Type 0
+HaltsAtScript there text NotYet = IsTrue there × ((longest_script < length text) ⊎ (script_of text ≡ Err OutOfForm))
+HaltsAtScript there text Files = Unit {0}
+HaltsAtScript there text Memory = Unit {0}
+HaltsAtScript there text halt = ⊥
 
 -- the whole problem has no form, or none was found within the base budget, with the text that has the tree, unless memory
 -- ran out

@@ -1,5 +1,5 @@
 -- What the definitions imply, as the public laws state it.
-use Rattle.std.specs.Prelude.{◌≡◌, ℕ, ◌⊎◌, ◌∷◌, ◌++◌, List, Some, Ok, length}
+use Rattle.std.specs.Prelude.{◌≡◌, ℕ, ◌⊎◌, ◌∷◌, ◌++◌, Bool, List, Some, Ok, length}
 use Rattle.hex.specs.Hex.{decode_of, encode_lower}
 use Rattle.bank_tables.specs.Tables.{Tables}
 use Rattle.exam_edge.specs.Faults.{Rose}
@@ -36,31 +36,31 @@ OneTreeOfText = (T U : ProofTree) → IsTree T → IsTree U → tree_text T ≡ 
 -- check does its work, or memory ran out
 abbrev pub CheckIsComplete : Type 0
 CheckIsComplete =
-    (words : List (List ℕ)) (content : List ℕ → List ℕ) (before after : ℕ) (bank plan : List ℕ) (b : Tables) (p : Plan) (status : ℕ) (text : List ℕ)
+    (words : List (List ℕ)) (named : List ℕ → Bool) (content : List ℕ → List ℕ) (before after : ℕ) (bank plan : List ℕ) (b : Tables) (p : Plan) (status : ℕ) (text : List ℕ)
     → command_of words ≡ Some (Check bank plan)
-    → Reads content bank plan b p
+    → Reads named content bank plan b p
     → (Rose before after → ⊥)
-    → Outcome words content before after status text
+    → Outcome words named content before after status text
     → (status ≡ 0) ⊎ (status ≡ 10)
 
 -- and so does assemble, where the plan has a base
 abbrev pub AssembleIsComplete : Type 0
 AssembleIsComplete =
-    (words : List (List ℕ)) (content : List ℕ → List ℕ) (before after : ℕ) (bank plan base : List ℕ) (b : Tables) (p : Plan) (status : ℕ) (text : List ℕ)
+    (words : List (List ℕ)) (named : List ℕ → Bool) (content : List ℕ → List ℕ) (before after : ℕ) (bank plan base : List ℕ) (b : Tables) (p : Plan) (status : ℕ) (text : List ℕ)
     → command_of words ≡ Some (Assemble bank plan)
-    → Reads content bank plan b p
+    → Reads named content bank plan b p
     → p.base ≡ Some base
     → (Rose before after → ⊥)
-    → Outcome words content before after status text
+    → Outcome words named content before after status text
     → (status ≡ 0) ⊎ (status ≡ 10)
 
 -- an answer of the script in the files is refused: the lines before it are printed, and then what isn't built yet
-pub record RefusesAnswer (content : List ℕ → List ℕ) (bank plan name : List ℕ) (text : List ℕ) : Type 0 where
+pub record RefusesAnswer (named : List ℕ → Bool) (content : List ℕ → List ℕ) (bank plan name : List ℕ) (text : List ℕ) : Type 0 where
   pub tables : Tables
   pub numbers : Plan
   pub script : Script
   pub base : List ℕ
-  pub reads : ReadsAll content bank plan name tables numbers script base
+  pub reads : ReadsAll named content bank plan name tables numbers script base
   pub done : List Answer
   pub answer : Answer
   pub rest : List Answer
@@ -74,11 +74,11 @@ pub record RefusesAnswer (content : List ℕ → List ℕ) (bank plan name : Lis
 -- replay does its work, where the script is one and the plan has a base, or an answer is refused, or memory ran out
 abbrev pub ReplayIsComplete : Type 0
 ReplayIsComplete =
-    (words : List (List ℕ)) (content : List ℕ → List ℕ) (before after : ℕ) (bank plan name base : List ℕ) (b : Tables) (p : Plan) (script : Script) (status : ℕ) (text : List ℕ)
+    (words : List (List ℕ)) (named : List ℕ → Bool) (content : List ℕ → List ℕ) (before after : ℕ) (bank plan name base : List ℕ) (b : Tables) (p : Plan) (script : Script) (status : ℕ) (text : List ℕ)
     → command_of words ≡ Some (Replay bank plan name)
-    → Reads content bank plan b p
+    → Reads named content bank plan b p
     → p.base ≡ Some base
     → IsScript (content name) script
     → (Rose before after → ⊥)
-    → Outcome words content before after status text
-    → (status ≡ 0) ⊎ ((status ≡ 10) ⊎ ((status ≡ 15) × RefusesAnswer content bank plan name text))
+    → Outcome words named content before after status text
+    → (status ≡ 0) ⊎ ((status ≡ 10) ⊎ ((status ≡ 15) × RefusesAnswer named content bank plan name text))

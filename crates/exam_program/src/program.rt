@@ -21,11 +21,11 @@ fn work<F: Files, O: Sink>(
 ) -> Result<(), Halt>
     ensures ok { OnOk result (IsTrue (F.tells files.old) → (words : List (List ℕ))
         → command_of words ≡ Some (said command.entry)
-        → Prints words (F.content files.old) (F.faults files.old) (F.faults files.new)
+        → Prints words (F.has files.old) (F.content files.old) (F.faults files.old) (F.faults files.new)
         (O.tells out.old) (O.written out.old) (O.written out.new) 0) }
     ensures err { IfErr result (λ halt. IsTrue (F.tells files.old) → (words : List (List ℕ))
         → command_of words ≡ Some (said command.entry)
-        → Halts words (F.content files.old) (F.faults files.old) (F.faults files.new)
+        → Halts words (F.has files.old) (F.content files.old) (F.faults files.old) (F.faults files.new)
         (O.tells out.old) (O.written out.old) (O.written out.new) halt) }
     ensures files { result ≡ Err Halt.Files → Rose (F.faults files.old) (F.faults files.new) }
     ensures sink { result ≡ Err Halt.Sink → Rose (O.faults out.old) (O.faults out.new) }
@@ -44,7 +44,7 @@ fn work<F: Files, O: Sink>(
 fn status_of<F: Files, O: Sink>(alloc: Global, words: &[String], files: &mut F, out: &mut O) -> u8
     ensures answers { IsTrue (F.tells files.old)
         → Ends (map (λ w. string_bytes w) words.now)
-        (F.content files.old) (F.faults files.old) (F.faults files.new)
+        (F.has files.old) (F.content files.old) (F.faults files.old) (F.faults files.new)
         (O.tells out.old) (O.written out.old) (O.written out.new) result }
     ensures faulty { command_of (map (λ w. string_bytes w) words.now) ≡ None
         → (result ≡ 2) ⊎ (result ≡ 8) }
@@ -84,7 +84,7 @@ pub fn run<R, F: Files, O: Sink>(
     // where the sink tells too.
     ensures answers { IsTrue (F.tells world.files)
         → Ends (map (λ w. string_bytes w) words.now)
-        (F.content world.files) (F.faults world.files) (F.faults result.files)
+        (F.has world.files) (F.content world.files) (F.faults world.files) (F.faults result.files)
         (O.tells world.out) (O.written world.out) (O.written result.out) result.status }
     // The causes, whatever they tell.
     ensures faulty { command_of (map (λ w. string_bytes w) words.now) ≡ None

@@ -29,9 +29,11 @@ pub(crate) struct Exam {
 /// The bank in the file of this name.
 fn bank_in<F: Files>(alloc: Global, files: &mut F, name: &str) -> Result<Bank, Halt>
     ensures ok { IfOk result (λ bank. IsTrue (F.tells files.old) → bank_of (F.content files.old name.now) ≡ Ok bank) }
-    ensures err { IfErr result (λ halt. IsTrue (F.tells files.old) → HaltsAtBank (F.content files.old name.now) halt) }
+    ensures there { IfOk result (λ _. IsTrue (F.tells files.old) → IsTrue (F.has files.old name.now)) }
+    ensures err { IfErr result (λ halt. IsTrue (F.tells files.old) → HaltsAtBank (F.has files.old name.now) (F.content files.old name.now) halt) }
     ensures failed { result ≡ Err Halt.Files → Rose (F.faults files.old) (F.faults files.new) }
     ensures no_sink { result ≢ Err Halt.Sink }
+    ensures names { IsTrue (F.tells files.old) → (file : List ℕ) → F.has files.new file ≡ F.has files.old file }
     ensures content { IsTrue (F.tells files.old) → (file : List ℕ) → F.content files.new file ≡ F.content files.old file }
     ensures grows { F.faults files.old ≤ F.faults files.new }
     ensures tells { F.tells files.new ≡ F.tells files.old }
@@ -49,9 +51,11 @@ fn bank_in<F: Files>(alloc: Global, files: &mut F, name: &str) -> Result<Bank, H
 fn plan_in<F: Files>(alloc: Global, files: &mut F, bank: &Bank, name: &str) -> Result<Spec, Halt>
     ensures ok { IfOk result (λ spec. IsTrue (F.tells files.old) → IsPlanIn bank.now (F.content files.old name.now) spec) }
     ensures valid { IfOk result (λ spec. IsPlanFor bank.now spec) }
-    ensures err { IfErr result (λ halt. IsTrue (F.tells files.old) → HaltsAtPlan bank.now (F.content files.old name.now) halt) }
+    ensures there { IfOk result (λ _. IsTrue (F.tells files.old) → IsTrue (F.has files.old name.now)) }
+    ensures err { IfErr result (λ halt. IsTrue (F.tells files.old) → HaltsAtPlan bank.now (F.has files.old name.now) (F.content files.old name.now) halt) }
     ensures failed { result ≡ Err Halt.Files → Rose (F.faults files.old) (F.faults files.new) }
     ensures no_sink { result ≢ Err Halt.Sink }
+    ensures names { IsTrue (F.tells files.old) → (file : List ℕ) → F.has files.new file ≡ F.has files.old file }
     ensures content { IsTrue (F.tells files.old) → (file : List ℕ) → F.content files.new file ≡ F.content files.old file }
     ensures grows { F.faults files.old ≤ F.faults files.new }
     ensures tells { F.tells files.new ≡ F.tells files.old }
@@ -72,11 +76,12 @@ pub(crate) fn exam_in<F: Files>(
     bank: &str,
     plan: &str,
 ) -> Result<Exam, Halt>
-    ensures ok { IfOk result (λ exam. IsTrue (F.tells files.old) → Reads (F.content files.old) bank.now plan.now exam.bank exam.spec) }
+    ensures ok { IfOk result (λ exam. IsTrue (F.tells files.old) → Reads (F.has files.old) (F.content files.old) bank.now plan.now exam.bank exam.spec) }
     ensures valid { IfOk result (λ exam. IsPlanFor exam.bank exam.spec) }
-    ensures err { IfErr result (λ halt. IsTrue (F.tells files.old) → HaltsAtExam (F.content files.old) bank.now plan.now halt) }
+    ensures err { IfErr result (λ halt. IsTrue (F.tells files.old) → HaltsAtExam (F.has files.old) (F.content files.old) bank.now plan.now halt) }
     ensures failed { result ≡ Err Halt.Files → Rose (F.faults files.old) (F.faults files.new) }
     ensures no_sink { result ≢ Err Halt.Sink }
+    ensures names { IsTrue (F.tells files.old) → (file : List ℕ) → F.has files.new file ≡ F.has files.old file }
     ensures content { IsTrue (F.tells files.old) → (file : List ℕ) → F.content files.new file ≡ F.content files.old file }
     ensures grows { F.faults files.old ≤ F.faults files.new }
     ensures tells { F.tells files.new ≡ F.tells files.old }
@@ -94,9 +99,11 @@ pub(crate) fn exam_in<F: Files>(
 fn script_text<F: Files>(alloc: Global, files: &mut F, name: &str) -> Result<Vec<u8>, Halt>
     ensures ok { IfOk result (λ text. IsTrue (F.tells files.old) → text.items ≡ F.content files.old name.now) }
     ensures short { IfOk result (λ text. length text.items ≤ longest_script) }
-    ensures err { IfErr result (λ halt. IsTrue (F.tells files.old) → HaltsAtScript (F.content files.old name.now) halt) }
+    ensures there { IfOk result (λ _. IsTrue (F.tells files.old) → IsTrue (F.has files.old name.now)) }
+    ensures err { IfErr result (λ halt. IsTrue (F.tells files.old) → HaltsAtScript (F.has files.old name.now) (F.content files.old name.now) halt) }
     ensures failed { result ≡ Err Halt.Files → Rose (F.faults files.old) (F.faults files.new) }
     ensures no_sink { result ≢ Err Halt.Sink }
+    ensures names { IsTrue (F.tells files.old) → (file : List ℕ) → F.has files.new file ≡ F.has files.old file }
     ensures content { IsTrue (F.tells files.old) → (file : List ℕ) → F.content files.new file ≡ F.content files.old file }
     ensures grows { F.faults files.old ≤ F.faults files.new }
     ensures tells { F.tells files.new ≡ F.tells files.old }
@@ -113,7 +120,8 @@ fn script_text<F: Files>(alloc: Global, files: &mut F, name: &str) -> Result<Vec
 /// The script in the file of this name.
 pub(crate) fn script_in<F: Files>(alloc: Global, files: &mut F, name: &str) -> Result<Script, Halt>
     ensures ok { IfOk result (λ script. IsTrue (F.tells files.old) → IsScript (F.content files.old name.now) script) }
-    ensures err { IfErr result (λ halt. IsTrue (F.tells files.old) → HaltsAtScript (F.content files.old name.now) halt) }
+    ensures there { IfOk result (λ _. IsTrue (F.tells files.old) → IsTrue (F.has files.old name.now)) }
+    ensures err { IfErr result (λ halt. IsTrue (F.tells files.old) → HaltsAtScript (F.has files.old name.now) (F.content files.old name.now) halt) }
     ensures failed { result ≡ Err Halt.Files → Rose (F.faults files.old) (F.faults files.new) }
     ensures no_sink { result ≢ Err Halt.Sink }
     ensures grows { F.faults files.old ≤ F.faults files.new }

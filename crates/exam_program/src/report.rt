@@ -1,6 +1,6 @@
 //! How a command ends: the text of its halt, and the status.
 
-ghost use Rattle.std.specs.Prelude.{◌≡◌, ◌≢◌, ℕ, ◌≤◌, ◌⊎◌, List, IfSome, string_bytes, codes};
+ghost use Rattle.std.specs.Prelude.{◌≡◌, ◌≢◌, ℕ, ◌≤◌, ◌⊎◌, Bool, List, IfSome, string_bytes, codes};
 ghost use Rattle.exam_edge.specs.Faults.{Rose};
 ghost use Rattle.exam_program.specs.Outcomes.{Ends, Halts, PrintsBefore, EndsBy};
 
@@ -11,9 +11,10 @@ use std::alloc::Global;
 
 /// Prints the last text, and gives the status to end with: 8 where the sink fails.
 pub(crate) fn print<O: Sink>(out: &mut O, text: &[u8], status: u8) -> u8
-    ensures answers { (words : List (List ℕ)) (content : List ℕ → List ℕ) (before after : ℕ) (first : List ℕ)
-        → PrintsBefore words content before after (O.tells out.old) first (O.written out.old) status text.now
-        → Ends words content before after (O.tells out.old) first (O.written out.new) result }
+    ensures answers { (words : List (List ℕ)) (named : List ℕ → Bool) (content : List ℕ → List ℕ)
+        (before after : ℕ) (first : List ℕ)
+        → PrintsBefore words named content before after (O.tells out.old) first (O.written out.old) status text.now
+        → Ends words named content before after (O.tells out.old) first (O.written out.new) result }
     ensures status { (result ≡ status) ⊎ ((result ≡ 8) × Rose (O.faults out.old) (O.faults out.new)) }
     ensures grows { O.faults out.old ≤ O.faults out.new }
     ensures tells { O.tells out.new ≡ O.tells out.old }
@@ -27,9 +28,10 @@ pub(crate) fn print<O: Sink>(out: &mut O, text: &[u8], status: u8) -> u8
 /// Ends a command that met a fault.
 #[tactic(auto, unfolding(crate::specs::Texts::not_yet, exam_text::specs::Texts::files_failed, exam_text::specs::Texts::no_memory))]
 pub(crate) fn report<O: Sink>(alloc: Global, out: &mut O, halt: Halt) -> u8
-    ensures answers { (words : List (List ℕ)) (content : List ℕ → List ℕ) (before after : ℕ) (first : List ℕ)
-        → Halts words content before after (O.tells out.old) first (O.written out.old) halt
-        → Ends words content before after (O.tells out.old) first (O.written out.new) result }
+    ensures answers { (words : List (List ℕ)) (named : List ℕ → Bool) (content : List ℕ → List ℕ)
+        (before after : ℕ) (first : List ℕ)
+        → Halts words named content before after (O.tells out.old) first (O.written out.old) halt
+        → Ends words named content before after (O.tells out.old) first (O.written out.new) result }
     ensures status { EndsBy halt result ⊎ ((result ≡ 8) × Rose (O.faults out.old) (O.faults out.new)) }
     ensures grows { O.faults out.old ≤ O.faults out.new }
     ensures tells { O.tells out.new ≡ O.tells out.old }

@@ -43,11 +43,11 @@ pub(crate) fn check<F: Files, O: Sink>(
 ) -> Result<(), Halt>
     ensures ok { OnOk result (IsTrue (F.tells files.old) → (words : List (List ℕ))
         → command_of words ≡ Some (Check bank.now plan.now)
-        → Prints words (F.content files.old) (F.faults files.old) (F.faults files.new)
+        → Prints words (F.has files.old) (F.content files.old) (F.faults files.old) (F.faults files.new)
         (O.tells out.old) (O.written out.old) (O.written out.new) 0) }
     ensures err { IfErr result (λ halt. IsTrue (F.tells files.old) → (words : List (List ℕ))
         → command_of words ≡ Some (Check bank.now plan.now)
-        → Halts words (F.content files.old) (F.faults files.old) (F.faults files.new)
+        → Halts words (F.has files.old) (F.content files.old) (F.faults files.old) (F.faults files.new)
         (O.tells out.old) (O.written out.old) (O.written out.new) halt) }
     ensures files { result ≡ Err Halt.Files → Rose (F.faults files.old) (F.faults files.new) }
     ensures sink { result ≡ Err Halt.Sink → Rose (O.faults out.old) (O.faults out.new) }
@@ -79,11 +79,11 @@ pub(crate) fn assemble<F: Files, O: Sink>(
 ) -> Result<(), Halt>
     ensures ok { OnOk result (IsTrue (F.tells files.old) → (words : List (List ℕ))
         → command_of words ≡ Some (Assemble bank.now plan.now)
-        → Prints words (F.content files.old) (F.faults files.old) (F.faults files.new)
+        → Prints words (F.has files.old) (F.content files.old) (F.faults files.old) (F.faults files.new)
         (O.tells out.old) (O.written out.old) (O.written out.new) 0) }
     ensures err { IfErr result (λ halt. IsTrue (F.tells files.old) → (words : List (List ℕ))
         → command_of words ≡ Some (Assemble bank.now plan.now)
-        → Halts words (F.content files.old) (F.faults files.old) (F.faults files.new)
+        → Halts words (F.has files.old) (F.content files.old) (F.faults files.old) (F.faults files.new)
         (O.tells out.old) (O.written out.old) (O.written out.new) halt) }
     ensures files { result ≡ Err Halt.Files → Rose (F.faults files.old) (F.faults files.new) }
     ensures sink { result ≡ Err Halt.Sink → Rose (O.faults out.old) (O.faults out.new) }
@@ -127,11 +127,11 @@ pub(crate) fn serve<F: Files, O: Sink>(
 ) -> Result<(), Halt>
     ensures ok { OnOk result (IsTrue (F.tells files.old) → (words : List (List ℕ))
         → command_of words ≡ Some (Replay bank.now plan.now script.now)
-        → Prints words (F.content files.old) (F.faults files.old) (F.faults files.new)
+        → Prints words (F.has files.old) (F.content files.old) (F.faults files.old) (F.faults files.new)
         (O.tells out.old) (O.written out.old) (O.written out.new) 0) }
     ensures err { IfErr result (λ halt. IsTrue (F.tells files.old) → (words : List (List ℕ))
         → command_of words ≡ Some (Replay bank.now plan.now script.now)
-        → Halts words (F.content files.old) (F.faults files.old) (F.faults files.new)
+        → Halts words (F.has files.old) (F.content files.old) (F.faults files.old) (F.faults files.new)
         (O.tells out.old) (O.written out.old) (O.written out.new) halt) }
     ensures files { result ≡ Err Halt.Files → Rose (F.faults files.old) (F.faults files.new) }
     ensures sink { result ≡ Err Halt.Sink → Rose (O.faults out.old) (O.faults out.new) }

@@ -12,7 +12,7 @@ returns-in_default-clause-answers g c = λ told.
     let words : List (List ℕ) = map (λ w. string_bytes w) c.args.words.now in
     let faulty : command_of words ≡ None = sym c.command_of.ensures ∙ ap (option_map said) c.in_default.is in
     let faults : ℕ = g.F.Files.faults c.args.files.now in
-    c.print.ensures.answers words (g.F.Files.content c.args.files.now) faults faults (g.O.Sink.written c.args.out.now) (before_usage words (g.F.Files.content c.args.files.now) faults faults (g.O.Sink.tells c.args.out.now) (g.O.Sink.written c.args.out.now) faulty)
+    c.print.ensures.answers words (g.F.Files.has c.args.files.now) (g.F.Files.content c.args.files.now) faults faults (g.O.Sink.written c.args.out.now) (before_usage words (g.F.Files.has c.args.files.now) (g.F.Files.content c.args.files.now) faults faults (g.O.Sink.tells c.args.out.now) (g.O.Sink.written c.args.out.now) faulty)
 
 pub returns-in_default-clause-status : goal.returns-in_default-clause-status
 returns-in_default-clause-status g c = elim c.print.ensures.status [ inl e ↦ also 2 c.print.result e is_2 | inr e ↦ also 8 c.print.result e.0 is_8 ]
