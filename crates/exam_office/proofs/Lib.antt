@@ -1,0 +1,16 @@
+pub mod Records
+pub mod Marking
+pub mod Kept
+pub mod Moments
+pub mod Sessions
+pub mod Calling
+pub mod Opened
+pub mod FileLaws
+pub mod Written
+pub mod Settled
+pub mod Called
+pub mod TakingLaws
+pub mod Answered
+pub mod Starts
+pub mod Committed
+pub mod Reported

@@ -1,0 +1,77 @@
+-- What writing a record comes to, for an office that is open.
+use Rattle.std.proofs.Common.{◌≡◌, ℕ, ◌+◌, ◌<◌, ◌≤◌, List, [], ◌∷◌, ◌++◌, Option, Some, None, IsTrue, refl, sym, ◌∙◌, ap, subst}
+use Rattle.bank_tables.specs.Tables.{Tables}
+use Rattle.exam_model.specs.Plan.{Plan}
+use Rattle.exam_edge.specs.Faults.{Rose}
+use Rattle.exam_edge.specs.Images.{Account, latest, AllImages, AtEachMoment}
+use Rattle.history_model.specs.declared.entry.Entry.{Entry}
+use Rattle.history_model.specs.Judging.{MayFollow, Record}
+use Rattle.exam_session.specs.Ledgers.{Ledger}
+use Rattle.answer_journal.specs.Journal.{JournalState, length_of, limit_of, tells_of, accounts_of, payloads_of, IsReady, IsDoubtful, faults_of}
+use Rattle.answer_journal.specs.Standing.{IsBeforeOrWith}
+use Rattle.exam_records.specs.Spelling.{payload_of}
+use Rattle.exam_records.specs.Shape.{IsRecord}
+use Rattle.answer_journal.specs.Frames.{shadowj1}
+use Rattle.exam_office.specs.declared.mark.Mark.{Mark}
+use Rattle.exam_office.specs.declared.mark.Mark.TheVariants.{Own, Fault}
+use Rattle.exam_office.specs.Files.{Stands}
+use Rattle.exam_office.specs.Marks.{history}
+use Rattle.exam_office.specs.Running.{Running}
+use Rattle.exam_office.specs.Keeping.{IsSure, IsKept}
+use Rattle.exam_office.specs.Writing.{IsWriting}
+use Rattle.exam_office.proofs.Kept.{kept_own, kept_fault}
+use Rattle.exam_office.proofs.Moments.{sure_images, writing_moments, still_writing}
+
+module _ {D : Type 0} (b : Tables) (plan : Plan) (base : List ℕ) (book : Ledger) (j : JournalState D) (M : List Mark) (doubt : Option Entry) (opened : D) (count : ℕ) (kept : IsKept b plan base book j M doubt count)
+    (now : Running D) (view : record { bank = b; plan = plan; base = base; marks = M; doubt = doubt; journal = j; opened = opened } ≡ now)
+    (sure : now.doubt ≡ None) (r : Record) (may : MayFollow now.bank now.plan (history now.marks) r.entry r.tree) where
+  none : doubt ≡ None
+  none = ap (λ (o : Running D). o.doubt) view ∙ sure
+
+  kept_sure : IsKept b plan base book j M None count
+  kept_sure = subst (λ (d : Option Entry). IsKept b plan base book j M d count) none kept
+
+  may_here : MayFollow b plan (history M) r.entry r.tree
+  may_here = subst (λ (o : Running D). MayFollow o.bank o.plan (history o.marks) r.entry r.tree) (sym view) may
+
+  told_here : IsTrue (tells_of now.journal) → IsTrue (tells_of j)
+  told_here told = subst (λ (o : Running D). IsTrue (tells_of o.journal)) (sym view) told
+
+  seen : (later : List Account) → AtEachMoment (accounts_of j) later (IsWriting b plan (history M) r.entry) → AtEachMoment (accounts_of now.journal) later (IsWriting now.bank now.plan (history now.marks) r.entry)
+  seen later moments = subst (λ (o : Running D). AtEachMoment (accounts_of o.journal) later (IsWriting o.bank o.plan (history o.marks) r.entry)) view moments
+
+  -- before anything is written
+  pub moments_before : IsTrue (tells_of now.journal) → AtEachMoment (accounts_of now.journal) (accounts_of j) (IsWriting now.bank now.plan (history now.marks) r.entry)
+  moments_before told = seen (accounts_of j) (still_writing b plan j (history M) r.entry kept_sure.backed (told_here told))
+
+  pub moments_still : IsTrue (tells_of now.journal) → AtEachMoment (accounts_of now.journal) (accounts_of now.journal) (IsWriting now.bank now.plan (history now.marks) r.entry)
+  moments_still told = subst (λ (o : Running D). AtEachMoment (accounts_of o.journal) (accounts_of o.journal) (IsWriting o.bank o.plan (history o.marks) r.entry)) view (still_writing b plan j (history M) r.entry kept_sure.backed (told_here told))
+
+  -- while it is written
+  pub moments_of : (later : List Account) (payload : List ℕ) → payload ≡ payload_of r → IsRecord r → (IsTrue (tells_of j) → AtEachMoment (accounts_of j) later (IsBeforeOrWith shadowj1 (payloads_of j) payload)) → IsTrue (tells_of now.journal) → AtEachMoment (accounts_of now.journal) later (IsWriting now.bank now.plan (history now.marks) r.entry)
+  moments_of later payload is spells moments told =
+      seen later (writing_moments b plan j (history M) kept_sure.backed r spells may_here later (told_here told) (subst (λ (p : List ℕ). AtEachMoment (accounts_of j) later (IsBeforeOrWith shadowj1 (payloads_of j) p)) is (moments (told_here told))))
+
+  -- it was written
+  pub kept_written : (book1 : Ledger) (j1 : JournalState D) (payload : List ℕ) → payload ≡ payload_of r → IsRecord r
+      → book1.bank ≡ book.bank → book1.plan ≡ book.plan → book1.entries ≡ book.entries ++ r.entry ∷ []
+      → IsReady j1 → limit_of j1 ≡ limit_of j → faults_of j ≤ faults_of j1 → tells_of j1 ≡ tells_of j
+      → (IsTrue (tells_of j) → payloads_of j1 ≡ payloads_of j ++ payload ∷ [])
+      → IsKept b plan base book1 j1 (M ++ Own r.entry (length_of j1) ∷ []) doubt count
+  kept_written book1 j1 payload is spells bank plan_is entries ready limit grows tells added =
+      subst (λ (d : Option Entry). IsKept b plan base book1 j1 (M ++ Own r.entry (length_of j1) ∷ []) d count) (sym none)
+      (kept_own b plan base count book book1 j j1 M kept_sure r spells may_here bank plan_is entries ready limit grows tells (λ told. added told ∙ ap (λ (p : List ℕ). payloads_of j ++ p ∷ []) is))
+
+  pub images_written : (j1 : JournalState D) (M1 : List Mark) (book1 : Ledger) → IsKept b plan base book1 j1 M1 doubt count → tells_of j1 ≡ tells_of j → IsTrue (tells_of now.journal) → AllImages (Stands now.bank now.plan (history M1)) (latest (accounts_of j1))
+  images_written j1 M1 book1 kept1 tells told =
+      let k : IsKept b plan base book1 j1 M1 None count = subst (λ (d : Option Entry). IsKept b plan base book1 j1 M1 d count) none kept1 in
+      subst (λ (o : Running D). AllImages (Stands o.bank o.plan (history M1)) (latest (accounts_of j1))) view
+      (sure_images b plan j1 (history M1) k.backed (subst IsTrue (sym tells) (told_here told)))
+
+  -- the disk failed
+  pub kept_faulted : (book1 : Ledger) (j1 : JournalState D) (payload : List ℕ) → payload ≡ payload_of r → IsRecord r
+      → book1.bank ≡ book.bank → book1.plan ≡ book.plan → book1.entries ≡ book.entries → 0 < book1.room
+      → IsDoubtful (payloads_of j) payload j1 → length_of j1 ≡ length_of j → limit_of j1 ≡ limit_of j → Rose (faults_of j) (faults_of j1) → tells_of j1 ≡ tells_of j
+      → IsKept b plan base book1 j1 (M ++ Fault r.entry ∷ []) (Some r.entry) count
+  kept_faulted book1 j1 payload is spells bank plan_is entries room doubtful size limit rose tells =
+      kept_fault b plan base count book book1 j j1 M kept_sure r spells may_here bank plan_is entries room (subst (λ (p : List ℕ). IsDoubtful (payloads_of j) p j1) is doubtful) size limit rose tells

@@ -1,0 +1,20 @@
+use Rattle.std.proofs.Common.{◌≡◌, List, IsTrue, sym, subst}
+use Rattle.exam_edge.specs.Images.{Account, AllImages, latest}
+use Rattle.answer_journal.specs.Journal.{accounts_of}
+use Rattle.exam_office.specs.Marks.{history}
+use Rattle.exam_office.specs.Running.{Running}
+use Rattle.exam_office.specs.Writing.{IsMending}
+use Rattle.exam_office.proofs.Moments.{each_image}
+use Rattle.exam_office.proofs.office.Office.into_disk.Goals as goal
+
+pub returns-clause-images : goal.returns-clause-images
+returns-clause-images g c = λ told.
+    let o = c.self.inside in
+    let now = c.args.self in
+    let kept = c.self.invariant in
+    let here : AllImages (IsMending o.bank.now o.spec.now (history o.marks) o.doubt) (latest (accounts_of o.journal)) = each_image o.bank.now o.spec.now o.journal o.marks o.doubt o.book.room kept.backed (subst IsTrue c.into_disk.ensures.tells told) in
+    let there : AllImages (IsMending now.bank now.plan (history now.marks) now.doubt) (latest (accounts_of o.journal)) = subst (λ (r : Running g.row.D.Denot). AllImages (IsMending r.bank r.plan (history r.marks) r.doubt) (latest (accounts_of o.journal))) c.self.view_is here in
+    subst (λ (accounts : List Account). AllImages (IsMending now.bank now.plan (history now.marks) now.doubt) (latest accounts)) (sym c.into_disk.ensures.accounts) there
+
+pub returns-clause-content : goal.returns-clause-content
+returns-clause-content g c = λ told. returns-clause-images g c told (g.D.Disk.content c.into_disk.result) (g.met.D.Disk.is_image c.into_disk.result told)

@@ -1,0 +1,9 @@
+pub mod Files
+pub mod Marks
+pub mod Running
+pub mod Keeping
+pub mod Writing
+pub mod Calls
+pub mod Opening
+pub mod Laws
+pub mod Commits

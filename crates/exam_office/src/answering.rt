@@ -1,0 +1,111 @@
+//! Answers, and where a session stands.
+
+ghost use Rattle.std.specs.Prelude.{◌≡◌, ◌≤◌, Some, None, IsTrue, IfOk, IfErr, OnOk};
+ghost use Rattle.exam_edge.specs.Lent.{IsLent};
+ghost use Rattle.exam_edge.specs.Images.{AllImages, AtEachMoment, latest};
+ghost use Rattle.history_model.specs.Places.{place};
+ghost use Rattle.history_model.specs.declared.request.Request.TheVariants.{Answer, Look};
+ghost use Rattle.answer_journal.specs.Journal.{tells_of, accounts_of, faults_of, identity_of};
+ghost use Rattle.exam_office.specs.Files.{Stands};
+ghost use Rattle.exam_office.specs.Marks.{history};
+ghost use Rattle.history_model.specs.Refusals.{refusal_of};
+ghost use Rattle.exam_office.specs.Writing.{IsSameOffice};
+ghost use Rattle.exam_office.specs.Calls.{Calls, FindsAnswer, IsLeft, refused_with, IsAnswerFound};
+
+use crate::office::Office;
+use exam_edge::Disk;
+use history_model::{Entry, Place, Refusal};
+use std::alloc::Global;
+
+impl<'a, D: Disk> Office<'a, D> {
+    /// Where a session stands.
+    pub fn look(&self, session: u32) -> Result<Place, Refusal>
+        ensures at { IfOk result (λ at. place self.now.plan (history self.now.marks) session
+            ≡ Some at) }
+        ensures refused { IfErr result (λ refusal. refusal_of self.now.bank self.now.plan
+            (history self.now.marks) (Look session) ≡ Some refusal) }
+    {
+        match self.book.place(session) {
+            Some(place) => Ok(place),
+            None => Err(Refusal::NoSession(self.book.sessions())),
+        }
+    }
+
+    /// Whether an answer is recorded already, or why it is refused.
+    fn find_answer(&self, session: u32, step: u16, response: u8) -> Result<bool, Refusal>
+        ensures found { IfOk result (λ is_recorded. IsAnswerFound self.now.bank self.now.plan
+            (history self.now.marks) session step response is_recorded) }
+        ensures refused { IfErr result (λ refusal. refusal_of self.now.bank self.now.plan
+            (history self.now.marks) (Answer session step response) ≡ Some refusal) }
+    {
+        let Some(place) = self.book.place(session) else {
+            return Err(Refusal::NoSession(self.book.sessions()));
+        };
+        if let Some(given) = self.book.recorded(session, step) {
+            if given == response {
+                return Ok(true);
+            }
+            return Err(Refusal::Other(given));
+        }
+        match place {
+            Place::Pending(at) => Err(Refusal::WrongStep(at)),
+            Place::Waiting { step: at, item, .. } => {
+                if at != step {
+                    return Err(Refusal::WrongStep(at));
+                }
+                let categories = self.bank.categories(item);
+                if response < categories {
+                    Ok(false)
+                } else {
+                    Err(Refusal::BadResponse(categories))
+                }
+            }
+            Place::Complete | Place::Closed => Err(Refusal::IsClosed(place)),
+        }
+    }
+
+    /// Records an answer.
+    pub fn answer(
+        &mut self,
+        alloc: Global,
+        session: u32,
+        step: u16,
+        response: u8,
+    ) -> Result<Place, Refusal>
+        ensures same { IsSameOffice self.old self.new }
+        ensures call { Calls
+            (FindsAnswer self.old.bank self.old.plan session step response) self.old self.new
+            (refused_with result) }
+        ensures at { IfOk result (λ at. place self.new.plan (history self.new.marks) session
+            ≡ Some at) }
+        ensures images { OnOk result (IsTrue (tells_of self.old.journal)
+            → AllImages (Stands self.old.bank self.old.plan (history self.new.marks))
+            (latest (accounts_of self.new.journal))) }
+        ensures moments { IsTrue (tells_of self.old.journal)
+            → AtEachMoment (accounts_of self.old.journal) (accounts_of self.new.journal)
+            (IsLeft self.old.bank self.old.plan
+            (FindsAnswer self.old.bank self.old.plan session step response)
+            (history self.old.marks) self.old.doubt) }
+        ensures frame { IsLent tells_of identity_of faults_of self.old.journal self.new.journal }
+    {
+        match self.settle() {
+            Ok(()) => {}
+            Err(refusal) => return Err(refusal),
+        }
+        match self.find_answer(session, step, response) {
+            Err(refusal) => Err(refusal),
+            Ok(true) => self.look(session),
+            Ok(false) => {
+                let entry = Entry::Answered {
+                    session,
+                    step,
+                    response,
+                };
+                match self.write(alloc, &entry, None) {
+                    Ok(()) => self.look(session),
+                    Err(refusal) => Err(refusal),
+                }
+            }
+        }
+    }
+}

@@ -1,0 +1,54 @@
+//! The office.
+
+use crate::mark::Mark;
+use answer_journal::Journal;
+use bank_tables::{Bank, ItemSet};
+use constraint_model::Spec;
+use exam_edge::Disk;
+use exam_session::Book;
+use history_log::Counted;
+use history_model::Entry;
+use std::marker::Model;
+use std::snapshot::Snapshot;
+
+/// A book over a journal: each entry of an examination is on the disk before it is acknowledged.
+pub struct Office<'a, D: Disk> {
+    pub(crate) bank: &'a Bank,
+    pub(crate) spec: &'a Spec,
+    /// A form of the plan alone.
+    pub(crate) base: ItemSet,
+    pub(crate) book: Book<'a>,
+    pub(crate) journal: Journal<D>,
+    /// The marks, for contracts alone.
+    pub(crate) marks: Counted<Mark>,
+    /// The entry in doubt.
+    pub(crate) doubt: Option<Entry>,
+    /// The disk as it was handed in, for contracts alone.
+    pub(crate) opened: Snapshot<D>,
+}
+
+impl<'a, D: Disk> Model for Office<'a, D> {
+    ghost use Rattle.exam_office.specs.Running.{Running};
+    ghost use Rattle.exam_office.specs.Keeping.{IsKept};
+
+    ghost Value = { Running D };
+
+    ghost view = { λ o. record { bank = o.bank.now; plan = o.spec.now; base = o.base; marks = o.marks; doubt = o.doubt; journal = o.journal; opened = o.opened.value } };
+
+    ghost invariant = { λ o. IsKept o.bank.now o.spec.now o.base o.book o.journal o.marks o.doubt
+        (D.faults o.opened.value) };
+}
+
+fn may_move<T: Send>() {}
+
+// It compiles only while each part of an office may move to another thread, the journal where its disk may.
+fn parts_may_move<'a, D: Disk + Send>() {
+    may_move::<&'a Bank>();
+    may_move::<&'a Spec>();
+    may_move::<ItemSet>();
+    may_move::<Book<'a>>();
+    may_move::<Journal<D>>();
+    may_move::<Counted<Mark>>();
+    may_move::<Option<Entry>>();
+    may_move::<Snapshot<D>>();
+}

@@ -1,0 +1,91 @@
+//! What an office reports, and what it was opened with.
+
+ghost use Rattle.std.specs.Prelude.{◌≡◌, ℕ, Some, IfOk, IfErr, IfSome, IfNone};
+ghost use Rattle.exam_model.specs.Validity.{IsWellMade};
+ghost use Rattle.constraint_model.specs.Views.{problem_of};
+ghost use Rattle.history_model.specs.declared.place.Place.TheVariants.{Pending};
+ghost use Rattle.history_model.specs.declared.refusal.Refusal.TheVariants.{Memory as OutOfMemory};
+ghost use Rattle.history_model.specs.Places.{place};
+ghost use Rattle.history_model.specs.Requests.{IsExposureOf};
+ghost use Rattle.history_model.specs.SessionProblems.{IsProblemOf};
+ghost use Rattle.history_model.specs.Summaries.{summary};
+ghost use Rattle.exam_office.specs.Marks.{history};
+
+use crate::office::Office;
+use bank_tables::{Bank, ItemSet, List};
+use constraint_model::{Problem, Spec};
+use exam_edge::{Disk, Memory};
+use exposure_counters::Counters;
+use history_model::{Counts, Exposure, Refusal, Summary};
+use std::alloc::Global;
+
+#[tactic(auto, using(crate::proofs::Reported::row_more, crate::proofs::Reported::rows_end))]
+/// The counts of each item, in order.
+fn rows_of(alloc: Global, counters: &Counters) -> Result<List<Counts>, Memory>
+    ensures { IfOk result (λ rows. rows ≡ counters.now.counts) }
+{
+    let mut rows = Vec::new(alloc);
+    for item in 0..counters.items() {
+        rows.push(counters.read(item))?;
+    }
+    Ok(List::of(rows))
+}
+
+impl<'a, D: Disk> Office<'a, D> {
+    /// The problem of a session that waits for an item; none where it doesn't.
+    pub fn problem(&self, session: u32) -> Option<Problem<'a>>
+        ensures problem { IfSome result (λ p. IsProblemOf self.now.bank self.now.plan
+            (history self.now.marks) session p.step (problem_of p)) }
+        ensures well_made { IfSome result (λ p. IsWellMade (problem_of p)) }
+        ensures none { IfNone result ((step : ℕ)
+            → place self.now.plan (history self.now.marks) session ≡ Some (Pending step) → ⊥) }
+    {
+        self.book.problem(session)
+    }
+
+    #[tactic(auto, using(crate::proofs::Reported::exposed))]
+    /// The number of finished sessions, and the exposure counts of each item of the bank. Fails
+    /// only where it is out of memory.
+    pub fn exposure(&self, alloc: Global) -> Result<Exposure, Refusal>
+        ensures exposure { IfOk result (λ exposure. IsExposureOf self.now.bank self.now.plan
+            (history self.now.marks) exposure) }
+        ensures memory { IfErr result (λ refusal. refusal ≡ OutOfMemory) }
+    {
+        let counters = self.book.counters();
+        match rows_of(alloc, counters) {
+            Ok(rows) => Ok(Exposure {
+                finished: counters.finished(),
+                rows,
+            }),
+            Err(_) => Err(Refusal::Memory),
+        }
+    }
+
+    /// The history in numbers. It takes no memory.
+    pub fn summary(&self) -> Summary
+        ensures { result ≡ summary self.now.plan (history self.now.marks) }
+    {
+        self.book.summary()
+    }
+
+    /// The base form.
+    pub fn base(&self) -> ItemSet
+        ensures { result ≡ self.now.base }
+    {
+        self.base
+    }
+
+    /// The bank.
+    pub fn bank(&self) -> &'a Bank
+        ensures { result.now ≡ self.now.bank }
+    {
+        self.bank
+    }
+
+    /// The plan.
+    pub fn spec(&self) -> &'a Spec
+        ensures { result.now ≡ self.now.plan }
+    {
+        self.spec
+    }
+}

@@ -1,0 +1,133 @@
+//! How an office writes.
+
+ghost use Rattle.std.specs.Prelude.{◌≡◌, ◌+◌, ◌<◌, ◌≤◌, [], ◌∷◌, ◌++◌, length, None, IsTrue, IfOk, IfErr, OnOk};
+ghost use Rattle.std.specs.Option.{option_copied};
+ghost use Rattle.exam_edge.specs.Lent.{IsLent};
+ghost use Rattle.exam_edge.specs.Images.{AllImages, AtEachMoment, latest};
+ghost use Rattle.history_model.specs.Judging.{MayFollow};
+ghost use Rattle.exam_records.specs.Shape.{GoesWith, IsRecord};
+ghost use Rattle.exam_records.specs.Spelling.{payload_of};
+ghost use Rattle.answer_journal.specs.Journal.{tells_of, accounts_of, faults_of, identity_of};
+ghost use Rattle.exam_office.specs.declared.mark.Mark.TheVariants.{Own};
+ghost use Rattle.exam_office.specs.Files.{Stands};
+ghost use Rattle.exam_office.specs.Marks.{history};
+ghost use Rattle.exam_office.specs.Writing.{IsMending, IsWriting, IsMended, IsSameOffice, IsUnmended, IsUnwritten, with_record};
+
+use crate::mark::{Mark, room_for_mark};
+use crate::office::Office;
+use answer_journal::{Adopted, AppendFault, Frame};
+use exam_edge::{Disk, Memory};
+use exam_records::encode_parts;
+use history_model::laws::may_is_legal;
+use history_model::{Entry, Refusal};
+use proof_tree::Tree;
+use std::alloc::Global;
+
+/// The frame of the record of an entry and its tree.
+fn frame_of(alloc: Global, entry: &Entry, tree: Option<&Tree>) -> Result<Frame, Memory>
+    requires { GoesWith entry.now (option_copied tree) }
+    ensures frame { IfOk result (λ frame. frame ≡ payload_of
+        (record { entry = entry.now; tree = option_copied tree.entry })) }
+    ensures is_record { IsRecord (record { entry = entry.now; tree = option_copied tree.entry }) }
+{
+    let payload = encode_parts(alloc, entry, tree)?;
+    Frame::of(alloc, &payload)
+}
+
+impl<'a, D: Disk> Office<'a, D> {
+    /// Resolves the entry in doubt, if there is one: keeps it exactly where the disk has it.
+    pub(crate) fn settle(&mut self) -> Result<(), Refusal>
+        ensures same { IsSameOffice self.old self.new }
+        ensures sure { OnOk result (self.new.doubt ≡ None) }
+        ensures mended { OnOk result (IsMended self.old.marks self.old.doubt self.new.marks) }
+        ensures refused { IfErr result (IsUnmended self.old self.new) }
+        ensures images { OnOk result (IsTrue (tells_of self.old.journal)
+            → AllImages (Stands self.old.bank self.old.plan (history self.new.marks))
+            (latest (accounts_of self.new.journal))) }
+        ensures moments { IsTrue (tells_of self.old.journal)
+            → AtEachMoment (accounts_of self.old.journal) (accounts_of self.new.journal)
+            (IsMending self.old.bank self.old.plan (history self.old.marks) self.old.doubt) }
+        ensures frame { IsLent tells_of identity_of faults_of self.old.journal self.new.journal }
+    {
+        let Some(entry) = &self.doubt else {
+            return Ok(());
+        };
+        match room_for_mark(&self.marks) {
+            Ok(()) => {}
+            Err(_) => return Err(Refusal::Memory),
+        }
+        match self.journal.mend() {
+            Ok(Adopted::Kept) => {
+                may_is_legal();
+                self.book.apply(*entry);
+                let size = self.journal.length();
+                self.marks.push(&Mark::Adopted(*entry, size));
+                self.doubt = None;
+                Ok(())
+            }
+            Ok(Adopted::Dropped) => {
+                self.doubt = None;
+                Ok(())
+            }
+            Err(_) => {
+                self.marks.push(&Mark::Fault(*entry));
+                Err(Refusal::Disk)
+            }
+        }
+    }
+
+    /// Writes the record of an entry and its tree, which may follow; nothing is in doubt before.
+    pub(crate) fn write(
+        &mut self,
+        alloc: Global,
+        entry: &Entry,
+        tree: Option<&Tree>,
+    ) -> Result<(), Refusal>
+        requires sure { self.old.doubt ≡ None }
+        requires may { MayFollow self.old.bank self.old.plan (history self.old.marks) entry.now
+            (option_copied tree) }
+        ensures same { IsSameOffice self.old self.new }
+        ensures sure { OnOk result (self.new.doubt ≡ None) }
+        ensures written { OnOk result (self.new.marks ≡ self.old.marks ++ Own entry.now
+            (with_record self.old.marks
+            (record { entry = entry.now; tree = option_copied tree.entry })) ∷ []) }
+        ensures refused { IfErr result (IsUnwritten self.old self.new
+            (record { entry = entry.now; tree = option_copied tree.entry })) }
+        ensures images { OnOk result (IsTrue (tells_of self.old.journal)
+            → AllImages (Stands self.old.bank self.old.plan (history self.new.marks))
+            (latest (accounts_of self.new.journal))) }
+        ensures moments { IsTrue (tells_of self.old.journal)
+            → AtEachMoment (accounts_of self.old.journal) (accounts_of self.new.journal)
+            (IsWriting self.old.bank self.old.plan (history self.old.marks) entry.now) }
+        ensures frame { IsLent tells_of identity_of faults_of self.old.journal self.new.journal }
+    {
+        let _ = &self.journal;
+        let frame = match frame_of(alloc, entry, tree) {
+            Ok(frame) => frame,
+            Err(_) => return Err(Refusal::Memory),
+        };
+        match room_for_mark(&self.marks) {
+            Ok(()) => {}
+            Err(_) => return Err(Refusal::Memory),
+        }
+        match self.book.reserve(alloc) {
+            Ok(()) => {}
+            Err(_) => return Err(Refusal::Memory),
+        }
+        match self.journal.append(&frame) {
+            Ok(()) => {
+                may_is_legal();
+                self.book.apply(*entry);
+                let size = self.journal.length();
+                self.marks.push(&Mark::Own(*entry, size));
+                Ok(())
+            }
+            Err(AppendFault::Full(size)) => Err(Refusal::JournalFull(size)),
+            Err(AppendFault::Disk) => {
+                self.marks.push(&Mark::Fault(*entry));
+                self.doubt = Some(*entry);
+                Err(Refusal::Disk)
+            }
+        }
+    }
+}
