@@ -3,13 +3,14 @@ use Rattle.std.specs.Prelude.{◌≡◌, ℕ, ◌+◌, ◌*◌, ◌≤◌, ◌<�
 use Rattle.bank_tables.specs.Tables.{Tables}
 use Rattle.exam_model.specs.Ability.{AnswerList, log_posterior}
 
--- a grid of so many points, how many answers were added, and a sum at each point; what stands past the grid is not read
+-- a grid of so many points, how many answers were added, and a sum at each point; the values past
+-- the grid are not read
 pub record Running : Type 0 where
   pub grid : ℕ
   pub additions : ℕ
   pub values : List ℤ
 
--- read at a point of the grid alone
+-- read only at a point of the grid
 abbrev pub sum_at : Running → ℕ → ℤ
 sum_at running point = get_or running.values point (pos 0)
 

@@ -152,7 +152,7 @@ no_source text (Err e) given P = λ source. elim given [
     unlike : (let m : ReadFault = Source in m ≡ Memory) → ⊥
     unlike e = cc
 
--- the same where it is known that the source tells its bytes
+-- the same if the source reports its bytes
 pub is_found : (T : Type 0) (text : List ℕ) (r : Result Tables ReadFault) → (T → Reads text r) → IfOk r (λ b. T → IsBankText text b)
 is_found T text (Ok b) given = λ told. text_is text b (given told)
 is_found T text (Err e) given = tt

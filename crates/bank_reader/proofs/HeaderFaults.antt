@@ -30,7 +30,7 @@ lead_is n m p le pass stop = elim (cases_lt m n) [
   | inr past ↦ (let same : n ≡ m = omega arith in rw same (all_lead m p pass))
 ]
 
--- the one behind those that lead does not pass
+-- the first number after those that lead does not pass
 lead_fails : (n : ℕ) (p : ℕ → Bool) → lead n p < n → p (lead n p) ≡ false
 lead_fails zero p lt = absurd (omega (arith, lt))
 lead_fails (suc n) p lt = elim (cases_Bool (eqb (lead n p) n && p n)) [
@@ -106,7 +106,7 @@ header_again cols s h =
 clash : (x : List ℕ) (a b : ℕ) (xs ys : List ℕ) → x ≡ a ∷ xs → x ≡ b ∷ ys → (a ≡ b → ⊥) → ⊥
 clash x a b xs ys e f other = other (ap (λ (l : List ℕ). get_or l 0 0) (sym e ∙ f))
 
--- a header that begins with a point's column behind the quantities has so many quantities
+-- if a header has a column after the q columns of quantities that lead, it has q quantities
 same_quantities : (cols : List (List ℕ)) (s : Shape) (n q : ℕ) → IsShape s → AreNamed cols s n → 3 + q < n → leading_quantities cols 8 ≡ q → s.quantities ≡ q
 unfolding leading_quantities
 same_quantities cols s n q h is lt e =
@@ -124,7 +124,7 @@ same_quantities cols s n q h is lt e =
       ]
     ]
 
--- and with a likelihood's column behind the points so many points
+-- if it also has a column after the g columns of points that lead, it has g points
 same_points : (cols : List (List ℕ)) (s : Shape) (n q g : ℕ) → IsShape s → AreNamed cols s n → s.quantities ≡ q → 3 + q + g < n → leading_points cols (3 + q) 61 ≡ g → s.grid ≡ g
 unfolding leading_points
 same_points cols s n q g h is same lt e =
@@ -149,7 +149,7 @@ begins_from cols s n le is = record { there = named_there cols s n (names_from c
 kinds_of : (cols : List (List ℕ)) (s : Shape) (n : ℕ) → BeginsAs cols s n → AreNamed cols s n
 kinds_of cols s n h = named_from cols s n h.names
 
--- what three tests in a row say of the number that pass
+-- the number of tests that pass before the first that fails, of three in a row
 record FixedPass (a b c : Bool) (n : ℕ) : Type 0 where
   first : 0 < n → a ≡ true
   second : 1 < n → b ≡ true
@@ -237,7 +237,7 @@ logliks_end cols from grid lt =
     let n = leading_loglik cols from grid in
     not_named cols (from + n) (loglik_name (n / grid) (n % grid)) (lead_fails (5 * grid) (λ k. is_named cols (from + k) (loglik_name (k / grid) (k % grid))) lt)
 
--- no point stands behind the quantities
+-- there is no point after the quantities
 no_points_fault : (cols : List (List ℕ)) → AreFixed cols → leading_points cols (3 + leading_quantities cols 8) 61 ≡ 0 → ((s : Shape) → IsHeader cols s → ⊥) → IsHeaderFault cols (3 + leading_quantities cols 8)
 no_points_fault cols fixed empty none =
     let q : ℕ = leading_quantities cols 8 in
@@ -303,7 +303,7 @@ no_header cols e refused s h = ok_or_err s e (sym (header_again cols s h) ∙ re
 above : (n : ℕ) → (n ≡ 0 → ⊥) → 0 < n
 above n h = omega arith
 
--- columns that are refused depart from every header, where it is said
+-- columns that are refused depart from every header, at the column of the fault
 pub header_fault : (cols : List (List ℕ)) (e : ReadFault) → header_of cols ≡ Err e → (c : ℕ) × (e ≡ Header c) × IsHeaderFault cols c
 unfolding header_of
 header_fault cols e refused =

@@ -95,7 +95,7 @@ empty_fine s k n i fields has past h = record {
 abbrev FineBelow : Shape → ℕ → List (List ℕ) → ℕ → Type 0
 FineBelow s k fields n = (d : ℕ) → d < n → IsColumn s k fields d
 
--- columns behind those that are fine
+-- columns after those that are fine
 fine_on : (s : Shape) (k : ℕ) (fields : List (List ℕ)) (from n : ℕ) → FineBelow s k fields from → ((i : ℕ) → i < n → IsColumn s k fields (from + i)) → FineBelow s k fields (from + n)
 fine_on s k fields from n before more d lt = elim (cases_lt d from) [
   | inl early ↦ before d early
@@ -176,7 +176,7 @@ empty_fault s k n fields e wide has before h =
     not_none : (x : List ℕ) → 0 < length x → x ≡ [] → ⊥
     not_none x some e = let z : length x ≡ 0 = ap (λ (y : List ℕ). length y) e in omega arith
 
--- the columns behind the item's number
+-- the columns after the item's number
 abbrev values_at : Shape → ℕ → List (List ℕ) → Result Item ReadFault
 values_at s k fields = do
   stimulus ← number_at k 1 fields
@@ -217,7 +217,7 @@ values_fault s k fields e wide fine h = elim (bind_err (number_at k 1 fields) _ 
       ])
 ]
 
--- a record that is refused is no item, as it is said
+-- a record that is refused is no item, for the reason that the fault gives
 pub item_fault : (s : Shape) (k : ℕ) (fields : List (List ℕ)) (e : ReadFault) → item_at s k fields ≡ Err e → IsItemFault s k fields e
 unfolding item_at
 item_fault s k fields e h = elim (unless_err (fault_where (not (eqb (length fields) (width s))) (Csv k)) _ e h) [

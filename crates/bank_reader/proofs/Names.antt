@@ -6,7 +6,7 @@ use Rattle.std.proofs.lemmas.List.{get_or_past}
 use Rattle.bank_reader.specs.declared.item.Shape.{Shape}
 use Rattle.bank_reader.specs.Columns.{field, first_loglik, quantity_name, point_name, loglik_name, name_of}
 
--- from the third column on, the first three names are behind
+-- the name of column 3 + k, without the cases of the first three columns
 behind : (s : Shape) (k : ℕ) → name_of s (3 + k) ≡ cond (nat_lt (3 + k) (3 + s.quantities)) (quantity_name (3 + k - 3)) (cond (nat_lt (3 + k) (first_loglik s)) (point_name (3 + k - (3 + s.quantities))) (loglik_name ((3 + k - first_loglik s) / s.grid) ((3 + k - first_loglik s) % s.grid)))
 behind s k = rw (ne_eqb (3 + k) 0 (λ e. omega (arith, e)), ne_eqb (3 + k) 1 (λ e. omega (arith, e)), ne_eqb (3 + k) 2 (λ e. omega (arith, e))) refl
 
@@ -32,7 +32,7 @@ name_loglik s k =
     let place : 3 + (s.quantities + s.grid + k) - first_loglik s ≡ k = omega arith in
     rw at (behind s (s.quantities + s.grid + k) ∙ rw (past, past_points, place) refl)
 
--- the first n columns have the names of the shape, said kind by kind
+-- the first n columns have the names of the shape, stated kind by kind
 pub record AreNamed (cols : List (List ℕ)) (s : Shape) (n : ℕ) : Type 0 where
   pub item : 0 < n → field cols 0 ≡ codes "item"
   pub stimulus : 1 < n → field cols 1 ≡ codes "stimulus"

@@ -18,7 +18,7 @@ first_loglik s = 3 + s.quantities + s.grid
 abbrev pub width : Shape → ℕ
 width s = first_loglik s + s.responses * s.grid
 
--- what a header may say: up to 8 quantities, 1 to 61 grid points, 2 to 5 responses
+-- what a header may have: up to 8 quantities, 1 to 61 grid points, 2 to 5 responses
 pub record IsShape (s : Shape) : Type 0 where
   pub quantities : s.quantities ≤ 8
   pub grid_low : 1 ≤ s.grid

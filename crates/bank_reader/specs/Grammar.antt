@@ -1,4 +1,4 @@
--- The grammar of a bank text. It says nothing of reading.
+-- The grammar of a bank text. It does not depend on how a text is read.
 use Rattle.std.specs.Prelude.{◌≡◌, ◌≢◌, ℕ, ◌+◌, ◌-◌, ◌*◌, ◌<◌, ◌≤◌, List, [], length, get_or, min, Some, ℤ, pos}
 use Rattle.std.specs.Fmt.{decimal, signed_decimal}
 use Rattle.csv.specs.Reading.{default_config, strip_bom, records}
@@ -44,7 +44,7 @@ pub record IsHeader (cols : List (List ℕ)) (s : Shape) : Type 0 where
   pub count : length cols ≡ width s
   pub names : (c : ℕ) → c < width s → field cols c ≡ name_of s c
 
--- the records of a bank text: a header, and an item in each record behind it
+-- the records of a bank text: a header, and an item in each record after it
 pub record IsBankRows (rows : List (List (List ℕ))) (b : Tables) : Type 0 where
   pub shape : Shape
   pub header : IsHeader (get_or rows 0 []) shape
@@ -94,7 +94,7 @@ IsItemFault s k fields (Csv r) = (r ≡ k) × (length fields ≢ width s)
 IsItemFault s k fields (Field r c) = (r ≡ k) × (length fields ≡ width s) × (c < width s) × ((d : ℕ) → d < c → IsColumn s k fields d) × (IsColumn s k fields c → ⊥)
 IsItemFault s k fields _ = ⊥
 
--- record k is the first behind the header that is no item
+-- record k is the first after the header that is no item
 pub record IsRecordFault (rows : List (List (List ℕ))) (k : ℕ) (fault : ReadFault) : Type 0 where
   pub shape : Shape
   pub header : IsHeader (get_or rows 0 []) shape

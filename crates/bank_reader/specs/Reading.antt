@@ -18,14 +18,14 @@ number_at k c fields = or_fault (number_of nine_digits (field fields c)) (Field 
 unfoldable pub signed_at : ℕ → ℕ → List (List ℕ) → Result ℤ ReadFault
 signed_at k c fields = or_fault (signed_of nine_digits (field fields c)) (Field k c)
 
--- numbers in columns that stand side by side
+-- the numbers in `count` columns side by side, the first of them column `from`
 abbrev pub numbers_at : ℕ → ℕ → ℕ → List (List ℕ) → Result (List ℕ) ReadFault
 numbers_at k from count fields = each_below count (λ i. number_at k (from + i) fields)
 
 abbrev pub signeds_at : ℕ → ℕ → ℕ → List (List ℕ) → Result (List ℤ) ReadFault
 signeds_at k from count fields = each_below count (λ i. signed_at k (from + i) fields)
 
--- the first column of some side by side that isn't empty
+-- the first column that isn't empty, of `count` columns side by side, as a fault
 abbrev pub not_empty_at : ℕ → ℕ → ℕ → List (List ℕ) → Option ReadFault
 not_empty_at k from count fields = first_below count (λ i. fault_where (nat_lt 0 (length (field fields (from + i)))) (Field k (from + i)))
 
@@ -43,7 +43,7 @@ item_at s k fields =
         unless (not_empty_at k (first_loglik s + min categories s.responses * s.grid) ((s.responses - min categories s.responses) * s.grid) fields)
             (Ok (record { stimulus = stimulus; categories = categories; quantities = quantities; info = info; loglik = loglik }))))
 
--- the items of the records behind the header
+-- the items of the records after the header
 unfoldable pub items_at : Shape → List (List (List ℕ)) → Result (List Item) ReadFault
 items_at s rows = each_below (length rows - 1) (λ i. item_at s (i + 1) (get_or rows (i + 1) []))
 
@@ -63,7 +63,8 @@ leading_fixed cols =
     else if not (is_named cols 2 (codes "categories")) then 2
     else 3
 
--- (the most is a parameter, since a numeral there would be counted down in each goal)
+-- how many columns from column 3 on have the names of quantities, in order, up to `most`; `most` is
+-- a parameter, since a numeral in its place would be counted down in each goal of a proof
 unfoldable pub leading_quantities : List (List ℕ) → ℕ → ℕ
 leading_quantities cols most = lead most (λ k. is_named cols (3 + k) (quantity_name k))
 
@@ -101,7 +102,8 @@ bank_of text =
       rows ← rows_of (records_of text)
       unless (option_map Bank (bank_fault rows)) (Ok rows))
 
--- What was read is what the text says, unless memory ran out or the source failed.
+-- What was read is the bank of the text, or its first fault, unless memory ran out or the source
+-- failed.
 abbrev pub Reads : List ℕ → Result Tables ReadFault → Type 0
 Reads text (Ok b) = bank_of text ≡ Ok b
 Reads text (Err e) = (e ≡ Memory) ⊎ (e ≡ Source) ⊎ (bank_of text ≡ Err e)

@@ -27,7 +27,7 @@ fn bounds_text(alloc: Global, fault: BankFault) -> Result<String, AllocError>
 }
 
 impl ReadFault {
-    /// The line that tells a user what is wrong with a bank text, with its end.
+    /// The line that reports to a user what is wrong with a bank text, with its line feed.
     #[tactic(auto, unfolding(crate::specs::Texts::bank_text, exam_text::specs::Texts::files_failed, exam_text::specs::Texts::no_memory))]
     pub fn text(self, alloc: Global) -> Result<String, AllocError>
         ensures { IfOk result (λ line. string_bytes line ≡ bank_text self) }

@@ -95,7 +95,7 @@ fn leading_loglik(row: &ByteRecord, from: u32, grid: u32) -> u32
     5 * grid
 }
 
-/// The shape that the header says.
+/// The shape that the header gives, or its first fault.
 #[tactic(auto, unfolding(crate::specs::Reading::header_of))]
 pub fn header_of(row: &ByteRecord) -> Result<Shape, ReadFault>
     ensures value { Gives Memory (λ s. s) result (header_of (fields_of row.now)) }

@@ -90,7 +90,7 @@ pub fn item_in(
     })
 }
 
-/// The items in the records behind the header.
+/// The items in the records after the header.
 #[tactic(auto, unfolding(crate::specs::Reading::items_at))]
 pub fn items_in(
     alloc: Global,

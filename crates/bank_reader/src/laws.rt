@@ -1,4 +1,4 @@
-//! Laws of the bank text: the reading function `bank_of` gives what the grammar says.
+//! Laws of the bank text: the reading function `bank_of` gives what the grammar defines.
 
 ghost use Rattle.std.specs.Prelude.{◌≡◌, ℕ, List, Ok, Err};
 ghost use Rattle.bank_tables.specs.Tables.{Tables};

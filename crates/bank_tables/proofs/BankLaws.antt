@@ -41,7 +41,7 @@ loglik_is z e = let p = and_parts (not (int_lt z (neg_ℤ (pos 10000000)))) (not
 loglik_from : (z : ℤ) → IsLogLik z → is_loglik z ≡ true
 loglik_from z h = and_from _ _ (not_from_false _ (grind (arith, ints, h.0))) (not_from_false _ (grind (arith, ints, h.1)))
 
--- what the tests of an item say
+-- what the tests of an item mean
 record ItemStands (grid quantities : ℕ) (r : Item) : Type 0 where
   stimulus : r.stimulus ≤ 64
   low : 2 ≤ r.categories
@@ -95,7 +95,7 @@ item_from grid quantities i r h =
       all_pass is_loglik r.loglik (pos 0) (λ k lt. loglik_from (get_or r.loglik k (pos 0)) (h.loglik_range k)),
     ) refl
 
--- past the last item stands no item, whose numbers are 0
+-- the item past the last one is `no_item`, whose numbers are 0
 past_all : (b : Tables) (i : ℕ) → size b ≤ i → (P : Item → Type 0) → P no_item → P (item b i)
 past_all b i past P h = subst P (sym (get_or_past b.items i no_item past)) h
 

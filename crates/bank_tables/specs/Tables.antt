@@ -11,7 +11,7 @@ Tables = Rows
 abbrev pub Item : Type 0
 Item = ItemRow
 
--- what stands past the last item
+-- the item that is read past the last one
 abbrev pub no_item : Item
 no_item = record { stimulus = 0; categories = 0; quantities = []; info = []; loglik = [] }
 
@@ -34,6 +34,6 @@ quantity b i which = get_or (item b i).quantities which 0
 abbrev pub info : Tables → ℕ → ℕ → ℕ
 info b i point = get_or (item b i).info point 0
 
--- read at a point of the grid alone: the numbers lie response by response
+-- read only at a point of the grid; the numbers are in order of response, then of point
 abbrev pub loglik : Tables → ℕ → ℕ → ℕ → ℤ
 loglik b i response point = get_or (item b i).loglik (response * b.grid + point) (pos 0)

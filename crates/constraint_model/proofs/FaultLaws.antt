@@ -10,7 +10,7 @@ use Rattle.constraint_model.specs.declared.spec_fault.SpecFault.{SpecFault}
 use Rattle.constraint_model.specs.declared.spec_fault.SpecFault.TheVariants.{Length, BadPrior, TooManyRows, RowBounds, EmptySet, BadItem, BadQuantity, BadStimulus, BadRate, BadBudget, BadLimit, BadBase, Memory}
 use Rattle.constraint_model.specs.Faults.{set_fault, row_fault, front_fault, bound_fault, bounds_fault, limits_fault, numbers_fault, IsSpecFault}
 
--- the tests of numbers give neither a breach of the base nor want of memory
+-- the tests of numbers give neither a breach of the base nor lack of memory
 abbrev IsOfNumbers : SpecFault → Type 0
 IsOfNumbers (BadBase breach) = ⊥
 IsOfNumbers Memory = ⊥

@@ -14,7 +14,7 @@ use Rattle.exam_model.specs.Forms.{used, items_of}
 use Rattle.exam_model.proofs.SumLaws.{either, any_intro, any_elim, count_some, count_none}
 use Rattle.constraint_model.specs.Faults.{is_empty, has_unknown}
 
--- nothing stands past the words
+-- a number past the words is not in the set
 past_words : (words : List ℕ) (i : ℕ) → 64 * length words ≤ i → has words i ≡ false
 unfolding has
 past_words words i past =
@@ -64,7 +64,7 @@ no_unknown_from b words h = not_true _ (λ some.
     let above : size b ≤ i = leb-true (size b) i parts.1 in
     omega arith)
 
--- ---- the tests, by what a set's calls tell
+-- ---- the tests, by the answers of a set's calls
 pub empty_by_first : (words : List ℕ) (first : Option ℕ) (none : Bool) → MatchOption first ((i : ℕ) → has words i ≡ false) (λ x. IsLowest (has words) x) → is_some first ≡ not none → none ≡ is_empty words
 empty_by_first words None true h e = sym (empty_from words h)
 empty_by_first words None false h e = absurd cc

@@ -6,7 +6,7 @@ use Rattle.exam_model.specs.Plan.{Plan, row_at}
 use Rattle.exam_model.specs.Forms.{stimuli_of}
 use Rattle.exam_model.specs.Validity.{IsRow}
 
--- the rows speak of the bank, and each of its stimuli has bounds
+-- there are at most 128 rows, each is a row for the bank, and each stimulus of the bank has bounds
 pub record IsCountable (b : Tables) (plan : Plan) : Type 0 where
   pub few_rows : length plan.rows ≤ 128
   pub rows : (r : ℕ) → r < length plan.rows → IsRow b (row_at plan r)

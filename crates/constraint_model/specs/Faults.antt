@@ -26,7 +26,7 @@ is_empty words = not (any_below (64 * length words) (has words))
 unfoldable pub has_unknown : Tables → List ℕ → Bool
 has_unknown b words = any_below (64 * length words) (λ i. has words i && nat_le (size b) i)
 
--- bounds out of order, or above what the row can come to
+-- bounds out of order, or an upper bound above `most`, the greatest that the row may have
 abbrev pub range_fault : ℕ → ℕ → ℕ → ℕ → Option SpecFault
 range_fault r low high most = fault_where (nat_lt high low || nat_lt most high) (RowBounds r)
 
@@ -66,7 +66,8 @@ front_fault b plan =
 abbrev pub bound_fault : ℕ → StimulusBound → Option SpecFault
 bound_fault s bound = fault_where ((bound.low == 0) || (nat_lt bound.high bound.low || nat_lt 512 bound.high)) (BadStimulus s)
 
--- the tests of the bounds: their number first, then stimulus by stimulus; those of stimulus k + 1 stand at k
+-- the tests of the bounds: their number first, then stimulus by stimulus; those of stimulus k + 1
+-- are at place k
 unfoldable pub bounds_fault : Tables → Plan → Option SpecFault
 bounds_fault b plan =
     fault_where (nat_lt (length plan.bounds) (stimuli_of b)) (BadStimulus (length plan.bounds + 1))
@@ -107,7 +108,7 @@ abbrev pub IsBaseFault : Tables → Plan → Option Breach → Type 0
 IsBaseFault b plan None = (words : List ℕ) → plan.base ≡ Some words → Meets b plan (has words)
 IsBaseFault b plan (Some breach) = IsBaseBreach b plan breach
 
--- the first fault of a draft: its base is tested last; want of memory is no fault of a draft
+-- the first fault of a draft: its base is tested last; lack of memory is no fault of a draft
 abbrev pub IsSpecFault : Tables → Plan → SpecFault → Type 0
 IsSpecFault b plan (BadBase breach) = (numbers_fault b plan ≡ None) × IsBaseBreach b plan breach
 IsSpecFault b plan Memory = ⊥

@@ -1,4 +1,4 @@
-//! What a set of items comes to on a row or a stimulus.
+//! The sum or the count of a set of items on a row or a stimulus.
 
 ghost use Rattle.std.specs.Prelude.{◌≡◌, ◌<◌, ◌≤◌};
 ghost use Rattle.bank_tables.specs.Items.{has};

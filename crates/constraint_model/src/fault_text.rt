@@ -8,7 +8,7 @@ use crate::spec_fault::SpecFault;
 use std::alloc::{AllocError, Global};
 
 impl SpecFault {
-    /// The line that tells a user what is wrong with a plan, with its end.
+    /// The line that reports to a user what is wrong with a plan, with its line feed.
     #[tactic(auto, unfolding(crate::specs::Texts::draft_text, exam_text::specs::Texts::no_memory))]
     pub fn text(self, alloc: Global) -> Result<String, AllocError>
         ensures { IfOk result (λ line. string_bytes line ≡ draft_text self) }

@@ -2,7 +2,8 @@
 
 ghost use Rattle.constraint_model.specs.Laws.{PlanOrFault, NoFaultIsPlan, PlanHasNoFault, OneFault};
 
-/// A draft without a fault is a plan for the bank, and a plan has none: one of the two stands for each draft.
+/// A draft without a fault is a plan for the bank, and a plan has none: each draft is a plan, or it
+/// has a fault.
 pub fn a_plan_has_no_fault()
     ensures one_stands { PlanOrFault }
     ensures plan { NoFaultIsPlan }

@@ -29,7 +29,7 @@ impl Model for Spec {
     ghost invariant = { λ s. IsKey s.draft.key };
 }
 
-/// What the type of a key says of it.
+/// What is true of a key by its type.
 fn facts_of_key(key: &[u8; 32])
     ensures { IsKey key.now }
 {

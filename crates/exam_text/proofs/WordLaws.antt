@@ -8,7 +8,7 @@ pub words_again : (w : List ℕ) (ws : List (List ℕ)) → NoneHas 32 (w ∷ ws
 words_again w [] h = slice_split_none (λ b. eqb b 32) w h.0
 words_again w (v ∷ vs) h = slice_split_at (λ b. eqb b 32) w 32 (spaced (v ∷ vs)) h.0 refl ∙ ap (λ (xs : List (List ℕ)). w ∷ xs) (words_again v vs h.1)
 
--- behind the last line feed stands an empty part
+-- the part after the last line feed is empty
 parts_again : (lines : List (List ℕ)) → NoneHas 10 lines → parts_at 10 (text_of_lines lines) ≡ lines ++ [] ∷ []
 parts_again [] h = refl
 parts_again (line ∷ lines) h = slice_split_at (λ b. eqb b 10) line 10 (text_of_lines lines) h.0 refl ∙ ap (λ (xs : List (List ℕ)). line ∷ xs) (parts_again lines h.1)

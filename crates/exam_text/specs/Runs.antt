@@ -7,7 +7,7 @@ use Rattle.exam_text.specs.Numbers.{number_of}
 use Rattle.exam_text.specs.Words.{word}
 use Rattle.exam_text.specs.declared.run.Run.{Run}
 
--- its word: `a` for one item, `a-b` for more
+-- the word of a run: `a` for one item, `a-b` for more
 abbrev pub run_word : Run → List ℕ
 run_word r = if (r.low == r.high) then decimal r.low else (decimal r.low ++ 45 ∷ decimal r.high)
 
@@ -16,7 +16,7 @@ run_between None b = None
 run_between (Some low) None = None
 run_between (Some low) (Some high) = if nat_lt low high then Some (record { low = low; high = high }) else None
 
--- where the first dash stands
+-- the place of the first dash
 abbrev pub dash_at : List ℕ → Option ℕ
 dash_at text = position (λ b. b == 45) text
 
@@ -33,7 +33,7 @@ abbrev pub is_run_from : ℕ → Option Run → Bool
 is_run_from from None = false
 is_run_from from (Some r) = nat_le from r.low
 
--- the lowest item that may come behind a run
+-- the lowest item that may follow a run
 abbrev pub behind_run : Option Run → ℕ
 behind_run None = 0
 behind_run (Some r) = r.high + 1
@@ -43,7 +43,7 @@ abbrev pub behind : List (List ℕ) → ℕ → ℕ
 behind words zero = 0
 behind words (suc i) = behind_run (run_of (word words i))
 
--- word i is a run, behind the one before it
+-- word i is a run, and begins after the run of the word before it
 abbrev pub fits : List (List ℕ) → ℕ → Bool
 fits words i = is_run_from (behind words i) (run_of (word words i))
 

@@ -15,14 +15,15 @@ without_empty_last parts = if (length (get_or parts (length parts - 1) []) == 0)
 abbrev pub lines_of : List ℕ → List (List ℕ)
 lines_of text = without_empty_last (parts_at 10 text)
 
--- the words of a line, parted by one space each: where two spaces stand together, or one at either end, a word is empty
+-- the words of a line, with one space between each two; if two spaces are together, or one is at
+-- either end, a word is empty
 abbrev pub words_of : List ℕ → List (List ℕ)
 words_of line = parts_at 32 line
 
 abbrev pub word : List (List ℕ) → ℕ → List ℕ
 word words i = get_or words i []
 
--- no word is empty: a space stands alone, and none at either end
+-- no word is empty: no two spaces are together, and none is at either end
 abbrev pub none_empty : List (List ℕ) → Bool
 none_empty words = all_below (length words) (λ i. nat_lt 0 (length (word words i)))
 
@@ -32,7 +33,7 @@ spaced [] = []
 spaced (w ∷ []) = w
 spaced (w ∷ v ∷ vs) = w ++ 32 ∷ spaced (v ∷ vs)
 
--- the text of lines: a line feed behind each
+-- the text of lines: a line feed after each
 abbrev pub text_of_lines : List (List ℕ) → List ℕ
 text_of_lines [] = []
 text_of_lines (line ∷ lines) = line ++ 10 ∷ text_of_lines lines

@@ -31,7 +31,7 @@ pub fn a_line_is_read_as_its_words()
     ensures { (w : List ℕ) (ws : List (List ℕ)) → NoneHas 32 (w ∷ ws) → words_of (spaced (w ∷ ws)) ≡ w ∷ ws }
 {}
 
-/// Lines without line feeds, written with a line feed behind each, are the lines of that text.
+/// Lines without line feeds, written with a line feed after each, are the lines of that text.
 pub fn a_text_is_read_as_its_lines()
     ensures { (lines : List (List ℕ)) → NoneHas 10 lines → lines_of (text_of_lines lines) ≡ lines }
 {}

@@ -62,8 +62,8 @@ pub fn run_of(text: &[u8]) -> Option<Run>
     }
 }
 
-/// The run of word `i` of a set of items, where it begins at `from` or later: the item behind the run of the word before, 0
-/// for the first word.
+/// The run of word `i` of a set of items, if it begins at `from` or later. `from` is the item after
+/// the run of the word before; it is 0 for the first word.
 pub fn next_run(words: &[&[u8]], from: u16, i: usize) -> Option<Run>
     requires within { i < length words.now }
     requires next { from ≡ behind (map (λ w. w.now) words.now) i }

@@ -39,7 +39,7 @@ pub fn word_at<'a>(words: &[&'a [u8]], i: usize) -> &'a [u8]
     words[i]
 }
 
-/// Whether no word is empty: each space stands alone, and none at either end of the line.
+/// Whether no word is empty: no two spaces are together, and none is at either end of the line.
 pub fn none_empty(words: &[&[u8]]) -> bool
     ensures { result ≡ none_empty (map (λ w. w.now) words.now) }
 {

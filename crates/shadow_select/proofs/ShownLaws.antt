@@ -14,7 +14,7 @@ use Rattle.exam_model.specs.declared.seat.Seat.{Seat}
 use Rattle.exam_model.specs.Seats.{is_shown, last_shown}
 use Rattle.std.proofs.lemmas.List.Folds.{list_any_at, list_any_more}
 
--- what stands in the list is found in it
+-- a number at a place of the list is found in it
 pub found_at : (xs : List ℕ) (k x : ℕ) → slice_get xs k ≡ Some x → list_any (λ item. item == x) xs ≡ true
 found_at xs k x e = list_any_at (λ (item : ℕ). item == x) xs k 0 (slice_get_within xs k x e) (eq-eqb (get_or xs k 0) x (get_or_from_slice_get xs k x 0 e))
 

@@ -34,7 +34,7 @@ front xs x k y within e =
     let here : get_or xs k 0 ≡ y = sym (get_or-append xs (x ∷ []) 0 k within) ∙ some_same _ _ (sym (slice_get-get_or (xs ++ x ∷ []) k 0 inside) ∙ e) in
     slice_get-get_or xs k 0 within ∙ ap (λ (z : ℕ). Some z) here
 
--- at the end stands the new number
+-- the number at the end is the new one
 at_end : (xs : List ℕ) (x k y : ℕ) → k ≡ length xs → slice_get (xs ++ x ∷ []) k ≡ Some y → y ≡ x
 at_end xs x k y end e =
     let inside : k < length (xs ++ x ∷ []) = omega (arith, last_number xs x) in

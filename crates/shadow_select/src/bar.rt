@@ -31,7 +31,8 @@ fn is_barred(
     !shown.has(item) && (left_behind || !seat.aside && !seat.eligible.has(item))
 }
 
-/// The items barred: those not shown that are of a stimulus left behind, or not eligible where eligibility isn't set aside.
+/// The items barred: those not shown that are of a stimulus that was left, or not eligible where
+/// eligibility isn't set aside.
 pub fn barred_items(bank: &Bank, seat: &Seat, shown: &ItemSet) -> ItemSet
     requires items { (i : ℕ) → IsTrue (is_shown seat.now i) → i < size bank.now }
     requires shown { (i : ℕ) → has shown.now i ≡ is_shown seat.now i }

@@ -28,7 +28,7 @@ use Rattle.spec_reader.specs.Reading.{rule_at, number_fault, numbers_fault, IsPl
 use Rattle.spec_reader.proofs.PlainLaws.{printed_again}
 use Rattle.spec_reader.proofs.DraftLaws.{drafted_again}
 
--- ---- what a plan says can be printed
+-- ---- what a plan means can be printed
 
 greatest_le : (n : ℕ) (f : ℕ → ℕ) (m : ℕ) → ((i : ℕ) → f i ≤ m) → greatest_below n f ≤ m
 greatest_le zero f m h = omega arith
@@ -126,7 +126,7 @@ canonical_printed b plan bank is key =
     (bounds_printed (length plan.bounds) plan.bounds (omega (arith, is.each_stimulus, few_stimuli b bank)) (short_bound b plan is)))
     (base_printed plan.base (λ words e. form_is b plan words bank is.some_items (is.base_meets words e)))
 
--- ---- no line stands twice
+-- ---- no line occurs twice
 
 has_mark-append : (m : ℕ) (xs ys : List Said) → has_mark m (xs ++ ys) ≡ (has_mark m xs || has_mark m ys)
 has_mark-append m xs ys = list_any-append (λ r. is_mark m (mark_of r)) xs ys
@@ -232,7 +232,7 @@ canonical_known n plan e =
     let all : AreKnown n (((S ++ R) ++ B) ++ C) = known_append n ((S ++ R) ++ B) C (known_append n (S ++ R) B (known_append n S R settings (rows_known n plan.rows)) (bounds_known n (length plan.bounds) plan.bounds (omega (arith, e)))) (base_known n (option_map has plan.base)) in
     none_from (length (((S ++ R) ++ B) ++ C)) (λ i. number_fault n (rule_at (((S ++ R) ++ B) ++ C) i)) (known_at n (((S ++ R) ++ B) ++ C) all)
 
--- the canonical text of a plan says the plan
+-- the canonical text of a plan means the plan
 pub canonical_says : (b : Tables) (plan : Plan) → IsBank b → IsPlanFor b plan → IsKey plan.key → IsPlanText b (canonical plan) plan
 unfolding canonical
 canonical_says b plan bank is key = record {

@@ -1,4 +1,4 @@
--- The lines of a canonical text say the plan that they were printed of.
+-- The lines of a canonical text mean the plan that they were printed from.
 use Rattle.std.proofs.Common.{◌≡◌, ℕ, zero, suc, ◌+◌, ◌-◌, ◌<◌, ◌≤◌, List, [], ◌∷◌, ◌++◌, length, get_or, map, take, drop, set, Option, Some, None, refl, sym, ap, subst, ◌∙◌, arith, append_assoc, drop-cons, add-one}
 use Rattle.std.specs.Prelude.{replicate}
 use Rattle.std.specs.List.{fold}
@@ -71,7 +71,7 @@ unfolding with_base with_rule
 base_drafted None q e = ap (λ (b : Option Set). with_base q b) e
 base_drafted (Some X) q e = refl
 
--- the settings, over what stands where no line does
+-- the settings of a plan, with the defaults for its rows, bounds and base
 set_up : SaidPlan → SaidPlan
 set_up p = record p { rows = []; bounds = replicate (length p.bounds) any_bound; base = None }
 

@@ -28,7 +28,7 @@ steps_front zero f a = sym (bind_done (f 0 a))
 steps_front {A} {F} (suc n) f a =
     ap (λ (r : Result A F). r >>= f (suc n)) (steps_front n f a) ∙ bind_assoc (f 0 a) (λ b. steps_below n (λ i. f (suc i)) b) (f (suc n))
 
--- the lines behind the first k
+-- the lines after the first k
 read_from : ℕ → List (List ℕ) → List Said → Result (List Said) LineFault
 read_from k [] rules = Ok rules
 read_from k (line ∷ lines) rules = next_rule (k + 1) line rules >>= read_from (k + 1) lines
@@ -67,6 +67,6 @@ say_again (line ∷ lines) k before rules (inl h) = rw (next_skips (k + 1) line 
 say_again (line ∷ lines) k before rules (inr h) =
     rw (next_says (k + 1) line before h.1.0 h.0 (line_again (k + 1) (words_of line) h.1.0 h.1.1) h.1.2) (say_again lines (k + 1) (before ++ h.1.0 ∷ []) rules h.1.3)
 
--- lines of the grammar are read as the rules that they say
+-- lines of the grammar are read as the rules that they mean
 pub lines_again : (lines : List (List ℕ)) (rules : List Said) → SayBehind [] lines rules → rules_of lines ≡ Ok rules
 lines_again lines rules h = rules_from_front lines ∙ say_again lines 0 [] rules h

@@ -1,4 +1,5 @@
--- A text has one first fault: what the tests find in a plan, they find in each that says the same.
+-- A text has one first fault: what the tests find in a plan, they find in each plan of the same
+-- meaning.
 use Rattle.std.proofs.Common.{◌≡◌, ◌⊎◌, inl, inr, ℕ, zero, suc, ◌+◌, ◌<◌, ◌≤◌, Bool, true, false, not, ◌&&◌, ◌||◌, ◌==◌, List, length, get_or, Option, Some, Result, Ok, Err, refl, sym, ap, ap₂, subst, ◌∙◌, arith}
 use Rattle.std.specs.Prelude.{nat_lt}
 use Rattle.std.specs.List.{list_all}
@@ -62,7 +63,7 @@ unknown_same b a c e = flipped (has_unknown b a) (has_unknown b c) (one a c e) (
 set_same : (b : Tables) (r : ℕ) (a c : List ℕ) → has a ≡ has c → set_fault b r a ≡ set_fault b r c
 set_same b r a c e = rw (empty_same a c e, unknown_same b a c e) refl
 
--- ---- rows that say the same
+-- ---- rows of the same meaning
 
 set_said : Said → Set
 set_said (Count low high X) = X
@@ -112,7 +113,7 @@ rows_same b p q e =
     ap (λ (n : ℕ). first_below n (λ r. row_fault b r (row_at p r))) (same_count p q e)
     ∙ first_same (length q.rows) (λ r. row_fault b r (row_at p r)) (λ r. row_fault b r (row_at q r)) (λ r lt. row_same b r (row_at p r) (row_at q r) (same_row p q e r lt))
 
--- ---- the tests of plans that say the same
+-- ---- the tests of plans of the same meaning
 
 front_said : Tables → SaidPlan → ℕ → Option SpecFault → Option SpecFault
 front_said b p rows rest =

@@ -108,7 +108,7 @@ line_kept : (c : ℕ) (w : List ℕ) (ws : List (List ℕ)) → eqb c 35 ≡ fal
 line_kept c w [] h = head_kept c w h
 line_kept c w (v ∷ vs) h = head_kept c (w ++ 32 ∷ spaced (v ∷ vs)) h
 
--- the words of a printed line: they say the rule, and stand so that they are read again
+-- the words of a printed line: they mean the rule, and have the form in which they are read again
 record IsLine (rule : Said) (c : ℕ) (w : List ℕ) (ws : List (List ℕ)) : Type 0 where
   words : line_words rule ≡ (c ∷ w) ∷ ws
   says : Says (line_words rule) rule
@@ -177,7 +177,7 @@ unfolding words_text
 text_lines [] = refl
 text_lines (rule ∷ rules) = append_assoc (rule_line rule) (10 ∷ []) (flat_map line_text rules) ∙ ap (λ (rest : List ℕ). rule_line rule ++ 10 ∷ rest) (text_lines rules)
 
--- printed lines are read as the rules that they were printed of
+-- printed lines are read as the rules that they were printed from
 pub printed_again : (rules : List Said) → ArePrinted rules → AreFresh [] rules → rules_of (lines_of (flat_map line_text rules)) ≡ Ok rules
 printed_again rules h fresh =
     rw (text_lines rules, lines_again (map rule_line rules) (lines_feedless rules h)) (rules_again (map rule_line rules) rules (say_lines rules [] h fresh))

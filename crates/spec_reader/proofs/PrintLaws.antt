@@ -17,7 +17,7 @@ use Rattle.spec_reader.specs.Rules.{Said}
 use Rattle.spec_reader.specs.Plans.{SaidPlan, row_said, plan_said}
 use Rattle.spec_reader.specs.Canonical.{words_text, line_text, setting_rules, bounds_below, base_rules, canonical_rules, canonical}
 
--- words with a space between each two are the first one, and each other one behind a space
+-- words with a space between each two are the first one, and each other one after a space
 spaced_flat : (w : List ℕ) (ws : List (List ℕ)) → spaced (w ∷ ws) ≡ w ++ flat_map (λ v. 32 ∷ v) ws
 spaced_flat w [] = sym (append-nil w)
 spaced_flat w (v ∷ vs) = ap (λ (rest : List ℕ). w ++ 32 ∷ rest) (spaced_flat v vs)
@@ -55,7 +55,7 @@ canonical_pieces plan =
     let second = flat_map-append line_text (settings ++ map row_said plan.rows) bounds ∙ ap (λ (front : List ℕ). front ++ flat_map line_text bounds) first in
     sym (flat_map-append line_text ((settings ++ map row_said plan.rows) ++ bounds) base ∙ ap (λ (front : List ℕ). front ++ flat_map line_text base) second)
 
--- the text that the parts were written to, one behind the other
+-- the text that the parts were written to, one after the other
 pub canonical_from : (plan : Plan) (start front middle behind whole : List ℕ) (rows : List Row) (bounds : List StimulusBound) (base : Option (List ℕ))
     → start ≡ [] → rows ≡ plan.rows → bounds ≡ plan.bounds → base ≡ plan.base
     → front ≡ start ++ flat_map line_text (setting_rules (plan_said plan))

@@ -1,4 +1,4 @@
--- The key of what a text says is a key.
+-- The key of the plan that a text means is a key.
 use Rattle.std.proofs.Common.{◌≡◌, ℕ, zero, suc, ◌+◌, ◌<◌, List, [], ◌∷◌, ◌++◌, length, get_or, not, ◌&&◌, Option, Some, None, Result, Ok, Err, refl, sym, ap, subst, arith, inl, inr}
 use Rattle.std.specs.Prelude.{replicate, slice_index}
 use Rattle.std.specs.List.{fold}
@@ -26,7 +26,7 @@ use Rattle.spec_reader.specs.Plans.{SaidPlan, blank, with_rule}
 use Rattle.spec_reader.specs.Reading.{IsPlanText}
 use Rattle.spec_reader.proofs.Keys.{key_is}
 
--- what a rule says of the key is a key
+-- the key that a rule gives, if it gives one, is a key
 abbrev HasKey : Said → Type 0
 HasKey (Key k) = IsKey k
 HasKey _ = Unit {0}
@@ -148,7 +148,7 @@ zero_bytes zero i = omega arith
 zero_bytes (suc n) zero = omega arith
 zero_bytes (suc n) (suc i) = zero_bytes n i
 
--- the key of what a text says is a key
+-- the key of the plan that a text means is a key
 pub text_key : (b : Tables) (text : List ℕ) (plan : Plan) → IsPlanText b text plan → IsKey plan.key
 text_key b text plan h =
     let start : IsKey (replicate 32 0) = record { count = refl; bytes = zero_bytes 32 } in

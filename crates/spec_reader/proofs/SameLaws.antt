@@ -1,4 +1,4 @@
--- A text says one plan, and where that is valid for the bank the text has no fault.
+-- A text means one plan, and if that is valid for the bank the text has no fault.
 use Rattle.std.proofs.Common.{◌≡◌, ◌⊎◌, inl, inr, ℕ, ◌-◌, ◌<◌, ◌≤◌, cond, List, length, get_or, Option, Some, None, Result, Ok, Err, refl, sym, ap, subst, ◌∙◌, arith, ℤ, pos}
 use Rattle.std.specs.Option.{option_map}
 use Rattle.std.specs.Prelude.{IfErr}
@@ -29,7 +29,7 @@ use Rattle.spec_reader.specs.Lines.{rules_of, missing}
 use Rattle.spec_reader.specs.Plans.{SaidPlan, row_said, plan_said, drafted}
 use Rattle.spec_reader.specs.Reading.{numbers_fault, IsPlanText, IsDraftFault, IsPlanFault, IsReadFault, most_bytes}
 
--- ---- what is true of a plan is true of each that says the same
+-- ---- what is true of a plan is true of each plan of the same meaning
 
 IsRowSaid : Tables → Said → Type 0
 IsRowSaid b (Count low high X) = (low ≤ high) × (high ≤ 512) × IsRowSet b X
@@ -214,7 +214,7 @@ no_fault b text plan Source h is g = g
 no_fault b text plan TooLong h is g = g
 no_fault b text plan Memory h is g = g
 
--- a text of a valid plan is refused for want of memory or a source that failed alone
+-- a text of a valid plan is refused only for lack of memory or for a failed source
 pub only_outside : (b : Tables) (bytes : List ℕ) (plan : Plan) (fault : PlanFault) → length bytes ≤ most_bytes → IsPlanText b bytes plan → IsPlanFor b plan → IsReadFault b bytes fault → (fault ≡ Memory) ⊎ (fault ≡ Source)
 only_outside b bytes plan (Line at kind) few h is g = absurd (no_fault b bytes plan (Line at kind) h is g.1)
 only_outside b bytes plan (Twice at) few h is g = absurd (no_fault b bytes plan (Twice at) h is g.1)

@@ -193,7 +193,7 @@ says_stimulus : (at s low high : ℕ) → s ≤ 255 → low ≤ most → high �
 unfolding keyword_of setting_of constraint_of constraint_said
 says_stimulus at s low high hs hl hh = line_from at (codes "stimulus" ∷ decimal s ∷ decimal low ∷ decimal high ∷ []) (keyword.Constraint constraint.Stimulus) (Stimulus s low high) refl refl (omega arith, (number_nonempty s (omega (arith, hs)), (number_nonempty low hl, (number_nonempty high hh, tt)))) (rw (byte_read s hs, number_read low hl, number_read high hh) refl)
 
--- ---- each line of the grammar is read as what it says
+-- ---- each line of the grammar is read as what it means
 
 at_words : (at : ℕ) (words spelled : List (List ℕ)) (rule : Said) → words ≡ spelled → line_of at spelled ≡ Ok rule → line_of at words ≡ Ok rule
 at_words at words spelled rule e r = ap (line_of at) e ∙ r

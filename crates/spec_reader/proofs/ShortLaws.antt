@@ -34,7 +34,7 @@ use Rattle.spec_reader.proofs.SameLaws.{one_plan, only_outside}
 use Rattle.spec_reader.proofs.RunsLaws.{runs_items}
 use Rattle.spec_reader.proofs.BackLaws.{few_stimuli, canonical_printed, canonical_says}
 
--- how long the line of these words is: a byte behind each
+-- how long the line of these words is, with a byte after each
 total : List (List ℕ) → ℕ
 total [] = 0
 total (w ∷ ws) = length w + 1 + total ws

@@ -6,6 +6,6 @@ use Rattle.exam_model.specs.declared.row.StimulusBound.{StimulusBound}
 abbrev pub any_bound : StimulusBound
 any_bound = record { low = 1; high = 512 }
 
--- the bounds of stimulus s stand at s - 1
+-- the bounds with those of stimulus s, which are at place s - 1
 abbrev pub with_bound : List StimulusBound → ℕ → StimulusBound → List StimulusBound
 with_bound bounds s bound = if (s == 0) then bounds else slice_set bounds (s - 1) bound

@@ -52,7 +52,7 @@ base_rules (Some s) = Base s ∷ []
 abbrev pub limit_rules : SaidPlan → List Said
 limit_rules plan = Budget plan.budget ∷ BaseBudget plan.base_budget ∷ Sessions plan.sessions ∷ Journal plan.journal ∷ []
 
--- the lines that stand in each canonical text
+-- the lines that each canonical text has
 abbrev pub setting_rules : SaidPlan → List Said
 setting_rules plan = Length plan.length ∷ Prior plan.prior ∷ Rate plan.rate.num plan.rate.den ∷ Key plan.key ∷ limit_rules plan
 

@@ -1,4 +1,4 @@
--- The grammar of a plan text, line by line: which words say what.
+-- The grammar of a plan text, line by line: which words mean what.
 use Rattle.std.specs.Prelude.{◌≡◌, ℕ, ◌+◌, ◌<◌, ◌≤◌, ◌⊎◌, true, false, IsTrue, List, [], ◌∷◌, ◌++◌, length, map, get_or, codes, Some, ℤ, pos}
 use Rattle.std.specs.Fmt.{decimal, signed_decimal}
 use Rattle.hex.specs.Hex.{encode_lower, IsBytes}
@@ -67,7 +67,7 @@ pub record WritesKey (words : List (List ℕ)) (key : List ℕ) : Type 0 where
   pub bytes : IsBytes key
   pub spelling : words ≡ codes "key" ∷ encode_lower key ∷ []
 
--- the words of a line say this
+-- the words of a line mean this rule
 abbrev pub Says : List (List ℕ) → Said → Type 0
 Says words (Length n) = WritesNumber (codes "length" ∷ []) words n
 Says words (Prior values) = WritesPrior words values
@@ -84,15 +84,16 @@ Says words (Stimuli low high) = WritesNumbers (codes "stimuli" ∷ []) words low
 Says words (Stimulus s low high) = (s ≤ 255) × WritesNumbers (codes "stimulus" ∷ decimal s ∷ []) words low high
 Says words (Base s) = WritesSet (codes "base" ∷ []) words s
 
--- lines say, behind the rules before them, these rules in all: a line that is empty or begins with `#` says nothing, any other
--- one rule more, and no rule stands twice that may stand once
+-- the rules before the lines and those that the lines mean are these rules in all: a line that is
+-- empty or begins with `#` means no rule, any other line means one, and it may not repeat an
+-- earlier rule that may occur only once
 abbrev pub SayBehind : List Said → List (List ℕ) → List Said → Type 0
 SayBehind before [] rules = before ≡ rules
 SayBehind before (line ∷ lines) rules =
     ((is_skipped line ≡ true) × SayBehind before lines rules)
     ⊎ ((is_skipped line ≡ false) × ((rule : Said) × Says (words_of line) rule × (stands (mark_of rule) before ≡ false) × SayBehind (before ++ rule ∷ []) lines rules))
 
--- what a canonical line can say: its numbers are short enough, and its set can be written
+-- a rule that a canonical line can mean: its numbers are short enough, and its set can be written
 abbrev pub IsPrinted : Said → Type 0
 IsPrinted (Length n) = n ≤ most
 IsPrinted (Prior values) = (0 < length values) × ((i : ℕ) → i < length values → magnitude (get_or values i (pos 0)) ≤ most)
@@ -114,7 +115,7 @@ abbrev pub ArePrinted : List Said → Type 0
 ArePrinted [] = Unit {0}
 ArePrinted (rule ∷ rules) = IsPrinted rule × ArePrinted rules
 
--- none of the rules stands twice, or among those before, that may stand once
+-- no rule that may occur only once occurs twice among these, or among these and those before
 abbrev pub AreFresh : List Said → List Said → Type 0
 AreFresh before [] = Unit {0}
 AreFresh before (rule ∷ rules) = (stands (mark_of rule) before ≡ false) × AreFresh (before ++ rule ∷ []) rules

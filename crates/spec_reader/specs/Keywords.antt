@@ -7,7 +7,7 @@ use Rattle.spec_reader.specs.declared.keyword.Constraint.TheVariants as constrai
 use Rattle.spec_reader.specs.declared.keyword.Keyword.{Keyword}
 use Rattle.spec_reader.specs.declared.keyword.Keyword.TheVariants as keyword
 
--- a line that stands at most once
+-- a line that may occur only once
 unfoldable pub setting_of : List ℕ → Option Setting
 setting_of word =
     if bytes_eq word (codes "length") then Some setting.Length

@@ -1,4 +1,4 @@
--- What the lines of a plan say.
+-- What the lines of a plan mean.
 use Rattle.std.specs.Prelude.{ℕ, ◌+◌, Bool, false, ◌||◌, ◌==◌, not, ◌&&◌, if◌then◌else◌, List, [], ◌∷◌, ◌++◌, length, get_or, slice_index, Option, Some, None, Result, Ok}
 use Rattle.std.specs.List.{list_any}
 use Rattle.exam_text.specs.First.{fault_where, ◌orelse◌, ◌>>=◌, unless, steps_below}
@@ -13,7 +13,7 @@ use Rattle.spec_reader.specs.Rules.{Said, Length, Prior, Rate, Key, Budget, Base
 abbrev pub is_skipped : List ℕ → Bool
 is_skipped line = (length line == 0) || (slice_index line 0 == 35)
 
--- lines of the same number may not both stand; a row has no number
+-- the number of a line; two lines may not have the same number, and the line of a row has none
 abbrev pub mark_of : Said → Option ℕ
 mark_of (Length n) = Some 0
 mark_of (Prior vs) = Some 1
@@ -42,17 +42,17 @@ abbrev pub stands : Option ℕ → List Said → Bool
 stands None rules = false
 stands (Some m) rules = has_mark m rules
 
--- a line, behind those that were read
+-- the rules so far, with that of one more line if it has one, or the fault of that line
 unfoldable pub next_rule : ℕ → List ℕ → List Said → Result (List Said) LineFault
 next_rule at line rules =
     if is_skipped line then Ok rules else
     line_of at (words_of line) >>= λ rule. unless (fault_where (stands (mark_of rule) rules) (Twice at)) (Ok (rules ++ rule ∷ []))
 
--- what the lines of a text say, in their order, or the first faulty line's fault; lines count from 1
+-- what the lines of a text mean, in order, or the first faulty line's fault; lines count from 1
 unfoldable pub rules_of : List (List ℕ) → Result (List Said) LineFault
 rules_of lines = steps_below (length lines) (λ i rules. next_rule (i + 1) (get_or lines i []) rules) []
 
--- the first line that is missing; a key is, where there is a rate
+-- the first line that is missing: a length, a prior, or a key if there is a rate
 unfoldable pub missing : List Said → Option Name
 missing rules =
     fault_where (not (has_mark 0 rules)) name.Length

@@ -1,4 +1,4 @@
--- The plan that lines say.
+-- The plan that lines mean.
 use Rattle.std.specs.Prelude.{ℕ, List, [], ◌∷◌, ◌++◌, map, replicate, Option, Some, None, ℤ}
 use Rattle.std.specs.Option.{option_map}
 use Rattle.std.specs.List.{fold}
@@ -12,7 +12,7 @@ use Rattle.spec_reader.specs.declared.outline.Outline.{Outline}
 use Rattle.spec_reader.specs.Bounds.{any_bound, with_bound}
 use Rattle.spec_reader.specs.Rules.{Said, Length, Prior, Rate, Key, Budget, BaseBudget, Sessions, Journal, Count, Quantity, Enemies, Stimuli, Stimulus, Base}
 
--- what a plan says: its sets are tests on items, and its rows what their lines say
+-- what a plan means: its sets are tests on items, and its rows are what their lines mean
 pub record SaidPlan : Type 0 where
   pub length : ℕ
   pub prior : List ℤ
@@ -64,7 +64,8 @@ outline_said o =
       base = option_map has o.base;
     }
 
--- what is said of a bank with so many stimuli where no line stands; the length and the prior have no default
+-- the plan without a line, for a bank with so many stimuli: the defaults; the length and the prior
+-- have no default, since their lines may not be missing
 abbrev pub blank : ℕ → SaidPlan
 blank stimuli =
     record {
@@ -84,7 +85,7 @@ blank stimuli =
 abbrev pub with_row : SaidPlan → Said → SaidPlan
 with_row plan rule = record plan { rows = plan.rows ++ rule ∷ [] }
 
--- what one more line says
+-- the plan with one more line
 unfoldable pub with_rule : SaidPlan → Said → SaidPlan
 with_rule plan (Length n) = record plan { length = n }
 with_rule plan (Prior vs) = record plan { prior = vs }

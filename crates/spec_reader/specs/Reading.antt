@@ -16,7 +16,7 @@ use Rattle.spec_reader.specs.Rules.{Said, Length, Stimulus}
 use Rattle.spec_reader.specs.Lines.{rules_of, missing}
 use Rattle.spec_reader.specs.Plans.{plan_said, drafted}
 
--- what stands past the last line
+-- the rule that is read past the last one
 abbrev pub no_rule : Said
 no_rule = Length 0
 
@@ -32,16 +32,17 @@ number_fault stimuli _ = None
 unfoldable pub numbers_fault : ℕ → List Said → Option SpecFault
 numbers_fault stimuli rules = first_below (length rules) (λ i. number_fault stimuli (rule_at rules i))
 
--- the text's lines are well-formed, none stands twice and none is missing, and they say these rules
+-- the text's lines are well-formed, none that may occur only once is repeated, none is missing, and
+-- they mean these rules
 pub record AreRules (text : List ℕ) (rules : List Said) : Type 0 where
   pub lines : rules_of (lines_of text) ≡ Ok rules
   pub whole : missing rules ≡ None
 
--- the rules say this plan for a bank
+-- the rules mean this plan for a bank
 abbrev pub IsDraft : Tables → List Said → Plan → Type 0
 IsDraft b rules plan = plan_said plan ≡ drafted (stimuli_of b) rules
 
--- the text says this plan for the bank
+-- the text means this plan for the bank
 pub record IsPlanText (b : Tables) (text : List ℕ) (plan : Plan) : Type 0 where
   pub rules : List Said
   pub are : AreRules text rules
@@ -52,11 +53,11 @@ pub record IsPlanText (b : Tables) (text : List ℕ) (plan : Plan) : Type 0 wher
 abbrev pub early_fault : Tables → List Said → Plan → Option SpecFault
 early_fault b rules plan = front_fault b plan orelse numbers_fault (stimuli_of b) rules
 
--- the first fault of what the rules say: the early ones, then the others of a draft
+-- the first fault of what the rules mean: the early ones, then the others of a draft
 abbrev pub IsFirstFault : Tables → List Said → Plan → SpecFault → Type 0
 IsFirstFault b rules plan fault = (early_fault b rules plan ≡ Some fault) ⊎ ((early_fault b rules plan ≡ None) × IsSpecFault b plan fault)
 
--- the lines are in order, and what they say has this fault
+-- the lines are well-formed and none is missing, and what they mean has this fault
 pub record IsDraftFault (b : Tables) (text : List ℕ) (fault : SpecFault) : Type 0 where
   pub rules : List Said
   pub are : AreRules text rules
@@ -70,7 +71,8 @@ pub record IsMissing (text : List ℕ) (name : Name) : Type 0 where
   pub lines : rules_of (lines_of text) ≡ Ok rules
   pub first : missing rules ≡ Some name
 
--- the first fault of the text: the first faulty line, then what is missing, then what the lines say
+-- the first fault of the text: the first faulty line, then what is missing, then the first fault of
+-- what the lines mean
 abbrev pub IsPlanFault : Tables → List ℕ → PlanFault → Type 0
 IsPlanFault b text (Line at kind) = rules_of (lines_of text) ≡ Err (line.Line at kind)
 IsPlanFault b text (Twice at) = rules_of (lines_of text) ≡ Err (line.Twice at)
@@ -90,8 +92,8 @@ IsOfText fault = Unit {0}
 abbrev pub most_bytes : ℕ
 most_bytes = 1048576
 
--- the first fault of a source with these bytes: it is too long exactly by their number; that the source failed, or that
--- memory ran out, says nothing of them
+-- the first fault of a source with these bytes: it is too long exactly if they are more than
+-- `most_bytes`; a failed source and lack of memory are possible with any bytes
 abbrev pub IsReadFault : Tables → List ℕ → PlanFault → Type 0
 IsReadFault b bytes Source = ⊤
 IsReadFault b bytes Memory = ⊤

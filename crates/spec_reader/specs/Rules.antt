@@ -1,4 +1,4 @@
--- What a line of a plan says.
+-- What a line of a plan means.
 use Rattle.std.specs.Prelude.{ℕ, ◌+◌, ◌-◌, not, ◌&&◌, if◌then◌else◌, List, length, drop, bytes_eq, Option, Some, None, Result, Ok, Err, ℤ}
 use Rattle.hex.specs.Hex.{encode_lower, decode_sized}
 use Rattle.hex.specs.declared.error.FromHexError.{FromHexError}
@@ -21,7 +21,7 @@ use Rattle.exam_text.specs.Words.{word, none_empty}
 use Rattle.exam_text.specs.Runs.{is_set}
 use Rattle.spec_reader.specs.Sets.{in_set}
 
--- what a line says: a set of items is a test on them
+-- what a line means: a set of items is a test on items
 pub data Said : Type 0 where
   Length : ℕ → Said
   Prior : List ℤ → Said
@@ -58,7 +58,7 @@ said (rule.Base s) = Base (has s)
 abbrev pub number_in : ℕ → ℕ → ℕ → List (List ℕ) → Result ℕ LineFault
 number_in at most i words = or_fault (number_of most (word words i)) (Line at kind.Number)
 
--- signed numbers in the words behind the first
+-- signed numbers in the words after the first
 abbrev pub signeds_in : ℕ → List (List ℕ) → Result (List ℤ) LineFault
 signeds_in at words = each_below (length words - 1) (λ i. or_fault (signed_of 999999999 (word words (i + 1))) (Line at kind.Number))
 
@@ -77,7 +77,7 @@ key_in at words = or_fault (key_of (word words 1)) (Line at kind.Number)
 abbrev pub set_in : ℕ → ℕ → List (List ℕ) → Result Set LineFault
 set_in at from words = if is_set (drop from words) then Ok (in_set (drop from words)) else Err (Line at kind.Set)
 
--- what the words of such a line say
+-- what the words of a line with this setting mean
 unfoldable pub setting_said : ℕ → Setting → List (List ℕ) → Result Said LineFault
 setting_said at setting.Length words = number_in at 999999999 1 words >>= λ n. Ok (Length n)
 setting_said at setting.Prior words = signeds_in at words >>= λ vs. Ok (Prior vs)
@@ -100,7 +100,7 @@ abbrev pub rule_said : ℕ → Keyword → List (List ℕ) → Result Said LineF
 rule_said at (keyword.Setting s) words = setting_said at s words
 rule_said at (keyword.Constraint c) words = constraint_said at c words
 
--- what a line of these words says, or the first of its four kinds of fault
+-- what a line of these words means, or the first of its four kinds of fault
 unfoldable pub line_of : ℕ → List (List ℕ) → Result Said LineFault
 line_of at words =
     or_fault (keyword_of (word words 0)) (Line at kind.Word) >>= λ first.

@@ -10,7 +10,7 @@ use Rattle.exam_text.specs.Runs.{run_of, in_run}
 unfoldable pub in_set : List (List ℕ) → Set
 in_set words x = any_below (length words) (λ i. in_run x (run_of (word words i)))
 
--- the lowest item from which on all items up to n are in X, n apart
+-- the lowest item from which on all items below n are in X, or n if item n - 1 is not
 abbrev pub start_of : Set → ℕ → ℕ
 start_of X zero = 0
 start_of X (suc n) = if X n then start_of X n else (n + 1)

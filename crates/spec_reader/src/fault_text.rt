@@ -33,7 +33,7 @@ fn missing_text(alloc: Global, name: Name) -> Result<String, AllocError>
 }
 
 impl PlanFault {
-    /// The line that tells a user what is wrong with a plan text, with its end.
+    /// The line that reports to a user what is wrong with a plan text, with its line feed.
     #[tactic(auto, unfolding(crate::specs::Texts::plan_text, exam_text::specs::Texts::files_failed, exam_text::specs::Texts::no_memory))]
     pub fn text(self, alloc: Global) -> Result<String, AllocError>
         ensures { IfOk result (λ line. string_bytes line ≡ plan_text self) }

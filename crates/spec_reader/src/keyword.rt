@@ -3,7 +3,7 @@
 ghost use Rattle.std.specs.Prelude.{◌≡◌};
 ghost use Rattle.spec_reader.specs.Keywords.{setting_of, constraint_of, keyword_of, fits_setting, fits_constraint, fits_count};
 
-/// The lines that stand at most once.
+/// The lines that may occur only once.
 #[derive(Clone, Copy, Debug, PartialEq, Eq)]
 pub enum Setting {
     Length,

@@ -19,12 +19,12 @@ ghost use Rattle.spec_reader.specs.Plans.{plan_said, drafted};
 ghost use Rattle.exam_model.specs.Plan.{Plan};
 ghost use Rattle.std.specs.List.{flat_map};
 
-/// The words of a line that the grammar has are read as what they say.
+/// The words of a line that the grammar has are read as what they mean.
 pub fn a_line_of_the_grammar_is_read()
     ensures { (at : ℕ) (words : List (List ℕ)) (rule : Said) → Says words rule → line_of at words ≡ Ok rule }
 {}
 
-/// Lines that the grammar has are read as the rules that they say.
+/// Lines that the grammar has are read as the rules that they mean.
 pub fn lines_of_the_grammar_are_read()
     ensures { (lines : List (List ℕ)) (rules : List Said) → SayBehind [] lines rules → rules_of lines ≡ Ok rules }
 {}
@@ -34,30 +34,31 @@ pub fn a_set_is_its_maximal_runs()
     ensures { (X : Set) → IsSet X → AreRuns (runs_of X) × ((x : ℕ) → X x ≡ in_runs (runs_of X) x) }
 {}
 
-/// Lines that were printed are read as the rules that they were printed of.
+/// Lines that were printed are read as the rules that they were printed from.
 pub fn printed_lines_are_read_again()
     ensures { (rules : List Said) → ArePrinted rules → AreFresh [] rules → rules_of (lines_of (flat_map line_text rules)) ≡ Ok rules }
 {}
 
-/// The lines of a canonical text say the plan that they were printed of.
+/// The lines of a canonical text mean the plan that they were printed from.
 pub fn canonical_lines_say_the_plan()
     ensures { (plan : Plan) → drafted (length plan.bounds) (canonical_rules (plan_said plan)) ≡ plan_said plan }
 {}
 
-/// The canonical text of a plan, which is what `print_plan` prints, says that plan for its bank, and isn't too long to be
-/// read.
+/// The canonical text of a plan, which is what `print_plan` prints, means that plan for its bank,
+/// and isn't too long to be read.
 pub fn a_printed_plan_is_a_text_of_it()
     ensures text { (b : Tables) (plan : Plan) → IsBank b → IsPlanFor b plan → IsKey plan.key → IsPlanText b (canonical plan) plan }
     ensures short { (b : Tables) (plan : Plan) → IsBank b → IsPlanFor b plan → IsKey plan.key → length (canonical plan) ≤ most_bytes }
 {}
 
-/// A text says one plan: two plans that it says have the same numbers, and sets with the same items.
+/// A text means one plan: two plans that it means have the same numbers, and sets with the same
+/// items.
 pub fn a_text_says_one_plan()
     ensures { (b : Tables) (text : List ℕ) (p q : Plan) → IsPlanText b text p → IsPlanText b text q → plan_said p ≡ plan_said q }
 {}
 
-/// A text of a plan that is valid for the bank is read: it has no fault, so that want of memory or a source that failed alone
-/// keeps it from being read.
+/// A text of a plan that is valid for the bank is read: it has no fault, so that only lack of
+/// memory or a failed source keeps it from being read.
 pub fn a_text_of_a_plan_is_read()
     ensures no_fault { (b : Tables) (text : List ℕ) (plan : Plan) (fault : PlanFault) → IsPlanText b text plan → IsPlanFor b plan → IsPlanFault b text fault → ⊥ }
     ensures only { (b : Tables) (bytes : List ℕ) (plan : Plan) (fault : PlanFault) → length bytes ≤ most_bytes → IsPlanText b bytes plan → IsPlanFor b plan → IsReadFault b bytes fault → (fault ≡ outside.Memory) ⊎ (fault ≡ outside.Source) }
@@ -68,7 +69,7 @@ pub fn a_text_has_one_fault()
     ensures { (b : Tables) (bytes : List ℕ) (f g : PlanFault) → IsOfText f → IsOfText g → IsReadFault b bytes f → IsReadFault b bytes g → f ≡ g }
 {}
 
-/// The key of the plan that a text says has 32 bytes.
+/// The key of the plan that a text means has 32 bytes.
 pub fn a_text_has_a_key()
     ensures { (b : Tables) (text : List ℕ) (plan : Plan) → IsPlanText b text plan → IsKey plan.key }
 {}
@@ -78,8 +79,9 @@ pub fn a_read_plan_prints_a_text_of_it()
     ensures { (b : Tables) (text : List ℕ) (plan : Plan) → IsBank b → IsPlanFor b plan → IsPlanText b text plan → IsPlanText b (canonical plan) plan }
 {}
 
-/// What is printed reads back: the canonical text of a plan is read as a plan of the same numbers and sets, which prints as
-/// the same bytes, and it has no fault, so that want of memory or a source that failed alone keeps it from being read.
+/// What is printed reads back: the canonical text of a plan is read as a plan of the same numbers
+/// and sets, which prints as the same bytes, and it has no fault, so that only lack of memory or a
+/// failed source keeps it from being read.
 pub fn a_printed_plan_reads_back()
     ensures same { (b : Tables) (plan read : Plan) → IsBank b → IsPlanFor b plan → IsKey plan.key → IsPlanText b (canonical plan) read → plan_said read ≡ plan_said plan }
     ensures again { (b : Tables) (plan read : Plan) → IsBank b → IsPlanFor b plan → IsKey plan.key → IsPlanText b (canonical plan) read → canonical read ≡ canonical plan }

@@ -1,8 +1,9 @@
 //! The plan text both ways: a test blueprint, rule by rule, as the plan of an item bank, and a plan as its canonical text.
 //!
-//! Upward it promises that a text is read as the plan that it says, valid for the bank, or refused for its first fault, with
-//! its line and kind; that what is printed is the canonical text of the plan; and that this text says the plan again. It opens
-//! no file, decides nothing about a plan's rules (`constraint_model` does), and never takes a text for another one.
+//! Upward it promises that a text is read as the plan that it means, valid for the bank, or refused
+//! for its first fault, with its line and kind; that what is printed is the canonical text of the
+//! plan; and that this text means the same plan. It opens no file, decides nothing about a plan's
+//! rules (`constraint_model` does), and never takes a text for another one.
 #![tactic(auto)]
 
 mod bounds;

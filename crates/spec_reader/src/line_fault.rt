@@ -18,12 +18,12 @@ pub enum Kind {
     Set,
 }
 
-/// Why lines say no rules.
+/// Why lines have no rules.
 #[derive(Clone, Copy, Debug, PartialEq, Eq)]
 pub enum LineFault {
     /// This line is ill-formed. Lines count from 1.
     Line(u64, Kind),
-    /// This line repeats an earlier one that may stand once.
+    /// This line repeats an earlier one that may occur only once.
     Twice(u64),
     /// Out of memory.
     Memory,

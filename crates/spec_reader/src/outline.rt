@@ -1,4 +1,4 @@
-//! What the lines of a plan say so far.
+//! What the lines of a plan mean so far.
 
 ghost use Rattle.std.specs.Prelude.{◌≡◌, ℕ, OnOk, IfOk, map};
 ghost use Rattle.spec_reader.specs.Rules.{said};
@@ -9,7 +9,7 @@ use bank_tables::{ItemSet, List};
 use exam_model::{Draft, Rate, Row, StimulusBound};
 use std::alloc::{AllocError, Global};
 
-/// A plan in the making; what no line said yet has its default.
+/// A plan in the making; what no line has given yet has its default.
 #[derive(Drop)]
 pub struct Outline {
     pub length: u32,
@@ -28,7 +28,7 @@ pub struct Outline {
 impl Outline {
     ghost use Rattle.spec_reader.specs.Plans.{plan_said, outline_said, blank, with_rule, drafted};
 
-    /// What is said where no line stands.
+    /// The plan without a line: the defaults.
     pub fn blank(alloc: Global, stimuli: u8) -> Result<Outline, AllocError>
         ensures { IfOk result (λ o. outline_said o ≡ blank stimuli) }
     {

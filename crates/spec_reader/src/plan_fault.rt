@@ -8,7 +8,7 @@ use crate::line_fault::{Kind, LineFault};
 use constraint_model::SpecFault;
 use std::alloc::AllocError;
 
-/// A line that must stand.
+/// A line that a text must have.
 #[derive(Clone, Copy, Debug, PartialEq, Eq)]
 pub enum Name {
     Length,
@@ -16,8 +16,8 @@ pub enum Name {
     Key,
 }
 
-/// Why a text is no plan for an item bank: the first faulty line, then the first line that is missing, then the first
-/// fault of what the lines say.
+/// Why a text is no plan for an item bank: the first faulty line, then the first line that is
+/// missing, then the first fault of what the lines mean.
 #[derive(Clone, Copy, Debug, PartialEq, Eq)]
 pub enum PlanFault {
     /// The source failed, and has counted that.
@@ -26,11 +26,11 @@ pub enum PlanFault {
     TooLong,
     /// This line is ill-formed. Lines count from 1.
     Line(u64, Kind),
-    /// This line repeats an earlier one that may stand once.
+    /// This line repeats an earlier one that may occur only once.
     Twice(u64),
     /// There is no such line.
     Missing(Name),
-    /// The lines say no plan for the bank.
+    /// The lines mean no valid plan for the bank.
     Spec(SpecFault),
     /// Out of memory.
     Memory,

@@ -138,7 +138,7 @@ fn push_rate(alloc: Global, out: &mut Vec<u8>, rate: Rate) -> Result<(), AllocEr
     )
 }
 
-/// The lines that stand in each canonical text.
+/// The lines that each canonical text has.
 fn push_settings(alloc: Global, out: &mut Vec<u8>, spec: &Spec) -> Result<(), AllocError>
     ensures lines { OnOk result (out.new.items ≡ out.old.items ++ flat_map line_text (setting_rules (plan_said spec.now))) }
     ensures key { OnOk result (IsKey spec.now.key) }
@@ -222,7 +222,7 @@ fn push_base(alloc: Global, out: &mut Vec<u8>, base: Option<ItemSet>) -> Result<
     Ok(())
 }
 
-/// The canonical text of a plan, which reads back to the same plan. `Memory` is want of memory.
+/// The canonical text of a plan, which reads back to the same plan. `Memory` is lack of memory.
 pub fn print_plan(alloc: Global, spec: &Spec) -> Result<Vec<u8>, Memory>
     ensures text { IfOk result (λ text. text.items ≡ canonical spec.now) }
     ensures key { IfOk result (λ _. IsKey spec.now.key) }

@@ -67,7 +67,7 @@ fn early_fault(bank: &Bank, rules: &[Rule], draft: &Draft) -> Option<SpecFault>
     numbers_fault(rules, bank.stimuli())
 }
 
-/// The plan that the rules say, or its first fault.
+/// The plan that the rules mean, or its first fault.
 fn spec_of(bank: &Bank, rules: &[Rule], draft: Draft) -> Result<Spec, SpecFault>
     ensures same { IfOk result (λ spec. spec ≡ draft) }
     ensures valid { IfOk result (λ spec. IsPlanFor bank.now spec) }
@@ -97,9 +97,10 @@ fn plan_in(alloc: Global, bank: &Bank, text: &[u8]) -> Result<Spec, PlanFault>
     }
 }
 
-/// The plan that the text of a source says for an item bank, valid for it. The text has at most 1,048,576 bytes, and is read
-/// to its end. Of several faults the first is given: the first faulty line, then what is missing, then the faults of the
-/// plan. `Source` comes only where the source's count of faults rose.
+/// The plan that the text of a source means for an item bank, valid for it. The text has at most
+/// 1,048,576 bytes, and is read to its end. Of several faults the first is given: the first faulty
+/// line, then what is missing, then the faults of the plan. `Source` is given only where the
+/// source's count of faults rose.
 pub fn read_plan<S: Source>(alloc: Global, bank: &Bank, source: &mut S) -> Result<Spec, PlanFault>
     ensures found { IfOk result (λ spec. IsTrue (S.tells source.old) → IsPlanText bank.now (S.left source.old) spec) }
     ensures within { IfOk result (λ _. IsTrue (S.tells source.old) → length (S.left source.old) ≤ most_bytes) }

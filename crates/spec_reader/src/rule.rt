@@ -1,4 +1,4 @@
-//! What a line of a plan says.
+//! What a line of a plan means.
 
 ghost use Rattle.std.specs.Prelude.{◌≡◌, ℕ, ◌<◌, ◌≤◌, ◌&&◌, true, length, map, Some, None, IfSome, IfOk, is_some};
 ghost use Rattle.bank_tables.specs.Items.{has};
@@ -17,7 +17,7 @@ use bank_tables::ItemSet;
 use exam_text::{none_empty, word_at};
 use std::alloc::Global;
 
-/// What a line says.
+/// What a line means.
 #[derive(Drop)]
 pub enum Rule {
     Length(u32),
@@ -169,7 +169,7 @@ fn rule_in(alloc: Global, at: u64, keyword: Keyword, words: &[&[u8]]) -> Result<
     }
 }
 
-/// What a line of these words says.
+/// What a line of these words means, or its first fault.
 #[tactic(auto, unfolding(crate::specs::Rules::line_of))]
 pub fn line_in(alloc: Global, at: u64, words: &[&[u8]]) -> Result<Rule, LineFault>
     requires { 0 < length words.now }
