@@ -1,4 +1,5 @@
--- The device calls that add a record: it is staged behind the closed gate, and then the gate is opened.
+-- The device calls that add a record: it is staged after the closed gate, and then the gate is
+-- opened.
 use Rattle.std.proofs.Common.{◌≡◌, inl, ℕ, ◌+◌, ◌-◌, ◌≤◌, List, [], ◌∷◌, ◌++◌, length, ◌∙◌, ap, subst, arith, length-append}
 use Rattle.std.specs.Int.{to_be_bytes, w32}
 use Rattle.exam_edge.specs.Images.{Account, IsSettled, latest, written, overwritten, Grows, AtEachMoment}

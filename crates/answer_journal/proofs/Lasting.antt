@@ -1,4 +1,4 @@
--- What the moments of a call come to, in payloads.
+-- The moments of a call, in payloads.
 use Rattle.std.proofs.Common.{◌≡◌, inl, ℕ, ◌+◌, List, [], ◌∷◌, ◌++◌, length, ◌∙◌, ap, arith, length-append}
 use Rattle.std.specs.Int.{to_be_bytes, w32}
 use Rattle.exam_edge.specs.Images.{Account, latest, AtEachMoment}

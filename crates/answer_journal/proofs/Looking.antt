@@ -1,4 +1,4 @@
--- What stands behind a gate, read byte by byte.
+-- What follows a gate, read byte by byte.
 use Rattle.std.proofs.Common.{◌≡◌, ℕ, ◌+◌, ◌-◌, ◌<◌, List, [], ◌∷◌, length, drop, refl, arith, length-drop}
 use Rattle.answer_journal.specs.Frames.{TooShort, behind}
 

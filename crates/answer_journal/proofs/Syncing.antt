@@ -1,4 +1,4 @@
--- A change of a file, and the sync behind it.
+-- A change of a file, and the sync after it.
 use Rattle.std.proofs.Common.{List, [], ◌∷◌, ◌++◌, ◌∙◌, ap, append_assoc}
 use Rattle.std.specs.List.{AllByRecursion}
 use Rattle.exam_edge.specs.Images.{Account, IsWithin, Grows, latest}

@@ -24,7 +24,7 @@ behind-fits payload rest fits more =
 regroup : (a b c d : List ℕ) → (a ++ b ++ c) ++ d ≡ a ++ (b ++ (c ++ d))
 regroup a b c d = simp append_assoc
 
--- frames end at the first closed gate, whatever stands behind it
+-- frames end at the first closed gate, whatever follows it
 scan-frames : (ps : List (List ℕ)) (more at gate : ℕ) (junk : List ℕ) → length ps < more → AllByRecursion IsPayload ps → gate ≢ 1 → scan more at (frames ps ++ gate ∷ junk) ≡ Whole ps
 unfolding scan
 scan-frames ps zero at gate junk lt fits shut = absurd (omega (arith, lt))
@@ -46,7 +46,7 @@ short_none (p ∷ ps) rest short = absurd (omega (arith, length-append (to_be_by
 begins-front : (h : FileHeader) (rest file : List ℕ) → file ≡ h.bytes ++ rest → begins h file ≡ true
 begins-front h rest file is = (slice_eq-Decides Decides-eqb (take 8 file) h.bytes (begins h file) refl).1 (ap (take 8) is ∙ take_at h.bytes rest 8 h.eight)
 
--- the payloads of frames, a closed gate and whatever stands behind it
+-- the payloads of frames, a closed gate and whatever follows it
 pub payloads-front : (h : FileHeader) (ps : List (List ℕ)) (gate : ℕ) (junk : List ℕ) → AllByRecursion IsPayload ps → gate ≢ 1 → payloads h (front h ps ++ gate ∷ junk) ≡ Some ps
 unfolding payloads
 payloads-front h ps gate junk fits shut =
@@ -72,7 +72,7 @@ frames-push (q ∷ ps) p rest =
     ∙ ap (λ (l : List ℕ). to_be_bytes w32 (length q) ++ (q ++ l)) go
     ∙ sym (regroup (to_be_bytes w32 (length q)) q (frames ps) (1 ∷ (to_be_bytes w32 (length p) ++ (p ++ rest)))))
 
--- a record behind an opened gate is one frame more
+-- a record after an opened gate is one frame more
 pub front-push : (h : FileHeader) (ps : List (List ℕ)) (p : List ℕ) → front h (ps ++ p ∷ []) ++ 0 ∷ [] ≡ front h ps ++ 1 ∷ frame_of p
 front-push h ps p =
     append_assoc h.bytes (frames (ps ++ p ∷ [])) (0 ∷ [])

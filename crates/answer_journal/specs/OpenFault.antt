@@ -9,7 +9,7 @@ scan_fault (Whole payloads) = None
 scan_fault (BadLength at) = Some (Length at)
 scan_fault (CutOff at) = Some (Cut at)
 
--- a fault that says nothing of the bytes: out of memory, or one that the disk has counted
+-- a fault that doesn't depend on the bytes: out of memory, or one that the disk has counted
 abbrev pub IsOfDevice : Type 0 → OpenFault → Type 0
 IsOfDevice counted Disk = counted
 IsOfDevice counted Memory = Unit {0}

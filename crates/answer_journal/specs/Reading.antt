@@ -8,7 +8,7 @@ use Rattle.answer_journal.specs.declared.payload.Payload.{Payload}
 use Rattle.answer_journal.specs.declared.frames.Found.{Found}
 use Rattle.answer_journal.specs.declared.frames.Found.TheVariants.{Closed, NoLength, Short, Record}
 
--- the number that the four bytes behind a gate spell
+-- the number that the four bytes after a gate spell
 abbrev pub length_at : List ℕ → ℕ → ℕ
 length_at bytes at = from_be_bytes w32 (get_or bytes (at + 1) 0 ∷ get_or bytes (at + 2) 0 ∷ get_or bytes (at + 3) 0 ∷ get_or bytes (at + 4) 0 ∷ [])
 
@@ -18,7 +18,7 @@ IsFound bytes at NoLength = ((get_or bytes at 0 == 1) ≡ true) × (behind (drop
 IsFound bytes at Short = ((get_or bytes at 0 == 1) ≡ true) × (behind (drop (at + 1) bytes) ≡ TooShort)
 IsFound bytes at (Record n) = ((get_or bytes at 0 == 1) ≡ true) × (1 ≤ n) × (n ≤ 131072) × (at + 5 + n < length bytes) × (n ≡ length_at bytes at) × (behind (drop (at + 1) bytes) ≡ BehindPayload (take n (drop (at + 5) bytes)) (drop (at + 5 + n) bytes))
 
--- payloads before what the rest says
+-- payloads put before the scan of the rest
 abbrev pub with_all : List (List ℕ) → Scan → Scan
 with_all [] rest = rest
 with_all (payload ∷ payloads) rest = with_payload payload (with_all payloads rest)
@@ -32,7 +32,7 @@ pub record IsRead (h : FileHeader) (bytes : List ℕ) (read : List Payload) (end
   pub before : take end bytes ≡ front h (map bytes_of read)
   pub fits : AllByRecursion IsPayload (map bytes_of read)
 
--- a walk that has read these payloads, and stands at the next gate
+-- a walk that has read these payloads, and is at the next gate
 pub record Walked (h : FileHeader) (bytes : List ℕ) (read : List Payload) (at : ℕ) : Type 0 where
   pub in_file : at < length bytes
   pub count : 8 + 6 * length read ≤ at

@@ -1,4 +1,4 @@
--- How a journal's disk stands: at rest, or with a record in doubt.
+-- The state of a journal's disk: at rest, or with a record in doubt.
 use Rattle.std.specs.Prelude.{◌≡◌, ◌≢◌, ◌⊎◌, ℕ, ◌+◌, List, [], ◌∷◌, ◌++◌, length, take, nat_le, if◌then◌else◌, Some, unwrap_or}
 use Rattle.std.specs.List.{AllByRecursion}
 use Rattle.exam_edge.specs.Images.{Account, latest, IsSettled, IsImage, AllImages}
@@ -18,7 +18,7 @@ pub record IsAtRest (h : FileHeader) (content : List ℕ) (accounts : List Accou
   pub size_is : size ≡ length content
   pub settled : IsSettled content accounts
 
--- one more record is whole behind the closed gate, all of it on the disk
+-- one more record is whole after the closed gate, all of it on the disk
 pub record IsStaged (h : FileHeader) (ps : List (List ℕ)) (payload content : List ℕ) (accounts : List Account) (size : ℕ) : Type 0 where
   pub fits : AllByRecursion IsPayload ps
   pub one : IsPayload payload
@@ -28,14 +28,14 @@ pub record IsStaged (h : FileHeader) (ps : List (List ℕ)) (payload content : L
   pub file : content ≡ front h ps ++ gate ∷ frame_of payload
   pub settled : IsSettled content accounts
 
--- header and frames of these payloads, a closed gate, and whatever stands behind it
+-- header and frames of these payloads, a closed gate, and whatever follows it
 pub record Unopened (h : FileHeader) (ps : List (List ℕ)) (file : List ℕ) : Type 0 where
   pub gate : ℕ
   pub junk : List ℕ
   pub closed : gate ≢ 1
   pub is : file ≡ front h ps ++ gate ∷ junk
 
--- the gate of one more payload is closed, or it is open and the record stands whole behind it
+-- the gate of one more payload is closed, or it is open and the whole record follows it
 abbrev pub IsEither : FileHeader → List (List ℕ) → List ℕ → List ℕ → Type 0
 IsEither h ps payload file = Unopened h ps file ⊎ (file ≡ front h (ps ++ payload ∷ []) ++ 0 ∷ [])
 
@@ -43,7 +43,7 @@ IsEither h ps payload file = Unopened h ps file ⊎ (file ≡ front h (ps ++ pay
 abbrev pub IsBeforeOrWith : FileHeader → List (List ℕ) → List ℕ → List ℕ → Type 0
 IsBeforeOrWith h ps payload file = (payloads h file ≡ Some ps) ⊎ (payloads h file ≡ Some (ps ++ payload ∷ []))
 
--- a record may have been added or not, and the file ends behind its gate or behind the next
+-- a record may have been added or not, and the file ends after its gate or after the next
 pub record IsInDoubt (h : FileHeader) (ps : List (List ℕ)) (payload : List ℕ) (accounts : List Account) (size with_it : ℕ) : Type 0 where
   pub fits : AllByRecursion IsPayload ps
   pub one : IsPayload payload
@@ -55,6 +55,7 @@ pub record IsInDoubt (h : FileHeader) (ps : List (List ℕ)) (payload : List ℕ
 abbrev pub IsImageOrGives : FileHeader → Account → List ℕ → List ℕ → Type 0
 IsImageOrGives h before content file = IsImage before file ⊎ (payloads h file ≡ payloads h content)
 
--- what stands on the disk once a file is opened: as much of it as this, or an empty journal where it had at most nine bytes
+-- the content of the disk once a file is opened: so many of the file's first bytes, or an empty
+-- journal where the file had at most nine bytes
 unfoldable pub opened_file : FileHeader → List ℕ → ℕ → List ℕ
 opened_file h file size = if nat_le (length file) 9 then h.bytes ++ 0 ∷ [] else take size file

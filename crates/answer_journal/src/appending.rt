@@ -11,7 +11,7 @@ use crate::frames::OPEN;
 use crate::{Adopted, Frame};
 use exam_edge::{Disk, Failed};
 
-// Writes a record behind the closed gate that ends the file, and syncs. The gate stays closed.
+// Writes a record after the closed gate that ends the file, and syncs. The gate stays closed.
 fn stage_record<D: Disk>(disk: &mut D, size: u64, frame: &Frame) -> Result<(), Failed>
     requires { IsTrue (D.tells disk.old)
         → IsAtRest shadowj1 (D.content disk.old) (D.accounts disk.old) size }
@@ -50,8 +50,8 @@ fn open_gate<D: Disk>(disk: &mut D, size: u64) -> Result<(), Failed>
     Ok(())
 }
 
-/// Writes a record behind the closed gate that ends a file of this length, and opens that gate once the record is on the
-/// disk.
+/// Writes a record after the closed gate that ends a file of this length, and opens that gate once
+/// the record is on the disk.
 pub fn write_record<D: Disk>(disk: &mut D, size: u64, frame: &Frame) -> Result<(), Failed>
     requires some { 9 ≤ size }
     requires rest { IsTrue (D.tells disk.old) → IsAtRest shadowj1 (D.content disk.old) (D.accounts disk.old) size }
@@ -69,7 +69,7 @@ pub fn write_record<D: Disk>(disk: &mut D, size: u64, frame: &Frame) -> Result<(
     Ok(())
 }
 
-// Syncs, and says whether the byte at a place is an open gate.
+// Syncs, and gives whether the byte at a place is an open gate.
 fn sync_and_read_gate<D: Disk>(disk: &mut D, at: u64) -> Result<bool, Failed>
     ensures gate { IfOk result (λ is_open. IsTrue (D.tells disk.old) → at < length (D.content disk.old)
         → is_open ≡ (slice_index (D.content disk.old) at == 1)) }
@@ -85,7 +85,7 @@ fn sync_and_read_gate<D: Disk>(disk: &mut D, at: u64) -> Result<bool, Failed>
     Ok(count == 1 && gate[0] == OPEN)
 }
 
-/// Keeps the record in doubt behind a file of this length where its gate reads open, and else cuts it off.
+/// Keeps the record in doubt after a file of this length if its gate reads open; else cuts it off.
 pub fn resolve_record<D: Disk>(disk: &mut D, size: u64) -> Result<Adopted, Failed>
     requires some { 9 ≤ size }
     requires doubt { IsTrue (D.tells disk.old) → (ps : _) × (payload : _) × (with_it : _) × IsInDoubt shadowj1 ps payload (D.accounts disk.old) size with_it }

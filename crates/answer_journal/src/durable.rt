@@ -21,8 +21,8 @@ pub fn write_durably<D: Disk>(disk: &mut D, at: u64, bytes: &[u8]) -> Result<(),
     Ok(())
 }
 
-/// Cuts the file to a length and syncs: at `Ok` nothing stands behind it on the disk. At no moment may a crash leave more
-/// than the cut alone allows.
+/// Cuts the file to a length and syncs: at `Ok` nothing is after that length on the disk. At no
+/// moment may a crash leave more than the cut alone allows.
 pub fn cut_durably<D: Disk>(disk: &mut D, end: u64) -> Result<(), Failed>
     requires { IsTrue (D.tells disk.old) → end ≤ length (D.content disk.old) }
     ensures content { OnOk result (IsTrue (D.tells disk.old) → D.content disk.new ≡ take end (D.content disk.old)) }
@@ -37,7 +37,7 @@ pub fn cut_durably<D: Disk>(disk: &mut D, end: u64) -> Result<(), Failed>
     Ok(())
 }
 
-/// Cuts a file of this length to another, if bytes stand behind that, and syncs.
+/// Cuts a file of this length to another, if it has bytes after that, and syncs.
 pub fn cut_tail<D: Disk>(disk: &mut D, end: u64, size: u64) -> Result<(), Failed>
     requires within { end ≤ size }
     requires size { IsTrue (D.tells disk.old) → size ≡ length (D.content disk.old) }

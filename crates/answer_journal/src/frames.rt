@@ -16,26 +16,26 @@ pub const EMPTY_JOURNAL: [u8; 9] = [b'S', b'H', b'A', b'D', b'O', b'W', b'J', b'
 /// The gate of a record that counts. Every other value is a closed gate.
 pub const OPEN: u8 = 1;
 
-/// The closed gate that is written behind a record.
+/// The closed gate that is written after a record.
 pub const CLOSED: u8 = 0;
 
 /// The length of the longest payload, in bytes.
 pub const MAX_PAYLOAD: usize = 131_072;
 
-/// What stands at a gate.
+/// What is at a gate.
 #[derive(Clone, Copy, Debug, PartialEq, Eq)]
 pub enum Found {
     /// The gate is closed.
     Closed,
-    /// The gate is open, and the length behind it is none that a payload has.
+    /// The gate is open, and the length after it is one that no payload has.
     NoLength,
     /// The gate is open, and the file ends before the next gate.
     Short,
-    /// The gate is open, and behind it stand a payload of so many bytes and the next gate.
+    /// The gate is open, and a payload of so many bytes and the next gate are after it.
     Record(usize),
 }
 
-/// Looks at a gate and at the frame behind it.
+/// Looks at a gate and at the frame after it.
 pub fn frame_at(bytes: &[u8], at: usize) -> Found
     requires { at < length bytes.now }
     ensures { IsFound bytes.now at result }

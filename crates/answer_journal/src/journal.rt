@@ -48,8 +48,9 @@ fn length_after(adopted: Adopted, size: u64, doubt: Option<u64>) -> u64
     }
 }
 
-/// A journal over a disk that nobody else writes: payloads, each durable before it is acknowledged. A record is written
-/// behind the closed gate that ends the file and synced, and counts once that gate is opened and synced again.
+/// A journal over a disk that nobody else writes: payloads, each durable before it is acknowledged.
+/// A record is written after the closed gate that ends the file, and is synced. It counts once that
+/// gate is opened and synced again.
 pub struct Journal<D: Disk> {
     disk: D,
     size: u64,
@@ -80,9 +81,10 @@ impl<D: Disk> Model for Journal<D> {
 impl<D: Disk> Journal<D> {
     ghost use Rattle.answer_journal.specs.Journal.{disk_of, tells_of, content_of, accounts_of, faults_of, identity_of, length_of, limit_of, doubt_of, payloads_of, AreLengths, IsReady, IsDoubtful};
 
-    /// Opens a file, and gives its payloads with the places of their gates. It syncs first, makes a file of at most nine
-    /// bytes an empty journal, and cuts what stands behind the first closed gate of any other. The limit of the journal's
-    /// length is in bytes, at most 536,870,912. A refusal gives the disk back.
+    /// Opens a file, and gives its payloads with the places of their gates. It syncs first. It
+    /// makes a file of at most nine bytes an empty journal. It cuts from any other file what
+    /// follows its first closed gate. The limit of the journal's length is in bytes, at most
+    /// 536,870,912. A refusal gives the disk back.
     pub fn open(
         alloc: Global,
         disk: D,

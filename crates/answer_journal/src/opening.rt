@@ -70,7 +70,8 @@ fn write_header<D: Disk>(disk: &mut D) -> Result<(), Failed>
     Ok(())
 }
 
-// Brings a file of this length to rest: nothing stands behind its first closed gate, at the place `end`.
+// Brings a file of this length to rest: it then ends with its first closed gate, at the place
+// `end`.
 fn end_file<D: Disk>(disk: &mut D, end: u64, size: u64, read: &[Payload]) -> Result<(), Failed>
     requires few { end < size }
     requires read { IsTrue (D.tells disk.old) → IsRead shadowj1 (D.content disk.old) read.now end × IsSettled (D.content disk.old) (D.accounts disk.old) }
@@ -112,7 +113,8 @@ fn open_frames<D: Disk>(
         Ok(bytes) => bytes,
         Err(e) => return Err(e),
     };
-    // Only a disk that tells nothing may have read fewer bytes than it said.
+    // Only a disk that doesn't report its content may have read fewer bytes than the length that it
+    // gave.
     if bytes.len() <= 9 {
         return Err(OpenFault::Header);
     }

@@ -198,7 +198,8 @@ seat_problem_3 : IsSeatProblem bank_s plan_s 0 (seat_s (0 ∷ 1 ∷ 3 ∷ []) (0
 unfolding problem_3 seat_s bank_s item_s ones plan_s
 seat_problem_3 = record { theta = 1; mode = mode_is bank_s plan_s.prior ((0, 0) ∷ (1, 0) ∷ (3, 1) ∷ []) 1 refl; is = refl }
 
--- not barred while the stimulus goes on; barred behind it; never an item shown, an item of no stimulus, or one beyond the bank
+-- not barred while the stimulus goes on; barred after it; never an item shown, an item of no
+-- stimulus, or one beyond the bank
 barred_s : (problem_2.barred 2 ≡ false) × (problem_3.barred 2 ≡ true) × (problem_3.barred 0 ≡ false) × (problem_3.barred 4 ≡ false) × (problem_3.barred 5 ≡ false) × (problem_3.barred 600 ≡ false)
 unfolding problem_2 problem_3 seat_s bank_s item_s has
 barred_s = (refl, refl, refl, refl, refl, refl)

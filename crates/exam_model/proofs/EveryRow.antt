@@ -76,7 +76,7 @@ stimuli_rows : (holds (0 ∷ 1 ∷ []) 3 ≡ true) × (holds (0 ∷ 5 ∷ []) 3 
 unfolding bank_r item_r plan_r
 stimuli_rows = (refl, refl, refl)
 
--- what the test says is so
+-- a row holds exactly where its test is true
 two_enemies : RowHolds bank_r plan_r (these (3 ∷ 4 ∷ [])) 2 → ⊥
 two_enemies h = true≢false (sym (row_from bank_r plan_r (these (3 ∷ 4 ∷ [])) 2 h) ∙ enemies_rows.2)
 
@@ -86,7 +86,7 @@ at_upper_bound = row_is bank_r plan_r (these (3 ∷ 5 ∷ [])) 1 quantity_rows.1
 one_enemy : RowHolds bank_r plan_r (these (3 ∷ [])) 2
 one_enemy = row_is bank_r plan_r (these (3 ∷ [])) 2 enemies_rows.1
 
--- past the last row stands one that every set meets
+-- past the last row is one that every set meets
 no_row_is_met : (activity bank_r no_row (these (0 ∷ 5 ∷ [])) (used bank_r (these (0 ∷ 5 ∷ []))) ≡ 0) × (row_at plan_r 9 ≡ no_row)
 unfolding bank_r item_r plan_r has
 no_row_is_met = (refl, refl)
@@ -107,7 +107,7 @@ form_r : Form problem_r (these (0 ∷ 1 ∷ 3 ∷ []))
 unfolding problem_r bank_r item_r plan_r has
 form_r = form_is problem_r (these (0 ∷ 1 ∷ 3 ∷ [])) (these_below 6 (0 ∷ 1 ∷ 3 ∷ []) refl) (λ i e. absurd (cc)) refl
 
--- items 1, 2 and 5 come to 110 of the quantity, 10 too many
+-- items 1, 2 and 5 have 110 of the quantity, 10 too many
 breach_row : IsFirstBreach problem_r (these (1 ∷ 2 ∷ 5 ∷ [])) (Some (RowBreach 1 110))
 unfolding problem_r bank_r item_r plan_r has
 breach_row = (

@@ -63,7 +63,7 @@ not_spent_at_7 : IsSpent problem_a left_first 7 → ⊥
 unfolding left_first
 not_spent_at_7 spent = let e = spent.nodes in omega arith
 
--- ---- a branch behind an Open leaf: the tree was not searched depth first
+-- ---- a branch after an Open leaf: the tree was not searched depth first
 unfoldable pub open_first : ProofTree
 open_first = record { vectors = []; nodes = BranchItem 3 ∷ Open ∷ BranchItem 4 ∷ Open ∷ Open ∷ [] }
 
@@ -71,7 +71,7 @@ not_depth_first : IsSpent problem_a open_first 5 → ⊥
 unfolding open_first
 not_depth_first spent = spent.depth_first.0 tt
 
--- a leaf that isn't Open may stand behind an Open one, and in front
+-- a leaf that isn't Open may be after an Open one, and before it
 leaves_behind : IsDepthFirst (BranchItem 3 ∷ Open ∷ Whole ∷ []) × IsDepthFirst (BranchItem 3 ∷ Whole ∷ BranchItem 4 ∷ Open ∷ Open ∷ [])
 leaves_behind = (((λ branch. branch), tt), ((λ branch. branch), tt))
 

@@ -73,7 +73,8 @@ last_form_stays b plan session theta item response later seat words form next = 
     last_is : last_stimulus b (last_shown after) ≡ stimulus b item
     last_is = ap (last_stimulus b) (last_shown-push seat.shown item)
 
-    -- an item of the bank that is not shown and that the form holds is not of a stimulus left behind
+    -- an item of the bank that is not shown and that the form holds is not of a stimulus that was
+    -- left
     not_left : (i : ℕ) → i < size b → is_shown seat i ≡ false → is_of_stimulus_left_behind b after i ≡ true → (is_of_stimulus_left_behind b seat i ≡ true) ⊎ (has words i ≡ false)
     not_left i in_bank new left = by (either (stimulus b i == last_stimulus b (last_shown seat))) (either (has words i))
       where

@@ -40,7 +40,7 @@ not_the_highest : IsPosteriorMode three_points (negsuc 4 ∷ negsuc 3 ∷ negsuc
 unfolding three_points
 not_the_highest is = let less = is.lowest 1 (lit≤ tt) in omega (arith, ints)
 
--- past the grid there is no point, whatever stands there
+-- past the grid there is no point, whatever the list has there
 not_past_the_grid : IsPosteriorMode three_points (negsuc 4 ∷ negsuc 3 ∷ negsuc 3 ∷ pos 9 ∷ []) [] 3 → ⊥
 unfolding three_points
 not_past_the_grid is = let w = is.within in omega arith

@@ -28,7 +28,7 @@ used b X s = nat_lt 0 s && any_below (size b) (λ i. X i && stimulus b i == s)
 abbrev pub stimuli_in : ℕ → Set → ℕ
 stimuli_in top Z = sum_in top (λ k. Z (suc k)) (λ _. 1)
 
--- the activity of a row: what items X and stimuli Z come to on it
+-- the activity of a row: the number or the sum that items X and stimuli Z have on it
 abbrev pub activity : Tables → Row → Set → Set → ℕ
 activity b (Count set low high) X Z = count_in (size b) X (has set)
 activity b (Quantity which set low high) X Z = sum_in (size b) X (λ i. cond (has set i) (quantity b i which) 0)

@@ -18,7 +18,7 @@ root P = record { taken = P.given; out = P.barred; branched_on = λ _. false }
 abbrev pub is_free : Problem → Path → Set
 is_free P p i = nat_lt i (size P.bank) && (not (p.taken i) && not (p.out i))
 
--- a stimulus is chosen if one of its items is taken or a left branch on it stands on the path
+-- a stimulus is chosen if one of its items is taken or the path has a left branch on it
 abbrev pub is_chosen : Problem → Path → Set
 is_chosen P p s = p.branched_on s || used P.bank p.taken s
 

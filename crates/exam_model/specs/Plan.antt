@@ -9,11 +9,11 @@ use Rattle.exam_model.specs.declared.row.StimulusBound.{StimulusBound}
 abbrev pub Plan : Type 0
 Plan = Draft
 
--- what stands past the last row
+-- the row past the last one
 abbrev pub no_row : Row
 no_row = Count [] 0 0
 
--- what stands past the last bound
+-- the bounds past the last ones
 abbrev pub no_bound : StimulusBound
 no_bound = record { low = 0; high = 0 }
 

@@ -1,4 +1,5 @@
--- Numbers near 0, and the elements of arrays of signed numbers: what code that adds up reduced weights has to say of them.
+-- Numbers near 0, and the elements of arrays of signed numbers, for code that adds up reduced
+-- weights.
 use Rattle.std.specs.Prelude.{ℕ, ◌≤◌, List, get_or, ℤ, pos, neg_ℤ, ◌≤ℤ◌}
 
 -- the number is at most so far from 0

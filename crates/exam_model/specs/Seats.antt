@@ -28,8 +28,8 @@ is_of_stimulus_left_behind b seat i =
     && (list_any (λ item. stimulus b item == stimulus b i) seat.shown
     && not (stimulus b i == last_stimulus b (last_shown seat)))
 
--- the items of the bank that are barred: those not shown that are of a stimulus left behind, or not eligible where
--- eligibility isn't set aside
+-- the items of the bank that are barred: those not shown that are of a stimulus that was left, or
+-- not eligible where eligibility isn't set aside
 abbrev pub is_barred : Tables → Seat → Set
 is_barred b seat i = nat_lt i (size b) && (not (is_shown seat i) && (is_of_stimulus_left_behind b seat i || (not seat.aside && not (has seat.eligible i))))
 

@@ -25,7 +25,7 @@ abbrev pub HasNoBranch : List Node → Type 0
 HasNoBranch [] = Unit {0}
 HasNoBranch (node ∷ nodes) = (IsBranch node → ⊥) × HasNoBranch nodes
 
--- behind the first Open leaf no branch stands: the tree was searched depth first
+-- no branch is after the first Open leaf: the tree was searched depth first
 abbrev pub IsDepthFirst : List Node → Type 0
 IsDepthFirst [] = Unit {0}
 IsDepthFirst (Open ∷ nodes) = HasNoBranch nodes
@@ -47,7 +47,7 @@ pub record IsUnresolved (P : Problem) (p : Path) : Type 0 where
   pub possible : (r : ℕ) → IsFalse (is_impossible P p r)
   pub exceeds : ExceedsStart P p P.start
 
--- a branch stands on what is free or open, and on it and on an Open leaf the path is unresolved
+-- a branch is on what is free or open, and at it and at an Open leaf the path is unresolved
 abbrev pub IsSpentNode : Problem → Path → Node → Type 0
 IsSpentNode P p (BranchItem i) = IsTrue (is_free P p i) × IsUnresolved P p
 IsSpentNode P p (BranchStimulus s) = IsStimulusBranch P p s × IsUnresolved P p

@@ -5,7 +5,7 @@
 pub enum Breach {
     /// The set hasn't as many items as the test, or has an item that the bank hasn't; its number of items.
     Length(u32),
-    /// The row doesn't hold; what the set comes to on it.
+    /// The row doesn't hold; the activity of the set on it.
     Row(u8, u32),
     /// The stimulus has a number of items out of its bounds; that number.
     Stimulus(u8, u32),

@@ -74,7 +74,7 @@ pub fn last_form_stays()
     ensures { LastFormStays }
 {}
 
-/// A Partial verdict tells how many leaves are Open, and there are some.
+/// A Partial verdict gives the number of Open leaves, and there are some.
 pub fn partial_counts_open()
     ensures { PartialCountsOpen }
 {}

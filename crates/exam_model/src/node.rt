@@ -1,6 +1,6 @@
 //! The nodes of a proof tree.
 
-/// A node; a branch has two subtrees behind it in preorder, left first.
+/// A node; a branch has two subtrees after it in preorder, left first.
 #[derive(Clone, Copy, Debug, PartialEq, Eq)]
 pub enum Node {
     /// Left, the item is in the form; right, it isn't.

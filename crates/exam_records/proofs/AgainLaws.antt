@@ -151,7 +151,7 @@ reads_to r bytes next is p = entry_again r.entry r.tree bytes next is.goes_with 
 nothing_left : (n : ℕ) (bytes : List ℕ) → length bytes ≤ n → drop n bytes ≡ []
 nothing_left n bytes all = nil_from_length (drop n bytes) (omega (arith, length-drop n bytes))
 
--- nothing is left behind a record that ends where the bytes end
+-- nothing is left after a record that ends where the bytes end
 pub found_whole : (payload : List ℕ) (r : Record) → IsBytes payload → record_of payload ≡ Ok r → IsRecord r × (payload ≡ payload_of r)
 unfolding record_of
 found_whole payload r fits e =
@@ -165,7 +165,7 @@ found_whole payload r fits e =
     let whole : payload ≡ payload_of b.0.0 = found.stands.parts ∙ (ap (λ (t : List ℕ). payload_of b.0.0 ++ t) none ∙ append-nil (payload_of b.0.0)) in
     subst (λ (x : Record). IsRecord x × (payload ≡ payload_of x)) (ok_is {F = RecordFault} b.0.0 r u.1) (found.is, whole)
 
--- a record at the front, and what stands behind it
+-- a record at the front, and what follows it
 pub with_more : (r : Record) (rest : List ℕ) → IsRecord r → record_of (payload_of r ++ rest) ≡ unless (fault_where (ltb (length (payload_of r)) (length (payload_of r ++ rest))) (Extra (length (payload_of r)))) (Ok r)
 unfolding record_of
 with_more r rest is =

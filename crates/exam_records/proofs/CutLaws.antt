@@ -49,7 +49,7 @@ no_tree tree k r lt le = absurd (omega arith)
 
 -- ---- fields
 
--- what stands in the first k bytes stands in them alone
+-- a text within the first k bytes is at the same place in them alone
 stands_cut : (bytes : List ℕ) (k at : ℕ) (text : List ℕ) (next : ℕ) → k ≤ length bytes → next ≤ k → Stands bytes at text next → Stands (take k bytes) at text next
 stands_cut bytes k at text next kb le p =
     let whole : at + (k - at) ≡ k = omega (arith, p.ends) in
@@ -114,7 +114,7 @@ cut_tree nodes bytes k at T is lt le p =
 
 -- ---- each kind
 
--- the first byte, and the fields behind it
+-- the first byte, and the fields after it
 from_kind : (bytes : List ℕ) (k kind tree : ℕ) → k ≤ length bytes → 1 ≤ tree → Stands bytes 0 (kind ∷ []) 1 → (1 ≤ k → IsCutOff tree k (record_of_kind kind (take k bytes))) → IsCutOff tree k (record_of (take k bytes))
 unfolding record_of
 from_kind bytes k kind tree kb some p g =

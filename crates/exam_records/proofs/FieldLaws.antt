@@ -104,7 +104,7 @@ flag_read bytes at false next p = rw (byte_read bytes at 0 next p) refl
 bytes_behind : (n : ℕ) (bytes : List ℕ) → IsBytes bytes → IsBytes (drop n bytes)
 bytes_behind n bytes fits i = rw get_or-drop (fits (n + i))
 
--- what stands behind a place stands there
+-- a text at the front of the bytes from a place on is at that place
 pub stands_behind : (bytes : List ℕ) (at : ℕ) (text : List ℕ) (used : ℕ) → Stands (drop at bytes) 0 text used → Stands bytes at text (at + used)
 stands_behind bytes at text used p = record { parts = p.parts ∙ ap (λ (t : List ℕ). text ++ t) (drop-drop used at bytes); ends = omega (arith, p.ends) }
 
@@ -113,7 +113,7 @@ behind_stands bytes at text next p =
     let whole : at + (next - at) ≡ next = omega (arith, p.ends) in
     record { parts = p.parts ∙ ap (λ (t : List ℕ). text ++ t) (ap (λ (n : ℕ). drop n bytes) (sym whole) ∙ sym (drop-drop (next - at) at bytes)); ends = omega (arith, p.ends) }
 
--- the tree stands there, and has so many nodes
+-- the tree is at this place, and has so many nodes
 pub record IsTreeAt (nodes : ℕ) (bytes : List ℕ) (at : ℕ) (x : ProofTree × ℕ) : Type 0 where
   pub is_tree : IsTree x.0
   pub stands : Stands bytes at (bytes_of x.0) x.1

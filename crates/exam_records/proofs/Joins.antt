@@ -1,4 +1,4 @@
--- Pieces that were written one behind the other.
+-- Pieces that were written one after the other.
 use Rattle.std.proofs.Common.{◌≡◌, ℕ, List, ◌++◌, append_assoc}
 
 -- three pieces

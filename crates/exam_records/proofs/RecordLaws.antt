@@ -21,12 +21,12 @@ use Rattle.exam_records.specs.Spelling.{cause_byte, mark_byte, entry_bytes, payl
 use Rattle.exam_records.specs.Reading.{field, set_at, flag_at, cause_of, tree_at, started, set_aside, served, answered, closed, record_of_kind}
 use Rattle.exam_records.proofs.FieldLaws.{wide64, number_found, byte_found, set_found, flag_found, tree_found}
 
--- the record that was read is one, and stands at the front of the payload
+-- what was read is a record, and is at the front of the payload
 pub record IsFound (bytes : List ℕ) (x : Record × ℕ) : Type 0 where
   pub is : IsRecord x.0
   pub stands : Stands bytes 0 (payload_of x.0) x.1
 
--- nothing more stands behind an entry without a tree
+-- nothing more follows an entry without a tree
 entry_alone : (bytes : List ℕ) (entry : Entry) (next : ℕ) → Stands bytes 0 (entry_bytes entry) next → Stands bytes 0 (payload_of (record { entry = entry; tree = None })) next
 unfolding payload_of
 entry_alone bytes entry next p = subst (λ (t : List ℕ). Stands bytes 0 t next) (sym (append-nil (entry_bytes entry))) p

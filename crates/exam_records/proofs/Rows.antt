@@ -62,17 +62,18 @@ second_read : record_of second_bytes ≡ Ok second
 unfolding one_leaf leaf_bytes second second_with second_bytes record_of record_of_kind served set_at flag_at tree_at items_at numbers_of number_of read vectors_at multipliers_at pairs_at pair_at nodes_at node_at node_of_kind bound_at
 second_read = refl
 
--- a mark of 2 is told before what is cut off behind it
+-- a mark of 2 is reported before what is cut off after it
 mark_2 : record_of (second_with (2 ∷ [])) ≡ Err (Field 73)
 unfolding second_with record_of record_of_kind served set_at flag_at items_at numbers_of number_of
 mark_2 = refl
 
--- the number of nodes is known once the tree is read, and is told before what stands behind the record
+-- the number of nodes is known once the tree is read, and is reported before what follows the
+-- record
 two_nodes : record_of (second_with (1 ∷ 0 ∷ 2 ∷ (leaf_bytes ++ 9 ∷ []))) ≡ Err (Field 74)
 unfolding one_leaf leaf_bytes second_with record_of record_of_kind served set_at flag_at tree_at items_at numbers_of number_of read vectors_at multipliers_at pairs_at pair_at nodes_at node_at node_of_kind bound_at
 two_nodes = refl
 
--- a fault of the tree is told before its number of nodes, with its place in the tree
+-- a fault of the tree is reported before its number of nodes, with its place in the tree
 kind_9 : record_of (second_with (1 ∷ 0 ∷ 2 ∷ 0 ∷ 9 ∷ [])) ≡ Err (Tree (tree.BadKind 1))
 unfolding second_with record_of record_of_kind served set_at flag_at tree_at items_at numbers_of number_of read vectors_at nodes_at node_at node_of_kind
 kind_9 = refl

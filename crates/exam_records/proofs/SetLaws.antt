@@ -1,4 +1,5 @@
--- Sets of items in numbers: each bit is an item, and the 64 bytes and the 8 words of a set tell each other.
+-- Sets of items in numbers: each bit is an item, and the 64 bytes and the 8 words of a set
+-- determine each other.
 use Rattle.std.proofs.Common.{◌≡◌, ℕ, zero, suc, ◌+◌, ◌-◌, ◌*◌, ◌/◌, ◌%◌, ◌^◌, ◌<◌, ◌≤◌, ◌==◌, ◌&&◌, ◌||◌, cond, ltb, Bool, true, false, List, [], ◌∷◌, ◌++◌, length, get_or, take, drop, refl, sym, ap, ◌∙◌, arith, inl, inr, length-append, add-one}
 use Rattle.std.specs.Int.{bit_at}
 use Rattle.std.proofs.lemmas.Bool.{cases_eq, cases_lt, cases_Bool, lt-ltb, le-ltb}
@@ -95,7 +96,7 @@ has_words X i lt =
     let again : 64 * (i / 64) + i % 64 ≡ i = omega arith in
     rw (numbers_at 8 64 X (i / 64) word, number_bits 64 X (64 * (i / 64)) (i % 64) place, again) (is_bit (X i))
 
--- the words of a set are told by its items
+-- the items of a set determine its words
 pub words_again : (words : List ℕ) (X : Set) → AreWords words → ((i : ℕ) → i < 512 → has words i ≡ X i) → words ≡ words_of X
 words_again words X are same =
     same_sets words (words_of X) are (are_words X) (λ i. elim (cases_lt i 512) [
@@ -113,7 +114,7 @@ byte_bits X i lt =
     let again : 8 * (i / 8) + i % 8 ≡ i = omega arith in
     rw (numbers_at 64 8 X (i / 8) byte, number_bits 8 X (8 * (i / 8)) (i % 8) place, again) refl
 
--- the items that bytes say, as far as there are items
+-- the items that bytes spell, as far as there are items
 pub items_within : (bytes : List ℕ) (at i : ℕ) → i < 512 → items_at bytes at i ≡ (bit_at (get_or bytes (at + i / 8) 0) (i % 8) == 1)
 unfolding items_at
 items_within bytes at i lt = rw (lt-ltb i 512 lt) refl
@@ -126,7 +127,7 @@ same_bit n j =
       | inr some ↦ (let one : bit_at n j ≡ 1 = omega arith in rw one refl)
     ]
 
--- the bytes of the set that 64 bytes say are those bytes
+-- the bytes of the set that 64 bytes spell are those bytes
 pub set_bytes_again : (bytes : List ℕ) (at : ℕ) → IsBytes bytes → at + 64 ≤ length bytes → set_bytes (has (words_of (items_at bytes at))) ≡ take 64 (drop at bytes)
 set_bytes_again bytes at fits there =
     same_number_lists (set_bytes (has (words_of (items_at bytes at)))) (take 64 (drop at bytes)) (omega (arith, numbers_len 64 8 (has (words_of (items_at bytes at))), length-take-le 64 (drop at bytes) (omega (arith, length-drop at bytes)), length-drop at bytes)) (λ k lt.
@@ -143,7 +144,7 @@ set_bytes_again bytes at fits there =
         let place : (8 * k + j) % 8 ≡ j = omega arith in
         rw (number_bits 8 (has (words_of (items_at bytes at))) (8 * k) j lj, has_words (items_at bytes at) (8 * k + j) item, items_within bytes at (8 * k + j) item, byte, place) (same_bit (get_or bytes (at + k) 0) j)
 
--- and where the bytes of a set stand, they say that set
+-- and where the bytes of a set are, they spell that set
 pub set_items_again : (bytes : List ℕ) (at : ℕ) (words : List ℕ) (next : ℕ) → AreWords words → Stands bytes at (set_bytes (has words)) next → words_of (items_at bytes at) ≡ words
 set_items_again bytes at words next are p = sym (words_again words (items_at bytes at) are (λ i lt.
     let len = numbers_len 64 8 (has words) in

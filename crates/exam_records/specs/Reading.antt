@@ -1,5 +1,5 @@
--- Reading a payload from left to right, up to the first fault, which is told with the place of the field in which it
--- stands.
+-- Reading a payload from left to right, up to the first fault, which is reported with the place of
+-- the field that has it.
 use Rattle.std.specs.Prelude.{ℕ, ◌+◌, ◌-◌, ◌==◌, not, Bool, true, false, nat_lt, List, length, drop, Some, None, Result, Ok, Err, if◌then◌else◌}
 use Rattle.std.specs.Int.{w16, w32, w64}
 use Rattle.exam_text.specs.First.{◌>>=◌, unless, fault_where}
@@ -39,13 +39,13 @@ abbrev pub cause_of : Bool → Cause
 cause_of true = Spent
 cause_of false = NoForm
 
--- a tree, and the place behind it; the two bytes before it told the number of its nodes
+-- a tree, and the place after it; the two bytes before it are the number of its nodes
 unfoldable pub tree_at : ℕ → List ℕ → ℕ → Result (ProofTree × ℕ) RecordFault
 tree_at nodes bytes at = do
   found ← of_tree (read (drop at bytes))
   unless (fault_where (not (nodes == length found.0.nodes)) (Field (at - 2))) (Ok (found.0, at + found.1))
 
--- ---- each kind of record behind its first byte, and the place behind it
+-- ---- each kind of record after its first byte, and the place after it
 
 unfoldable pub started : List ℕ → Result (Record × ℕ) RecordFault
 started bytes = do
@@ -94,7 +94,7 @@ record_of_kind kind bytes =
     (if kind == 4 then answered bytes else
     (if kind == 5 then closed bytes else Err (Kind 0)))))
 
--- the record of a payload: nothing may stand behind it
+-- the record of a payload: nothing may follow it
 unfoldable pub record_of : List ℕ → Result Record RecordFault
 record_of payload = do
   kind ← field (byte_at payload 0)

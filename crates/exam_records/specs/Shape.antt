@@ -7,8 +7,8 @@ use Rattle.history_model.specs.declared.entry.Entry.TheVariants.{Started, SetAsi
 use Rattle.proof_tree.specs.Shape.{IsTree}
 use Rattle.history_model.specs.Judging.{Record}
 
--- a proof tree stands exactly where an item was served or eligibility was set aside, and the entry tells the number of
--- its nodes
+-- there is a proof tree exactly where an item was served or eligibility was set aside, and the
+-- entry has the number of its nodes
 abbrev pub GoesWith : Entry → Option ProofTree → Type 0
 GoesWith (Started session booking eligible) None = Unit {0}
 GoesWith (SetAside session cause nodes) (Some T) = nodes ≡ length T.nodes
@@ -25,7 +25,7 @@ IsInRange (Served session step item form proved nodes) = (session < 2 ^ 32) × (
 IsInRange (Answered session step response) = (session < 2 ^ 32) × (step < 2 ^ 16) × (response < 2 ^ 8)
 IsInRange (Closed session) = session < 2 ^ 32
 
--- the tree, where one stands, has a spelling
+-- the tree, if there is one, has a spelling
 abbrev pub IsTreeOrNone : Option ProofTree → Type 0
 IsTreeOrNone None = Unit {0}
 IsTreeOrNone (Some T) = IsTree T

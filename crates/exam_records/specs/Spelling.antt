@@ -34,6 +34,6 @@ abbrev pub tree_bytes : Option ProofTree → List ℕ
 tree_bytes None = []
 tree_bytes (Some T) = bytes_of T
 
--- the payload of a record: the entry, and the tree behind it
+-- the payload of a record: the entry, and the tree after it
 unfoldable pub payload_of : Record → List ℕ
 payload_of r = entry_bytes r.entry ++ tree_bytes r.tree

@@ -26,13 +26,13 @@ pub fn no_two_records()
     ensures { (r s : Record) → IsRecord r → IsRecord s → payload_of r ≡ payload_of s → r ≡ s }
 {}
 
-/// Whatever stands behind a record is told as such, with the place where the record ends.
+/// Bytes after a record are reported as Extra, with the place where the record ends.
 pub fn more_is_told()
     ensures { (r : Record) (rest : List ℕ) → IsRecord r → 0 < length rest → record_of (payload_of r ++ rest) ≡ Err (Extra (length (payload_of r))) }
 {}
 
-/// A payload that is cut off anywhere is told as such: Short before the tree, and within it the tree's own Short or
-/// Unfinished.
+/// A payload that is cut off is reported: as Short before the tree, and in the tree as its own
+/// Short or Unfinished.
 pub fn cut_off_is_told()
     ensures { (r : Record) (k : ℕ) → IsRecord r → k < length (payload_of r) → IsCutOff (length (entry_bytes r.entry)) k (record_of (take k (payload_of r))) }
 {}

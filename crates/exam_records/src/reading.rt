@@ -87,7 +87,7 @@ fn cause(spent: bool) -> Cause
     if spent { Cause::Spent } else { Cause::NoForm }
 }
 
-/// The tree, which has so many nodes, and the place behind it.
+/// The tree, which has so many nodes, and the place after it.
 #[tactic(auto, unfolding(crate::specs::Reading::tree_at))]
 fn tree_of(alloc: Global, nodes: u16, bytes: &[u8], at: usize) -> Result<(Tree, usize), RecordFault>
     requires behind { 2 ≤ at }

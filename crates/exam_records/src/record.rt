@@ -4,8 +4,8 @@ use history_model::Entry;
 use proof_tree::Tree;
 use std::marker::Model;
 
-/// An entry and its proof tree. A tree stands exactly where the entry is SetAside or Served, and the entry's `nodes` is
-/// the number of the tree's nodes.
+/// An entry and its proof tree. There is a tree exactly where the entry is SetAside or Served, and
+/// the entry's `nodes` is the number of the tree's nodes.
 #[derive(Debug, Drop)]
 pub struct Record {
     pub entry: Entry,

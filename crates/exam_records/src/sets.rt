@@ -23,7 +23,7 @@ fn eight_items(set: &ItemSet, first: u16) -> u8
     bits
 }
 
-/// The bytes of the set, behind what was written before.
+/// Writes the bytes of the set after what was written before.
 pub(crate) fn push_set(out: &mut Vec<u8>, set: &ItemSet) -> Result<(), AllocError>
     ensures { OnOk result (out.new.items ≡ out.old.items ++ set_bytes (has set.now)) }
 {

@@ -91,9 +91,9 @@ fn push_tree(alloc: Global, out: &mut Vec<u8>, tree: Option<&Tree>) -> Result<()
     Ok(())
 }
 
-/// The one spelling of the record of an entry and its tree, at most 86,600 bytes. The condition is that a tree stands
-/// exactly where the entry is SetAside or Served, and that the entry's number of nodes is the tree's. Fails only where it
-/// is out of memory.
+/// The one spelling of the record of an entry and its tree, at most 86,600 bytes. The condition is
+/// that there is a tree exactly where the entry is SetAside or Served, and that the entry's number
+/// of nodes is the tree's. Fails only where it is out of memory.
 #[tactic(auto, unfolding(crate::specs::Spelling::payload_of))]
 pub fn encode_parts(alloc: Global, entry: &Entry, tree: Option<&Tree>) -> Result<Vec<u8>, Memory>
     requires { GoesWith entry.now (option_copied tree) }

@@ -1,4 +1,4 @@
--- What a book needs for an entry that is legal behind its own.
+-- What a book needs for an entry that is legal after its own.
 use Rattle.std.proofs.Common.{◌≡◌, ℕ, ◌+◌, ◌-◌, ◌≤◌, ◌<◌, Bool, true, false, cond, List, Some, None, refl, ap, ◌∙◌, arith}
 use Rattle.std.specs.Prelude.{min}
 use Rattle.bank_tables.specs.Tables.{Tables}

@@ -1,4 +1,4 @@
--- What the seats of a book say of its sessions.
+-- What the seats of a book give for its sessions.
 use Rattle.std.proofs.Common.{◌≡◌, ℕ, ◌+◌, ◌≤◌, ◌<◌, inl, inr, Bool, true, false, cond, List, length, slice_get, Option, Some, None, refl, sym, ap, ◌∙◌, subst, arith, Bor, get_or}
 use Rattle.std.specs.Prelude.{nat_le, IsSome, IfSome, IfNone, ◌↔◌}
 use Rattle.std.specs.Option.{option_copied}
@@ -35,7 +35,7 @@ pub looked_up : {X : Type 0} (xs : List X) (i : ℕ) (r : Option (Bor X)) → Is
 looked_up xs i (Some x) h = let below : i < length xs = h.3.0 in sym (slice_get-get_or xs i x.now below ∙ ap (λ y. Some y) (sym h.1))
 looked_up xs i None h = sym (slice_get_past xs i h.3)
 
--- the seat that the table has of a session, or none, is the one that the entries say
+-- the seat that the table has of a session, or none, is the one that the entries give
 abbrev pub seat_if_started : List Entry → ℕ → Option Seat
 seat_if_started H s = cond (is_started H s) (Some (seat_of H s)) None
 
@@ -59,7 +59,7 @@ found_seat b plan H seats s run kept = by (slice_get seats s) refl (is_started H
         let number = kept.number in
         absurd (omega arith)
 
--- ---- where a session stands, by its seat
+-- ---- the place of a session, by its seat
 pub placed : (b : Tables) (plan : Plan) (H : List Entry) (s : ℕ) (seat : Seat) → LegalRun b plan H → Some seat ≡ seat_if_started H s → Some (seat_place plan seat) ≡ place plan H s
 placed b plan H s seat run e = by (is_started H s) refl e
   where

@@ -16,7 +16,7 @@ pub record StartsFromForm (P : Problem) : Type 0 where
   pub start : P.start ≡ Some form
   pub is_form : Form P form
 
--- behind its first step a session's problem starts from a form of it
+-- after its first step a session's problem starts from a form of it
 abbrev pub FormIsThere : Type 0
 FormIsThere = (b : Tables) (plan : Plan) (H : List Entry) (s step : ℕ) (P : Problem) → LegalRun b plan H → IsProblemOf b plan H s step P → 0 < step → StartsFromForm P
 

@@ -14,7 +14,7 @@ pub record Ledger : Type 0 where
   pub entries : List Entry
   pub room : ℕ
 
--- the plan is valid for the bank, and each entry is legal behind the entries before it
+-- the plan is valid for the bank, and each entry is legal after the entries before it
 pub record IsExamination (book : Ledger) : Type 0 where
   pub bank : IsBank book.bank
   pub plan : IsPlanFor book.bank book.plan

@@ -8,7 +8,7 @@ use Rattle.exam_model.specs.Plan.{Plan}
 use Rattle.history_model.specs.Entries.{sessions}
 use Rattle.history_model.specs.Places.{place}
 
--- it isn't there; or it stands elsewhere
+-- there is no such session; or it is at another place
 abbrev pub IsNotPending : Plan → List Entry → ℕ → ℕ → Illegal → Type 0
 IsNotPending plan H session step (NoSession count) = (place plan H session ≡ None) × (count ≡ sessions H)
 IsNotPending plan H session step (NotPending at) = (place plan H session ≡ Some at) × (at ≢ Pending step)

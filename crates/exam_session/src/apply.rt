@@ -38,7 +38,8 @@ impl<'a> Book<'a> {
         Ok(())
     }
 
-    /// Appends an entry that is legal behind those of the book, where there is room for one. Takes no memory.
+    /// Appends an entry that is legal after those of the book, where there is room for one. Takes
+    /// no memory.
     pub fn apply(&mut self, entry: Entry)
         requires legal { Legal self.old.bank self.old.plan self.old.entries entry }
         requires room { 0 < self.old.room }

@@ -73,7 +73,7 @@ impl<'a> Model for Book<'a> {
         × (min b.spec.now.sessions (vec_len b.bookings + b.room) ≤ vec_capacity b.bookings) };
 }
 
-/// Where a seat stands.
+/// The place of a seat.
 fn seat_place(spec: &Spec, seat: &Seat) -> Place
     ensures { result ≡ seat_place spec.now seat.now }
 {
@@ -174,7 +174,7 @@ impl<'a> Book<'a> {
     }
 
     #[tactic(auto, using(crate::proofs::BookLaws::placed, crate::proofs::BookLaws::not_placed))]
-    /// Where a session stands; none where it isn't there.
+    /// The place of a session; none where there is no such session.
     pub fn place(&self, session: u32) -> Option<Place>
         ensures place { result ≡ place self.now.plan self.now.entries session }
         // the item that waits for its answer is one of the bank

@@ -3,7 +3,7 @@
 
 ghost use Rattle.exam_session.specs.Laws.{FormIsThere, PlanIsEnough};
 
-/// Behind its first step the form that a session was last served from is a form of its problem.
+/// After its first step the form that a session was last served from is a form of its problem.
 pub fn a_form_is_there()
     ensures { FormIsThere }
 {}

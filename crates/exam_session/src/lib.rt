@@ -1,7 +1,8 @@
-//! A book of many examinations: the list of their entries, and the seats, bookings and exposure counts that follow from it.
-//! Upward it promises by its type that each entry is legal behind those before it, that what it tells is what the entries
-//! say, and that `judge` lets a record follow exactly where it may, its proof tree included, and otherwise names the first
-//! reason; it writes no journal and assembles no form. Only `new` and `reserve` take memory.
+//! A book of many examinations: the list of their entries, and the seats, bookings and exposure
+//! counts that follow from it. Upward it promises by its type that each entry is legal after those
+//! before it, that what it reports is what the entries give, and that `judge` lets a record follow
+//! exactly where it may, its proof tree included, and otherwise names the first reason; it writes
+//! no journal and assembles no form. Only `new` and `reserve` take memory.
 #![tactic(auto)]
 
 mod apply;

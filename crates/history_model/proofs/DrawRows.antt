@@ -27,7 +27,7 @@ words_0 : (draw_word zeros 0 0 ≡ 0xade0b876) × (draw_word zeros 0 1 ≡ 0x903
 unfolding zeros draw_word u32_at quarter_round column_round diagonal_round double_rounds block_word
 words_0 = (refl, refl, refl, refl, refl, refl)
 
--- words of another stream, and behind the first block
+-- words of another stream, and after the first block
 words_1 : (draw_word zeros 1 0 ≡ 0xd6df3fef) × (draw_word zeros 0 16 ≡ 0xbee7079f) × (draw_word zeros 65535 64 ≡ 0x546206c7)
 unfolding zeros draw_word u32_at quarter_round column_round diagonal_round double_rounds block_word
 words_1 = (refl, refl, refl)

@@ -1,4 +1,5 @@
--- The edges of the definitions: histories that aren't legal, sessions set aside and closed, items of stimuli left behind.
+-- The edges of the definitions: histories that aren't legal, sessions set aside and closed, items
+-- of stimuli that were left.
 use Rattle.std.proofs.Common.{◌≡◌, ℕ, false, true, List, [], ◌∷◌, ◌++◌, negsuc, None, Some, refl}
 use Rattle.bank_tables.specs.Items.{has}
 use Rattle.bank_tables.specs.Tables.{Tables, Item}
@@ -29,7 +30,8 @@ place_beyond : place plan_a beyond_end 0 ≡ Some Complete
 unfolding plan_of_rows plan_a beyond_end
 place_beyond = refl
 
--- a session closed at its end is closed; one that isn't started is nowhere, whatever else is said of it
+-- a session closed at its end is closed; one that isn't started has no place, whatever other
+-- entries it has
 both_ends : List Entry
 unfolding beyond_end
 both_ends = beyond_end ++ Closed 0 ∷ Served 1 0 2 (one_word 14) true 1 ∷ Closed 1 ∷ []

@@ -54,7 +54,7 @@ sessions_a : (sessions [] ≡ 0) × (sessions answered_2 ≡ 1) × (holder answe
 unfolding started_a served_a answered_a served_1 answered_1 served_2 answered_2
 sessions_a = (refl, refl, refl, refl)
 
--- the seats that the history says, as they were worked with
+-- the seats that the history gives are those that were worked with
 seats_a : (seat_of answered_a 0 ≡ seat_1) × (seat_of answered_1 0 ≡ seat_2)
 unfolding seat_1 seat_2 started_a served_a answered_a served_1 answered_1
 seats_a = (refl, refl)

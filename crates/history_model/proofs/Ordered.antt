@@ -1,4 +1,4 @@
--- Along a legal run the steps of a session stand in order.
+-- Along a legal run the steps of a session are in order.
 use Rattle.std.proofs.Common.{◌≡◌, ℕ, zero, suc, ◌+◌, ◌≤◌, inl, inr, ◌==◌, List, [], ◌∷◌, ◌++◌, length, slice_get, Some, None, refl, sym, ap, ◌∙◌, subst, arith, length-append}
 use Rattle.std.specs.Prelude.{find}
 use Rattle.std.specs.List.{filter_map}
@@ -24,7 +24,7 @@ steps_push step [] x from old new (suc k) y e = absurd (cc)
 steps_push step (z ∷ xs) x from old new zero y e = old 0 y e
 steps_push step (z ∷ xs) x from old new (suc k) y e = let r = steps_push step xs x (suc from) (λ j w f. let o = old (suc j) w f in omega arith) (omega arith) k y e in omega arith
 
--- the serving of the step that has the number of the answers stands behind as many servings
+-- the serving of step k has k servings before it
 pub found_at : (H : List Entry) (s k : ℕ) → AreInOrder H s → serving_at H s k ≡ slice_get (servings H s) k
 found_at H s k order =
     let e : 0 + k ≡ k = omega arith in

@@ -84,7 +84,7 @@ same_seat : (shown shown' responses responses' eligible eligible' : List ℕ) (a
 same_seat shown shown' responses responses' eligible eligible' aside aside' form form' proved proved' closed closed' a b c d e f g = cc
 
 module _ (S : List Serving) (A : List StepAnswer) (E : List (List ℕ)) (aside closed : Bool) where
-  -- nothing more is said of the session
+  -- the entry adds nothing to the seat of the session
   same_by : seat_by (S ++ []) (A ++ []) (E ++ []) (aside || false) (closed || false) ≡ seat_by S A E aside closed
   same_by = rw (list_end S, list_end A, list_end E, or_end aside, or_end closed) refl
 

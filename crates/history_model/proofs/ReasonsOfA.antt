@@ -1,4 +1,5 @@
--- Each reason why a record may not follow, on bank A: behind a start and a first serving, and behind others.
+-- Each reason why a record may not follow, on bank A: after a start and a first serving, and after
+-- others.
 use Rattle.std.proofs.Common.{◌≡◌, ℕ, zero, suc, ◌+◌, ◌*◌, ◌<◌, inl, inr, true, false, [], ◌∷◌, ◌++◌, pos, None, Some, refl, sym, ◌∙◌, arith}
 use Rattle.std.specs.Prelude.{nat_lt}
 use Rattle.std.proofs.Math.Bool.{true≢false}
@@ -33,7 +34,7 @@ use Rattle.history_model.proofs.RecordsOfA.{all_drawn, and_on, problem_0, is_pro
 unfoldable one_leaf : ProofTree
 one_leaf = record { vectors = []; nodes = Count 1 ∷ [] }
 
--- ---- a start behind session 0: of session 2, for its booking, without item 0, with a tree
+-- ---- a start after session 0: of session 2, for its booking, without item 0, with a tree
 start_2 : IsIllegal bank_a plan_a served_a (Started 2 71 (one_word 63)) None (NotNumber 1)
 unfolding started_a served_a
 start_2 = (λ number. let e = number.next in omega arith, refl)
@@ -150,7 +151,7 @@ serve_bad_tree : IsIllegal bank_a plan_a started_a (Served 0 0 2 (one_word 14) t
 unfolding one_bound
 serve_bad_tree = (problem_0, is_problem_0, form_0, next_0, record { number = refl; spent = tt }, not_closed, λ e. cc)
 
--- ---- setting eligibility aside: behind the first serving, twice, without a tree, with a tree that shows nothing
+-- ---- setting eligibility aside: after the first serving, twice, no tree, a tree showing nothing
 aside_late : IsIllegal bank_a plan_a served_a (SetAside 0 NoForm 1) (Some one_leaf) (NotPending (Waiting 0 2 true))
 unfolding started_a served_a plan_of_rows plan_a
 aside_late = (refl, λ e. cc)

@@ -1,4 +1,4 @@
--- Along a legal run each entry is legal behind those before it.
+-- Along a legal run each entry is legal after those before it.
 use Rattle.std.proofs.Common.{◌≡◌, ◌⊎◌, inl, inr, List, [], ◌∷◌, ◌++◌, refl, subst}
 use Rattle.std.proofs.lemmas.List.{append-nil}
 use Rattle.bank_tables.specs.Tables.{Tables}
@@ -21,7 +21,7 @@ tail_same x y xs ys e = cc
 cons_same : {A : Type 0} (x y : A) (xs ys : List A) → x ≡ y → xs ≡ ys → x ∷ xs ≡ y ∷ ys
 cons_same x y xs ys e f = cc
 
--- an element of a list is its last one, or stands in what is before that
+-- an element of a list is its last one, or is among those before the last
 last_or_before : {A : Type 0} (xs : List A) (x : A) (ys : List A) (y : A) (zs : List A) → xs ++ x ∷ [] ≡ ys ++ y ∷ zs → ((xs ≡ ys) × (x ≡ y)) ⊎ ((ws : List A) × (xs ≡ ys ++ y ∷ ws))
 last_or_before [] x [] y zs e = inl (refl, head_same x y [] zs e)
 last_or_before [] x (b ∷ ys) y zs e = absurd (not_empty ys y zs (tail_same x b [] (ys ++ y ∷ zs) e))

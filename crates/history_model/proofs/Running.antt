@@ -168,7 +168,7 @@ module _ (b : Tables) (plan : Plan) (H : List Entry) (e : Entry) (s : ℕ) (runs
       other : (session_of e == s) ≡ false
       other = elim (either (session_of e == s)) [ inl same ↦ absurd (this_one same (either (starts e))) | inr differs ↦ differs ]
 
--- ---- the seat stands after each entry
+-- ---- the predicate Stands holds of the seat after each entry
 not_drawn : (b : Tables) (plan : Plan) (s : ℕ) (eligible : List ℕ) (seat : Seat) → seat ≡ no_seat → Stands b plan s (record seat { eligible = eligible })
 not_drawn b plan s eligible seat none = new_stands b plan s (record seat { eligible = eligible }) (ap (λ (t : Seat). t.shown) none) (ap (λ (t : Seat). t.responses) none) (ap (λ (t : Seat). t.form) none)
 

@@ -25,7 +25,8 @@ pub record Stands (b : Tables) (plan : Plan) (s : ℕ) (seat : Seat) : Type 0 wh
 last_number : (xs : List ℕ) (x : ℕ) → length (xs ++ x ∷ []) ≡ length xs + 1
 last_number xs x = omega (arith, length-append xs (x ∷ []))
 
--- what stands in the longer list stands in the shorter one, or is the new element at its end
+-- an element of the longer list is at its place in the shorter one, or is the new element at the
+-- end
 old_or_new : (xs : List ℕ) (x k y : ℕ) → slice_get (xs ++ x ∷ []) k ≡ Some y → (slice_get xs k ≡ Some y) ⊎ ((k ≡ length xs) × (y ≡ x))
 old_or_new [] x zero y e = inr (refl, cc)
 old_or_new [] x (suc k) y e = absurd (cc)

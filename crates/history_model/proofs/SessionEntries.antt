@@ -1,4 +1,4 @@
--- What the entries of a session say, read from all entries at once.
+-- The content of a session's entries, read from all entries at once.
 use Rattle.std.proofs.Common.{◌≡◌, ℕ, Bool, true, false, cond, ◌&&◌, ◌||◌, ◌==◌, List, [], ◌∷◌, Option, Some, None, refl, sym, ap, ◌∙◌}
 use Rattle.std.specs.List.{filter, filter_map, list_any, cons_option}
 use Rattle.history_model.specs.declared.entry.Entry.{Entry}

@@ -21,7 +21,7 @@ use Rattle.history_model.specs.Laws.{HolderStays, ResponseStays, ClosedStays, Se
 use Rattle.history_model.proofs.Pushed.{closed-push}
 use Rattle.history_model.proofs.RunParts.{each_is_legal}
 
--- what stands in a list stands in a longer one
+-- an element of a list has the same place in the list with more after it
 get_longer : {A : Type 0} (xs ys : List A) (k : ℕ) (x : A) → slice_get xs k ≡ Some x → slice_get (xs ++ ys) k ≡ Some x
 get_longer [] ys k x e = absurd (cc)
 get_longer (y ∷ xs) ys zero x e = e

@@ -1,4 +1,4 @@
--- What the entries of a history say of a session.
+-- What the entries of a history give for a session.
 use Rattle.std.specs.Prelude.{ℕ, ◌-◌, Bool, true, false, ◌==◌, List, [], length, slice_get, Option, Some, None, if◌then◌else◌, count_by, map, unwrap_or}
 use Rattle.std.specs.List.{filter, filter_map, list_any}
 use Rattle.std.specs.Option.{option_map, option_map_or}
@@ -37,7 +37,8 @@ abbrev pub sets_aside : Entry → Bool
 sets_aside (SetAside session cause nodes) = true
 sets_aside entry = false
 
--- what a Served entry says: the item of a step, and the form, proved best or not, that it was served from
+-- the content of a Served entry: the item of a step, and the form, proved best or not, that it was
+-- served from
 pub record Serving : Type 0 where
   pub step : ℕ
   pub item : ℕ
@@ -48,7 +49,7 @@ abbrev pub serving_of : Entry → Option Serving
 serving_of (Served session step item form proved nodes) = Some (record { step = step; item = item; form = form; proved = proved })
 serving_of entry = None
 
--- what an Answered entry says: the response to the item of a step
+-- the content of an Answered entry: the response to the item of a step
 pub record StepAnswer : Type 0 where
   pub step : ℕ
   pub response : ℕ
@@ -104,8 +105,9 @@ responses H s = map (λ answer. answer.response) (step_answers H s)
 abbrev pub last_serving : List Entry → ℕ → Option Serving
 last_serving H s = slice_get (servings H s) (length (servings H s) - 1)
 
--- the seat that a history says: the items served and the responses given, the eligible set, whether eligibility was set
--- aside, the form last served from with its mark, and whether the session was closed
+-- the seat that a history gives: the items served and the responses given, the eligible set,
+-- whether eligibility was set aside, the form last served from with its mark, and whether the
+-- session was closed
 abbrev pub seat_of : List Entry → ℕ → Seat
 seat_of H s =
     record {

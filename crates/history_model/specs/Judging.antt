@@ -45,7 +45,7 @@ abbrev pub IsSpentIfAsked : Claim → Problem → ProofTree → ℕ → Type 0
 IsSpentIfAsked BudgetIsSpent P T budget = IsSpent P T budget
 IsSpentIfAsked claim P T budget = Unit {0}
 
--- the tree has the number of nodes that the entry says, and is spent where that is asked for
+-- the tree has the number of nodes that the entry gives, and is spent where the claim asks for that
 pub record IsTreeOf (P : Problem) (budget nodes : ℕ) (claim : Claim) (T : ProofTree) : Type 0 where
   pub number : nodes ≡ length T.nodes
   pub spent : IsSpentIfAsked claim P T budget

@@ -43,7 +43,7 @@ abbrev pub NoReasonIfMay : Type 0
 NoReasonIfMay = (b : Tables) (plan : Plan) (H : List Entry) (entry : Entry) (tree : Option ProofTree) (r : Illegal) → IsIllegal b plan H entry tree r → MayFollow b plan H entry tree → ⊥
 
 -- ---- sessions of a legal run
--- what stands before an entry of a legal run is one, and the entry is legal behind it
+-- the entries before an entry of a legal run are a legal run, and the entry is legal after them
 abbrev pub EachIsLegal : Type 0
 EachIsLegal = (b : Tables) (plan : Plan) (H : List Entry) (entry : Entry) (G : List Entry) → LegalRun b plan (H ++ entry ∷ G) → LegalRun b plan H × Legal b plan H entry
 
@@ -96,8 +96,8 @@ SeatIsSeat = (b : Tables) (plan : Plan) (H : List Entry) (s : ℕ) → LegalRun 
 abbrev pub EligibleIsOfBank : Type 0
 EligibleIsOfBank = (b : Tables) (plan : Plan) (H : List Entry) (s : ℕ) → LegalRun b plan H → HoldsItems b (has (seat_of H s).eligible)
 
--- where a seat stands: closed; complete after as many answers as the test has items; waiting for the answer to the item
--- shown last; or pending
+-- the place of a seat: closed; complete after as many answers as the test has items; waiting for
+-- the answer to the item shown last; or pending
 abbrev pub step_place : ℕ → Option ℕ → Bool → Place
 step_place step (Some item) proved = Waiting step item proved
 step_place step None proved = Pending step
@@ -108,7 +108,7 @@ seat_place plan seat =
     else (if nat_le plan.length (length seat.responses) then Complete
     else step_place (length seat.responses) (slice_get seat.shown (length seat.responses)) seat.proved)
 
--- a session stands where its seat does
+-- the place of a session is that of its seat
 abbrev pub PlaceIsOfSeat : Type 0
 PlaceIsOfSeat = (b : Tables) (plan : Plan) (H : List Entry) (s : ℕ) → LegalRun b plan H → IsTrue (is_started H s) → place plan H s ≡ Some (seat_place plan (seat_of H s))
 

@@ -1,4 +1,4 @@
--- Which entries may stand behind a history.
+-- Which entries may follow a history.
 use Rattle.std.specs.Prelude.{◌≡◌, ℕ, ◌<◌, Bool, List, [], ◌∷◌, ◌++◌, IsTrue, IsFalse, Some, None}
 use Rattle.bank_tables.specs.Items.{Set, has}
 use Rattle.bank_tables.specs.Tables.{Tables, categories}
@@ -75,7 +75,7 @@ Legal b plan H (Served session step item form proved nodes) = IsLegalServing b p
 Legal b plan H (Answered session step response) = IsLegalAnswer b plan H session step response
 Legal b plan H (Closed session) = IsLegalClosing plan H session
 
--- each entry is legal behind the entries before it
+-- each entry is legal after the entries before it
 pub data LegalRun (b : Tables) (plan : Plan) : List Entry → Type 0 where
   empty : LegalRun b plan []
   more : (H : List Entry) (entry : Entry) → LegalRun b plan H → Legal b plan H entry → LegalRun b plan (H ++ entry ∷ [])

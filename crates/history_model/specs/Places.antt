@@ -1,4 +1,4 @@
--- Where a session stands.
+-- The place of a session.
 use Rattle.std.specs.Prelude.{ℕ, Bool, true, false, not, ◌==◌, List, length, nat_le, find, Option, Some, None, if◌then◌else◌}
 use Rattle.history_model.specs.declared.entry.Entry.{Entry}
 use Rattle.history_model.specs.declared.place.Place.{Place}

@@ -21,25 +21,27 @@ abbrev pub refusal_of_new : Plan → List Entry → Option ℕ → Option Refusa
 refusal_of_new plan H (Some session) = None
 refusal_of_new plan H None = if nat_le plan.sessions (sessions H) then Some (SessionsFull (sessions H)) else None
 
--- an answer to a step that isn't answered: the session has ended, stands at another step, or has no such response
+-- an answer to a step that isn't answered: the session has ended or is at another step, or the item
+-- has no such response
 abbrev pub refusal_at : Tables → ℕ → ℕ → Place → Option Refusal
 refusal_at b step response (Pending at) = Some (WrongStep at)
 refusal_at b step response (Waiting at item proved) =
     if at == step then (if nat_lt response (categories b item) then None else Some (BadResponse (categories b item))) else Some (WrongStep at)
 refusal_at b step response ended = Some (IsClosed ended)
 
--- an answer to a session that stands here: the step has another response, or the answer is refused there
+-- an answer to a session at this place: the step has another response, or the answer is refused
+-- there
 abbrev pub refusal_of_answer : Tables → ℕ → ℕ → Place → Option ℕ → Option Refusal
 refusal_of_answer b step response at (Some given) = if given == response then None else Some (Other given)
 refusal_of_answer b step response at None = refusal_at b step response at
 
--- closing a session that stands here: it has ended
+-- closing a session at this place: it has ended
 abbrev pub refusal_of_closing : Place → Option Refusal
 refusal_of_closing (Pending step) = None
 refusal_of_closing (Waiting step item proved) = None
 refusal_of_closing ended = Some (IsClosed ended)
 
--- no such session; or by where it stands
+-- no such session; or by its place
 abbrev pub in_session : List Entry → Option Place → (Place → Option Refusal) → Option Refusal
 in_session H None refusal_where = Some (NoSession (sessions H))
 in_session H (Some at) refusal_where = refusal_where at

@@ -80,7 +80,7 @@ abbrev pub Advances : Tables → Plan → List Entry → ℕ → List Entry → 
 Advances b plan H session H2 = AdvancesFrom (place plan H session) b plan H session H2
 
 -- ---- a request that isn't refused
--- the session is served where it waits for an item, and the reply is where it stands then
+-- the session is served where it waits for an item, and the reply is its place after that
 pub record IsServedBy (b : Tables) (plan : Plan) (H : List Entry) (request : Request) (H2 : List Entry) (answer : Reply) : Type 0 where
   pub session : ℕ
   pub fresh : Bool
@@ -91,7 +91,7 @@ pub record IsServedBy (b : Tables) (plan : Plan) (H : List Entry) (request : Req
   pub stands : place plan H2 session ≡ Some at
   pub reply : answer ≡ reply.At session at fresh
 
--- the session is closed, and the reply is where it stands then
+-- the session is closed, and the reply is its place after that
 pub record IsClosedBy (b : Tables) (plan : Plan) (H : List Entry) (session : ℕ) (H2 : List Entry) (answer : Reply) : Type 0 where
   pub legal : Legal b plan H (Closed session)
   pub closed : H2 ≡ H ++ Closed session ∷ []

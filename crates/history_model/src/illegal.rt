@@ -14,7 +14,7 @@ pub enum Illegal {
     NotDrawn(u16),
     /// There is no such session; the number of sessions.
     NoSession(u32),
-    /// The session doesn't wait for an item at this step; where it stands.
+    /// The session doesn't wait for an item at this step; its place.
     NotPending(Place),
     /// Eligibility was set aside before.
     IsAside,
@@ -22,14 +22,15 @@ pub enum Illegal {
     NotForm(Breach),
     /// The item isn't the next item of the form; that item.
     NotItem(u16),
-    /// A tree is missing or isn't wanted, or its number of nodes isn't this one, or it isn't spent where it has to be.
+    /// A tree is missing, or there is one where none belongs, or its number of nodes isn't this
+    /// one, or it isn't spent where it has to be.
     NotSpent(u16),
     /// The tree doesn't show what is claimed; its verdict.
     Tree(Verdict),
-    /// The session doesn't wait for an answer at this step; where it stands.
+    /// The session doesn't wait for an answer at this step; its place.
     NotWaiting(Place),
     /// The response isn't in the item's range; its number of categories.
     BadResponse(u8),
-    /// The session has ended; where it stands.
+    /// The session has ended; its place.
     Ended(Place),
 }

@@ -27,7 +27,7 @@ pub fn no_reason_if_may()
     ensures { NoReasonIfMay }
 {}
 
-/// What stands before an entry of a legal run is one, and the entry is legal behind it.
+/// The entries before an entry of a legal run are a legal run, and the entry is legal after them.
 pub fn each_is_legal()
     ensures { EachIsLegal }
 {}
@@ -47,7 +47,8 @@ pub fn finished_are_few()
     ensures { FinishedAreFew }
 {}
 
-/// The Served and the Answered entries of a session of a legal run stand in the order of their steps, from 0 on.
+/// The Served and the Answered entries of a session of a legal run are in the order of their steps,
+/// from 0 on.
 pub fn steps_are_in_order()
     ensures { StepsAreInOrder }
 {}
@@ -57,7 +58,7 @@ pub fn seat_before_start()
     ensures { SeatBeforeStart }
 {}
 
-/// One legal entry more changes the seat of its session by what it says, and no other.
+/// One legal entry more changes the seat of its session by its content, and no other seat.
 pub fn seat_goes_on()
     ensures { SeatGoesOn }
 {}
@@ -72,7 +73,7 @@ pub fn eligible_is_of_bank()
     ensures { EligibleIsOfBank }
 {}
 
-/// A session of a legal run stands where its seat does.
+/// The place of a session of a legal run is that of its seat.
 pub fn place_is_of_seat()
     ensures { PlaceIsOfSeat }
 {}

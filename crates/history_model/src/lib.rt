@@ -1,7 +1,8 @@
-//! What a reader must believe about examinations: the entries of a history, and in specs/ what they say of its sessions:
-//! place, seat, problem, exposure counts, the eligibility draw, which entry is legal, which record may follow, and why one
-//! may not; what a request refuses and does; and a history in numbers. Upward it promises the laws over them; it knows no
-//! file and no thread, and has no code but plain types and laws.
+//! What a reader must believe about examinations: the entries of a history, and in specs/ what
+//! follows from them for its sessions: place, seat, problem, exposure counts, the eligibility draw,
+//! which entry is legal, which record may follow, and why one may not; what a request refuses and
+//! does; and a history in numbers. Upward it promises the laws over them; it knows no file and no
+//! thread, and has no code but plain types and laws.
 #![tactic(auto)]
 
 mod claim;

@@ -1,6 +1,6 @@
-//! Where a session stands.
+//! The place of a session.
 
-/// Where a session stands.
+/// The place of a session.
 #[derive(Clone, Copy, Debug, PartialEq, Eq)]
 pub enum Place {
     /// The item of this step is to be served.

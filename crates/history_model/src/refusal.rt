@@ -11,15 +11,16 @@ use std::alloc::AllocError;
 pub enum Refusal {
     /// There is no such session; the number of sessions.
     NoSession(u32),
-    /// The session doesn't wait for an answer at this step; the step at which it stands.
+    /// The session doesn't wait for an answer at this step; the step at which it is.
     WrongStep(u16),
     /// The step was answered with another response; that response.
     Other(u8),
     /// The response isn't in the item's range; its number of categories.
     BadResponse(u8),
-    /// The session has ended; where it stands.
+    /// The session has ended; its place.
     IsClosed(Place),
-    /// The session doesn't wait for the item that was assembled; where it stands, and whether eligibility is set aside.
+    /// The session doesn't wait for the item that was assembled; its place, and whether eligibility
+    /// is set aside.
     Stale(Place, bool),
     /// No more sessions are allowed; their number.
     SessionsFull(u32),

@@ -18,7 +18,7 @@ pub enum Request {
     },
     /// A session is closed before its end.
     Close(u32),
-    /// Where a session stands.
+    /// The place of a session.
     Look(u32),
     /// The exposure counts.
     Exposure,
@@ -34,7 +34,7 @@ pub struct Exposure {
 /// The answer to a request.
 #[derive(Debug, Drop)]
 pub enum Reply {
-    /// Where the session of the request stands, and whether this request started it.
+    /// The place of the session of the request, and whether this request started it.
     At {
         session: u32,
         place: Place,

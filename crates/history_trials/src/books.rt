@@ -137,7 +137,8 @@ fn reasons_of_setting_aside(rt: HostRuntime) -> Result<(), Fail> {
     Ok(())
 }
 
-/// Those of a serving, in their order. Of the items 0, 1 and 2 two are of the row that wants one of 0 and 1.
+/// Those of a serving, in their order. Of the items 0, 1 and 2 two are of the row that needs
+/// exactly one of 0 and 1.
 #[test]
 fn reasons_of_a_serving(rt: HostRuntime) -> Result<(), Fail> {
     let alloc = rt.alloc();
@@ -225,7 +226,7 @@ fn counts_of_a_closed_session(rt: HostRuntime) -> Result<(), Fail> {
     Ok(())
 }
 
-/// What a book tells.
+/// What a book reports.
 #[derive(Clone, Copy, Debug, PartialEq, Eq)]
 struct Told {
     entries: u64,
@@ -236,7 +237,7 @@ struct Told {
     seat: Option<Seat>,
 }
 
-/// What a book tells after these records, of bookings 71 and 72, and of sessions 0 and 2.
+/// What a book reports after these records, of bookings 71 and 72, and of sessions 0 and 2.
 fn what_is_told(alloc: Global, records: &[Record]) -> Result<Told, Fail> {
     let bank = bank(alloc)?;
     let spec = Spec::of(alloc, &bank, plan(alloc, 2_001)?)?;

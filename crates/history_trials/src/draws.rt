@@ -8,7 +8,7 @@ use history_model::Counts;
 use std::alloc::Global;
 use std::test::Fail;
 
-/// What the inequality says of a word at a rate and these counts.
+/// What the inequality gives for a word at a rate and these counts.
 #[derive(Drop)]
 struct Edge {
     word: u32,

@@ -18,7 +18,7 @@ mod tests {
     // Header and a closed gate.
     const EMPTY: [u8; 9] = [0x53, 0x48, 0x41, 0x44, 0x4f, 0x57, 0x4a, 0x31, 0];
 
-    // Header, a closed gate, and the answered record whole behind it: length, payload, closed gate.
+    // Header, a closed gate, and the answered record whole after it: length, payload, closed gate.
     const STAGED: [u8; 22] = [
         0x53, 0x48, 0x41, 0x44, 0x4f, 0x57, 0x4a, 0x31, 0, 0, 0, 0, 8, 4, 0, 0, 0, 0, 0, 0, 1, 0,
     ];
@@ -34,7 +34,7 @@ mod tests {
         0, 0, 0, 3, 8, 9, 10, 0,
     ];
 
-    // The same with two bytes behind the gate that ends it.
+    // The same with two bytes after the gate that ends it.
     const TRAILED: [u8; 32] = [
         0x53, 0x48, 0x41, 0x44, 0x4f, 0x57, 0x4a, 0x31, 1, 0, 0, 0, 1, 5, 1, 0, 0, 0, 2, 6, 7, 1,
         0, 0, 0, 3, 8, 9, 10, 0, 1, 1,
@@ -53,7 +53,8 @@ mod tests {
         }
     }
 
-    // What stands on the disk after a file was opened with one call failing, and how the opening failed.
+    // What is on the disk after a file was opened with one call failing, and how the opening
+    // failed.
     fn opened(
         alloc: Global,
         bytes: &[u8],
@@ -98,7 +99,8 @@ mod tests {
         Ok(())
     }
 
-    // A longer one with bytes behind its last gate by five: sync, length, read, cut, sync.
+    // A longer file with bytes after its last gate is opened by five: sync, length, read, cut,
+    // sync.
     #[test]
     fn each_call_of_opening_a_journal_fails(rt: HostRuntime) -> Result<(), Fail> {
         let alloc = rt.alloc();
@@ -123,7 +125,7 @@ mod tests {
         Ok(())
     }
 
-    // And where no byte stands behind its last gate by four: sync, length, read, sync.
+    // A longer file without such bytes is opened by four: sync, length, read, sync.
     #[test]
     fn a_whole_journal_is_not_cut(rt: HostRuntime) -> Result<(), Fail> {
         let alloc = rt.alloc();
@@ -183,10 +185,11 @@ mod tests {
         }
     }
 
-    // What stands on the disk of a new journal after the first calls of adding the answered record: it stops at this one.
+    // The content of the disk of a new journal once adding the answered record has stopped at this
+    // call.
     fn stopped<R: Abort>(rt: &R, alloc: Global, call: u64) -> Result<Vec<u8>, Fail> {
         let disk = MemoryDisk::of(alloc, Vec::new(alloc), vec![in alloc; call]?);
-        // There is room for the call that fails, so a crash leaves what the model says.
+        // There is room for the call that fails, so a crash leaves what the model allows.
         assert_eq!(rt; disk.room(), 1);
         let frame = Frame::of(alloc, &ANSWER).expect(rt, "memory");
         match Journal::open(alloc, disk, LIMIT) {
@@ -198,7 +201,8 @@ mod tests {
         }
     }
 
-    // Adding is calls 4 to 7: write, sync, open the gate, sync. Only the last leaves an open gate behind.
+    // Adding is calls 4 to 7: write, sync, open the gate, sync. The gate is open after a failure
+    // only if the last call failed.
     #[test]
     fn each_call_of_adding_fails(rt: HostRuntime) -> Result<(), Fail> {
         let alloc = rt.alloc();
@@ -271,7 +275,8 @@ mod tests {
         Ok(())
     }
 
-    // After the gate was written a crash leaves the whole record behind a gate of any value. Only 1 is open.
+    // After the gate was written a crash leaves the whole record after a gate of any value. Only 1
+    // is open.
     #[test]
     fn a_crash_before_the_last_sync(rt: HostRuntime) -> Result<(), Fail> {
         let alloc = rt.alloc();
@@ -284,7 +289,8 @@ mod tests {
         Ok(())
     }
 
-    // A file of at most nine bytes is an empty journal, and a longer one needs its whole records and a gate behind them.
+    // A file of at most nine bytes is an empty journal, and a longer one needs its whole records
+    // and a gate after them.
     #[test]
     fn three_records_cut_to_each_length(rt: HostRuntime) -> Result<(), Fail> {
         let alloc = rt.alloc();
@@ -305,7 +311,8 @@ mod tests {
         Ok(())
     }
 
-    // A closed gate ends the journal, whatever value it has. An open one at the end has no record behind it.
+    // A closed gate ends the journal, whatever value it has. An open one at the end has no record
+    // after it.
     #[test]
     fn a_byte_of_each_gate_altered(rt: HostRuntime) -> Result<(), Fail> {
         let alloc = rt.alloc();
