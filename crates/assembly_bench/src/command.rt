@@ -18,7 +18,7 @@ pub struct Order<'a> {
     pub trees: bool,
 }
 
-/// What the words behind the program's name ask for.
+/// What the words after the program's name ask for.
 #[derive(Clone, Copy)]
 pub enum Command<'a> {
     /// To time the checker on a made problem and tree.

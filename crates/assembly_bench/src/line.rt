@@ -33,7 +33,7 @@ fn form_of(outcome: &Outcome) -> Option<ItemSet> {
     }
 }
 
-/// What an assembly took and came to.
+/// The time, size and outcome of an assembly.
 pub fn outcome_words(
     alloc: Global,
     problem: &Problem,

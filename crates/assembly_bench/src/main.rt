@@ -1,7 +1,8 @@
-//! The program `assembly_bench`: it times the assembler and the separate checker by the system's clock. `steps BANK PLAN
-//! RESPONSES` serves a session with the given responses and prints a line for each step; with the word `trees` also what
-//! rebuilds the step and judges its tree, and with `without ITEMS` behind it those items aren't eligible. `check ITEMS ROWS
-//! STIMULI NODES` makes a problem and proof trees of these sizes and times the checker on them; with the word `quiet` it
+//! The program `assembly_bench`: it times the assembler and the separate checker by the system's
+//! clock. `steps BANK PLAN RESPONSES` serves a session with the given responses and prints a line
+//! for each step; with the word `trees` also what rebuilds the step and judges its tree, and with
+//! `without ITEMS` after it those items aren't eligible. `check ITEMS ROWS STIMULI NODES` makes a
+//! problem and proof trees of these sizes and times the checker on them; with the word `quiet` it
 //! prints no times. It is proved safe, and promises nothing on time.
 #![tactic(auto)]
 

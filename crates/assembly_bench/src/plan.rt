@@ -49,7 +49,7 @@ fn category(size: &Size, which: u8) -> ItemSet {
     set
 }
 
-/// An item of the best form and the one behind it.
+/// An item of the best form and the one after it.
 fn enemies(size: &Size, which: u8) -> ItemSet {
     let best = (which as u16 % size.length() * size.stride()).min(510);
     ItemSet::empty().with(best).with(best + 1)

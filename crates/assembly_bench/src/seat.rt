@@ -36,7 +36,7 @@ pub fn new_seat(bank: &Bank, left_out: &ItemSet) -> Seat
     shadow_select::new_seat(&eligible_items(bank, left_out))
 }
 
-/// What a step came to: the form, the item served from it, and the response.
+/// The result of a step: the form, the item served from it, and the response.
 #[derive(Clone, Copy)]
 pub struct Service {
     pub form: ItemSet,

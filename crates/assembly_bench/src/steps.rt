@@ -30,7 +30,7 @@ struct Session<'a> {
     trees: bool,
 }
 
-/// Assembles a form, and tells what it took.
+/// Assembles a form, and measures the time that it took.
 fn timed<'a, R: Clock + AllocGlobal>(
     rt: &R,
     problem: &Problem<'a>,
@@ -50,7 +50,7 @@ fn timed<'a, R: Clock + AllocGlobal>(
     Ok((assembled, took))
 }
 
-/// Prints what an assembly came to, and with `trees` what rebuilds it.
+/// Prints the outcome of an assembly, and with `trees` what rebuilds it.
 fn tell<R: Print + AllocGlobal>(
     rt: &R,
     problem: &Problem,
@@ -69,7 +69,7 @@ fn tell<R: Print + AllocGlobal>(
     Ok(())
 }
 
-/// The base form of the plan, assembled and told where the plan names none.
+/// The base form of the plan. If the plan names none, it is assembled and printed.
 fn base_form<'a, R: Print + Clock + AllocGlobal>(
     rt: &R,
     bank: &'a Bank,
@@ -92,7 +92,7 @@ fn base_form<'a, R: Print + Clock + AllocGlobal>(
     }
 }
 
-/// Serves one step and tells of it; the seat after it.
+/// Serves one step and prints it; returns the seat after it.
 fn step<R: Print + Clock + AllocGlobal>(
     rt: &R,
     session: &Session,

@@ -12,7 +12,7 @@ use std::alloc::{AllocError, Global};
 /// The number of vectors.
 const VECTORS: u8 = 32;
 
-/// A subtree that is still to be written: how many branches it has, and how many stand above it.
+/// A subtree that is still to be written: how many branches it has, and how many are above it.
 #[derive(Clone, Copy, Debug)]
 struct Subtree {
     branches: u16,
@@ -33,7 +33,7 @@ fn branches(alloc: Global, size: &Size) -> Result<Vec<Node>, AllocError> {
     Ok(branches)
 }
 
-/// The two subtrees below a branch: a quarter of the branches stands on the left.
+/// The two subtrees below a branch: a quarter of the branches is on the left.
 fn below(subtree: Subtree) -> (Subtree, Subtree)
     requires { 0 < subtree.branches }
 {

@@ -1,4 +1,4 @@
--- What an exchange of one item of a form comes to.
+-- What an exchange of one item of a form changes.
 use Rattle.std.proofs.Common.{◌≡◌, ℕ, zero, suc, ◌+◌, ◌*◌, ◌≤◌, ◌<◌, inl, inr, true, false, cond, not, ◌&&◌, ◌==◌, refl, sym, ap, ◌∙◌, subst, arith}
 use Rattle.std.proofs.lemmas.Bool.{and_parts, and_from, eqb-true, eq-eqb, not-true, cases_lt}
 use Rattle.std.proofs.Math.Bool.{true≢false}

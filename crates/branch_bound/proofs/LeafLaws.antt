@@ -161,7 +161,7 @@ module _ (P : Problem) (p : Path) where
   unfolding is_impossible
   length_possible possible = possible 0
 
-  -- ---- what may stand where no leaf ends the path
+  -- ---- the nodes that may be where no leaf ends the path
   pub open_suits : (B C X : Option Set) → GoesOn P p B C → Suits P X p Open
   open_suits B C X on = record { sound = on.several; spent = on.unresolved; pruned = none_first on.unresolved.possible Open; number = tt }
 

@@ -16,7 +16,7 @@ use Rattle.branch_bound.specs.Comparing.{IsAsGood}
 use Rattle.branch_bound.specs.Searches.{plain_tree, Suits, AllSuit, IsSearch, Ends}
 use Rattle.branch_bound.proofs.Comparisons.{as_good-trans, suits}
 
--- ---- lists of nodes one behind the other
+-- ---- lists of nodes one after the other
 pub no_branch-append : (xs ys : List Node) → HasNoBranch xs → HasNoBranch ys → HasNoBranch (xs ++ ys)
 no_branch-append [] ys a b = b
 no_branch-append (x ∷ xs) ys a b = (a.0, no_branch-append xs ys a.1 b)
@@ -25,7 +25,7 @@ pub open_leaves-append : (xs ys : List Node) → open_leaves (xs ++ ys) ≡ open
 open_leaves-append [] ys = omega arith
 open_leaves-append (x ∷ xs) ys = omega (arith, open_leaves-append xs ys)
 
--- no branch behind an Open leaf: there is no Open leaf in front, or no branch behind
+-- no branch is after an Open leaf: the first list has no Open leaf, or the second has no branch
 pub depth_first-append : (xs ys : List Node) → IsDepthFirst xs → IsDepthFirst ys → (open_leaves xs ≡ 0) ⊎ HasNoBranch ys → IsDepthFirst (xs ++ ys)
 depth_first-append [] ys a b c = b
 depth_first-append (Open ∷ xs) ys a b (inl none) = absurd (omega arith)

@@ -1,4 +1,4 @@
--- What an assembly comes to, and the tree that shows it.
+-- The outcome of an assembly, and the tree that shows it.
 use Rattle.std.specs.Prelude.{◌≡◌, ℕ, ◌≤◌, true, false, Option, Some, None}
 use Rattle.bank_tables.specs.Items.{Set, has}
 use Rattle.exam_model.specs.declared.verdict.Verdict.TheVariants.{Optimal, Partial}

@@ -1,4 +1,4 @@
-//! Branches, and what stands on their sides.
+//! Branches, and the cuts of their two sides.
 
 ghost use Rattle.std.specs.Prelude.{◌≡◌, ◌↔◌, IsTrue, None};
 ghost use Rattle.exam_model.specs.Paths.{Path};

@@ -1,9 +1,10 @@
-//! The assembler: it finds a form of a problem and a proof tree that shows what it found (branch and bound with Lagrangian
-//! bounds). What the search gives is let in by tests alone; where a test fails, a fallback search answers, which is proved.
-//! Upward it promises that the tree's verdict is the one that the outcome says, by the rules that the separate checker tests; that a form is no
-//! worse than those that it was given, and that no exchange of one item betters it; and that with enough nodes it decides.
-//! `Assembled` keeps this by its type. It never hands over what wasn't tested or proved; that few nodes are enough is
-//! measured, and not promised.
+//! The assembler: it finds a form of a problem and a proof tree that shows what it found (branch
+//! and bound with Lagrangian bounds). What the search gives is let in by tests alone; where a test
+//! fails, a fallback search answers, which is proved. Upward it promises that the tree's verdict is
+//! that of the outcome, by the rules that the separate checker tests; that a form is no worse than
+//! those that it was given, and that no exchange of one item betters it; and that with enough nodes
+//! it decides. `Assembled` keeps this by its type. It never hands over what wasn't tested or
+//! proved; that few nodes are enough is measured, and not promised.
 #![tactic(auto)]
 
 mod acceptance;

@@ -1,8 +1,8 @@
-//! What an assembly came to.
+//! The outcome of an assembly.
 
 use bank_tables::ItemSet;
 
-/// What an assembly came to.
+/// The outcome of an assembly.
 #[derive(Clone, Copy, Debug, PartialEq, Eq)]
 pub enum Outcome {
     /// A form; proved, it is best, else the node budget was spent.

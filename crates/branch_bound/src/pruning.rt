@@ -40,8 +40,9 @@ fn is_branch(node: &Node) -> bool
     }
 }
 
-/// The number of the node behind the subtree at a node, which stands on the path; None where a path of it goes on past a
-/// row that is impossible by counting, or a branch is on an item that isn't free or a stimulus that isn't open.
+/// The number of the first node after the subtree at a node whose path is given. None if a path of
+/// the subtree goes on past a row that is impossible by counting, or if a branch is on an item that
+/// isn't free or a stimulus that isn't open.
 fn pruned_to(problem: &Problem, tree: &Tree, at: u16, cut: &Cut) -> Option<u16>
     requires well_made { IsWellMade (problem_of problem.now) }
     requires cut { IsCut (problem_of problem.now) cut.now }

@@ -3,7 +3,7 @@ use Rattle.std.proofs.Common.{Bool, true, false, List}
 use Rattle.exam_model.specs.declared.node.Node.{Node}
 use Rattle.exam_model.specs.Spending.{IsDepthFirst, HasNoBranch}
 
--- what is asked of the rest, behind an Open leaf or not
+-- what the rest must be like, after an Open leaf or not
 abbrev pub IsRestDepthFirst : Bool → List Node → Type 0
 IsRestDepthFirst true nodes = HasNoBranch nodes
 IsRestDepthFirst false nodes = IsDepthFirst nodes

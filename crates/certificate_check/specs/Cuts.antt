@@ -10,7 +10,7 @@ use Rattle.certificate_check.specs.declared.standing.Standing.{Standing}
 abbrev pub path_of : Cut → Path
 path_of c = record { taken = has c.taken; out = has c.out; branched_on = has c.branched_on }
 
--- what stands on a path of P
+-- on a path of P: the items free, and those taken or free; the stimuli chosen, open, and either
 pub record IsStanding (P : Problem) (s : Standing) : Type 0 where
   pub free : has s.free ≡ is_free P (path_of s.cut)
   pub may_hold : has s.may_hold ≡ taken_or_free P (path_of s.cut)

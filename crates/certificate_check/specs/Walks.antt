@@ -18,7 +18,7 @@ pub record Passes (P : Problem) (X : Option Set) (T : ProofTree) (at met : ℕ) 
   pub few : after ≤ met + (next - at)
   pub gives : (paths : List Path) (verdict : Verdict) → GivesFrom P X T next after (drop next T.nodes) paths verdict → GivesFrom P X T at met (drop at T.nodes) (p ∷ paths) verdict
 
--- the walk goes through the subtree at place `at`, or comes to its first unsound node
+-- the walk goes through the subtree at place `at`, or ends at its first unsound node
 abbrev pub IsWalk : Problem → Option Set → ProofTree → ℕ → ℕ → Path → Result Walked Unsound → Type 0
 IsWalk P X T at met p (Ok walked) = Passes P X T at met p walked.next walked.open_leaves
 IsWalk P X T at met p (Err unsound) = (paths : List Path) → GivesFrom P X T at met (drop at T.nodes) (p ∷ paths) (Bad unsound.node unsound.reason)

@@ -1,4 +1,4 @@
-//! What a set of items and a set of stimuli come to on a row.
+//! The activity of a row: the sum over a set of items and a set of stimuli.
 
 ghost use Rattle.std.specs.Prelude.{◌≡◌, ◌<◌, ◌≤◌, cond, true};
 ghost use Rattle.bank_tables.specs.Items.{has};
@@ -74,7 +74,7 @@ fn stimuli_in(bank: &Bank, stimuli: &ItemSet) -> u32
     n
 }
 
-/// What the items and stimuli come to on a row.
+/// The activity of a row: the sum over the items and stimuli.
 pub fn activity(bank: &Bank, row: &Row, items: &ItemSet, stimuli: &ItemSet) -> u32
     requires { IsRow bank.now row.now }
     ensures { result ≡ activity bank.now row.now (has items.now) (has stimuli.now) }

@@ -27,7 +27,7 @@ pub fn has_open_leaf(nodes: &[Node]) -> bool
     false
 }
 
-/// Whether no branch stands behind the first Open leaf.
+/// Whether there is no branch after the first Open leaf.
 pub fn is_depth_first(nodes: &[Node]) -> bool
     ensures { IsTrue result ↔ IsDepthFirst nodes.now }
 {

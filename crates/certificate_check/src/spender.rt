@@ -20,7 +20,8 @@ use constraint_model::Problem;
 use exam_model::Node;
 use proof_tree::Tree;
 
-/// The number of the node behind the subtree at a node, which stands on the path; None where a node of it is not as in a spent tree.
+/// The number of the first node after the subtree at a node whose path is given; None if a node of
+/// the subtree is not as in a spent tree.
 fn spent_to(
     problem: &Problem,
     start: &Option<ItemSet>,

@@ -1,4 +1,4 @@
-//! What stands on a path: the items and stimuli that are free, chosen and open there.
+//! The items that are free on a path, and the stimuli that are chosen and open.
 
 ghost use Rattle.std.specs.Prelude.{◌≡◌, ℕ};
 ghost use Rattle.bank_tables.specs.Items.{has};
@@ -49,7 +49,7 @@ pub fn used_stimuli(bank: &Bank, items: &ItemSet) -> ItemSet
     found
 }
 
-/// What stands on a path.
+/// The items that are free on a path, those taken or free, the stimuli chosen, open, and either.
 pub fn standing_on(problem: &Problem, cut: &Cut) -> Standing
     ensures cut { result.cut ≡ cut.now }
     ensures standing { IsStanding (problem_of problem.now) result }

@@ -32,7 +32,7 @@ pub struct Unsound {
     pub reason: Reason,
 }
 
-/// Walks through the subtree at a node, which stands on the path.
+/// Walks through the subtree at a node whose path is given.
 pub fn walk(
     problem: &Problem,
     form: &Option<ItemSet>,

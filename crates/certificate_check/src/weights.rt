@@ -79,7 +79,7 @@ fn scaled(low: u32, high: u32, part: u32) -> i64
     (low as i64 - high as i64) * part as i64
 }
 
-/// The multiplier of a low side less that of the high side behind it, times a number.
+/// The multiplier of a low side less that of the high side after it, times a number.
 fn net_times(sides: &[u32; 386], side: usize, part: u32) -> i64
     requires sides { AreMultipliers (slice_index sides.now) }
     requires side { side + 1 < 386 }

@@ -131,7 +131,7 @@ is_ascii_path Exposure h = search rules
 pub is_path : (r : Route) → IsRoute r → IsUtf8 (path_of r)
 is_path r h = IsUtf8-from_ascii (path_of r) (is_ascii_path r h)
 
--- ---- what the router and the parts of the path say together
+-- ---- what follows from the router and the parts of the path together
 
 pub names_from : (path : List ℕ) (o : Option Route) (k : RouteKind) → IfSome o (λ r. IsRoute r × (path ≡ path_of r))
     → IfNone o ((r : Route) → IsRoute r → kind_of r ≡ k → path ≢ path_of r)

@@ -30,7 +30,7 @@ segment_to [] rest h = refl
 segment_to (b ∷ bs) rest h = cond-false (b == 47) (b ∷ []) (b ∷ segment (bs ++ 47 ∷ rest)) (ne_eqb b 47 h.0)
     ∙ ap (λ (t : List ℕ). b ∷ t) (segment_to bs rest h.1)
 
--- the rows behind "/sessions/"
+-- the rows after "/sessions/"
 abbrev after : RowsOf (RouteOf RouteKind)
 after =
     (256 ∷ codes "/answers", (entry (codes "/sessions/" ++ 256 ∷ codes "/answers") (codes "/sessions/{id}/answers") id_name kind.Answers).1)
@@ -96,7 +96,7 @@ t8 = step 110 t7
 abbrev t9 : RowsOf (RouteOf RouteKind)
 t9 = step 115 t8
 
--- what stands before the session's number
+-- what comes before the session's number
 pub lead : (rest : List ℕ) → first table (codes "/sessions/" ++ rest) ≡ seek 0 after rest
 lead rest =
     byte_step table 47 _ refl refl ∙ byte_step t1 115 _ refl refl ∙ byte_step t2 101 _ refl refl ∙ byte_step t3 115 _ refl refl

@@ -1,4 +1,4 @@
--- What an answer comes to.
+-- What an answer does to an office.
 use Rattle.std.proofs.Common.{◌≡◌, ℕ, ◌<◌, Bool, true, false, cond, List, [], ◌∷◌, ◌++◌, slice_get, Option, Some, None, Result, Ok, Err, IfErr, refl, sym, ◌∙◌, ap, subst}
 use Rattle.bank_tables.specs.Tables.{Tables}
 use Rattle.exam_model.specs.Plan.{Plan}
@@ -20,11 +20,11 @@ use Rattle.exam_office.specs.Calls.{Finding, refused_with}
 use Rattle.exam_office.proofs.Sessions.{stays_there}
 use Rattle.exam_office.proofs.Marking.{history-own}
 
--- ---- what the tests say is said of the office that the call began with, whose bank and plan are the same
+-- ---- what the tests found holds of the office as the call began: its bank and plan are the same
 pub finds_there : {D : Type 0} (old mid : Running D) (same : IsSameOffice old mid) (F : Tables → Plan → List Entry → Finding → Type 0) (H : List Entry) (finding : Finding) → F mid.bank mid.plan H finding → F old.bank old.plan H finding
 finds_there old mid same F H finding says = subst (λ (p : Plan). F old.bank p H finding) same.plan (subst (λ (b : Tables). F b mid.plan H finding) same.bank says)
 
--- ---- where the session stands then
+-- ---- the place of the session then
 pub stands_by : (H : List Entry) (o : Option Place) (refusal_where : Place → Option Refusal) → in_session H o refusal_where ≡ None → (at : Place) × (o ≡ Some at)
 stands_by H (Some at) refusal_where e = (at, refl)
 stands_by H None refusal_where e = absurd (cc)

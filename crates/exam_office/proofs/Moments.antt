@@ -20,7 +20,7 @@ use Rattle.exam_office.specs.Writing.{IsOneOf, as_before, with_doubt, IsMending,
 use Rattle.exam_office.proofs.Records.{stands_so, stands_more, writes}
 
 module _ {D : Type 0} (b : Tables) (plan : Plan) (j : JournalState D) where
-  -- nothing in doubt: each file that a crash may leave stands for the history
+  -- nothing is in doubt: each file that a crash may leave represents the history
   pub sure_images : (H : List Entry) → IsSure b plan H j → IsTrue (tells_of j) → AllImages (Stands b plan H) (latest (accounts_of j))
   sure_images H s told file i = stands_so b plan H s.records s.are file (images_give shadowj1 (content_of j) (accounts_of j) (length_of j) (s.ready.rest told) file i ∙ ap Some (s.holds told))
 

@@ -115,7 +115,7 @@ module _ {D : Type 0} (b : Tables) (plan : Plan) (base : List ℕ) (count : ℕ)
 pub stood : (b : Tables) (plan : Plan) (read : List Payload) (H : List Entry) (marks : List Mark) (file : List ℕ) → AreTaken b plan read H marks → payloads shadowj1 file ≡ Some (map payload_bytes read) → Stands b plan H file
 stood b plan read H marks file taken gives = stands_so b plan H taken.records taken.are file (gives ∙ ap Some (sym taken.bytes))
 
--- a file that gives the same payloads stands for the same history
+-- a file that gives the same payloads represents the same history
 pub stands_too : (b : Tables) (plan : Plan) (H : List Entry) (one other : List ℕ) → Stands b plan H one → payloads shadowj1 other ≡ payloads shadowj1 one → Stands b plan H other
 stands_too b plan H one other s e = record { records = s.records; are = s.are; holds = e ∙ s.holds }
 

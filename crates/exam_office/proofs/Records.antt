@@ -15,7 +15,7 @@ use Rattle.exam_records.specs.Spelling.{payload_of}
 use Rattle.exam_office.specs.Files.{AreRecordsOf, Stands}
 use Rattle.exam_office.specs.Writing.{IsWriting}
 
--- a record that may follow has a tree where one is wanted, with the number of nodes that its entry has
+-- a record that may follow has a tree if its entry needs one, with as many nodes as its entry has
 pub goes_with : (b : Tables) (plan : Plan) (H : List Entry) (entry : Entry) (tree : Option ProofTree) → MayFollow b plan H entry tree → GoesWith entry tree
 goes_with b plan H (Started session booking eligible) None may = tt
 goes_with b plan H (Started session booking eligible) (Some T) may = let e = may.1 in absurd (cc)

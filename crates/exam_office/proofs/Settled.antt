@@ -1,4 +1,4 @@
--- What resolving the entry in doubt comes to, for an office that is open.
+-- What resolving the entry in doubt does to an office that is open.
 use Rattle.std.proofs.Common.{◌≡◌, ℕ, ◌+◌, ◌<◌, ◌≤◌, List, [], ◌∷◌, ◌++◌, map, Option, Some, None, IsTrue, refl, sym, ◌∙◌, ap, subst}
 use Rattle.bank_tables.specs.Tables.{Tables}
 use Rattle.exam_model.specs.Plan.{Plan}

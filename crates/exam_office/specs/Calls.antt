@@ -19,15 +19,15 @@ use Rattle.history_model.specs.Refusals.{recorded, refusal_of}
 use Rattle.exam_office.specs.Running.{Running}
 use Rattle.exam_office.specs.Writing.{IsOneOf, IsMended, IsFaulted, IsUnmended}
 
--- what the tests of a call come to on the history that it finds: it is refused, there is nothing to add, or this entry is to
--- be added
+-- the result of the tests of a call on the history that it finds: the call is refused, there is
+-- nothing to add, or this entry is to be added
 pub data Finding : Type 0 where
   refuse : Refusal → Finding
   nothing : Finding
   add : Entry → Finding
 
--- a file that a crash may leave during a call: it stands for the history before or for that with the entry in doubt, or for
--- either with the entry that the call finds to be added there
+-- a file that a crash may leave during a call: it represents the history before, or that with the
+-- entry in doubt, or either of them with the entry that the call finds to be added there
 pub record IsLeft (b : Tables) (plan : Plan) (finds : List Entry → Finding → Type 0) (H : List Entry) (doubt : Option Entry)
     (file : List ℕ) : Type 0 where
   pub so_far : List Entry

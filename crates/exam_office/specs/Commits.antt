@@ -28,7 +28,7 @@ pub record IsWaitingFor (plan : Plan) (H : List Entry) (session step : ℕ) (fla
   pub pending : place plan H session ≡ Some (Pending step)
   pub aside : is_set_aside H session ≡ flag
 
--- it doesn't: it stands here, with this flag
+-- the session doesn't wait for that item: it is at this place, with this flag
 pub record IsStaleBy (plan : Plan) (H : List Entry) (session step : ℕ) (flag : Bool) (at : Place) (aside : Bool) : Type 0 where
   pub stands : place plan H session ≡ Some at
   pub flag_is : is_set_aside H session ≡ aside

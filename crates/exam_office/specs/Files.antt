@@ -1,4 +1,4 @@
--- What the bytes of a file stand for.
+-- The history that the bytes of a file represent.
 use Rattle.std.specs.Prelude.{◌≡◌, ℕ, List, map, Some}
 use Rattle.std.specs.List.{AllByRecursion}
 use Rattle.bank_tables.specs.Tables.{Tables}
@@ -15,7 +15,7 @@ pub record AreRecordsOf (b : Tables) (plan : Plan) (H : List Entry) (R : List Re
   pub backed : Backed b plan R
   pub entries : entries_of R ≡ H
 
--- a file stands for a history: its payloads are the bytes of records of that history
+-- a file represents a history: its payloads are the bytes of records of that history
 pub record Stands (b : Tables) (plan : Plan) (H : List Entry) (file : List ℕ) : Type 0 where
   pub records : List Record
   pub are : AreRecordsOf b plan H records

@@ -13,14 +13,15 @@ use Rattle.exam_office.specs.declared.fault.OpenFault.TheVariants.{Disk, Memory}
 use Rattle.exam_office.specs.Files.{Stands}
 use Rattle.exam_office.specs.Opening.{IsOpenAnswer}
 
--- a file stands for at most one history, and that is a legal run
+-- a file represents at most one history, and that is a legal run
 abbrev pub OneHistory : Type 0
 OneHistory = (b : Tables) (plan : Plan) (H G : List Entry) (file : List ℕ) → Stands b plan H file → Stands b plan G file → H ≡ G
 
 abbrev pub StandsForLegalRun : Type 0
 StandsForLegalRun = (b : Tables) (plan : Plan) (H : List Entry) (file : List ℕ) → Stands b plan H file → LegalRun b plan H
 
--- a file within the limit that stands for a history is refused only out of memory or by a fault of the disk
+-- a file within the limit that represents a history is refused only if memory runs out, or by a
+-- fault of the disk
 abbrev pub StandingIsOpened : Type 0
 StandingIsOpened = (b : Tables) (plan : Plan) (H : List Entry) (file : List ℕ) (fault : OpenFault) → Stands b plan H file
     → length file ≤ plan.journal → IsOpenAnswer b plan file fault → (fault ≡ Disk) ⊎ (fault ≡ Memory)

@@ -40,6 +40,6 @@ pub data AreMarks : List Mark → Type 0 where
   adopted : (M : List Mark) (entry : Entry) (size : ℕ) → AreMarks (M ++ Fault entry ∷ [])
       → AreMarks ((M ++ Fault entry ∷ []) ++ Adopted entry size ∷ [])
 
--- there are no more faults among the marks than a count rose, or the count stands at its last value
+-- there are no more faults among the marks than a count rose, or the count is at its last value
 abbrev pub AreCounted : List Mark → ℕ → ℕ → Type 0
 AreCounted marks before now = min (before + count_by is_fault marks) (2 ^ 64 - 1) ≤ now

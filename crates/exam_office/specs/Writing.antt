@@ -15,7 +15,8 @@ use Rattle.exam_office.specs.Files.{Stands}
 use Rattle.exam_office.specs.Marks.{reach, history}
 use Rattle.exam_office.specs.Running.{Running}
 
--- the histories at which an office may come to be while this entry is in doubt: its own, or its own with that entry
+-- the histories that an office may go on from while this entry, if any, is in doubt: its own, or
+-- its own with that entry
 pub data IsOneOf (H : List Entry) : Option Entry → List Entry → Type 0 where
   as_before : (doubt : Option Entry) → IsOneOf H doubt H
   with_doubt : (entry : Entry) → IsOneOf H (Some entry) (H ++ entry ∷ [])
@@ -26,7 +27,8 @@ pub record IsMending (b : Tables) (plan : Plan) (H : List Entry) (doubt : Option
   pub is_one_of : IsOneOf H doubt so_far
   pub stands : Stands b plan so_far file
 
--- a file that a crash may leave while an entry is written: it stands for the history before, or for that with the entry
+-- a file that a crash may leave while an entry is written: it represents the history before, or
+-- that with the entry
 abbrev pub IsWriting : Tables → Plan → List Entry → Entry → List ℕ → Type 0
 IsWriting b plan H entry file = Stands b plan H file ⊎ Stands b plan (H ++ entry ∷ []) file
 

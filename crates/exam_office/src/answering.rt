@@ -1,4 +1,4 @@
-//! Answers, and where a session stands.
+//! Answers, and the place of a session.
 
 ghost use Rattle.std.specs.Prelude.{◌≡◌, ◌≤◌, Some, None, IsTrue, IfOk, IfErr, OnOk};
 ghost use Rattle.exam_edge.specs.Lent.{IsLent};
@@ -18,7 +18,7 @@ use history_model::{Entry, Place, Refusal};
 use std::alloc::Global;
 
 impl<'a, D: Disk> Office<'a, D> {
-    /// Where a session stands.
+    /// The place of a session.
     pub fn look(&self, session: u32) -> Result<Place, Refusal>
         ensures at { IfOk result (λ at. place self.now.plan (history self.now.marks) session
             ≡ Some at) }

@@ -59,7 +59,7 @@ fn entry_for(asked: &Problem, outcome: &Outcome, nodes: u16) -> Entry
 }
 
 impl<'a, D: Disk> Office<'a, D> {
-    /// Where a session stands and whether its eligibility is set aside, unless it still waits for
+    /// The place of a session and whether its eligibility is set aside, unless it still waits for
     /// the item of this step with this flag.
     fn find_stale(&self, session: u32, step: u16, aside: bool) -> Option<(Place, bool)>
         requires { is_started (history self.now.marks) session ≡ true }

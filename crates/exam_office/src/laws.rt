@@ -2,18 +2,18 @@
 
 ghost use Rattle.exam_office.specs.Laws.{OneHistory, StandsForLegalRun, StandingIsOpened, MayBeCommittedNow};
 
-/// A file stands for at most one history.
+/// A file represents at most one history.
 pub fn one_history()
     ensures { OneHistory }
 {}
 
-/// What it stands for is a legal run.
+/// The history that a file represents is a legal run.
 pub fn stands_for_legal_run()
     ensures { StandsForLegalRun }
 {}
 
-/// A file within the limit that stands for a history is refused only where it is out of memory, or
-/// by a fault of the disk.
+/// A file within the limit that represents a history is refused only if memory runs out, or by a
+/// fault of the disk.
 pub fn standing_is_opened()
     ensures { StandingIsOpened }
 {}

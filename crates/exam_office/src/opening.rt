@@ -143,7 +143,7 @@ impl<'a, D: Disk> Office<'a, D> {
         ensures sure { IfOk result (λ office. office.doubt ≡ None) }
         ensures marks { IfOk result (λ office. office.marks ≡ map Old
             (history office.marks) ++ Opened (reach office.marks) ∷ []) }
-        // The file stood for the history, and so does each file that a crash may leave now.
+        // The file represented the history, and so does each file that a crash may leave now.
         ensures stands { IfOk result (λ office. IsTrue (D.tells disk)
             → Stands bank.now spec.now (history office.marks) (D.content disk)) }
         ensures images { IfOk result (λ office. IsTrue (D.tells disk)
@@ -157,8 +157,8 @@ impl<'a, D: Disk> Office<'a, D> {
             → IsSettled (D.content disk) (D.accounts disk) → (H : List Entry)
             → Stands bank.now spec.now H (D.content disk)
             → AtEachMoment (D.accounts disk) (D.accounts e.0) (Stands bank.now spec.now H)) }
-        // What is wrong with the file, if anything is; nothing is with one within the limit that
-        // stands for a history.
+        // What is wrong with the file, if anything is. Nothing is wrong with a file within the
+        // limit that represents a history.
         ensures why { IfErr result (λ e. IsTrue (D.tells disk)
             → IsOpenAnswer bank.now spec.now (D.content disk) e.1) }
         ensures cause { IfErr result (λ e. e.1 ≡ OfDisk → Rose (D.faults disk) (D.faults e.0)) }
@@ -197,9 +197,9 @@ impl<'a, D: Disk> Office<'a, D> {
         })
     }
 
-    /// The disk as it is. Where it tells what it holds, that and each file that a crash may leave
-    /// is one of the history, or where an entry is in doubt one of the history or of that with the
-    /// entry.
+    /// The disk as it is. If it reports its content, the content and each file that a crash may
+    /// leave represent the history. If an entry is in doubt, each represents the history or that
+    /// with the entry.
     pub fn into_disk(self) -> D
         ensures content { IsTrue (D.tells result)
             → IsMending self.entry.bank self.entry.plan (history self.entry.marks) self.entry.doubt

@@ -45,7 +45,7 @@ some_base : (o : Option (List ℕ)) (X : Set) → option_map has o ≡ Some X �
 some_base (Some words) X e = (words, refl)
 some_base None X e = cc
 
--- what a plan says of its base
+-- two plans that a text describes alike: if the one has a base, so has the other
 has_base : (p q : Plan) (base : List ℕ) → plan_said p ≡ plan_said q → p.base ≡ Some base → (other : List ℕ) × (q.base ≡ Some other)
 has_base p q base same e =
     let said : option_map has q.base ≡ Some (has base) = ap (λ (s : SaidPlan). s.base) (sym same) ∙ ap (option_map has) e in

@@ -1,4 +1,4 @@
--- What the parts of a command say of its outcome.
+-- The outcome of a command, from the outcomes of its parts.
 use Rattle.std.proofs.Common.{◌≡◌, ℕ, ◌≤◌, Bool, List, [], ◌++◌, inl, inr, Some, None, arith, refl, sym, subst, append_assoc, length-append}
 use Rattle.std.proofs.lemmas.List.{append-nil}
 use Rattle.bank_tables.specs.Tables.{Tables}

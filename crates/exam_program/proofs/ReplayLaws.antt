@@ -49,7 +49,7 @@ pub session_more : (b : Tables) (plan : Plan) (base : List ℕ) (all : List Answ
 session_more b plan base all i before after text lt session more =
     subst (λ (xs : List Answer). Session b plan base xs after (text ++ place_line plan after)) (sym (take_more all i no_answer lt)) (answered (take i all) before text (get_or all i no_answer) after session more)
 
--- the answers before one, it, and those behind it
+-- the answers before one, that one, and those after it
 parted : (all : List Answer) (i : ℕ) → i < length all → all ≡ take i all ++ get_or all i no_answer ∷ drop (suc i) all
 parted all i lt = sym (take-append-drop i all) ∙ ap (λ (xs : List Answer). take i all ++ xs) (drop-cons all i no_answer lt)
 

@@ -123,7 +123,7 @@ pub session_begins : {E : Type 0} (b : Tables) (plan : Plan) (base : List ℕ) (
 session_begins b plan base empty (Err e) new serves = tt
 session_begins b plan base empty (Ok seat) new serves = begins empty seat new serves
 
--- ---- a seat that stands, and an answer that it waits for
+-- ---- a seat between two requests, and an answer that it waits for
 pub stands_complete : AnsweredSeatIsSeat
     → (b : Tables) (plan : Plan) (base : List ℕ) (seat : Seat) (answer : Answer)
     → IsStanding b plan base seat

@@ -38,7 +38,7 @@ pub record FindsForm (b : Tables) (plan : Plan) (P : Problem) (form : List ℕ) 
   pub hint : IsNoWorseThan P (option_map has plan.base) (Found form proved)
   pub printable : IsPrintable P T
 
--- the text tells the form that the assembly found
+-- the text is that of a form that the assembly found
 pub record TellsForm (b : Tables) (plan : Plan) (text : List ℕ) : Type 0 where
   pub problem : Problem
   pub form : List ℕ

@@ -24,7 +24,7 @@ table words = None
 unfoldable pub command_of : List (List ℕ) → Option Command
 command_of words = if list_any is_no_name words then None else table words
 
--- what a command says
+-- a command of the code, as a command with the names of its files as bytes
 abbrev pub said : Asked → Command
 said (AskedCheck bank plan) = Check bank.now plan.now
 said (AskedAssemble bank plan) = Assemble bank.now plan.now

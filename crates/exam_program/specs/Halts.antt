@@ -25,7 +25,8 @@ HaltsAtBank there text Files = Unit {0}
 HaltsAtBank there text Memory = Unit {0}
 HaltsAtBank there text halt = ⊥
 
--- the text is a plan text for the bank, and says this plan, which is valid for it
+-- the text is a plan text for the bank that is not too long; it describes this plan, which is valid
+-- for the bank
 pub record IsPlanIn (b : Tables) (text : List ℕ) (plan : Numbers) : Type 0 where
   pub short : length text ≤ most_bytes
   pub says : IsPlanText b text plan
@@ -44,7 +45,8 @@ HaltsAtPlan b there text Files = Unit {0}
 HaltsAtPlan b there text Memory = Unit {0}
 HaltsAtPlan b there text halt = ⊥
 
--- there are files of these names, and they say this bank, and this plan, which is valid for it
+-- there are files of these names, and they describe this bank and this plan, which is valid for the
+-- bank
 pub record Reads (named : List ℕ → Bool) (content : List ℕ → List ℕ) (bank plan : List ℕ) (b : Tables) (p : Numbers) : Type 0 where
   pub has_bank : IsTrue (named bank)
   pub has_plan : IsTrue (named plan)
@@ -63,7 +65,7 @@ HaltsAtExam named content bank plan halt = ⊥
 abbrev pub longest_script : ℕ
 longest_script = 16777216
 
--- the text is a script, and says this one
+-- the text is not too long, and it describes this script
 pub record IsScript (text : List ℕ) (script : Script) : Type 0 where
   pub short : length text ≤ longest_script
   pub says : script_of text ≡ Ok script

@@ -26,7 +26,8 @@ use Rattle.bank_reader.specs.Texts.{bank_text}
 use Rattle.spec_reader.specs.Texts.{plan_text}
 use Rattle.exam_program.specs.Texts.{usage, not_yet, no_form, no_base_form, bank_line, form_text}
 
--- there are the files of a replay, and they say this bank, plan and script, and this is the base form
+-- there are the files of a replay, they describe this bank, plan and script, and this is the base
+-- form
 pub record ReadsAll (named : List ℕ → Bool) (content : List ℕ → List ℕ) (bank plan name : List ℕ) (b : Tables) (p : Plan) (script : Script) (base : List ℕ) : Type 0 where
   pub reads : Reads named content bank plan b p
   pub has_script : IsTrue (named name)
@@ -39,9 +40,10 @@ IsReady named content (Check bank plan) b p = ⊥
 IsReady named content (Assemble bank plan) b p = Reads named content bank plan b p
 IsReady named content (Replay bank plan name) b p = Reads named content bank plan b p × IsTrue (named name) × ((script : Script) × IsScript (content name) script)
 
--- the status and what is printed, for words, the names that have files, what these files hold, and the files' count of faults
--- before and after; each rule says when it applies. The rules of two statuses other than 7, 10 and 12 never apply both, save 0
--- and 15 of a replay, where two best forms serve items with different numbers of categories; and where 12 applies, 11 may too
+-- the status and what is printed, for words, the names that have files, what these files hold, and
+-- the files' count of faults before and after; each rule has its conditions. The rules of two
+-- statuses other than 7, 10 and 12 never both apply, except 0 and 15 of a replay, where two best
+-- forms serve items with different numbers of categories; and where 12 applies, 11 may too
 pub data Outcome (words : List (List ℕ)) (named : List ℕ → Bool) (content : List ℕ → List ℕ) (before after : ℕ) : ℕ → List ℕ → Type 0 where
   -- the words are not in the table
   faulty_words : command_of words ≡ None → Outcome words named content before after 2 usage
@@ -61,7 +63,7 @@ pub data Outcome (words : List (List ℕ)) (named : List ℕ → Bool) (content 
   other_script : (bank plan script : List ℕ) (b : Tables) (p : Plan) → command_of words ≡ Some (Replay bank plan script) → Reads named content bank plan b p → HaltsAtScript (named script) (content script) halt.NotYet → Outcome words named content before after 15 not_yet
   -- the session was served to the end of the script
   replayed : (bank plan name : List ℕ) (b : Tables) (p : Plan) (script : Script) (base : List ℕ) (seat : Seat) (text : List ℕ) → command_of words ≡ Some (Replay bank plan name) → ReadsAll named content bank plan name b p script base → Session b p base script.answers seat text → Outcome words named content before after 0 text
-  -- an answer is refused: the lines before it stand
+  -- an answer is refused: the lines before it were printed
   answer_refused : (bank plan name : List ℕ) (b : Tables) (p : Plan) (script : Script) (base : List ℕ) (done rest : List Answer) (answer : Answer) (seat : Seat) (text : List ℕ) → command_of words ≡ Some (Replay bank plan name) → ReadsAll named content bank plan name b p script base → script.answers ≡ done ++ answer ∷ rest → Session b p base done seat text → IsRefused b seat answer → Outcome words named content before after 15 (text ++ not_yet)
   -- the files failed before anything was printed
   without_files : (command : Command) → command_of words ≡ Some command → Rose before after → Outcome words named content before after 7 files_failed

@@ -14,14 +14,14 @@ pub data IsPrinted (b : Tables) (plan : Plan) (base : List ℕ) (answers : List 
   nothing : IsPrinted b plan base answers []
   lines : (done rest : List Answer) (seat : Seat) (text : List ℕ) → answers ≡ done ++ rest → Session b plan base done seat text → IsPrinted b plan base answers text
 
--- the whole session was served, and its lines stand written
+-- the whole session was served, and its lines were written
 pub record Finishes (b : Tables) (plan : Plan) (base : List ℕ) (answers : List Answer) (told : Bool) (old new : List ℕ) : Type 0 where
   pub seat : Seat
   pub text : List ℕ
   pub session : Session b plan base answers seat text
   pub written : IsWritten told old new text
 
--- the first answer that is refused: the lines before it stand written
+-- an answer is the first that is refused: the lines before it were written
 pub record StopsAtRefusal (b : Tables) (plan : Plan) (base : List ℕ) (answers : List Answer) (told : Bool) (old new : List ℕ) : Type 0 where
   pub done : List Answer
   pub answer : Answer
@@ -33,13 +33,13 @@ pub record StopsAtRefusal (b : Tables) (plan : Plan) (base : List ℕ) (answers 
   pub refused : IsRefused b seat answer
   pub written : IsWritten told old new text
 
--- whole lines stand written
+-- whole lines were written
 pub record StopsBetweenLines (b : Tables) (plan : Plan) (base : List ℕ) (answers : List Answer) (told : Bool) (old new : List ℕ) : Type 0 where
   pub text : List ℕ
   pub printed : IsPrinted b plan base answers text
   pub written : IsWritten told old new text
 
--- a beginning of the lines stands written
+-- a beginning of the lines was written
 pub record StopsWithinLines (b : Tables) (plan : Plan) (base : List ℕ) (answers : List Answer) (told : Bool) (old new : List ℕ) : Type 0 where
   pub text : List ℕ
   pub rest : List ℕ
@@ -47,7 +47,7 @@ pub record StopsWithinLines (b : Tables) (plan : Plan) (base : List ℕ) (answer
   pub written : IsWritten told old new text
   pub unfinished : 0 < length rest
 
--- why a replay stopped, and what stands written then
+-- why a replay stopped, and what was written then
 abbrev pub Stops : Tables → Plan → List ℕ → List Answer → Bool → List ℕ → List ℕ → Stop → Type 0
 Stops b plan base answers told old new Refused = StopsAtRefusal b plan base answers told old new
 Stops b plan base answers told old new Memory = StopsBetweenLines b plan base answers told old new

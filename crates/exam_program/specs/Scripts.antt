@@ -24,11 +24,11 @@ answer_in words =
     then option_and_then (λ step. option_map (answer_with step) (number_of 255 (word words 3))) (number_of 65535 (word words 2))
     else None
 
--- the answers of the lines behind the first
+-- the answers of the lines after the first
 unfoldable pub answers_in : List (List ℕ) → Result (List Answer) ScriptFault
 answers_in lines = each_below (length lines - 1) (λ i. or_fault (answer_in (words_of (get_or lines (i + 1) []))) OutOfForm)
 
--- the script that a text says
+-- the script that a text describes
 unfoldable pub script_of : List ℕ → Result Script ScriptFault
 script_of text =
     or_fault (booking_in (words_of (get_or (lines_of text) 0 []))) OutOfForm >>= λ booking.

@@ -82,8 +82,8 @@ place_line plan seat =
     if length seat.responses == plan.length then codes "session 0 complete\n"
     else codes "session 0 step " ++ (decimal (length seat.responses) ++ (codes " item " ++ (decimal (get_or seat.shown (length seat.responses) 0) ++ (codes " " ++ (mark_text seat.proved ++ codes "\n")))))
 
--- a session after its answers so far, with its seat and what was printed: the first line tells the item served first,
--- and each answer adds a line
+-- a session after its answers so far, with its seat and what was printed: the first line names the
+-- item served first, and each answer adds a line
 pub data Session (b : Tables) (plan : Plan) (base : List ℕ) : List Answer → Seat → List ℕ → Type 0 where
   begins : (empty seat : Seat) → IsNewSeat b empty → Serves b plan base empty seat → Session b plan base [] seat (place_line plan seat)
   answered : (answers : List Answer) (before : Seat) (text : List ℕ) (answer : Answer) (after : Seat) → Session b plan base answers before text → Answers b plan base before answer after → Session b plan base (answers ++ answer ∷ []) after (text ++ place_line plan after)

@@ -1,4 +1,4 @@
--- How a seat stands between two requests.
+-- The state of a seat between two requests.
 use Rattle.std.specs.Prelude.{◌≡◌, ◌⊎◌, ℕ, List, length, Some, IsFalse}
 use Rattle.bank_tables.specs.Items.{Set, has}
 use Rattle.bank_tables.specs.Tables.{Tables}

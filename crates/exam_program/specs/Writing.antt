@@ -1,7 +1,7 @@
--- What stands written.
+-- What was written.
 use Rattle.std.specs.Prelude.{◌≡◌, ℕ, ◌<◌, ◌++◌, Bool, List, length, IsTrue}
 
--- the text was written, where the sink tells what is written
+-- the text was written, if the sink reports its content
 abbrev pub IsWritten : Bool → List ℕ → List ℕ → List ℕ → Type 0
 IsWritten told old new text = IsTrue told → new ≡ old ++ text
 

@@ -6,7 +6,7 @@ ghost use Rattle.exam_program.specs.Writing.{IsWritten, WritesPart};
 
 use exam_edge::{Failed, Sink};
 
-/// Writes a whole piece. Failed, a part of it may stand written, and not the whole.
+/// Writes a whole piece. After `Failed` a part of it may be written, and not the whole.
 pub(crate) fn put<O: Sink>(out: &mut O, piece: &[u8]) -> Result<(), Failed>
     ensures ok { OnOk result (IsWritten (O.tells out.old) (O.written out.old) (O.written out.new) piece.now) }
     ensures err { OnErr result (WritesPart (O.tells out.old) (O.written out.old) (O.written out.new) piece.now) }

@@ -70,9 +70,10 @@ fn status_of<F: Files, O: Sink>(alloc: Global, words: &[String], files: &mut F, 
     }
 }
 
-/// Does what the words ask for, which are those behind the program's name, and gives the status to end with:
-/// 0 the work was done, 2 the words are not in the table, 3 and 4 the bank or the plan text is refused, 7 a call of the files
-/// failed, 8 a call of the sink failed, 10 out of memory, 11 no set of items is a form, 12 the plan has no base and none was
+/// Does what the words ask for, which are those after the program's name.
+/// It gives the status to end with: 0 the work was done, 2 the words are not in the table,
+/// 3 and 4 the bank or the plan text is refused, 7 a call of the files failed, 8 a call of the sink
+/// failed, 10 out of memory, 11 no set of items is a form, 12 the plan has no base and none was
 /// found within the base budget, 15 not built yet.
 pub fn run<R, F: Files, O: Sink>(
     _rt: &R,
@@ -80,13 +81,13 @@ pub fn run<R, F: Files, O: Sink>(
     words: &[String],
     world: World<F, O>,
 ) -> Finish<F, O>
-    // What is printed, and with which status, where the files tell their bytes; and that it is written,
-    // where the sink tells too.
+    // If the files report their content: what is printed, and with which status. If the sink
+    // reports its content too: that this is written.
     ensures answers { IsTrue (F.tells world.files)
         → Ends (map (λ w. string_bytes w) words.now)
         (F.has world.files) (F.content world.files) (F.faults world.files) (F.faults result.files)
         (O.tells world.out) (O.written world.out) (O.written result.out) result.status }
-    // The causes, whatever they tell.
+    // The causes, whether they report their content or not.
     ensures faulty { command_of (map (λ w. string_bytes w) words.now) ≡ None
         → (result.status ≡ 2) ⊎ (result.status ≡ 8) }
     ensures usage { result.status ≡ 2 → command_of (map (λ w. string_bytes w) words.now) ≡ None }

@@ -114,7 +114,7 @@ fn first_line<'a>(lines: &[&'a [u8]]) -> &'a [u8]
     word_at(lines, 0)
 }
 
-/// The script that a text says.
+/// The script that a text describes.
 #[tactic(auto, unfolding(crate::specs::Scripts::script_of))]
 pub(crate) fn script_of(alloc: Global, text: &[u8]) -> Result<Script, ScriptFault>
     ensures { Gives Memory (λ s. s) result (script_of text.now) }

@@ -1,4 +1,4 @@
-//! The texts that tell a proof tree.
+//! The texts that have a proof tree.
 
 ghost use Rattle.std.specs.Prelude.{◌≡◌, ◌++◌, OnOk, IfOk, string_bytes};
 ghost use Rattle.bank_tables.specs.Items.{has};

@@ -6,7 +6,7 @@ use Rattle.exam_model.specs.Problem.{Problem}
 use Rattle.exam_model.specs.Forms.{Form}
 use Rattle.exam_model.specs.Verdicts.{IsFormOrNone, IsAtLeast}
 
--- the items below n whose bits stand in the mask
+-- the items below n whose bits are 1 in the mask
 abbrev pub masked : ℕ → ℕ → Set
 masked mask n i = nat_lt i n && bit_at mask i == 1
 

@@ -6,7 +6,7 @@ ghost use Rattle.form_enumeration.specs.Enumeration.{masked};
 
 use bank_tables::ItemSet;
 
-/// The items below a number whose bits stand in the mask.
+/// The items below a number whose bits are 1 in the mask.
 pub fn masked(mask: u32, items: u16) -> ItemSet
     requires { items ≤ 16 }
     ensures { (i : ℕ) → has result i ≡ masked mask items i }

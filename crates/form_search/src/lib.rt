@@ -5,7 +5,7 @@
 //!
 //! Words: a *table* is a problem as flat arrays; a *tally* what a set of items adds to each row; a *pool* the vectors of a
 //! tree; a vector is *priced* once its reduced weights are computed; a *hand* is the vector that the steps at a path begin
-//! with; *shares* say how often steps selected each item.
+//! with; *shares* are how often steps selected each item.
 #![tactic(auto)]
 
 mod branching;

@@ -72,7 +72,7 @@ pub struct Sides {
     pub other: usize,
 }
 
-/// Whether two subtrees stand behind a node.
+/// Whether a node has two subtrees after it.
 fn is_branch(node: &Node) -> bool {
     matches!(node, Node::BranchItem(_) | Node::BranchStimulus(_))
 }

@@ -36,7 +36,7 @@ pub fn copied(alloc: Global, vector: &Vector) -> Result<Vector, Memory> {
     }
 }
 
-/// How many items a path still wants.
+/// How many items a path still needs.
 pub fn wanted(table: &Table, cut: &Cut) -> u32 {
     table.length.saturating_sub(cut.taken.count())
 }

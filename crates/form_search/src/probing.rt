@@ -51,8 +51,8 @@ impl Probe {
     }
 }
 
-/// What some steps on a side of a branch come to. None are made where a row is impossible by counting or a vector that is
-/// there closes the side.
+/// The result of some steps on a side of a branch. No steps are made if a row is impossible by
+/// counting, or if a vector of the pool closes the side.
 fn side_of(
     alloc: Global,
     problem: &Problem,

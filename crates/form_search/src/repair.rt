@@ -31,7 +31,7 @@ fn next_best(table: &Table, weights: &[i64], items: &ItemSet) -> Option<u16> {
     best
 }
 
-/// A set with as many more free items of the greatest weight as the test wants.
+/// A set with as many more free items of the greatest weight as the test needs.
 fn filled(table: &Table, weights: &[i64], begun: &ItemSet) -> ItemSet {
     let mut items = *begun;
     for _ in begun.count()..table.length {

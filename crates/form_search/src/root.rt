@@ -42,7 +42,7 @@ fn target_of(
     Ok(bound.wrapping_sub(FIRST_WAY))
 }
 
-/// What no steps came to.
+/// The result of no steps.
 fn no_steps(alloc: Global) -> Stepped {
     Stepped {
         vector: empty_vector(alloc),

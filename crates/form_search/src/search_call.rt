@@ -32,10 +32,10 @@ const FIRST_PROBES: usize = 2;
 /// The same in the last pass.
 const LAST_PROBES: usize = 4;
 
-/// Passes with as many vectors as they want, at most.
+/// The most passes that take as many vectors as they need.
 const MOST_PASSES: u32 = 8;
 
-/// What a search came to: a form, if it met one, and a tree, if what it built is one.
+/// The result of a search: a form, if it met one, and a tree, if what it built is one.
 #[derive(Debug, Drop)]
 pub struct Searched {
     pub form: Option<ItemSet>,
@@ -90,7 +90,9 @@ fn tree_of(alloc: Global, pass: Pass) -> Result<Option<Tree>, Memory> {
     Ok(Tree::of(List::of(vectors), List::of(nodes)))
 }
 
-/// A pass with as many vectors as it wants, and one within the limits of a tree where that doesn't do.
+/// Passes with as many vectors as they need, until one is whole. Its tree is taken if the budget is
+/// not spent and no more vectors are in it than a tree may have. Else one more pass keeps to that
+/// limit.
 fn passes(
     alloc: Global,
     problem: &Problem,

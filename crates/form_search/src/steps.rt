@@ -11,7 +11,8 @@ use lagrange_bound::Ascent;
 use proof_tree::{Memory, Vector};
 use std::alloc::Global;
 
-/// What steps on a path came to: the best vector, for each item its share, and the vector's bound as the steps computed it.
+/// The result of steps on a path: the best vector, for each item its share, and the vector's bound
+/// as the steps computed it.
 #[derive(Debug, Drop)]
 pub struct Stepped {
     pub vector: Vector,
@@ -20,7 +21,7 @@ pub struct Stepped {
 }
 
 impl Stepped {
-    /// What they came to, without the form that they met.
+    /// Their result, without the form that they met.
     pub fn of(ascent: Ascent) -> Stepped {
         let Ascent {
             vector,

@@ -155,7 +155,7 @@ fn stimuli_of(alloc: Global, problem: &Problem) -> Result<Vec<Limits>, Memory> {
     Ok(stimuli)
 }
 
-/// What parts come to on a row.
+/// The sum of the parts on a row.
 pub fn amount_in(parts: &[Part], row: u8) -> i64 {
     for part in parts {
         if part.row == row {

@@ -1,10 +1,10 @@
-//! What a set of items comes to on each row and stimulus, and how far from the bounds.
+//! The sum of a set of items on each row and stimulus, and how far it is from the bounds.
 
 use crate::table::{Entry, Limits, Table, amount_in};
 use bank_tables::ItemSet;
 use lagrange_bound::Cut;
 
-/// What a set of items comes to.
+/// The sums of a set of items.
 #[derive(Clone, Copy, Debug)]
 pub struct Tally {
     /// On each row that doesn't count stimuli.
@@ -37,7 +37,7 @@ fn stimulus_excess(limits: &Limits, found: i64) -> i64 {
 }
 
 impl Tally {
-    /// What a set of items comes to.
+    /// The sums of a set of items.
     pub fn of(table: &Table, items: &ItemSet) -> Tally {
         let mut tally = Tally {
             activity: [0; 128],
@@ -79,7 +79,7 @@ impl Tally {
         }
     }
 
-    /// What the set comes to on a row that doesn't count stimuli.
+    /// The sum of the set on a row that doesn't count stimuli.
     fn on_row(&self, row: u8) -> i64 {
         let row = row as usize;
         if row < 128 { self.activity[row] } else { 0 }
@@ -190,7 +190,7 @@ impl Tally {
         }
     }
 
-    /// How the excess of the rows that count stimuli changes where so many come to be used.
+    /// How the excess of the rows that count stimuli changes if so many more are used.
     fn used_change(&self, table: &Table, added: i64) -> i64 {
         let mut sum = 0i64;
         if added != 0 {

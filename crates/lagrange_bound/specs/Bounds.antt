@@ -12,7 +12,7 @@ abbrev pub IsBound : Problem → Path → Multipliers → Bool → Option ℤ �
 IsBound P p v ray None = IsTrue (length_impossible P p)
 IsBound P p v ray (Some r) = IsRelaxedMaximum P p v ray r
 
--- what a bound is to stand above: 256 times the objective of a form, or 0 for a ray
+-- the number that a bound must be at least: 256 times the objective of a form, or 0 for a ray
 abbrev pub bounded_value : Problem → Bool → Set → ℤ
 bounded_value P true X = pos 0
 bounded_value P false X = pos (256 * objective P X)

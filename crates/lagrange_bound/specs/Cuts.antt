@@ -5,7 +5,8 @@ use Rattle.exam_model.specs.Problem.{Problem}
 use Rattle.exam_model.specs.Paths.{Path, is_free, is_chosen, is_open}
 use Rattle.lagrange_bound.specs.declared.cut.Cut.{Cut}
 
--- the cut tells which items are taken, out and free on the path, and which stimuli are chosen and open
+-- the cut has the items that are taken, out and free on the path, and the stimuli that are chosen
+-- and open
 pub record IsCutOf (P : Problem) (p : Path) (c : Cut) : Type 0 where
   pub taken : has c.taken ≡ p.taken
   pub out : has c.out ≡ p.out

@@ -15,7 +15,7 @@ above n xs t = count_in n (λ _. true) (λ i. int_lt t (at xs i))
 abbrev pub excess : ℤ → ℤ → ℤ
 excess t z = cond (int_lt t z) (z -ℤ t) (pos 0)
 
--- what stands in place of the weight of an item that isn't free: it is below each weight
+-- the number in place of the weight of an item that isn't free: it is below each weight
 abbrev pub no_weight : ℤ
 no_weight = neg_ℤ (pos 140737488355329)
 

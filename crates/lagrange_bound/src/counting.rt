@@ -19,7 +19,7 @@ use crate::members::size_in;
 use bank_tables::{Bank, ItemSet};
 use constraint_model::{Problem, Row};
 
-/// How many items the test wants beyond those taken; None exactly where the length is impossible.
+/// How many items the test needs beyond those taken; None exactly where the length is impossible.
 pub fn items_wanted(problem: &Problem, cut: &Cut) -> Option<u32>
     ensures { (p : Path) → IsCutOf (problem_of problem.now) p cut.now →
         IsWanted (problem_of problem.now) p result }
@@ -73,7 +73,7 @@ fn members_in(bank: &Bank, set: &ItemSet, items: &ItemSet) -> u32
     set.meet(*items).count()
 }
 
-/// What the items and the stimuli come to on a row.
+/// The activity of a row: the sum over the items and stimuli.
 fn activity(bank: &Bank, row: &Row, items: &ItemSet, stimuli: &ItemSet) -> u32
     requires { IsRow bank.now row.now }
     ensures { result ≡ activity bank.now row.now (has items.now) (has stimuli.now) }

@@ -17,7 +17,7 @@ use crate::prices::price;
 use bank_tables::{Bank, ItemSet};
 use constraint_model::{Problem, Row};
 
-/// What stands in place of the weight of an item that isn't free: it is below each weight.
+/// The number in place of the weight of an item that isn't free: it is below each weight.
 const NO_WEIGHT: i64 = -140_737_488_355_329;
 
 /// 256 times the information of an item at the estimate, or 0 for a ray.

@@ -13,7 +13,7 @@ use Rattle.proof_tree.specs.Reading.{number_at, byte_at}
 abbrev pub IsBytes : List ℕ → Type 0
 IsBytes bytes = (i : ℕ) → get_or bytes i 0 < 256
 
--- the text stands in the bytes from `at` up to `next`
+-- the bytes have the text from `at` up to `next`
 pub record Stands (bytes : List ℕ) (at : ℕ) (text : List ℕ) (next : ℕ) : Type 0 where
   pub parts : drop at bytes ≡ text ++ drop next bytes
   pub ends : next ≡ at + length text
@@ -41,7 +41,7 @@ stand_second bytes at x y next p =
       ends = omega (arith, p.ends, length-append x y);
     }
 
--- what stands in the bytes is within them
+-- a text that the bytes have at a place ends within them
 pub stands_within : (bytes : List ℕ) (at : ℕ) (text : List ℕ) (next : ℕ) → Stands bytes at text next → 0 < length text → next ≤ length bytes
 stands_within bytes at text next p some =
     omega (arith, p.ends, ap length p.parts, length-append text (drop next bytes), length-drop at bytes)

@@ -13,7 +13,7 @@ use Rattle.proof_tree.specs.Spelling.{node_bytes}
 use Rattle.proof_tree.specs.Reading.{number_at, byte_at, item_branch_at, stimulus_branch_at, bound_at, ray_at, count_at, node_of_kind, node_at}
 use Rattle.proof_tree.proofs.Fields.{IsBytes, Stands, stand_both, stand_first, stand_second, wide16, number_stands, number_again, byte_stands, byte_again}
 
--- the node that was read stands there, and its number is in its range
+-- the bytes have the node that was read there, and its number is in its range
 abbrev pub Found : List ℕ → ℕ → Node × ℕ → Type 0
 Found bytes at x = Stands bytes at (node_bytes x.0) x.1 × IsNode x.0
 
@@ -21,7 +21,7 @@ pub chosen : {A : Type 0} (b : Bool) (x y z : A) → cond b x y ≡ z → ((b �
 chosen true x y z e = inl (refl, e)
 chosen false x y z e = inr (refl, e)
 
--- a kind and a number of one byte stand together
+-- a kind and a number of one byte, one after the other
 kind_and_byte : (bytes : List ℕ) (at kind n : ℕ) → Stands bytes at (kind ∷ []) (at + 1) → Stands bytes (at + 1) (n ∷ []) (at + 1 + 1) → Stands bytes at (kind ∷ n ∷ []) (at + 2)
 kind_and_byte bytes at kind n p q =
     let two : at + 1 + 1 ≡ at + 2 = omega arith in

@@ -6,13 +6,14 @@ use Rattle.exam_model.specs.declared.node.Node.TheVariants.{BranchItem, BranchSt
 use Rattle.exam_model.specs.ProofTrees.{AreTrees}
 use Rattle.proof_tree.specs.Shape.{children}
 
--- behind a node its subtrees wait in its place
+-- each follows from the other
 abbrev pub BothWays : Type 0 → Type 0 → Type 0
 BothWays P Q = (P → Q) × (Q → P)
 
 waits : (a b : ℕ) (nodes : List Node) → a ≡ b → BothWays (AreTrees a nodes) (AreTrees b nodes)
 waits a b nodes e = (subst (λ (w : ℕ). AreTrees w nodes) e, subst (λ (w : ℕ). AreTrees w nodes) (sym e))
 
+-- after a node its subtrees wait in its place
 pub tree_step : (wait : ℕ) (node : Node) (nodes : List Node) → BothWays (AreTrees (suc wait) (node ∷ nodes)) (AreTrees (suc wait - 1 + children node) nodes)
 tree_step wait (BranchItem i) nodes = waits (suc (suc wait)) (suc wait - 1 + 2) nodes (omega arith)
 tree_step wait (BranchStimulus s) nodes = waits (suc (suc wait)) (suc wait - 1 + 2) nodes (omega arith)
@@ -32,7 +33,7 @@ tree_step_at zero i nodes d lt some = absurd (some refl)
 tree_step_at (suc wait) i nodes d lt some =
     subst (λ (xs : List Node). BothWays (AreTrees (suc wait) xs) (AreTrees (suc wait - 1 + children (get_or nodes i d)) (drop (i + 1) nodes))) (sym (drop_here i nodes d lt)) (tree_step wait (get_or nodes i d) (drop (i + 1) nodes))
 
--- no tree waits, and a node stands there
+-- where no tree waits, there is no node
 pub none_waits : (wait i : ℕ) (nodes : List Node) → i < length nodes → wait ≡ 0 → AreTrees wait (drop i nodes) → ⊥
 none_waits zero i nodes lt none h = let d : Node = Open in subst (λ (xs : List Node). AreTrees 0 xs) (drop_here i nodes d lt) h
 none_waits (suc wait) i nodes lt none h = absurd cc

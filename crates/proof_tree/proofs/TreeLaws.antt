@@ -25,7 +25,7 @@ use Rattle.proof_tree.proofs.NodeLaws.{node_stands, node_again}
 
 -- ---- nodes
 
--- behind a node its subtrees wait in its place
+-- after a node its subtrees wait in its place
 waits_for : (waiting : ℕ) (node : Node) (nodes : List Node) → BothWays (AreTrees (suc waiting) (node ∷ nodes)) (AreTrees (waiting + children node) nodes)
 waits_for waiting (BranchItem i) nodes = let e : suc (suc waiting) ≡ waiting + 2 = omega arith in (subst (λ (w : ℕ). AreTrees w nodes) e, subst (λ (w : ℕ). AreTrees w nodes) (sym e))
 waits_for waiting (BranchStimulus s) nodes = let e : suc (suc waiting) ≡ waiting + 2 = omega arith in (subst (λ (w : ℕ). AreTrees w nodes) e, subst (λ (w : ℕ). AreTrees w nodes) (sym e))
@@ -35,7 +35,8 @@ waits_for waiting (Count r) nodes = let e : waiting ≡ waiting + 0 = omega arit
 waits_for waiting Whole nodes = let e : waiting ≡ waiting + 0 = omega arith in (subst (λ (w : ℕ). AreTrees w nodes) e, subst (λ (w : ℕ). AreTrees w nodes) (sym e))
 waits_for waiting Open nodes = let e : waiting ≡ waiting + 0 = omega arith in (subst (λ (w : ℕ). AreTrees w nodes) e, subst (λ (w : ℕ). AreTrees w nodes) (sym e))
 
--- what was read: the nodes stand there, they are so many trees, few enough, with numbers in their ranges
+-- what was read: the bytes have the nodes there, which are so many trees, few enough, with numbers
+-- in their ranges
 pub record AreFound (room waiting : ℕ) (bytes : List ℕ) (at : ℕ) (x : List Node × ℕ) : Type 0 where
   pub stand : Stands bytes at (flat_map node_bytes x.0) x.1
   pub trees : AreTrees waiting x.0

@@ -1,4 +1,4 @@
--- What reading says of bytes that were cut off.
+-- What reading answers for bytes that were cut off.
 use Rattle.std.specs.Prelude.{◌≡◌, ℕ, ◌⊎◌, Result, Err}
 use Rattle.proof_tree.specs.declared.fault.TreeFault.{TreeFault}
 use Rattle.proof_tree.specs.declared.fault.TreeFault.TheVariants.{Short, Unfinished}

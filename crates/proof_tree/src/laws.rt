@@ -23,7 +23,8 @@ pub fn no_spelling_begins_another()
     ensures { (T U : ProofTree) (x y : List ℕ) → IsTree T → IsTree U → bytes_of T ++ x ≡ bytes_of U ++ y → T ≡ U }
 {}
 
-/// A tree that is cut off anywhere is told as such: Short within a field, Unfinished between two nodes.
+/// A tree that is cut off anywhere is reported as such: Short within a field, Unfinished between
+/// two nodes.
 pub fn cut_off_is_told()
     ensures { (T : ProofTree) (k : ℕ) → IsTree T → k < length (bytes_of T) → IsCutOff k (read (take k (bytes_of T))) }
 {}

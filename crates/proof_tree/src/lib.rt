@@ -1,7 +1,7 @@
-//! Proof trees: what an assembler hands over so that a separate checker can say that a form is best. A tree is vectors
-//! of Lagrange multipliers and nodes of branch and bound, and has one spelling in bytes. Upward it promises that what
-//! is written is read again whatever follows, that what is read was spelled so, and where each fault is; it never
-//! judges what a tree shows.
+//! Proof trees: what an assembler hands over so that a separate checker can show that a form is
+//! best. A tree is vectors of Lagrange multipliers and nodes of branch and bound, and has one
+//! spelling in bytes. Upward it promises that what is written is read again whatever follows, that
+//! what is read was spelled so, and where each fault is; it never judges what a tree shows.
 #![tactic(auto)]
 
 mod fault;

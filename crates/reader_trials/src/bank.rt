@@ -1,4 +1,4 @@
-//! The bank text: bank A is read as it says, and each changed text has its fault.
+//! The bank text: bank A is read as its text describes it, and each changed text has its fault.
 
 use bank_reader::{ReadFault, read_bank};
 use bank_tables::{Bank, BankFault, ItemRow, ItemSet, List, Rows};

@@ -1,6 +1,6 @@
-// Plan texts: what is read and printed of the worked plans, and the first fault of texts that say no plan. What is expected
-// stands in the rules of the plan text, or was worked out by hand. Stands on: bank_tables constraint_model exam_edge
-// spec_reader.
+// Plan texts: what is read and printed of the worked plans, and the first fault of texts that
+// describe no plan. What is expected is from the rules of the plan text, or was worked out by hand.
+// It uses: bank_tables constraint_model exam_edge spec_reader.
 
 #[cfg(test)]
 mod tests {

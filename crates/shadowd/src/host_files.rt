@@ -7,7 +7,7 @@ use exam_edge::{Failed, Files};
 use std::fs::File;
 use std::os::unix::fs::FileExt;
 
-/// Files by their paths, read as they are. It tells nothing of what they hold.
+/// Files by their paths, read as they are. They do not report their content.
 #[derive(Drop)]
 pub struct HostFiles {
     rt: HostRuntime,

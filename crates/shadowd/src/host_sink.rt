@@ -6,7 +6,7 @@ ghost use Rattle.exam_edge.specs.Faults.{Rose};
 use exam_edge::{Failed, Sink};
 use std::io::{Stdout, Write};
 
-/// Standard output, flushed at each write. It tells nothing of what was written.
+/// Standard output, flushed at each write. It does not report what was written.
 #[derive(Drop)]
 pub struct HostSink {
     out: Stdout,

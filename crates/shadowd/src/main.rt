@@ -17,7 +17,7 @@ use std::{env, io};
 /// The status of a program that is out of memory.
 const NO_MEMORY: u8 = 10;
 
-/// The words behind the program's name. Words that aren't UTF-8 ask for nothing, as no words do.
+/// The words after the program's name. Words that aren't UTF-8 ask for nothing, as no words do.
 fn words_of(rt: &HostRuntime) -> io::Result<Vec<String>> {
     let alloc = rt.alloc();
     match env::args(rt) {

@@ -346,7 +346,7 @@ mod tests {
             (&[0, 1, 0, 3, 1, 0, 4, 7, 7, 7], 7, false),
             // No Open leaf.
             (&[0, 6], 1, false),
-            // A branch behind an Open leaf.
+            // A branch after an Open leaf.
             (&[0, 1, 0, 3, 7, 1, 0, 4, 7, 7], 5, false),
             // A branch on an item that is in.
             (&[0, 1, 0, 3, 1, 0, 3, 7, 7, 7], 5, false),

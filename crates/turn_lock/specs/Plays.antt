@@ -1,4 +1,4 @@
--- What each kind of step tells its caller: of the seat before and after, and the number found.
+-- What the caller of each kind of step learns: the seat before and after, and the number found.
 use Rattle.std.specs.Prelude.{◌≡◌, ℕ, ◌%◌, ◌^◌, ◌==◌, Bool, true, List, ◌∷◌, Option, Some, MatchBool}
 use Rattle.atomic_table.specs.Table.{Me, rest}
 use Rattle.turn_lock.specs.declared.view.View.{View}
@@ -27,7 +27,8 @@ module _ {V E : Type 0} where
   abbrev pub Leaves : Me (Option V) (View E) → Me (Option V) (View E) → Type 0
   Leaves me after = after ≡ (ended_view me.0, rest me.1)
 
-  -- what the last join told, and that the places are places in what was seen
+  -- nothing changes; the two passes of the last join, if there was one, agree, and the places are
+  -- places in what was seen
   abbrev pub Learns : Me (Option V) (View E) → Me (Option V) (View E) → Type 0
   Learns me after = (after ≡ me) × ((j : BeforeJoin E) → me.0.join ≡ Some j → Agrees j) × ArePlacesIn me.0.mine me.0.seen
 

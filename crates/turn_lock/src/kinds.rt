@@ -73,7 +73,7 @@ impl<E> Join<View<E>> for Unite {
     ghost spent = { spent_view };
 }
 
-/// Tells what two passes that were joined had in common.
+/// Gives how two passes that were joined agreed.
 pub struct Learn;
 
 impl<V: Kept> Play<Option<V>, View<V::Entry>> for Learn {

@@ -67,7 +67,7 @@ not_read {E} text e h p =
     cases : (n : ℕ) → (n < 2 ^ 64) ⊎ (2 ^ 64 ≤ n)
     cases n = search rules
 
--- the span that stands for none
+-- the span of an empty name and an empty value
 abbrev pub blank : HeaderSpan
 blank = record { name = record { start = 0; end = 0 }; value = record { start = 0; end = 0 } }
 

@@ -1,4 +1,4 @@
--- What a look at a front of the bytes says of the whole.
+-- What follows for all the bytes from a look at the first of them.
 use Rattle.std.proofs.Common.{◌≡◌, ◌≢◌, ℕ, ◌+◌, ◌-◌, ◌<◌, ◌≤◌, List, [], ◌++◌, length, take, drop, refl, sym, ap, subst, ◌∙◌, arith, inl, inr, ◌⊎◌, append_assoc, append-nil, length-append, length-drop, Bool, true, false, map, codes}
 use Rattle.std.specs.Prelude.{Result, Ok, Err, slice_range, nat_lt, if◌then◌else◌}
 use Rattle.std.specs.Str.Parse.{digits_value}
@@ -63,11 +63,11 @@ pub long_seen : (kept left whole : List ℕ) (n : ℕ) → kept ++ left ≡ whol
 long_seen kept left whole n e full le x =
     (take n kept, drop n kept ++ left, seen kept left whole n e, length-take-le n kept le ∙ full, x)
 
--- nothing is left behind what is kept
+-- nothing is left after what is kept
 pub all_seen : (kept left whole : List ℕ) → kept ++ left ≡ whole → left ≡ [] → whole ≡ kept
 all_seen kept left whole e none = sym e ∙ ap (λ (l : List ℕ). kept ++ l) none ∙ append-nil kept
 
--- ---- behind the head
+-- ---- after the head
 
 abbrev chain : Bool → Bool → Bool → ℕ → Result ℕ WireFault
 chain a b c n = unless (fault_where a BadHead) (unless (fault_where b NoLength) (if c then Err BodyTooLong else Ok n))

@@ -57,7 +57,7 @@ not_short bytes m next x short =
     let l = ap (λ (b : List ℕ). length b) same.1 in
     omega (arith, size, l, x.enough, short.4)
 
--- where a message stands, there is no fault
+-- where there is a message, there is no fault
 pub no_fault : (bytes : List ℕ) (m : Message) (next : List ℕ) (f : WireFault) → IsMessage bytes m next → IsFault bytes f → ⊥
 no_fault bytes m next BadHead x (inl none) = not_without bytes x.head x.rest x.announces.head none
 no_fault bytes m next BadHead x (inr fault) = not_faulty bytes m next BadHead x fault

@@ -1,6 +1,6 @@
 //! The rows and stimuli of a problem as flat lines over its free items.
 
-/// What a line stands for.
+/// What a line represents.
 #[derive(Clone, Copy)]
 pub(crate) enum Kind {
     /// A row on items. Its multiplier is that of the low side where positive, and of the high side where negative.
@@ -71,7 +71,7 @@ impl Multiplier {
         }
     }
 
-    /// Where it comes to by a step of a length.
+    /// Its value after a step of a length.
     #[inline]
     fn moved(&self, length: i64, unit: i64) -> i64 {
         let way = length.wrapping_mul(self.direction) >> 16;
@@ -134,7 +134,7 @@ impl Line {
         }
     }
 
-    /// Takes the price that its multipliers come to, and gives the change.
+    /// Takes the price that its multipliers give, and returns the change.
     #[inline]
     pub(crate) fn reprice(&mut self) -> i64 {
         let price = rounded(self.first.scaled).wrapping_sub(rounded(self.second.scaled));

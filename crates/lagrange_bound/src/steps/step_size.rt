@@ -3,7 +3,7 @@
 /// The state of the level method.
 #[derive(Clone, Copy)]
 pub(crate) struct Level {
-    /// What the best bound is to come to.
+    /// The value that the best bound is to reach.
     pub target: i64,
     /// The best bound.
     pub best: i64,
@@ -31,7 +31,7 @@ impl Level {
         }
     }
 
-    /// Takes the bound of a step, and tells whether it is the best.
+    /// Takes the bound of a step, and returns whether it is the best.
     pub(crate) fn takes(&mut self, bound: i64) -> bool {
         let fall = self.best.wrapping_sub(bound);
         if fall > self.delta / 8 {

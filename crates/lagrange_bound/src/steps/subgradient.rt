@@ -123,7 +123,8 @@ struct Search {
 }
 
 impl Search {
-    /// Takes the items selected if they are a form that is better than what the target stands for; the target rises to it.
+    /// Takes the items selected if they are a form whose objective is above the target; the target
+    /// rises to it.
     fn take_form(&mut self, cut: &Cut, ray: bool) {
         let gain = self.flat.gain();
         if ray {
@@ -136,7 +137,7 @@ impl Search {
         }
     }
 
-    /// The bound where the multipliers stand, and the slope there.
+    /// The bound at the present multipliers, and the slope there.
     fn look(&mut self, cut: &Cut, ray: bool) -> (i64, Slope) {
         let flat = &mut self.flat;
         flat.selection.select(&mut flat.lines, &flat.weights);

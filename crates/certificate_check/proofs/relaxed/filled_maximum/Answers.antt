@@ -19,7 +19,7 @@ use Rattle.certificate_check.proofs.CapLaws.{cap_is, zeros, with_cap, without_ca
 use Rattle.certificate_check.proofs.Steps.{greatest_at_most}
 use Rattle.certificate_check.proofs.relaxed.filled_maximum.Goals as goal
 
--- what the test of the cap says of the cap
+-- the cap, from the test whether there is one
 cap_by : (v : Multipliers) (M : ℕ → ℕ) (b : Bool) → M ≡ multiplier v → IsVector 0 v → has_cap M ≡ b → cap v ≡ cond b (Some (price (multiplier v) cap_side)) None
 cap_by v M b e is test = cap_is v is ∙ ap (λ (x : Bool). cond x (Some (price (multiplier v) cap_side)) None) (ap has_cap (sym e) ∙ test)
 

@@ -4,7 +4,7 @@ use Rattle.std.proofs.lemmas.List.{take-append-drop}
 use Rattle.std.proofs.Common.{true, length-drop}
 use Rattle.exam_program.proofs.output.put.Goals as goal
 
--- a piece written on top of what stood written of it
+-- more of a piece written after what was written of it
 joined : (old mid new piece : List ℕ) (done count : ℕ) → mid ≡ old ++ take done piece → new ≡ mid ++ take count (drop done piece) → new ≡ old ++ take (done + count) piece
 joined old mid new piece done count e f = f ∙ (ap (λ (xs : List ℕ). xs ++ take count (drop done piece)) e ∙ (append_assoc old (take done piece) (take count (drop done piece)) ∙ ap (λ (xs : List ℕ). old ++ xs) (sym (take-add done count piece))))
 

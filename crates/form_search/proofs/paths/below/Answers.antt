@@ -1,4 +1,4 @@
--- Below a branch stands the state of the path that the branch makes.
+-- Below a branch there is the state of the path that the branch makes.
 use Rattle.exam_model.specs.Paths.{with_item, with_stimulus}
 use Rattle.constraint_model.specs.Views.{problem_of}
 use Rattle.form_search.proofs.paths.below.Goals as goal
