@@ -1,0 +1,5 @@
+pub mod RequestLines
+pub mod ScriptLines
+pub mod ReadLaws
+pub mod SourceLaws
+mod Rows

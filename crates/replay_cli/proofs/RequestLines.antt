@@ -1,0 +1,224 @@
+-- A line is read as a request exactly where it is that request's line.
+use Rattle.std.proofs.Common.{◌≡◌, ◌≢◌, ℕ, zero, suc, ◌^◌, ◌<◌, ◌≤◌, ◌⊎◌, inl, inr, Bool, true, false, ◌&&◌, cond, eqb, List, [], ◌∷◌, ◌++◌, length, get_or, Option, Some, None, refl, sym, ap, ap₂, subst, ◌∙◌, arith, codes}
+use Rattle.std.specs.Prelude.{nat_le}
+use Rattle.std.specs.Option.{option_map}
+use Rattle.std.specs.List.{list_all, join_with_byte}
+use Rattle.std.specs.Fmt.{decimal}
+use Rattle.std.specs.Int.{IsInRange as IsWithin}
+use Rattle.std.specs.Str.{bytes_eq}
+use Rattle.std.proofs.lemmas.Bool.{and_parts, leb-true, ne_eqb, eqb-true}
+use Rattle.std.proofs.lemmas.List.Splits.{join_with_byte-slice_split}
+use Rattle.std.proofs.lemmas.Slice.Eq.{bytes_eq-Decides}
+use Rattle.std.proofs.lemmas.Str.Parse.{digit_at}
+use Rattle.std.proofs.lemmas.Fmt.{digits_decimal}
+use Rattle.exam_text.specs.First.{◌orelse◌}
+use Rattle.exam_text.specs.Numbers.{number_of}
+use Rattle.exam_text.specs.Words.{words_of, word, spaced, Lacks, NoneHas}
+use Rattle.exam_text.proofs.Numerals.{own, number_is, number_again}
+use Rattle.exam_text.proofs.WordLaws.{words_again}
+use Rattle.history_model.specs.declared.request.Request.{Request}
+use Rattle.history_model.specs.declared.request.Request.TheVariants.{Begin, Answer, Close, Look, Exposure}
+use Rattle.replay_cli.specs.Scripts.{request_words, request_line, IsInRange}
+use Rattle.replay_cli.specs.Reading.{number_after, answer_with, answer_in, exposure_in, request_in}
+
+-- ---- no word has a space or a line feed, which come before the digits and the letters
+
+lacks_from : (c : ℕ) (w : List ℕ) → ((k : ℕ) → k < length w → get_or w k 0 ≢ c) → Lacks c w
+lacks_from c [] h k e lt = absurd (omega arith)
+lacks_from c (b ∷ bs) h zero e lt = ne_eqb b c (h 0 (omega arith))
+lacks_from c (b ∷ bs) h (suc k) e lt = lacks_from c bs (λ j lt2. h (suc j) (omega (arith, lt2))) k e (omega (arith, lt))
+
+number_lacks : (c n : ℕ) → c < 48 → n < 2 ^ 64 → Lacks c (decimal n)
+number_lacks c n low small =
+    lacks_from c (decimal n) (λ k lt same. let d : IsWithin 48 57 (get_or (decimal n) k 0) = digit_at (decimal n) k (own.to (decimal n) (digits_decimal own n small)) lt in omega (arith, d.0, same, low))
+
+name_lacks : (c : ℕ) (w : List ℕ) → c < 48 → list_all (λ b. nat_le 48 b) w ≡ true → Lacks c w
+name_lacks c [] low h k e lt = absurd (omega arith)
+name_lacks c (b ∷ bs) low h zero e lt =
+    let p = and_parts (nat_le 48 b) (list_all (λ x. nat_le 48 x) bs) h in
+    ne_eqb b c (λ same. omega (arith, low, same, leb-true 48 b p.0))
+name_lacks c (b ∷ bs) low h (suc k) e lt =
+    let p = and_parts (nat_le 48 b) (list_all (λ x. nat_le 48 x) bs) h in
+    name_lacks c bs low p.1 k e (omega (arith, lt))
+
+words_lack : (c : ℕ) → c < 48 → (r : Request) → IsInRange r → NoneHas c (request_words r)
+words_lack c low (Begin n) h = (name_lacks c (codes "begin") low refl, (number_lacks c n low (omega (arith, h)), tt))
+words_lack c low (Answer s k r) h =
+    (name_lacks c (codes "answer") low refl, (number_lacks c s low (omega (arith, h.0)), (number_lacks c k low (omega (arith, h.1)), (number_lacks c r low (omega (arith, h.2)), tt))))
+words_lack c low (Close s) h = (name_lacks c (codes "close") low refl, (number_lacks c s low (omega (arith, h)), tt))
+words_lack c low (Look s) h = (name_lacks c (codes "look") low refl, (number_lacks c s low (omega (arith, h)), tt))
+words_lack c low Exposure h = (name_lacks c (codes "exposure") low refl, tt)
+
+-- ---- what is written is read
+
+line_words : (r : Request) → IsInRange r → words_of (request_line r) ≡ request_words r
+line_words (Begin n) h = words_again (codes "begin") (decimal n ∷ []) (words_lack 32 (omega arith) (Begin n) h)
+line_words (Answer s k r) h = words_again (codes "answer") (decimal s ∷ decimal k ∷ decimal r ∷ []) (words_lack 32 (omega arith) (Answer s k r) h)
+line_words (Close s) h = words_again (codes "close") (decimal s ∷ []) (words_lack 32 (omega arith) (Close s) h)
+line_words (Look s) h = words_again (codes "look") (decimal s ∷ []) (words_lack 32 (omega arith) (Look s) h)
+line_words Exposure h = words_again (codes "exposure") [] (words_lack 32 (omega arith) Exposure h)
+
+words_read : (r : Request) → IsInRange r → request_in (request_words r) ≡ Some r
+unfolding request_in number_after answer_in exposure_in
+words_read (Begin n) h = rw (number_again 18446744073709551615 n (omega arith) h) refl
+words_read (Answer s k r) h = rw (number_again 4294967295 s (omega arith) h.0, number_again 65535 k (omega arith) h.1, number_again 255 r (omega arith) h.2) refl
+words_read (Close s) h = rw (number_again 4294967295 s (omega arith) h) refl
+words_read (Look s) h = rw (number_again 4294967295 s (omega arith) h) refl
+words_read Exposure h = refl
+
+pub line_read : (r : Request) → IsInRange r → request_in (words_of (request_line r)) ≡ Some r
+line_read r h = ap request_in (line_words r h) ∙ words_read r h
+
+-- ---- what is read is what is written
+
+one_word : (ws : List (List ℕ)) → length ws ≡ 1 → ws ≡ word ws 0 ∷ []
+one_word [] h = absurd (omega (arith, h))
+one_word (a ∷ []) h = refl
+one_word (a ∷ b ∷ ws) h = absurd (omega (arith, h))
+
+two_words : (ws : List (List ℕ)) → length ws ≡ 2 → ws ≡ word ws 0 ∷ word ws 1 ∷ []
+two_words [] h = absurd (omega (arith, h))
+two_words (a ∷ []) h = absurd (omega (arith, h))
+two_words (a ∷ b ∷ []) h = refl
+two_words (a ∷ b ∷ c ∷ ws) h = absurd (omega (arith, h))
+
+four_words : (ws : List (List ℕ)) → length ws ≡ 4 → ws ≡ word ws 0 ∷ word ws 1 ∷ word ws 2 ∷ word ws 3 ∷ []
+four_words [] h = absurd (omega (arith, h))
+four_words (a ∷ []) h = absurd (omega (arith, h))
+four_words (a ∷ b ∷ []) h = absurd (omega (arith, h))
+four_words (a ∷ b ∷ c ∷ []) h = absurd (omega (arith, h))
+four_words (a ∷ b ∷ c ∷ d ∷ []) h = refl
+four_words (a ∷ b ∷ c ∷ d ∷ e ∷ ws) h = absurd (omega (arith, h))
+
+four_are : (ws : List (List ℕ)) (a b c d : List ℕ) → length ws ≡ 4 → word ws 0 ≡ a → word ws 1 ≡ b → word ws 2 ≡ c → word ws 3 ≡ d → ws ≡ a ∷ b ∷ c ∷ d ∷ []
+four_are ws a b c d count first second third fourth = four_words ws count ∙ rw (first, second, third, fourth) refl
+
+chosen : {A : Type 0} (b : Bool) (o : Option A) (x : A) → cond b o None ≡ Some x → (b ≡ true) × (o ≡ Some x)
+chosen true o x e = (refl, e)
+chosen false o x e = absurd cc
+
+either : (a b : Option Request) (r : Request) → (a orelse b) ≡ Some r → (a ≡ Some r) ⊎ (b ≡ Some r)
+either None b r e = inr e
+either (Some x) b r e = inl e
+
+mapped : (f : ℕ → Request) (o : Option ℕ) (r : Request) → option_map f o ≡ Some r → (n : ℕ) × (o ≡ Some n) × (f n ≡ r)
+mapped f None r e = absurd cc
+mapped f (Some n) r e = (n, refl, cc)
+
+number_after_is : (name : List ℕ) (most n : ℕ) (ws : List (List ℕ)) → most < 2 ^ 64 → number_after name most ws ≡ Some n → (n ≤ most) × (ws ≡ name ∷ decimal n ∷ [])
+unfolding number_after
+number_after_is name most n ws bound e =
+    let c = chosen (eqb (length ws) 2 && bytes_eq (word ws 0) name) (number_of most (word ws 1)) n e in
+    let p = and_parts (eqb (length ws) 2) (bytes_eq (word ws 0) name) c.0 in
+    let first : word ws 0 ≡ name = (bytes_eq-Decides (word ws 0) name).0 p.1 in
+    let second = number_is most (word ws 1) n bound c.1 in
+    (second.0, two_words ws (eqb-true (length ws) 2 p.0) ∙ ap₂ (λ (x y : List ℕ). x ∷ y ∷ []) first second.1)
+
+-- the words are those of the request, whose numbers are in range
+abbrev Reads : List (List ℕ) → Request → Type 0
+Reads ws r = (ws ≡ request_words r) × IsInRange r
+
+begin_is : (ws : List (List ℕ)) (r : Request) → option_map Begin (number_after (codes "begin") 18446744073709551615 ws) ≡ Some r → Reads ws r
+begin_is ws r e =
+    let m = mapped Begin (number_after (codes "begin") 18446744073709551615 ws) r e in
+    let is = number_after_is (codes "begin") 18446744073709551615 m.0 ws (omega arith) m.1 in
+    subst (Reads ws) m.2 (is.1, is.0)
+
+close_is : (ws : List (List ℕ)) (r : Request) → option_map Close (number_after (codes "close") 4294967295 ws) ≡ Some r → Reads ws r
+close_is ws r e =
+    let m = mapped Close (number_after (codes "close") 4294967295 ws) r e in
+    let is = number_after_is (codes "close") 4294967295 m.0 ws (omega arith) m.1 in
+    subst (Reads ws) m.2 (is.1, is.0)
+
+look_is : (ws : List (List ℕ)) (r : Request) → option_map Look (number_after (codes "look") 4294967295 ws) ≡ Some r → Reads ws r
+look_is ws r e =
+    let m = mapped Look (number_after (codes "look") 4294967295 ws) r e in
+    let is = number_after_is (codes "look") 4294967295 m.0 ws (omega arith) m.1 in
+    subst (Reads ws) m.2 (is.1, is.0)
+
+-- the three numbers of an answer
+three : (a b c : Option ℕ) (r : Request) → answer_with a b c ≡ Some r → (s : ℕ) × (k : ℕ) × (x : ℕ) × (a ≡ Some s) × (b ≡ Some k) × (c ≡ Some x) × (Answer s k x ≡ r)
+three None b c r e = absurd cc
+three (Some s) None c r e = absurd cc
+three (Some s) (Some k) None r e = absurd cc
+three (Some s) (Some k) (Some x) r e = (s, k, x, refl, refl, refl, cc)
+
+answer_is : (ws : List (List ℕ)) (r : Request) → answer_in ws ≡ Some r → Reads ws r
+unfolding answer_in
+answer_is ws r e =
+    let c = chosen (eqb (length ws) 4 && bytes_eq (word ws 0) (codes "answer")) (answer_with (number_of 4294967295 (word ws 1)) (number_of 65535 (word ws 2)) (number_of 255 (word ws 3))) r e in
+    let p = and_parts (eqb (length ws) 4) (bytes_eq (word ws 0) (codes "answer")) c.0 in
+    let t = three (number_of 4294967295 (word ws 1)) (number_of 65535 (word ws 2)) (number_of 255 (word ws 3)) r c.1 in
+    let first : word ws 0 ≡ codes "answer" = (bytes_eq-Decides (word ws 0) (codes "answer")).0 p.1 in
+    let session = number_is 4294967295 (word ws 1) t.0 (omega arith) t.3 in
+    let step = number_is 65535 (word ws 2) t.1 (omega arith) t.4 in
+    let response = number_is 255 (word ws 3) t.2 (omega arith) t.5 in
+    let four = four_are ws (codes "answer") (decimal t.0) (decimal t.1) (decimal t.2) (eqb-true (length ws) 4 p.0) first session.1 step.1 response.1 in
+    subst (Reads ws) t.6 (four, (session.0, step.0, response.0))
+
+exposure_is : (ws : List (List ℕ)) (r : Request) → exposure_in ws ≡ Some r → Reads ws r
+unfolding exposure_in
+exposure_is ws r e =
+    let c = chosen (eqb (length ws) 1 && bytes_eq (word ws 0) (codes "exposure")) (Some Exposure) r e in
+    let p = and_parts (eqb (length ws) 1) (bytes_eq (word ws 0) (codes "exposure")) c.0 in
+    let first : word ws 0 ≡ codes "exposure" = (bytes_eq-Decides (word ws 0) (codes "exposure")).0 p.1 in
+    let same : Exposure ≡ r = some_is Exposure r c.1 in
+    subst (Reads ws) same (one_word ws (eqb-true (length ws) 1 p.0) ∙ ap (λ (x : List ℕ). x ∷ []) first, tt)
+  where
+    some_is : (a b : Request) → Some a ≡ Some b → a ≡ b
+    some_is a b e = cc
+
+words_are : (ws : List (List ℕ)) (r : Request) → request_in ws ≡ Some r → Reads ws r
+unfolding request_in
+words_are ws r e = elim (either _ _ r e) [
+  | inl a ↦ begin_is ws r a
+  | inr e1 ↦ elim (either _ _ r e1) [
+    | inl a ↦ answer_is ws r a
+    | inr e2 ↦ elim (either _ _ r e2) [
+      | inl a ↦ close_is ws r a
+      | inr e3 ↦ elim (either _ _ r e3) [
+        | inl a ↦ look_is ws r a
+        | inr a ↦ exposure_is ws r a
+      ]
+    ]
+  ]
+]
+
+joined : (ws : List (List ℕ)) → join_with_byte 32 ws ≡ spaced ws
+joined [] = refl
+joined (w ∷ []) = refl
+joined (w ∷ v ∷ vs) = ap (λ (xs : List ℕ). w ++ 32 ∷ xs) (joined (v ∷ vs))
+
+pub line_is : (line : List ℕ) (r : Request) → request_in (words_of line) ≡ Some r → (line ≡ request_line r) × IsInRange r
+line_is line r e =
+    let is = words_are (words_of line) r e in
+    (sym (join_with_byte-slice_split 32 line) ∙ joined (words_of line) ∙ ap spaced is.0, is.1)
+
+-- ---- what the lines of a script need
+
+line_lacks_from : (w : List ℕ) (ws : List (List ℕ)) → NoneHas 10 (w ∷ ws) → Lacks 10 (spaced (w ∷ ws))
+line_lacks_from w [] h = h.0
+line_lacks_from w (v ∷ vs) h = lacks_append w (32 ∷ spaced (v ∷ vs)) h.0 (lacks_cons 32 (spaced (v ∷ vs)) refl (line_lacks_from v vs h.1))
+  where
+    lacks_cons : (b : ℕ) (bs : List ℕ) → eqb b 10 ≡ false → Lacks 10 bs → Lacks 10 (b ∷ bs)
+    lacks_cons b bs h g zero e lt = h
+    lacks_cons b bs h g (suc k) e lt = g k e (omega (arith, lt))
+
+    lacks_append : (a b : List ℕ) → Lacks 10 a → Lacks 10 b → Lacks 10 (a ++ b)
+    lacks_append [] b h g k e lt = g k e lt
+    lacks_append (x ∷ xs) b h g zero e lt = h 0 e (omega arith)
+    lacks_append (x ∷ xs) b h g (suc k) e lt = lacks_append xs b (λ j d lt2. h (suc j) d (omega (arith, lt2))) g k e (omega (arith, lt))
+
+pub line_lacks : (r : Request) → IsInRange r → Lacks 10 (request_line r)
+line_lacks (Begin n) h = line_lacks_from (codes "begin") (decimal n ∷ []) (words_lack 10 (omega arith) (Begin n) h)
+line_lacks (Answer s k r) h = line_lacks_from (codes "answer") (decimal s ∷ decimal k ∷ decimal r ∷ []) (words_lack 10 (omega arith) (Answer s k r) h)
+line_lacks (Close s) h = line_lacks_from (codes "close") (decimal s ∷ []) (words_lack 10 (omega arith) (Close s) h)
+line_lacks (Look s) h = line_lacks_from (codes "look") (decimal s ∷ []) (words_lack 10 (omega arith) (Look s) h)
+line_lacks Exposure h = line_lacks_from (codes "exposure") [] (words_lack 10 (omega arith) Exposure h)
+
+pub line_some : (r : Request) → 0 < length (request_line r)
+line_some (Begin n) = omega arith
+line_some (Answer s k r) = omega arith
+line_some (Close s) = omega arith
+line_some (Look s) = omega arith
+line_some Exposure = omega arith

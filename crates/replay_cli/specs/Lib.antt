@@ -1,0 +1,4 @@
+pub mod Scripts
+pub mod Reading
+pub mod Replies
+pub mod Texts

@@ -1,0 +1,150 @@
+//! The requests of a script.
+
+ghost use Rattle.std.specs.Prelude.{◌≡◌, ℕ, ◌⊎◌, ◌<◌, ◌≤◌, List, [], length, map, codes, IsTrue, IfOk, IfErr, IfSome};
+ghost use Rattle.exam_edge.specs.Faults.{Rose};
+ghost use Rattle.exam_text.specs.First.{Gives, or_fault};
+ghost use Rattle.exam_text.specs.Words.{lines_of, words_of};
+ghost use Rattle.history_model.specs.declared.request.Request.{Request};
+ghost use Rattle.replay_cli.specs.Scripts.{IsScript};
+ghost use Rattle.replay_cli.specs.Reading.{number_after, answer_in, exposure_in, request_in, requests_of, most_bytes, IsScriptFault, IsOfText};
+ghost use Rattle.replay_cli.specs.declared.script_fault.ScriptFault.TheVariants as fault;
+
+use crate::script_fault::ScriptFault;
+use exam_edge::Source;
+use exam_text::{lines_of, number, word_at, words_of};
+use history_model::Request;
+use std::alloc::Global;
+use text_source::{TextFault, text_of};
+
+/// The greatest number of a session.
+const MOST_SESSION: u64 = 4_294_967_295;
+
+#[tactic(auto, unfolding(crate::specs::Reading::number_after))]
+fn number_after(name: &[u8], most: u64, words: &[&[u8]]) -> Option<u64>
+    ensures value { result ≡ number_after name.now most (map (λ w. w.now) words.now) }
+    ensures most { IfSome result (λ n. n ≤ most) }
+{
+    if words.len() != 2 || word_at(words, 0) != name {
+        return None;
+    }
+    number(word_at(words, 1), most)
+}
+
+#[tactic(auto, unfolding(crate::specs::Reading::answer_in))]
+fn answer_in(words: &[&[u8]]) -> Option<Request>
+    ensures { result ≡ answer_in (map (λ w. w.now) words.now) }
+{
+    if words.len() != 4 || word_at(words, 0) != b"answer".as_slice() {
+        return None;
+    }
+    let session = number(word_at(words, 1), MOST_SESSION)?;
+    let step = number(word_at(words, 2), 65_535)?;
+    let response = number(word_at(words, 3), 255)?;
+    Some(Request::Answer {
+        session: session as u32,
+        step: step as u16,
+        response: response as u8,
+    })
+}
+
+#[tactic(auto, unfolding(crate::specs::Reading::exposure_in))]
+fn exposure_in(words: &[&[u8]]) -> Option<Request>
+    ensures { result ≡ exposure_in (map (λ w. w.now) words.now) }
+{
+    if words.len() != 1 || word_at(words, 0) != b"exposure".as_slice() {
+        return None;
+    }
+    Some(Request::Exposure)
+}
+
+/// The request of the words of a line.
+#[tactic(auto, unfolding(crate::specs::Reading::request_in))]
+fn request_in(words: &[&[u8]]) -> Option<Request>
+    ensures { result ≡ request_in (map (λ w. w.now) words.now) }
+{
+    if let Some(booking) = number_after(b"begin", u64::MAX, words) {
+        return Some(Request::Begin(booking));
+    }
+    if let Some(answer) = answer_in(words) {
+        return Some(answer);
+    }
+    if let Some(session) = number_after(b"close", MOST_SESSION, words) {
+        return Some(Request::Close(session as u32));
+    }
+    if let Some(session) = number_after(b"look", MOST_SESSION, words) {
+        return Some(Request::Look(session as u32));
+    }
+    exposure_in(words)
+}
+
+/// The request of a line, whose number counts from 1.
+fn request_of(alloc: Global, number: u64, line: &[u8]) -> Result<Request, ScriptFault>
+    ensures { Gives fault.Memory (λ r. r) result
+        (or_fault (request_in (words_of line.now)) (fault.Line number)) }
+{
+    let words = words_of(alloc, line)?;
+    request_in(&words).ok_or(ScriptFault::Line(number))
+}
+
+/// The requests of lines.
+#[tactic(auto, unfolding(crate::specs::Reading::requests_of))]
+fn requests_of(alloc: Global, lines: &[&[u8]]) -> Result<Vec<Request>, ScriptFault>
+    ensures { Gives fault.Memory (λ v. v.items) result
+        (requests_of (map (λ w. w.now) lines.now)) }
+{
+    let mut requests = Vec::new(alloc);
+    for i in 0..lines.len() {
+        requests.push(request_of(alloc, i as u64 + 1, word_at(lines, i))?)?;
+    }
+    Ok(requests)
+}
+
+/// The requests of a text.
+fn requests_in(alloc: Global, text: &[u8]) -> Result<Vec<Request>, ScriptFault>
+    ensures { Gives fault.Memory (λ v. v.items) result (requests_of (lines_of text.now)) }
+{
+    let lines = lines_of(alloc, text)?;
+    requests_of(alloc, &lines)
+}
+
+/// The requests of the script that a source gives, in order. A script has a line for each request:
+/// `begin B`, `answer S K R`, `close S`, `look S` or `exposure`, with B a booking, S a session, K a
+/// step and R a response. The last line may lack its line feed. The text has at most 16,777,216
+/// bytes and is read to its end. Of several faulty lines the first is named. `Source` is given only
+/// if the source's count of faults rose.
+pub fn read_script<S: Source>(alloc: Global, source: &mut S) -> Result<Vec<Request>, ScriptFault>
+    ensures found { IfOk result (λ v. IsTrue (S.tells source.old)
+        → IsScript (S.left source.old) v.items) }
+    ensures within { IfOk result (λ _. IsTrue (S.tells source.old)
+        → length (S.left source.old) ≤ most_bytes) }
+    ensures whole { IfOk result (λ _. IsTrue (S.tells source.old) → S.left source.new ≡ []) }
+    ensures fault { IfErr result (λ e. IsTrue (S.tells source.old)
+        → IsScriptFault (S.left source.old) e) }
+    // A script that is not too long is read.
+    ensures only { IfErr result (λ e. IsTrue (S.tells source.old)
+        → length (S.left source.old) ≤ most_bytes
+        → (requests : List Request) → IsScript (S.left source.old) requests
+        → (e ≡ fault.Memory) ⊎ (e ≡ fault.Source)) }
+    ensures failed { IfErr result (λ e. e ≡ fault.Source
+        → Rose (S.faults source.old) (S.faults source.new)) }
+
+    // Requests, and what refuses a text, are answers only where there is something to read.
+    ensures there { IfOk result (λ _. IsTrue (S.tells source.old)
+        → IsTrue (S.there source.old)) }
+    ensures there_refused { IfErr result (λ e. IsOfText e → IsTrue (S.tells source.old)
+        → IsTrue (S.there source.old)) }
+    ensures has { IsTrue (S.tells source.old)
+        → (name : List ℕ) → S.has source.new name ≡ S.has source.old name }
+    ensures beside { IsTrue (S.tells source.old)
+        → (name : List ℕ) → S.beside source.new name ≡ S.beside source.old name }
+    ensures grows { S.faults source.old ≤ S.faults source.new }
+    ensures tells { S.tells source.new ≡ S.tells source.old }
+    ensures identity { S.identity source.new ≡ S.identity source.old }
+{
+    match text_of(alloc, source, 16_777_216) {
+        Ok(text) => requests_in(alloc, &text),
+        Err(TextFault::Source) => Err(ScriptFault::Source),
+        Err(TextFault::TooLong) => Err(ScriptFault::TooLong),
+        Err(TextFault::Memory) => Err(ScriptFault::Memory),
+    }
+}
