@@ -1,7 +1,8 @@
-//! Tests of the readers of banks and plans: texts, their faults with their places, and sources that fail. It promises
-//! nothing upward and holds no code of the product.
+//! Tests of the readers of banks, plans and scripts: texts, their faults with their places, and sources that fail; and of the
+//! lines of replies. It promises nothing upward and has no code of the product.
 #![tactic(auto)]
 
 #[cfg(test)]
 mod bank;
 mod plan;
+mod script;
