@@ -1,6 +1,6 @@
 //! The relaxed maximum: an upper bound on the objective of each form on a path.
 
-ghost use Rattle.std.specs.Prelude.{◌≡◌, ℕ, suc, ◌+◌, ◌*◌, ◌<◌, ◌≤◌, ◌+ℤ◌, pos, Bool, All, true, length, slice_index};
+ghost use Rattle.std.specs.Prelude.{◌≡◌, ℕ, suc, ◌+◌, ◌*◌, ◌<◌, ◌≤◌, ◌+ℤ◌, pos, Bool, All, IsTrue, true, length, slice_index};
 ghost use Rattle.std.specs.Int.{int_max};
 ghost use Rattle.bank_tables.specs.Items.{has};
 ghost use Rattle.bank_tables.specs.Sums.{total_z};
@@ -13,8 +13,8 @@ ghost use Rattle.constraint_model.specs.Views.{problem_of};
 ghost use Rattle.certificate_check.specs.Cuts.{path_of, IsStanding};
 ghost use Rattle.certificate_check.specs.Maximum.{IsMaximum, gain_of_stimulus};
 ghost use Rattle.exam_model.specs.Ranges.{AreMultipliers, IsWithin, at};
-ghost use Rattle.exam_model.specs.Weights.{stimulus_share};
-ghost use Rattle.certificate_check.specs.Caps.{AreCapped};
+ghost use Rattle.exam_model.specs.Weights.{item_weight, stimulus_share};
+ghost use Rattle.certificate_check.specs.Caps.{has_cap, AreCapped};
 ghost use Rattle.certificate_check.specs.Weights.{item_top, stimulus_top, excess_top, gain_top, maximum_top};
 
 use crate::activity::size_in;
@@ -110,6 +110,30 @@ fn value_with(
     rows_constant(problem, sides) + ((taken + free) + gains(problem, standing, sides, excesses))
 }
 
+/// The relaxed maximum of a vector that has a cap, from the weights of its items without the cap. A function clears its arrays
+/// when it is called; these are here, so that a vector without a cap does not pay for them.
+fn capped_maximum(
+    problem: &Problem,
+    standing: &Standing,
+    sides: &[u32; 386],
+    weights: &[i64; 512],
+    k: u32,
+) -> i64
+    requires well_made { IsWellMade (problem_of problem.now) }
+    requires standing { IsStanding (problem_of problem.now) standing.now }
+    requires sides { AreMultipliers (slice_index sides.now) }
+    requires cap { IsTrue (has_cap (slice_index sides.now)) }
+    requires within { (i : ℕ) → i < size problem.now.bank.now → IsWithin item_top (at weights.now i) }
+    requires enough { k ≤ size_in problem.now.bank.now (has standing.now.free) }
+    requires fills { size_in problem.now.bank.now (has standing.now.cut.taken) + k ≡ problem.now.spec.now.length }
+    ensures within { IsWithin maximum_top result }
+    ensures maximum { (v : Multipliers) (ray : Bool) → IsVector 0 v → slice_index sides.now ≡ multiplier v → ((i : ℕ) → i < size problem.now.bank.now → at weights.now i ≡ item_weight (problem_of problem.now) (multiplier v) ray i) → IsRelaxedMaximum (problem_of problem.now) (path_of standing.now.cut) v ray result }
+{
+    let capped = capped_weights(problem, standing, sides, weights);
+    let excesses = excesses_of(problem, standing, sides, weights);
+    value_with(problem, standing, sides, &capped, &excesses, k)
+}
+
 /// The relaxed maximum where so many free items fill the test.
 fn filled_maximum(
     problem: &Problem,
@@ -131,9 +155,7 @@ fn filled_maximum(
     if !has_cap(&sides) {
         return value_with(problem, standing, &sides, &weights, &[0; 64], k);
     }
-    let capped = capped_weights(problem, standing, &sides, &weights);
-    let excesses = excesses_of(problem, standing, &sides, &weights);
-    value_with(problem, standing, &sides, &capped, &excesses, k)
+    capped_maximum(problem, standing, &sides, &weights, k)
 }
 
 /// The relaxed maximum on a path; None where the length is impossible there.
