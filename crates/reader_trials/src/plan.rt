@@ -162,7 +162,7 @@ mod tests {
     }
 
     #[test]
-    fn the_first_faulty_line_is_told(rt: HostRuntime) -> Result<(), Fail> {
+    fn the_first_faulty_line_is_named(rt: HostRuntime) -> Result<(), Fail> {
         let alloc = rt.alloc();
         let bank = bank_q(alloc)?;
         for (text, fault) in [
@@ -217,7 +217,7 @@ mod tests {
     }
 
     #[test]
-    fn then_the_faults_of_the_plan_in_their_order(rt: HostRuntime) -> Result<(), Fail> {
+    fn faults_of_the_plan_come_in_order(rt: HostRuntime) -> Result<(), Fail> {
         let alloc = rt.alloc();
         let bank = bank_a(alloc)?;
         for (text, fault) in [
@@ -257,7 +257,7 @@ mod tests {
     }
 
     #[test]
-    fn a_source_that_fails_is_told(rt: HostRuntime) -> Result<(), Fail> {
+    fn a_failing_source_is_a_fault(rt: HostRuntime) -> Result<(), Fail> {
         let alloc = rt.alloc();
         let bank = bank_a(alloc)?;
         let mut fails = Vec::new(alloc);
