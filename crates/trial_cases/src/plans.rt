@@ -1,5 +1,9 @@
 //! The worked plans.
 
+ghost use Rattle.std.specs.Prelude.{◌≡◌, IfOk};
+ghost use Rattle.exam_model.proofs.BankA.{plan_a};
+ghost use Rattle.trial_cases.specs.Plans.{plan_of};
+
 use crate::sets::set_of;
 use bank_tables::List;
 use exam_model::{Draft, Rate, Row, StimulusBound};
@@ -22,13 +26,16 @@ pub const PLAN_L: &str =
     "length 20\nprior 0 0 0 0 0 0 0\ncount 2 2 0-9\ncount 2 2 10-19\ncount 2 2 20-29\ncount 2 2 30-39\ncount 2 2 40-49\ncount 2 2 50-59\ncount 2 2 60-69\ncount 2 2 70-79\ncount 1 1 80-89\ncount 1 1 90-99\ncount 1 1 100-109\ncount 1 1 110-119\nenemies 9 19\nenemies 29 39\nenemies 49 59\nenemies 69 79\nquantity 0 0 1300 0-119\nstimuli 0 6\nstimulus 1 2 2\nstimulus 2 2 2\nstimulus 3 2 2\nstimulus 4 2 2\nstimulus 5 2 2\nstimulus 6 2 2\n";
 
 /// A draft of these numbers, with every other number as where no line names it.
+#[tactic(auto, unfolding(crate::specs::Plans::plan_of))]
 pub fn draft_of(
     alloc: Global,
     length: u32,
     prior: &[i32],
     rows: &[Row],
     bounds: &[StimulusBound],
-) -> Result<Draft, AllocError> {
+) -> Result<Draft, AllocError>
+    ensures { IfOk result (λ d. d ≡ plan_of length prior.now rows.now bounds.now) }
+{
     Ok(Draft {
         length,
         prior: List::of(prior.to_vec(alloc)?),
@@ -45,7 +52,9 @@ pub fn draft_of(
 }
 
 /// The draft of plan A.
-pub fn draft_a(alloc: Global) -> Result<Draft, AllocError> {
+pub fn draft_a(alloc: Global) -> Result<Draft, AllocError>
+    ensures { IfOk result (λ d. d ≡ plan_a) }
+{
     let rows = [
         Row::Count {
             set: set_of(&[0, 1]),

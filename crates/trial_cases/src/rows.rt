@@ -1,6 +1,11 @@
 //! The rows of the worked banks. Each item has two response categories.
 
-ghost use Rattle.std.specs.Prelude.{◌<◌};
+ghost use Rattle.std.specs.Prelude.{◌≡◌, ◌<◌, IfOk, map};
+ghost use Rattle.exam_model.proofs.BankA.{bank_a};
+ghost use Rattle.exam_model.proofs.BankS.{bank_s};
+ghost use Rattle.exam_model.proofs.BankE.{bank_e};
+ghost use Rattle.exam_model.proofs.BankQ.{bank_q};
+ghost use Rattle.trial_cases.specs.Rows.{two_categories, points_l, stimulus_l, info_l, loglik_l, item_l, bank_l};
 
 use bank_tables::{ItemRow, List, Rows};
 use std::alloc::{AllocError, Global};
@@ -12,7 +17,9 @@ pub fn item(
     quantities: &[u32],
     info: &[u32],
     loglik: &[i32],
-) -> Result<ItemRow, AllocError> {
+) -> Result<ItemRow, AllocError>
+    ensures { IfOk result (λ r. r ≡ two_categories stimulus quantities.now info.now loglik.now) }
+{
     Ok(ItemRow {
         stimulus,
         categories: 2,
@@ -23,7 +30,9 @@ pub fn item(
 }
 
 /// The rows of items on a grid of so many points, with so many quantities.
-pub fn rows_of(grid: u32, quantities: u32, items: Vec<ItemRow>) -> Rows {
+pub fn rows_of(grid: u32, quantities: u32, items: Vec<ItemRow>) -> Rows
+    ensures { result ≡ record { grid = grid; quantities = quantities; items = items.items } }
+{
     Rows {
         grid,
         quantities,
@@ -32,7 +41,10 @@ pub fn rows_of(grid: u32, quantities: u32, items: Vec<ItemRow>) -> Rows {
 }
 
 /// Bank A: six items without stimulus, three points.
-pub fn rows_a(alloc: Global) -> Result<Rows, AllocError> {
+#[tactic(auto, unfolding(exam_model::proofs::BankA::bank_a, exam_model::proofs::BankA::item_a, exam_model::proofs::BankA::sevens))]
+pub fn rows_a(alloc: Global) -> Result<Rows, AllocError>
+    ensures { IfOk result (λ b. b ≡ bank_a) }
+{
     let flat = [-7i32, -7, -7, -7, -7, -7];
     let mut items = Vec::new(alloc);
     items.push(item(alloc, 0, &[], &[9, 5, 1], &flat)?)?;
@@ -45,7 +57,10 @@ pub fn rows_a(alloc: Global) -> Result<Rows, AllocError> {
 }
 
 /// Bank S: five items, two points; items 0, 1 and 2 have stimulus 1.
-pub fn rows_s(alloc: Global) -> Result<Rows, AllocError> {
+#[tactic(auto, unfolding(exam_model::proofs::BankS::bank_s, exam_model::proofs::BankS::item_s, exam_model::proofs::BankS::ones))]
+pub fn rows_s(alloc: Global) -> Result<Rows, AllocError>
+    ensures { IfOk result (λ b. b ≡ bank_s) }
+{
     let flat = [-1i32, -1, -1, -1];
     let mut items = Vec::new(alloc);
     items.push(item(alloc, 1, &[], &[9, 1], &flat)?)?;
@@ -57,47 +72,113 @@ pub fn rows_s(alloc: Global) -> Result<Rows, AllocError> {
 }
 
 /// Bank E: five items without stimulus, one point.
-pub fn rows_e(alloc: Global) -> Result<Rows, AllocError> {
+#[tactic(auto, unfolding(exam_model::proofs::BankE::bank_e, exam_model::proofs::BankE::item_e))]
+pub fn rows_e(alloc: Global) -> Result<Rows, AllocError>
+    ensures { IfOk result (λ b. b ≡ bank_e) }
+{
+    let flat = [-1i32, -1];
     let mut items = Vec::new(alloc);
-    for info in [10u32, 9, 8, 2, 1] {
-        items.push(item(alloc, 0, &[], &[info], &[-1, -1])?)?;
-    }
+    items.push(item(alloc, 0, &[], &[10], &flat)?)?;
+    items.push(item(alloc, 0, &[], &[9], &flat)?)?;
+    items.push(item(alloc, 0, &[], &[8], &flat)?)?;
+    items.push(item(alloc, 0, &[], &[2], &flat)?)?;
+    items.push(item(alloc, 0, &[], &[1], &flat)?)?;
     Ok(rows_of(1, 0, items))
 }
 
 /// Bank Q: four items without stimulus, one point; each has 10 of the one quantity.
-pub fn rows_q(alloc: Global) -> Result<Rows, AllocError> {
+#[tactic(auto, unfolding(exam_model::proofs::BankQ::bank_q, exam_model::proofs::BankQ::item_q))]
+pub fn rows_q(alloc: Global) -> Result<Rows, AllocError>
+    ensures { IfOk result (λ b. b ≡ bank_q) }
+{
+    let flat = [-1i32, -1];
     let mut items = Vec::new(alloc);
-    for _ in 0..4u32 {
-        items.push(item(alloc, 0, &[10], &[5], &[-1, -1])?)?;
-    }
+    items.push(item(alloc, 0, &[10], &[5], &flat)?)?;
+    items.push(item(alloc, 0, &[10], &[5], &flat)?)?;
+    items.push(item(alloc, 0, &[10], &[5], &flat)?)?;
+    items.push(item(alloc, 0, &[10], &[5], &flat)?)?;
     Ok(rows_of(1, 1, items))
 }
 
-/// Item `i` of bank L: of each ten of the first sixty, two have a stimulus.
-fn item_of_l(alloc: Global, i: u32) -> Result<ItemRow, AllocError>
-    requires { i < 120 }
+/// The stimulus of an item of bank L.
+fn stimulus_l(i: u32) -> u32
+    ensures { result ≡ stimulus_l i }
 {
     let (ten, rest) = (i / 10, i % 10);
-    let stimulus = if ten < 6 && rest < 2 { ten + 1 } else { 0 };
-    let mut info = Vec::new(alloc);
-    let mut loglik = Vec::new(alloc);
-    for g in 0..7u32 {
-        info.push(500 * (11 - ten) + 100 * (9 - rest) + 3 * ((i + g) % 7))?;
-    }
-    for r in 0..2u32 {
-        for g in 0..7u32 {
-            loglik.push(-(1 + ((7 * i + 3 * r + 5 * g) % 11) as i32))?;
-        }
-    }
-    item(alloc, stimulus, &[60], &info, &loglik)
+    if ten < 6 && rest < 2 { ten + 1 } else { 0 }
+}
+
+/// The information of an item of bank L at a point.
+fn info_l(i: u32, point: u32) -> u32
+    requires item { i < 120 }
+    requires point { point < 7 }
+    ensures { result ≡ info_l i point }
+{
+    500 * (11 - i / 10) + 100 * (9 - i % 10) + 3 * ((i + point) % 7)
+}
+
+/// The log-likelihood of a response to an item of bank L at a point.
+fn loglik_l(i: u32, response: u32, point: u32) -> i32
+    requires item { i < 120 }
+    requires response { response < 2 }
+    requires point { point < 7 }
+    ensures { result ≡ loglik_l i response point }
+{
+    -(1 + ((7 * i + 3 * response + 5 * point) % 11) as i32)
+}
+
+/// The information of an item of bank L at each point.
+fn infos_l(i: u32) -> [u32; 7]
+    requires { i < 120 }
+    ensures { result ≡ map (info_l i) points_l }
+{
+    [
+        info_l(i, 0),
+        info_l(i, 1),
+        info_l(i, 2),
+        info_l(i, 3),
+        info_l(i, 4),
+        info_l(i, 5),
+        info_l(i, 6),
+    ]
+}
+
+/// The log-likelihood of a response to an item of bank L at each point.
+fn logliks_l(i: u32, response: u32) -> [i32; 7]
+    requires item { i < 120 }
+    requires response { response < 2 }
+    ensures { result ≡ map (loglik_l i response) points_l }
+{
+    [
+        loglik_l(i, response, 0),
+        loglik_l(i, response, 1),
+        loglik_l(i, response, 2),
+        loglik_l(i, response, 3),
+        loglik_l(i, response, 4),
+        loglik_l(i, response, 5),
+        loglik_l(i, response, 6),
+    ]
+}
+
+/// Item `i` of bank L.
+#[tactic(auto, unfolding(crate::specs::Rows::item_l))]
+fn item_l(alloc: Global, i: u32) -> Result<ItemRow, AllocError>
+    requires { i < 120 }
+    ensures { IfOk result (λ r. r ≡ item_l i) }
+{
+    let mut loglik = logliks_l(i, 0).to_vec(alloc)?;
+    loglik.extend_from_slice(&logliks_l(i, 1))?;
+    item(alloc, stimulus_l(i), &[60], &infos_l(i), &loglik)
 }
 
 /// Bank L: 120 items, seven points, one quantity, six stimuli.
-pub fn rows_l(alloc: Global) -> Result<Rows, AllocError> {
+#[tactic(auto, unfolding(crate::specs::Rows::bank_l))]
+pub fn rows_l(alloc: Global) -> Result<Rows, AllocError>
+    ensures { IfOk result (λ b. b ≡ bank_l) }
+{
     let mut items = Vec::new(alloc);
     for i in 0..120u32 {
-        items.push(item_of_l(alloc, i)?)?;
+        items.push(item_l(alloc, i)?)?;
     }
     Ok(rows_of(7, 1, items))
 }
