@@ -1,23 +1,14 @@
--- A set of items, one item after another, and its words.
-use Rattle.std.proofs.Common.{◌≡◌, ℕ, zero, suc, ◌^◌, ◌<◌, ◌≤◌, inl, inr, Bool, true, false, ◌&&◌, ◌||◌, ◌==◌, List, [], ◌∷◌, length, get_or, nat_lt, refl, sym, ap, ◌∙◌, arith}
+-- The words of a set of items.
+use Rattle.std.proofs.Common.{◌≡◌, ℕ, zero, suc, ◌^◌, ◌<◌, ◌≤◌, inl, inr, Bool, true, false, ◌&&◌, ◌||◌, ◌==◌, List, [], ◌∷◌, get_or, nat_lt, refl, sym, ap, ◌∙◌, arith}
 use Rattle.std.proofs.Math.Dec.{lit≤}
-use Rattle.std.proofs.Math.Bool.{true≢false}
-use Rattle.std.proofs.lemmas.Bool.{cases_lt, lt-ltb, le-ltb, eq-eqb, ltb-true}
-use Rattle.std.proofs.lemmas.Bool.Decides.{eqb_tells}
+use Rattle.std.proofs.lemmas.Bool.{cases_lt, lt-ltb}
 use Rattle.std.specs.List.{list_all}
 use Rattle.std.specs.Prelude.{nat_le}
 use Rattle.bank_tables.specs.Items.{has, AreWords}
 use Rattle.bank_tables.proofs.Bits.{same_sets}
 use Rattle.exam_model.proofs.Computed.{these, these_below, one_word, word_below}
 
--- ---- one item more
-pub taken : (i x : ℕ) (old : Bool) → x < 512 → (i == x || (nat_lt i 512 && old)) ≡ (nat_lt i 512 && (old || x == i))
-taken i x old small = grind arith
-
-pub left_out : (i x : ℕ) (old : Bool) → 512 ≤ x → (nat_lt i 512 && old) ≡ (nat_lt i 512 && (old || x == i))
-left_out i x old large = grind arith
-
--- ---- the words of a set of items below n, which is at most 64
+-- ---- a set of items below n, which is at most 64
 are_words : (word : ℕ) → word < 2 ^ 64 → AreWords (one_word word)
 are_words word small = record { eight = refl; small = each }
   where

@@ -1,6 +1,9 @@
 //! The texts of the worked banks.
 
-use bank_tables::Rows;
+ghost use Rattle.std.specs.Prelude.{◌≡◌, ◌++◌, IfOk, OnOk, string_bytes};
+ghost use Rattle.trial_cases.specs.Texts.{columns, fields, signed_fields, header, line, text_of};
+
+use bank_tables::{ItemRow, Rows};
 use std::alloc::{AllocError, Global};
 
 /// The text of bank A.
@@ -13,39 +16,75 @@ pub const BANK_A: &str = "item,stimulus,categories,i0,i1,i2,l0_0,l0_1,l0_2,l1_0,
 5,0,2,3,7,5,-7,-7,-7,-7,-7,-7
 ";
 
-fn push_header(alloc: Global, text: &mut String, rows: &Rows) -> Result<(), AllocError> {
-    text.push_str("item,stimulus,categories")?;
-    for q in 0..rows.quantities {
-        text.push_str(&format!(in alloc; ",q{q}")?)?;
+/// Adds the names of so many columns.
+fn push_columns(alloc: Global, text: &mut String, name: &str, count: u32) -> Result<(), AllocError>
+    ensures { OnOk result
+        (string_bytes text.new ≡ string_bytes text.old ++ columns name.now count) }
+{
+    for k in 0..count {
+        text.push_str(&format!(in alloc; ",{name}{k}")?)?;
     }
-    for g in 0..rows.grid {
-        text.push_str(&format!(in alloc; ",i{g}")?)?;
+    Ok(())
+}
+
+/// Adds numbers, each after a comma.
+fn push_fields(alloc: Global, text: &mut String, numbers: &[u32]) -> Result<(), AllocError>
+    ensures { OnOk result (string_bytes text.new ≡ string_bytes text.old ++ fields numbers.now) }
+{
+    for n in numbers {
+        text.push_str(&format!(in alloc; ",{n}")?)?;
     }
-    for r in 0..2u32 {
-        for g in 0..rows.grid {
-            text.push_str(&format!(in alloc; ",l{r}_{g}")?)?;
-        }
+    Ok(())
+}
+
+/// Adds signed numbers, each after a comma.
+fn push_signed(alloc: Global, text: &mut String, numbers: &[i32]) -> Result<(), AllocError>
+    ensures { OnOk result
+        (string_bytes text.new ≡ string_bytes text.old ++ signed_fields numbers.now) }
+{
+    for n in numbers {
+        text.push_str(&format!(in alloc; ",{n}")?)?;
     }
-    text.push_str("\n")
+    Ok(())
+}
+
+/// The first line.
+#[tactic(auto, unfolding(crate::specs::Texts::header))]
+fn header(alloc: Global, rows: &Rows) -> Result<String, AllocError>
+    ensures { IfOk result (λ text. string_bytes text ≡ header rows.now) }
+{
+    let mut text = String::from_str(alloc, "item,stimulus,categories")?;
+    push_columns(alloc, &mut text, "q", rows.quantities)?;
+    push_columns(alloc, &mut text, "i", rows.grid)?;
+    push_columns(alloc, &mut text, "l0_", rows.grid)?;
+    push_columns(alloc, &mut text, "l1_", rows.grid)?;
+    text.push_str("\n")?;
+    Ok(text)
+}
+
+/// The line of item `i`.
+#[tactic(auto, unfolding(crate::specs::Texts::line))]
+fn line(alloc: Global, i: usize, row: &ItemRow) -> Result<String, AllocError>
+    ensures { IfOk result (λ text. string_bytes text ≡ line i row.now) }
+{
+    let stimulus = row.stimulus;
+    let mut text = format!(in alloc; "{i},{stimulus},2")?;
+    push_fields(alloc, &mut text, row.quantities.as_slice())?;
+    push_fields(alloc, &mut text, row.info.as_slice())?;
+    push_signed(alloc, &mut text, row.loglik.as_slice())?;
+    text.push_str("\n")?;
+    Ok(text)
 }
 
 /// The text of rows whose items have two response categories.
-pub fn bank_text(alloc: Global, rows: &Rows) -> Result<String, AllocError> {
-    let mut text = String::new(alloc);
-    push_header(alloc, &mut text, rows)?;
-    for (i, row) in rows.items.as_slice().iter().enumerate() {
-        let stimulus = row.stimulus;
-        text.push_str(&format!(in alloc; "{i},{stimulus},2")?)?;
-        for n in row.quantities.as_slice() {
-            text.push_str(&format!(in alloc; ",{n}")?)?;
-        }
-        for n in row.info.as_slice() {
-            text.push_str(&format!(in alloc; ",{n}")?)?;
-        }
-        for n in row.loglik.as_slice() {
-            text.push_str(&format!(in alloc; ",{n}")?)?;
-        }
-        text.push_str("\n")?;
+pub fn bank_text(alloc: Global, rows: &Rows) -> Result<String, AllocError>
+    ensures { IfOk result (λ text. string_bytes text ≡ text_of rows.now) }
+{
+    let items = rows.items.as_slice();
+    let mut text = header(alloc, rows)?;
+    for i in 0..items.len() {
+        let line = line(alloc, i, &items[i])?;
+        text.push_str(line.as_str())?;
     }
     Ok(text)
 }

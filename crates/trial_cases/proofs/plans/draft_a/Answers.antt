@@ -1,4 +1,4 @@
-use Rattle.std.proofs.Common.{◌≡◌, List, ℕ, [], ◌∷◌, pos, negsuc, ◌∙◌, ap₂}
+use Rattle.std.proofs.Common.{List, ℕ, [], ◌∷◌, pos, negsuc, ◌∙◌, ap₂}
 use Rattle.std.proofs.lemmas.Result.{IfOk-weaker}
 use Rattle.exam_model.specs.declared.row.Row.TheVariants.{Count, Enemies}
 use Rattle.exam_model.proofs.BankA.{plan_a, plan_of_rows}
