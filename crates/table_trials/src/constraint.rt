@@ -3,59 +3,15 @@
 
 #[cfg(test)]
 mod tests {
-    use bank_tables::{Bank, ItemRow, ItemSet, List, Rows};
+    use bank_tables::{Bank, ItemSet};
     use constraint_model::{
         Breach, Draft, Problem, Rate, Row, Spec, SpecFault, StimulusBound, front_fault, meets,
         objective,
     };
     use std::alloc::{AllocError, Global};
+    use std::process::Abort;
     use std::test::Fail;
-
-    fn set_of(items: &[u16]) -> ItemSet {
-        let mut set = ItemSet::empty();
-        for item in items {
-            if *item < 512 {
-                set = set.with(*item);
-            }
-        }
-        set
-    }
-
-    fn item(
-        alloc: Global,
-        stimulus: u32,
-        quantities: &[u32],
-        info: &[u32],
-        loglik: &[i32],
-    ) -> Result<ItemRow, AllocError> {
-        Ok(ItemRow {
-            stimulus,
-            categories: 2,
-            quantities: List::of(quantities.to_vec(alloc)?),
-            info: List::of(info.to_vec(alloc)?),
-            loglik: List::of(loglik.to_vec(alloc)?),
-        })
-    }
-
-    // Six items without stimulus, three points.
-    fn plain_bank(alloc: Global) -> Result<Bank, Fail> {
-        let flat = [-7i32, -7, -7, -7, -7, -7];
-        let mut items = Vec::new(alloc);
-        items.push(item(alloc, 0, &[], &[9, 5, 1], &flat)?)?;
-        items.push(item(alloc, 0, &[], &[7, 8, 2], &flat)?)?;
-        items.push(item(alloc, 0, &[], &[4, 9, 3], &[-7, -7, -7, -30, -15, -1])?)?;
-        items.push(item(alloc, 0, &[], &[2, 6, 8], &flat)?)?;
-        items.push(item(alloc, 0, &[], &[1, 4, 9], &[0, -1, -20, -7, -7, -7])?)?;
-        items.push(item(alloc, 0, &[], &[3, 7, 5], &flat)?)?;
-        Ok(Bank::of(
-            alloc,
-            Rows {
-                grid: 3,
-                quantities: 0,
-                items: List::of(items),
-            },
-        )?)
-    }
+    use trial_cases::{bank_a, draft_a, draft_of, item, rows_of, set_of};
 
     // Items 0 and 1 of stimulus 1, items 2 and 3 of stimulus 2, item 4 of none; each has 10 of the one quantity.
     fn mixed_bank(alloc: Global) -> Result<Bank, Fail> {
@@ -63,82 +19,70 @@ mod tests {
         for stimulus in [1u32, 1, 2, 2, 0] {
             items.push(item(alloc, stimulus, &[10], &[5], &[-1, -1])?)?;
         }
-        Ok(Bank::of(
-            alloc,
-            Rows {
-                grid: 1,
-                quantities: 1,
-                items: List::of(items),
-            },
-        )?)
+        Ok(Bank::of(alloc, rows_of(1, 1, items))?)
     }
 
-    fn plan(
-        alloc: Global,
-        length: u32,
-        prior: &[i32],
-        rows: &[Row],
-        bounds: &[StimulusBound],
-    ) -> Result<Draft, AllocError> {
-        Ok(Draft {
-            length,
-            prior: List::of(prior.to_vec(alloc)?),
-            rows: List::of(rows.to_vec(alloc)?),
-            bounds: List::of(bounds.to_vec(alloc)?),
-            rate: Rate { num: 1, den: 1 },
-            key: [0; 32],
-            budget: 2_001,
-            base_budget: 4_095,
-            sessions: 1_000,
-            journal: 67_108_864,
-            base: None,
-        })
-    }
+    // The bounds of the mixed plan: of stimulus 2 both items or none.
+    const BOUNDS: [StimulusBound; 2] = [
+        StimulusBound { low: 1, high: 2 },
+        StimulusBound { low: 2, high: 2 },
+    ];
 
     fn bound(low: u32, high: u32) -> StimulusBound {
         StimulusBound { low, high }
     }
 
-    // Three items: one of 0 and 1, and not both 2 and 5.
-    fn plain_plan(alloc: Global) -> Result<Draft, AllocError> {
-        let rows = [
-            Row::Count {
-                set: set_of(&[0, 1]),
-                low: 1,
-                high: 1,
-            },
-            Row::Enemies {
-                set: set_of(&[2, 5]),
-            },
-        ];
-        plan(alloc, 3, &[-10, 0, -10], &rows, &[])
+    fn count(set: ItemSet, low: u32, high: u32) -> Row {
+        Row::Count { set, low, high }
     }
 
-    // Two items, at most 20 of the quantity, at most two stimuli, and of stimulus 2 both items or none.
-    fn mixed_plan(alloc: Global) -> Result<Draft, AllocError> {
-        let rows = [
-            Row::Quantity {
-                which: 0,
-                set: set_of(&[0, 1, 2, 3, 4]),
-                low: 0,
-                high: 20,
-            },
-            Row::Stimuli { low: 0, high: 2 },
-        ];
-        plan(alloc, 2, &[0], &rows, &[bound(1, 2), bound(2, 2)])
+    fn words(which: u8, set: ItemSet, low: u32, high: u32) -> Row {
+        Row::Quantity {
+            which,
+            set,
+            low,
+            high,
+        }
     }
 
-    // The mixed plan with other rows.
+    // Two items of the mixed bank, with these rows.
     fn with_rows(alloc: Global, rows: &[Row]) -> Result<Draft, AllocError> {
-        plan(alloc, 2, &[0], rows, &[bound(1, 2), bound(2, 2)])
+        draft_of(alloc, 2, &[0], rows, &BOUNDS)
     }
 
-    fn with_bounds(alloc: Global, bounds: &[StimulusBound]) -> Result<Draft, AllocError> {
-        plan(alloc, 2, &[0], &[], bounds)
+    // At most 20 of the quantity, and at most two stimuli.
+    fn mixed_plan(alloc: Global) -> Result<Draft, AllocError> {
+        let twenty = words(0, set_of(&[0, 1, 2, 3, 4]), 0, 20);
+        with_rows(alloc, &[twenty, Row::Stimuli { low: 0, high: 2 }])
     }
 
-    fn fault_of(alloc: Global, bank: &Bank, draft: Draft) -> Option<SpecFault> {
-        Spec::of(alloc, bank, draft).err()
+    // The fault of a draft's front, and its first fault, on the mixed bank.
+    type Faults = (Option<SpecFault>, Option<SpecFault>);
+
+    fn faults_of(alloc: Global, draft: Draft) -> Result<Faults, Fail> {
+        let bank = mixed_bank(alloc)?;
+        let front = front_fault(&bank, &draft);
+        Ok((front, Spec::of(alloc, &bank, draft).err()))
+    }
+
+    fn fault_of(alloc: Global, draft: Draft) -> Result<Option<SpecFault>, Fail> {
+        let (_, fault) = faults_of(alloc, draft)?;
+        Ok(fault)
+    }
+
+    fn shows_rows<R: Abort>(rt: &R, spec: &Spec) {
+        assert_eq!(rt; spec.length(), 2);
+        assert_eq!(rt; spec.prior(), [0].as_slice());
+        assert_eq!(rt; spec.rows().len(), 2);
+        assert_eq!(rt; spec.bounds(), BOUNDS.as_slice());
+    }
+
+    fn shows_numbers<R: Abort>(rt: &R, spec: &Spec) {
+        assert_eq!(rt; spec.rate(), Rate { num: 1, den: 1 });
+        assert_eq!(rt; spec.key(), &[0; 32]);
+        assert_eq!(rt; (spec.budget(), spec.base_budget()), (2_001, 4_095));
+        assert_eq!(rt; (spec.sessions(), spec.journal()), (1_000, 67_108_864));
+        assert_eq!(rt; spec.base(), None);
     }
 
     #[test]
@@ -146,69 +90,58 @@ mod tests {
         let alloc = rt.alloc();
         let bank = mixed_bank(alloc)?;
         let spec = Spec::of(alloc, &bank, mixed_plan(alloc)?)?;
-        assert_eq!(rt; spec.length(), 2);
-        assert_eq!(rt; spec.prior(), [0].as_slice());
-        assert_eq!(rt; spec.rows().len(), 2);
-        assert_eq!(rt; spec.bounds(), [bound(1, 2), bound(2, 2)].as_slice());
-        assert_eq!(rt; spec.rate(), Rate { num: 1, den: 1 });
-        assert_eq!(rt; spec.key(), &[0; 32]);
-        assert_eq!(rt; (spec.budget(), spec.base_budget()), (2_001, 4_095));
-        assert_eq!(rt; (spec.sessions(), spec.journal()), (1_000, 67_108_864));
-        assert_eq!(rt; spec.base(), None);
+        shows_rows(&rt, &spec);
+        shows_numbers(&rt, &spec);
+        Ok(())
+    }
+
+    fn front_faults(alloc: Global, length: u32, prior: &[i32]) -> Result<Faults, Fail> {
+        faults_of(alloc, draft_of(alloc, length, prior, &[], &BOUNDS)?)
+    }
+
+    #[test]
+    fn lengths(rt: HostRuntime) -> Result<(), Fail> {
+        let fault = Some(SpecFault::Length);
+        for length in [0, 6] {
+            let found = front_faults(rt.alloc(), length, &[1])?;
+            assert_eq!(rt; found, (fault, fault));
+        }
         Ok(())
     }
 
     #[test]
-    fn lengths_and_priors(rt: HostRuntime) -> Result<(), Fail> {
-        let alloc = rt.alloc();
-        let bank = mixed_bank(alloc)?;
-        let bounds = [bound(1, 2), bound(2, 2)];
-        for length in [0, 6] {
-            let draft = plan(alloc, length, &[1], &[], &bounds)?;
-            assert_eq!(rt; front_fault(&bank, &draft), Some(SpecFault::Length));
-            assert_eq!(rt; fault_of(alloc, &bank, draft), Some(SpecFault::Length));
-        }
+    fn priors(rt: HostRuntime) -> Result<(), Fail> {
+        let fault = Some(SpecFault::BadPrior);
         let none: &[i32] = &[];
         for prior in [none, &[0, 0], &[1], &[-10_000_001]] {
-            let draft = plan(alloc, 2, prior, &[], &bounds)?;
-            assert_eq!(rt; front_fault(&bank, &draft), Some(SpecFault::BadPrior));
-            assert_eq!(rt; fault_of(alloc, &bank, draft), Some(SpecFault::BadPrior));
+            let found = front_faults(rt.alloc(), 2, prior)?;
+            assert_eq!(rt; found, (fault, fault));
         }
-        let lowest = plan(alloc, 5, &[-10_000_000], &[], &bounds)?;
-        assert_eq!(rt; fault_of(alloc, &bank, lowest), None);
+        let lowest = front_faults(rt.alloc(), 5, &[-10_000_000])?;
+        assert_eq!(rt; lowest, (None, None));
         Ok(())
+    }
+
+    fn rows_faults(alloc: Global, rows: &[Row]) -> Result<Faults, Fail> {
+        faults_of(alloc, with_rows(alloc, rows)?)
     }
 
     #[test]
     fn numbers_of_rows(rt: HostRuntime) -> Result<(), Fail> {
-        let alloc = rt.alloc();
-        let bank = mixed_bank(alloc)?;
         let row = Row::Enemies { set: set_of(&[0]) };
-        let most = with_rows(alloc, [row; 128].as_slice())?;
-        assert_eq!(rt; fault_of(alloc, &bank, most), None);
-        let too_many = with_rows(alloc, [row; 129].as_slice())?;
-        assert_eq!(rt;
-            fault_of(alloc, &bank, too_many),
-            Some(SpecFault::TooManyRows)
-        );
+        let (_, most) = rows_faults(rt.alloc(), [row; 128].as_slice())?;
+        assert_eq!(rt; most, None);
+        let (_, too_many) = rows_faults(rt.alloc(), [row; 129].as_slice())?;
+        assert_eq!(rt; too_many, Some(SpecFault::TooManyRows));
         Ok(())
     }
 
-    #[test]
-    fn rows(rt: HostRuntime) -> Result<(), Fail> {
-        let alloc = rt.alloc();
-        let bank = mixed_bank(alloc)?;
+    // Rows that come second, each with its fault.
+    fn faulty_rows() -> [(Row, SpecFault); 13] {
         let one = set_of(&[0]);
         let none = ItemSet::empty();
         let past = set_of(&[0, 5]);
-        let count = |set: ItemSet, low: u32, high: u32| Row::Count { set, low, high };
-        let words = |which: u8, set: ItemSet, low: u32, high: u32| Row::Quantity {
-            which,
-            set,
-            low,
-            high,
-        };
-        let cases = [
+        [
             (count(one, 2, 1), SpecFault::RowBounds(1)),
             (count(one, 0, 513), SpecFault::RowBounds(1)),
             (words(0, one, 2, 1), SpecFault::RowBounds(1)),
@@ -222,30 +155,47 @@ mod tests {
             (words(1, past, 0, 1), SpecFault::BadItem(1)),
             (Row::Enemies { set: past }, SpecFault::BadItem(1)),
             (words(1, one, 0, 1), SpecFault::BadQuantity(1)),
-        ];
-        for (row, fault) in cases {
-            let draft = with_rows(alloc, &[count(one, 0, 512), row])?;
-            assert_eq!(rt; front_fault(&bank, &draft), Some(fault));
-            assert_eq!(rt; fault_of(alloc, &bank, draft), Some(fault));
+        ]
+    }
+
+    // The faults of a draft whose second row is this one; the first has none.
+    fn second_row_faults(alloc: Global, row: Row) -> Result<Faults, Fail> {
+        rows_faults(alloc, &[count(set_of(&[0]), 0, 512), row])
+    }
+
+    #[test]
+    fn rows(rt: HostRuntime) -> Result<(), Fail> {
+        for (row, fault) in faulty_rows() {
+            let found = second_row_faults(rt.alloc(), row)?;
+            assert_eq!(rt; found, (Some(fault), Some(fault)));
         }
-        let most = [
-            words(0, one, 0, 33_553_920),
-            Row::Stimuli { low: 0, high: 64 },
-        ];
-        assert_eq!(rt; fault_of(alloc, &bank, with_rows(alloc, &most)?), None);
-        // The earlier row comes first, whatever the kinds of fault.
-        let both = [words(1, one, 0, 1), count(one, 2, 1)];
-        assert_eq!(rt;
-            fault_of(alloc, &bank, with_rows(alloc, &both)?),
-            Some(SpecFault::BadQuantity(0))
-        );
         Ok(())
     }
 
     #[test]
+    fn widest_rows(rt: HostRuntime) -> Result<(), Fail> {
+        let most = words(0, set_of(&[0]), 0, 33_553_920);
+        let (_, found) = rows_faults(rt.alloc(), &[most, Row::Stimuli { low: 0, high: 64 }])?;
+        assert_eq!(rt; found, None);
+        Ok(())
+    }
+
+    /// The earlier row comes first, whatever the kinds of fault.
+    #[test]
+    fn the_earlier_row(rt: HostRuntime) -> Result<(), Fail> {
+        let one = set_of(&[0]);
+        let both = [words(1, one, 0, 1), count(one, 2, 1)];
+        let (_, found) = rows_faults(rt.alloc(), &both)?;
+        assert_eq!(rt; found, Some(SpecFault::BadQuantity(0)));
+        Ok(())
+    }
+
+    fn bounds_faults(alloc: Global, bounds: &[StimulusBound]) -> Result<Faults, Fail> {
+        faults_of(alloc, draft_of(alloc, 2, &[0], &[], bounds)?)
+    }
+
+    #[test]
     fn bounds_of_stimuli(rt: HostRuntime) -> Result<(), Fail> {
-        let alloc = rt.alloc();
-        let bank = mixed_bank(alloc)?;
         let nothing: &[StimulusBound] = &[];
         let cases: [(&[StimulusBound], u8); 7] = [
             (nothing, 1),
@@ -257,43 +207,73 @@ mod tests {
             (&[bound(1, 513), bound(2, 2)], 1),
         ];
         for (bounds, stimulus) in cases {
-            let draft = with_bounds(alloc, bounds)?;
-            assert_eq!(rt; front_fault(&bank, &draft), None);
-            assert_eq!(rt;
-                fault_of(alloc, &bank, draft),
-                Some(SpecFault::BadStimulus(stimulus))
-            );
+            let found = bounds_faults(rt.alloc(), bounds)?;
+            assert_eq!(rt; found, (None, Some(SpecFault::BadStimulus(stimulus))));
         }
-        let most = with_bounds(alloc, &[bound(1, 512), bound(512, 512)])?;
-        assert_eq!(rt; fault_of(alloc, &bank, most), None);
         Ok(())
     }
 
     #[test]
-    fn rates_budgets_and_limits(rt: HostRuntime) -> Result<(), Fail> {
-        let alloc = rt.alloc();
-        let bank = mixed_bank(alloc)?;
+    fn widest_bounds_of_stimuli(rt: HostRuntime) -> Result<(), Fail> {
+        let (_, most) = bounds_faults(rt.alloc(), &[bound(1, 512), bound(512, 512)])?;
+        assert_eq!(rt; most, None);
+        Ok(())
+    }
+
+    // The fault of the mixed plan with this rate, and a budget that no plan may have.
+    fn rate_fault(alloc: Global, num: u32, den: u32) -> Result<Option<SpecFault>, Fail> {
+        let mut draft = mixed_plan(alloc)?;
+        draft.rate = Rate { num, den };
+        draft.budget = 4;
+        fault_of(alloc, draft)
+    }
+
+    #[test]
+    fn rates(rt: HostRuntime) -> Result<(), Fail> {
         for (num, den) in [(0, 1), (2, 1), (1, 65_536)] {
-            let mut draft = mixed_plan(alloc)?;
-            draft.rate = Rate { num, den };
-            draft.budget = 4;
-            assert_eq!(rt; fault_of(alloc, &bank, draft), Some(SpecFault::BadRate));
+            let found = rate_fault(rt.alloc(), num, den)?;
+            assert_eq!(rt; found, Some(SpecFault::BadRate));
         }
-        for (budget, base_budget) in [(0, 1), (4, 1), (4_097, 1), (1, 0), (1, 2), (1, 4_097)] {
-            let mut draft = mixed_plan(alloc)?;
-            draft.budget = budget;
-            draft.base_budget = base_budget;
-            draft.sessions = 0;
-            assert_eq!(rt; fault_of(alloc, &bank, draft), Some(SpecFault::BadBudget));
+        Ok(())
+    }
+
+    // The same with these budgets, and a number of sessions that no plan may have.
+    fn budget_fault(alloc: Global, budget: u32, base: u32) -> Result<Option<SpecFault>, Fail> {
+        let mut draft = mixed_plan(alloc)?;
+        draft.budget = budget;
+        draft.base_budget = base;
+        draft.sessions = 0;
+        fault_of(alloc, draft)
+    }
+
+    #[test]
+    fn budgets(rt: HostRuntime) -> Result<(), Fail> {
+        for (budget, base) in [(0, 1), (4, 1), (4_097, 1), (1, 0), (1, 2), (1, 4_097)] {
+            let found = budget_fault(rt.alloc(), budget, base)?;
+            assert_eq!(rt; found, Some(SpecFault::BadBudget));
         }
-        let limits = [(0, 64), (65_537, 64), (1, 63), (1, 536_870_913)];
-        for (sessions, journal) in limits {
-            let mut draft = mixed_plan(alloc)?;
-            draft.sessions = sessions;
-            draft.journal = journal;
-            draft.base = Some(ItemSet::empty());
-            assert_eq!(rt; fault_of(alloc, &bank, draft), Some(SpecFault::BadLimit));
+        Ok(())
+    }
+
+    // The same with these limits, and a base that is no form.
+    fn limit_fault(alloc: Global, sessions: u32, journal: u64) -> Result<Option<SpecFault>, Fail> {
+        let mut draft = mixed_plan(alloc)?;
+        draft.sessions = sessions;
+        draft.journal = journal;
+        draft.base = Some(ItemSet::empty());
+        fault_of(alloc, draft)
+    }
+
+    #[test]
+    fn limits(rt: HostRuntime) -> Result<(), Fail> {
+        for (sessions, journal) in [(0, 64), (65_537, 64), (1, 63), (1, 536_870_913)] {
+            let found = limit_fault(rt.alloc(), sessions, journal)?;
+            assert_eq!(rt; found, Some(SpecFault::BadLimit));
         }
+        Ok(())
+    }
+
+    fn widest_plan(alloc: Global) -> Result<Draft, AllocError> {
         let mut widest = mixed_plan(alloc)?;
         widest.rate = Rate {
             num: 65_535,
@@ -302,81 +282,99 @@ mod tests {
         widest.budget = 1;
         widest.sessions = 65_536;
         widest.journal = 536_870_912;
-        assert_eq!(rt; fault_of(alloc, &bank, widest), None);
-        Ok(())
+        Ok(widest)
     }
 
     #[test]
-    fn bases(rt: HostRuntime) -> Result<(), Fail> {
-        let alloc = rt.alloc();
-        let plain = plain_bank(alloc)?;
-        let of_plain: [(&[u16], Option<Breach>); 5] = [
+    fn widest_rate_and_limits(rt: HostRuntime) -> Result<(), Fail> {
+        let found = fault_of(rt.alloc(), widest_plan(rt.alloc())?)?;
+        assert_eq!(rt; found, None);
+        Ok(())
+    }
+
+    // The fault of plan A with this base.
+    fn base_fault_of_a(alloc: Global, items: &[u16]) -> Result<Option<SpecFault>, Fail> {
+        let bank = bank_a(alloc)?;
+        let mut draft = draft_a(alloc)?;
+        draft.base = Some(set_of(items));
+        Ok(Spec::of(alloc, &bank, draft).err())
+    }
+
+    #[test]
+    fn bases_of_bank_a(rt: HostRuntime) -> Result<(), Fail> {
+        let cases: [(&[u16], Option<Breach>); 5] = [
             (&[1, 2, 3], None),
             (&[1, 2], Some(Breach::Length(2))),
             (&[1, 2, 6], Some(Breach::Length(3))),
             (&[0, 1, 2], Some(Breach::Row(0, 2))),
             (&[1, 2, 5], Some(Breach::Row(1, 2))),
         ];
-        for (items, breach) in of_plain {
-            let mut draft = plain_plan(alloc)?;
-            draft.base = Some(set_of(items));
-            assert_eq!(rt;
-                fault_of(alloc, &plain, draft),
-                breach.map(SpecFault::BadBase)
-            );
+        for (items, breach) in cases {
+            let found = base_fault_of_a(rt.alloc(), items)?;
+            assert_eq!(rt; found, breach.map(SpecFault::BadBase));
         }
-        let mixed = mixed_bank(alloc)?;
-        let of_mixed: [(&[u16], Option<Breach>); 3] = [
+        Ok(())
+    }
+
+    // The fault of the mixed plan with this base.
+    fn base_fault(alloc: Global, items: &[u16]) -> Result<Option<SpecFault>, Fail> {
+        let mut draft = mixed_plan(alloc)?;
+        draft.base = Some(set_of(items));
+        fault_of(alloc, draft)
+    }
+
+    #[test]
+    fn bases_of_the_mixed_bank(rt: HostRuntime) -> Result<(), Fail> {
+        let cases: [(&[u16], Option<Breach>); 3] = [
             (&[2, 3], None),
             (&[0, 4], None),
             (&[0, 2], Some(Breach::Stimulus(2, 1))),
         ];
-        for (items, breach) in of_mixed {
-            let mut draft = mixed_plan(alloc)?;
-            draft.base = Some(set_of(items));
-            assert_eq!(rt;
-                fault_of(alloc, &mixed, draft),
-                breach.map(SpecFault::BadBase)
-            );
+        for (items, breach) in cases {
+            let found = base_fault(rt.alloc(), items)?;
+            assert_eq!(rt; found, breach.map(SpecFault::BadBase));
         }
         Ok(())
     }
 
-    #[test]
-    fn forms_of_the_plain_bank(rt: HostRuntime) -> Result<(), Fail> {
-        let alloc = rt.alloc();
-        let bank = plain_bank(alloc)?;
-        let spec = Spec::of(alloc, &bank, plain_plan(alloc)?)?;
+    // The ability point of the whole problem of plan A, and the breach and the objective of a set of items.
+    fn found_on_a(alloc: Global, items: &[u16]) -> Result<(u8, Option<Breach>, u64), Fail> {
+        let bank = bank_a(alloc)?;
+        let spec = Spec::of(alloc, &bank, draft_a(alloc)?)?;
         let problem = Problem::whole(&bank, &spec);
-        assert_eq!(rt; problem.theta, 1);
-        let best = set_of(&[1, 2, 3]);
-        assert_eq!(rt; meets(&problem, &best), None);
-        assert_eq!(rt; objective(&problem, &best), 23);
-        let better = set_of(&[1, 2, 5]);
-        assert_eq!(rt; meets(&problem, &better), Some(Breach::Row(1, 2)));
-        assert_eq!(rt; objective(&problem, &better), 24);
+        let set = set_of(items);
+        Ok((
+            problem.theta,
+            meets(&problem, &set),
+            objective(&problem, &set),
+        ))
+    }
+
+    #[test]
+    fn forms_of_bank_a(rt: HostRuntime) -> Result<(), Fail> {
+        let best = found_on_a(rt.alloc(), &[1, 2, 3])?;
+        assert_eq!(rt; best, (1, None, 23));
+        let better = found_on_a(rt.alloc(), &[1, 2, 5])?;
+        assert_eq!(rt; better, (1, Some(Breach::Row(1, 2)), 24));
         Ok(())
+    }
+
+    // Three items of both stimuli, with 10 of the quantity of items 0 and 1.
+    fn narrow_plan(alloc: Global) -> Result<Draft, AllocError> {
+        let ten = words(0, set_of(&[0, 1]), 10, 10);
+        let mut draft = with_rows(alloc, &[ten, Row::Stimuli { low: 2, high: 2 }])?;
+        draft.length = 3;
+        Ok(draft)
+    }
+
+    fn narrow_breach(alloc: Global, items: &[u16]) -> Result<Option<Breach>, Fail> {
+        let bank = mixed_bank(alloc)?;
+        let spec = Spec::of(alloc, &bank, narrow_plan(alloc)?)?;
+        Ok(meets(&Problem::whole(&bank, &spec), &set_of(items)))
     }
 
     #[test]
     fn sets_of_the_mixed_bank(rt: HostRuntime) -> Result<(), Fail> {
-        let alloc = rt.alloc();
-        let bank = mixed_bank(alloc)?;
-        let mut draft = with_rows(
-            alloc,
-            &[
-                Row::Quantity {
-                    which: 0,
-                    set: set_of(&[0, 1]),
-                    low: 10,
-                    high: 10,
-                },
-                Row::Stimuli { low: 2, high: 2 },
-            ],
-        )?;
-        draft.length = 3;
-        let spec = Spec::of(alloc, &bank, draft)?;
-        let problem = Problem::whole(&bank, &spec);
         let cases: [(&[u16], Option<Breach>); 5] = [
             (&[0, 2, 3], None),
             (&[2, 3, 4], Some(Breach::Row(0, 0))),
@@ -385,7 +383,8 @@ mod tests {
             (&[], Some(Breach::Length(0))),
         ];
         for (items, breach) in cases {
-            assert_eq!(rt; meets(&problem, &set_of(items)), breach);
+            let found = narrow_breach(rt.alloc(), items)?;
+            assert_eq!(rt; found, breach);
         }
         Ok(())
     }
