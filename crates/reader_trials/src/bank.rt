@@ -1,19 +1,12 @@
 //! The bank text: bank A is read as its text describes it, and each changed text has its fault.
 
 use bank_reader::{ReadFault, read_bank};
-use bank_tables::{Bank, BankFault, ItemRow, ItemSet, List, Rows};
+use bank_tables::{Bank, BankFault, ItemSet, Rows};
 use exam_edge::MemorySource;
 use std::alloc::{AllocError, Global};
+use std::process::Abort;
 use std::test::Fail;
-
-const BANK_A: &str = "item,stimulus,categories,i0,i1,i2,l0_0,l0_1,l0_2,l1_0,l1_1,l1_2
-0,0,2,9,5,1,-7,-7,-7,-7,-7,-7
-1,0,2,7,8,2,-7,-7,-7,-7,-7,-7
-2,0,2,4,9,3,-7,-7,-7,-30,-15,-1
-3,0,2,2,6,8,-7,-7,-7,-7,-7,-7
-4,0,2,1,4,9,0,-1,-20,-7,-7,-7
-5,0,2,3,7,5,-7,-7,-7,-7,-7,-7
-";
+use trial_cases::{BANK_A, item, rows_of};
 
 /// A header of one grid point and two responses, and one item of it.
 const SMALL: &str = "item,stimulus,categories,i0,l0_0,l1_0\n0,0,2,9,-7,0\n";
@@ -44,96 +37,110 @@ fn changed(alloc: Global, text: &str, old: &str, new: &str) -> Result<String, Al
     }
 }
 
+fn shows_bank_a<R: Abort>(rt: &R, bank: &Bank) {
+    let shape = (bank.items(), bank.grid(), bank.quantities(), bank.stimuli());
+    assert_eq!(rt; shape, (6, 3, 0, 0));
+    assert_eq!(rt; (bank.categories(2), bank.info(2, 1)), (2, 9));
+    let at_two = (bank.loglik(2, 1, 0), bank.loglik(2, 1, 2));
+    assert_eq!(rt; at_two, (-30, -1));
+    let at_four = (bank.loglik(4, 0, 0), bank.loglik(4, 0, 2));
+    assert_eq!(rt; at_four, (0, -20));
+}
+
 #[test]
 fn bank_a_is_what_its_text_says(rt: HostRuntime) -> Result<(), Fail> {
     let bank = read(rt.alloc(), BANK_A.as_bytes())
         .ok()
         .ok_or("bank A is a bank")?;
-    assert_eq!(rt; bank.items(), 6);
-    assert_eq!(rt; bank.grid(), 3);
-    assert_eq!(rt; bank.quantities(), 0);
-    assert_eq!(rt; bank.stimuli(), 0);
-    assert_eq!(rt; bank.categories(2), 2);
-    assert_eq!(rt; bank.info(2, 1), 9);
-    assert_eq!(rt; bank.loglik(2, 1, 0), -30);
-    assert_eq!(rt; bank.loglik(2, 1, 2), -1);
-    assert_eq!(rt; bank.loglik(4, 0, 0), 0);
-    assert_eq!(rt; bank.loglik(4, 0, 2), -20);
+    shows_bank_a(&rt, &bank);
     Ok(())
+}
+
+/// Two items with two quantities, stimuli up to 3, and responses that one of them doesn't have.
+const WIDE: &str =
+    "item,stimulus,categories,q0,q1,i0,l0_0,l1_0,l2_0\n0,3,2,60,1,5,-1,-2,\n1,1,3,0,65535,1000000,-10000000,0,-3\n";
+
+fn shows_wide<R: Abort>(rt: &R, bank: &Bank) {
+    let shape = (bank.items(), bank.quantities(), bank.stimuli());
+    assert_eq!(rt; shape, (2, 2, 3));
+    assert_eq!(rt; (bank.stimulus(1), bank.categories(1)), (1, 3));
+    assert_eq!(rt; (bank.quantity(0, 0), bank.quantity(1, 1)), (60, 65535));
+    assert_eq!(rt; bank.info(1, 0), 1000000);
+    assert_eq!(rt;
+        (bank.loglik(1, 0, 0), bank.loglik(1, 2, 0)),
+        (-10000000, -3)
+    );
 }
 
 #[test]
 fn quantities_stimuli_and_unused_responses(rt: HostRuntime) -> Result<(), Fail> {
-    let text =
-        "item,stimulus,categories,q0,q1,i0,l0_0,l1_0,l2_0\n0,3,2,60,1,5,-1,-2,\n1,1,3,0,65535,1000000,-10000000,0,-3\n";
-    let bank = read(rt.alloc(), text.as_bytes()).ok().ok_or("a bank")?;
-    assert_eq!(rt; bank.items(), 2);
-    assert_eq!(rt; bank.quantities(), 2);
-    assert_eq!(rt; bank.stimuli(), 3);
-    assert_eq!(rt; bank.stimulus(1), 1);
-    assert_eq!(rt; bank.categories(1), 3);
-    assert_eq!(rt; bank.quantity(0, 0), 60);
-    assert_eq!(rt; bank.quantity(1, 1), 65535);
-    assert_eq!(rt; bank.info(1, 0), 1000000);
-    assert_eq!(rt; bank.loglik(1, 0, 0), -10000000);
-    assert_eq!(rt; bank.loglik(1, 2, 0), -3);
+    let bank = read(rt.alloc(), WIDE.as_bytes()).ok().ok_or("a bank")?;
+    shows_wide(&rt, &bank);
     Ok(())
 }
 
 /// What CSV leaves open is one text: quotes, CR LF, empty lines, a byte order mark, no line feed at the end.
+const SPELLINGS: [&str; 4] = [
+    SMALL,
+    "item,stimulus,categories,i0,l0_0,l1_0\r\n0,0,2,9,-7,0\r\n",
+    "item,stimulus,categories,i0,l0_0,l1_0\n\n\n0,0,2,9,-7,0",
+    "\u{feff}item,stimulus,\"categories\",i0,l0_0,l1_0\n\"0\",0,2,\"9\",-7,0\n",
+];
+
+fn shows_small<R: Abort>(rt: &R, bank: &Bank) {
+    assert_eq!(rt; bank.items(), 1);
+    assert_eq!(rt; (bank.info(0, 0), bank.loglik(0, 0, 0)), (9, -7));
+}
+
 #[test]
 fn other_spellings(rt: HostRuntime) -> Result<(), Fail> {
-    for text in [
-        SMALL,
-        "item,stimulus,categories,i0,l0_0,l1_0\r\n0,0,2,9,-7,0\r\n",
-        "item,stimulus,categories,i0,l0_0,l1_0\n\n\n0,0,2,9,-7,0",
-        "\u{feff}item,stimulus,\"categories\",i0,l0_0,l1_0\n\"0\",0,2,\"9\",-7,0\n",
-    ] {
+    for text in SPELLINGS {
         let bank = read(rt.alloc(), text.as_bytes()).ok().ok_or("a bank")?;
-        assert_eq!(rt; bank.items(), 1);
-        assert_eq!(rt; bank.info(0, 0), 9);
-        assert_eq!(rt; bank.loglik(0, 0, 0), -7);
+        shows_small(&rt, &bank);
     }
     Ok(())
 }
 
+/// Changes of bank A's text, each with its fault.
+const CHANGES: [(&str, &str, ReadFault); 17] = [
+    (
+        "2,0,2,4",
+        "2,0,6,4",
+        ReadFault::Bank(BankFault::BadCategories(2)),
+    ),
+    ("stimulus", "stimulos", ReadFault::Header(1)),
+    ("stimulus,", "", ReadFault::Header(1)),
+    ("1,0,2,7", "1,0,x,7", ReadFault::Field(2, 2)),
+    ("-30,-15,-1\n", "-30,-15\n", ReadFault::Csv(3)),
+    ("-30,-15,-1\n", "-30,-15,-1,\n", ReadFault::Csv(3)),
+    ("0,0,2,9,5,1,-7", "0,0,2,9,5,1,-0", ReadFault::Field(1, 6)),
+    (
+        "0,0,2,9,5,1,-7",
+        "0,0,2,9,5,1,7",
+        ReadFault::Bank(BankFault::BadLogLik(0)),
+    ),
+    ("3,0,2,2", "4,0,2,2", ReadFault::Field(4, 0)),
+    ("5,0,2,3,7", "5,0,2,3,07", ReadFault::Field(6, 4)),
+    (
+        "5,0,2,3,7",
+        "5,65,2,3,7",
+        ReadFault::Bank(BankFault::BadStimulus(5)),
+    ),
+    ("5,0,2,3,7", "5,0,1,3,7", ReadFault::Field(6, 9)),
+    (
+        "5,0,2,3,7",
+        "5,0,2,3,1000001",
+        ReadFault::Bank(BankFault::BadInfo(5)),
+    ),
+    ("5,0,2,3,7", "5,0,2,3,1000000000", ReadFault::Field(6, 4)),
+    (",l1_2", "", ReadFault::Header(11)),
+    (",l1_2", ",l1_2,l2_0", ReadFault::Header(13)),
+    ("i0", "q0", ReadFault::Header(4)),
+];
+
 #[test]
 fn changes_of_bank_a(rt: HostRuntime) -> Result<(), Fail> {
-    for (old, new, want) in [
-        (
-            "2,0,2,4",
-            "2,0,6,4",
-            ReadFault::Bank(BankFault::BadCategories(2)),
-        ),
-        ("stimulus", "stimulos", ReadFault::Header(1)),
-        ("stimulus,", "", ReadFault::Header(1)),
-        ("1,0,2,7", "1,0,x,7", ReadFault::Field(2, 2)),
-        ("-30,-15,-1\n", "-30,-15\n", ReadFault::Csv(3)),
-        ("-30,-15,-1\n", "-30,-15,-1,\n", ReadFault::Csv(3)),
-        ("0,0,2,9,5,1,-7", "0,0,2,9,5,1,-0", ReadFault::Field(1, 6)),
-        (
-            "0,0,2,9,5,1,-7",
-            "0,0,2,9,5,1,7",
-            ReadFault::Bank(BankFault::BadLogLik(0)),
-        ),
-        ("3,0,2,2", "4,0,2,2", ReadFault::Field(4, 0)),
-        ("5,0,2,3,7", "5,0,2,3,07", ReadFault::Field(6, 4)),
-        (
-            "5,0,2,3,7",
-            "5,65,2,3,7",
-            ReadFault::Bank(BankFault::BadStimulus(5)),
-        ),
-        ("5,0,2,3,7", "5,0,1,3,7", ReadFault::Field(6, 9)),
-        (
-            "5,0,2,3,7",
-            "5,0,2,3,1000001",
-            ReadFault::Bank(BankFault::BadInfo(5)),
-        ),
-        ("5,0,2,3,7", "5,0,2,3,1000000000", ReadFault::Field(6, 4)),
-        (",l1_2", "", ReadFault::Header(11)),
-        (",l1_2", ",l1_2,l2_0", ReadFault::Header(13)),
-        ("i0", "q0", ReadFault::Header(4)),
-    ] {
+    for (old, new, want) in CHANGES {
         let text = changed(rt.alloc(), BANK_A, old, new)?;
         let got = read(rt.alloc(), text.as_bytes()).err();
         assert_eq!(rt; got, Some(want), "{new:?}");
@@ -142,41 +149,42 @@ fn changes_of_bank_a(rt: HostRuntime) -> Result<(), Fail> {
 }
 
 /// Of several faults the first, from the front of the text; the bounds of the numbers come after the whole text.
+const SEVERAL: [(&str, ReadFault); 9] = [
+    ("", ReadFault::Header(0)),
+    ("item,stimulus\n", ReadFault::Header(2)),
+    ("item,stimulus,categories\n", ReadFault::Header(3)),
+    (
+        "item,stimulus,categories,i0,l0_0,l1_0\n",
+        ReadFault::Bank(BankFault::NoItems),
+    ),
+    (
+        "item,stimulus,categories,i0,l0_0\n0\n",
+        ReadFault::Header(5),
+    ),
+    (
+        "item,stimulus,categories,i0,l0_0,l1_0\n0,0,9,9,-7,0\n1,0,2,x,-7,0\n",
+        ReadFault::Field(2, 3),
+    ),
+    (
+        "item,stimulus,categories,i0,l0_0,l1_0\n0,0,2,x,y,0\n1\n",
+        ReadFault::Field(1, 3),
+    ),
+    (
+        "item,stimulus,categories,i0,l0_0,l1_0\n0,0,2,x\n1,y,2,9,-7,0\n",
+        ReadFault::Csv(1),
+    ),
+    (
+        "item,stimulus,categories,i0,l0_0,l1_0\n0,99,9,9,1,0\n",
+        ReadFault::Bank(BankFault::BadStimulus(0)),
+    ),
+];
+
 #[test]
-fn first_of_several(rt: HostRuntime) -> Result<(), Fail> {
-    for (text, want) in [
-        ("", ReadFault::Header(0)),
-        ("item,stimulus\n", ReadFault::Header(2)),
-        ("item,stimulus,categories\n", ReadFault::Header(3)),
-        (
-            "item,stimulus,categories,i0,l0_0,l1_0\n",
-            ReadFault::Bank(BankFault::NoItems),
-        ),
-        (
-            "item,stimulus,categories,i0,l0_0\n0\n",
-            ReadFault::Header(5),
-        ),
-        (
-            "item,stimulus,categories,i0,l0_0,l1_0\n0,0,9,9,-7,0\n1,0,2,x,-7,0\n",
-            ReadFault::Field(2, 3),
-        ),
-        (
-            "item,stimulus,categories,i0,l0_0,l1_0\n0,0,2,x,y,0\n1\n",
-            ReadFault::Field(1, 3),
-        ),
-        (
-            "item,stimulus,categories,i0,l0_0,l1_0\n0,0,2,x\n1,y,2,9,-7,0\n",
-            ReadFault::Csv(1),
-        ),
-        (
-            "item,stimulus,categories,i0,l0_0,l1_0\n0,99,9,9,1,0\n",
-            ReadFault::Bank(BankFault::BadStimulus(0)),
-        ),
-    ] {
+fn first_of_several(rt: HostRuntime) {
+    for (text, want) in SEVERAL {
         let got = read(rt.alloc(), text.as_bytes()).err();
         assert_eq!(rt; got, Some(want), "{text:?}");
     }
-    Ok(())
 }
 
 /// A text of this length: the header and the item of `SMALL`, with empty lines between them.
@@ -220,6 +228,7 @@ fn each_read_fails_in_turn(rt: HostRuntime) -> Result<(), Fail> {
     Ok(())
 }
 
+/// The rows of one item.
 fn rows(
     alloc: Global,
     stimulus: u32,
@@ -227,56 +236,73 @@ fn rows(
     info: u32,
     loglik: i32,
 ) -> Result<Rows, AllocError> {
-    let item = ItemRow {
-        stimulus,
-        categories: 2,
-        quantities: List::of(vec![in alloc; quantity]?),
-        info: List::of(vec![in alloc; info]?),
-        loglik: List::of(vec![in alloc; loglik, 0]?),
-    };
     let mut items = Vec::new(alloc);
-    items.push(item)?;
-    Ok(Rows {
-        grid: 1,
-        quantities: 1,
-        items: List::of(items),
-    })
+    items.push(item(alloc, stimulus, &[quantity], &[info], &[loglik, 0])?)?;
+    Ok(rows_of(1, 1, items))
 }
 
 #[test]
-fn bank_of_rows(rt: HostRuntime) -> Result<(), Fail> {
-    let alloc = rt.alloc();
-    let bank = Bank::of(alloc, rows(alloc, 64, 65_535, 1_000_000, -10_000_000)?)
-        .ok()
-        .ok_or("a bank")?;
-    assert_eq!(rt; bank.stimuli(), 64);
+fn the_widest_bank_of_rows(rt: HostRuntime) -> Result<(), Fail> {
+    let widest = rows(rt.alloc(), 64, 65_535, 1_000_000, -10_000_000)?;
+    let bank = Bank::of(rt.alloc(), widest).ok().ok_or("a bank")?;
+    assert_eq!(rt; (bank.items(), bank.stimuli()), (1, 64));
     assert_eq!(rt; bank.loglik(0, 0, 0), -10_000_000);
-    let faulty = Bank::of(alloc, rows(alloc, 65, 65_536, 1_000_001, 1)?).err();
-    assert_eq!(rt; faulty, Some(BankFault::BadStimulus(0)));
-    let faulty = Bank::of(alloc, rows(alloc, 0, 65_536, 1_000_001, 1)?).err();
-    assert_eq!(rt; faulty, Some(BankFault::BadQuantity(0)));
-    let faulty = Bank::of(alloc, rows(alloc, 0, 0, 1_000_001, 1)?).err();
-    assert_eq!(rt; faulty, Some(BankFault::BadInfo(0)));
-    let faulty = Bank::of(alloc, rows(alloc, 0, 0, 0, 1)?).err();
-    assert_eq!(rt; faulty, Some(BankFault::BadLogLik(0)));
-    let mut wide = rows(alloc, 0, 0, 0, 0)?;
-    wide.quantities = 9;
-    assert_eq!(rt; Bank::of(alloc, wide).err(), Some(BankFault::BadGrid));
+    Ok(())
+}
+
+/// The fault of the rows of one item.
+fn fault_of(
+    alloc: Global,
+    (stimulus, quantity, info): (u32, u32, u32),
+    loglik: i32,
+) -> Result<Option<BankFault>, AllocError> {
+    let rows = rows(alloc, stimulus, quantity, info, loglik)?;
+    Ok(Bank::of(alloc, rows).err())
+}
+
+#[test]
+fn faults_of_rows(rt: HostRuntime) -> Result<(), Fail> {
+    for (stimulus, quantity, info, fault) in [
+        (65, 65_536, 1_000_001, BankFault::BadStimulus(0)),
+        (0, 65_536, 1_000_001, BankFault::BadQuantity(0)),
+        (0, 0, 1_000_001, BankFault::BadInfo(0)),
+        (0, 0, 0, BankFault::BadLogLik(0)),
+    ] {
+        let found = fault_of(rt.alloc(), (stimulus, quantity, info), 1)?;
+        assert_eq!(rt; found, Some(fault));
+    }
     Ok(())
 }
 
 #[test]
-fn sets_of_items(rt: HostRuntime) -> Result<(), Fail> {
-    let low = ItemSet::empty().with(0).with(63).with(64);
-    let high = ItemSet::empty().with(64).with(511);
-    assert_eq!(rt; low.count(), 3);
-    assert_eq!(rt; low.union(high).count(), 4);
-    assert_eq!(rt; low.meet(high), ItemSet::empty().with(64));
-    assert_eq!(rt; low.minus(high).first(), Some(0));
-    assert_eq!(rt; high.without(64).first(), Some(511));
-    assert_eq!(rt; ItemSet::empty().first(), None);
-    assert!(rt; low.minus(high).is_subset(&low));
-    assert!(rt; !low.is_subset(&high));
-    assert!(rt; low.all_below(65) && !low.all_below(64));
+fn too_many_quantities(rt: HostRuntime) -> Result<(), Fail> {
+    let mut wide = rows(rt.alloc(), 0, 0, 0, 0)?;
+    wide.quantities = 9;
+    let fault = Bank::of(rt.alloc(), wide).err();
+    assert_eq!(rt; fault, Some(BankFault::BadGrid));
     Ok(())
+}
+
+fn low() -> ItemSet {
+    ItemSet::empty().with(0).with(63).with(64)
+}
+
+fn high() -> ItemSet {
+    ItemSet::empty().with(64).with(511)
+}
+
+#[test]
+fn members_of_sets(rt: HostRuntime) {
+    assert_eq!(rt; (low().count(), low().union(high()).count()), (3, 4));
+    assert_eq!(rt; low().minus(high()).first(), Some(0));
+    assert_eq!(rt; high().without(64).first(), Some(511));
+    assert_eq!(rt; ItemSet::empty().first(), None);
+}
+
+#[test]
+fn sets_in_sets(rt: HostRuntime) {
+    assert_eq!(rt; low().meet(high()), ItemSet::empty().with(64));
+    assert!(rt; low().minus(high()).is_subset(&low()));
+    assert!(rt; !low().is_subset(&high()));
+    assert!(rt; low().all_below(65) && !low().all_below(64));
 }
