@@ -8,89 +8,13 @@ ghost use Rattle.constraint_model.specs.Views.{problem_of};
 
 #[cfg(test)]
 mod tests {
-    use bank_tables::{Bank, ItemRow, ItemSet, List, Rows};
+    use bank_tables::{Bank, ItemSet};
     use certificate_check::{Reason, Verdict, check, spent};
-    use constraint_model::{Draft, Problem, Rate, Row, Spec, StimulusBound};
+    use constraint_model::{Draft, Problem, Row, Spec, StimulusBound};
     use proof_tree::{Tree, decode};
     use std::alloc::{AllocError, Global};
     use std::test::Fail;
-
-    fn set_of(items: &[u16]) -> ItemSet {
-        let mut set = ItemSet::empty();
-        for item in items {
-            if *item < 512 {
-                set = set.with(*item);
-            }
-        }
-        set
-    }
-
-    fn item(
-        alloc: Global,
-        quantities: &[u32],
-        info: &[u32],
-        loglik: &[i32],
-    ) -> Result<ItemRow, AllocError> {
-        Ok(ItemRow {
-            stimulus: 0,
-            categories: 2,
-            quantities: List::of(quantities.to_vec(alloc)?),
-            info: List::of(info.to_vec(alloc)?),
-            loglik: List::of(loglik.to_vec(alloc)?),
-        })
-    }
-
-    // Six items, three points: at the middle one the information is 5, 8, 9, 6, 4, 7.
-    fn plain_bank(alloc: Global) -> Result<Bank, Fail> {
-        let flat = [-7i32, -7, -7, -7, -7, -7];
-        let mut items = Vec::new(alloc);
-        items.push(item(alloc, &[], &[9, 5, 1], &flat)?)?;
-        items.push(item(alloc, &[], &[7, 8, 2], &flat)?)?;
-        items.push(item(alloc, &[], &[4, 9, 3], &[-7, -7, -7, -30, -15, -1])?)?;
-        items.push(item(alloc, &[], &[2, 6, 8], &flat)?)?;
-        items.push(item(alloc, &[], &[1, 4, 9], &[0, -1, -20, -7, -7, -7])?)?;
-        items.push(item(alloc, &[], &[3, 7, 5], &flat)?)?;
-        Ok(Bank::of(
-            alloc,
-            Rows {
-                grid: 3,
-                quantities: 0,
-                items: List::of(items),
-            },
-        )?)
-    }
-
-    // Four items of information 5, each with 10 of the one quantity.
-    fn quantity_bank(alloc: Global) -> Result<Bank, Fail> {
-        let mut items = Vec::new(alloc);
-        for _ in 0..4 {
-            items.push(item(alloc, &[10], &[5], &[-1, -1])?)?;
-        }
-        Ok(Bank::of(
-            alloc,
-            Rows {
-                grid: 1,
-                quantities: 1,
-                items: List::of(items),
-            },
-        )?)
-    }
-
-    fn plan(alloc: Global, length: u32, prior: &[i32], rows: &[Row]) -> Result<Draft, AllocError> {
-        Ok(Draft {
-            length,
-            prior: List::of(prior.to_vec(alloc)?),
-            rows: List::of(rows.to_vec(alloc)?),
-            bounds: List::of(Vec::new(alloc)),
-            rate: Rate { num: 1, den: 1 },
-            key: [0; 32],
-            budget: 2_001,
-            base_budget: 4_095,
-            sessions: 1_000,
-            journal: 67_108_864,
-            base: None,
-        })
-    }
+    use trial_cases::{bank_a, bank_q, draft_of, item, rows_of, set_of};
 
     // Three items: so many of 0 and 1, and not both 2 and 5.
     fn plain_plan(alloc: Global, count: u32) -> Result<Draft, AllocError> {
@@ -104,7 +28,7 @@ mod tests {
                 set: set_of(&[2, 5]),
             },
         ];
-        plan(alloc, 3, &[-10, 0, -10], &rows)
+        draft_of(alloc, 3, &[-10, 0, -10], &rows, &[])
     }
 
     fn tree_of(alloc: Global, bytes: &[u8]) -> Result<Tree, Fail> {
@@ -119,7 +43,7 @@ mod tests {
         form: Option<ItemSet>,
         bytes: &[u8],
     ) -> Result<Verdict, Fail> {
-        let bank = plain_bank(alloc)?;
+        let bank = bank_a(alloc)?;
         let spec = Spec::of(alloc, &bank, plain_plan(alloc, count)?)?;
         let problem = Problem::whole(&bank, &spec);
         let tree = tree_of(alloc, bytes)?;
@@ -128,22 +52,17 @@ mod tests {
 
     /// The verdict on a tree over the bank with a quantity: each pair of items has 20 of it, and 15 are allowed.
     fn quantity_verdict(alloc: Global, bytes: &[u8]) -> Result<Verdict, Fail> {
-        let bank = quantity_bank(alloc)?;
+        let bank = bank_q(alloc)?;
         let rows = [Row::Quantity {
             which: 0,
             set: set_of(&[0, 1, 2, 3]),
             low: 0,
             high: 15,
         }];
-        let spec = Spec::of(alloc, &bank, plan(alloc, 2, &[0], &rows)?)?;
+        let spec = Spec::of(alloc, &bank, draft_of(alloc, 2, &[0], &rows, &[])?)?;
         let problem = Problem::whole(&bank, &spec);
         let tree = tree_of(alloc, bytes)?;
         Ok(check(&problem, None, &tree))
-    }
-
-    fn passage_item(alloc: Global, stimulus: u32, info: u32) -> Result<ItemRow, AllocError> {
-        let row = item(alloc, &[], &[info], &[-1, -1])?;
-        Ok(ItemRow { stimulus, ..row })
     }
 
     /// The verdict on a tree with the form {3, 4, 5}, of 13: the passage of items 0, 1 and 2, of 9, 1 and 1, is in a form
@@ -151,83 +70,76 @@ mod tests {
     fn passage_verdict(alloc: Global, bytes: &[u8]) -> Result<Verdict, Fail> {
         let mut items = Vec::new(alloc);
         for (stimulus, info) in [(1, 9), (1, 1), (1, 1), (0, 5), (0, 4), (0, 4)] {
-            items.push(passage_item(alloc, stimulus, info)?)?;
+            items.push(item(alloc, stimulus, &[], &[info], &[-1, -1])?)?;
         }
-        let rows = Rows {
-            grid: 1,
-            quantities: 0,
-            items: List::of(items),
-        };
-        let bank = Bank::of(alloc, rows)?;
-        let bounds = vec![in alloc; StimulusBound { low: 3, high: 3 }]?;
-        let draft = Draft {
-            bounds: List::of(bounds),
-            ..plan(alloc, 3, &[0], &[])?
-        };
-        let spec = Spec::of(alloc, &bank, draft)?;
+        let bank = Bank::of(alloc, rows_of(1, 0, items))?;
+        let bounds = [StimulusBound { low: 3, high: 3 }];
+        let spec = Spec::of(alloc, &bank, draft_of(alloc, 3, &[0], &[], &bounds)?)?;
         let problem = Problem::whole(&bank, &spec);
         let tree = tree_of(alloc, bytes)?;
         Ok(check(&problem, Some(&set_of(&[3, 4, 5])), &tree))
     }
 
-    /// Side 0, the low one of the passage, has the multiplier 768: its items weigh 12, 4 and 4 units of 256, and it weighs -9.
+    /// Trees with the multiplier 768 on side 0, the low one of the passage, whose items then weigh 12, 4 and 4 units of 256
+    /// while it weighs -9.
+    const CAPPED: [(&[u8], Verdict); 8] = [
+        // The cap of 4 units leaves the passage 8 of item 0, so -1: the maximum is 5 + 4 + 4, the form's value.
+        (
+            &[1, 0, 2, 0, 0, 0, 0, 3, 0, 1, 0x80, 0, 0, 4, 0, 3, 0],
+            Verdict::Optimal,
+        ),
+        // Without the cap it is 12 + 5 + 4.
+        (
+            &[1, 0, 1, 0, 0, 0, 0, 3, 0, 3, 0],
+            Verdict::Bad(0, Reason::NotClosed),
+        ),
+        // The cap as 2,024 less 1,000.
+        (
+            &[
+                1, 0, 3, 0, 0, 0, 0, 3, 0, 1, 0x80, 0, 0, 7, 0xe8, 1, 0x81, 0, 0, 3, 0xe8, 3, 0,
+            ],
+            Verdict::Optimal,
+        ),
+        // Its sides exchanged, so -4 units: the passage has 32 of its items, and is worth 23.
+        (
+            &[1, 0, 2, 0, 0, 0, 0, 3, 0, 1, 0x81, 0, 0, 4, 0, 3, 0],
+            Verdict::Bad(0, Reason::NotClosed),
+        ),
+        // A cap of 2 units: the passage has 14 of its items, and is worth 5.
+        (
+            &[1, 0, 2, 0, 0, 0, 0, 3, 0, 1, 0x80, 0, 0, 2, 0, 3, 0],
+            Verdict::Bad(0, Reason::NotClosed),
+        ),
+        // Where the passage is chosen there is no cap, and the maximum is 12 + 5 + 4 - 9; where it is dropped it is 13.
+        (
+            &[
+                1, 0, 2, 0, 0, 0, 0, 3, 0, 1, 0x80, 0, 0, 2, 0, 2, 1, 3, 0, 3, 0,
+            ],
+            Verdict::Optimal,
+        ),
+        // The plan has sides 0 and 1.
+        (
+            &[1, 0, 1, 0, 2, 0, 0, 0, 1, 3, 0],
+            Verdict::Bad(0, Reason::NoSide),
+        ),
+        (
+            &[1, 0, 1, 1, 0x7f, 0, 0, 0, 1, 3, 0],
+            Verdict::Bad(0, Reason::NoSide),
+        ),
+    ];
+
     #[test]
     fn caps(rt: HostRuntime) -> Result<(), Fail> {
-        let alloc = rt.alloc();
-        let cases: [(&[u8], Verdict); 8] = [
-            // The cap of 4 units leaves the passage 8 of item 0, so -1: the maximum is 5 + 4 + 4, the form's value.
-            (
-                &[1, 0, 2, 0, 0, 0, 0, 3, 0, 1, 0x80, 0, 0, 4, 0, 3, 0],
-                Verdict::Optimal,
-            ),
-            // Without the cap it is 12 + 5 + 4.
-            (
-                &[1, 0, 1, 0, 0, 0, 0, 3, 0, 3, 0],
-                Verdict::Bad(0, Reason::NotClosed),
-            ),
-            // The cap as 2,024 less 1,000.
-            (
-                &[
-                    1, 0, 3, 0, 0, 0, 0, 3, 0, 1, 0x80, 0, 0, 7, 0xe8, 1, 0x81, 0, 0, 3, 0xe8, 3, 0,
-                ],
-                Verdict::Optimal,
-            ),
-            // Its sides exchanged, so -4 units: the passage has 32 of its items, and is worth 23.
-            (
-                &[1, 0, 2, 0, 0, 0, 0, 3, 0, 1, 0x81, 0, 0, 4, 0, 3, 0],
-                Verdict::Bad(0, Reason::NotClosed),
-            ),
-            // A cap of 2 units: the passage has 14 of its items, and is worth 5.
-            (
-                &[1, 0, 2, 0, 0, 0, 0, 3, 0, 1, 0x80, 0, 0, 2, 0, 3, 0],
-                Verdict::Bad(0, Reason::NotClosed),
-            ),
-            // Where the passage is chosen there is no cap, and the maximum is 12 + 5 + 4 - 9; where it is dropped it is 13.
-            (
-                &[
-                    1, 0, 2, 0, 0, 0, 0, 3, 0, 1, 0x80, 0, 0, 2, 0, 2, 1, 3, 0, 3, 0,
-                ],
-                Verdict::Optimal,
-            ),
-            // The plan has sides 0 and 1.
-            (
-                &[1, 0, 1, 0, 2, 0, 0, 0, 1, 3, 0],
-                Verdict::Bad(0, Reason::NoSide),
-            ),
-            (
-                &[1, 0, 1, 1, 0x7f, 0, 0, 0, 1, 3, 0],
-                Verdict::Bad(0, Reason::NoSide),
-            ),
-        ];
-        for (bytes, verdict) in cases {
-            assert_eq!(rt; passage_verdict(alloc, bytes)?, verdict);
+        for (bytes, verdict) in CAPPED {
+            let found = passage_verdict(rt.alloc(), bytes)?;
+            assert_eq!(rt; found, verdict);
         }
         Ok(())
     }
 
     /// Whether a tree over the plain bank spends a budget.
     fn plain_spent(alloc: Global, bytes: &[u8], budget: u16) -> Result<bool, Fail> {
-        let bank = plain_bank(alloc)?;
+        let bank = bank_a(alloc)?;
         let spec = Spec::of(alloc, &bank, plain_plan(alloc, 1)?)?;
         let problem = Problem::whole(&bank, &spec);
         let tree = tree_of(alloc, bytes)?;
@@ -253,7 +165,7 @@ mod tests {
         bytes: &[u8],
         budget: u16,
     ) -> Result<bool, Fail> {
-        let bank = plain_bank(alloc)?;
+        let bank = bank_a(alloc)?;
         let spec = Spec::of(alloc, &bank, plain_plan(alloc, 1)?)?;
         let form = set_of(start);
         if !form.all_below(bank.items()) {
@@ -264,63 +176,69 @@ mod tests {
         Ok(spent(&problem, &tree, budget))
     }
 
+    /// Trees of one node.
+    const SMALL: [(&[u8], Verdict); 8] = [
+        (&[0, 7], Verdict::Partial(1)),
+        (&[0, 6], Verdict::Bad(0, Reason::NotWhole)),
+        (&[0, 3, 0], Verdict::Bad(0, Reason::NoVector)),
+        (&[0, 5, 0], Verdict::Bad(0, Reason::RowPossible)),
+        // The high side of the enemies at 1 gives 6,143, which is 256 * 23 + 255; at 4,096 it gives 8,960.
+        (&[1, 0, 1, 0, 3, 0, 0, 0, 1, 3, 0], Verdict::Optimal),
+        (
+            &[1, 0, 1, 0, 3, 0, 0, 0x10, 0, 3, 0],
+            Verdict::Bad(0, Reason::NotClosed),
+        ),
+        // Two rows have sides 0 to 3.
+        (
+            &[1, 0, 1, 0, 4, 0, 0, 0, 1, 3, 0],
+            Verdict::Bad(0, Reason::NoSide),
+        ),
+        // As a ray it gives 1.
+        (
+            &[1, 0, 1, 0, 3, 0, 0, 0, 1, 4, 0],
+            Verdict::Bad(0, Reason::NotNegative),
+        ),
+    ];
+
+    /// The verdict on a tree over the plain bank with the form of these items.
+    fn form_verdict(alloc: Global, items: &[u16], bytes: &[u8]) -> Result<Verdict, Fail> {
+        plain_verdict(alloc, 1, Some(set_of(items)), bytes)
+    }
+
     /// The verdicts on the form {1, 2, 3}, of 23.
     #[test]
     fn verdicts_of_one_node(rt: HostRuntime) -> Result<(), Fail> {
-        let alloc = rt.alloc();
-        let cases: [(&[u8], Verdict); 8] = [
-            (&[0, 7], Verdict::Partial(1)),
-            (&[0, 6], Verdict::Bad(0, Reason::NotWhole)),
-            (&[0, 3, 0], Verdict::Bad(0, Reason::NoVector)),
-            (&[0, 5, 0], Verdict::Bad(0, Reason::RowPossible)),
-            // The high side of the enemies at 1 gives 6,143, which is 256 * 23 + 255; at 4,096 it gives 8,960.
-            (&[1, 0, 1, 0, 3, 0, 0, 0, 1, 3, 0], Verdict::Optimal),
-            (
-                &[1, 0, 1, 0, 3, 0, 0, 0x10, 0, 3, 0],
-                Verdict::Bad(0, Reason::NotClosed),
-            ),
-            // Two rows have sides 0 to 3.
-            (
-                &[1, 0, 1, 0, 4, 0, 0, 0, 1, 3, 0],
-                Verdict::Bad(0, Reason::NoSide),
-            ),
-            // As a ray it gives 1.
-            (
-                &[1, 0, 1, 0, 3, 0, 0, 0, 1, 4, 0],
-                Verdict::Bad(0, Reason::NotNegative),
-            ),
-        ];
-        for (bytes, verdict) in cases {
-            let found = plain_verdict(alloc, 1, Some(set_of(&[1, 2, 3])), bytes)?;
+        for (bytes, verdict) in SMALL {
+            let found = form_verdict(rt.alloc(), &[1, 2, 3], bytes)?;
             assert_eq!(rt; found, verdict);
         }
         Ok(())
     }
 
+    /// Items 1, 2 and 3 in: one set is left, of 23.
+    const LEFT: &[u8] = &[0, 1, 0, 1, 1, 0, 2, 1, 0, 3, 6, 7, 7, 7];
+
+    /// The set {1, 3, 4} has 18.
     #[test]
     fn verdicts_without_a_better_form(rt: HostRuntime) -> Result<(), Fail> {
-        let alloc = rt.alloc();
-        let no_form = plain_verdict(alloc, 1, Some(set_of(&[1, 2, 5])), &[0, 7])?;
+        let no_form = form_verdict(rt.alloc(), &[1, 2, 5], &[0, 7])?;
         assert_eq!(rt; no_form, Verdict::Bad(0, Reason::NotForm));
-        // Items 1, 2 and 3 in: one set is left, of 23. The set {1, 3, 4} has 18.
-        let whole: &[u8] = &[0, 1, 0, 1, 1, 0, 2, 1, 0, 3, 6, 7, 7, 7];
-        let best = plain_verdict(alloc, 1, Some(set_of(&[1, 2, 3])), whole)?;
+        let best = form_verdict(rt.alloc(), &[1, 2, 3], LEFT)?;
         assert_eq!(rt; best, Verdict::Partial(3));
-        let lesser = plain_verdict(alloc, 1, Some(set_of(&[1, 3, 4])), whole)?;
+        let lesser = form_verdict(rt.alloc(), &[1, 3, 4], LEFT)?;
         assert_eq!(rt; lesser, Verdict::Bad(3, Reason::Better));
-        let none = plain_verdict(alloc, 1, None, whole)?;
+        let none = plain_verdict(rt.alloc(), 1, None, LEFT)?;
         assert_eq!(rt; none, Verdict::Bad(3, Reason::Better));
         Ok(())
     }
 
     #[test]
     fn verdicts_of_branches(rt: HostRuntime) -> Result<(), Fail> {
-        let alloc = rt.alloc();
         let open: &[u8] = &[0, 1, 0, 1, 1, 0, 2, 1, 0, 3, 7, 7, 7, 7];
-        let found = plain_verdict(alloc, 1, Some(set_of(&[1, 2, 3])), open)?;
+        let found = form_verdict(rt.alloc(), &[1, 2, 3], open)?;
         assert_eq!(rt; found, Verdict::Bad(3, Reason::OpenWhole));
         let twice: &[u8] = &[0, 1, 0, 1, 7, 1, 0, 1, 7, 7];
-        let found = plain_verdict(alloc, 1, Some(set_of(&[1, 2, 3])), twice)?;
+        let found = form_verdict(rt.alloc(), &[1, 2, 3], twice)?;
         assert_eq!(rt; found, Verdict::Bad(2, Reason::Determined));
         Ok(())
     }
@@ -337,47 +255,51 @@ mod tests {
         Ok(())
     }
 
+    /// Trees with a budget, and whether they spend it.
+    const SPENT: [(&[u8], u16, bool); 7] = [
+        (&[0, 1, 0, 3, 1, 0, 4, 7, 7, 7], 5, true),
+        // Another number of nodes.
+        (&[0, 1, 0, 3, 1, 0, 4, 7, 7, 7], 7, false),
+        // No Open leaf.
+        (&[0, 6], 1, false),
+        // A branch after an Open leaf.
+        (&[0, 1, 0, 3, 7, 1, 0, 4, 7, 7], 5, false),
+        // A branch on an item that is in.
+        (&[0, 1, 0, 3, 1, 0, 3, 7, 7, 7], 5, false),
+        // Items 0 and 1 in: a row is impossible at an Open leaf, and at a branch.
+        (&[0, 1, 0, 0, 1, 0, 1, 7, 7, 7], 5, false),
+        (&[0, 1, 0, 0, 1, 0, 1, 1, 0, 2, 7, 7, 7, 7], 7, false),
+    ];
+
     #[test]
     fn spent_trees(rt: HostRuntime) -> Result<(), Fail> {
-        let alloc = rt.alloc();
-        let cases: [(&[u8], u16, bool); 7] = [
-            (&[0, 1, 0, 3, 1, 0, 4, 7, 7, 7], 5, true),
-            // Another number of nodes.
-            (&[0, 1, 0, 3, 1, 0, 4, 7, 7, 7], 7, false),
-            // No Open leaf.
-            (&[0, 6], 1, false),
-            // A branch after an Open leaf.
-            (&[0, 1, 0, 3, 7, 1, 0, 4, 7, 7], 5, false),
-            // A branch on an item that is in.
-            (&[0, 1, 0, 3, 1, 0, 3, 7, 7, 7], 5, false),
-            // Items 0 and 1 in: a row is impossible at an Open leaf, and at a branch.
-            (&[0, 1, 0, 0, 1, 0, 1, 7, 7, 7], 5, false),
-            (&[0, 1, 0, 0, 1, 0, 1, 1, 0, 2, 7, 7, 7, 7], 7, false),
-        ];
-        for (bytes, budget, expected) in cases {
-            let found = plain_spent(alloc, bytes, budget)?;
+        for (bytes, budget, expected) in SPENT {
+            let found = plain_spent(rt.alloc(), bytes, budget)?;
             assert_eq!(rt; found, expected);
         }
         Ok(())
     }
 
-    /// The plain bound at the root is 256 * 24, with item 3 in 256 * 23, and with items 3 and 4 in 256 * 19.
+    /// Items 3 and 4 branched on.
+    const BRANCHES: &[u8] = &[0, 1, 0, 3, 1, 0, 4, 7, 7, 7];
+
+    /// The same with a start. The plain bound at the root is 256 * 24, with item 3 in 256 * 23, and with items 3 and 4 in
+    /// 256 * 19.
+    const STARTED: [(&[u16], &[u8], u16, bool); 5] = [
+        // The start {1, 2, 3} has 23.
+        (&[1, 2, 3], &[0, 7], 1, true),
+        (&[1, 2, 3], BRANCHES, 5, false),
+        // {1, 3, 4} has 18, and {0, 2, 3} has 20: the bound with items 3 and 4 in leaves no room above it.
+        (&[1, 3, 4], BRANCHES, 5, true),
+        (&[0, 2, 3], BRANCHES, 5, false),
+        // {1, 2, 5} has 24, but it is no form.
+        (&[1, 2, 5], BRANCHES, 5, true),
+    ];
+
     #[test]
     fn spent_trees_beyond_a_start(rt: HostRuntime) -> Result<(), Fail> {
-        let alloc = rt.alloc();
-        let branches: &[u8] = &[0, 1, 0, 3, 1, 0, 4, 7, 7, 7];
-        let cases: [(&[u16], &[u8], u16, bool); 5] = [
-            // The start {1, 2, 3} has 23.
-            (&[1, 2, 3], &[0, 7], 1, true),
-            (&[1, 2, 3], branches, 5, false),
-            // {1, 3, 4} has 18, and {0, 2, 3} has 20: the bound with items 3 and 4 in leaves no room above it.
-            (&[1, 3, 4], branches, 5, true),
-            (&[0, 2, 3], branches, 5, false),
-            // {1, 2, 5} has 24, but it is no form.
-            (&[1, 2, 5], branches, 5, true),
-        ];
-        for (start, bytes, budget, expected) in cases {
-            let found = started_spent(alloc, start, bytes, budget)?;
+        for (start, bytes, budget, expected) in STARTED {
+            let found = started_spent(rt.alloc(), start, bytes, budget)?;
             assert_eq!(rt; found, expected);
         }
         Ok(())

@@ -5,64 +5,57 @@ use proof_tree::{Node, Tree, TreeFault, Vector, decode, encode};
 use std::alloc::{AllocError, Global};
 use std::test::Fail;
 
-#[test]
-fn shortest_faults(rt: HostRuntime) -> Result<(), Fail> {
-    let alloc = rt.alloc();
-    assert_eq!(rt; decode(alloc, &[]).err(), Some(TreeFault::Short));
-    assert_eq!(rt; decode(alloc, &[0]).err(), Some(TreeFault::Unfinished(1)));
-    assert_eq!(rt; decode(alloc, &[0, 8]).err(), Some(TreeFault::BadKind(1)));
-    assert_eq!(rt; decode(alloc, &[0, 0]).err(), Some(TreeFault::BadKind(1)));
-    assert_eq!(rt; decode(alloc, &[0, 1, 0]).err(), Some(TreeFault::Short));
-    assert_eq!(rt; decode(alloc, &[1]).err(), Some(TreeFault::Short));
-    assert_eq!(rt; decode(alloc, &[33]).err(), Some(TreeFault::Short));
-    Ok(())
+/// The fault of these bytes.
+fn fault_of(alloc: Global, bytes: &[u8]) -> Option<TreeFault> {
+    decode(alloc, bytes).err()
 }
 
-#[test]
-fn vector_faults(rt: HostRuntime) -> Result<(), Fail> {
-    let alloc = rt.alloc();
+/// Bytes of no tree, each with its fault.
+const NO_TREES: [(&[u8], TreeFault); 24] = [
+    (&[], TreeFault::Short),
+    (&[0], TreeFault::Unfinished(1)),
+    (&[0, 8], TreeFault::BadKind(1)),
+    (&[0, 0], TreeFault::BadKind(1)),
+    (&[0, 1, 0], TreeFault::Short),
+    (&[1], TreeFault::Short),
+    (&[33], TreeFault::Short),
     // 385 pairs.
-    assert_eq!(rt;
-        decode(alloc, &[1, 1, 0x81]).err(),
-        Some(TreeFault::BadVector(1))
-    );
+    (&[1, 1, 0x81], TreeFault::BadVector(1)),
     // No pair where one should begin, and half a pair.
-    assert_eq!(rt; decode(alloc, &[1, 0, 1]).err(), Some(TreeFault::Short));
-    assert_eq!(rt;
-        decode(alloc, &[1, 0, 1, 0, 1]).err(),
-        Some(TreeFault::Short)
-    );
-    assert_eq!(rt;
-        decode(alloc, &[1, 0, 1, 0, 1, 0, 0, 0]).err(),
-        Some(TreeFault::Short)
-    );
+    (&[1, 0, 1], TreeFault::Short),
+    (&[1, 0, 1, 0, 1], TreeFault::Short),
+    (&[1, 0, 1, 0, 1, 0, 0, 0], TreeFault::Short),
     // Side 386, also where the multiplier is missing.
-    assert_eq!(rt;
-        decode(alloc, &[1, 0, 1, 1, 0x82, 0, 0, 0, 1]).err(),
-        Some(TreeFault::BadVector(3))
-    );
-    assert_eq!(rt;
-        decode(alloc, &[1, 0, 1, 1, 0x82]).err(),
-        Some(TreeFault::BadVector(3))
-    );
+    (&[1, 0, 1, 1, 0x82, 0, 0, 0, 1], TreeFault::BadVector(3)),
+    (&[1, 0, 1, 1, 0x82], TreeFault::BadVector(3)),
     // Multipliers 0 and 16,777,217.
-    assert_eq!(rt;
-        decode(alloc, &[1, 0, 1, 0, 1, 0, 0, 0, 0]).err(),
-        Some(TreeFault::BadVector(5))
-    );
-    assert_eq!(rt;
-        decode(alloc, &[1, 0, 1, 0, 1, 1, 0, 0, 1]).err(),
-        Some(TreeFault::BadVector(5))
-    );
+    (&[1, 0, 1, 0, 1, 0, 0, 0, 0], TreeFault::BadVector(5)),
+    (&[1, 0, 1, 0, 1, 1, 0, 0, 1], TreeFault::BadVector(5)),
     // A side twice, and one below the side before.
-    let twice = [1, 0, 2, 0, 1, 0, 0, 0, 1, 0, 1, 0, 0, 0, 1, 7];
-    assert_eq!(rt; decode(alloc, &twice).err(), Some(TreeFault::BadVector(9)));
-    let descending = [1, 0, 2, 0, 1, 0, 0, 0, 1, 0, 0, 0, 0, 0, 1, 7];
-    assert_eq!(rt;
-        decode(alloc, &descending).err(),
-        Some(TreeFault::BadVector(9))
-    );
-    Ok(())
+    (
+        &[1, 0, 2, 0, 1, 0, 0, 0, 1, 0, 1, 0, 0, 0, 1, 7],
+        TreeFault::BadVector(9),
+    ),
+    (
+        &[1, 0, 2, 0, 1, 0, 0, 0, 1, 0, 0, 0, 0, 0, 1, 7],
+        TreeFault::BadVector(9),
+    ),
+    // Item 512, stimuli 0 and 65, row 193.
+    (&[0, 1, 2, 0], TreeFault::BadKind(1)),
+    (&[0, 2, 0], TreeFault::BadKind(1)),
+    (&[0, 2, 65], TreeFault::BadKind(1)),
+    (&[0, 5, 193], TreeFault::BadKind(1)),
+    // After a branch: the second node.
+    (&[0, 2, 1, 6, 5, 193], TreeFault::BadKind(4)),
+    (&[0, 2, 1, 6], TreeFault::Unfinished(4)),
+    (&[0, 2, 1, 6, 3], TreeFault::Short),
+];
+
+#[test]
+fn faults(rt: HostRuntime) {
+    for (bytes, fault) in NO_TREES {
+        assert_eq!(rt; fault_of(rt.alloc(), bytes), Some(fault));
+    }
 }
 
 /// 33 vectors: 32 of 384 pairs, which are all that a tree may have, and the number of pairs of one more.
@@ -89,10 +82,7 @@ fn most_pairs(rt: HostRuntime) -> Result<(), Fail> {
     assert_eq!(rt; tree.vectors().len(), 33);
     // The 12,289th pair.
     let over = many_pairs(alloc, 1)?;
-    assert_eq!(rt;
-        decode(alloc, &over).err(),
-        Some(TreeFault::BadVector(73_793))
-    );
+    assert_eq!(rt; fault_of(alloc, &over), Some(TreeFault::BadVector(73_793)));
     Ok(())
 }
 
@@ -111,54 +101,15 @@ fn most_vectors(rt: HostRuntime) -> Result<(), Fail> {
 }
 
 #[test]
-fn node_faults(rt: HostRuntime) -> Result<(), Fail> {
-    let alloc = rt.alloc();
-    // Item 512, stimuli 0 and 65, row 193.
-    assert_eq!(rt;
-        decode(alloc, &[0, 1, 2, 0]).err(),
-        Some(TreeFault::BadKind(1))
-    );
-    assert_eq!(rt;
-        decode(alloc, &[0, 2, 0]).err(),
-        Some(TreeFault::BadKind(1))
-    );
-    assert_eq!(rt;
-        decode(alloc, &[0, 2, 65]).err(),
-        Some(TreeFault::BadKind(1))
-    );
-    assert_eq!(rt;
-        decode(alloc, &[0, 5, 193]).err(),
-        Some(TreeFault::BadKind(1))
-    );
-    // After a branch: the second node.
-    assert_eq!(rt;
-        decode(alloc, &[0, 2, 1, 6, 5, 193]).err(),
-        Some(TreeFault::BadKind(4))
-    );
-    assert_eq!(rt;
-        decode(alloc, &[0, 2, 1, 6]).err(),
-        Some(TreeFault::Unfinished(4))
-    );
-    assert_eq!(rt;
-        decode(alloc, &[0, 2, 1, 6, 3]).err(),
-        Some(TreeFault::Short)
-    );
-    Ok(())
-}
-
-#[test]
 fn most_nodes(rt: HostRuntime) -> Result<(), Fail> {
     let alloc = rt.alloc();
     let mut bytes = vec![in alloc; 0]?;
     for _ in 0..4095 {
         bytes.extend_from_slice(&[2, 1])?;
     }
-    assert_eq!(rt;
-        decode(alloc, &bytes).err(),
-        Some(TreeFault::Unfinished(8191))
-    );
+    assert_eq!(rt; fault_of(alloc, &bytes), Some(TreeFault::Unfinished(8191)));
     bytes.push(7)?;
-    assert_eq!(rt; decode(alloc, &bytes).err(), Some(TreeFault::TooLong(8191)));
+    assert_eq!(rt; fault_of(alloc, &bytes), Some(TreeFault::TooLong(8191)));
     Ok(())
 }
 
@@ -168,7 +119,7 @@ const RAY: [u8; 11] = [1, 0, 1, 0, 1, 0, 0, 0, 1, 4, 0];
 #[test]
 fn eleven_bytes(rt: HostRuntime) -> Result<(), Fail> {
     let alloc = rt.alloc();
-    assert_eq!(rt; decode(alloc, &RAY[..10]).err(), Some(TreeFault::Short));
+    assert_eq!(rt; fault_of(alloc, &RAY[..10]), Some(TreeFault::Short));
     let (tree, used) = decode(alloc, &RAY).ok().ok_or("a tree")?;
     assert_eq!(rt; used, 11);
     assert_eq!(rt; tree.vectors().len(), 1);
