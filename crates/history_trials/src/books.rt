@@ -2,8 +2,7 @@
 //! sessions.
 
 use crate::worked::{
-    ALL, FIRST_BEST, SECOND_BEST, answered, bank, closed, plan, served, set_aside, set_of, started,
-    tree_of,
+    ALL, FIRST_BEST, SECOND_BEST, answered, closed, plan, served, set_aside, started, tree_of,
 };
 use bank_tables::Short;
 use constraint_model::{Breach, Spec};
@@ -13,6 +12,7 @@ use exam_session::{Book, Counters, Illegal, Place};
 use history_model::laws::may_is_legal;
 use std::alloc::{AllocError, Global};
 use std::test::Fail;
+use trial_cases::{bank_a, set_of};
 
 /// The tree for the best form at first, with 4,096 in place of 1: it gives 8,960, which is above 6,143.
 const TOO_HIGH: [u8; 11] = [1, 0, 1, 0, 3, 0, 0, 0x10, 0, 3, 0];
@@ -51,7 +51,7 @@ fn reason(
     records: &[Record],
     rec: &Record,
 ) -> Result<Option<Illegal>, Fail> {
-    let bank = bank(alloc)?;
+    let bank = bank_a(alloc)?;
     let spec = Spec::of(alloc, &bank, plan(alloc, budget)?)?;
     let mut book = Book::new(alloc, &bank, &spec)?;
     take_all(&mut book, alloc, records)?;
@@ -72,88 +72,108 @@ fn first_served(alloc: Global) -> Result<Vec<Record>, Fail> {
 }
 
 /// Why a record may not follow the first serving; none where it may.
-fn reason_then(alloc: Global, rec: &Record) -> Result<Option<Illegal>, Fail> {
-    let records = first_served(alloc)?;
-    reason(alloc, 2_001, &records, rec)
+fn reason_then(alloc: Global, rec: Record) -> Result<Option<Illegal>, Fail> {
+    reason(alloc, 2_001, &first_served(alloc)?, &rec)
 }
 
 #[test]
 fn after_a_serving(rt: HostRuntime) -> Result<(), Fail> {
-    let alloc = rt.alloc();
     let waiting = Place::Waiting {
         step: 0,
         item: 2,
         proved: true,
     };
-    let found = reason_then(alloc, &started(2, 71, &ALL))?;
+    let found = reason_then(rt.alloc(), started(2, 71, &ALL))?;
     assert_eq!(rt; found, Some(Illegal::NotNumber(1)));
-    let found = reason_then(alloc, &started(1, 70, &ALL))?;
+    let found = reason_then(rt.alloc(), started(1, 70, &ALL))?;
     assert_eq!(rt; found, Some(Illegal::Booked(0)));
-    let found = reason_then(alloc, &answered(0, 0, 2))?;
-    assert_eq!(rt; found, Some(Illegal::BadResponse(2)));
-    let found = reason_then(alloc, &answered(0, 1, 0))?;
+    let found = reason_then(rt.alloc(), answered(0, 1, 0))?;
     assert_eq!(rt; found, Some(Illegal::NotWaiting(waiting)));
-    let found = reason_then(alloc, &closed(5))?;
-    assert_eq!(rt; found, Some(Illegal::NoSession(1)));
-    assert_eq!(rt; reason_then(alloc, &closed(0))?, None);
     Ok(())
+}
+
+#[test]
+fn a_response_after_a_serving(rt: HostRuntime) -> Result<(), Fail> {
+    let found = reason_then(rt.alloc(), answered(0, 0, 2))?;
+    assert_eq!(rt; found, Some(Illegal::BadResponse(2)));
+    Ok(())
+}
+
+#[test]
+fn closing_after_a_serving(rt: HostRuntime) -> Result<(), Fail> {
+    let found = reason_then(rt.alloc(), closed(5))?;
+    assert_eq!(rt; found, Some(Illegal::NoSession(1)));
+    assert_eq!(rt; reason_then(rt.alloc(), closed(0))?, None);
+    Ok(())
+}
+
+/// Why a start may not follow that of session 0; none where it may.
+fn start_reason(alloc: Global, booking: u64, items: &[u16]) -> Result<Option<Illegal>, Fail> {
+    let records = [started(0, 70, &ALL)];
+    reason(alloc, 2_001, &records, &started(1, booking, items))
 }
 
 /// The reasons of a start, in their order.
 #[test]
 fn reasons_of_a_start(rt: HostRuntime) -> Result<(), Fail> {
-    let alloc = rt.alloc();
-    let found = reason(alloc, 2_001, &[], &started(1, 70, &ALL))?;
+    let found = reason(rt.alloc(), 2_001, &[], &started(1, 70, &ALL))?;
     assert_eq!(rt; found, Some(Illegal::NotNumber(0)));
-    let records = [started(0, 70, &ALL)];
-    let found = reason(alloc, 2_001, &records, &started(1, 70, &ALL))?;
+    let found = start_reason(rt.alloc(), 70, &ALL)?;
     assert_eq!(rt; found, Some(Illegal::Booked(0)));
-    let found = reason(alloc, 2_001, &records, &started(1, 71, &[0, 1, 2, 4, 5]))?;
+    let found = start_reason(rt.alloc(), 71, &[0, 1, 2, 4, 5])?;
     assert_eq!(rt; found, Some(Illegal::NotDrawn(3)));
-    let found = reason(
-        alloc,
-        2_001,
-        &records,
-        &started(1, 71, &[0, 1, 2, 3, 4, 5, 6]),
-    )?;
+    let found = start_reason(rt.alloc(), 71, &[0, 1, 2, 3, 4, 5, 6])?;
     assert_eq!(rt; found, Some(Illegal::NotDrawn(6)));
     Ok(())
+}
+
+/// Why a record may not follow where session 0 was set aside under a budget of one node; none where it may.
+fn reason_aside(alloc: Global, rec: Record) -> Result<Option<Illegal>, Fail> {
+    let records = [started(0, 70, &ALL), set_aside(alloc, 0)?];
+    reason(alloc, 1, &records, &rec)
 }
 
 /// Those of setting aside, in their order; the last after it was set aside once.
 #[test]
 fn reasons_of_setting_aside(rt: HostRuntime) -> Result<(), Fail> {
     let alloc = rt.alloc();
-    let mut records = Vec::new(alloc);
-    records.push(started(0, 70, &ALL))?;
-    records.push(set_aside(alloc, 0)?)?;
-    let found = reason(alloc, 1, &records, &set_aside(alloc, 1)?)?;
+    let found = reason_aside(alloc, set_aside(alloc, 1)?)?;
     assert_eq!(rt; found, Some(Illegal::NoSession(1)));
     let late = served(alloc, 0, (1, 2), &[1, 2, 3], &FIRST_BEST)?;
-    let found = reason(alloc, 1, &records, &late)?;
+    let found = reason_aside(alloc, late)?;
     assert_eq!(rt; found, Some(Illegal::NotPending(Place::Pending(0))));
-    let found = reason(alloc, 1, &records, &set_aside(alloc, 0)?)?;
+    let found = reason_aside(alloc, set_aside(alloc, 0)?)?;
     assert_eq!(rt; found, Some(Illegal::IsAside));
     Ok(())
+}
+
+/// Why a record may not follow the start of session 0; none where it may.
+fn reason_begun(alloc: Global, rec: Record) -> Result<Option<Illegal>, Fail> {
+    let records = [started(0, 70, &ALL)];
+    reason(alloc, 2_001, &records, &rec)
+}
+
+/// Why a first serving may not follow the start; none where it may.
+fn serving_reason(
+    alloc: Global,
+    item: u16,
+    form: &[u16],
+    tree: &[u8],
+) -> Result<Option<Illegal>, Fail> {
+    reason_begun(alloc, served_first(alloc, item, form, tree)?)
 }
 
 /// Those of a serving, in their order. Of the items 0, 1 and 2 two are of the row that needs
 /// exactly one of 0 and 1.
 #[test]
 fn reasons_of_a_serving(rt: HostRuntime) -> Result<(), Fail> {
-    let alloc = rt.alloc();
-    let records = [started(0, 70, &ALL)];
-    let other_form = served_first(alloc, 2, &[0, 1, 2], &FIRST_BEST)?;
-    let found = reason(alloc, 2_001, &records, &other_form)?;
+    let found = serving_reason(rt.alloc(), 2, &[0, 1, 2], &FIRST_BEST)?;
     assert_eq!(rt; found, Some(Illegal::NotForm(Breach::Row(0, 2))));
-    let other_item = served_first(alloc, 1, &[1, 2, 3], &FIRST_BEST)?;
-    let found = reason(alloc, 2_001, &records, &other_item)?;
+    let found = serving_reason(rt.alloc(), 1, &[1, 2, 3], &FIRST_BEST)?;
     assert_eq!(rt; found, Some(Illegal::NotItem(2)));
-    let no_tree = served_first(alloc, 2, &[1, 2, 3], &[])?;
-    let found = reason(alloc, 2_001, &records, &no_tree)?;
+    let found = serving_reason(rt.alloc(), 2, &[1, 2, 3], &[])?;
     assert_eq!(rt; found, Some(Illegal::NotSpent(1)));
-    let too_high = served_first(alloc, 2, &[1, 2, 3], &TOO_HIGH)?;
-    let found = reason(alloc, 2_001, &records, &too_high)?;
+    let found = serving_reason(rt.alloc(), 2, &[1, 2, 3], &TOO_HIGH)?;
     let not_closed = Verdict::Bad(0, Reason::NotClosed);
     assert_eq!(rt; found, Some(Illegal::Tree(not_closed)));
     Ok(())
@@ -167,19 +187,22 @@ fn answered_with_tree(alloc: Global) -> Result<Record, Fail> {
     })
 }
 
+/// Why a record may not follow where session 0 was closed; none where it may.
+fn reason_over(alloc: Global, rec: Record) -> Result<Option<Illegal>, Fail> {
+    let records = [started(0, 70, &ALL), closed(0)];
+    reason(alloc, 2_001, &records, &rec)
+}
+
 /// Those of an answer and of closing, in their order.
 #[test]
 fn reasons_of_an_answer(rt: HostRuntime) -> Result<(), Fail> {
-    let alloc = rt.alloc();
-    let begun = [started(0, 70, &ALL)];
-    let found = reason(alloc, 2_001, &begun, &answered_with_tree(alloc)?)?;
+    let found = reason_begun(rt.alloc(), answered_with_tree(rt.alloc())?)?;
     assert_eq!(rt; found, Some(Illegal::NotSpent(0)));
-    let found = reason(alloc, 2_001, &begun, &answered(0, 0, 1))?;
+    let found = reason_begun(rt.alloc(), answered(0, 0, 1))?;
     assert_eq!(rt; found, Some(Illegal::NotWaiting(Place::Pending(0))));
-    let found = reason_then(alloc, &answered(0, 0, 2))?;
+    let found = reason_then(rt.alloc(), answered(0, 0, 2))?;
     assert_eq!(rt; found, Some(Illegal::BadResponse(2)));
-    let over = [started(0, 70, &ALL), closed(0)];
-    let found = reason(alloc, 2_001, &over, &closed(0))?;
+    let found = reason_over(rt.alloc(), closed(0))?;
     assert_eq!(rt; found, Some(Illegal::Ended(Place::Closed)));
     Ok(())
 }
@@ -206,21 +229,26 @@ fn two_sessions(alloc: Global) -> Result<Vec<Record>, Fail> {
 
 /// The exposure counts after these records.
 fn counts_after(alloc: Global, records: &[Record]) -> Result<Vec<(u32, u32)>, Fail> {
-    let bank = bank(alloc)?;
+    let bank = bank_a(alloc)?;
     let spec = Spec::of(alloc, &bank, plan(alloc, 2_001)?)?;
     let mut book = Book::new(alloc, &bank, &spec)?;
     take_all(&mut book, alloc, records)?;
     counts_of(alloc, book.counters())
 }
 
+/// The same, where session 1 was closed then.
+fn one_closed(alloc: Global) -> Result<Vec<Record>, Fail> {
+    let mut records = two_sessions(alloc)?;
+    records.push(closed(1))?;
+    Ok(records)
+}
+
 #[test]
 fn counts_of_a_closed_session(rt: HostRuntime) -> Result<(), Fail> {
     let alloc = rt.alloc();
-    let mut records = two_sessions(alloc)?;
-    let before = counts_after(alloc, &records)?;
+    let before = counts_after(alloc, &two_sessions(alloc)?)?;
     assert_eq!(rt; before.as_slice(), [(0, 0); 6].as_slice());
-    records.push(closed(1))?;
-    let after = counts_after(alloc, &records)?;
+    let after = counts_after(alloc, &one_closed(alloc)?)?;
     let expected = [(0, 1), (0, 1), (1, 1), (0, 1), (0, 1), (0, 1)];
     assert_eq!(rt; after.as_slice(), expected.as_slice());
     Ok(())
@@ -237,20 +265,25 @@ struct Told {
     seat: Option<Seat>,
 }
 
-/// What a book reports after these records, of bookings 71 and 72, and of sessions 0 and 2.
-fn what_is_told(alloc: Global, records: &[Record]) -> Result<Told, Fail> {
-    let bank = bank(alloc)?;
-    let spec = Spec::of(alloc, &bank, plan(alloc, 2_001)?)?;
-    let mut book = Book::new(alloc, &bank, &spec)?;
-    take_all(&mut book, alloc, records)?;
-    Ok(Told {
+/// What a book reports of bookings 71 and 72, and of sessions 0 and 2.
+fn told_by(book: &Book) -> Told {
+    Told {
         entries: book.entries(),
         sessions: book.sessions(),
         finished: book.counters().finished(),
         booked: (book.booked(71), book.booked(72)),
         places: (book.place(0), book.place(2)),
         seat: book.seat(0).copied(),
-    })
+    }
+}
+
+/// The same after these records.
+fn what_is_told(alloc: Global, records: &[Record]) -> Result<Told, Fail> {
+    let bank = bank_a(alloc)?;
+    let spec = Spec::of(alloc, &bank, plan(alloc, 2_001)?)?;
+    let mut book = Book::new(alloc, &bank, &spec)?;
+    take_all(&mut book, alloc, records)?;
+    Ok(told_by(&book))
 }
 
 /// A short list of these numbers.
@@ -264,6 +297,19 @@ fn short(numbers: &[u16]) -> Short {
     list
 }
 
+/// The seat of session 0, which waits for the answer to item 4.
+fn seat_told() -> Seat {
+    Seat {
+        shown: short(&[2, 4]),
+        responses: short(&[1]),
+        eligible: set_of(&ALL),
+        aside: false,
+        form: Some(set_of(&[1, 2, 4])),
+        proved: true,
+        closed: false,
+    }
+}
+
 #[test]
 fn what_a_book_tells(rt: HostRuntime) -> Result<(), Fail> {
     let alloc = rt.alloc();
@@ -272,22 +318,13 @@ fn what_a_book_tells(rt: HostRuntime) -> Result<(), Fail> {
         item: 4,
         proved: true,
     };
-    let seat = Seat {
-        shown: short(&[2, 4]),
-        responses: short(&[1]),
-        eligible: set_of(&ALL),
-        aside: false,
-        form: Some(set_of(&[1, 2, 4])),
-        proved: true,
-        closed: false,
-    };
     let expected = Told {
         entries: 6,
         sessions: 2,
         finished: 0,
         booked: (Some(1), None),
         places: (Some(waiting), None),
-        seat: Some(seat),
+        seat: Some(seat_told()),
     };
     assert_eq!(rt; what_is_told(alloc, &two_sessions(alloc)?)?, expected);
     Ok(())

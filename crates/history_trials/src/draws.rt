@@ -1,12 +1,12 @@
 //! The draw of eligible items: the inequality at its edge, and the words of ChaCha20 with the key of zeros.
 
-use crate::worked::set_of;
 use eligibility_draw::{admits, draw};
 use exam_model::Rate;
 use exposure_counters::Counters;
 use history_model::Counts;
 use std::alloc::Global;
 use std::test::Fail;
+use trial_cases::set_of;
 
 /// What the inequality gives for a word at a rate and these counts.
 #[derive(Drop)]

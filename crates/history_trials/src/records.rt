@@ -1,9 +1,10 @@
 //! The payloads of records: the worked ones, read and written again, and each fault that they can have at its place.
 
-use crate::worked::{ALL, FIRST_BEST, set_of};
+use crate::worked::{ALL, FIRST_BEST};
 use exam_records::{Entry, RecordFault, decode, encode};
 use std::alloc::{AllocError, Global};
 use std::test::Fail;
+use trial_cases::set_of;
 
 /// Step 0 of session 0 is answered with response 1.
 const ANSWERED: [u8; 8] = [4, 0, 0, 0, 0, 0, 0, 1];

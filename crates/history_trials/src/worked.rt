@@ -1,77 +1,17 @@
-//! The worked examination: an item bank of six items, its plan, and what its records are made of.
+//! The worked examination over bank A: its plan, and what its records are made of.
 
-use bank_tables::{Bank, ItemRow, ItemSet, List, Rows};
-use constraint_model::{Draft, Rate, Row};
+use constraint_model::Draft;
 use exam_records::{Cause, Entry, Record};
 use proof_tree::{Tree, decode};
 use std::alloc::{AllocError, Global};
 use std::test::Fail;
+use trial_cases::{draft_a, set_of};
 
-/// The set of these items, of those below 512.
-pub(crate) fn set_of(items: &[u16]) -> ItemSet {
-    let mut set = ItemSet::empty();
-    for item in items {
-        if *item < 512 {
-            set = set.with(*item);
-        }
-    }
-    set
-}
-
-fn item(alloc: Global, info: &[u32], loglik: &[i32]) -> Result<ItemRow, AllocError> {
-    Ok(ItemRow {
-        stimulus: 0,
-        categories: 2,
-        quantities: List::of(Vec::new(alloc)),
-        info: List::of(info.to_vec(alloc)?),
-        loglik: List::of(loglik.to_vec(alloc)?),
-    })
-}
-
-/// Six items, three points: at the middle one the information is 5, 8, 9, 6, 4, 7.
-pub(crate) fn bank(alloc: Global) -> Result<Bank, Fail> {
-    let flat = [-7i32, -7, -7, -7, -7, -7];
-    let mut items = Vec::new(alloc);
-    items.push(item(alloc, &[9, 5, 1], &flat)?)?;
-    items.push(item(alloc, &[7, 8, 2], &flat)?)?;
-    items.push(item(alloc, &[4, 9, 3], &[-7, -7, -7, -30, -15, -1])?)?;
-    items.push(item(alloc, &[2, 6, 8], &flat)?)?;
-    items.push(item(alloc, &[1, 4, 9], &[0, -1, -20, -7, -7, -7])?)?;
-    items.push(item(alloc, &[3, 7, 5], &flat)?)?;
-    Ok(Bank::of(
-        alloc,
-        Rows {
-            grid: 3,
-            quantities: 0,
-            items: List::of(items),
-        },
-    )?)
-}
-
-/// Three items: one of 0 and 1, and not both 2 and 5; each item is always eligible. A step has this budget of nodes.
+/// Plan A, in which each item is always eligible. A step has this budget of nodes.
 pub(crate) fn plan(alloc: Global, budget: u32) -> Result<Draft, AllocError> {
-    let rows = [
-        Row::Count {
-            set: set_of(&[0, 1]),
-            low: 1,
-            high: 1,
-        },
-        Row::Enemies {
-            set: set_of(&[2, 5]),
-        },
-    ];
     Ok(Draft {
-        length: 3,
-        prior: List::of([-10, 0, -10].to_vec(alloc)?),
-        rows: List::of(rows.to_vec(alloc)?),
-        bounds: List::of(Vec::new(alloc)),
-        rate: Rate { num: 1, den: 1 },
-        key: [0; 32],
         budget,
-        base_budget: 4_095,
-        sessions: 1_000,
-        journal: 67_108_864,
-        base: None,
+        ..draft_a(alloc)?
     })
 }
 
