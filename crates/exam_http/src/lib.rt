@@ -6,7 +6,6 @@
 mod asking;
 mod body;
 mod ended;
-mod handler;
 pub mod laws;
 mod message_fault;
 mod route;
@@ -15,7 +14,7 @@ mod status;
 mod texts;
 
 pub use ended::Ended;
-pub use handler::Handler;
+pub use exam_office::Handler;
 pub use message_fault::MessageFault;
 pub use route::Route;
 pub use serve::serve_connection;

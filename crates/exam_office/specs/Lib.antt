@@ -7,3 +7,4 @@ pub mod Calls
 pub mod Opening
 pub mod Laws
 pub mod Commits
+pub mod Handling

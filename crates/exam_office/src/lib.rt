@@ -8,6 +8,7 @@ mod answering;
 mod begun;
 mod committing;
 mod fault;
+mod handler;
 pub mod laws;
 mod mark;
 mod office;
@@ -18,6 +19,7 @@ mod writing;
 
 pub use begun::Begun;
 pub use fault::OpenFault;
+pub use handler::Handler;
 pub use history_model::{Entry, Exposure, Place, Refusal, Summary};
 pub use mark::Mark;
 pub use office::Office;

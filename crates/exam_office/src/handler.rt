@@ -1,5 +1,5 @@
 //! Who answers requests.
-ghost use Rattle.exam_http.specs.Handling.{IsReply};
+ghost use Rattle.exam_office.specs.Handling.{IsReply};
 
 use history_model::{Reply, Request};
 use std::alloc::Global;
