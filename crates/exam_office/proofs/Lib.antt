@@ -14,3 +14,10 @@ pub mod Answered
 pub mod Starts
 pub mod Committed
 pub mod Reported
+pub mod Surely
+pub mod Assembling
+pub mod Trying
+pub mod Advancing
+pub mod Firsts
+pub mod Asked
+pub mod CompletenessLaws

@@ -26,7 +26,7 @@ first_none : (xs : List ℕ) → slice_get xs 0 ≡ None → xs ≡ []
 first_none [] e = refl
 first_none (x ∷ xs) e = absurd (cc)
 
-held_then : (H : List Entry) (session booking : ℕ) (eligible : List ℕ) → holder H booking ≡ None → holder (H ++ Started session booking eligible ∷ []) booking ≡ Some session
+pub held_then : (H : List Entry) (session booking : ℕ) (eligible : List ℕ) → holder H booking ≡ None → holder (H ++ Started session booking eligible ∷ []) booking ≡ Some session
 held_then H session booking eligible none =
     let empty : filter_map (holder_of booking) H ≡ [] = first_none (filter_map (holder_of booking) H) none in
     let same : (booking == booking) ≡ true = eq-eqb booking booking refl in

@@ -1,5 +1,5 @@
 -- What the definitions imply, as the public laws state it.
-use Rattle.std.specs.Prelude.{◌≡◌, ◌⊎◌, ℕ, ◌≤◌, List, length}
+use Rattle.std.specs.Prelude.{◌≡◌, ◌⊎◌, ⊤, ℕ, ◌≤◌, List, length, None}
 use Rattle.bank_tables.specs.Tables.{Tables}
 use Rattle.exam_model.specs.Plan.{Plan}
 use Rattle.history_model.specs.declared.entry.Entry.{Entry}
@@ -7,11 +7,23 @@ use Rattle.history_model.specs.Legality.{LegalRun}
 use Rattle.constraint_model.specs.Views.{problem_of}
 use Rattle.history_model.specs.SessionProblems.{IsProblemOf}
 use Rattle.branch_bound.specs.Assembled.{Assembly}
+use Rattle.exam_edge.specs.Faults.{Rose}
+use Rattle.history_model.specs.declared.refusal.Refusal.{Refusal}
+use Rattle.history_model.specs.declared.refusal.Refusal.TheVariants.{Memory as OutOfMemory}
+use Rattle.history_model.specs.declared.request.Request.{Request}
+use Rattle.history_model.specs.declared.request.Reply.{Reply}
+use Rattle.history_model.specs.declared.request.Reply.TheVariants.{At, Refused}
+use Rattle.history_model.specs.Halting.{IsNextOf}
+use Rattle.history_model.specs.Refusals.{refusal_of}
+use Rattle.answer_journal.specs.Journal.{faults_of}
+use Rattle.exam_office.specs.Asking.{IsTooLongWith, IsSettled, IsAsked}
 use Rattle.exam_office.specs.Commits.{IsOfStart, MayBeCommitted}
 use Rattle.exam_office.specs.declared.fault.OpenFault.{OpenFault}
 use Rattle.exam_office.specs.declared.fault.OpenFault.TheVariants.{Disk, Memory}
 use Rattle.exam_office.specs.Files.{Stands}
+use Rattle.exam_office.specs.Marks.{history}
 use Rattle.exam_office.specs.Opening.{IsOpenAnswer}
+use Rattle.exam_office.specs.Running.{Running}
 
 -- a file represents at most one history, and that is a legal run
 abbrev pub OneHistory : Type 0
@@ -31,3 +43,22 @@ abbrev pub MayBeCommittedNow : Type 0
 MayBeCommittedNow = (b : Tables) (plan : Plan) (base : List ℕ) (H : List Entry) (session : ℕ) (a : Assembly)
     → IsProblemOf b plan H session (problem_of a.problem).step (problem_of a.problem)
     → a.budget ≡ plan.budget → IsOfStart (problem_of a.problem) base a.outcome → MayBeCommitted b plan base H a
+
+-- a reply of a request that wasn't stopped: where its session is, which doesn't wait for an item; the counts; or out of memory
+abbrev pub IsMemory : Refusal → Type 0
+IsMemory OutOfMemory = ⊤
+IsMemory refusal = ⊥
+
+abbrev pub IsAnswered : Reply → Type 0
+IsAnswered (At session place fresh) = IsSettled place
+IsAnswered (Refused refusal) = IsMemory refusal
+IsAnswered answer = ⊤
+
+-- a request that isn't refused is answered, unless the disk counts a fault or the next record is above the journal's limit
+abbrev pub AskedIsAnswered : Type 0 → Type 0
+AskedIsAnswered D = (old new : Running D) (request : Request) (answer : Reply) (asked : IsAsked old request answer new)
+    → refusal_of old.bank old.plan asked.from request ≡ None
+    → (Rose (faults_of old.journal) (faults_of new.journal) → ⊥)
+    → ((size : ℕ) → IsTooLongWith old.bank old.plan (history new.marks)
+    (IsNextOf old.bank old.plan asked.from request (history new.marks)) new size → ⊥)
+    → IsAnswered answer

@@ -8,3 +8,5 @@ pub mod Opening
 pub mod Laws
 pub mod Commits
 pub mod Handling
+pub mod Asking
+pub mod Serving

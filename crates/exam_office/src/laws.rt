@@ -1,6 +1,8 @@
 //! What the definitions imply, for every file, bank and plan.
 
-ghost use Rattle.exam_office.specs.Laws.{OneHistory, StandsForLegalRun, StandingIsOpened, MayBeCommittedNow};
+ghost use Rattle.exam_office.specs.Laws.{OneHistory, StandsForLegalRun, StandingIsOpened, MayBeCommittedNow, AskedIsAnswered};
+
+use exam_edge::Disk;
 
 /// A file represents at most one history.
 pub fn one_history()
@@ -22,4 +24,10 @@ pub fn standing_is_opened()
 /// committed.
 pub fn may_be_committed()
     ensures { MayBeCommittedNow }
+{}
+
+/// A request that isn't refused is answered: where its session is, the counts, or out of memory;
+/// unless the disk counts a fault, or the next record is above the journal's limit.
+pub fn asked_is_answered<D: Disk>()
+    ensures { AskedIsAnswered D }
 {}

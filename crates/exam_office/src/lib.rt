@@ -1,10 +1,13 @@
-//! The office: a book over a journal. Upward it promises that each entry of an examination is on
-//! the disk before it is acknowledged; that at each moment a crash leaves the history so far, or
-//! that with the entry in hand; and that an entry in doubt after a fault of the disk is kept
-//! exactly where the disk has it. It assembles no form, and it judges nothing but by the book.
+//! The office: a book over a journal; and whole requests, on an office of one thread. Upward it
+//! promises that each entry of an examination is on the disk before it is acknowledged; that at
+//! each moment a crash leaves the history so far, or that with some of the entries in hand; that an
+//! entry in doubt after a fault of the disk is kept exactly where the disk has it; and that a
+//! request does what the rules of examinations ask for. It judges nothing but by the book.
 #![tactic(auto)]
 
+mod alone;
 mod answering;
+mod asking;
 mod begun;
 mod committing;
 mod fault;
@@ -14,12 +17,14 @@ mod mark;
 mod office;
 mod opening;
 mod reporting;
+mod serving;
 mod starting;
 mod writing;
 
+pub use alone::Alone;
 pub use begun::Begun;
 pub use fault::OpenFault;
 pub use handler::Handler;
-pub use history_model::{Entry, Exposure, Place, Refusal, Summary};
+pub use history_model::{Entry, Exposure, Place, Refusal, Reply, Request, Summary};
 pub use mark::Mark;
 pub use office::Office;
