@@ -19,11 +19,11 @@ module _ (h : FileHeader) where
 
   module _ (content : List ℕ) (a0 a1 : List Account) (settles : IsSettled content a0) where
     module _ (few : length content ≤ 9) (g : Grows (written 0 9 (latest a0)) a0 a1) where
-      pub begun : AtEachMoment a0 a1 (λ file. payloads h file ≡ Some [])
+      pub begun : AtEachMoment a0 a1 (λ file. payloads h file ≡ payloads h content)
       begun =
-          let P : List ℕ → Type 0 = λ file. payloads h file ≡ Some [] in
-          goes_on P (written 0 9 (latest a0)) a0 a0 a1 (started P a0 (λ file i. short_gives file (omega (arith, few, ap length (only (latest a0) content file settles i))))) g
-          (λ file i. let t = torn 0 9 (latest a0) content file settles i in short_gives file (omega (arith, few, t.greatest)))
+          let P : List ℕ → Type 0 = λ file. payloads h file ≡ payloads h content in
+          goes_on P (written 0 9 (latest a0)) a0 a0 a1 (started P a0 (λ file i. ap (payloads h) (only (latest a0) content file settles i))) g
+          (λ file i. let t = torn 0 9 (latest a0) content file settles i in short_gives file (omega (arith, few, t.greatest)) ∙ sym (short_gives content few))
 
     module _ (read : List Payload) (end : ℕ) (r : IsRead h content read end) where
       size_is : end + 1 ≡ length (front h (map bytes_of read)) + 1
@@ -37,11 +37,11 @@ module _ (h : FileHeader) where
         is = sym (take-append-drop end content) ∙ ap (λ (l : List ℕ). l ++ drop end content) r.before ∙ ap (λ (l : List ℕ). front h (map bytes_of read) ++ l) (drop_more content end 0 r.in_file);
       }
 
-      pub cut_keeps : Grows (cut_to (end + 1) (latest a0)) a0 a1 → AtEachMoment a0 a1 (λ file. payloads h file ≡ Some (map bytes_of read))
+      pub cut_keeps : Grows (cut_to (end + 1) (latest a0)) a0 a1 → AtEachMoment a0 a1 (λ file. payloads h file ≡ payloads h content)
       cut_keeps g =
-          let P : List ℕ → Type 0 = λ file. payloads h file ≡ Some (map bytes_of read) in
-          goes_on P (cut_to (end + 1) (latest a0)) a0 a0 a1 (started P a0 (λ file i. ap (payloads h) (only (latest a0) content file settles i) ∙ r.gives)) g
-          (λ file i. unopened_gives h (map bytes_of read) file r.fits (trimmed_behind h (map bytes_of read) (end + 1) content file size_is shut (trimmed (end + 1) (latest a0) content file settles i)))
+          let P : List ℕ → Type 0 = λ file. payloads h file ≡ payloads h content in
+          goes_on P (cut_to (end + 1) (latest a0)) a0 a0 a1 (started P a0 (λ file i. ap (payloads h) (only (latest a0) content file settles i))) g
+          (λ file i. unopened_gives h (map bytes_of read) file r.fits (trimmed_behind h (map bytes_of read) (end + 1) content file size_is shut (trimmed (end + 1) (latest a0) content file settles i)) ∙ sym r.gives)
 
       pub cut_rests : (c1 : List ℕ) (a2 : List Account) → c1 ≡ take (end + 1) content → IsSettled c1 a2 → IsAtRest h c1 a2 (end + 1) × (payload_list h c1 ≡ map bytes_of read)
       cut_rests c1 a2 is settles1 =

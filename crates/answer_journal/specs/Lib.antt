@@ -5,6 +5,7 @@ pub mod Grammar
 pub mod Journal
 pub mod OpenFault
 pub mod OpenFaultLaws
+pub mod Opening
 pub mod Outcome
 pub mod Payload
 pub mod Reading

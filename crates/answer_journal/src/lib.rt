@@ -16,4 +16,5 @@ mod threads;
 pub use frame::Frame;
 pub use journal::{Adopted, AppendFault, Journal};
 pub use open_fault::OpenFault;
+pub use opening::Opening;
 pub use payload::Payload;

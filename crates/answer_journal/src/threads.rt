@@ -1,5 +1,5 @@
 // Which objects may move to another thread.
-use crate::{Frame, Journal, Payload};
+use crate::{Frame, Journal, Opening, Payload};
 use exam_edge::Disk;
 
 fn may_move<T: Send>() {}
@@ -9,4 +9,5 @@ fn objects_may_move<D: Disk + Send>() {
     may_move::<Frame>();
     may_move::<Payload>();
     may_move::<Journal<D>>();
+    may_move::<Opening<D>>();
 }

@@ -1,6 +1,6 @@
-use Rattle.std.proofs.Common.{sym, ◌∙◌}
+use Rattle.std.proofs.Common.{Some, sym, ◌∙◌, ap}
 use Rattle.answer_journal.specs.Frames.{shadowj1}
-use Rattle.answer_journal.proofs.Tidying.{begun, begun_is, begun_rests, opened_file-short}
+use Rattle.answer_journal.proofs.Tidying.{begun, begun_is, begun_rests, opened_file-short, short_gives}
 use Rattle.answer_journal.proofs.opening.write_header.Goals as goal
 
 pub returns-in_err-write_durably-clause-moments : goal.returns-in_err-write_durably-clause-moments
@@ -13,7 +13,13 @@ returns-clause-moments g c = λ told.
 
 pub returns-clause-rest : goal.returns-clause-rest
 returns-clause-rest g c = λ told.
-    begun_rests shadowj1 (g.D.Disk.content c.args.disk.now) (g.D.Disk.content c.write_durably.new.disk) (g.D.Disk.accounts c.write_durably.new.disk) (c.requires told).0 (c.in_ok-write_durably.ensures.content told) (c.in_ok-write_durably.ensures.settled told)
+    (begun_rests shadowj1 (g.D.Disk.content c.args.disk.now) (g.D.Disk.content c.write_durably.new.disk) (g.D.Disk.accounts c.write_durably.new.disk) (c.requires told).0 (c.in_ok-write_durably.ensures.content told) (c.in_ok-write_durably.ensures.settled told)).0
+
+pub returns-clause-keeps : goal.returns-clause-keeps
+returns-clause-keeps g c = λ told.
+    let c0 = g.D.Disk.content c.args.disk.now in
+    let few = (c.requires told).0 in
+    short_gives shadowj1 c0 few ∙ ap Some (sym (begun_rests shadowj1 c0 (g.D.Disk.content c.write_durably.new.disk) (g.D.Disk.accounts c.write_durably.new.disk) few (c.in_ok-write_durably.ensures.content told) (c.in_ok-write_durably.ensures.settled told)).1)
 
 pub returns-clause-content : goal.returns-clause-content
 returns-clause-content g c = λ told.
