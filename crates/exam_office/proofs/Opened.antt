@@ -9,7 +9,7 @@ use Rattle.bank_tables.specs.Tables.{Tables}
 use Rattle.exam_model.specs.Plan.{Plan}
 use Rattle.exam_model.specs.Forms.{Meets}
 use Rattle.exam_edge.specs.Images.{Account, latest, AllImages, AtEachMoment}
-use Rattle.exam_edge.specs.ImageLaws.{weaker}
+use Rattle.exam_edge.specs.ImageLaws.{joined, weaker}
 use Rattle.history_model.specs.declared.entry.Entry.{Entry}
 use Rattle.history_model.specs.Judging.{Record, Backed, empty}
 use Rattle.exam_session.specs.Ledgers.{Ledger}
@@ -119,5 +119,18 @@ stood b plan read H marks file taken gives = stands_so b plan H taken.records ta
 pub stands_too : (b : Tables) (plan : Plan) (H : List Entry) (one other : List ℕ) → Stands b plan H one → payloads shadowj1 other ≡ payloads shadowj1 one → Stands b plan H other
 stands_too b plan H one other s e = record { records = s.records; are = s.are; holds = e ∙ s.holds }
 
-pub stand_throughout : (b : Tables) (plan : Plan) (H : List Entry) (content : List ℕ) (old new : List Account) → Stands b plan H content → AtEachMoment old new (λ file. payloads shadowj1 file ≡ payloads shadowj1 content) → AtEachMoment old new (Stands b plan H)
-stand_throughout b plan H content old new s moments = weaker (λ (file : List ℕ). payloads shadowj1 file ≡ payloads shadowj1 content) (Stands b plan H) (λ file e. stands_too b plan H content file s e) old new moments
+-- while it is read, the file is as it was
+pub stands_while_read : (b : Tables) (plan : Plan) (H : List Entry) (content : List ℕ) (old new : List Account) → Stands b plan H content → AtEachMoment old new (λ file. file ≡ content) → AtEachMoment old new (Stands b plan H)
+stands_while_read b plan H content old new s moments = weaker (λ (file : List ℕ). file ≡ content) (Stands b plan H) (λ file e. subst (Stands b plan H) (sym e) s) old new moments
+
+-- while it is finished, it gives the same payloads
+pub stands_while_opened : (b : Tables) (plan : Plan) (H : List Entry) (content between : List ℕ) (a0 a1 a2 : List Account) → Stands b plan H content → AtEachMoment a0 a1 (λ file. file ≡ content) → between ≡ content → AtEachMoment a1 a2 (λ file. payloads shadowj1 file ≡ payloads shadowj1 between) → AtEachMoment a0 a2 (Stands b plan H)
+stands_while_opened b plan H content between a0 a1 a2 s reading same finishing =
+    joined (Stands b plan H) a0 a1 a2 (stands_while_read b plan H content a0 a1 s reading)
+    (weaker (λ (file : List ℕ). payloads shadowj1 file ≡ payloads shadowj1 between) (Stands b plan H) (λ file e. stands_too b plan H content file s (e ∙ ap (payloads shadowj1) same)) a1 a2 finishing)
+
+-- a file of the same content gives the payloads that were read
+pub same_payloads : (content between : List ℕ) (ps qs : List (List ℕ)) → payloads shadowj1 content ≡ Some qs → between ≡ content → payloads shadowj1 between ≡ Some ps → ps ≡ qs
+same_payloads content between ps qs gives same keeps =
+    let both : Some ps ≡ Some qs = sym keeps ∙ ap (payloads shadowj1) same ∙ gives in
+    cc

@@ -6,7 +6,7 @@ ghost use Rattle.exam_model.specs.Forms.{Meets};
 ghost use Rattle.exam_model.specs.Validity.{IsPlanFor};
 ghost use Rattle.exam_edge.specs.Faults.{Rose};
 ghost use Rattle.exam_edge.specs.Lent.{IsLent};
-ghost use Rattle.exam_edge.specs.Images.{AllImages, AtEachMoment, IsSettled, latest};
+ghost use Rattle.exam_edge.specs.Images.{AllImages, AtEachMoment, IsImage, IsSettled, latest};
 ghost use Rattle.history_model.specs.declared.entry.Entry.{Entry};
 ghost use Rattle.history_model.specs.Judging.{MayFollow};
 ghost use Rattle.exam_office.specs.declared.mark.Mark.TheVariants.{Old, Opened};
@@ -126,7 +126,8 @@ fn take_all(
 
 impl<'a, D: Disk> Office<'a, D> {
     /// Opens an office over a disk: reads the journal, and takes each record that may follow those
-    /// before it. The base is a form of the plan alone. A refusal gives the disk back.
+    /// before it. Only then it makes the file a journal that ends with its first closed gate. The
+    /// base is a form of the plan alone. A refusal gives the disk back.
     pub fn open(
         alloc: Global,
         bank: &'a Bank,
@@ -162,29 +163,40 @@ impl<'a, D: Disk> Office<'a, D> {
         ensures why { IfErr result (λ e. IsTrue (D.tells disk)
             → IsOpenAnswer bank.now spec.now (D.content disk) e.1) }
         ensures cause { IfErr result (λ e. e.1 ≡ OfDisk → Rose (D.faults disk) (D.faults e.0)) }
+        // A refusal for any other reason changes nothing, at any moment.
+        ensures untouched { IfErr result (λ e. e.1 ≢ OfDisk → IsTrue (D.tells disk)
+            → D.content e.0 ≡ D.content disk) }
+        ensures unwritten { IfErr result (λ e. e.1 ≢ OfDisk → IsTrue (D.tells disk)
+            → AtEachMoment (D.accounts disk) (D.accounts e.0)
+            (IsImage (latest (D.accounts disk)))) }
         ensures grows { IfOk result (λ office. D.faults disk ≤ faults_of office.journal) }
         ensures tells { IfOk result (λ office. tells_of office.journal ≡ D.tells disk) }
         ensures identity { IfOk result (λ office. identity_of office.journal ≡ D.identity disk) }
         ensures frame_err { IfErr result (λ e. IsLent D.tells D.identity D.faults disk e.0) }
     {
         let opened = Snapshot::of(&disk);
-        let (journal, payloads) = match Journal::open(alloc, disk, spec.journal()) {
+        let (opening, payloads) = match Journal::read(alloc, disk, spec.journal()) {
             Ok(found) => found,
             Err((disk, fault)) => return Err((disk, journal_fault(fault))),
         };
         let mut book = match Book::new(alloc, bank, spec) {
             Ok(book) => book,
-            Err(_) => return Err((journal.into_disk(), OpenFault::Memory)),
+            Err(_) => return Err((opening.stop(), OpenFault::Memory)),
         };
         let mut marks = Counted::new();
         match take_all(alloc, &payloads, &mut book, &mut marks) {
             Ok(()) => {}
-            Err(fault) => return Err((journal.into_disk(), fault)),
+            Err(fault) => return Err((opening.stop(), fault)),
         }
-        match note(&mut marks, &Mark::Opened(journal.length())) {
+        match note(&mut marks, &Mark::Opened(opening.length())) {
             Ok(()) => {}
-            Err(_) => return Err((journal.into_disk(), OpenFault::Memory)),
+            Err(_) => return Err((opening.stop(), OpenFault::Memory)),
         }
+        // Up to here nothing was written. From here on no record is refused.
+        let journal = match opening.finish() {
+            Ok(journal) => journal,
+            Err(disk) => return Err((disk, OpenFault::Disk)),
+        };
         Ok(Office {
             bank,
             spec,
