@@ -372,4 +372,21 @@ mod tests {
         }
         Ok(())
     }
+
+    // A file that was only read keeps the two bytes after its last gate.
+    #[test]
+    fn a_file_that_is_stopped_is_as_it_was(rt: HostRuntime) -> Result<(), Fail> {
+        let alloc = rt.alloc();
+        let disk = MemoryDisk::of(alloc, TRAILED.to_vec(alloc)?, Vec::new(alloc));
+        match Journal::read(alloc, disk, LIMIT) {
+            Err(_) => panic!(rt; "the file was not read"),
+            Ok((opening, payloads)) => {
+                assert_eq!(rt; payloads.len(), 3);
+                assert_eq!(rt; opening.length(), 30);
+                let disk = opening.stop();
+                assert_eq!(rt; disk.bytes(), TRAILED.as_slice());
+            }
+        }
+        Ok(())
+    }
 }
