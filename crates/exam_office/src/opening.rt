@@ -9,6 +9,7 @@ ghost use Rattle.exam_edge.specs.Lent.{IsLent};
 ghost use Rattle.exam_edge.specs.Images.{AllImages, AtEachMoment, IsImage, IsSettled, latest};
 ghost use Rattle.history_model.specs.declared.entry.Entry.{Entry};
 ghost use Rattle.history_model.specs.Judging.{MayFollow};
+ghost use Rattle.history_model.specs.Legality.{LegalRun};
 ghost use Rattle.exam_office.specs.declared.mark.Mark.TheVariants.{Old, Opened};
 ghost use Rattle.exam_office.specs.declared.fault.OpenFault.TheVariants.{Disk as OfDisk, Memory as OfMemory};
 ghost use Rattle.answer_journal.specs.Journal.{disk_of, tells_of, accounts_of, faults_of, identity_of};
@@ -142,6 +143,7 @@ impl<'a, D: Disk> Office<'a, D> {
         ensures base { IfOk result (λ office. office.base ≡ base) }
         ensures opened { IfOk result (λ office. office.opened ≡ disk) }
         ensures sure { IfOk result (λ office. office.doubt ≡ None) }
+        ensures legal { IfOk result (λ office. LegalRun bank.now spec.now (history office.marks)) }
         ensures marks { IfOk result (λ office. office.marks ≡ map Old
             (history office.marks) ++ Opened (reach office.marks) ∷ []) }
         // The file represented the history, and so does each file that a crash may leave now.
@@ -216,6 +218,9 @@ impl<'a, D: Disk> Office<'a, D> {
         ensures content { IsTrue (D.tells result)
             → IsMending self.entry.bank self.entry.plan (history self.entry.marks) self.entry.doubt
             (D.content result) }
+        // With nothing in doubt, the file has the length of the last mark that has one.
+        ensures length { IsTrue (D.tells result) → self.entry.doubt ≡ None
+            → length (D.content result) ≡ reach self.entry.marks }
         ensures images { IsTrue (D.tells result)
             → AllImages (IsMending self.entry.bank self.entry.plan
             (history self.entry.marks) self.entry.doubt) (latest (D.accounts result)) }

@@ -7,6 +7,8 @@ use Rattle.exam_model.specs.Plan.{Plan}
 use Rattle.exam_edge.specs.Images.{Account, AtEachMoment}
 use Rattle.history_model.specs.declared.entry.Entry.{Entry}
 use Rattle.answer_journal.specs.declared.payload.Payload.{Payload}
+use Rattle.history_model.specs.Legality.{LegalRun}
+use Rattle.history_model.proofs.JudgingLaws.{backed_is_legal_run}
 use Rattle.exam_office.specs.declared.mark.Mark.{Mark}
 use Rattle.exam_office.specs.declared.mark.Mark.TheVariants.{Old, Opened}
 use Rattle.exam_office.specs.Files.{Stands}
@@ -140,3 +142,22 @@ returns-clause-settled g c = λ told settled.
     subst (λ (H : List Entry). AtEachMoment (g.D.Disk.accounts c.args.disk) (accounts_of j) (Stands b plan H)) (sym told_history)
     (stands_while_opened b plan book.entries (g.D.Disk.content c.args.disk) (g.D.Disk.content opening.disk) (g.D.Disk.accounts c.args.disk) (g.D.Disk.accounts opening.disk) (accounts_of j)
     (stood b plan read book.entries marks (g.D.Disk.content c.args.disk) taken (c.in-Ok.ensures.gives told)) (c.in-Ok.ensures.settled told settled) (c.in-Ok.ensures.untouched told) (c.in-Ok-finish.ensures.moments (c.in-Ok.ensures.frame.tells ∙ told)))
+
+pub returns-clause-legal : goal.returns-clause-legal
+returns-clause-legal g c =
+    let b = c.args.bank.now in
+    let plan = c.args.spec.now in
+    let opening = c.in-Ok.found.0 in
+    let j = c.in-Ok-finish.journal in
+    let read = c.in-Ok.found.1.items in
+    let book = c.take_all.new.book in
+    let marks = c.take_all.new.marks in
+    let size = j.size in
+    let count = g.D.Disk.faults c.of-opened.result.value in
+    let taken : AreTaken b plan read book.entries marks =
+    subst (λ (ps : List Payload). AreTaken b plan ps book.entries marks) c.deref.ensures.value
+    (subst (λ (p : Plan). AreTaken b p c.deref.result.now book.entries marks) c.in-Ok-new.ensures.plan
+    (subst (λ (t : Tables). AreTaken t c.in-Ok-new.book.plan c.deref.result.now book.entries marks) c.in-Ok-new.ensures.bank c.in-Ok-take_all.ensures.taken)) in
+    let noted : c.note.new.marks ≡ marks ++ Opened size ∷ [] = c.in-Ok-note.ensures.noted ∙ ap (λ (n : ℕ). marks ++ Opened n ∷ []) (c.length.ensures ∙ sym c.in-Ok-finish.ensures.length) in
+    let told_history : history c.note.new.marks ≡ book.entries = ap history noted ∙ history_is b plan c.args.base count book j read marks taken size in
+    subst (λ (H : List Entry). LegalRun b plan H) (taken.are.entries ∙ sym told_history) (backed_is_legal_run b plan taken.records taken.are.backed)
