@@ -1,5 +1,5 @@
--- Accepted texts and files that never failed leave few statuses.
-use Rattle.std.proofs.Common.{◌≡◌, ℕ, ◌<◌, ◌≤◌, ◌⊎◌, inl, inr, Bool, true, false, List, [], ◌∷◌, ◌++◌, length, Option, Some, None, Result, Ok, Err, refl, sym, ap, ◌∙◌, subst, arith}
+-- Accepted texts, and files and a disk that never failed, leave few statuses.
+use Rattle.std.proofs.Common.{◌≡◌, ℕ, ◌<◌, ◌≤◌, ◌⊎◌, inl, inr, Bool, List, [], ◌∷◌, ◌++◌, length, Option, Some, None, Result, Ok, Err, IsTrue, refl, sym, ap, ◌∙◌, subst, arith}
 use Rattle.std.specs.Option.{option_map}
 use Rattle.bank_tables.specs.Items.{Set, has}
 use Rattle.bank_tables.specs.Tables.{Tables}
@@ -11,22 +11,26 @@ use Rattle.spec_reader.specs.Reading.{IsReadFault}
 use Rattle.spec_reader.specs.Plans.{SaidPlan, plan_said}
 use Rattle.spec_reader.proofs.SameLaws.{one_plan, only_outside}
 use Rattle.exam_edge.specs.Faults.{Rose}
-use Rattle.exam_model.specs.declared.seat.Seat.{Seat}
 use Rattle.exam_model.specs.Plan.{Plan}
 use Rattle.exam_model.specs.ProofTrees.{ProofTree}
-use Rattle.exam_program.specs.declared.script.Answer.{Answer}
-use Rattle.exam_program.specs.declared.script.Script.{Script}
-use Rattle.exam_program.specs.declared.script.ScriptFault.{ScriptFault}
-use Rattle.exam_program.specs.declared.script.ScriptFault.TheVariants.{OutOfForm}
-use Rattle.exam_program.specs.declared.halt.Halt.TheVariants as halt
+use Rattle.history_model.specs.declared.entry.Entry.{Entry}
+use Rattle.history_model.specs.declared.request.Request.{Request}
+use Rattle.exam_office.specs.declared.fault.OpenFault.{OpenFault}
+use Rattle.exam_office.specs.declared.fault.OpenFault.TheVariants as open_fault
+use Rattle.exam_office.specs.Files.{Stands}
+use Rattle.exam_office.proofs.FileLaws.{standing_is_opened}
+use Rattle.replay_cli.specs.declared.script_fault.ScriptFault.{ScriptFault}
+use Rattle.replay_cli.specs.declared.script_fault.ScriptFault.TheVariants as script_fault
+use Rattle.replay_cli.specs.Reading.{IsScriptFault, IsOfText as IsOfScript}
+use Rattle.replay_cli.proofs.ReadLaws.{no_fault}
 use Rattle.exam_program.specs.Bases.{ShowsNoForm, ShowsNoBase}
 use Rattle.exam_program.specs.Commands.{Command, Check, Assemble, Replay, command_of, bank_name, plan_name}
-use Rattle.exam_program.specs.Halts.{IsPlanIn, IsOfText, Reads, IsScript, HaltsAtScript, longest_script}
-use Rattle.exam_program.specs.Scripts.{script_of}
-use Rattle.exam_program.specs.Texts.{not_yet}
-use Rattle.exam_program.specs.Laws.{CheckIsComplete, AssembleIsComplete, ReplayIsComplete, RefusesAnswer}
+use Rattle.exam_program.specs.Halts.{IsPlanIn, IsOfText, Reads, IsScriptIn}
+use Rattle.exam_program.specs.Laws.{CheckIsComplete, AssembleIsComplete, ReplayIsComplete, IsOfHistory}
+use Rattle.exam_program.specs.Outside.{Outside}
+use Rattle.exam_program.specs.Replays.{IsOfFile, IsJournalRefused}
 use Rattle.exam_program.proofs.BaseLaws.{whole_form}
-use Rattle.exam_program.specs.Outcomes.{ReadsAll, IsReady, Outcome, faulty_words, bank_refused, plan_refused, checked, form_found, without_form, without_base_form, other_script, replayed, answer_refused, without_files, without_memory, without_more_memory}
+use Rattle.exam_program.specs.Outcomes.{IsReady, IsReplayOf, Outcome, faulty_words, bank_refused, plan_refused, script_refused, checked, form_found, without_form, without_base_form, journal_refused, replayed, sessions_full, journal_full, without_files, without_journal, without_disk, without_memory, without_more_memory}
 
 -- ---- a reading is one
 none_some : {A : Type 0} (o : Option A) (x : A) → o ≡ Some x → o ≡ None → ⊥
@@ -89,92 +93,121 @@ no_plan_fault b c text p f same is of_text refused =
       | inr source ↦ subst (λ (g : PlanFault). IsOfText g) source of_text
     ]
 
-no_script_fault : (there : Bool) (text : List ℕ) (script : Script) → IsScript text script → HaltsAtScript there text halt.NotYet → ⊥
-no_script_fault there text script is (found, inl long) = omega (arith, is.short, long)
-no_script_fault there text script is (found, inr other) = ok_err (script_of text) script OutOfForm is.says other
+-- an accepted script has no fault of its own
+no_script_fault : (text : List ℕ) (script : List Request) (f : ScriptFault) → IsScriptIn text script → IsOfScript f → IsScriptFault text f → ⊥
+no_script_fault text script script_fault.Source is of_script halts = of_script
+no_script_fault text script script_fault.Memory is of_script halts = of_script
+no_script_fault text script script_fault.TooLong is of_script halts = omega (arith, is.short, halts)
+no_script_fault text script (script_fault.Line n) is of_script halts = no_fault text script n is.says halts.1
+
+-- a file that represents a history is not refused
+no_journal_fault : (b : Tables) (p : Plan) (o : Outside) (f : OpenFault) (H : List Entry) → Stands b p H o.disk.found → length o.disk.found ≤ p.journal → IsTrue o.disk.told → IsJournalRefused b p o.disk f → ⊥
+no_journal_fault b p o f H stands short told is = elim (standing_is_opened b p H o.disk.found f stands short (is.answer told)) [
+  | inl e ↦ subst (λ (g : OpenFault). IsOfFile g) e is.of_file
+  | inr e ↦ subst (λ (g : OpenFault). IsOfFile g) e is.of_file
+]
 
 -- ---- what is left
 
--- the script of a replay isn't one
-abbrev NoScript : (List ℕ → Bool) → (List ℕ → List ℕ) → Command → Type 0
-NoScript named content (Check bank plan) = ⊥
-NoScript named content (Assemble bank plan) = ⊥
-NoScript named content (Replay bank plan name) = HaltsAtScript (named name) (content name) halt.NotYet
+-- the script of a replay is refused
+abbrev NoScript : Outside → Command → Type 0
+NoScript o (Check bank plan) = ⊥
+NoScript o (Assemble bank plan) = ⊥
+NoScript o (Replay bank plan name) = (f : ScriptFault) × IsOfScript f × IsScriptFault (o.content name) f
 
--- an answer of it is refused
-abbrev Refuses : (List ℕ → Bool) → (List ℕ → List ℕ) → List ℕ → Command → Type 0
-Refuses named content text (Check bank plan) = ⊥
-Refuses named content text (Assemble bank plan) = ⊥
-Refuses named content text (Replay bank plan name) = RefusesAnswer named content bank plan name text
+-- its journal is refused
+abbrev NoJournal : Outside → Command → Type 0
+NoJournal o (Check bank plan) = ⊥
+NoJournal o (Assemble bank plan) = ⊥
+NoJournal o (Replay bank plan name) = (b : Tables) × (p : Plan) × (f : OpenFault) × Reads o.named o.content bank plan b p × IsJournalRefused b p o.disk f
 
-data Left (named : List ℕ → Bool) (content : List ℕ → List ℕ) (command : Command) (text : List ℕ) : ℕ → Type 0 where
-  done : Left named content command text 0
-  memory : Left named content command text 10
-  no_form : (b : Tables) (p : Plan) (T : ProofTree) → IsReady named content command b p → ShowsNoForm b p T → Left named content command text 11
-  no_base : (b : Tables) (p : Plan) (T : ProofTree) → IsReady named content command b p → ShowsNoBase b p T → Left named content command text 12
-  no_script : NoScript named content command → Left named content command text 15
-  refused : Refuses named content text command → Left named content command text 15
+-- it has a journal
+abbrev HasJournal : Command → Type 0
+HasJournal (Check bank plan) = ⊥
+HasJournal (Assemble bank plan) = ⊥
+HasJournal (Replay bank plan name) = Unit {0}
 
-left : (words : List (List ℕ)) (named : List ℕ → Bool) (content : List ℕ → List ℕ) (before after : ℕ) (command : Command) (b : Tables) (p : Plan) (status : ℕ) (text : List ℕ)
-    → command_of words ≡ Some command
-    → Reads named content (bank_name command) (plan_name command) b p
-    → (Rose before after → ⊥)
-    → Outcome words named content before after status text
-    → Left named content command text status
-left words named content before after command b p status text e reads quiet (faulty_words f) = absurd (none_some (command_of words) command e f)
-left words named content before after command b p status text e reads quiet (bank_refused other why f found is) =
-    let same = command_same (command_of words) other command f e in
-    absurd (ok_err (bank_of (content (bank_name command))) b why reads.says_bank (subst (λ (c : Command). bank_of (content (bank_name c)) ≡ Err why) same is))
-left words named content before after command b p status text e reads quiet (plan_refused other c why f found plan_found is of_text refusal) =
-    let same = command_same (command_of words) other command f e in
-    let there = subst (λ (d : Command). bank_of (content (bank_name d)) ≡ Ok c) same is in
-    absurd (no_plan_fault b c (content (plan_name command)) p why (bank_same (bank_of (content (bank_name command))) c b there reads.says_bank) reads.says_plan of_text (subst (λ (d : Command). IsReadFault c (content (plan_name d)) why) same refusal))
-left words named content before after command b p status text e reads quiet (checked bank plan c q f there) = done
-left words named content before after command b p status text e reads quiet (form_found bank plan c q P form proved T f there finds) = done
-left words named content before after command b p status text e reads quiet (without_form other c q T f ready shows) =
-    no_form c q T (subst (λ (d : Command). IsReady named content d c q) (command_same (command_of words) other command f e) ready) shows
-left words named content before after command b p status text e reads quiet (without_base_form other c q T f ready shows) =
-    no_base c q T (subst (λ (d : Command). IsReady named content d c q) (command_same (command_of words) other command f e) ready) shows
-left words named content before after command b p status text e reads quiet (other_script bank plan name c q f there halts) =
-    no_script (subst (NoScript named content) (command_same (command_of words) (Replay bank plan name) command f e) halts)
-left words named content before after command b p status text e reads quiet (replayed bank plan name c q script base seat lines f there session) = done
-left words named content before after command b p status text e reads quiet (answer_refused bank plan name c q script base before_it rest answer seat lines f there all session is) =
-    refused (subst (Refuses named content (lines ++ not_yet)) (command_same (command_of words) (Replay bank plan name) command f e)
-    (record { tables = c; numbers = q; script = script; base = base; reads = there; done = before_it; answer = answer; rest = rest; seat = seat; lines = lines; all = all; session = session; refused = is; is = refl }))
-left words named content before after command b p status text e reads quiet (without_files other f rose) = absurd (quiet rose)
-left words named content before after command b p status text e reads quiet (without_memory other f) = memory
-left words named content before after command b p status text e reads quiet (without_more_memory bank plan name c q script base lines f there printed) = memory
+data Left (o : Outside) (command : Command) : ℕ → Type 0 where
+  done : Left o command 0
+  memory : Left o command 10
+  no_form : (b : Tables) (p : Plan) (T : ProofTree) → IsReady o.named o.content command b p → ShowsNoForm b p T → Left o command 11
+  no_base : (b : Tables) (p : Plan) (T : ProofTree) → IsReady o.named o.content command b p → ShowsNoBase b p T → Left o command 12
+  no_script : NoScript o command → Left o command 5
+  no_journal : NoJournal o command → Left o command 6
+  limit : HasJournal command → Left o command 13
+  disk : HasJournal command → Rose o.disk.before o.disk.after → Left o command 9
+
+module _ (words : List (List ℕ)) (o : Outside) (command : Command) (e : command_of words ≡ Some command) where
+  same_command : (other : Command) → command_of words ≡ Some other → other ≡ command
+  same_command other f = command_same (command_of words) other command f e
+
+  has_journal : (b : Tables) (p : Plan) (script : List Request) (base : List ℕ) → IsReplayOf words o b p script base → HasJournal command
+  has_journal b p script base is = subst HasJournal (same_command (Replay is.bank is.plan is.name) is.asked) tt
+
+  left : (b : Tables) (p : Plan) (status : ℕ) (text : List ℕ) → Reads o.named o.content (bank_name command) (plan_name command) b p
+      → (Rose o.files_before o.files_after → ⊥) → Outcome words o status text → Left o command status
+  left b p _ _ reads quiet (faulty_words f) = absurd (none_some (command_of words) command e f)
+  left b p _ _ reads quiet (bank_refused other why f found is) =
+      absurd (ok_err (bank_of (o.content (bank_name command))) b why reads.says_bank (subst (λ (c : Command). bank_of (o.content (bank_name c)) ≡ Err why) (same_command other f) is))
+  left b p _ _ reads quiet (plan_refused other c why f found plan_found is of_text refusal) =
+      let there = subst (λ (d : Command). bank_of (o.content (bank_name d)) ≡ Ok c) (same_command other f) is in
+      absurd (no_plan_fault b c (o.content (plan_name command)) p why (bank_same (bank_of (o.content (bank_name command))) c b there reads.says_bank) reads.says_plan of_text (subst (λ (d : Command). IsReadFault c (o.content (plan_name d)) why) (same_command other f) refusal))
+  left b p _ _ reads quiet (script_refused bank plan name c q why f there found of_script refusal) =
+      no_script (subst (NoScript o) (same_command (Replay bank plan name) f) (why, of_script, refusal))
+  left b p _ _ reads quiet (checked bank plan c q f there) = done
+  left b p _ _ reads quiet (form_found bank plan c q P form proved T f there finds) = done
+  left b p _ _ reads quiet (without_form other c q T f ready shows) = no_form c q T (subst (λ (d : Command). IsReady o.named o.content d c q) (same_command other f) ready) shows
+  left b p _ _ reads quiet (without_base_form other c q T f ready shows) = no_base c q T (subst (λ (d : Command). IsReady o.named o.content d c q) (same_command other f) ready) shows
+  left b p _ _ reads quiet (journal_refused c q script base why is refusal) =
+      no_journal (subst (NoJournal o) (same_command (Replay is.bank is.plan is.name) is.asked) (c, q, why, is.reads.reads, refusal))
+  left b p _ _ reads quiet (replayed c q script base H G replies is way) = done
+  left b p _ _ reads quiet (sessions_full c q script base H G request rest replies count is way why) = limit (has_journal c q script base is)
+  left b p _ _ reads quiet (journal_full c q script base H G request rest replies K now size is way full at) = limit (has_journal c q script base is)
+  left b p _ _ reads quiet (without_files other f rose) = absurd (quiet rose)
+  left b p _ _ reads quiet (without_journal c q script base is rose) = disk (has_journal c q script base is) rose
+  left b p _ _ reads quiet (without_disk c q script base H G rest replies is way rose) = disk (has_journal c q script base is) rose
+  left b p _ _ reads quiet (without_memory other f untouched) = memory
+  left b p _ _ reads quiet (without_more_memory c q script base H G rest replies is way) = memory
 
 -- ---- the laws
 pub check_is_complete : CheckIsComplete
-check_is_complete words named content before after bank plan b p status text e reads quiet outcome = of status (left words named content before after (Check bank plan) b p status text e reads quiet outcome)
+check_is_complete words o bank plan b p status text e reads quiet outcome = of status (left words o (Check bank plan) e b p status text reads quiet outcome)
   where
-    of : (s : ℕ) → Left named content (Check bank plan) text s → (s ≡ 0) ⊎ (s ≡ 10)
-    of s done = inl refl
-    of s memory = inr refl
-    of s (no_form c q T ready shows) = absurd ready
-    of s (no_base c q T ready shows) = absurd ready
-    of s (no_script none) = absurd none
-    of s (refused is) = absurd is
+    of : (s : ℕ) → Left o (Check bank plan) s → (s ≡ 0) ⊎ (s ≡ 10)
+    of _ done = inl refl
+    of _ memory = inr refl
+    of _ (no_form c q T ready shows) = absurd ready
+    of _ (no_base c q T ready shows) = absurd ready
+    of _ (no_script none) = absurd none
+    of _ (no_journal none) = absurd none
+    of _ (limit none) = absurd none
+    of _ (disk none rose) = absurd none
 
 pub assemble_is_complete : AssembleIsComplete
-assemble_is_complete words named content before after bank plan base b p status text e reads with_base quiet outcome = of status (left words named content before after (Assemble bank plan) b p status text e reads quiet outcome)
+assemble_is_complete words o bank plan base b p status text e reads with_base quiet outcome = of status (left words o (Assemble bank plan) e b p status text reads quiet outcome)
   where
-    of : (s : ℕ) → Left named content (Assemble bank plan) text s → (s ≡ 0) ⊎ (s ≡ 10)
-    of s done = inl refl
-    of s memory = inr refl
-    of s (no_form c q T ready shows) = absurd (form_there named content bank plan base b c p q T reads with_base ready shows)
-    of s (no_base c q T ready shows) = absurd (no_base_there named content bank plan base b c p q T reads with_base ready shows)
-    of s (no_script none) = absurd none
-    of s (refused is) = absurd is
+    of : (s : ℕ) → Left o (Assemble bank plan) s → (s ≡ 0) ⊎ (s ≡ 10)
+    of _ done = inl refl
+    of _ memory = inr refl
+    of _ (no_form c q T ready shows) = absurd (form_there o.named o.content bank plan base b c p q T reads with_base ready shows)
+    of _ (no_base c q T ready shows) = absurd (no_base_there o.named o.content bank plan base b c p q T reads with_base ready shows)
+    of _ (no_script none) = absurd none
+    of _ (no_journal none) = absurd none
+    of _ (limit none) = absurd none
+    of _ (disk none rose) = absurd none
 
 pub replay_is_complete : ReplayIsComplete
-replay_is_complete words named content before after bank plan name base b p script status text e reads with_base says quiet outcome = of status (left words named content before after (Replay bank plan name) b p status text e reads quiet outcome)
+replay_is_complete words o bank plan name base b p script status text e reads with_base says told of_history quiet disk_quiet outcome =
+    of status (left words o (Replay bank plan name) e b p status text reads quiet outcome)
   where
-    of : (s : ℕ) → Left named content (Replay bank plan name) text s → (s ≡ 0) ⊎ ((s ≡ 10) ⊎ ((s ≡ 15) × RefusesAnswer named content bank plan name text))
-    of s done = inl refl
-    of s memory = inr (inl refl)
-    of s (no_form c q T ready shows) = absurd (form_there named content bank plan base b c p q T reads with_base ready.0 shows)
-    of s (no_base c q T ready shows) = absurd (no_base_there named content bank plan base b c p q T reads with_base ready.0 shows)
-    of s (no_script none) = absurd (no_script_fault (named name) (content name) script says none)
-    of s (refused is) = inr (inr (refl, is))
+    of : (s : ℕ) → Left o (Replay bank plan name) s → (s ≡ 0) ⊎ ((s ≡ 10) ⊎ (s ≡ 13))
+    of _ done = inl refl
+    of _ memory = inr (inl refl)
+    of _ (no_form c q T ready shows) = absurd (form_there o.named o.content bank plan base b c p q T reads with_base ready.0 shows)
+    of _ (no_base c q T ready shows) = absurd (no_base_there o.named o.content bank plan base b c p q T reads with_base ready.0 shows)
+    of _ (no_script none) = absurd (no_script_fault (o.content name) script none.0 says none.1 none.2)
+    of _ (no_journal none) =
+        let h = of_history none.0 none.1 none.3 in
+        absurd (no_journal_fault none.0 none.1 o none.2 h.0 h.1 h.2 told none.4)
+    of _ (limit has) = inr (inr refl)
+    of _ (disk has rose) = absurd (disk_quiet rose)

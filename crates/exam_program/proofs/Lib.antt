@@ -2,6 +2,8 @@ pub mod BaseLaws
 pub mod Completeness
 pub mod OutcomeLaws
 pub mod ReplayLaws
-pub mod SeatLaws
+pub mod RequestLaws
+pub mod ScriptLaws
+pub mod SessionLaws
 pub mod TreeTexts
 pub mod WordLaws

@@ -1,142 +1,152 @@
 -- The outcome of a command, from the outcomes of its parts.
-use Rattle.std.proofs.Common.{◌≡◌, ℕ, ◌≤◌, Bool, List, [], ◌++◌, inl, inr, Some, None, arith, refl, sym, subst, append_assoc, length-append}
+use Rattle.std.proofs.Common.{◌≡◌, ℕ, ◌≤◌, ◌⊎◌, Bool, List, [], ◌∷◌, ◌++◌, inl, inr, Some, None, Contains, arith, refl, sym, ◌∙◌, ap, subst, append_assoc, length-append}
 use Rattle.std.proofs.lemmas.List.{append-nil}
+use Rattle.std.proofs.lemmas.Bool.{false≢true}
 use Rattle.bank_tables.specs.Tables.{Tables}
 use Rattle.spec_reader.specs.Canonical.{canonical}
 use Rattle.exam_edge.specs.Faults.{Rose}
 use Rattle.exam_model.specs.Plan.{Plan}
-use Rattle.exam_program.specs.declared.script.Script.{Script}
+use Rattle.exam_text.specs.Texts.{no_memory}
+use Rattle.history_model.specs.declared.request.Request.{Request}
+use Rattle.replay_cli.specs.Replies.{lines_of}
 use Rattle.exam_program.specs.declared.halt.Halt.{Halt}
 use Rattle.exam_program.specs.declared.halt.Halt.TheVariants as halt
-use Rattle.exam_program.specs.declared.stop.Stop.{Stop}
-use Rattle.exam_program.specs.declared.stop.Stop.TheVariants as stop
 use Rattle.exam_program.specs.Bases.{TellsForm}
 use Rattle.exam_program.specs.Commands.{Command, Check, Assemble, Replay, command_of, bank_name, plan_name}
-use Rattle.exam_program.specs.Halts.{HaltsAtExam, HaltsAtScript, HaltsAtBase, Reads, halt_of}
-use Rattle.exam_program.specs.Writing.{IsWritten, WritesPart}
-use Rattle.exam_program.specs.Replays.{Finishes, Stops}
-use Rattle.exam_text.specs.Texts.{no_memory}
+use Rattle.exam_program.specs.Halts.{HaltsAtExam, HaltsAtScript, HaltsAtBase, Reads, IsBeforeJournal}
+use Rattle.exam_program.specs.Outside.{Outside, DiskSeen, IsUntouched}
+use Rattle.exam_program.specs.Replays.{IsLeftAt}
+use Rattle.exam_program.specs.Stopping.{IsUnopened, refused, failed, out_of_memory, Stops, by_sessions, by_journal, by_disk, by_memory, by_sink, Finishes, IsReplayed, Halted}
 use Rattle.exam_program.specs.Texts.{bank_line, usage}
-use Rattle.exam_program.specs.Outcomes.{ReadsAll, IsReady, Outcome, faulty_words, bank_refused, plan_refused, checked, form_found, without_form, without_base_form, other_script, replayed, answer_refused, without_files, without_memory, without_more_memory, Prints, PrintsPart, PrintsBefore, Halts, EndsBy, IsStatus}
+use Rattle.exam_program.specs.Writing.{IsWritten, WritesPart}
+use Rattle.exam_program.specs.Outcomes.{IsReady, IsReplayOf, Outcome, faulty_words, bank_refused, plan_refused, script_refused, checked, form_found, without_form, without_base_form, journal_refused, replayed, sessions_full, journal_full, without_files, without_journal, without_disk, without_memory, without_more_memory, Prints, PrintsPart, PrintsBefore, Halts, EndsBy, IsStatus, IsStatusBefore}
 
 -- a count that rose later, rose
 pub rose_later : (before now after : ℕ) → before ≤ now → Rose now after → Rose before after
 rose_later before now after le rose = omega (arith, le, rose)
 
 -- ---- what a command has printed when it halts
+module _ (words : List (List ℕ)) (o : Outside) (told : Bool) (old : List ℕ) where
+  -- nothing was printed before
+  nothing_before : (status : ℕ) (last : List ℕ) → Outcome words o status last → PrintsBefore words o told old old status last
+  nothing_before status last outcome = record { text = []; written = λ t. sym (append-nil old); outcome = outcome }
 
--- nothing was printed before
-nothing_before : (words : List (List ℕ)) (named : List ℕ → Bool) (content : List ℕ → List ℕ) (before after : ℕ) (told : Bool) (old : List ℕ) (status : ℕ) (last : List ℕ) → Outcome words named content before after status last → PrintsBefore words named content before after told old old status last
-nothing_before words named content before after told old status last outcome = record { text = []; written = λ t. sym (append-nil old); outcome = outcome }
+  pub halts_without_memory : (command : Command) → command_of words ≡ Some command → IsUntouched o.disk → Halts words o told old old halt.Memory
+  halts_without_memory command e untouched = nothing_before 10 _ (without_memory command e untouched)
 
-pub halts_at_exam : (words : List (List ℕ)) (named : List ℕ → Bool) (content : List ℕ → List ℕ) (before after : ℕ) (told : Bool) (old : List ℕ) (command : Command) (h : Halt)
-    → command_of words ≡ Some command
-    → (h ≡ halt.Files → Rose before after)
-    → HaltsAtExam named content (bank_name command) (plan_name command) h
-    → Halts words named content before after told old old h
-halts_at_exam words named content before after told old command (halt.Bank fault) e rose is = (nothing_before words named content before after told old 3 _ (bank_refused command fault e is.0 is.1), nothing_before words named content before after told old 10 _ (without_memory command e))
-halts_at_exam words named content before after told old command (halt.Plan fault) e rose is = (nothing_before words named content before after told old 4 _ (plan_refused command is.0 fault e is.1 is.2 is.3 is.4 is.5), nothing_before words named content before after told old 10 _ (without_memory command e))
-halts_at_exam words named content before after told old command halt.NotYet e rose is = absurd is
-halts_at_exam words named content before after told old command (halt.NoForm text) e rose is = absurd is
-halts_at_exam words named content before after told old command (halt.NoBaseForm text) e rose is = absurd is
-halts_at_exam words named content before after told old command halt.Files e rose is = nothing_before words named content before after told old 7 _ (without_files command e (rose refl))
-halts_at_exam words named content before after told old command halt.Sink e rose is = absurd is
-halts_at_exam words named content before after told old command halt.Memory e rose is = nothing_before words named content before after told old 10 _ (without_memory command e)
+  pub halts_at_exam : (command : Command) (h : Halt) → command_of words ≡ Some command → (h ≡ halt.Files → Rose o.files_before o.files_after)
+      → IsUntouched o.disk → HaltsAtExam o.named o.content (bank_name command) (plan_name command) h → Halts words o told old old h
+  halts_at_exam command (halt.Bank fault) e rose untouched is =
+      (nothing_before 3 _ (bank_refused command fault e is.0 is.1), nothing_before 10 _ (without_memory command e untouched))
+  halts_at_exam command (halt.Plan fault) e rose untouched is =
+      (nothing_before 4 _ (plan_refused command is.0 fault e is.1 is.2 is.3 is.4 is.5), nothing_before 10 _ (without_memory command e untouched))
+  halts_at_exam command halt.Files e rose untouched is = nothing_before 7 _ (without_files command e (rose refl))
+  halts_at_exam command halt.Memory e rose untouched is = nothing_before 10 _ (without_memory command e untouched)
+  halts_at_exam command h e rose untouched is = absurd is
 
-pub halts_at_script : (words : List (List ℕ)) (named : List ℕ → Bool) (content : List ℕ → List ℕ) (before after : ℕ) (told : Bool) (old bank plan script : List ℕ) (b : Tables) (p : Plan) (h : Halt)
-    → command_of words ≡ Some (Replay bank plan script)
-    → Reads named content bank plan b p
-    → (h ≡ halt.Files → Rose before after)
-    → HaltsAtScript (named script) (content script) h
-    → Halts words named content before after told old old h
-halts_at_script words named content before after told old bank plan script b p (halt.Bank fault) e reads rose is = absurd is
-halts_at_script words named content before after told old bank plan script b p (halt.Plan fault) e reads rose is = absurd is
-halts_at_script words named content before after told old bank plan script b p halt.NotYet e reads rose is = nothing_before words named content before after told old 15 _ (other_script bank plan script b p e reads is)
-halts_at_script words named content before after told old bank plan script b p (halt.NoForm text) e reads rose is = absurd is
-halts_at_script words named content before after told old bank plan script b p (halt.NoBaseForm text) e reads rose is = absurd is
-halts_at_script words named content before after told old bank plan script b p halt.Files e reads rose is = nothing_before words named content before after told old 7 _ (without_files (Replay bank plan script) e (rose refl))
-halts_at_script words named content before after told old bank plan script b p halt.Sink e reads rose is = absurd is
-halts_at_script words named content before after told old bank plan script b p halt.Memory e reads rose is = nothing_before words named content before after told old 10 _ (without_memory (Replay bank plan script) e)
+  pub halts_at_script : (bank plan script : List ℕ) (b : Tables) (p : Plan) (h : Halt) → command_of words ≡ Some (Replay bank plan script)
+      → Reads o.named o.content bank plan b p → (h ≡ halt.Files → Rose o.files_before o.files_after) → IsUntouched o.disk
+      → HaltsAtScript (o.named script) (o.content script) h → Halts words o told old old h
+  halts_at_script bank plan script b p (halt.Script fault) e reads rose untouched is =
+      (nothing_before 5 _ (script_refused bank plan script b p fault e reads is.0 is.1 is.2), nothing_before 10 _ (without_memory (Replay bank plan script) e untouched))
+  halts_at_script bank plan script b p halt.Files e reads rose untouched is = nothing_before 7 _ (without_files (Replay bank plan script) e (rose refl))
+  halts_at_script bank plan script b p halt.Memory e reads rose untouched is = nothing_before 10 _ (without_memory (Replay bank plan script) e untouched)
+  halts_at_script bank plan script b p h e reads rose untouched is = absurd is
 
-pub halts_at_base : (words : List (List ℕ)) (named : List ℕ → Bool) (content : List ℕ → List ℕ) (before after : ℕ) (told : Bool) (old : List ℕ) (command : Command) (b : Tables) (p : Plan) (h : Halt)
-    → command_of words ≡ Some command
-    → IsReady named content command b p
-    → HaltsAtBase b p h
-    → Halts words named content before after told old old h
-halts_at_base words named content before after told old command b p (halt.Bank fault) e ready is = absurd is
-halts_at_base words named content before after told old command b p (halt.Plan fault) e ready is = absurd is
-halts_at_base words named content before after told old command b p halt.NotYet e ready is = absurd is
-halts_at_base words named content before after told old command b p (halt.NoForm text) e ready is =
-    nothing_before words named content before after told old 11 text.items (subst (λ (t : List ℕ). Outcome words named content before after 11 t) (sym is.2) (without_form command b p is.0 e ready is.1))
-halts_at_base words named content before after told old command b p (halt.NoBaseForm text) e ready is =
-    nothing_before words named content before after told old 12 text.items (subst (λ (t : List ℕ). Outcome words named content before after 12 t) (sym is.2) (without_base_form command b p is.0 e ready is.1))
-halts_at_base words named content before after told old command b p halt.Files e ready is = absurd is
-halts_at_base words named content before after told old command b p halt.Sink e ready is = absurd is
-halts_at_base words named content before after told old command b p halt.Memory e ready is = nothing_before words named content before after told old 10 _ (without_memory command e)
+  pub halts_at_base : (command : Command) (b : Tables) (p : Plan) (h : Halt) → command_of words ≡ Some command
+      → IsReady o.named o.content command b p → IsUntouched o.disk → HaltsAtBase b p h → Halts words o told old old h
+  halts_at_base command b p (halt.NoForm text) e ready untouched is =
+      nothing_before 11 text.items (subst (λ (t : List ℕ). Outcome words o 11 t) (sym is.2) (without_form command b p is.0 e ready is.1))
+  halts_at_base command b p (halt.NoBaseForm text) e ready untouched is =
+      nothing_before 12 text.items (subst (λ (t : List ℕ). Outcome words o 12 t) (sym is.2) (without_base_form command b p is.0 e ready is.1))
+  halts_at_base command b p halt.Memory e ready untouched is = nothing_before 10 _ (without_memory command e untouched)
+  halts_at_base command b p h e ready untouched is = absurd is
 
-pub halts_without_memory : (words : List (List ℕ)) (named : List ℕ → Bool) (content : List ℕ → List ℕ) (before after : ℕ) (told : Bool) (old : List ℕ) (command : Command) → command_of words ≡ Some command → Halts words named content before after told old old halt.Memory
-halts_without_memory words named content before after told old command e = nothing_before words named content before after told old 10 _ (without_memory command e)
+  -- the usage is printed where the words are faulty
+  pub before_usage : command_of words ≡ None → PrintsBefore words o told old old 2 usage
+  before_usage e = nothing_before 2 usage (faulty_words e)
 
--- ---- one text that is printed whole, or in part
-pub prints : (words : List (List ℕ)) (named : List ℕ → Bool) (content : List ℕ → List ℕ) (before after : ℕ) (told : Bool) (old new text : List ℕ) → Outcome words named content before after 0 text → IsWritten told old new text → Prints words named content before after told old new 0
-prints words named content before after told old new text outcome written = record { text = text; written = written; outcome = outcome }
+  -- ---- one text that is printed whole, or in part
+  pub prints : (new text : List ℕ) → Outcome words o 0 text → IsWritten told old new text → Prints words o told old new 0
+  prints new text outcome written = record { text = text; written = written; outcome = outcome }
 
-pub prints_part : (words : List (List ℕ)) (named : List ℕ → Bool) (content : List ℕ → List ℕ) (before after : ℕ) (told : Bool) (old new text : List ℕ) → Outcome words named content before after 0 text → WritesPart told old new text → PrintsPart words named content before after told old new
-prints_part words named content before after told old new text outcome part =
-    record { text = part.part; rest = part.rest; status = 0; written = part.written; outcome = subst (λ (t : List ℕ). Outcome words named content before after 0 t) part.whole outcome; unfinished = part.unfinished }
+  pub prints_part : (new text : List ℕ) → Outcome words o 0 text → WritesPart told old new text → PrintsPart words o told old new
+  prints_part new text outcome part = record {
+    text = part.part;
+    rest = part.rest;
+    status = 0;
+    written = part.written;
+    outcome = subst (λ (t : List ℕ). Outcome words o 0 t) part.whole outcome;
+    unfinished = part.unfinished;
+  }
 
-pub outcome_checked : (words : List (List ℕ)) (named : List ℕ → Bool) (content : List ℕ → List ℕ) (before after : ℕ) (text bank plan : List ℕ) (b : Tables) (p : Plan)
-    → command_of words ≡ Some (Check bank plan)
-    → Reads named content bank plan b p
-    → text ≡ bank_line b ++ canonical p
-    → Outcome words named content before after 0 text
-outcome_checked words named content before after text bank plan b p e reads is = subst (λ (t : List ℕ). Outcome words named content before after 0 t) (sym is) (checked bank plan b p e reads)
+  -- ---- a replay
+  module _ (b : Tables) (p : Plan) (base : List ℕ) (script : List Request) (is : IsReplayOf words o b p script base) (new : List ℕ) where
+    pub prints_replayed : Finishes (IsReplayed b p base o.disk script) told old new → Prints words o told old new 0
+    prints_replayed f = record { text = lines_of f.replies; written = f.written; outcome = replayed b p script base f.way.H f.G f.replies is f.way.under_way }
 
-pub outcome_assembled : (words : List (List ℕ)) (named : List ℕ → Bool) (content : List ℕ → List ℕ) (before after : ℕ) (text bank plan : List ℕ) (b : Tables) (p : Plan)
-    → command_of words ≡ Some (Assemble bank plan)
-    → Reads named content bank plan b p
-    → TellsForm b p text
-    → Outcome words named content before after 0 text
-outcome_assembled words named content before after text bank plan b p e reads tells =
-    subst (λ (t : List ℕ). Outcome words named content before after 0 t) (sym tells.is) (form_found bank plan b p tells.problem tells.form tells.proved tells.tree e reads tells.finds)
+    unopened_so : (h : Halt) → IsWritten told old new [] → IsUnopened b p o.disk h → Halts words o told old new h
+    unopened_so _ written (refused fault so) = (
+      record { text = []; written = written; outcome = journal_refused b p script base fault is so },
+      record { text = []; written = written; outcome = without_memory (Replay is.bank is.plan is.name) is.asked so.untouched },
+    )
+    unopened_so _ written (failed rose) = record { text = []; written = written; outcome = without_journal b p script base is rose }
+    unopened_so _ written (out_of_memory untouched) =
+        record { text = []; written = written; outcome = without_memory (Replay is.bank is.plan is.name) is.asked untouched }
 
--- ---- a replay
-pub prints_replayed : (words : List (List ℕ)) (named : List ℕ → Bool) (content : List ℕ → List ℕ) (before after : ℕ) (told : Bool) (old new bank plan name : List ℕ) (b : Tables) (p : Plan) (script : Script) (base : List ℕ)
-    → command_of words ≡ Some (Replay bank plan name)
-    → ReadsAll named content bank plan name b p script base
-    → Finishes b p base script.answers told old new
-    → Prints words named content before after told old new 0
-prints_replayed words named content before after told old new bank plan name b p script base e reads finishes =
-    record { text = finishes.text; written = finishes.written; outcome = replayed bank plan name b p script base finishes.seat finishes.text e reads finishes.session }
-
-pub halts_replayed : (words : List (List ℕ)) (named : List ℕ → Bool) (content : List ℕ → List ℕ) (before after : ℕ) (told : Bool) (old new bank plan name : List ℕ) (b : Tables) (p : Plan) (script : Script) (base : List ℕ) (s : Stop)
-    → command_of words ≡ Some (Replay bank plan name)
-    → ReadsAll named content bank plan name b p script base
-    → Stops b p base script.answers told old new s
-    → Halts words named content before after told old new (halt_of s)
-halts_replayed words named content before after told old new bank plan name b p script base stop.Refused e reads is =
-    record { text = is.text; written = is.written; outcome = answer_refused bank plan name b p script base is.done is.rest is.answer is.seat is.text e reads is.all is.session is.refused }
-halts_replayed words named content before after told old new bank plan name b p script base stop.Memory e reads is =
-    record { text = is.text; written = is.written; outcome = without_more_memory bank plan name b p script base is.text e reads is.printed }
-halts_replayed words named content before after told old new bank plan name b p script base stop.Sink e reads is =
-    record {
-      text = is.text;
-      rest = is.rest ++ no_memory;
+    stopped_so : (h : Halt) → Stops b p (IsReplayed b p base o.disk script) (IsLeftAt b p o.disk) (Rose o.disk.before o.disk.after) told old new h
+        → Halts words o told old new h
+    stopped_so _ (by_sessions G request rest replies count way why written) = (
+      record { text = lines_of replies; written = written; outcome = sessions_full b p script base way.H G request rest replies count is way.under_way why },
+      record { text = lines_of replies; written = written; outcome = without_more_memory b p script base way.H G (request ∷ rest) replies is way.under_way },
+    )
+    stopped_so _ (by_journal G request rest replies K reached size way full left written) = (
+      record {
+        text = lines_of replies;
+        written = written;
+        outcome = journal_full b p script base way.H G request rest replies K reached size is way.under_way full left;
+      },
+      record { text = lines_of replies; written = written; outcome = without_more_memory b p script base way.H G (request ∷ rest) replies is way.under_way },
+    )
+    stopped_so _ (by_disk G rest replies way rose written) =
+        record { text = lines_of replies; written = written; outcome = without_disk b p script base way.H G rest replies is way.under_way rose }
+    stopped_so _ (by_memory G rest replies way written) =
+        record { text = lines_of replies; written = written; outcome = without_more_memory b p script base way.H G rest replies is way.under_way }
+    stopped_so _ (by_sink G rest replies way part) = record {
+      text = part.part;
+      rest = part.rest ++ no_memory;
       status = 10;
-      written = is.written;
-      outcome = subst (λ (t : List ℕ). Outcome words named content before after 10 t) (append_assoc is.text is.rest no_memory) (without_more_memory bank plan name b p script base (is.text ++ is.rest) e reads is.printed);
-      unfinished = omega (arith, length-append is.rest no_memory, is.unfinished);
+      written = part.written;
+      outcome = subst (λ (t : List ℕ). Outcome words o 10 t) (ap (λ (t : List ℕ). t ++ no_memory) part.whole ∙ append_assoc part.part part.rest no_memory)
+          (without_more_memory b p script base way.H G rest replies is way.under_way);
+      unfinished = omega (arith, length-append part.rest no_memory, part.unfinished);
     }
+
+    pub halts_replayed : (h : Halt) → Halted b p base o.disk script told old new h → Halts words o told old new h
+    halts_replayed h (inl (unopened, written)) = unopened_so h written unopened
+    halts_replayed h (inr stops) = stopped_so h stops
+
+pub outcome_checked : (words : List (List ℕ)) (o : Outside) (text bank plan : List ℕ) (b : Tables) (p : Plan) → command_of words ≡ Some (Check bank plan)
+    → Reads o.named o.content bank plan b p → text ≡ bank_line b ++ canonical p → Outcome words o 0 text
+outcome_checked words o text bank plan b p e reads is = subst (λ (t : List ℕ). Outcome words o 0 t) (sym is) (checked bank plan b p e reads)
+
+pub outcome_assembled : (words : List (List ℕ)) (o : Outside) (text bank plan : List ℕ) (b : Tables) (p : Plan)
+    → command_of words ≡ Some (Assemble bank plan) → Reads o.named o.content bank plan b p → TellsForm b p text → Outcome words o 0 text
+outcome_assembled words o text bank plan b p e reads tells =
+    subst (λ (t : List ℕ). Outcome words o 0 t) (sym tells.is) (form_found bank plan b p tells.problem tells.form tells.proved tells.tree e reads tells.finds)
 
 -- ---- the statuses
 pub is_2 : IsStatus 2
 is_2 = (1, omega arith, refl)
 
 pub is_8 : IsStatus 8
-is_8 = (5, omega arith, refl)
+is_8 = (7, omega arith, refl)
 
 is_10 : IsStatus 10
-is_10 = (6, omega arith, refl)
+is_10 = (9, omega arith, refl)
+
+is_13 : IsStatus 13
+is_13 = (12, omega arith, refl)
 
 -- a status that is one of them
 pub also : (n status : ℕ) → status ≡ n → IsStatus n → IsStatus status
@@ -147,13 +157,160 @@ ends_by (halt.Bank fault) status (inl e) = also 3 status e (2, omega arith, refl
 ends_by (halt.Bank fault) status (inr e) = also 10 status e is_10
 ends_by (halt.Plan fault) status (inl e) = also 4 status e (3, omega arith, refl)
 ends_by (halt.Plan fault) status (inr e) = also 10 status e is_10
-ends_by halt.NotYet status e = also 15 status e (9, omega arith, refl)
-ends_by (halt.NoForm text) status e = also 11 status e (7, omega arith, refl)
-ends_by (halt.NoBaseForm text) status e = also 12 status e (8, omega arith, refl)
-ends_by halt.Files status e = also 7 status e (4, omega arith, refl)
+ends_by (halt.Script fault) status (inl e) = also 5 status e (4, omega arith, refl)
+ends_by (halt.Script fault) status (inr e) = also 10 status e is_10
+ends_by (halt.NoForm text) status e = also 11 status e (10, omega arith, refl)
+ends_by (halt.NoBaseForm text) status e = also 12 status e (11, omega arith, refl)
+ends_by (halt.Journal fault) status (inl e) = also 6 status e (5, omega arith, refl)
+ends_by (halt.Journal fault) status (inr e) = also 10 status e is_10
+ends_by (halt.Sessions count most) status (inl e) = also 13 status e is_13
+ends_by (halt.Sessions count most) status (inr e) = also 10 status e is_10
+ends_by (halt.JournalFull size most) status (inl e) = also 13 status e is_13
+ends_by (halt.JournalFull size most) status (inr e) = also 10 status e is_10
+ends_by halt.Files status e = also 7 status e (6, omega arith, refl)
+ends_by halt.Disk status e = also 9 status e (8, omega arith, refl)
 ends_by halt.Sink status e = also 8 status e is_8
 ends_by halt.Memory status e = also 10 status e is_10
 
--- the usage is printed where the words are faulty
-pub before_usage : (words : List (List ℕ)) (named : List ℕ → Bool) (content : List ℕ → List ℕ) (before after : ℕ) (told : Bool) (old : List ℕ) → command_of words ≡ None → PrintsBefore words named content before after told old old 2 usage
-before_usage words named content before after told old e = nothing_before words named content before after told old 2 usage (faulty_words e)
+-- a status of a run that ends before the journal is opened is that of such a halt
+not_before : (n status : ℕ) → status ≡ n → IsStatusBefore status → IsStatusBefore n
+not_before n status e before = subst (λ (s : ℕ). IsStatusBefore s) e before
+
+pub before_so : (h : Halt) (status : ℕ) → EndsBy h status → IsStatusBefore status → IsBeforeJournal h
+before_so (halt.Bank fault) status e before = tt
+before_so (halt.Plan fault) status e before = tt
+before_so (halt.Script fault) status e before = tt
+before_so (halt.NoForm text) status e before = tt
+before_so (halt.NoBaseForm text) status e before = tt
+before_so (halt.Journal fault) status (inl e) before = absurd (false≢true (not_before 6 status e before))
+before_so (halt.Journal fault) status (inr e) before = absurd (false≢true (not_before 10 status e before))
+before_so (halt.Sessions count most) status (inl e) before = absurd (false≢true (not_before 13 status e before))
+before_so (halt.Sessions count most) status (inr e) before = absurd (false≢true (not_before 10 status e before))
+before_so (halt.JournalFull size most) status (inl e) before = absurd (false≢true (not_before 13 status e before))
+before_so (halt.JournalFull size most) status (inr e) before = absurd (false≢true (not_before 10 status e before))
+before_so halt.Files status e before = tt
+before_so halt.Disk status e before = absurd (false≢true (not_before 9 status e before))
+before_so halt.Memory status e before = absurd (false≢true (not_before 10 status e before))
+before_so halt.Sink status e before = absurd (false≢true (not_before 8 status e before))
+
+-- status 7 is that of the files alone
+pub of_files : (h : Halt) (status : ℕ) → EndsBy h status → status ≡ 7 → h ≡ halt.Files
+of_files (halt.Bank fault) status (inl e) is = absurd (omega (arith, e, is))
+of_files (halt.Bank fault) status (inr e) is = absurd (omega (arith, e, is))
+of_files (halt.Plan fault) status (inl e) is = absurd (omega (arith, e, is))
+of_files (halt.Plan fault) status (inr e) is = absurd (omega (arith, e, is))
+of_files (halt.Script fault) status (inl e) is = absurd (omega (arith, e, is))
+of_files (halt.Script fault) status (inr e) is = absurd (omega (arith, e, is))
+of_files (halt.NoForm text) status e is = absurd (omega (arith, e, is))
+of_files (halt.NoBaseForm text) status e is = absurd (omega (arith, e, is))
+of_files (halt.Journal fault) status (inl e) is = absurd (omega (arith, e, is))
+of_files (halt.Journal fault) status (inr e) is = absurd (omega (arith, e, is))
+of_files (halt.Sessions count most) status (inl e) is = absurd (omega (arith, e, is))
+of_files (halt.Sessions count most) status (inr e) is = absurd (omega (arith, e, is))
+of_files (halt.JournalFull size most) status (inl e) is = absurd (omega (arith, e, is))
+of_files (halt.JournalFull size most) status (inr e) is = absurd (omega (arith, e, is))
+of_files halt.Files status e is = refl
+of_files halt.Disk status e is = absurd (omega (arith, e, is))
+of_files halt.Memory status e is = absurd (omega (arith, e, is))
+of_files halt.Sink status e is = absurd (omega (arith, e, is))
+
+-- status 8 is that of the sink alone
+pub of_sink : (h : Halt) (status : ℕ) → EndsBy h status → status ≡ 8 → h ≡ halt.Sink
+of_sink (halt.Bank fault) status (inl e) is = absurd (omega (arith, e, is))
+of_sink (halt.Bank fault) status (inr e) is = absurd (omega (arith, e, is))
+of_sink (halt.Plan fault) status (inl e) is = absurd (omega (arith, e, is))
+of_sink (halt.Plan fault) status (inr e) is = absurd (omega (arith, e, is))
+of_sink (halt.Script fault) status (inl e) is = absurd (omega (arith, e, is))
+of_sink (halt.Script fault) status (inr e) is = absurd (omega (arith, e, is))
+of_sink (halt.NoForm text) status e is = absurd (omega (arith, e, is))
+of_sink (halt.NoBaseForm text) status e is = absurd (omega (arith, e, is))
+of_sink (halt.Journal fault) status (inl e) is = absurd (omega (arith, e, is))
+of_sink (halt.Journal fault) status (inr e) is = absurd (omega (arith, e, is))
+of_sink (halt.Sessions count most) status (inl e) is = absurd (omega (arith, e, is))
+of_sink (halt.Sessions count most) status (inr e) is = absurd (omega (arith, e, is))
+of_sink (halt.JournalFull size most) status (inl e) is = absurd (omega (arith, e, is))
+of_sink (halt.JournalFull size most) status (inr e) is = absurd (omega (arith, e, is))
+of_sink halt.Files status e is = absurd (omega (arith, e, is))
+of_sink halt.Disk status e is = absurd (omega (arith, e, is))
+of_sink halt.Memory status e is = absurd (omega (arith, e, is))
+of_sink halt.Sink status e is = refl
+
+-- status 9 is that of the disk alone
+pub of_disk : (h : Halt) (status : ℕ) → EndsBy h status → status ≡ 9 → h ≡ halt.Disk
+of_disk (halt.Bank fault) status (inl e) is = absurd (omega (arith, e, is))
+of_disk (halt.Bank fault) status (inr e) is = absurd (omega (arith, e, is))
+of_disk (halt.Plan fault) status (inl e) is = absurd (omega (arith, e, is))
+of_disk (halt.Plan fault) status (inr e) is = absurd (omega (arith, e, is))
+of_disk (halt.Script fault) status (inl e) is = absurd (omega (arith, e, is))
+of_disk (halt.Script fault) status (inr e) is = absurd (omega (arith, e, is))
+of_disk (halt.NoForm text) status e is = absurd (omega (arith, e, is))
+of_disk (halt.NoBaseForm text) status e is = absurd (omega (arith, e, is))
+of_disk (halt.Journal fault) status (inl e) is = absurd (omega (arith, e, is))
+of_disk (halt.Journal fault) status (inr e) is = absurd (omega (arith, e, is))
+of_disk (halt.Sessions count most) status (inl e) is = absurd (omega (arith, e, is))
+of_disk (halt.Sessions count most) status (inr e) is = absurd (omega (arith, e, is))
+of_disk (halt.JournalFull size most) status (inl e) is = absurd (omega (arith, e, is))
+of_disk (halt.JournalFull size most) status (inr e) is = absurd (omega (arith, e, is))
+of_disk halt.Files status e is = absurd (omega (arith, e, is))
+of_disk halt.Disk status e is = refl
+of_disk halt.Memory status e is = absurd (omega (arith, e, is))
+of_disk halt.Sink status e is = absurd (omega (arith, e, is))
+
+-- no halt ends with status 2
+pub no_usage : (h : Halt) (status : ℕ) → EndsBy h status → status ≡ 2 → ⊥
+no_usage (halt.Bank fault) status (inl e) is = omega (arith, e, is)
+no_usage (halt.Bank fault) status (inr e) is = omega (arith, e, is)
+no_usage (halt.Plan fault) status (inl e) is = omega (arith, e, is)
+no_usage (halt.Plan fault) status (inr e) is = omega (arith, e, is)
+no_usage (halt.Script fault) status (inl e) is = omega (arith, e, is)
+no_usage (halt.Script fault) status (inr e) is = omega (arith, e, is)
+no_usage (halt.NoForm text) status e is = omega (arith, e, is)
+no_usage (halt.NoBaseForm text) status e is = omega (arith, e, is)
+no_usage (halt.Journal fault) status (inl e) is = omega (arith, e, is)
+no_usage (halt.Journal fault) status (inr e) is = omega (arith, e, is)
+no_usage (halt.Sessions count most) status (inl e) is = omega (arith, e, is)
+no_usage (halt.Sessions count most) status (inr e) is = omega (arith, e, is)
+no_usage (halt.JournalFull size most) status (inl e) is = omega (arith, e, is)
+no_usage (halt.JournalFull size most) status (inr e) is = omega (arith, e, is)
+no_usage halt.Files status e is = omega (arith, e, is)
+no_usage halt.Disk status e is = omega (arith, e, is)
+no_usage halt.Memory status e is = omega (arith, e, is)
+no_usage halt.Sink status e is = omega (arith, e, is)
+
+-- ---- a journal was asked for
+-- the disk failed in a replay
+pub rose_so : (b : Tables) (p : Plan) (base : List ℕ) (disk : DiskSeen) (script : List Request) (told : Bool) (old new : List ℕ) (h : Halt)
+    → Halted b p base disk script told old new h → h ≡ halt.Disk → Rose disk.before disk.after
+rose_so b p base disk script told old new h (inl (unopened, written)) is = unopened_rose h unopened is
+  where
+    unopened_rose : (h : Halt) → IsUnopened b p disk h → h ≡ halt.Disk → Rose disk.before disk.after
+    unopened_rose _ (refused fault so) is = cc
+    unopened_rose _ (failed rose) is = rose
+    unopened_rose _ (out_of_memory untouched) is = cc
+rose_so b p base disk script told old new h (inr stops) is = stopped_rose h stops is
+  where
+    stopped_rose : (h : Halt) → Stops b p (IsReplayed b p base disk script) (IsLeftAt b p disk) (Rose disk.before disk.after) told old new h → h ≡ halt.Disk
+        → Rose disk.before disk.after
+    stopped_rose _ (by_sessions G request rest replies count way why written) is = cc
+    stopped_rose _ (by_journal G request rest replies K reached size way full left written) is = cc
+    stopped_rose _ (by_disk G rest replies way rose written) is = rose
+    stopped_rose _ (by_memory G rest replies way written) is = cc
+    stopped_rose _ (by_sink G rest replies way part) is = cc
+
+-- a replay doesn't halt before its journal is asked for
+pub opened_so : (b : Tables) (p : Plan) (base : List ℕ) (disk : DiskSeen) (script : List Request) (told : Bool) (old new : List ℕ) (h : Halt)
+    → Halted b p base disk script told old new h → IsBeforeJournal h → ⊥
+opened_so b p base disk script told old new h (inl (unopened, written)) before = unopened_not h unopened before
+  where
+    unopened_not : (h : Halt) → IsUnopened b p disk h → IsBeforeJournal h → ⊥
+    unopened_not _ (refused fault so) before = before
+    unopened_not _ (failed rose) before = before
+    unopened_not _ (out_of_memory untouched) before = before
+opened_so b p base disk script told old new h (inr stops) before = stopped_not h stops before
+  where
+    stopped_not : (h : Halt) → Stops b p (IsReplayed b p base disk script) (IsLeftAt b p disk) (Rose disk.before disk.after) told old new h → IsBeforeJournal h → ⊥
+    stopped_not _ (by_sessions G request rest replies count way why written) before = before
+    stopped_not _ (by_journal G request rest replies K reached size way full left written) before = before
+    stopped_not _ (by_disk G rest replies way rose written) before = before
+    stopped_not _ (by_memory G rest replies way written) before = before
+    stopped_not _ (by_sink G rest replies way part) before = before

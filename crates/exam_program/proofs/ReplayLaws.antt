@@ -1,85 +1,111 @@
--- How a replay goes on, and where it stops.
-use Rattle.std.proofs.Common.{◌≡◌, ℕ, Bool, IsTrue, suc, ◌+◌, ◌<◌, ◌⊎◌, inl, inr, List, ◌∷◌, ◌++◌, length, take, drop, get_or, drop-cons, refl, sym, ◌∙◌, ap, subst, append_assoc}
-use Rattle.std.proofs.lemmas.List.{take-append-drop, take_more}
+-- A replay over a disk, from its office.
+use Rattle.std.proofs.Common.{◌≡◌, ℕ, ◌≤◌, ◌⊎◌, inl, inr, Bool, List, [], length, Option, Some, None, Result, Err, IfErr, IsTrue, refl, sym, ap, ◌∙◌, subst, arith}
 use Rattle.bank_tables.specs.Tables.{Tables}
-use Rattle.exam_model.specs.declared.seat.Seat.{Seat}
+use Rattle.exam_edge.specs.Faults.{Rose}
+use Rattle.exam_edge.specs.Images.{Account, IsImage, AllImages, latest}
 use Rattle.exam_model.specs.Plan.{Plan}
-use Rattle.exam_program.specs.declared.script.Answer.{Answer}
-use Rattle.exam_program.specs.declared.stop.Stop.{Stop}
-use Rattle.exam_program.specs.declared.stop.Stop.TheVariants.{Refused, Memory, Sink}
-use Rattle.exam_program.specs.Sessions.{Session, answered, Answers, IsRefused, place_line}
-use Rattle.exam_program.specs.Writing.{IsWritten, WritesPart}
-use Rattle.exam_program.specs.Replays.{IsPrinted, lines, Stops, StopsAtRefusal}
+use Rattle.history_model.specs.declared.entry.Entry.{Entry}
+use Rattle.history_model.specs.declared.request.Reply.{Reply}
+use Rattle.history_model.specs.declared.request.Request.{Request}
+use Rattle.history_model.specs.Legality.{LegalRun}
+use Rattle.exam_office.specs.declared.fault.OpenFault.{OpenFault}
+use Rattle.exam_office.specs.declared.fault.OpenFault.TheVariants as fault
+use Rattle.exam_office.specs.Files.{Stands}
+use Rattle.exam_office.specs.Marks.{history, reach}
+use Rattle.exam_office.specs.Opening.{IsOpenAnswer}
+use Rattle.exam_office.specs.Running.{Running}
+use Rattle.exam_office.specs.Writing.{IsOneOf, as_before, with_doubt, IsMending}
+use Rattle.answer_journal.specs.Journal.{tells_of, accounts_of, faults_of}
+use Rattle.exam_program.specs.declared.halt.Halt.{Halt}
+use Rattle.exam_program.specs.declared.halt.Halt.TheVariants as halt
+use Rattle.exam_program.specs.Outside.{DiskSeen, IsUntouched}
+use Rattle.exam_program.specs.Replays.{IsFileOf, IsGoingOn, IsUnderWay, IsLeftAt, IsFullAt, IsOfFile}
+use Rattle.exam_program.specs.Stopping.{IsUnopened, refused, failed, out_of_memory, opening_halt, Stops, by_sessions, by_journal, by_disk, by_memory, by_sink, Finishes, GoesOn, IsOfficeAt, IsServed, IsUnserved, IsReplayed, Halted}
+use Rattle.exam_program.specs.Writing.{IsWritten}
 
--- a line that can't be printed, after the text
-pub stop_at_line : (b : Tables) (plan : Plan) (base : List ℕ) (answers : List Answer) (told : Bool) (old mid new text line : List ℕ) (stop : Stop)
-    → IsPrinted b plan base answers text
-    → IsPrinted b plan base answers (text ++ line)
-    → IsWritten told old mid text
-    → (stop ≡ Memory) ⊎ (stop ≡ Sink)
-    → (stop ≡ Memory → IsTrue told → new ≡ mid)
-    → (stop ≡ Sink → WritesPart told mid new line)
-    → Stops b plan base answers told old new stop
-stop_at_line b plan base answers told old mid new text line stop before after there (inl is) memory sink =
-    subst (λ (s : Stop). Stops b plan base answers told old new s) (sym is) (record { text = text; printed = before; written = λ t. memory is t ∙ there t })
-stop_at_line b plan base answers told old mid new text line stop before after there (inr is) memory sink =
-    let part = sink is in
-    subst (λ (s : Stop). Stops b plan base answers told old new s) (sym is) (record {
-      text = text ++ part.part;
-      rest = part.rest;
-      printed = subst (λ (t : List ℕ). IsPrinted b plan base answers t) (ap (λ (t : List ℕ). text ++ t) part.whole ∙ sym (append_assoc text part.part part.rest)) after;
-      written = λ t. part.written t ∙ (ap (λ (t : List ℕ). t ++ part.part) (there t) ∙ append_assoc old text part.part);
-      unfinished = part.unfinished;
-    })
+-- ---- a journal that was not opened
+pub unopened_so : (b : Tables) (plan : Plan) (disk : DiskSeen) (f : OpenFault) → (IsTrue disk.told → IsOpenAnswer b plan disk.found f)
+    → (f ≡ fault.Disk → Rose disk.before disk.after) → ((f ≡ fault.Disk → ⊥) → IsUntouched disk) → IsUnopened b plan disk (opening_halt f)
+unopened_so b plan disk fault.Disk answer rose untouched = failed (rose refl)
+unopened_so b plan disk fault.Memory answer rose untouched = out_of_memory (untouched (λ e. cc))
+unopened_so b plan disk (fault.Journal f) answer rose untouched = refused (fault.Journal f) (record { of_file = tt; answer = answer; untouched = untouched (λ e. cc) })
+unopened_so b plan disk (fault.BadRecord at f) answer rose untouched = refused (fault.BadRecord at f) (record { of_file = tt; answer = answer; untouched = untouched (λ e. cc) })
+unopened_so b plan disk (fault.BadTree at) answer rose untouched = refused (fault.BadTree at) (record { of_file = tt; answer = answer; untouched = untouched (λ e. cc) })
+unopened_so b plan disk (fault.Illegal at f) answer rose untouched = refused (fault.Illegal at f) (record { of_file = tt; answer = answer; untouched = untouched (λ e. cc) })
 
--- the lines of the first answers are printed for all of them
-pub printed_so_far : (b : Tables) (plan : Plan) (base : List ℕ) (answers done rest : List Answer) (seat : Seat) (text : List ℕ) → answers ≡ done ++ rest → Session b plan base done seat text → IsPrinted b plan base answers text
-printed_so_far b plan base answers done rest seat text all session = lines done rest seat text all session
+pub no_sink : (f : OpenFault) → opening_halt f ≡ halt.Sink → ⊥
+no_sink fault.Disk e = cc
+no_sink fault.Memory e = cc
+no_sink (fault.Journal f) e = cc
+no_sink (fault.BadRecord at f) e = cc
+no_sink (fault.BadTree at) e = cc
+no_sink (fault.Illegal at f) e = cc
 
--- what is read past the last answer
-abbrev pub no_answer : Answer
-no_answer = record { step = 0; response = 0 }
+-- ---- a journal that was opened
+-- a file with nothing in doubt
+sure_of : (b : Tables) (plan : Plan) (H : List Entry) (doubt : Option Entry) (file : List ℕ) → doubt ≡ None → IsMending b plan H doubt file → Stands b plan H file
+sure_of b plan H doubt file e m = subst (λ (G : List Entry). Stands b plan G file) (here doubt e m.so_far m.is_one_of) m.stands
+  where
+    here : (doubt : Option Entry) → doubt ≡ None → (G : List Entry) → IsOneOf H doubt G → G ≡ H
+    here doubt e _ (as_before _) = refl
+    here _ e _ (with_doubt entry) = cc
 
--- the session with one more answer of the list
-pub session_more : (b : Tables) (plan : Plan) (base : List ℕ) (all : List Answer) (i : ℕ) (before after : Seat) (text : List ℕ)
-    → i < length all
-    → Session b plan base (take i all) before text
-    → Answers b plan base before (get_or all i no_answer) after
-    → Session b plan base (take (i + 1) all) after (text ++ place_line plan after)
-session_more b plan base all i before after text lt session more =
-    subst (λ (xs : List Answer). Session b plan base xs after (text ++ place_line plan after)) (sym (take_more all i no_answer lt)) (answered (take i all) before text (get_or all i no_answer) after session more)
+-- what the office says of its disk when it is handed back
+pub record IsHandedBack {D : Type 0} (b : Tables) (plan : Plan) (disk : DiskSeen) (old new : Running D) : Type 0 where
+  pub legal : LegalRun b plan (history old.marks)
+  pub found : IsTrue disk.told → Stands b plan (history old.marks) disk.found
+  pub told : tells_of old.journal ≡ disk.told
+  pub images : latest (accounts_of new.journal) ≡ disk.images
+  pub left : IsTrue disk.told → IsImage disk.images disk.left
+  pub content : IsTrue disk.told → IsMending b plan (history new.marks) new.doubt disk.left
+  pub length_is : IsTrue disk.told → new.doubt ≡ None → length disk.left ≡ reach new.marks
+  pub before : disk.before ≤ faults_of old.journal
+  pub after : faults_of new.journal ≡ disk.after
 
--- the answers before one, that one, and those after it
-parted : (all : List Answer) (i : ℕ) → i < length all → all ≡ take i all ++ get_or all i no_answer ∷ drop (suc i) all
-parted all i lt = sym (take-append-drop i all) ∙ ap (λ (xs : List Answer). take i all ++ xs) (drop-cons all i no_answer lt)
+module _ {D : Type 0} (b : Tables) (plan : Plan) (base : List ℕ) (disk : DiskSeen) (script : List Request) (old new : Running D) (back : IsHandedBack b plan disk old new) where
+  way_so : (G : List Entry) (rest : List Request) (replies : List Reply) → GoesOn b plan base script old new G rest replies → IsReplayed b plan base disk script G rest replies
+  way_so G rest replies going =
+      let going_on = subst (λ (t : Bool). IsGoingOn b plan base script t disk.images (history old.marks) G rest replies) back.told
+      (subst (λ (a : Account). IsGoingOn b plan base script (tells_of old.journal) a (history old.marks) G rest replies) back.images going) in
+      record {
+        H = history old.marks;
+        under_way = record {
+          legal = back.legal;
+          found = back.found;
+          left = λ t. going_on.each t disk.left (back.left t);
+          going_on = going_on;
+        };
+      }
 
-pub split : (all : List Answer) (i : ℕ) → all ≡ take i all ++ drop i all
-split all i = sym (take-append-drop i all)
+  left_so : (K : List Entry) (reached : ℕ) → IsOfficeAt new K reached → IsLeftAt b plan disk K reached
+  left_so K reached at = record {
+    stands = λ t. subst (λ (G : List Entry). Stands b plan G disk.left) at.history_is (sure_of b plan (history new.marks) new.doubt disk.left at.sure (back.content t));
+    length_is = λ t. sym (back.length_is t at.sure ∙ at.reach_is);
+  }
 
-stops_refused : (b : Tables) (plan : Plan) (base : List ℕ) (all : List Answer) (i : ℕ) (told : Bool) (old new : List ℕ) (seat : Seat) (text : List ℕ)
-    → i < length all
-    → Session b plan base (take i all) seat text
-    → IsWritten told old new text
-    → IsRefused b seat (get_or all i no_answer)
-    → StopsAtRefusal b plan base all told old new
-stops_refused b plan base all i told old new seat text lt session written refused =
-    record { done = take i all; answer = get_or all i no_answer; rest = drop (suc i) all; seat = seat; text = text; all = parted all i lt; session = session; refused = refused; written = written }
+  rose_so : Rose (faults_of old.journal) (faults_of new.journal) → Rose disk.before disk.after
+  rose_so rose = omega (arith, rose, back.before, back.after)
 
--- memory ran out before a line
-stops_between : (b : Tables) (plan : Plan) (base : List ℕ) (all : List Answer) (i : ℕ) (told : Bool) (old new : List ℕ) (seat : Seat) (text : List ℕ)
-    → Session b plan base (take i all) seat text
-    → IsWritten told old new text
-    → Stops b plan base all told old new Memory
-stops_between b plan base all i told old new seat text session written = record { text = text; printed = lines (take i all) (drop i all) seat text (split all i) session; written = written }
+  module _ (told : Bool) (was now : List ℕ) where
+    pub finish_so : IsServed b plan base script old new told was now → Finishes (IsReplayed b plan base disk script) told was now
+    finish_so f = record { G = f.G; replies = f.replies; way = way_so f.G [] f.replies f.way; written = f.written }
 
--- an answer that isn't taken
-pub stops_at_answer : (b : Tables) (plan : Plan) (base : List ℕ) (all : List Answer) (i : ℕ) (told : Bool) (old new : List ℕ) (seat : Seat) (text : List ℕ) (stop : Stop)
-    → i < length all
-    → Session b plan base (take i all) seat text
-    → IsWritten told old new text
-    → (stop ≡ Refused → IsRefused b seat (get_or all i no_answer))
-    → (stop ≡ Sink → ⊥)
-    → Stops b plan base all told old new stop
-stops_at_answer b plan base all i told old new seat text Refused lt session written refused no_sink = stops_refused b plan base all i told old new seat text lt session written (refused refl)
-stops_at_answer b plan base all i told old new seat text Memory lt session written refused no_sink = stops_between b plan base all i told old new seat text session written
-stops_at_answer b plan base all i told old new seat text Sink lt session written refused no_sink = absurd (no_sink refl)
+    stop_so : (h : Halt) → IsUnserved b plan base script old new told was now h
+        → Stops b plan (IsReplayed b plan base disk script) (IsLeftAt b plan disk) (Rose disk.before disk.after) told was now h
+    stop_so _ (by_sessions G request rest replies count way why written) = by_sessions G request rest replies count (way_so _ _ _ way) why written
+    stop_so _ (by_journal G request rest replies K reached size way full at written) = by_journal G request rest replies K reached size (way_so _ _ _ way) full (left_so K reached at) written
+    stop_so _ (by_disk G rest replies way rose written) = by_disk G rest replies (way_so _ _ _ way) (rose_so rose) written
+    stop_so _ (by_memory G rest replies way written) = by_memory G rest replies (way_so _ _ _ way) written
+    stop_so _ (by_sink G rest replies way part) = by_sink G rest replies (way_so _ _ _ way) part
+
+    pub halted_so : (h : Halt) → IsUnserved b plan base script old new told was now h → Halted b plan base disk script told was now h
+    halted_so h stops = inr (stop_so h stops)
+
+-- what is said of equals
+pub as_given : (P : Tables → Plan → List ℕ → Type 0) (b c : Tables) (p q : Plan) (f h : List ℕ) → b ≡ c → p ≡ q → f ≡ h → P b p f → P c q h
+as_given P b c p q f h same_bank same_plan same_base is =
+    subst (λ (x : Tables). P x q h) same_bank (subst (λ (y : Plan). P b y h) same_plan (subst (λ (z : List ℕ). P b p z) same_base is))
+
+-- the halt of a result
+pub at_err : {A : Type 0} (P : Halt → Type 0) (r : Result A Halt) (h : Halt) → r ≡ Err h → IfErr r P → P h
+at_err {A} P r h is if_err = subst (λ (x : Result A Halt). IfErr x P) is if_err

@@ -40,3 +40,13 @@ abbrev pub plan_name : Command → List ℕ
 plan_name (Check bank plan) = plan
 plan_name (Assemble bank plan) = plan
 plan_name (Replay bank plan script) = plan
+
+-- it is a replay
+abbrev pub IsReplay : Command → Type 0
+IsReplay (Check bank plan) = ⊥
+IsReplay (Assemble bank plan) = ⊥
+IsReplay (Replay bank plan script) = Unit {0}
+
+abbrev pub IsOfReplay : Option Command → Type 0
+IsOfReplay (Some command) = IsReplay command
+IsOfReplay None = ⊥

@@ -1,5 +1,5 @@
 -- Why a command ends before its work is done.
-use Rattle.std.specs.Prelude.{◌≡◌, ℕ, ◌⊎◌, ◌<◌, ◌≤◌, Bool, IsTrue, List, length, Ok, Err}
+use Rattle.std.specs.Prelude.{◌≡◌, ℕ, ◌≤◌, Bool, IsTrue, List, length, Ok, Err}
 use Rattle.bank_tables.specs.Tables.{Tables}
 use Rattle.bank_reader.specs.Reading.{bank_of}
 use Rattle.exam_model.specs.Plan.{Plan as Numbers}
@@ -8,14 +8,12 @@ use Rattle.exam_model.specs.Validity.{IsPlanFor}
 use Rattle.spec_reader.specs.declared.plan_fault.PlanFault.{PlanFault}
 use Rattle.spec_reader.specs.declared.plan_fault.PlanFault.TheVariants as fault
 use Rattle.spec_reader.specs.Reading.{IsPlanText, IsReadFault, most_bytes}
-use Rattle.exam_program.specs.declared.script.Script.{Script}
-use Rattle.exam_program.specs.declared.script.ScriptFault.TheVariants.{OutOfForm}
+use Rattle.history_model.specs.declared.request.Request.{Request}
+use Rattle.replay_cli.specs.Scripts.{IsScript}
+use Rattle.replay_cli.specs.Reading.{IsScriptFault, most_bytes as longest_script, IsOfText as IsOfScript}
 use Rattle.exam_program.specs.declared.halt.Halt.{Halt}
-use Rattle.exam_program.specs.declared.halt.Halt.TheVariants.{Bank, Plan, NotYet, NoForm, NoBaseForm, Files, Sink, Memory}
-use Rattle.exam_program.specs.declared.stop.Stop.{Stop}
-use Rattle.exam_program.specs.declared.stop.Stop.TheVariants as stop
+use Rattle.exam_program.specs.declared.halt.Halt.TheVariants.{Bank, Plan, Script, NoForm, NoBaseForm, Files, Sink, Memory}
 use Rattle.exam_program.specs.Bases.{ShowsNoForm, ShowsNoBase}
-use Rattle.exam_program.specs.Scripts.{script_of}
 use Rattle.exam_program.specs.Texts.{no_form, no_base_form}
 
 -- the bank text is there and refused with this fault, unless its files failed or memory ran out
@@ -61,18 +59,14 @@ HaltsAtExam named content bank plan Files = Unit {0}
 HaltsAtExam named content bank plan Memory = Unit {0}
 HaltsAtExam named content bank plan halt = ⊥
 
--- the most bytes that a script has
-abbrev pub longest_script : ℕ
-longest_script = 16777216
-
--- the text is not too long, and it describes this script
-pub record IsScript (text : List ℕ) (script : Script) : Type 0 where
+-- the text is not too long, and it is the script of these requests
+pub record IsScriptIn (text : List ℕ) (requests : List Request) : Type 0 where
   pub short : length text ≤ longest_script
-  pub says : script_of text ≡ Ok script
+  pub says : IsScript text requests
 
--- the text is there and no script, unless its files failed or memory ran out
+-- the text is there and no script, with this fault, unless its files failed or memory ran out
 abbrev pub HaltsAtScript : Bool → List ℕ → Halt → Type 0
-HaltsAtScript there text NotYet = IsTrue there × ((longest_script < length text) ⊎ (script_of text ≡ Err OutOfForm))
+HaltsAtScript there text (Script fault) = IsTrue there × IsOfScript fault × IsScriptFault text fault
 HaltsAtScript there text Files = Unit {0}
 HaltsAtScript there text Memory = Unit {0}
 HaltsAtScript there text halt = ⊥
@@ -85,8 +79,22 @@ HaltsAtBase b plan (NoBaseForm text) = (T : ProofTree) × ShowsNoBase b plan T �
 HaltsAtBase b plan Memory = Unit {0}
 HaltsAtBase b plan halt = ⊥
 
--- why the command of a session that stopped halts
-abbrev pub halt_of : Stop → Halt
-halt_of stop.Refused = NotYet
-halt_of stop.Memory = Memory
-halt_of stop.Sink = Sink
+-- the command halts before the journal is opened
+abbrev pub IsBeforeJournal : Halt → Type 0
+IsBeforeJournal (Bank fault) = Unit {0}
+IsBeforeJournal (Plan fault) = Unit {0}
+IsBeforeJournal (Script fault) = Unit {0}
+IsBeforeJournal (NoForm text) = Unit {0}
+IsBeforeJournal (NoBaseForm text) = Unit {0}
+IsBeforeJournal Files = Unit {0}
+IsBeforeJournal halt = ⊥
+
+-- so, or memory ran out then
+abbrev pub IsEarly : Halt → Type 0
+IsEarly Memory = Unit {0}
+IsEarly halt = IsBeforeJournal halt
+
+-- or the sink failed: what a command without a journal may halt by
+abbrev pub IsOfNoDisk : Halt → Type 0
+IsOfNoDisk Sink = Unit {0}
+IsOfNoDisk halt = IsEarly halt

@@ -1,21 +1,28 @@
 -- What the definitions imply, as the public laws state it.
-use Rattle.std.specs.Prelude.{◌≡◌, ℕ, ◌⊎◌, ◌∷◌, ◌++◌, Bool, List, Some, Ok, length}
+use Rattle.std.specs.Prelude.{◌≡◌, ℕ, ◌⊎◌, ◌<◌, ◌≤◌, IsTrue, List, Some, Ok, length}
 use Rattle.hex.specs.Hex.{decode_of, encode_lower}
 use Rattle.bank_tables.specs.Tables.{Tables}
 use Rattle.exam_edge.specs.Faults.{Rose}
-use Rattle.exam_model.specs.declared.seat.Seat.{Seat}
+use Rattle.exam_model.specs.Forms.{Meets}
+use Rattle.exam_model.specs.Seats.{is_shown}
+use Rattle.history_model.specs.declared.entry.Entry.{Entry}
+use Rattle.history_model.specs.declared.place.Place.TheVariants.{Complete}
+use Rattle.history_model.specs.declared.request.Reply.{Reply}
+use Rattle.history_model.specs.declared.request.Request.{Request}
+use Rattle.history_model.specs.Entries.{seat_of}
+use Rattle.history_model.specs.Places.{place}
+use Rattle.exam_office.specs.Files.{Stands}
 use Rattle.exam_model.specs.Plan.{Plan}
 use Rattle.exam_model.specs.ProofTrees.{ProofTree}
 use Rattle.proof_tree.specs.Shape.{IsTree}
 use Rattle.proof_tree.specs.Spelling.{bytes_of}
 use Rattle.proof_tree.specs.Reading.{read}
-use Rattle.exam_program.specs.declared.script.Answer.{Answer}
-use Rattle.exam_program.specs.declared.script.Script.{Script}
 use Rattle.exam_program.specs.Commands.{Check, Assemble, Replay, command_of}
-use Rattle.exam_program.specs.Halts.{Reads, IsScript}
-use Rattle.exam_program.specs.Outcomes.{ReadsAll, Outcome}
-use Rattle.exam_program.specs.Sessions.{Session, IsRefused}
-use Rattle.exam_program.specs.Texts.{tree_text, not_yet}
+use Rattle.exam_program.specs.Halts.{Reads, IsScriptIn}
+use Rattle.exam_program.specs.Outcomes.{Outcome}
+use Rattle.exam_program.specs.Outside.{Outside, DiskSeen}
+use Rattle.exam_program.specs.Replays.{IsUnderWay}
+use Rattle.exam_program.specs.Texts.{tree_text}
 
 -- ---- a printed tree is read again
 
@@ -36,49 +43,53 @@ OneTreeOfText = (T U : ProofTree) → IsTree T → IsTree U → tree_text T ≡ 
 -- check does its work, or memory ran out
 abbrev pub CheckIsComplete : Type 0
 CheckIsComplete =
-    (words : List (List ℕ)) (named : List ℕ → Bool) (content : List ℕ → List ℕ) (before after : ℕ) (bank plan : List ℕ) (b : Tables) (p : Plan) (status : ℕ) (text : List ℕ)
+    (words : List (List ℕ)) (o : Outside) (bank plan : List ℕ) (b : Tables) (p : Plan) (status : ℕ) (text : List ℕ)
     → command_of words ≡ Some (Check bank plan)
-    → Reads named content bank plan b p
-    → (Rose before after → ⊥)
-    → Outcome words named content before after status text
+    → Reads o.named o.content bank plan b p
+    → (Rose o.files_before o.files_after → ⊥)
+    → Outcome words o status text
     → (status ≡ 0) ⊎ (status ≡ 10)
 
 -- and so does assemble, where the plan has a base
 abbrev pub AssembleIsComplete : Type 0
 AssembleIsComplete =
-    (words : List (List ℕ)) (named : List ℕ → Bool) (content : List ℕ → List ℕ) (before after : ℕ) (bank plan base : List ℕ) (b : Tables) (p : Plan) (status : ℕ) (text : List ℕ)
+    (words : List (List ℕ)) (o : Outside) (bank plan base : List ℕ) (b : Tables) (p : Plan) (status : ℕ) (text : List ℕ)
     → command_of words ≡ Some (Assemble bank plan)
-    → Reads named content bank plan b p
+    → Reads o.named o.content bank plan b p
     → p.base ≡ Some base
-    → (Rose before after → ⊥)
-    → Outcome words named content before after status text
+    → (Rose o.files_before o.files_after → ⊥)
+    → Outcome words o status text
     → (status ≡ 0) ⊎ (status ≡ 10)
 
--- an answer of the script in the files is refused: the lines before it are printed, and then what isn't built yet
-pub record RefusesAnswer (named : List ℕ → Bool) (content : List ℕ → List ℕ) (bank plan name : List ℕ) (text : List ℕ) : Type 0 where
-  pub tables : Tables
-  pub numbers : Plan
-  pub script : Script
-  pub base : List ℕ
-  pub reads : ReadsAll named content bank plan name tables numbers script base
-  pub done : List Answer
-  pub answer : Answer
-  pub rest : List Answer
-  pub seat : Seat
-  pub lines : List ℕ
-  pub all : script.answers ≡ done ++ answer ∷ rest
-  pub session : Session tables numbers base done seat lines
-  pub refused : IsRefused tables seat answer
-  pub is : text ≡ lines ++ not_yet
+-- the file represents a history of the bank and the plan that the texts describe, within the
+-- journal's limit
+abbrev pub IsOfHistory : Outside → List ℕ → List ℕ → Type 0
+IsOfHistory o bank plan =
+    (b : Tables) (p : Plan) → Reads o.named o.content bank plan b p
+    → (H : List Entry) × Stands b p H o.disk.found × (length o.disk.found ≤ p.journal)
 
--- replay does its work, where the script is one and the plan has a base, or an answer is refused, or memory ran out
+-- and so does replay, where the script is one, the plan has a base and no fault of the disk was
+-- counted; or it meets a limit of the plan
 abbrev pub ReplayIsComplete : Type 0
 ReplayIsComplete =
-    (words : List (List ℕ)) (named : List ℕ → Bool) (content : List ℕ → List ℕ) (before after : ℕ) (bank plan name base : List ℕ) (b : Tables) (p : Plan) (script : Script) (status : ℕ) (text : List ℕ)
+    (words : List (List ℕ)) (o : Outside) (bank plan name base : List ℕ) (b : Tables) (p : Plan) (script : List Request) (status : ℕ) (text : List ℕ)
     → command_of words ≡ Some (Replay bank plan name)
-    → Reads named content bank plan b p
+    → Reads o.named o.content bank plan b p
     → p.base ≡ Some base
-    → IsScript (content name) script
-    → (Rose before after → ⊥)
-    → Outcome words named content before after status text
-    → (status ≡ 0) ⊎ ((status ≡ 10) ⊎ ((status ≡ 15) × RefusesAnswer named content bank plan name text))
+    → IsScriptIn (o.content name) script
+    → IsTrue o.disk.told
+    → IsOfHistory o bank plan
+    → (Rose o.files_before o.files_after → ⊥)
+    → (Rose o.disk.before o.disk.after → ⊥)
+    → Outcome words o status text
+    → (status ≡ 0) ⊎ ((status ≡ 10) ⊎ (status ≡ 13))
+
+-- ---- what a replay leaves
+-- the items shown in each complete session meet the plan
+abbrev pub CompleteSessionsMeet : Type 0
+CompleteSessionsMeet =
+    (b : Tables) (plan : Plan) (base : List ℕ) (disk : DiskSeen) (script : List Request) (H G : List Entry) (rest : List Request) (replies : List Reply) (s : ℕ)
+    → 0 < plan.length
+    → IsUnderWay b plan base disk script H G rest replies
+    → place plan G s ≡ Some Complete
+    → Meets b plan (is_shown (seat_of G s))

@@ -1,11 +1,10 @@
 pub mod Commands
 pub mod Writing
 pub mod Bases
-pub mod Sessions
-pub mod Scripts
-pub mod Standing
 pub mod Texts
+pub mod Outside
 pub mod Replays
+pub mod Stopping
 pub mod Halts
 pub mod Outcomes
 pub mod Laws

@@ -1,54 +1,105 @@
--- What a replay prints, and why it stops.
-use Rattle.std.specs.Prelude.{◌≡◌, ℕ, ◌<◌, Bool, List, [], ◌∷◌, ◌++◌, length}
+-- What a replay does: the requests of its script one after another, each reply printed after the
+-- request's entries are on the disk.
+use Rattle.std.specs.Prelude.{◌≡◌, ℕ, ◌+◌, ◌<◌, ⊤, Bool, IsTrue, List, [], ◌∷◌, ◌++◌, length, Option, Some, None}
 use Rattle.bank_tables.specs.Tables.{Tables}
-use Rattle.exam_model.specs.declared.seat.Seat.{Seat}
+use Rattle.exam_edge.specs.Images.{Account, AllImages}
 use Rattle.exam_model.specs.Plan.{Plan}
-use Rattle.exam_program.specs.declared.script.Answer.{Answer}
-use Rattle.exam_program.specs.declared.stop.Stop.{Stop}
-use Rattle.exam_program.specs.declared.stop.Stop.TheVariants.{Refused, Memory, Sink}
-use Rattle.exam_program.specs.Sessions.{Session, IsRefused}
-use Rattle.exam_program.specs.Writing.{IsWritten}
+use Rattle.history_model.specs.declared.entry.Entry.{Entry}
+use Rattle.history_model.specs.declared.refusal.Refusal.TheVariants.{SessionsFull, JournalFull, Disk as DiskFault, Memory as NoMemory}
+use Rattle.history_model.specs.declared.request.Reply.{Reply}
+use Rattle.history_model.specs.declared.request.Reply.TheVariants.{Refused}
+use Rattle.history_model.specs.declared.request.Request.{Request}
+use Rattle.history_model.specs.Halting.{IsCutOff, IsNextOf}
+use Rattle.history_model.specs.Judging.{Record, MayFollow}
+use Rattle.history_model.specs.Legality.{LegalRun}
+use Rattle.history_model.specs.Requests.{Does}
+use Rattle.exam_office.specs.declared.fault.OpenFault.{OpenFault}
+use Rattle.exam_office.specs.declared.fault.OpenFault.TheVariants as open_fault
+use Rattle.exam_office.specs.Asking.{AreGood, IsBegunBy, StandsForOne}
+use Rattle.exam_office.specs.Files.{Stands}
+use Rattle.exam_office.specs.Opening.{IsOpenAnswer}
+use Rattle.exam_records.specs.Spelling.{payload_of}
+use Rattle.exam_program.specs.declared.halt.Halt.{Halt}
+use Rattle.exam_program.specs.declared.halt.Halt.TheVariants as halt
+use Rattle.exam_program.specs.Outside.{DiskSeen, IsUntouched}
 
--- the text was printed for the first of the answers, none of them, or not even the beginning
-pub data IsPrinted (b : Tables) (plan : Plan) (base : List ℕ) (answers : List Answer) : List ℕ → Type 0 where
-  nothing : IsPrinted b plan base answers []
-  lines : (done rest : List Answer) (seat : Seat) (text : List ℕ) → answers ≡ done ++ rest → Session b plan base done seat text → IsPrinted b plan base answers text
+-- why a replay ends at a reply, if it does: a limit of the plan, a fault of the disk, or memory
+abbrev pub halt_of : Plan → Reply → Option Halt
+halt_of plan (Refused (SessionsFull count)) = Some (halt.Sessions count plan.sessions)
+halt_of plan (Refused (JournalFull size)) = Some (halt.JournalFull size plan.journal)
+halt_of plan (Refused DiskFault) = Some halt.Disk
+halt_of plan (Refused NoMemory) = Some halt.Memory
+halt_of plan reply = None
 
--- the whole session was served, and its lines were written
-pub record Finishes (b : Tables) (plan : Plan) (base : List ℕ) (answers : List Answer) (told : Bool) (old new : List ℕ) : Type 0 where
-  pub seat : Seat
-  pub text : List ℕ
-  pub session : Session b plan base answers seat text
-  pub written : IsWritten told old new text
+-- ---- requests that are done
+-- requests lead from the history H to G, one after another, with these replies; at none of them the
+-- replay ends
+pub data AreDone (b : Tables) (plan : Plan) (H : List Entry) : List Request → List Entry
+    → List Reply → Type 0 where
+  none : AreDone b plan H [] H []
+  one_more : (done : List Request) (G : List Entry) (replies : List Reply) (request : Request) (K : List Entry) (reply : Reply)
+      → AreDone b plan H done G replies → Does b plan G request K reply → halt_of plan reply ≡ None
+      → AreDone b plan H (done ++ request ∷ []) K (replies ++ reply ∷ [])
 
--- an answer is the first that is refused: the lines before it were written
-pub record StopsAtRefusal (b : Tables) (plan : Plan) (base : List ℕ) (answers : List Answer) (told : Bool) (old new : List ℕ) : Type 0 where
-  pub done : List Answer
-  pub answer : Answer
-  pub rest : List Answer
-  pub seat : Seat
-  pub text : List ℕ
-  pub all : answers ≡ done ++ answer ∷ rest
-  pub session : Session b plan base done seat text
-  pub refused : IsRefused b seat answer
-  pub written : IsWritten told old new text
+-- the history G, or, where a request is left, G with the first entries of the next, which are good:
+-- none of them, some, or all
+abbrev pub MayBegin : Tables → Plan → List ℕ → List Entry → List Request → List Entry → Type 0
+MayBegin b plan base G [] K = K ≡ G
+MayBegin b plan base G (request ∷ rest) K = IsBegunBy b plan base G request K
 
--- whole lines were written
-pub record StopsBetweenLines (b : Tables) (plan : Plan) (base : List ℕ) (answers : List Answer) (told : Bool) (old new : List ℕ) : Type 0 where
-  pub text : List ℕ
-  pub printed : IsPrinted b plan base answers text
-  pub written : IsWritten told old new text
+-- the file represents such a history
+abbrev pub IsFileOf : Tables → Plan → List ℕ → List Entry → List Request → List ℕ → Type 0
+IsFileOf b plan base G rest file = StandsForOne b plan (MayBegin b plan base G rest) file
 
--- a beginning of the lines was written
-pub record StopsWithinLines (b : Tables) (plan : Plan) (base : List ℕ) (answers : List Answer) (told : Bool) (old new : List ℕ) : Type 0 where
-  pub text : List ℕ
-  pub rest : List ℕ
-  pub printed : IsPrinted b plan base answers (text ++ rest)
-  pub written : IsWritten told old new text
-  pub unfinished : 0 < length rest
+-- the first requests of a script were done, from the history H to G, and these are left; what they
+-- added is good; and each file that a crash may leave has what they added
+pub record IsGoingOn (b : Tables) (plan : Plan) (base : List ℕ) (script : List Request)
+    (told : Bool) (images : Account) (H G : List Entry)
+    (rest : List Request) (replies : List Reply) : Type 0 where
+  pub done : List Request
+  pub whole : script ≡ done ++ rest
+  pub are_done : AreDone b plan H done G replies
+  pub good : AreGood b plan base H G
+  pub each : IsTrue told → AllImages (IsFileOf b plan base G rest) images
 
--- why a replay stopped, and what was written then
-abbrev pub Stops : Tables → Plan → List ℕ → List Answer → Bool → List ℕ → List ℕ → Stop → Type 0
-Stops b plan base answers told old new Refused = StopsAtRefusal b plan base answers told old new
-Stops b plan base answers told old new Memory = StopsBetweenLines b plan base answers told old new
-Stops b plan base answers told old new Sink = StopsWithinLines b plan base answers told old new
+-- a replay over a disk: the file that was found represents H, and the one that is left has what the
+-- requests added
+pub record IsUnderWay (b : Tables) (plan : Plan) (base : List ℕ) (disk : DiskSeen)
+    (script : List Request) (H G : List Entry)
+    (rest : List Request) (replies : List Reply) : Type 0 where
+  pub legal : LegalRun b plan H
+  pub found : IsTrue disk.told → Stands b plan H disk.found
+  pub left : IsTrue disk.told → IsFileOf b plan base G rest disk.left
+  pub going_on : IsGoingOn b plan base script disk.told disk.images H G rest replies
+
+-- ---- the limit of the journal
+-- the file represents this history, and has this length
+pub record IsLeftAt (b : Tables) (plan : Plan) (disk : DiskSeen) (K : List Entry)
+    (now : ℕ) : Type 0 where
+  pub stands : IsTrue disk.told → Stands b plan K disk.left
+  pub length_is : IsTrue disk.told → now ≡ length disk.left
+
+-- the next request was cut off at the history K: with a record that may follow, of the request's next
+-- entry, the journal, of this length now, would be above its limit
+pub record IsFullAt (b : Tables) (plan : Plan) (G : List Entry) (request : Request) (K : List Entry)
+    (now size : ℕ) : Type 0 where
+  pub cut_off : IsCutOff b plan G request K
+  pub last : Record
+  pub next : IsNextOf b plan G request K last.entry
+  pub may : MayFollow b plan K last.entry last.tree
+  pub size_is : size ≡ now + 5 + length (payload_of last)
+  pub above : plan.journal < size
+
+-- ---- a journal that is refused
+-- a fault of the file itself
+abbrev pub IsOfFile : OpenFault → Type 0
+IsOfFile open_fault.Disk = ⊥
+IsOfFile open_fault.Memory = ⊥
+IsOfFile fault = ⊤
+
+-- the file represents no history of the bank and the plan, or is too long; it is as it was found
+pub record IsJournalRefused (b : Tables) (plan : Plan) (disk : DiskSeen)
+    (fault : OpenFault) : Type 0 where
+  pub of_file : IsOfFile fault
+  pub answer : IsTrue disk.told → IsOpenAnswer b plan disk.found fault
+  pub untouched : IsUntouched disk

@@ -8,12 +8,38 @@ use Rattle.exam_model.specs.Problem.{Problem}
 use Rattle.exam_model.specs.Forms.{stimuli_of, objective}
 use Rattle.exam_model.specs.ProofTrees.{ProofTree}
 use Rattle.proof_tree.specs.Spelling.{bytes_of}
+use Rattle.exam_text.specs.Texts.{no_memory}
+use Rattle.answer_journal.specs.declared.open_fault.OpenFault.TheVariants.{TooLong, Header, Length, Cut, Disk as OfDisk, Memory as OfMemory}
+use Rattle.exam_office.specs.declared.fault.OpenFault.{OpenFault}
+use Rattle.exam_office.specs.declared.fault.OpenFault.TheVariants.{Journal, BadRecord, BadTree, Illegal, Disk, Memory}
 
 unfoldable pub usage : List ℕ
 usage = codes "usage: shadowd check BANK PLAN | assemble BANK PLAN | replay BANK PLAN SCRIPT\n"
 
-unfoldable pub not_yet : List ℕ
-not_yet = codes "not yet\n"
+unfoldable pub disk_failed : List ℕ
+disk_failed = codes "disk failed\n"
+
+-- what is wrong with the journal's file, with the place of the record's gate
+unfoldable pub journal_text : OpenFault → List ℕ
+journal_text (Journal (TooLong size)) = codes "journal: too long " ++ (decimal size ++ codes "\n")
+journal_text (Journal Header) = codes "journal: header\n"
+journal_text (Journal (Length at)) = codes "journal: length at " ++ (decimal at ++ codes "\n")
+journal_text (Journal (Cut at)) = codes "journal: cut at " ++ (decimal at ++ codes "\n")
+journal_text (BadRecord at fault) = codes "journal: record at " ++ (decimal at ++ codes "\n")
+journal_text (Illegal at reason) = codes "journal: illegal at " ++ (decimal at ++ codes "\n")
+journal_text (BadTree at) = codes "journal: bad tree at " ++ (decimal at ++ codes "\n")
+journal_text (Journal OfDisk) = disk_failed
+journal_text (Journal OfMemory) = no_memory
+journal_text Disk = disk_failed
+journal_text Memory = no_memory
+
+-- the number of sessions is the plan's limit
+unfoldable pub sessions_limit : ℕ → ℕ → List ℕ
+sessions_limit count most = codes "limit sessions " ++ (decimal count ++ (codes " of " ++ (decimal most ++ codes "\n")))
+
+-- the length that the journal would have is above the plan's limit
+unfoldable pub journal_limit : ℕ → ℕ → List ℕ
+journal_limit size most = codes "limit journal " ++ (decimal size ++ (codes " of " ++ (decimal most ++ codes "\n")))
 
 -- a tree as it is printed: its bytes in lower-case hexadecimal, and the end of the line
 unfoldable pub tree_text : ProofTree → List ℕ

@@ -4,6 +4,8 @@ ghost use Rattle.std.specs.Prelude.{◌≡◌};
 ghost use Rattle.exam_program.specs.declared.halt.Halt.TheVariants.{Memory};
 
 use bank_reader::ReadFault;
+use exam_office::OpenFault;
+use replay_cli::ScriptFault;
 use spec_reader::PlanFault;
 use std::alloc::AllocError;
 
@@ -14,16 +16,24 @@ pub enum Halt {
     Bank(ReadFault),
     /// The plan text is refused.
     Plan(PlanFault),
-    /// What is asked for isn't built yet.
-    NotYet,
+    /// The script text is refused.
+    Script(ScriptFault),
     /// No set of items is a form of the whole problem: the text to print, with the tree that shows it.
     NoForm(Vec<u8>),
     /// No form of the whole problem was found within the base budget: the text to print, with the tree that spends it.
     NoBaseForm(Vec<u8>),
+    /// The journal's file represents no history of this bank and plan, or is too long.
+    Journal(OpenFault),
+    /// A request would start one session more than the plan allows; the number of sessions, and the plan's limit.
+    Sessions { count: u32, most: u32 },
+    /// The journal would be longer than the plan allows: the length that it would have, and the plan's limit, in bytes.
+    JournalFull { size: u64, most: u64 },
     /// A call of the files failed.
     Files,
     /// A call of the sink failed.
     Sink,
+    /// A call of the disk failed.
+    Disk,
     /// Out of memory.
     Memory,
 }

@@ -1,6 +1,6 @@
 //! What the definitions imply, for all words and all files.
 
-ghost use Rattle.exam_program.specs.Laws.{PrintedTreeIsReadBack, OneTreeOfText, CheckIsComplete, AssembleIsComplete, ReplayIsComplete};
+ghost use Rattle.exam_program.specs.Laws.{PrintedTreeIsReadBack, OneTreeOfText, CheckIsComplete, AssembleIsComplete, ReplayIsComplete, CompleteSessionsMeet};
 
 /// A tree that is printed can be read: its digits give its bytes, and these give the tree.
 pub fn a_printed_tree_is_read_back()
@@ -22,7 +22,13 @@ pub fn assemble_is_complete()
     ensures { AssembleIsComplete }
 {}
 
-/// `replay` of a plan with a base and a script in its form ends so too, or with status 15 where an answer is refused.
+/// `replay` of a plan with a base, a script in its form and a journal of the plan ends so too, or with status 13 where a limit
+/// of the plan is met.
 pub fn replay_is_complete()
     ensures { ReplayIsComplete }
+{}
+
+/// The items shown in each complete session of a replay meet the plan.
+pub fn complete_sessions_meet()
+    ensures { CompleteSessionsMeet }
 {}

@@ -1,5 +1,5 @@
-//! The program as a library: what the words ask for, the texts of the files, the assembly of a form, the session of a script,
-//! the lines and the statuses. Upward it promises, in the contract of the one call `run`, what is printed and with which status, for all words
+//! The program as a library: what the words ask for, the texts of the files, the assembly of a form, the requests of a script
+//! over the journal, the lines and the statuses. Upward it promises, in the contract of the one call `run`, what is printed and with which status, for all words
 //! and all files; it opens no file of the host itself, and waits for nobody.
 #![tactic(auto)]
 
@@ -14,9 +14,6 @@ mod program;
 mod reading;
 mod replay;
 mod report;
-mod script;
-mod session;
-mod stop;
 mod tree_texts;
 mod work;
 mod world;

@@ -1,42 +1,18 @@
 //! The lines that are printed.
 
-ghost use Rattle.std.specs.Prelude.{◌≡◌, ◌+◌, IfOk, string_bytes, length};
-ghost use Rattle.exam_program.specs.Sessions.{place_line};
-ghost use Rattle.exam_program.specs.Texts.{bank_line, mark_text};
+ghost use Rattle.std.specs.Prelude.{◌≡◌, IfOk, string_bytes};
+ghost use Rattle.exam_program.specs.Texts.{bank_line, mark_text, journal_text, sessions_limit, journal_limit};
 
-use bank_tables::{Bank, Short};
-use constraint_model::Spec;
-use exam_model::Seat;
+use answer_journal::OpenFault as FileFault;
+use bank_tables::Bank;
+use exam_office::OpenFault;
 use std::alloc::{AllocError, Global};
-
-fn number_at(numbers: &Short, at: usize) -> u16
-    ensures { result ≡ Rattle.std.specs.Prelude.get_or numbers.now at 0 }
-{
-    match numbers.get(at) {
-        Some(number) => number,
-        None => 0,
-    }
-}
 
 /// The word of a form's mark.
 pub(crate) fn mark_text(proved: bool) -> &'static str
     ensures { result.now ≡ mark_text proved }
 {
     if proved { "proved" } else { "unproved" }
-}
-
-/// The line of a seat: its step with the item that waits and the mark of its form, or that its test is complete.
-#[tactic(auto, unfolding(crate::specs::Sessions::place_line))]
-pub(crate) fn place_line(alloc: Global, spec: &Spec, seat: &Seat) -> Result<String, AllocError>
-    ensures { IfOk result (λ line. string_bytes line ≡ place_line spec.now seat.now) }
-{
-    let step = seat.responses.len();
-    if step == spec.length() as usize {
-        return String::from_str(alloc, "session 0 complete\n");
-    }
-    let item = number_at(&seat.shown, step);
-    let mark = mark_text(seat.proved);
-    format!(in alloc; "session 0 step {step} item {item} {mark}\n")
 }
 
 /// What was understood of a bank: its numbers of items, grid points, quantities and stimuli.
@@ -49,4 +25,46 @@ pub(crate) fn bank_line(alloc: Global, bank: &Bank) -> Result<String, AllocError
     let quantities = bank.quantities();
     let stimuli = bank.stimuli();
     format!(in alloc; "bank items {items} grid {grid} quantities {quantities} stimuli {stimuli}\n")
+}
+
+/// What is wrong with the journal's file. A place is that of a record's gate, in bytes.
+#[tactic(auto, unfolding(crate::specs::Texts::journal_text, crate::specs::Texts::disk_failed, exam_text::specs::Texts::no_memory))]
+pub(crate) fn journal_text(alloc: Global, fault: OpenFault) -> Result<String, AllocError>
+    ensures { IfOk result (λ line. string_bytes line ≡ journal_text fault) }
+{
+    match fault {
+        OpenFault::Journal(FileFault::TooLong(size)) => format!(in alloc;
+            "journal: too long {size}\n"
+        ),
+        OpenFault::Journal(FileFault::Header) => String::from_str(alloc, "journal: header\n"),
+        OpenFault::Journal(FileFault::Length(at)) => format!(in alloc; "journal: length at {at}\n"),
+        OpenFault::Journal(FileFault::Cut(at)) => format!(in alloc; "journal: cut at {at}\n"),
+        OpenFault::BadRecord(at, _) => format!(in alloc; "journal: record at {at}\n"),
+        OpenFault::Illegal(at, _) => format!(in alloc; "journal: illegal at {at}\n"),
+        OpenFault::BadTree(at) => format!(in alloc; "journal: bad tree at {at}\n"),
+        OpenFault::Disk | OpenFault::Journal(FileFault::Disk) => String::from_str(
+            alloc,
+            "disk failed\n",
+        ),
+        OpenFault::Memory | OpenFault::Journal(FileFault::Memory) => String::from_str(
+            alloc,
+            "no memory\n",
+        ),
+    }
+}
+
+/// A request would start one session more than the plan allows.
+#[tactic(auto, unfolding(crate::specs::Texts::sessions_limit))]
+pub(crate) fn sessions_limit(alloc: Global, count: u32, most: u32) -> Result<String, AllocError>
+    ensures { IfOk result (λ line. string_bytes line ≡ sessions_limit count most) }
+{
+    format!(in alloc; "limit sessions {count} of {most}\n")
+}
+
+/// The journal would be longer than the plan allows, in bytes.
+#[tactic(auto, unfolding(crate::specs::Texts::journal_limit))]
+pub(crate) fn journal_limit(alloc: Global, size: u64, most: u64) -> Result<String, AllocError>
+    ensures { IfOk result (λ line. string_bytes line ≡ journal_limit size most) }
+{
+    format!(in alloc; "limit journal {size} of {most}\n")
 }

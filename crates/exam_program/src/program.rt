@@ -2,90 +2,123 @@
 
 ghost use Rattle.std.specs.Prelude.{◌≡◌, ℕ, ◌≤◌, ◌⊎◌, List, map, None, Some, OnOk, IfErr, IsTrue, string_bytes};
 ghost use Rattle.exam_edge.specs.Faults.{Rose};
-ghost use Rattle.exam_program.specs.Commands.{command_of, said};
-ghost use Rattle.exam_program.specs.Outcomes.{Ends, Prints, Halts, IsStatus};
+ghost use Rattle.exam_edge.specs.Lent.{IsLent};
+ghost use Rattle.exam_program.specs.Commands.{IsReplay, IsOfReplay, command_of, said};
+ghost use Rattle.exam_program.specs.Halts.{IsBeforeJournal};
+ghost use Rattle.exam_program.specs.Outcomes.{Ends, Prints, Halts, IsStatus, IsStatusBefore};
+ghost use Rattle.exam_program.specs.Outside.{outside, disk_seen};
 
 use crate::command::{Command, command_of};
 use crate::halt::Halt;
 use crate::report::{print, report};
 use crate::work::{assemble, check, serve};
 use crate::world::{Finish, World};
-use exam_edge::{Files, Sink};
+use exam_edge::{Disk, Files, Sink};
 use std::alloc::Global;
 
-fn work<F: Files, O: Sink>(
+fn work<F: Files, O: Sink, D: Disk>(
     alloc: Global,
     command: Command<'_>,
     files: &mut F,
     out: &mut O,
-) -> Result<(), Halt>
-    ensures ok { OnOk result (IsTrue (F.tells files.old) → (words : List (List ℕ))
+    disk: D,
+) -> (D, Result<(), Halt>)
+    ensures ok { OnOk result.1 (IsTrue (F.tells files.old) → (words : List (List ℕ))
         → command_of words ≡ Some (said command.entry)
-        → Prints words (F.has files.old) (F.content files.old) (F.faults files.old) (F.faults files.new)
+        → Prints words (outside (F.has files.old) (F.content files.old) (F.faults files.old) (F.faults files.new)
+        (disk_seen D.tells D.content D.accounts D.faults disk result.0))
         (O.tells out.old) (O.written out.old) (O.written out.new) 0) }
-    ensures err { IfErr result (λ halt. IsTrue (F.tells files.old) → (words : List (List ℕ))
+    ensures err { IfErr result.1 (λ halt. IsTrue (F.tells files.old) → (words : List (List ℕ))
         → command_of words ≡ Some (said command.entry)
-        → Halts words (F.has files.old) (F.content files.old) (F.faults files.old) (F.faults files.new)
+        → Halts words (outside (F.has files.old) (F.content files.old) (F.faults files.old) (F.faults files.new)
+        (disk_seen D.tells D.content D.accounts D.faults disk result.0))
         (O.tells out.old) (O.written out.old) (O.written out.new) halt) }
-    ensures files { result ≡ Err Halt.Files → Rose (F.faults files.old) (F.faults files.new) }
-    ensures sink { result ≡ Err Halt.Sink → Rose (O.faults out.old) (O.faults out.new) }
+    ensures files { result.1 ≡ Err Halt.Files → Rose (F.faults files.old) (F.faults files.new) }
+    ensures sink { result.1 ≡ Err Halt.Sink → Rose (O.faults out.old) (O.faults out.new) }
+    ensures failed { result.1 ≡ Err Halt.Disk → Rose (D.faults disk) (D.faults result.0) }
+    ensures kept { IfErr result.1 (λ halt. IsBeforeJournal halt → result.0 ≡ disk) }
+    ensures unused { (IsReplay (said command.entry) → ⊥) → result.0 ≡ disk }
     ensures files_grow { F.faults files.old ≤ F.faults files.new }
     ensures sink_grows { O.faults out.old ≤ O.faults out.new }
     ensures files_tell { F.tells files.new ≡ F.tells files.old }
     ensures sink_tells { O.tells out.new ≡ O.tells out.old }
+    ensures disk { IsLent D.tells D.identity D.faults disk result.0 }
 {
     match command {
-        Command::Check { bank, plan } => check(alloc, files, out, bank, plan),
-        Command::Assemble { bank, plan } => assemble(alloc, files, out, bank, plan),
-        Command::Replay { bank, plan, script } => serve(alloc, files, out, bank, plan, script),
+        Command::Check { bank, plan } => {
+            let done = check(alloc, files, out, bank, plan);
+            (disk, done)
+        }
+        Command::Assemble { bank, plan } => {
+            let done = assemble(alloc, files, out, bank, plan);
+            (disk, done)
+        }
+        Command::Replay { bank, plan, script } => serve(
+            alloc, files, out, disk, bank, plan, script,
+        ),
     }
 }
 
-fn status_of<F: Files, O: Sink>(alloc: Global, words: &[String], files: &mut F, out: &mut O) -> u8
+/// The status to end with, and the disk.
+fn status_of<F: Files, O: Sink, D: Disk>(
+    alloc: Global,
+    words: &[String],
+    files: &mut F,
+    out: &mut O,
+    disk: D,
+) -> (D, u8)
     ensures answers { IsTrue (F.tells files.old)
         → Ends (map (λ w. string_bytes w) words.now)
-        (F.has files.old) (F.content files.old) (F.faults files.old) (F.faults files.new)
-        (O.tells out.old) (O.written out.old) (O.written out.new) result }
+        (outside (F.has files.old) (F.content files.old) (F.faults files.old) (F.faults files.new)
+        (disk_seen D.tells D.content D.accounts D.faults disk result.0))
+        (O.tells out.old) (O.written out.old) (O.written out.new) result.1 }
     ensures faulty { command_of (map (λ w. string_bytes w) words.now) ≡ None
-        → (result ≡ 2) ⊎ (result ≡ 8) }
-    ensures usage { result ≡ 2 → command_of (map (λ w. string_bytes w) words.now) ≡ None }
-    ensures files { result ≡ 7 → Rose (F.faults files.old) (F.faults files.new) }
-    ensures sink { result ≡ 8 → Rose (O.faults out.old) (O.faults out.new) }
-    ensures status { IsStatus result }
+        → (result.1 ≡ 2) ⊎ (result.1 ≡ 8) }
+    ensures usage { result.1 ≡ 2 → command_of (map (λ w. string_bytes w) words.now) ≡ None }
+    ensures files { result.1 ≡ 7 → Rose (F.faults files.old) (F.faults files.new) }
+    ensures sink { result.1 ≡ 8 → Rose (O.faults out.old) (O.faults out.new) }
+    ensures failed { result.1 ≡ 9 → Rose (D.faults disk) (D.faults result.0) }
+    ensures kept { IsStatusBefore result.1 → result.0 ≡ disk }
+    ensures unused { (IsOfReplay (command_of (map (λ w. string_bytes w) words.now)) → ⊥) → result.0 ≡ disk }
+    ensures status { IsStatus result.1 }
     ensures files_grow { F.faults files.old ≤ F.faults files.new }
     ensures sink_grows { O.faults out.old ≤ O.faults out.new }
     ensures files_tell { F.tells files.new ≡ F.tells files.old }
     ensures sink_tells { O.tells out.new ≡ O.tells out.old }
+    ensures disk { IsLent D.tells D.identity D.faults disk result.0 }
 {
     let Some(command) = command_of(words) else {
-        return print(
+        let status = print(
             out,
             b"usage: shadowd check BANK PLAN | assemble BANK PLAN | replay BANK PLAN SCRIPT\n",
             2,
         );
+        return (disk, status);
     };
-    match work(alloc, command, files, out) {
-        Ok(()) => 0,
-        Err(halt) => report(alloc, out, halt),
+    let (disk, done) = work(alloc, command, files, out, disk);
+    match done {
+        Ok(()) => (disk, 0),
+        Err(halt) => (disk, report(alloc, out, halt)),
     }
 }
 
 /// Does what the words ask for, which are those after the program's name.
 /// It gives the status to end with: 0 the work was done, 2 the words are not in the table,
-/// 3 and 4 the bank or the plan text is refused, 7 a call of the files failed, 8 a call of the sink
-/// failed, 10 out of memory, 11 no set of items is a form, 12 the plan has no base and none was
-/// found within the base budget, 15 not built yet.
-pub fn run<R, F: Files, O: Sink>(
+/// 3, 4 and 5 the bank, the plan or the script is refused, 6 the journal represents no history of the bank and the plan,
+/// 7, 8 and 9 a call of the files, the sink or the disk failed, 10 out of memory, 11 no set of items is a form, 12 the plan has
+/// no base and none was found within the base budget, 13 a limit of the plan is met.
+pub fn run<R, F: Files, O: Sink, D: Disk>(
     _rt: &R,
     alloc: Global,
     words: &[String],
-    world: World<F, O>,
-) -> Finish<F, O>
-    // If the files report their content: what is printed, and with which status. If the sink
-    // reports its content too: that this is written.
+    world: World<F, O, D>,
+) -> Finish<F, O, D>
+    // If the files report their content: what is printed, and with which status. If the sink reports its content too: that this
+    // is written. If the disk reports its content too: what the journal holds, and what a crash may leave of it.
     ensures answers { IsTrue (F.tells world.files)
         → Ends (map (λ w. string_bytes w) words.now)
-        (F.has world.files) (F.content world.files) (F.faults world.files) (F.faults result.files)
+        (outside (F.has world.files) (F.content world.files) (F.faults world.files) (F.faults result.files)
+        (disk_seen D.tells D.content D.accounts D.faults world.disk result.disk))
         (O.tells world.out) (O.written world.out) (O.written result.out) result.status }
     // The causes, whether they report their content or not.
     ensures faulty { command_of (map (λ w. string_bytes w) words.now) ≡ None
@@ -93,14 +126,28 @@ pub fn run<R, F: Files, O: Sink>(
     ensures usage { result.status ≡ 2 → command_of (map (λ w. string_bytes w) words.now) ≡ None }
     ensures files { result.status ≡ 7 → Rose (F.faults world.files) (F.faults result.files) }
     ensures sink { result.status ≡ 8 → Rose (O.faults world.out) (O.faults result.out) }
+    ensures failed { result.status ≡ 9 → Rose (D.faults world.disk) (D.faults result.disk) }
+    ensures kept { IsStatusBefore result.status → result.disk ≡ world.disk }
+    ensures unused { (IsOfReplay (command_of (map (λ w. string_bytes w) words.now)) → ⊥)
+        → result.disk ≡ world.disk }
     ensures status { IsStatus result.status }
 
     ensures files_grow { F.faults world.files ≤ F.faults result.files }
     ensures sink_grows { O.faults world.out ≤ O.faults result.out }
     ensures files_tell { F.tells result.files ≡ F.tells world.files }
     ensures sink_tells { O.tells result.out ≡ O.tells world.out }
+    ensures disk { IsLent D.tells D.identity D.faults world.disk result.disk }
 {
-    let World { mut files, mut out } = world;
-    let status = status_of(alloc, words, &mut files, &mut out);
-    Finish { status, files, out }
+    let World {
+        mut files,
+        mut out,
+        disk,
+    } = world;
+    let (disk, status) = status_of(alloc, words, &mut files, &mut out, disk);
+    Finish {
+        status,
+        files,
+        out,
+        disk,
+    }
 }

@@ -1,23 +1,20 @@
 //! The texts of files.
 
-ghost use Rattle.std.specs.Prelude.{◌≡◌, ◌≢◌, ℕ, ◌≤◌, List, length, IsTrue, IfOk, IfErr};
+ghost use Rattle.std.specs.Prelude.{◌≡◌, ℕ, ◌≤◌, List, IsTrue, IfOk, IfErr};
 ghost use Rattle.exam_edge.specs.Faults.{Rose};
 ghost use Rattle.bank_reader.specs.Reading.{bank_of};
 ghost use Rattle.exam_model.specs.Validity.{IsPlanFor};
-ghost use Rattle.exam_program.specs.Halts.{HaltsAtBank, IsPlanIn, HaltsAtPlan, Reads, HaltsAtExam, longest_script, IsScript, HaltsAtScript};
+ghost use Rattle.exam_program.specs.Halts.{HaltsAtBank, IsPlanIn, HaltsAtPlan, Reads, HaltsAtExam, IsScriptIn, HaltsAtScript, IsEarly};
 
 use crate::halt::Halt;
-use crate::script::{Script, ScriptFault, script_of};
 use bank_reader::{ReadFault, read_bank};
 use bank_tables::Bank;
 use constraint_model::Spec;
 use exam_edge::{FileSource, Files};
+use exam_office::Request;
+use replay_cli::{ScriptFault, read_script};
 use spec_reader::{PlanFault, read_plan};
 use std::alloc::Global;
-use text_source::{TextFault, text_of};
-
-/// The most bytes that a script has.
-const LONGEST_SCRIPT: usize = 16_777_216;
 
 /// A bank, and a plan that is valid for it.
 #[derive(Debug, Drop)]
@@ -32,7 +29,7 @@ fn bank_in<F: Files>(alloc: Global, files: &mut F, name: &str) -> Result<Bank, H
     ensures there { IfOk result (λ _. IsTrue (F.tells files.old) → IsTrue (F.has files.old name.now)) }
     ensures err { IfErr result (λ halt. IsTrue (F.tells files.old) → HaltsAtBank (F.has files.old name.now) (F.content files.old name.now) halt) }
     ensures failed { result ≡ Err Halt.Files → Rose (F.faults files.old) (F.faults files.new) }
-    ensures no_sink { result ≢ Err Halt.Sink }
+    ensures early { IfErr result IsEarly }
     ensures names { IsTrue (F.tells files.old) → (file : List ℕ) → F.has files.new file ≡ F.has files.old file }
     ensures content { IsTrue (F.tells files.old) → (file : List ℕ) → F.content files.new file ≡ F.content files.old file }
     ensures grows { F.faults files.old ≤ F.faults files.new }
@@ -54,7 +51,7 @@ fn plan_in<F: Files>(alloc: Global, files: &mut F, bank: &Bank, name: &str) -> R
     ensures there { IfOk result (λ _. IsTrue (F.tells files.old) → IsTrue (F.has files.old name.now)) }
     ensures err { IfErr result (λ halt. IsTrue (F.tells files.old) → HaltsAtPlan bank.now (F.has files.old name.now) (F.content files.old name.now) halt) }
     ensures failed { result ≡ Err Halt.Files → Rose (F.faults files.old) (F.faults files.new) }
-    ensures no_sink { result ≢ Err Halt.Sink }
+    ensures early { IfErr result IsEarly }
     ensures names { IsTrue (F.tells files.old) → (file : List ℕ) → F.has files.new file ≡ F.has files.old file }
     ensures content { IsTrue (F.tells files.old) → (file : List ℕ) → F.content files.new file ≡ F.content files.old file }
     ensures grows { F.faults files.old ≤ F.faults files.new }
@@ -80,7 +77,7 @@ pub(crate) fn exam_in<F: Files>(
     ensures valid { IfOk result (λ exam. IsPlanFor exam.bank exam.spec) }
     ensures err { IfErr result (λ halt. IsTrue (F.tells files.old) → HaltsAtExam (F.has files.old) (F.content files.old) bank.now plan.now halt) }
     ensures failed { result ≡ Err Halt.Files → Rose (F.faults files.old) (F.faults files.new) }
-    ensures no_sink { result ≢ Err Halt.Sink }
+    ensures early { IfErr result IsEarly }
     ensures names { IsTrue (F.tells files.old) → (file : List ℕ) → F.has files.new file ≡ F.has files.old file }
     ensures content { IsTrue (F.tells files.old) → (file : List ℕ) → F.content files.new file ≡ F.content files.old file }
     ensures grows { F.faults files.old ≤ F.faults files.new }
@@ -96,41 +93,25 @@ pub(crate) fn exam_in<F: Files>(
     }
 }
 
-fn script_text<F: Files>(alloc: Global, files: &mut F, name: &str) -> Result<Vec<u8>, Halt>
-    ensures ok { IfOk result (λ text. IsTrue (F.tells files.old) → text.items ≡ F.content files.old name.now) }
-    ensures short { IfOk result (λ text. length text.items ≤ longest_script) }
+/// The requests of the script in the file of this name.
+pub(crate) fn script_in<F: Files>(
+    alloc: Global,
+    files: &mut F,
+    name: &str,
+) -> Result<Vec<Request>, Halt>
+    ensures ok { IfOk result (λ requests. IsTrue (F.tells files.old) → IsScriptIn (F.content files.old name.now) requests.items) }
     ensures there { IfOk result (λ _. IsTrue (F.tells files.old) → IsTrue (F.has files.old name.now)) }
     ensures err { IfErr result (λ halt. IsTrue (F.tells files.old) → HaltsAtScript (F.has files.old name.now) (F.content files.old name.now) halt) }
+    ensures early { IfErr result IsEarly }
     ensures failed { result ≡ Err Halt.Files → Rose (F.faults files.old) (F.faults files.new) }
-    ensures no_sink { result ≢ Err Halt.Sink }
-    ensures names { IsTrue (F.tells files.old) → (file : List ℕ) → F.has files.new file ≡ F.has files.old file }
-    ensures content { IsTrue (F.tells files.old) → (file : List ℕ) → F.content files.new file ≡ F.content files.old file }
     ensures grows { F.faults files.old ≤ F.faults files.new }
     ensures tells { F.tells files.new ≡ F.tells files.old }
 {
     let mut source = FileSource { files, name, at: 0 };
-    match text_of(alloc, &mut source, LONGEST_SCRIPT) {
-        Ok(text) => Ok(text),
-        Err(TextFault::Source) => Err(Halt::Files),
-        Err(TextFault::TooLong) => Err(Halt::NotYet),
-        Err(TextFault::Memory) => Err(Halt::Memory),
-    }
-}
-
-/// The script in the file of this name.
-pub(crate) fn script_in<F: Files>(alloc: Global, files: &mut F, name: &str) -> Result<Script, Halt>
-    ensures ok { IfOk result (λ script. IsTrue (F.tells files.old) → IsScript (F.content files.old name.now) script) }
-    ensures there { IfOk result (λ _. IsTrue (F.tells files.old) → IsTrue (F.has files.old name.now)) }
-    ensures err { IfErr result (λ halt. IsTrue (F.tells files.old) → HaltsAtScript (F.has files.old name.now) (F.content files.old name.now) halt) }
-    ensures failed { result ≡ Err Halt.Files → Rose (F.faults files.old) (F.faults files.new) }
-    ensures no_sink { result ≢ Err Halt.Sink }
-    ensures grows { F.faults files.old ≤ F.faults files.new }
-    ensures tells { F.tells files.new ≡ F.tells files.old }
-{
-    let text = script_text(alloc, files, name)?;
-    match script_of(alloc, &text) {
-        Ok(script) => Ok(script),
-        Err(ScriptFault::OutOfForm) => Err(Halt::NotYet),
+    match read_script(alloc, &mut source) {
+        Ok(requests) => Ok(requests),
+        Err(ScriptFault::Source) => Err(Halt::Files),
         Err(ScriptFault::Memory) => Err(Halt::Memory),
+        Err(fault) => Err(Halt::Script(fault)),
     }
 }

@@ -1,20 +1,21 @@
 //! How a command ends: the text of its halt, and the status.
 
-ghost use Rattle.std.specs.Prelude.{◌≡◌, ◌≢◌, ℕ, ◌≤◌, ◌⊎◌, Bool, List, IfSome, string_bytes, codes};
+ghost use Rattle.std.specs.Prelude.{◌≡◌, ℕ, ◌≤◌, ◌⊎◌, List, IfOk, string_bytes};
 ghost use Rattle.exam_edge.specs.Faults.{Rose};
-ghost use Rattle.exam_program.specs.Outcomes.{Ends, Halts, PrintsBefore, EndsBy};
+ghost use Rattle.exam_program.specs.Outcomes.{Ends, Halts, PrintsBefore, PrintsBeforeText, EndsBy};
+ghost use Rattle.exam_program.specs.Outside.{Outside};
 
 use crate::halt::Halt;
+use crate::lines::{journal_limit, journal_text, sessions_limit};
 use crate::output::put;
 use exam_edge::Sink;
-use std::alloc::Global;
+use std::alloc::{AllocError, Global};
 
 /// Prints the last text, and gives the status to end with: 8 where the sink fails.
 pub(crate) fn print<O: Sink>(out: &mut O, text: &[u8], status: u8) -> u8
-    ensures answers { (words : List (List ℕ)) (named : List ℕ → Bool) (content : List ℕ → List ℕ)
-        (before after : ℕ) (first : List ℕ)
-        → PrintsBefore words named content before after (O.tells out.old) first (O.written out.old) status text.now
-        → Ends words named content before after (O.tells out.old) first (O.written out.new) result }
+    ensures answers { (words : List (List ℕ)) (o : Outside) (first : List ℕ)
+        → PrintsBefore words o (O.tells out.old) first (O.written out.old) status text.now
+        → Ends words o (O.tells out.old) first (O.written out.new) result }
     ensures status { (result ≡ status) ⊎ ((result ≡ 8) × Rose (O.faults out.old) (O.faults out.new)) }
     ensures grows { O.faults out.old ≤ O.faults out.new }
     ensures tells { O.tells out.new ≡ O.tells out.old }
@@ -25,30 +26,44 @@ pub(crate) fn print<O: Sink>(out: &mut O, text: &[u8], status: u8) -> u8
     }
 }
 
+/// Prints the last text, if there was memory for it, and gives the status to end with.
+#[tactic(auto, unfolding(exam_text::specs::Texts::no_memory))]
+fn print_text<O: Sink>(out: &mut O, text: Result<String, AllocError>, status: u8) -> u8
+    ensures answers { (words : List (List ℕ)) (o : Outside) (first line : List ℕ)
+        → IfOk text (λ t. string_bytes t ≡ line)
+        → PrintsBeforeText words o (O.tells out.old) first (O.written out.old) status line
+        → Ends words o (O.tells out.old) first (O.written out.new) result }
+    ensures status { ((result ≡ status) ⊎ (result ≡ 10)) ⊎ ((result ≡ 8) × Rose (O.faults out.old) (O.faults out.new)) }
+    ensures grows { O.faults out.old ≤ O.faults out.new }
+    ensures tells { O.tells out.new ≡ O.tells out.old }
+{
+    match text {
+        Ok(text) => print(out, text.as_bytes(), status),
+        Err(_) => print(out, b"no memory\n", 10),
+    }
+}
+
 /// Ends a command that met a fault.
-#[tactic(auto, unfolding(crate::specs::Texts::not_yet, exam_text::specs::Texts::files_failed, exam_text::specs::Texts::no_memory))]
+#[tactic(auto, unfolding(crate::specs::Texts::disk_failed, exam_text::specs::Texts::files_failed, exam_text::specs::Texts::no_memory))]
 pub(crate) fn report<O: Sink>(alloc: Global, out: &mut O, halt: Halt) -> u8
-    ensures answers { (words : List (List ℕ)) (named : List ℕ → Bool) (content : List ℕ → List ℕ)
-        (before after : ℕ) (first : List ℕ)
-        → Halts words named content before after (O.tells out.old) first (O.written out.old) halt
-        → Ends words named content before after (O.tells out.old) first (O.written out.new) result }
+    ensures answers { (words : List (List ℕ)) (o : Outside) (first : List ℕ)
+        → Halts words o (O.tells out.old) first (O.written out.old) halt
+        → Ends words o (O.tells out.old) first (O.written out.new) result }
     ensures status { EndsBy halt result ⊎ ((result ≡ 8) × Rose (O.faults out.old) (O.faults out.new)) }
     ensures grows { O.faults out.old ≤ O.faults out.new }
     ensures tells { O.tells out.new ≡ O.tells out.old }
 {
     match halt {
-        Halt::Bank(fault) => match fault.text(alloc) {
-            Ok(text) => print(out, text.as_bytes(), 3),
-            Err(_) => print(out, b"no memory\n", 10),
-        },
-        Halt::Plan(fault) => match fault.text(alloc) {
-            Ok(text) => print(out, text.as_bytes(), 4),
-            Err(_) => print(out, b"no memory\n", 10),
-        },
-        Halt::NotYet => print(out, b"not yet\n", 15),
+        Halt::Bank(fault) => print_text(out, fault.text(alloc), 3),
+        Halt::Plan(fault) => print_text(out, fault.text(alloc), 4),
+        Halt::Script(fault) => print_text(out, fault.text(alloc), 5),
+        Halt::Journal(fault) => print_text(out, journal_text(alloc, fault), 6),
+        Halt::Sessions { count, most } => print_text(out, sessions_limit(alloc, count, most), 13),
+        Halt::JournalFull { size, most } => print_text(out, journal_limit(alloc, size, most), 13),
         Halt::NoForm(text) => print(out, &text, 11),
         Halt::NoBaseForm(text) => print(out, &text, 12),
         Halt::Files => print(out, b"files failed\n", 7),
+        Halt::Disk => print(out, b"disk failed\n", 9),
         Halt::Memory => print(out, b"no memory\n", 10),
         Halt::Sink => 8,
     }

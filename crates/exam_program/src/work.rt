@@ -2,9 +2,11 @@
 
 ghost use Rattle.std.specs.Prelude.{◌≡◌, ℕ, ◌≤◌, ◌++◌, List, Some, OnOk, IsTrue, IfSome, IfErr};
 ghost use Rattle.exam_edge.specs.Faults.{Rose};
+ghost use Rattle.exam_edge.specs.Lent.{IsLent};
 ghost use Rattle.exam_program.specs.Commands.{Check, Assemble, Replay, command_of};
-ghost use Rattle.exam_program.specs.Halts.{halt_of};
+ghost use Rattle.exam_program.specs.Halts.{IsBeforeJournal, IsOfNoDisk};
 ghost use Rattle.exam_program.specs.Outcomes.{Prints, Halts};
+ghost use Rattle.exam_program.specs.Outside.{DiskSeen, outside, disk_seen, IsUntouched};
 ghost use Rattle.exam_program.specs.Texts.{bank_line};
 ghost use Rattle.spec_reader.specs.Canonical.{canonical};
 
@@ -14,10 +16,9 @@ use crate::lines::bank_line;
 use crate::output::put;
 use crate::reading::{exam_in, script_in};
 use crate::replay::replay;
-use crate::stop::Stop;
 use bank_tables::Bank;
 use constraint_model::Spec;
-use exam_edge::{Files, Sink};
+use exam_edge::{Disk, Files, Sink};
 use spec_reader::print_plan;
 use std::alloc::Global;
 
@@ -41,16 +42,17 @@ pub(crate) fn check<F: Files, O: Sink>(
     bank: &str,
     plan: &str,
 ) -> Result<(), Halt>
-    ensures ok { OnOk result (IsTrue (F.tells files.old) → (words : List (List ℕ))
+    ensures ok { OnOk result (IsTrue (F.tells files.old) → (words : List (List ℕ)) (disk : DiskSeen)
         → command_of words ≡ Some (Check bank.now plan.now)
-        → Prints words (F.has files.old) (F.content files.old) (F.faults files.old) (F.faults files.new)
+        → Prints words (outside (F.has files.old) (F.content files.old) (F.faults files.old) (F.faults files.new) disk)
         (O.tells out.old) (O.written out.old) (O.written out.new) 0) }
-    ensures err { IfErr result (λ halt. IsTrue (F.tells files.old) → (words : List (List ℕ))
-        → command_of words ≡ Some (Check bank.now plan.now)
-        → Halts words (F.has files.old) (F.content files.old) (F.faults files.old) (F.faults files.new)
+    ensures err { IfErr result (λ halt. IsTrue (F.tells files.old) → (words : List (List ℕ)) (disk : DiskSeen)
+        → command_of words ≡ Some (Check bank.now plan.now) → IsUntouched disk
+        → Halts words (outside (F.has files.old) (F.content files.old) (F.faults files.old) (F.faults files.new) disk)
         (O.tells out.old) (O.written out.old) (O.written out.new) halt) }
     ensures files { result ≡ Err Halt.Files → Rose (F.faults files.old) (F.faults files.new) }
     ensures sink { result ≡ Err Halt.Sink → Rose (O.faults out.old) (O.faults out.new) }
+    ensures alone { IfErr result IsOfNoDisk }
     ensures files_grow { F.faults files.old ≤ F.faults files.new }
     ensures sink_grows { O.faults out.old ≤ O.faults out.new }
     ensures files_tell { F.tells files.new ≡ F.tells files.old }
@@ -77,16 +79,17 @@ pub(crate) fn assemble<F: Files, O: Sink>(
     bank: &str,
     plan: &str,
 ) -> Result<(), Halt>
-    ensures ok { OnOk result (IsTrue (F.tells files.old) → (words : List (List ℕ))
+    ensures ok { OnOk result (IsTrue (F.tells files.old) → (words : List (List ℕ)) (disk : DiskSeen)
         → command_of words ≡ Some (Assemble bank.now plan.now)
-        → Prints words (F.has files.old) (F.content files.old) (F.faults files.old) (F.faults files.new)
+        → Prints words (outside (F.has files.old) (F.content files.old) (F.faults files.old) (F.faults files.new) disk)
         (O.tells out.old) (O.written out.old) (O.written out.new) 0) }
-    ensures err { IfErr result (λ halt. IsTrue (F.tells files.old) → (words : List (List ℕ))
-        → command_of words ≡ Some (Assemble bank.now plan.now)
-        → Halts words (F.has files.old) (F.content files.old) (F.faults files.old) (F.faults files.new)
+    ensures err { IfErr result (λ halt. IsTrue (F.tells files.old) → (words : List (List ℕ)) (disk : DiskSeen)
+        → command_of words ≡ Some (Assemble bank.now plan.now) → IsUntouched disk
+        → Halts words (outside (F.has files.old) (F.content files.old) (F.faults files.old) (F.faults files.new) disk)
         (O.tells out.old) (O.written out.old) (O.written out.new) halt) }
     ensures files { result ≡ Err Halt.Files → Rose (F.faults files.old) (F.faults files.new) }
     ensures sink { result ≡ Err Halt.Sink → Rose (O.faults out.old) (O.faults out.new) }
+    ensures alone { IfErr result IsOfNoDisk }
     ensures files_grow { F.faults files.old ≤ F.faults files.new }
     ensures sink_grows { O.faults out.old ≤ O.faults out.new }
     ensures files_tell { F.tells files.new ≡ F.tells files.old }
@@ -106,55 +109,47 @@ pub(crate) fn assemble<F: Files, O: Sink>(
     }
 }
 
-fn halt_of(stop: Stop) -> Halt
-    ensures { result ≡ halt_of stop }
-{
-    match stop {
-        Stop::Refused => Halt::NotYet,
-        Stop::Memory => Halt::Memory,
-        Stop::Sink => Halt::Sink,
-    }
-}
-
-/// Serves a session by the requests of a script, and prints the reply to each.
-pub(crate) fn serve<F: Files, O: Sink>(
+/// Does the requests of a script over the journal on a disk, and prints the reply to each. It gives the disk back.
+pub(crate) fn serve<F: Files, O: Sink, D: Disk>(
     alloc: Global,
     files: &mut F,
     out: &mut O,
+    disk: D,
     bank: &str,
     plan: &str,
     script: &str,
-) -> Result<(), Halt>
-    ensures ok { OnOk result (IsTrue (F.tells files.old) → (words : List (List ℕ))
+) -> (D, Result<(), Halt>)
+    ensures ok { OnOk result.1 (IsTrue (F.tells files.old) → (words : List (List ℕ))
         → command_of words ≡ Some (Replay bank.now plan.now script.now)
-        → Prints words (F.has files.old) (F.content files.old) (F.faults files.old) (F.faults files.new)
+        → Prints words (outside (F.has files.old) (F.content files.old) (F.faults files.old) (F.faults files.new)
+        (disk_seen D.tells D.content D.accounts D.faults disk result.0))
         (O.tells out.old) (O.written out.old) (O.written out.new) 0) }
-    ensures err { IfErr result (λ halt. IsTrue (F.tells files.old) → (words : List (List ℕ))
+    ensures err { IfErr result.1 (λ halt. IsTrue (F.tells files.old) → (words : List (List ℕ))
         → command_of words ≡ Some (Replay bank.now plan.now script.now)
-        → Halts words (F.has files.old) (F.content files.old) (F.faults files.old) (F.faults files.new)
+        → Halts words (outside (F.has files.old) (F.content files.old) (F.faults files.old) (F.faults files.new)
+        (disk_seen D.tells D.content D.accounts D.faults disk result.0))
         (O.tells out.old) (O.written out.old) (O.written out.new) halt) }
-    ensures files { result ≡ Err Halt.Files → Rose (F.faults files.old) (F.faults files.new) }
-    ensures sink { result ≡ Err Halt.Sink → Rose (O.faults out.old) (O.faults out.new) }
+    ensures files { result.1 ≡ Err Halt.Files → Rose (F.faults files.old) (F.faults files.new) }
+    ensures sink { result.1 ≡ Err Halt.Sink → Rose (O.faults out.old) (O.faults out.new) }
+    ensures failed { result.1 ≡ Err Halt.Disk → Rose (D.faults disk) (D.faults result.0) }
+    ensures kept { IfErr result.1 (λ halt. IsBeforeJournal halt → result.0 ≡ disk) }
     ensures files_grow { F.faults files.old ≤ F.faults files.new }
     ensures sink_grows { O.faults out.old ≤ O.faults out.new }
     ensures files_tell { F.tells files.new ≡ F.tells files.old }
     ensures sink_tells { O.tells out.new ≡ O.tells out.old }
+    ensures disk { IsLent D.tells D.identity D.faults disk result.0 }
 {
     let exam = match exam_in(alloc, files, bank, plan) {
         Ok(exam) => exam,
-        Err(halt) => return Err(halt),
+        Err(halt) => return (disk, Err(halt)),
     };
-    let script = match script_in(alloc, files, script) {
-        Ok(script) => script,
-        Err(halt) => return Err(halt),
+    let requests = match script_in(alloc, files, script) {
+        Ok(requests) => requests,
+        Err(halt) => return (disk, Err(halt)),
     };
     let base = match base_form(alloc, &exam.bank, &exam.spec) {
         Ok(base) => base,
-        Err(halt) => return Err(halt),
+        Err(halt) => return (disk, Err(halt)),
     };
-    let answers = script.answers.as_slice();
-    match replay(alloc, &exam.bank, &exam.spec, &base, answers, out) {
-        Ok(()) => Ok(()),
-        Err(stop) => Err(halt_of(stop)),
-    }
+    replay(alloc, &exam.bank, &exam.spec, &base, &requests, out, disk)
 }

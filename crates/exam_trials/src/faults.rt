@@ -1,6 +1,6 @@
 //! Each failing call.
 
-use crate::outcome::{REPLAY, outcome};
+use crate::outcome::{Given, REPLAY, outcome};
 use crate::texts::{LINES_A, SCRIPT_A};
 use std::test::Fail;
 use trial_cases::{BANK_A, PLAN_A};
@@ -9,12 +9,17 @@ use trial_cases::{BANK_A, PLAN_A};
 fn each_failing_call_of_the_files(rt: HostRuntime) -> Result<(), Fail> {
     let texts = [BANK_A, PLAN_A, SCRIPT_A];
     for call in 0..6u64 {
-        let (status, text) = outcome(&rt, &REPLAY, &texts, &[call], &[])?;
-        assert_eq!(rt; status, 7, "call {call}");
-        assert_eq!(rt; text.as_slice(), b"files failed\n".as_slice());
+        let given = Given {
+            journal: &[],
+            files: &[call],
+            sink: &[],
+            disk: &[],
+        };
+        let ran = outcome(&rt, &REPLAY, &texts, &given)?;
+        assert_eq!(rt; ran.status, 7, "call {call}");
+        assert_eq!(rt; ran.text.as_slice(), b"files failed\n".as_slice());
+        assert!(rt; ran.journal.is_empty());
     }
-    let (status, _) = outcome(&rt, &REPLAY, &texts, &[6], &[])?;
-    assert_eq!(rt; status, 0);
     Ok(())
 }
 
@@ -22,11 +27,60 @@ fn each_failing_call_of_the_files(rt: HostRuntime) -> Result<(), Fail> {
 fn each_failing_call_of_the_sink(rt: HostRuntime) -> Result<(), Fail> {
     let texts = [BANK_A, PLAN_A, SCRIPT_A];
     for call in 0..4u64 {
-        let (status, text) = outcome(&rt, &REPLAY, &texts, &[], &[call])?;
-        assert_eq!(rt; status, 8, "call {call}");
-        assert!(rt; LINES_A.as_bytes().starts_with(text.as_slice()));
+        let given = Given {
+            journal: &[],
+            files: &[],
+            sink: &[call],
+            disk: &[],
+        };
+        let ran = outcome(&rt, &REPLAY, &texts, &given)?;
+        assert_eq!(rt; ran.status, 8, "call {call}");
+        assert!(rt; LINES_A.as_bytes().starts_with(ran.text.as_slice()));
     }
-    let (status, _) = outcome(&rt, &REPLAY, &texts, &[], &[4])?;
-    assert_eq!(rt; status, 0);
+    Ok(())
+}
+
+/// What the request added stays where its line can't be printed.
+#[test]
+fn a_full_sink_keeps_the_journal(rt: HostRuntime) -> Result<(), Fail> {
+    let texts = [BANK_A, PLAN_A, "begin 70\n"];
+    let given = Given {
+        journal: &[],
+        files: &[],
+        sink: &[0],
+        disk: &[],
+    };
+    let ran = outcome(&rt, &REPLAY, &texts, &given)?;
+    assert_eq!(rt; ran.status, 8);
+    let kept = Given {
+        journal: &ran.journal,
+        files: &[],
+        sink: &[],
+        disk: &[],
+    };
+    let again = outcome(&rt, &REPLAY, &[BANK_A, PLAN_A, "look 0\n"], &kept)?;
+    assert_eq!(rt;
+        again.text.as_slice(),
+        b"session 0 step 0 item 2 proved\n".as_slice()
+    );
+    assert_eq!(rt; again.journal.as_slice(), ran.journal.as_slice());
+    Ok(())
+}
+
+/// A failing call of the disk ends the run, and each line that is printed is one of those of a run in which none fails.
+#[test]
+fn each_failing_call_of_the_disk(rt: HostRuntime) -> Result<(), Fail> {
+    let texts = [BANK_A, PLAN_A, SCRIPT_A];
+    for call in 0..12u64 {
+        let given = Given {
+            journal: &[],
+            files: &[],
+            sink: &[],
+            disk: &[call],
+        };
+        let ran = outcome(&rt, &REPLAY, &texts, &given)?;
+        assert_eq!(rt; ran.status, 9, "call {call}");
+        assert!(rt; ran.text.ends_with(b"disk failed\n"));
+    }
     Ok(())
 }

@@ -1,6 +1,6 @@
-//! The program over files and a sink in memory.
+//! The program over files, a sink and a disk in memory.
 
-use exam_edge::{MemoryFiles, MemorySink};
+use exam_edge::{MemoryDisk, MemoryFiles, MemorySink};
 use exam_program::{World, run};
 use std::alloc::{AllocError, AllocGlobal, Global};
 use std::process::Abort;
@@ -11,6 +11,31 @@ pub const REPLAY: [&str; 4] = ["replay", "bank", "plan", "script"];
 pub const CHECK: [&str; 3] = ["check", "bank", "plan"];
 
 pub const ASSEMBLE: [&str; 3] = ["assemble", "bank", "plan"];
+
+/// The journal that the program finds, and the numbers of the calls that fail.
+#[derive(Clone, Copy, Debug)]
+pub struct Given<'a> {
+    pub journal: &'a [u8],
+    pub files: &'a [u64],
+    pub sink: &'a [u64],
+    pub disk: &'a [u64],
+}
+
+/// An empty journal's file, and no call that fails.
+pub const CALM: Given<'static> = Given {
+    journal: &[],
+    files: &[],
+    sink: &[],
+    disk: &[],
+};
+
+/// The status, what is written, and the journal that is left.
+#[derive(Debug, Drop)]
+pub struct Ran {
+    pub status: u8,
+    pub text: Vec<u8>,
+    pub journal: Vec<u8>,
+}
 
 fn words_of(alloc: Global, words: &[&str]) -> Result<Vec<String>, AllocError> {
     let mut given = Vec::new(alloc);
@@ -35,27 +60,39 @@ fn files_of(alloc: Global, texts: &[&str; 3]) -> Result<Vec<(String, Vec<u8>)>, 
     Ok(files)
 }
 
-/// The status of the program on these words and files, and what is written then; the calls of these numbers fail.
+fn world_of(
+    alloc: Global,
+    texts: &[&str; 3],
+    given: &Given<'_>,
+) -> Result<World<MemoryFiles, MemorySink, MemoryDisk>, AllocError> {
+    let files = files_of(alloc, texts)?;
+    let journal = given.journal.to_vec(alloc)?;
+    Ok(World {
+        files: MemoryFiles::of(files, given.files.to_vec(alloc)?),
+        out: MemorySink::of(alloc, Vec::new(alloc), given.sink.to_vec(alloc)?),
+        disk: MemoryDisk::of(alloc, journal, given.disk.to_vec(alloc)?),
+    })
+}
+
+/// What the program does on these words and files.
 pub fn outcome<R: AllocGlobal>(
     rt: &R,
     words: &[&str],
     texts: &[&str; 3],
-    files_fail: &[u64],
-    sink_fails: &[u64],
-) -> Result<(u8, Vec<u8>), AllocError> {
+    given: &Given<'_>,
+) -> Result<Ran, AllocError> {
     let alloc = rt.alloc();
-    let given = words_of(alloc, words)?;
-    let files = files_of(alloc, texts)?;
-    let world = World {
-        files: MemoryFiles::of(files, files_fail.to_vec(alloc)?),
-        out: MemorySink::of(alloc, Vec::new(alloc), sink_fails.to_vec(alloc)?),
-    };
-    let finish = run(rt, alloc, &given, world);
-    let written = finish.out.bytes().to_vec(alloc)?;
-    Ok((finish.status, written))
+    let words = words_of(alloc, words)?;
+    let world = world_of(alloc, texts, given)?;
+    let finish = run(rt, alloc, &words, world);
+    Ok(Ran {
+        status: finish.status,
+        text: finish.out.bytes().to_vec(alloc)?,
+        journal: finish.disk.bytes().to_vec(alloc)?,
+    })
 }
 
-/// Where no call fails, the program ends with this status and prints this text.
+/// Over an empty journal, and where no call fails, the program ends with this status and prints this text.
 pub fn prints<R: Abort + AllocGlobal>(
     rt: &R,
     words: &[&str],
@@ -63,13 +100,13 @@ pub fn prints<R: Abort + AllocGlobal>(
     status: u8,
     text: &str,
 ) -> Result<(), Fail> {
-    let (ended, written) = outcome(rt, words, texts, &[], &[])?;
-    assert_eq!(rt; written.as_slice(), text.as_bytes());
-    assert_eq!(rt; ended, status);
+    let ran = outcome(rt, words, texts, &CALM)?;
+    assert_eq!(rt; ran.text.as_slice(), text.as_bytes());
+    assert_eq!(rt; ran.status, status);
     Ok(())
 }
 
-/// Where no call fails, the program ends with this status and prints a text that begins so.
+/// Over an empty journal, and where no call fails, the program ends with this status and prints a text that begins so.
 pub fn begins<R: Abort + AllocGlobal>(
     rt: &R,
     words: &[&str],
@@ -77,8 +114,28 @@ pub fn begins<R: Abort + AllocGlobal>(
     status: u8,
     front: &str,
 ) -> Result<(), Fail> {
-    let (ended, written) = outcome(rt, words, texts, &[], &[])?;
-    assert!(rt; written.starts_with(front.as_bytes()));
-    assert_eq!(rt; ended, status);
+    let ran = outcome(rt, words, texts, &CALM)?;
+    assert!(rt; ran.text.starts_with(front.as_bytes()));
+    assert_eq!(rt; ran.status, status);
+    Ok(())
+}
+
+/// A second run over the journal that the first left prints this.
+pub fn goes_on<R: Abort + AllocGlobal>(
+    rt: &R,
+    first: &[&str; 3],
+    second: &[&str; 3],
+    text: &str,
+) -> Result<(), Fail> {
+    let ran = outcome(rt, &REPLAY, first, &CALM)?;
+    let given = Given {
+        journal: &ran.journal,
+        files: &[],
+        sink: &[],
+        disk: &[],
+    };
+    let again = outcome(rt, &REPLAY, second, &given)?;
+    assert_eq!(rt; again.text.as_slice(), text.as_bytes());
+    assert_eq!(rt; again.status, 0);
     Ok(())
 }

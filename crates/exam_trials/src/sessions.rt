@@ -1,6 +1,6 @@
 //! Sessions that are served from a script.
 
-use crate::outcome::{REPLAY, prints};
+use crate::outcome::{REPLAY, goes_on, prints};
 use crate::texts::{BANK_E, BANK_S, BANK_TIE, LINES_A, SCRIPT_A};
 use std::test::Fail;
 use trial_cases::{BANK_A, PLAN_A, PLAN_E};
@@ -49,48 +49,83 @@ fn a_spent_budget(rt: HostRuntime) -> Result<(), Fail> {
     )
 }
 
+/// The key of zeros.
+const KEY: &str = "0000000000000000000000000000000000000000000000000000000000000000\n";
+
+/// The counts of finished sessions draw which items the next one may be shown; a session that no form is left for is served
+/// with all of them.
 #[test]
-fn an_answer_past_the_end_is_refused(rt: HostRuntime) -> Result<(), Fail> {
-    let past = "begin 70\nanswer 0 0 1\nanswer 0 1 0\nanswer 0 2 1\nanswer 0 3 0\n";
+fn counts_draw_the_eligible_items(rt: HostRuntime) -> Result<(), Fail> {
+    let mut plan = String::from_str(rt.alloc(), PLAN_A)?;
+    plan.push_str("rate 1 65535\nkey ")?;
+    plan.push_str(KEY)?;
+    let mut script = String::from_str(rt.alloc(), SCRIPT_A)?;
+    script.push_str(
+        "begin 71\nanswer 1 0 0\nanswer 1 1 0\nanswer 1 2 0\nbegin 72\nclose 2\nexposure\n",
+    )?;
     let mut lines = String::from_str(rt.alloc(), LINES_A)?;
-    lines.push_str("not yet\n")?;
-    prints(&rt, &REPLAY, &[BANK_A, PLAN_A, past], 15, lines.as_str())
+    lines.push_str(
+        "session 1 step 0 item 5 proved
+session 1 step 1 item 3 proved
+session 1 step 2 item 0 proved
+session 1 complete
+session 2 step 0 item 2 proved
+session 2 closed
+exposure finished 3
+item 0 shown 1 eligible 3
+item 1 shown 1 eligible 2
+item 2 shown 2 eligible 2
+item 3 shown 1 eligible 3
+item 4 shown 1 eligible 2
+item 5 shown 1 eligible 3
+",
+    )?;
+    prints(
+        &rt,
+        &REPLAY,
+        &[BANK_A, plan.as_str(), script.as_str()],
+        0,
+        lines.as_str(),
+    )
 }
 
+const TWO_BEGUN: &str = "begin 1\nbegin 2\nanswer 0 0 1\nclose 1\n";
+
 #[test]
-fn an_answer_again_prints_its_place_again(rt: HostRuntime) -> Result<(), Fail> {
-    let again = "begin 70\nanswer 0 0 1\nanswer 0 0 1\n";
+fn an_item_that_was_shown_and_not_answered_counts(rt: HostRuntime) -> Result<(), Fail> {
+    let script = "begin 1\nbegin 2\nclose 1\nexposure\n";
     let lines = "session 0 step 0 item 2 proved
-session 0 step 1 item 4 proved
-session 0 step 1 item 4 proved
+session 1 step 0 item 2 proved
+session 1 closed
+exposure finished 1
+item 0 shown 0 eligible 1
+item 1 shown 0 eligible 1
+item 2 shown 1 eligible 1
+item 3 shown 0 eligible 1
+item 4 shown 0 eligible 1
+item 5 shown 0 eligible 1
 ";
-    prints(&rt, &REPLAY, &[BANK_A, PLAN_A, again], 0, lines)
+    prints(&rt, &REPLAY, &[BANK_A, PLAN_A, script], 0, lines)
 }
 
+/// A second run goes on from the journal of the first. A refused request prints its refusal, and the run goes on.
 #[test]
-fn refused_answers(rt: HostRuntime) -> Result<(), Fail> {
-    let first = "session 0 step 0 item 2 proved\nnot yet\n";
-    let second = "session 0 step 0 item 2 proved\nsession 0 step 1 item 4 proved\nnot yet\n";
-    for (answers, lines) in [
-        ("begin 70\nanswer 0 0 2\n", first),
-        ("begin 70\nanswer 0 1 0\n", first),
-        ("begin 70\nanswer 0 0 1\nanswer 0 0 0\n", second),
-    ] {
-        prints(&rt, &REPLAY, &[BANK_A, PLAN_A, answers], 15, lines)?;
-    }
-    Ok(())
-}
-
-#[test]
-fn scripts_that_are_not_one_session(rt: HostRuntime) -> Result<(), Fail> {
-    for script in [
-        "",
-        "begin 1\nbegin 2\n",
-        "begin 01\n",
-        "begin 1\nlook 0\n",
-        "begin 1\nanswer 1 0 0\n",
-    ] {
-        prints(&rt, &REPLAY, &[BANK_A, PLAN_A, script], 15, "not yet\n")?;
-    }
-    Ok(())
+fn a_second_run_goes_on(rt: HostRuntime) -> Result<(), Fail> {
+    let second =
+        "answer 0 0 1\nanswer 0 0 0\nanswer 0 2 1\nanswer 0 1 2\nbegin 1\nanswer 9 0 0\nanswer 1 0 0\nclose 1\n";
+    let lines = "session 0 step 1 item 4 proved
+refused other 1
+refused wrong-step 1
+refused bad-response 2
+session 0 step 1 item 4 proved
+refused no-session 2
+refused is-closed closed
+refused is-closed closed
+";
+    goes_on(
+        &rt,
+        &[BANK_A, PLAN_A, TWO_BEGUN],
+        &[BANK_A, PLAN_A, second],
+        lines,
+    )
 }

@@ -1,7 +1,8 @@
 //! The statuses with their texts.
 
-use crate::outcome::{ASSEMBLE, CHECK, REPLAY, begins, prints};
+use crate::outcome::{ASSEMBLE, CHECK, Given, REPLAY, begins, outcome, prints};
 use crate::texts::{BANK_E, BANK_ODD, SCRIPT_A};
+use std::alloc::{AllocError, Global};
 use std::test::Fail;
 use trial_cases::{BANK_A, PLAN_A};
 
@@ -51,7 +52,10 @@ fn faulty_words(rt: HostRuntime) -> Result<(), Fail> {
 fn refused_texts(rt: HostRuntime) -> Result<(), Fail> {
     prints(&rt, &CHECK, &["", PLAN_A, ""], 3, "bank: header column 0\n")?;
     let even = "length 3\nprior -10 0 -10\nbudget 4\n";
-    prints(&rt, &CHECK, &[BANK_A, even, ""], 4, "plan: budget\n")
+    prints(&rt, &CHECK, &[BANK_A, even, ""], 4, "plan: budget\n")?;
+    let short = [BANK_A, PLAN_A, "answer 0 0\n"];
+    prints(&rt, &REPLAY, &short, 5, "script: line 1\n")?;
+    prints(&rt, &REPLAY, &[BANK_A, PLAN_A, ""], 0, "")
 }
 
 #[test]
@@ -69,4 +73,45 @@ count 1 1 0-1
 enemies 2 5
 ";
     prints(&rt, &CHECK, &[BANK_A, PLAN_A, ""], 0, text)
+}
+
+/// A plan A with one line more.
+fn plan_with(alloc: Global, line: &str) -> Result<String, AllocError> {
+    let mut plan = String::from_str(alloc, PLAN_A)?;
+    plan.push_str(line)?;
+    Ok(plan)
+}
+
+#[test]
+fn limits(rt: HostRuntime) -> Result<(), Fail> {
+    let alloc = rt.alloc();
+    let small = plan_with(alloc, "journal 90\n")?;
+    let texts = [BANK_A, small.as_str(), "begin 70\n"];
+    prints(&rt, &REPLAY, &texts, 13, "limit journal 91 of 90\n")?;
+    let one = plan_with(alloc, "sessions 1\n")?;
+    let texts = [BANK_A, one.as_str(), "begin 70\nbegin 71\n"];
+    let lines = "session 0 step 0 item 2 proved\nlimit sessions 1 of 1\n";
+    prints(&rt, &REPLAY, &texts, 13, lines)
+}
+
+/// A file that is refused is left as it was.
+#[test]
+fn refused_journals(rt: HostRuntime) -> Result<(), Fail> {
+    for (journal, text) in [
+        ("no journal", "journal: header\n"),
+        ("SHADOWJ1\u{1}\0\0\0\u{1}\u{9}\0", "journal: record at 8\n"),
+        ("SHADOWJ1\u{1}\0\0\0\0\0", "journal: length at 8\n"),
+    ] {
+        let given = Given {
+            journal: journal.as_bytes(),
+            files: &[],
+            sink: &[],
+            disk: &[],
+        };
+        let ran = outcome(&rt, &REPLAY, &[BANK_A, PLAN_A, SCRIPT_A], &given)?;
+        assert_eq!(rt; ran.text.as_slice(), text.as_bytes());
+        assert_eq!(rt; ran.status, 6);
+        assert_eq!(rt; ran.journal.as_slice(), journal.as_bytes());
+    }
+    Ok(())
 }

@@ -2,6 +2,7 @@ use Rattle.std.proofs.Common.{◌≡◌, ℕ, List, None, inl, inr, sym, ◌∙�
 use Rattle.std.specs.Option.{option_map}
 use Rattle.std.specs.Prelude.{map, string_bytes}
 use Rattle.exam_program.specs.Commands.{command_of, said}
+use Rattle.exam_program.specs.Outside.{outside, disk_seen}
 use Rattle.exam_program.specs.Texts.{usage}
 use Rattle.exam_program.proofs.OutcomeLaws.{before_usage, is_2, is_8, also, ends_by}
 use Rattle.exam_program.proofs.program.status_of.Goals as goal
@@ -12,10 +13,11 @@ returns-in_default-clause-answers g c = λ told.
     let words : List (List ℕ) = map (λ w. string_bytes w) c.args.words.now in
     let faulty : command_of words ≡ None = sym c.command_of.ensures ∙ ap (option_map said) c.in_default.is in
     let faults : ℕ = g.F.Files.faults c.args.files.now in
-    c.print.ensures.answers words (g.F.Files.has c.args.files.now) (g.F.Files.content c.args.files.now) faults faults (g.O.Sink.written c.args.out.now) (before_usage words (g.F.Files.has c.args.files.now) (g.F.Files.content c.args.files.now) faults faults (g.O.Sink.tells c.args.out.now) (g.O.Sink.written c.args.out.now) faulty)
+    let o = outside (g.F.Files.has c.args.files.now) (g.F.Files.content c.args.files.now) faults faults (disk_seen g.D.Disk.tells g.D.Disk.content g.D.Disk.accounts g.D.Disk.faults c.args.disk c.args.disk) in
+    c.print-status.ensures.answers words o (g.O.Sink.written c.args.out.now) (before_usage words o (g.O.Sink.tells c.args.out.now) (g.O.Sink.written c.args.out.now) faulty)
 
 pub returns-in_default-clause-status : goal.returns-in_default-clause-status
-returns-in_default-clause-status g c = elim c.print.ensures.status [ inl e ↦ also 2 c.print.result e is_2 | inr e ↦ also 8 c.print.result e.0 is_8 ]
+returns-in_default-clause-status g c = elim c.print-status.ensures.status [ inl e ↦ also 2 c.print-status.result e is_2 | inr e ↦ also 8 c.print-status.result e.0 is_8 ]
 
 pub returns-in-Err-clause-status : goal.returns-in-Err-clause-status
 returns-in-Err-clause-status g c = elim c.report.ensures.status [ inl e ↦ ends_by c.in-Err.halt c.report.result e | inr e ↦ also 8 c.report.result e.0 is_8 ]

@@ -1,51 +1,115 @@
-use Rattle.std.proofs.Common.{◌≡◌, ℕ, ◌+◌, Bool, List, [], ◌++◌, take, drop, refl, sym, subst, ◌∙◌, ap, append_assoc, rules, Err}
-use Rattle.std.proofs.lemmas.List.{append-nil}
-use Rattle.exam_program.specs.Sessions.{place_line}
-use Rattle.exam_program.specs.Replays.{nothing}
-use Rattle.exam_program.specs.Writing.{WritesPart}
-use Rattle.exam_program.proofs.ReplayLaws.{stop_at_line, printed_so_far, session_more, stops_at_answer, split}
+use Rattle.std.proofs.Common.{◌≡◌, ◌∙◌, ℕ, List, Bool, inl, true, refl, sym, ap, subst}
+use Rattle.bank_tables.specs.Tables.{Tables}
+use Rattle.exam_edge.specs.Images.{latest}
+use Rattle.exam_model.specs.Plan.{Plan}
+use Rattle.exam_office.specs.Marks.{history}
+use Rattle.exam_office.specs.Writing.{IsMending}
+use Rattle.exam_program.specs.declared.halt.Halt.{Halt}
+use Rattle.exam_program.specs.declared.halt.Halt.TheVariants.{Disk}
+use Rattle.exam_program.specs.Halts.{IsBeforeJournal}
+use Rattle.exam_program.specs.Outside.{disk_seen}
+use Rattle.exam_program.specs.Stopping.{Finishes, IsServed, IsUnserved, IsReplayed, Halted}
+use Rattle.exam_program.proofs.OutcomeLaws.{rose_so, opened_so}
+use Rattle.exam_program.proofs.ReplayLaws.{unopened_so, IsHandedBack, finish_so, halted_so, as_given, at_err}
+use Rattle.exam_program.proofs.RequestLaws.{on_ok, if_err, nothing_written}
 use Rattle.exam_program.proofs.replay.replay.Goals as goal
 
 pub returns-in-Err-clause-err : goal.returns-in-Err-clause-err
-returns-in-Err-clause-err g c = record { text = []; printed = nothing; written = λ told. sym (append-nil (g.O.Sink.written c.args.out.now)) }
+returns-in-Err-clause-err g c =
+    let b = c.args.bank.now in
+    let plan = c.args.spec.now in
+    let told = g.O.Sink.tells c.args.out.now in
+    let was = g.O.Sink.written c.args.out.now in
+    let disk = disk_seen g.D.Disk.tells g.D.Disk.content g.D.Disk.accounts g.D.Disk.faults c.args.disk c.in-Err.disk in
+    subst (λ (h : Halt). Halted b plan c.args.base.now disk c.args.requests.now told was was h) (sym c.halt_of_opening.ensures)
+    (inl (unopened_so b plan disk c.in-Err.fault c.in-Err.ensures.why c.in-Err.ensures.cause c.in-Err.ensures.untouched, nothing_written told was))
 
-pub returns-in-Err-print_place-clause-err : goal.returns-in-Err-print_place-clause-err
-returns-in-Err-print_place-clause-err g c =
+pub returns-clause-ok : goal.returns-clause-ok
+returns-clause-ok g c =
     let b = c.args.bank.now in
     let plan = c.args.spec.now in
     let base = c.args.base.now in
-    let line : List ℕ = place_line plan c.in-Ok.first in
-    stop_at_line b plan base c.args.answers.now (g.O.Sink.tells c.args.out.now) (g.O.Sink.written c.args.out.now) (g.O.Sink.written c.args.out.now) (g.O.Sink.written c.print_place.new.out) [] line c.in-Err-print_place.stop nothing (printed_so_far b plan base c.args.answers.now [] c.args.answers.now c.in-Ok.first line refl c.in-Ok.ensures.session) (λ told. sym (append-nil (g.O.Sink.written c.args.out.now))) c.in-Err-print_place.ensures.either (λ is. c.print_place.ensures.memory (c.in-Err-print_place.is ∙ ap Err is)) (λ is. c.print_place.ensures.sink (c.in-Err-print_place.is ∙ ap Err is))
+    let script = c.args.requests.now in
+    let told = g.O.Sink.tells c.args.out.now in
+    let was = g.O.Sink.written c.args.out.now in
+    let now = g.O.Sink.written c.do_requests-done.new.out in
+    let old = c.in-Ok.office in
+    let new = c.do_requests-done.new.alone.office in
+    let disk = disk_seen g.D.Disk.tells g.D.Disk.content g.D.Disk.accounts g.D.Disk.faults c.args.disk c.into_disk.result in
+    let opened = c.in-Ok.ensures in
+    let done = c.do_requests-done.ensures in
+    let gone = c.into_disk.ensures in
+    let still = λ (t : disk.told ≡ true). gone.tells ∙ (done.disk.tells ∙ (opened.tells ∙ t)) in
+    let back : IsHandedBack b plan disk old new = record {
+      legal = opened.legal;
+      found = opened.stands;
+      told = opened.tells;
+      images = sym (ap latest gone.accounts);
+      left = λ t. g.met.D.Disk.is_image c.into_disk.result (still t);
+      content = λ t.
+          subst (λ (x : Tables). IsMending x plan (history new.marks) new.doubt disk.left) (done.same.bank ∙ opened.bank)
+          (subst (λ (y : Plan). IsMending new.bank y (history new.marks) new.doubt disk.left) (done.same.plan ∙ opened.plan) (gone.content (still t)));
+      length_is = λ t. gone.length (still t);
+      before = opened.grows;
+      after = sym gone.faults;
+    } in
+    on_ok (IsServed old.bank old.plan old.base script old new told was now) (Finishes (IsReplayed b plan base disk script) told was now) c.do_requests-done.result
+    (λ served. finish_so b plan base disk script old new back told was now
+    (as_given (λ (x : Tables) (y : Plan) (z : List ℕ). IsServed x y z script old new told was now) old.bank b old.plan plan old.base base opened.bank opened.plan opened.base served)) done.ok
 
-pub returns-in-Err-answered-clause-err : goal.returns-in-Err-answered-clause-err
-returns-in-Err-answered-clause-err g c =
-    let (text, session, written) = c.loop-answer.invariant.printed in
-    stops_at_answer c.args.bank.now c.args.spec.now c.args.base.now c.args.answers.now c.loop-answer.answer-index (g.O.Sink.tells c.args.out.now) (g.O.Sink.written c.args.out.now) (g.O.Sink.written c.loop-answer.out) c.loop-answer.seat text c.in-Err-answered.stop c.loop-answer-test.true session written (λ is. c.answered.ensures.refused (c.in-Err-answered.is ∙ ap Err is)) (λ is. c.answered.ensures.no_sink (c.in-Err-answered.is ∙ ap Err is))
-
-pub returns-in-Err-print_place-2-clause-err : goal.returns-in-Err-print_place-2-clause-err
-returns-in-Err-print_place-2-clause-err g c =
-    let (text, session, written) = c.loop-answer.invariant.printed in
-    let same : g.O.Sink.tells c.loop-answer.out ≡ g.O.Sink.tells c.args.out.now = c.loop-answer.invariant.tells in
+pub returns-clause-err : goal.returns-clause-err
+returns-clause-err g c =
     let b = c.args.bank.now in
     let plan = c.args.spec.now in
     let base = c.args.base.now in
-    let all = c.args.answers.now in
-    let i : ℕ = c.loop-answer.answer-index in
-    let more = session_more b plan base all i c.loop-answer.seat c.in-Ok-answered.next text c.loop-answer-test.true session c.in-Ok-answered.ensures.answers in
-    stop_at_line b plan base all (g.O.Sink.tells c.args.out.now) (g.O.Sink.written c.args.out.now) (g.O.Sink.written c.loop-answer.out) (g.O.Sink.written c.print_place-in-loop-answer.new.out) text (place_line plan c.in-Ok-answered.next) c.in-Err-print_place-2.stop (printed_so_far b plan base all (take i all) (drop i all) c.loop-answer.seat text (split all i) session) (printed_so_far b plan base all (take (i + 1) all) (drop (i + 1) all) c.in-Ok-answered.next (text ++ place_line plan c.in-Ok-answered.next) (split all (i + 1)) more) written c.in-Err-print_place-2.ensures.either (λ is told. c.print_place-in-loop-answer.ensures.memory (c.in-Err-print_place-2.is ∙ ap Err is) (same ∙ told)) (λ is. subst (λ (b : Bool). WritesPart b (g.O.Sink.written c.loop-answer.out) (g.O.Sink.written c.print_place-in-loop-answer.new.out) (place_line plan c.in-Ok-answered.next)) same (c.print_place-in-loop-answer.ensures.sink (c.in-Err-print_place-2.is ∙ ap Err is)))
+    let script = c.args.requests.now in
+    let told = g.O.Sink.tells c.args.out.now in
+    let was = g.O.Sink.written c.args.out.now in
+    let now = g.O.Sink.written c.do_requests-done.new.out in
+    let old = c.in-Ok.office in
+    let new = c.do_requests-done.new.alone.office in
+    let disk = disk_seen g.D.Disk.tells g.D.Disk.content g.D.Disk.accounts g.D.Disk.faults c.args.disk c.into_disk.result in
+    let opened = c.in-Ok.ensures in
+    let done = c.do_requests-done.ensures in
+    let gone = c.into_disk.ensures in
+    let still = λ (t : disk.told ≡ true). gone.tells ∙ (done.disk.tells ∙ (opened.tells ∙ t)) in
+    let back : IsHandedBack b plan disk old new = record {
+      legal = opened.legal;
+      found = opened.stands;
+      told = opened.tells;
+      images = sym (ap latest gone.accounts);
+      left = λ t. g.met.D.Disk.is_image c.into_disk.result (still t);
+      content = λ t.
+          subst (λ (x : Tables). IsMending x plan (history new.marks) new.doubt disk.left) (done.same.bank ∙ opened.bank)
+          (subst (λ (y : Plan). IsMending new.bank y (history new.marks) new.doubt disk.left) (done.same.plan ∙ opened.plan) (gone.content (still t)));
+      length_is = λ t. gone.length (still t);
+      before = opened.grows;
+      after = sym gone.faults;
+    } in
+    if_err (IsUnserved old.bank old.plan old.base script old new told was now) (Halted b plan base disk script told was now) c.do_requests-done.result
+    (λ h unserved. halted_so b plan base disk script old new back told was now h
+    (as_given (λ (x : Tables) (y : Plan) (z : List ℕ). IsUnserved x y z script old new told was now h) old.bank b old.plan plan old.base base opened.bank opened.plan opened.base unserved)) done.err
 
-pub loop-answer-preserved : goal.loop-answer-preserved
-loop-answer-preserved g c =
-    record {
-      standing = c.in-Ok-answered.ensures.standing;
-      printed =
-          let (text, session, written) = c.loop-answer.invariant.printed in
-          let line : List ℕ = place_line c.args.spec.now c.in-Ok-answered.next in (
-            text ++ line,
-            session_more c.args.bank.now c.args.spec.now c.args.base.now c.args.answers.now c.loop-answer.answer-index c.loop-answer.seat c.in-Ok-answered.next text c.loop-answer-test.true session c.in-Ok-answered.ensures.answers,
-            λ told. c.in_default-print_place.ensures.ok (c.loop-answer.invariant.tells ∙ told) ∙ (ap (λ (t : List ℕ). t ++ line) (written told) ∙ append_assoc (g.O.Sink.written c.args.out.now) text line),
-          );
-      grows = search rules;
-      tells = search rules;
-      identity = search rules;
-    }
+pub returns-clause-failed : goal.returns-clause-failed
+returns-clause-failed g c = λ is.
+    let b = c.args.bank.now in
+    let plan = c.args.spec.now in
+    let base = c.args.base.now in
+    let script = c.args.requests.now in
+    let told = g.O.Sink.tells c.args.out.now in
+    let was = g.O.Sink.written c.args.out.now in
+    let now = g.O.Sink.written c.do_requests-done.new.out in
+    let disk = disk_seen g.D.Disk.tells g.D.Disk.content g.D.Disk.accounts g.D.Disk.faults c.args.disk c.into_disk.result in
+    rose_so b plan base disk script told was now Disk (at_err (Halted b plan base disk script told was now) c.do_requests-done.result Disk is (returns-clause-err g c)) refl
+
+pub returns-clause-opened : goal.returns-clause-opened
+returns-clause-opened g c =
+    let b = c.args.bank.now in
+    let plan = c.args.spec.now in
+    let base = c.args.base.now in
+    let script = c.args.requests.now in
+    let told = g.O.Sink.tells c.args.out.now in
+    let was = g.O.Sink.written c.args.out.now in
+    let now = g.O.Sink.written c.do_requests-done.new.out in
+    let disk = disk_seen g.D.Disk.tells g.D.Disk.content g.D.Disk.accounts g.D.Disk.faults c.args.disk c.into_disk.result in
+    if_err (Halted b plan base disk script told was now) (λ (h : Halt). IsBeforeJournal h → ⊥) c.do_requests-done.result (opened_so b plan base disk script told was now) (returns-clause-err g c)

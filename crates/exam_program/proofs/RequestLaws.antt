@@ -1,0 +1,204 @@
+-- One request of a replay: how it ends.
+use Rattle.std.specs.Prelude.{⊤}
+use Rattle.std.proofs.Common.{◌≡◌, ℕ, Bool, true, false, cond, List, [], ◌∷◌, ◌++◌, Option, Some, None, Result, Ok, Err, OnOk, IfErr, IsTrue, nat_lt, ◌==◌, refl, sym, ap, ◌∙◌, subst}
+use Rattle.std.proofs.lemmas.List.{append-nil}
+use Rattle.bank_tables.specs.Tables.{Tables, categories}
+use Rattle.exam_edge.specs.Images.{AllImages, latest}
+use Rattle.exam_edge.specs.ImageLaws.{at_end}
+use Rattle.exam_model.specs.Plan.{Plan}
+use Rattle.history_model.specs.declared.entry.Entry.{Entry}
+use Rattle.history_model.specs.declared.place.Place.{Place}
+use Rattle.history_model.specs.declared.place.Place.TheVariants.{Pending, Waiting, Complete, Closed}
+use Rattle.history_model.specs.declared.refusal.Refusal.{Refusal}
+use Rattle.history_model.specs.declared.refusal.Refusal.TheVariants as why
+use Rattle.history_model.specs.declared.request.Reply.{Reply}
+use Rattle.history_model.specs.declared.request.Reply.TheVariants.{At, Exposure as Exposed, Refused}
+use Rattle.history_model.specs.declared.request.Request.{Request}
+use Rattle.history_model.specs.declared.request.Request.TheVariants.{Begin, Answer, Close, Look, Exposure}
+use Rattle.history_model.specs.Halting.{IsNextOf}
+use Rattle.history_model.specs.Refusals.{recorded, refusal_of, refusal_of_new, refusal_at, refusal_of_answer, refusal_of_closing, in_session}
+use Rattle.history_model.specs.Entries.{holder}
+use Rattle.history_model.specs.Places.{place}
+use Rattle.history_model.specs.Requests.{Does, DoesUnless, DoesUnrefused}
+use Rattle.exam_office.specs.Asking.{AreGood, IsStoppedBy, Halts, IsDurable, Becomes, done, halted, IsAsked, IsBegunBy, IsOnTheWay, StandsForOne}
+use Rattle.exam_office.specs.Marks.{history, reach}
+use Rattle.exam_office.specs.Running.{Running}
+use Rattle.exam_office.specs.Writing.{IsOneOf, as_before, with_doubt}
+use Rattle.answer_journal.specs.Journal.{tells_of, accounts_of, faults_of}
+use Rattle.replay_cli.specs.Replies.{line_of}
+use Rattle.exam_program.specs.declared.halt.Halt.{Halt}
+use Rattle.exam_program.specs.declared.halt.Halt.TheVariants as halt
+use Rattle.exam_program.specs.Replays.{halt_of, IsFileOf, IsFullAt}
+use Rattle.exam_program.specs.Stopping.{IsDone, IsStopped, at_sessions, at_journal, at_disk, at_memory, at_line, IsUnprinted}
+use Rattle.exam_program.specs.Writing.{IsWritten, WritesPart}
+
+-- ---- what the tests of a request refuse it for: never the journal's limit, the disk or memory
+abbrev IsTested : Refusal → Type 0
+IsTested (why.JournalFull size) = ⊥
+IsTested why.Disk = ⊥
+IsTested why.Memory = ⊥
+IsTested r = ⊤
+
+tested_if : (c : Bool) (x r : Refusal) → IsTested x → cond c (Some x) None ≡ Some r → IsTested r
+tested_if true x r tested e = let same : x ≡ r = cc in subst (λ (y : Refusal). IsTested y) same tested
+tested_if false x r tested e = cc
+
+tested_unless : (c : Bool) (x r : Refusal) → IsTested x → cond c None (Some x) ≡ Some r → IsTested r
+tested_unless true x r tested e = cc
+tested_unless false x r tested e = let same : x ≡ r = cc in subst (λ (y : Refusal). IsTested y) same tested
+
+tested_is : (x r : Refusal) → IsTested x → Some x ≡ Some r → IsTested r
+tested_is x r tested e = let same : x ≡ r = cc in subst (λ (y : Refusal). IsTested y) same tested
+
+tested_new : (plan : Plan) (H : List Entry) (o : Option ℕ) (r : Refusal) → refusal_of_new plan H o ≡ Some r → IsTested r
+tested_new plan H (Some session) r e = cc
+tested_new plan H None r e = tested_if _ _ r tt e
+
+tested_where : (b : Tables) (step response : ℕ) (at : Place) (r : Refusal) → refusal_at b step response at ≡ Some r → IsTested r
+tested_where b step response (Pending at) r e = tested_is _ r tt e
+tested_where b step response (Waiting at item proved) r e = here (at == step) (nat_lt response (categories b item)) r e
+  where
+    here : (same within : Bool) (r : Refusal) → cond same (cond within None (Some (why.BadResponse (categories b item)))) (Some (why.WrongStep at)) ≡ Some r → IsTested r
+    here true within r e = tested_unless within _ r tt e
+    here false within r e = tested_is _ r tt e
+tested_where b step response Complete r e = tested_is _ r tt e
+tested_where b step response Closed r e = tested_is _ r tt e
+
+tested_answer : (b : Tables) (step response : ℕ) (at : Place) (o : Option ℕ) (r : Refusal) → refusal_of_answer b step response at o ≡ Some r → IsTested r
+tested_answer b step response at (Some given) r e = tested_unless _ _ r tt e
+tested_answer b step response at None r e = tested_where b step response at r e
+
+tested_closing : (at : Place) (r : Refusal) → refusal_of_closing at ≡ Some r → IsTested r
+tested_closing (Pending step) r e = cc
+tested_closing (Waiting step item proved) r e = cc
+tested_closing Complete r e = tested_is _ r tt e
+tested_closing Closed r e = tested_is _ r tt e
+
+tested_in : (H : List Entry) (o : Option Place) (refusal : Place → Option Refusal) → ((at : Place) (r : Refusal) → refusal at ≡ Some r → IsTested r) → (r : Refusal)
+    → in_session H o refusal ≡ Some r → IsTested r
+tested_in H None refusal each r e = tested_is _ r tt e
+tested_in H (Some at) refusal each r e = each at r e
+
+tested : (b : Tables) (plan : Plan) (H : List Entry) (request : Request) (r : Refusal) → refusal_of b plan H request ≡ Some r → IsTested r
+tested b plan H (Begin booking) r e = tested_new plan H (holder H booking) r e
+tested b plan H (Answer session step response) r e =
+    tested_in H (place plan H session) (λ (at : Place). refusal_of_answer b step response at (recorded H session step)) (λ at r. tested_answer b step response at (recorded H session step) r) r e
+tested b plan H (Close session) r e = tested_in H (place plan H session) refusal_of_closing tested_closing r e
+tested b plan H (Look session) r e = tested_in H (place plan H session) (λ (at : Place). None) (λ at r f. cc) r e
+tested b plan H Exposure r e = cc
+
+-- ---- a request that is done, with a refusal as its reply
+unrefused : (b : Tables) (plan : Plan) (G : List Entry) (request : Request) (K : List Entry) (r : Refusal) → DoesUnrefused b plan G request K (Refused r) → ⊥
+unrefused b plan G (Begin booking) K r d = let e = d.reply in cc
+unrefused b plan G (Answer session step response) K r d = let e = d.reply in cc
+unrefused b plan G (Close session) K r d = let e = d.reply in cc
+unrefused b plan G (Look session) K r d = let e = d.reply in cc
+unrefused b plan G Exposure K r d = let e = d.reply in cc
+
+refused_by : (b : Tables) (plan : Plan) (G : List Entry) (request : Request) (K : List Entry) (r : Refusal) (o : Option Refusal) → DoesUnless o b plan G request K (Refused r) → o ≡ Some r
+refused_by b plan G request K r (Some x) d = let e = d.1 in cc
+refused_by b plan G request K r None d = absurd (unrefused b plan G request K r d)
+
+refused_so : (b : Tables) (plan : Plan) (G : List Entry) (request : Request) (K : List Entry) (r : Refusal) → Does b plan G request K (Refused r) → refusal_of b plan G request ≡ Some r
+refused_so b plan G request K r d = refused_by b plan G request K r (refusal_of b plan G request) d
+
+-- ---- from an office with nothing in doubt
+one_of_none : (H G : List Entry) (doubt : Option Entry) → doubt ≡ None → IsOneOf H doubt G → G ≡ H
+one_of_none H _ doubt e (as_before _) = refl
+one_of_none H _ _ e (with_doubt entry) = cc
+
+module _ {D : Type 0} (request : Request) (old new : Running D) where
+  module _ (reply : Reply) (sure : old.doubt ≡ None) (asked : IsAsked old request reply new) where
+    from_is : asked.from ≡ history old.marks
+    from_is = one_of_none (history old.marks) asked.from old.doubt sure asked.is_one_of
+
+    pub becomes_so : Becomes old.bank old.plan (history old.marks) request old new reply
+    becomes_so = subst (λ (G : List Entry). Becomes old.bank old.plan G request old new reply) from_is asked.becomes
+
+    pub good_so : AreGood old.bank old.plan old.base (history old.marks) (history new.marks)
+    good_so = subst (λ (G : List Entry). AreGood old.bank old.plan old.base G (history new.marks)) from_is asked.good
+
+    pub each_so : IsTrue (tells_of old.journal)
+        → AllImages (IsFileOf old.bank old.plan old.base (history old.marks) (request ∷ [])) (latest (accounts_of new.journal))
+    each_so told file image = here (at_end (StandsForOne old.bank old.plan (IsOnTheWay old.bank old.plan old.base (history old.marks) old.doubt request))
+        (accounts_of old.journal) (accounts_of new.journal) (asked.steps.moments told) file image)
+      where
+        here : StandsForOne old.bank old.plan (IsOnTheWay old.bank old.plan old.base (history old.marks) old.doubt request) file
+            → IsFileOf old.bank old.plan old.base (history old.marks) (request ∷ []) file
+        here s = record {
+          so_far = s.so_far;
+          is_one = subst (λ (G : List Entry). IsBegunBy old.bank old.plan old.base G request s.so_far) (one_of_none (history old.marks) s.is_one.from old.doubt sure s.is_one.is_one_of) s.is_one.begun;
+          stands = s.stands;
+        }
+
+  -- ---- what became of it
+  module _ (b : Tables) (plan : Plan) (base : List ℕ) where
+    -- a halt has a reply that ends the replay
+    halting : (r : Refusal) → IsStoppedBy b plan (history new.marks) (IsNextOf b plan (history old.marks) request (history new.marks)) old new r → halt_of plan (Refused r) ≡ None → ⊥
+    halting (why.JournalFull size) stopped e = cc
+    halting why.Disk stopped e = cc
+    halting why.Memory stopped e = cc
+    halting r stopped e = stopped
+
+    pub done_so : (reply : Reply) → halt_of plan reply ≡ None → Becomes b plan (history old.marks) request old new reply
+        → AreGood b plan base (history old.marks) (history new.marks) → IsDone b plan base request old new reply
+    done_so reply e (done does durable) good = record { does = does; goes_on = e; good = good; durable = durable }
+    done_so reply e (halted h) good = absurd (halting h.why h.because (ap (halt_of plan) (sym h.reply) ∙ e))
+
+    stopped_by : (r : Refusal) → Halts b plan (history old.marks) request old new (Refused r)
+        → IsStoppedBy b plan (history new.marks) (IsNextOf b plan (history old.marks) request (history new.marks)) old new r
+    stopped_by r h =
+        let e = h.reply in
+        let same : h.why ≡ r = cc in
+        subst (λ (x : Refusal). IsStoppedBy b plan (history new.marks) (IsNextOf b plan (history old.marks) request (history new.marks)) old new x) same h.because
+
+    full_so : (size : ℕ) → Becomes b plan (history old.marks) request old new (Refused (why.JournalFull size))
+        → IsFullAt b plan (history old.marks) request (history new.marks) (reach new.marks) size × (new.doubt ≡ None)
+    full_so size (done does durable) = absurd (tested b plan (history old.marks) request (why.JournalFull size) (refused_so b plan (history old.marks) request (history new.marks) (why.JournalFull size) does))
+    full_so size (halted h) =
+        let t = stopped_by (why.JournalFull size) h in
+        (record { cut_off = h.cut_off; last = t.last; next = t.next; may = t.may; size_is = t.size_is; above = t.above }, t.sure)
+
+    rose_so : Becomes b plan (history old.marks) request old new (Refused why.Disk) → IsStoppedBy b plan (history new.marks) (IsNextOf b plan (history old.marks) request (history new.marks)) old new why.Disk
+    rose_so (done does durable) = absurd (tested b plan (history old.marks) request why.Disk (refused_so b plan (history old.marks) request (history new.marks) why.Disk does))
+    rose_so (halted h) = stopped_by why.Disk h
+
+    full_sessions : (count : ℕ) → Becomes b plan (history old.marks) request old new (Refused (why.SessionsFull count)) → refusal_of b plan (history old.marks) request ≡ Some (why.SessionsFull count)
+    full_sessions count (done does durable) = refused_so b plan (history old.marks) request (history new.marks) (why.SessionsFull count) does
+    full_sessions count (halted h) = absurd (stopped_by (why.SessionsFull count) h)
+
+    module _ (told : Bool) (was now : List ℕ) where
+      at_same : (x y : Halt) → Some x ≡ Some y → IsStopped b plan base request old new told was now x → IsStopped b plan base request old new told was now y
+      at_same x y e stopped = let same : x ≡ y = cc in subst (λ (h : Halt). IsStopped b plan base request old new told was now h) same stopped
+
+      refused_halt : (r : Refusal) (h : Halt) → halt_of plan (Refused r) ≡ Some h → Becomes b plan (history old.marks) request old new (Refused r) → IsWritten told was now [] → IsStopped b plan base request old new told was now h
+      refused_halt (why.SessionsFull count) h e becomes written = at_same (halt.Sessions count plan.sessions) h e (at_sessions count (full_sessions count becomes) written)
+      refused_halt (why.JournalFull size) h e becomes written =
+          let full = full_so size becomes in
+          at_same (halt.JournalFull size plan.journal) h e (at_journal size full.0 full.1 written)
+      refused_halt why.Disk h e becomes written = at_same halt.Disk h e (at_disk (rose_so becomes) written)
+      refused_halt why.Memory h e becomes written = at_same halt.Memory h e (at_memory written)
+      refused_halt r h e becomes written = cc
+
+      pub halt_so : (reply : Reply) (h : Halt) → halt_of plan reply ≡ Some h → Becomes b plan (history old.marks) request old new reply → IsWritten told was now [] → IsStopped b plan base request old new told was now h
+      halt_so (At session place fresh) h e becomes written = cc
+      halt_so (Exposed exposure) h e becomes written = cc
+      halt_so (Refused r) h e becomes written = refused_halt r h e becomes written
+
+      -- its line was not printed
+      pub unprinted_so : (reply : Reply) (h : Halt) → IsDone b plan base request old new reply → IsUnprinted told was now (line_of reply) h → IsStopped b plan base request old new told was now h
+      unprinted_so reply halt.Memory is unprinted = at_memory unprinted
+      unprinted_so reply halt.Sink is unprinted = at_line reply is unprinted
+      unprinted_so reply h is unprinted = absurd unprinted
+
+-- ---- results
+pub on_ok : {A E : Type 0} (P Q : Type 0) (r : Result A E) → (P → Q) → OnOk r P → OnOk r Q
+on_ok P Q (Ok x) f p = f p
+on_ok P Q (Err e) f p = p
+
+pub if_err : {A E : Type 0} (P Q : E → Type 0) (r : Result A E) → ((e : E) → P e → Q e) → IfErr r P → IfErr r Q
+if_err P Q (Ok x) f p = p
+if_err P Q (Err e) f p = f e p
+
+pub nothing_written : (told : Bool) (was : List ℕ) → IsWritten told was was []
+nothing_written told was t = sym (append-nil was)
