@@ -149,8 +149,18 @@ pub(crate) fn leave<V: Kept>(table: &LockTable<V>, seat: &mut LockSeat<V>)
     ensures of { seat.new.table_id ≡ seat.old.table_id }
     ensures over { seat.new.me ≡ (ended_view seat.old.me.0, []) }
 {
-    table.fetch_add::<Leave>(seat, 1, 1);
-    table.wake_all(1);
+    let served = table.fetch_add::<Leave>(seat, 1, 1);
+    wake(table, served.wrapping_add(1));
+}
+
+// Wakes those that wait, unless the ticket that is now served is not drawn yet: nobody waits then, and whoever draws it
+// finds it served. This saves a call of the system, and no clause rests on it.
+fn wake<V: Kept>(table: &LockTable<V>, serving: u64)
+    requires { IsLockTable table.now.table_id }
+{
+    if table.peek(0) != serving {
+        table.wake_all(1);
+    }
 }
 
 // Ends the lock, and keeps the value that is at home: the seat's ticket is served.

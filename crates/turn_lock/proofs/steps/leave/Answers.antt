@@ -2,8 +2,8 @@ use Rattle.std.proofs.Common.{arith}
 use Rattle.turn_lock.proofs.Keeping.{leaves}
 use Rattle.turn_lock.proofs.steps.leave.Goals as goal
 
-pub fetch_add-requires : goal.fetch_add-requires
-fetch_add-requires g c =
+pub fetch_add-served-requires : goal.fetch_add-served-requires
+fetch_add-served-requires g c =
     let k = c.requires.back in (
       c.requires.of.0,
       omega
