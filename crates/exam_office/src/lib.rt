@@ -11,6 +11,7 @@ mod asking;
 mod begun;
 mod committing;
 mod fault;
+mod handed_in;
 mod handler;
 pub mod laws;
 mod mark;
@@ -19,6 +20,8 @@ mod opening;
 mod reporting;
 mod serving;
 mod starting;
+mod threads;
+mod turns;
 mod writing;
 
 pub use alone::Alone;

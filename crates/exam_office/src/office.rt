@@ -1,5 +1,6 @@
 //! The office.
 
+use crate::handed_in::HandedIn;
 use crate::mark::Mark;
 use answer_journal::Journal;
 use bank_tables::{Bank, ItemSet};
@@ -9,7 +10,6 @@ use exam_session::Book;
 use history_log::Counted;
 use history_model::Entry;
 use std::marker::Model;
-use std::snapshot::Snapshot;
 
 /// A book over a journal: each entry of an examination is on the disk before it is acknowledged.
 pub struct Office<'a, D: Disk> {
@@ -24,7 +24,7 @@ pub struct Office<'a, D: Disk> {
     /// The entry in doubt.
     pub(crate) doubt: Option<Entry>,
     /// The disk as it was handed in, for contracts alone.
-    pub(crate) opened: Snapshot<D>,
+    pub(crate) opened: HandedIn<D>,
 }
 
 impl<'a, D: Disk> Model for Office<'a, D> {
@@ -37,18 +37,4 @@ impl<'a, D: Disk> Model for Office<'a, D> {
 
     ghost invariant = { λ o. IsKept o.bank.now o.spec.now o.base o.book o.journal o.marks o.doubt
         (D.faults o.opened.value) };
-}
-
-fn may_move<T: Send>() {}
-
-// It compiles only while each part of an office may move to another thread, the journal where its disk may.
-fn parts_may_move<'a, D: Disk + Send>() {
-    may_move::<&'a Bank>();
-    may_move::<&'a Spec>();
-    may_move::<ItemSet>();
-    may_move::<Book<'a>>();
-    may_move::<Journal<D>>();
-    may_move::<Counted<Mark>>();
-    may_move::<Option<Entry>>();
-    may_move::<Snapshot<D>>();
 }

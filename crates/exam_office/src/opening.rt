@@ -19,6 +19,7 @@ ghost use Rattle.exam_office.specs.Marks.{history, reach};
 ghost use Rattle.exam_office.specs.Opening.{IsTaken, IsNotFollowing, AreTaken, IsNotTaken, IsFirstRefused, IsOpenAnswer};
 
 use crate::fault::OpenFault;
+use crate::handed_in::HandedIn;
 use crate::mark::{Mark, note};
 use crate::office::Office;
 use answer_journal::{Journal, OpenFault as JournalFault, Payload};
@@ -31,7 +32,6 @@ use history_log::Counted;
 use history_model::Illegal;
 use history_model::laws::may_is_legal;
 use std::alloc::Global;
-use std::snapshot::Snapshot;
 
 /// The fault of a record that may not follow.
 fn fault_of(at: u64, reason: Illegal) -> OpenFault
@@ -176,7 +176,7 @@ impl<'a, D: Disk> Office<'a, D> {
         ensures identity { IfOk result (λ office. identity_of office.journal ≡ D.identity disk) }
         ensures frame_err { IfErr result (λ e. IsLent D.tells D.identity D.faults disk e.0) }
     {
-        let opened = Snapshot::of(&disk);
+        let opened = HandedIn::of(&disk);
         let (opening, payloads) = match Journal::read(alloc, disk, spec.journal()) {
             Ok(found) => found,
             Err((disk, fault)) => return Err((disk, journal_fault(fault))),
