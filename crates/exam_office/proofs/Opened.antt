@@ -16,7 +16,7 @@ use Rattle.exam_session.specs.Ledgers.{Ledger}
 use Rattle.answer_journal.specs.declared.payload.Payload.{Payload}
 use Rattle.answer_journal.specs.Journal.{JournalState, length_of, limit_of, tells_of, payloads_of, IsReady, faults_of}
 use Rattle.answer_journal.specs.Frames.{payloads, shadowj1}
-use Rattle.answer_journal.specs.Payload.{bytes_of as payload_bytes}
+use Rattle.answer_journal.specs.Payload.{bytes_of as payload_bytes, at_of, places_of}
 use Rattle.exam_records.specs.Spelling.{payload_of}
 use Rattle.exam_office.specs.declared.mark.Mark.{Mark}
 use Rattle.exam_office.specs.declared.mark.Mark.TheVariants.{Old, Opened}
@@ -62,13 +62,13 @@ first_refused b plan read i H marks d fault lt so_far why = record {
   refused = why;
 }
 
-pub open_answer : (b : Tables) (plan : Plan) (file : List ℕ) (read : List Payload) (fault : OpenFault) → payloads shadowj1 file ≡ Some (map payload_bytes read) → IsFirstRefused b plan read fault → IsOpenAnswer b plan file fault
-open_answer b plan file read (OfJournal fault) gives first = absurd first.refused
-open_answer b plan file read (BadRecord at fault) gives first = record { read = read; gives = gives; first = first }
-open_answer b plan file read (BadTree at) gives first = record { read = read; gives = gives; first = first }
-open_answer b plan file read (Illegal at reason) gives first = record { read = read; gives = gives; first = first }
-open_answer b plan file read Disk gives first = tt
-open_answer b plan file read Memory gives first = tt
+pub open_answer : (b : Tables) (plan : Plan) (file : List ℕ) (read : List Payload) (fault : OpenFault) → payloads shadowj1 file ≡ Some (map payload_bytes read) → map at_of read ≡ places_of 8 (map payload_bytes read) → IsFirstRefused b plan read fault → IsOpenAnswer b plan file fault
+open_answer b plan file read (OfJournal fault) gives places first = absurd first.refused
+open_answer b plan file read (BadRecord at fault) gives places first = record { read = read; gives = gives; places = places; first = first }
+open_answer b plan file read (BadTree at) gives places first = record { read = read; gives = gives; places = places; first = first }
+open_answer b plan file read (Illegal at reason) gives places first = record { read = read; gives = gives; places = places; first = first }
+open_answer b plan file read Disk gives places first = tt
+open_answer b plan file read Memory gives places first = tt
 
 -- ---- the marks
 history-old : (H : List Entry) → history (map Old H) ≡ H

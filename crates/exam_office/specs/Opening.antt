@@ -14,7 +14,7 @@ use Rattle.answer_journal.specs.Frames.{payloads, shadowj1}
 use Rattle.answer_journal.specs.OpenFault.{first_fault}
 use Rattle.answer_journal.specs.declared.open_fault.OpenFault.{OpenFault as JournalFault}
 use Rattle.answer_journal.specs.declared.open_fault.OpenFault.TheVariants.{Disk as OfDisk, Memory as OfMemory}
-use Rattle.answer_journal.specs.Payload.{bytes_of as payload_bytes, at_of}
+use Rattle.answer_journal.specs.Payload.{bytes_of as payload_bytes, at_of, places_of}
 use Rattle.exam_records.specs.Spelling.{payload_of}
 use Rattle.exam_records.specs.Shape.{IsRecord}
 use Rattle.exam_office.specs.declared.fault.OpenFault.{OpenFault}
@@ -89,10 +89,11 @@ journal_fault OfDisk = Disk
 journal_fault OfMemory = Memory
 journal_fault fault = Journal fault
 
--- the payload of a file that is refused, after those of a history
+-- the payload of a file that is refused, after those of a history; each payload has the place of its gate
 pub record IsRefusedFile (b : Tables) (plan : Plan) (file : List ℕ) (fault : OpenFault) : Type 0 where
   pub read : List Payload
   pub gives : payloads shadowj1 file ≡ Some (map payload_bytes read)
+  pub places : map at_of read ≡ places_of 8 (map payload_bytes read)
   pub first : IsFirstRefused b plan read fault
 
 -- what opening a file may answer: out of memory, a fault of the disk, the first thing that is wrong with its frames, or
