@@ -341,7 +341,7 @@ module _ {D : Type 0} (old mid : Running D) (same : IsSameOffice old mid) (frame
 
   -- or isn't
   unmended_so : (r : Refusal) → IsUnmended old mid r → (history mid.marks ≡ history old.marks) × IsStoppedBy old.bank old.plan (history old.marks) (λ e. ⊥) old mid r
-  unmended_so Memory why = (ap (λ (o : Running D). history o.marks) why, λ e. ap (λ (o : Running D). o.doubt) why ∙ e)
+  unmended_so Memory why = (ap (λ (o : Running D). history o.marks) why.0, λ e. ap (λ (o : Running D). o.doubt) why.0 ∙ e)
   unmended_so Disk why = (ap history why.2.mark ∙ history-fault old.marks why.0, why.2.rose)
   unmended_so (JournalFull size) why = absurd why
   unmended_so (NoSession count) why = absurd why

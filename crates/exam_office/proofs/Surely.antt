@@ -58,7 +58,7 @@ pub data CallsSurely {D : Type 0} (finds : List Entry → Finding → Type 0) (o
 
 module _ {D : Type 0} (finds : List Entry → Finding → Type 0) (old new : Running D) (no_doubt : old.doubt ≡ None) where
   not_mended : (r : Refusal) → IsUnmended old new r → CallsSurely finds old new (Some r)
-  not_mended Memory why = is_stopped Memory (ap (λ (o : Running D). history o.marks) why) (λ e. ap (λ (o : Running D). o.doubt) why ∙ e)
+  not_mended Memory why = is_stopped Memory (ap (λ (o : Running D). history o.marks) why.0) (λ e. ap (λ (o : Running D). o.doubt) why.0 ∙ e)
   not_mended Disk why = let e : ◌≡◌ {A = Option Entry} (Some why.0) None = sym why.1 ∙ no_doubt in absurd (cc)
   not_mended (JournalFull size) why = absurd why
   not_mended (NoSession count) why = absurd why

@@ -57,7 +57,7 @@ pub record IsFaulted {D : Type 0} (old new : Running D) (marks : List Mark) (ent
 
 -- why the entry in doubt wasn't resolved: out of memory, before anything was done, or a fault of the disk
 abbrev pub IsUnmended : {D : Type 0} → Running D → Running D → Refusal → Type 0
-IsUnmended old new Memory = new ≡ old
+IsUnmended old new Memory = (new ≡ old) × (entry : Entry) × (old.doubt ≡ Some entry)
 IsUnmended old new Disk = (entry : Entry) × (old.doubt ≡ Some entry) × IsFaulted old new old.marks entry
 IsUnmended old new refusal = ⊥
 
