@@ -1,0 +1,118 @@
+//! One call of each kind that adds an entry, over a journal of no byte after its last gate: opening
+//! is calls 0 to 3 of the disk, and adding is calls 4 to 7: write, sync, open the gate, sync.
+
+use crate::files::{
+    ANSWERED, CLOSED, empty_journal, served_journal, started, started_journal, third_journal,
+};
+use crate::outcome::{Call, Reply, WORKED, asked, begun, waiting};
+use exam_office::{Place, Refusal};
+use std::alloc::Global;
+use std::test::Fail;
+
+/// How many entries a history has, and where session 0 is.
+#[derive(Clone, Copy, Debug, PartialEq, Eq)]
+pub(crate) struct State {
+    pub entries: u64,
+    pub place: Reply,
+}
+
+/// A call that adds an entry.
+#[derive(Drop)]
+pub(crate) struct Case {
+    pub call: Call,
+    /// The journal before it.
+    pub bytes: Vec<u8>,
+    /// The journal with its entry, where the entry has no tree.
+    pub longer: Option<Vec<u8>>,
+    pub before: State,
+    pub after: State,
+    /// What it gives.
+    pub reply: Reply,
+    /// What it gives where its entry is there already.
+    pub again: Reply,
+}
+
+/// How many entries a history has, and where session 0 is in it.
+fn state_at(entries: u64, place: Place) -> State {
+    State {
+        entries,
+        place: Reply::At(place),
+    }
+}
+
+fn begin_case(alloc: Global) -> Result<Case, Fail> {
+    let before = State {
+        entries: 0,
+        place: Reply::Refused(Refusal::NoSession(0)),
+    };
+    Ok(Case {
+        call: Call::Begin(70),
+        bytes: empty_journal(alloc)?,
+        longer: Some(started_journal(alloc)?),
+        before,
+        after: state_at(1, Place::Pending(0)),
+        reply: begun(0, true),
+        again: begun(0, false),
+    })
+}
+
+fn serve_case(alloc: Global) -> Result<Case, Fail> {
+    let served = waiting(0, 2);
+    Ok(Case {
+        call: Call::Serve(0),
+        bytes: started_journal(alloc)?,
+        longer: None,
+        before: state_at(1, Place::Pending(0)),
+        after: state_at(2, served),
+        reply: Reply::At(served),
+        again: Reply::Refused(Refusal::Stale(served, false)),
+    })
+}
+
+fn answer_case(alloc: Global) -> Result<Case, Fail> {
+    let answered = Place::Pending(1);
+    Ok(Case {
+        call: Call::Answer(0, 0, 1),
+        bytes: served_journal(alloc)?,
+        longer: Some(third_journal(alloc, &ANSWERED)?),
+        before: state_at(2, waiting(0, 2)),
+        after: state_at(3, answered),
+        reply: Reply::At(answered),
+        again: Reply::At(answered),
+    })
+}
+
+fn close_case(alloc: Global) -> Result<Case, Fail> {
+    let closed = Place::Closed;
+    Ok(Case {
+        call: Call::Close(0),
+        bytes: served_journal(alloc)?,
+        longer: Some(third_journal(alloc, &CLOSED)?),
+        before: state_at(2, waiting(0, 2)),
+        after: state_at(3, closed),
+        reply: Reply::At(closed),
+        again: Reply::Refused(Refusal::IsClosed(closed)),
+    })
+}
+
+/// What is found in a file: it is opened, and the session is looked at.
+pub(crate) fn opened(alloc: Global, bytes: &[u8]) -> Result<State, Fail> {
+    let (found, _, _) = asked(alloc, &WORKED, bytes, &[], &[Call::Look(0)])?;
+    let Some(place) = found.replies.get(0) else {
+        return Err(Fail::from("no reply"));
+    };
+    Ok(State {
+        entries: found.summary.entries,
+        place: *place,
+    })
+}
+
+/// One of each kind.
+pub(crate) fn cases(alloc: Global) -> Result<Vec<Case>, Fail> {
+    let mut cases = Vec::new(alloc);
+    cases.push(begin_case(alloc)?)?;
+    cases.push(serve_case(alloc)?)?;
+    cases.push(answer_case(alloc)?)?;
+    cases.push(close_case(alloc)?)?;
+    Ok(cases)
+}

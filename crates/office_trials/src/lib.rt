@@ -1,0 +1,25 @@
+//! Tests of the office over a disk in memory: what is found after a call of the disk has failed and
+//! after a crash at each moment, each refusal with its value, and each fault of a file. It promises
+//! nothing upward and holds no code of the product.
+#![tactic(auto)]
+
+#[cfg(test)]
+mod cases;
+#[cfg(test)]
+mod counted_disk;
+#[cfg(test)]
+mod crashes;
+#[cfg(test)]
+mod failures;
+#[cfg(test)]
+mod files;
+#[cfg(test)]
+mod openings;
+#[cfg(test)]
+mod outcome;
+#[cfg(test)]
+mod refusals;
+#[cfg(test)]
+mod serving;
+#[cfg(test)]
+mod sessions;

@@ -1,0 +1,219 @@
+//! Files that an office opens, and each fault of one.
+
+use crate::files::{
+    BEST, TOO_HIGH, empty_journal, journal, second_journal, served, served_journal, started,
+};
+use crate::outcome::{Call, Numbers, Reply, WORKED, asked, run, waiting};
+use answer_journal::OpenFault as JournalFault;
+use exam_office::{OpenFault, Refusal};
+use exam_records::RecordFault;
+use history_model::Illegal;
+use std::alloc::Global;
+use std::process::Abort;
+use std::test::Fail;
+
+/// The tree shows a bound of 6,143, and 256 * 23 + 255 is 6,143. So the mark is believed.
+#[test]
+fn a_served_item_with_its_tree(rt: HostRuntime) -> Result<(), Fail> {
+    let alloc = rt.alloc();
+    let bytes = served_journal(alloc)?;
+    let (found, left, count) = asked(alloc, &WORKED, &bytes, &[], &[Call::Look(0)])?;
+    assert_eq!(rt;
+        found.replies.as_slice(),
+        [Reply::At(waiting(0, 2))].as_slice()
+    );
+    assert_eq!(rt; found.summary.entries, 2);
+    assert_eq!(rt; found.summary.proved, 1);
+    assert_eq!(rt; found.summary.nodes, 1);
+    assert_eq!(rt; left.as_slice(), bytes.as_slice());
+    assert_eq!(rt; count.calls, 4);
+    Ok(())
+}
+
+#[test]
+fn files_of_no_record(rt: HostRuntime) -> Result<(), Fail> {
+    let alloc = rt.alloc();
+    let empty = empty_journal(alloc)?;
+    assert_eq!(rt; empty.len(), 9);
+    for bytes in [&[] as &[u8], &[1, 2, 3, 4, 5, 6, 7, 8, 9], &empty] {
+        let (found, left, _) = asked(alloc, &WORKED, bytes, &[], &[Call::Look(0)])?;
+        let replies = [Reply::Refused(Refusal::NoSession(0))];
+        assert_eq!(rt; found.replies.as_slice(), replies.as_slice());
+        assert_eq!(rt; found.summary.entries, 0);
+        assert_eq!(rt; left.as_slice(), empty.as_slice());
+    }
+    Ok(())
+}
+
+/// A file that is no history, and its fault.
+#[derive(Drop)]
+struct Refused {
+    bytes: Vec<u8>,
+    fault: OpenFault,
+}
+
+/// Those whose frames are at fault. The journal has gates at 8, 90 and 182.
+fn bad_frames(alloc: Global) -> Result<Vec<Refused>, Fail> {
+    let whole = served_journal(alloc)?;
+    let mut refused = Vec::new(alloc);
+    refused.push(Refused {
+        bytes: vec![in alloc; 1; 10]?,
+        fault: OpenFault::Journal(JournalFault::Header),
+    })?;
+    for (length, place) in [(10usize, 8u64), (90, 8), (91, 90), (182, 90)] {
+        let mut bytes = whole.to_vec(alloc)?;
+        bytes.truncate(length);
+        refused.push(Refused {
+            bytes,
+            fault: OpenFault::Journal(JournalFault::Cut(place)),
+        })?;
+    }
+    Ok(refused)
+}
+
+fn changed(alloc: Global, bytes: &[u8], at: usize, value: u8) -> Result<Vec<u8>, Fail> {
+    let mut copy = bytes.to_vec(alloc)?;
+    if at >= copy.len() {
+        return Err(Fail::from("no such byte"));
+    }
+    copy[at] = value;
+    Ok(copy)
+}
+
+/// A length of 0, and one of 131,073, which is 0x020001.
+fn bad_lengths(alloc: Global) -> Result<Vec<Refused>, Fail> {
+    let whole = served_journal(alloc)?;
+    let mut refused = Vec::new(alloc);
+    refused.push(Refused {
+        bytes: changed(alloc, &whole, 94, 0)?,
+        fault: OpenFault::Journal(JournalFault::Length(90)),
+    })?;
+    let high = changed(alloc, &whole, 92, 2)?;
+    refused.push(Refused {
+        bytes: changed(alloc, &high, 94, 1)?,
+        fault: OpenFault::Journal(JournalFault::Length(90)),
+    })?;
+    Ok(refused)
+}
+
+fn push_second(
+    alloc: Global,
+    refused: &mut Vec<Refused>,
+    second: &[u8],
+    fault: OpenFault,
+) -> Result<(), Fail> {
+    let bytes = second_journal(alloc, second)?;
+    refused.push(Refused { bytes, fault })?;
+    Ok(())
+}
+
+/// A second record that is none, or may not follow. Where a form isn't marked proved its tree has
+/// to be spent, and a tree without an open leaf isn't.
+fn bad_records(alloc: Global) -> Result<Vec<Refused>, Fail> {
+    let mut refused = Vec::new(alloc);
+    let kind = OpenFault::BadRecord(90, RecordFault::Kind(0));
+    push_second(alloc, &mut refused, &[6], kind)?;
+    let short = OpenFault::BadRecord(90, RecordFault::Short);
+    push_second(alloc, &mut refused, &[4, 0, 0, 0, 0, 0, 0], short)?;
+    let extra = OpenFault::BadRecord(90, RecordFault::Extra(5));
+    push_second(alloc, &mut refused, &[5, 0, 0, 0, 0, 0], extra)?;
+    let none = OpenFault::Illegal(90, Illegal::NoSession(1));
+    push_second(alloc, &mut refused, &[5, 0, 0, 0, 1], none)?;
+    let booked = OpenFault::Illegal(90, Illegal::Booked(0));
+    push_second(alloc, &mut refused, &started(alloc, 1, 70)?, booked)?;
+    let tree = OpenFault::BadTree(90);
+    push_second(alloc, &mut refused, &served(alloc, 1, &TOO_HIGH)?, tree)?;
+    push_second(alloc, &mut refused, &served(alloc, 0, &BEST)?, tree)?;
+    Ok(refused)
+}
+
+/// Files with two faults: that of a frame comes before that of a record, and that of a record
+/// before that of the next.
+fn first_faults(alloc: Global) -> Result<Vec<Refused>, Fail> {
+    let mut refused = Vec::new(alloc);
+    let mut cut = journal(alloc, &[&[6], &[6]])?;
+    // Gates at 8, 14 and 20.
+    cut.truncate(20);
+    refused.push(Refused {
+        bytes: cut,
+        fault: OpenFault::Journal(JournalFault::Cut(14)),
+    })?;
+    let unlawful = journal(alloc, &[&[5, 0, 0, 0, 0], &[6]])?;
+    // Gates at 8, 18 and 24.
+    let length = changed(alloc, &unlawful, 22, 0)?;
+    refused.push(Refused {
+        bytes: length,
+        fault: OpenFault::Journal(JournalFault::Length(18)),
+    })?;
+    refused.push(Refused {
+        bytes: unlawful,
+        fault: OpenFault::Illegal(8, Illegal::NoSession(0)),
+    })?;
+    refused.push(Refused {
+        bytes: journal(alloc, &[&[6], &[5, 0, 0, 0, 0]])?,
+        fault: OpenFault::BadRecord(8, RecordFault::Kind(0)),
+    })?;
+    Ok(refused)
+}
+
+/// Each file is refused with its fault, and left as it was.
+fn refuses<R: Abort>(rt: &R, alloc: Global, group: &[Refused]) -> Result<(), Fail> {
+    for refused in group {
+        let outcome = run(alloc, &WORKED, &refused.bytes, &[], &[])?;
+        assert_eq!(rt; outcome.found.err(), Some(refused.fault));
+        assert_eq!(rt; outcome.bytes.as_slice(), refused.bytes.as_slice());
+    }
+    Ok(())
+}
+
+#[test]
+fn each_fault_of_a_file(rt: HostRuntime) -> Result<(), Fail> {
+    let alloc = rt.alloc();
+    refuses(&rt, alloc, &bad_frames(alloc)?)?;
+    refuses(&rt, alloc, &bad_lengths(alloc)?)?;
+    refuses(&rt, alloc, &bad_records(alloc)?)?;
+    refuses(&rt, alloc, &first_faults(alloc)?)
+}
+
+/// What is after the last gate is cut once each record was taken, and not before.
+#[test]
+fn a_refused_file_is_not_cut(rt: HostRuntime) -> Result<(), Fail> {
+    let alloc = rt.alloc();
+    let group = bad_records(alloc)?;
+    for refused in &group {
+        let mut longer = refused.bytes.to_vec(alloc)?;
+        longer.extend_from_slice(&[1, 1])?;
+        let outcome = run(alloc, &WORKED, &longer, &[], &[])?;
+        assert_eq!(rt; outcome.found.err(), Some(refused.fault));
+        assert_eq!(rt; outcome.bytes.as_slice(), longer.as_slice());
+    }
+    Ok(())
+}
+
+/// The journal has 183 bytes. The limit is tested before the header.
+#[test]
+fn a_file_above_the_limit(rt: HostRuntime) -> Result<(), Fail> {
+    let alloc = rt.alloc();
+    let whole = served_journal(alloc)?;
+    let broken = changed(alloc, &whole, 0, 0)?;
+    let low = Numbers {
+        journal: 182,
+        ..WORKED
+    };
+    for bytes in [&whole, &broken] {
+        let outcome = run(alloc, &low, bytes, &[], &[])?;
+        let fault = OpenFault::Journal(JournalFault::TooLong(183));
+        assert_eq!(rt; outcome.found.err(), Some(fault));
+        assert_eq!(rt; outcome.bytes.as_slice(), bytes.as_slice());
+    }
+    let even = Numbers {
+        journal: 183,
+        ..WORKED
+    };
+    let outcome = run(alloc, &even, &whole, &[], &[])?;
+    assert_eq!(rt; outcome.found.err(), None);
+    let outcome = run(alloc, &even, &broken, &[], &[])?;
+    let fault = OpenFault::Journal(JournalFault::Header);
+    assert_eq!(rt; outcome.found.err(), Some(fault));
+    Ok(())
+}
