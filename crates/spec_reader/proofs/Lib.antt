@@ -11,3 +11,4 @@ pub mod BackLaws
 pub mod ShortLaws
 mod OneFault
 mod ReadKeys
+mod OnlySays

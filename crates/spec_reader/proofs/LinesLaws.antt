@@ -29,7 +29,7 @@ steps_front {A} {F} (suc n) f a =
     ap (λ (r : Result A F). r >>= f (suc n)) (steps_front n f a) ∙ bind_assoc (f 0 a) (λ b. steps_below n (λ i. f (suc i)) b) (f (suc n))
 
 -- the lines after the first k
-read_from : ℕ → List (List ℕ) → List Said → Result (List Said) LineFault
+unfoldable pub read_from : ℕ → List (List ℕ) → List Said → Result (List Said) LineFault
 read_from k [] rules = Ok rules
 read_from k (line ∷ lines) rules = next_rule (k + 1) line rules >>= read_from (k + 1) lines
 
@@ -46,7 +46,7 @@ from_front (line ∷ lines) k rules =
     ∙ (ap (λ (r : Result (List Said) LineFault). r >>= λ b. steps_below (length lines) (λ i. f (suc i)) b) first
     ∙ ap (λ (h : List Said → Result (List Said) LineFault). next_rule (k + 1) line rules >>= h) (fun_ext others))
 
-rules_from_front : (lines : List (List ℕ)) → rules_of lines ≡ read_from 0 lines []
+pub rules_from_front : (lines : List (List ℕ)) → rules_of lines ≡ read_from 0 lines []
 unfolding rules_of
 rules_from_front lines =
     steps_same (length lines) (λ i rules. next_rule (i + 1) (get_or lines i []) rules) (λ i rules. next_rule (0 + i + 1) (get_or lines i []) rules) [] (λ i rules. ap (λ (at : ℕ). next_rule (at + 1) (get_or lines i []) rules) (sym (zero-add i)))

@@ -29,6 +29,16 @@ pub fn lines_of_the_grammar_are_read()
     ensures { (lines : List (List ℕ)) (rules : List Said) → SayBehind [] lines rules → rules_of lines ≡ Ok rules }
 {}
 
+/// The words of a line that are read as a rule are words that the grammar has for this rule.
+pub fn a_line_that_is_read_is_of_the_grammar()
+    ensures { (at : ℕ) (words : List (List ℕ)) (rule : Said) → line_of at words ≡ Ok rule → Says words rule }
+{}
+
+/// Lines that are read as rules are lines that the grammar has for these rules.
+pub fn lines_that_are_read_are_of_the_grammar()
+    ensures { (lines : List (List ℕ)) (rules : List Said) → rules_of lines ≡ Ok rules → SayBehind [] lines rules }
+{}
+
 /// The runs that a set is written as are runs of the grammar, and their items are those of the set.
 pub fn a_set_is_its_maximal_runs()
     ensures { (X : Set) → IsSet X → AreRuns (runs_of X) × ((x : ℕ) → X x ≡ in_runs (runs_of X) x) }
