@@ -31,8 +31,6 @@ const PROBE_STEPS: u32 = 8;
 pub struct Limits {
     /// Branches, at most.
     pub branches: u32,
-    /// Vectors, at most.
-    pub vectors: usize,
     /// Whether it ends early where one that begins anew would be smaller.
     pub restarts: bool,
     /// How far below what closes a path the steps aim, so that a vector closes other paths too.
@@ -68,7 +66,7 @@ impl Pass {
         at_root: &Stepped,
         limits: Limits,
     ) -> Result<Pass, Memory> {
-        let mut pool = Pool::new(alloc, table, limits.vectors)?;
+        let mut pool = Pool::new(alloc, table)?;
         if !at_root.vector.pairs().is_empty() && pool.has_room() {
             let vector = copied(alloc, &at_root.vector)?;
             let _ = pool.store(Priced::of(alloc, table, vector, false)?)?;

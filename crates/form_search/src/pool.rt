@@ -9,12 +9,18 @@ use lagrange_bound::Cut;
 use proof_tree::{Memory, Vector};
 use std::alloc::Global;
 
+/// Vectors of a tree, at most.
+const MOST_VECTORS: usize = 255;
+
+/// Pairs of a tree's vectors in all, at most. A vector has at most 384 of them.
+const MOST_PAIRS: usize = 12_288;
+
 /// The vectors of a tree.
 #[derive(Debug, Drop)]
 pub struct Pool {
     vectors: Vec<Priced>,
-    /// How many there may be; one place is kept for the empty vector.
-    most: usize,
+    /// How many pairs they have in all.
+    pairs: usize,
     /// The empty vector, until it closes a path.
     plain: Option<Priced>,
     /// The place of the vector that closed a path last.
@@ -65,31 +71,27 @@ fn leaf_with(ray: bool, place: usize) -> Option<Node> {
 
 impl Pool {
     /// No vectors but the empty one, whose place is kept.
-    pub fn new(alloc: Global, table: &Table, most: usize) -> Result<Pool, Memory> {
+    pub fn new(alloc: Global, table: &Table) -> Result<Pool, Memory> {
         let plain = Priced::of(alloc, table, empty_vector(alloc), false)?;
         Ok(Pool {
             vectors: Vec::new(alloc),
-            most,
+            pairs: 0,
             plain: Some(plain),
             last: 0,
         })
     }
 
-    /// How many vectors there are.
-    pub fn len(&self) -> usize {
-        self.vectors.len()
-    }
-
-    /// Whether there is room for a vector, the place of the empty one aside.
+    /// Whether there is room for a vector with any pairs, the place of the empty one aside.
     pub fn has_room(&self) -> bool {
         let kept = if self.plain.is_some() { 1 } else { 0 };
-        self.vectors.len().saturating_add(kept) < self.most.min(255)
+        self.vectors.len().saturating_add(kept) < MOST_VECTORS && self.pairs <= MOST_PAIRS - 384
     }
 
     /// Adds a vector, and gives its leaf.
     pub fn store(&mut self, priced: Priced) -> Result<Option<Node>, Memory> {
         let place = self.vectors.len();
         let leaf = leaf_with(priced.ray, place);
+        self.pairs = self.pairs.saturating_add(priced.vector.pairs().len());
         self.vectors.push(priced)?;
         self.last = place;
         Ok(leaf)

@@ -20,9 +20,6 @@ use lagrange_bound::Cut;
 use proof_tree::{Memory, Tree};
 use std::alloc::Global;
 
-/// Vectors of a tree, at most. A proof tree may have more; the search makes do with these.
-const MOST_VECTORS: usize = 32;
-
 /// The part of the root's gap that the steps of the last pass aim below what closes.
 const MARGIN: i64 = 16;
 
@@ -32,7 +29,7 @@ const FIRST_PROBES: usize = 2;
 /// The same in the last pass.
 const LAST_PROBES: usize = 4;
 
-/// The most passes that take as many vectors as they need.
+/// The most passes that may begin anew.
 const MOST_PASSES: u32 = 8;
 
 /// The result of a search: a form, if it met one, and a tree, if what it built is one.
@@ -90,9 +87,8 @@ fn tree_of(alloc: Global, pass: Pass) -> Result<Option<Tree>, Memory> {
     Ok(Tree::of(List::of(vectors), List::of(nodes)))
 }
 
-/// Passes with as many vectors as they need, until one is whole. Its tree is taken if the budget is
-/// not spent and no more vectors are in it than a tree may have. Else one more pass keeps to that
-/// limit.
+/// Passes until one is whole. Its tree is taken if the budget is not spent. Else one more pass tries more branches at each
+/// path.
 fn passes(
     alloc: Global,
     problem: &Problem,
@@ -106,7 +102,6 @@ fn passes(
     let branches = (budget as u32).saturating_sub(1) / 2;
     let mut limits = Limits {
         branches,
-        vectors: 255,
         restarts: true,
         margin: 0,
         probes: FIRST_PROBES,
@@ -114,13 +109,12 @@ fn passes(
     for _ in 0..MOST_PASSES {
         let pass = Pass::over(alloc, problem, table, incumbent, at_root, limits)?;
         if pass.is_whole {
-            if !pass.is_spent && pass.pool.len() <= MOST_VECTORS {
+            if !pass.is_spent {
                 return tree_of(alloc, pass);
             }
             break;
         }
     }
-    limits.vectors = MOST_VECTORS;
     limits.restarts = false;
     limits.probes = LAST_PROBES;
     limits.margin = at_root.bound.saturating_sub(incumbent.top()).max(0) / MARGIN;
