@@ -1,0 +1,4 @@
+mod DrawLaws
+mod TextLaws
+mod PlanLaws
+mod ScriptLaws

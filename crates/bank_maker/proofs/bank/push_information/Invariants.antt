@@ -1,0 +1,8 @@
+use Rattle.std.proofs.Common.{◌≡◌, ◌++◌, ◌∷◌}
+use Rattle.std.specs.List.{flat_map, range_with_len}
+use Rattle.std.specs.Fmt.{decimal}
+use Rattle.bank_maker.specs.Items.{information}
+use Rattle.bank_maker.proofs.bank.push_information.Given as goal
+
+abbrev pub invariant-loop-point : goal.invariant-loop-point
+invariant-loop-point l = l.out.items ≡ l.fn.out.items ++ flat_map (λ g. 44 ∷ decimal (information l.item g)) (range_with_len 0 l.point)

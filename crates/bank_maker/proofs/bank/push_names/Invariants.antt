@@ -1,0 +1,7 @@
+use Rattle.std.proofs.Common.{◌≡◌, ◌++◌}
+use Rattle.std.specs.List.{flat_map, range_with_len}
+use Rattle.std.specs.Fmt.{decimal}
+use Rattle.bank_maker.proofs.bank.push_names.Given as goal
+
+abbrev pub invariant-loop-point : goal.invariant-loop-point
+invariant-loop-point l = l.out.items ≡ l.fn.out.items ++ flat_map (λ g. l.letters ++ decimal g) (range_with_len 0 l.point)

@@ -1,0 +1,39 @@
+//! The texts of a drill.
+
+ghost use Rattle.std.specs.Prelude.{◌≤◌, IfOk};
+ghost use Rattle.bank_maker.specs.Drills.{IsDrill};
+
+use crate::bank::bank_text;
+use crate::draws::Draws;
+use crate::item::draw_items;
+use crate::plan::plan_text;
+use crate::script::script_text;
+use crate::turn::turns_of;
+use exam_edge::Memory;
+use std::alloc::Global;
+
+/// The three texts of a drill.
+#[derive(Debug, Drop)]
+pub struct Made {
+    /// The bank text, with a header and a record for each of 120 items.
+    pub bank: Vec<u8>,
+    /// The plan text, in its canonical form.
+    pub plan: Vec<u8>,
+    /// The script, a line for each request.
+    pub script: Vec<u8>,
+}
+
+/// Makes the texts of a drill of so many sessions from a number. `Memory` is lack of memory.
+pub fn make(alloc: Global, number: u32, sessions: u32) -> Result<Made, Memory>
+    requires some { 1 ≤ sessions }
+    requires few { sessions ≤ 200 }
+    ensures { IfOk result (λ made. IsDrill number sessions made) }
+{
+    let mut draws = Draws::new(number);
+    let items = draw_items(alloc, &mut draws)?;
+    let bank = bank_text(alloc, &items)?;
+    let plan = plan_text(alloc, number, sessions, &items)?;
+    let turns = turns_of(alloc, sessions)?;
+    let script = script_text(alloc, &mut draws, &turns)?;
+    Ok(Made { bank, plan, script })
+}

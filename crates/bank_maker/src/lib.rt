@@ -1,0 +1,16 @@
+//! The bank, the plan and the script of a drill, made from a number.
+//!
+//! Upward it promises that the three texts are the stated ones, byte for byte. It reads no text, and
+//! does not examine.
+#![tactic(auto)]
+
+mod bank;
+mod draws;
+mod drill;
+mod item;
+pub mod laws;
+mod plan;
+mod script;
+mod turn;
+
+pub use drill::{Made, make};
