@@ -10,3 +10,4 @@ pub mod Commits
 pub mod Handling
 pub mod Asking
 pub mod Serving
+pub mod Noting

@@ -9,7 +9,12 @@ ghost use Rattle.history_model.specs.Places.{place};
 ghost use Rattle.history_model.specs.Requests.{IsExposureOf};
 ghost use Rattle.history_model.specs.SessionProblems.{IsProblemOf};
 ghost use Rattle.history_model.specs.Summaries.{summary};
-ghost use Rattle.exam_office.specs.Marks.{history};
+ghost use Rattle.exam_office.specs.Marks.{history, AreMarks, AreCounted};
+ghost use Rattle.exam_office.specs.Noting.{IsDoubtOf};
+ghost use Rattle.exam_model.specs.Forms.{Meets};
+ghost use Rattle.bank_tables.specs.Items.{has};
+ghost use Rattle.history_model.specs.Legality.{LegalRun};
+ghost use Rattle.answer_journal.specs.Journal.{faults_of};
 
 use crate::office::Office;
 use bank_tables::{Bank, ItemSet, List};
@@ -87,5 +92,19 @@ impl<'a, D: Disk> Office<'a, D> {
         ensures { result.now ≡ self.now.plan }
     {
         self.spec
+    }
+
+    /// What the type keeps of the marks, as a law: the history is a legal run; the marks are in order; there are no more
+    /// faults among them than the disk's count rose since it was handed in; an entry in doubt is that of the last mark, a
+    /// fault. The base is a form of the plan alone.
+    pub fn keeps(&self)
+        ensures run { LegalRun self.now.bank self.now.plan (history self.now.marks) }
+        ensures marks { AreMarks self.now.marks }
+        ensures counted { AreCounted self.now.marks (D.faults self.now.opened)
+            (faults_of self.now.journal) }
+        ensures doubt { IsDoubtOf self.now.marks self.now.doubt }
+        ensures base { Meets self.now.bank self.now.plan (has self.now.base) }
+    {
+        let _ = self.book.entries();
     }
 }

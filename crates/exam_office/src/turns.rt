@@ -2,16 +2,19 @@
 
 ghost use Rattle.std.specs.Prelude.{◌≡◌, length};
 
-use crate::mark::Mark;
+use crate::noted::Noted;
 use crate::office::Office;
 use exam_edge::Disk;
 use turn_lock::Kept;
 
-/// The history of an office is its list of marks.
+/// The history of an office is its list of marks, each with what the office was opened with: nothing else is known of
+/// an office under a lock.
 impl<'a, D: Disk> Kept for Office<'a, D> {
-    type Entry = Mark;
+    ghost use Rattle.exam_office.specs.Noting.{noted, opened_with};
 
-    ghost history = { λ office. office.marks };
+    type Entry = Noted<'a, D>;
+
+    ghost history = { λ office. noted (opened_with D.faults office) office.marks };
 
     fn history_len(&self) -> u64 {
         self.marks.count()
