@@ -1,12 +1,11 @@
 -- Accepted texts, and files and a disk that never failed, leave few statuses.
-use Rattle.std.proofs.Common.{◌≡◌, ℕ, ◌<◌, ◌≤◌, ◌⊎◌, inl, inr, Bool, List, [], ◌∷◌, ◌++◌, length, Option, Some, None, Result, Ok, Err, IsTrue, refl, sym, ap, ◌∙◌, subst, arith}
+use Rattle.std.proofs.Common.{◌≡◌, ℕ, ◌≤◌, ◌⊎◌, inl, inr, Bool, List, length, Option, Some, None, Result, Ok, Err, IsTrue, refl, sym, ap, ◌∙◌, subst, arith}
 use Rattle.std.specs.Option.{option_map}
 use Rattle.bank_tables.specs.Items.{Set, has}
 use Rattle.bank_tables.specs.Tables.{Tables}
 use Rattle.bank_reader.specs.declared.fault.ReadFault.{ReadFault}
 use Rattle.bank_reader.specs.Reading.{bank_of}
 use Rattle.spec_reader.specs.declared.plan_fault.PlanFault.{PlanFault}
-use Rattle.spec_reader.specs.declared.plan_fault.PlanFault.TheVariants as fault
 use Rattle.spec_reader.specs.Reading.{IsReadFault}
 use Rattle.spec_reader.specs.Plans.{SaidPlan, plan_said}
 use Rattle.spec_reader.proofs.SameLaws.{one_plan, only_outside}
@@ -16,7 +15,6 @@ use Rattle.exam_model.specs.ProofTrees.{ProofTree}
 use Rattle.history_model.specs.declared.entry.Entry.{Entry}
 use Rattle.history_model.specs.declared.request.Request.{Request}
 use Rattle.exam_office.specs.declared.fault.OpenFault.{OpenFault}
-use Rattle.exam_office.specs.declared.fault.OpenFault.TheVariants as open_fault
 use Rattle.exam_office.specs.Files.{Stands}
 use Rattle.exam_office.proofs.FileLaws.{standing_is_opened}
 use Rattle.replay_cli.specs.declared.script_fault.ScriptFault.{ScriptFault}
@@ -26,7 +24,7 @@ use Rattle.replay_cli.proofs.ReadLaws.{no_fault}
 use Rattle.exam_program.specs.Bases.{ShowsNoForm, ShowsNoBase}
 use Rattle.exam_program.specs.Commands.{Command, Check, Assemble, Replay, command_of, bank_name, plan_name}
 use Rattle.exam_program.specs.Halts.{IsPlanIn, IsOfText, Reads, IsScriptIn}
-use Rattle.exam_program.specs.Laws.{CheckIsComplete, AssembleIsComplete, ReplayIsComplete, IsOfHistory}
+use Rattle.exam_program.specs.Laws.{CheckIsComplete, AssembleIsComplete, ReplayIsComplete}
 use Rattle.exam_program.specs.Outside.{Outside}
 use Rattle.exam_program.specs.Replays.{IsOfFile, IsJournalRefused}
 use Rattle.exam_program.proofs.BaseLaws.{whole_form}
@@ -146,25 +144,25 @@ module _ (words : List (List ℕ)) (o : Outside) (command : Command) (e : comman
 
   left : (b : Tables) (p : Plan) (status : ℕ) (text : List ℕ) → Reads o.named o.content (bank_name command) (plan_name command) b p
       → (Rose o.files_before o.files_after → ⊥) → Outcome words o status text → Left o command status
-  left b p _ _ reads quiet (faulty_words f) = absurd (none_some (command_of words) command e f)
-  left b p _ _ reads quiet (bank_refused other why f found is) =
+  left b p _ _ reads quiet (faulty_words f untouched) = absurd (none_some (command_of words) command e f)
+  left b p _ _ reads quiet (bank_refused other why f found is untouched) =
       absurd (ok_err (bank_of (o.content (bank_name command))) b why reads.says_bank (subst (λ (c : Command). bank_of (o.content (bank_name c)) ≡ Err why) (same_command other f) is))
-  left b p _ _ reads quiet (plan_refused other c why f found plan_found is of_text refusal) =
+  left b p _ _ reads quiet (plan_refused other c why f found plan_found is of_text refusal untouched) =
       let there = subst (λ (d : Command). bank_of (o.content (bank_name d)) ≡ Ok c) (same_command other f) is in
       absurd (no_plan_fault b c (o.content (plan_name command)) p why (bank_same (bank_of (o.content (bank_name command))) c b there reads.says_bank) reads.says_plan of_text (subst (λ (d : Command). IsReadFault c (o.content (plan_name d)) why) (same_command other f) refusal))
-  left b p _ _ reads quiet (script_refused bank plan name c q why f there found of_script refusal) =
+  left b p _ _ reads quiet (script_refused bank plan name c q why f there found of_script refusal untouched) =
       no_script (subst (NoScript o) (same_command (Replay bank plan name) f) (why, of_script, refusal))
-  left b p _ _ reads quiet (checked bank plan c q f there) = done
-  left b p _ _ reads quiet (form_found bank plan c q P form proved T f there finds) = done
-  left b p _ _ reads quiet (without_form other c q T f ready shows) = no_form c q T (subst (λ (d : Command). IsReady o.named o.content d c q) (same_command other f) ready) shows
-  left b p _ _ reads quiet (without_base_form other c q T f ready shows) = no_base c q T (subst (λ (d : Command). IsReady o.named o.content d c q) (same_command other f) ready) shows
+  left b p _ _ reads quiet (checked bank plan c q f there untouched) = done
+  left b p _ _ reads quiet (form_found bank plan c q P form proved T f there finds untouched) = done
+  left b p _ _ reads quiet (without_form other c q T f ready shows untouched) = no_form c q T (subst (λ (d : Command). IsReady o.named o.content d c q) (same_command other f) ready) shows
+  left b p _ _ reads quiet (without_base_form other c q T f ready shows untouched) = no_base c q T (subst (λ (d : Command). IsReady o.named o.content d c q) (same_command other f) ready) shows
   left b p _ _ reads quiet (journal_refused c q script base why is refusal) =
       no_journal (subst (NoJournal o) (same_command (Replay is.bank is.plan is.name) is.asked) (c, q, why, is.reads.reads, refusal))
   left b p _ _ reads quiet (replayed c q script base H G replies is way) = done
   left b p _ _ reads quiet (sessions_full c q script base H G request rest replies count is way why) = limit (has_journal c q script base is)
   left b p _ _ reads quiet (journal_full c q script base H G request rest replies K now size is way full at) = limit (has_journal c q script base is)
-  left b p _ _ reads quiet (without_files other f rose) = absurd (quiet rose)
-  left b p _ _ reads quiet (without_journal c q script base is rose) = disk (has_journal c q script base is) rose
+  left b p _ _ reads quiet (without_files other f rose untouched) = absurd (quiet rose)
+  left b p _ _ reads quiet (without_journal c q script base is so) = disk (has_journal c q script base is) so.rose
   left b p _ _ reads quiet (without_disk c q script base H G rest replies is way rose) = disk (has_journal c q script base is) rose
   left b p _ _ reads quiet (without_memory other f untouched) = memory
   left b p _ _ reads quiet (without_more_memory c q script base H G rest replies is way) = memory

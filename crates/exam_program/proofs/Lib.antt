@@ -7,3 +7,4 @@ pub mod ScriptLaws
 pub mod SessionLaws
 pub mod TreeTexts
 pub mod WordLaws
+mod RowsOfA

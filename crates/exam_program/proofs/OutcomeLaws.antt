@@ -1,10 +1,11 @@
 -- The outcome of a command, from the outcomes of its parts.
-use Rattle.std.proofs.Common.{◌≡◌, ℕ, ◌≤◌, ◌⊎◌, Bool, List, [], ◌∷◌, ◌++◌, inl, inr, Some, None, Contains, arith, refl, sym, ◌∙◌, ap, subst, append_assoc, length-append}
+use Rattle.std.proofs.Common.{◌≡◌, ℕ, ◌≤◌, Bool, List, [], ◌∷◌, ◌++◌, inl, inr, Some, None, arith, refl, sym, ◌∙◌, ap, subst, append_assoc, length-append}
 use Rattle.std.proofs.lemmas.List.{append-nil}
 use Rattle.std.proofs.lemmas.Bool.{false≢true}
 use Rattle.bank_tables.specs.Tables.{Tables}
 use Rattle.spec_reader.specs.Canonical.{canonical}
 use Rattle.exam_edge.specs.Faults.{Rose}
+use Rattle.exam_edge.specs.Images.{Account}
 use Rattle.exam_model.specs.Plan.{Plan}
 use Rattle.exam_text.specs.Texts.{no_memory}
 use Rattle.history_model.specs.declared.request.Request.{Request}
@@ -14,16 +15,21 @@ use Rattle.exam_program.specs.declared.halt.Halt.TheVariants as halt
 use Rattle.exam_program.specs.Bases.{TellsForm}
 use Rattle.exam_program.specs.Commands.{Command, Check, Assemble, Replay, command_of, bank_name, plan_name}
 use Rattle.exam_program.specs.Halts.{HaltsAtExam, HaltsAtScript, HaltsAtBase, Reads, IsBeforeJournal}
-use Rattle.exam_program.specs.Outside.{Outside, DiskSeen, IsUntouched}
+use Rattle.exam_program.specs.Outside.{Outside, DiskSeen, disk_seen, IsUntouched}
 use Rattle.exam_program.specs.Replays.{IsLeftAt}
 use Rattle.exam_program.specs.Stopping.{IsUnopened, refused, failed, out_of_memory, Stops, by_sessions, by_journal, by_disk, by_memory, by_sink, Finishes, IsReplayed, Halted}
 use Rattle.exam_program.specs.Texts.{bank_line, usage}
 use Rattle.exam_program.specs.Writing.{IsWritten, WritesPart}
-use Rattle.exam_program.specs.Outcomes.{IsReady, IsReplayOf, Outcome, faulty_words, bank_refused, plan_refused, script_refused, checked, form_found, without_form, without_base_form, journal_refused, replayed, sessions_full, journal_full, without_files, without_journal, without_disk, without_memory, without_more_memory, Prints, PrintsPart, PrintsBefore, Halts, EndsBy, IsStatus, IsStatusBefore}
+use Rattle.exam_program.specs.Outcomes.{IsReady, IsReplayOf, Outcome, faulty_words, bank_refused, plan_refused, script_refused, checked, form_found, without_form, without_base_form, journal_refused, replayed, sessions_full, journal_full, without_files, without_journal, without_disk, without_memory, without_more_memory, Prints, PrintsPart, PrintsBefore, Ends, LeavesJournal, as_found, at_opening, after_requests, Halts, EndsBy, IsStatus, IsStatusBefore}
 
 -- a count that rose later, rose
 pub rose_later : (before now after : ℕ) → before ≤ now → Rose now after → Rose before after
 rose_later before now after le rose = omega (arith, le, rose)
+
+-- ---- a disk that is handed back as it was handed in
+pub as_it_is : {D : Type 0} (tells : D → Bool) (content : D → List ℕ) (accounts : D → List Account) (faults : D → ℕ) (d : D)
+    → IsUntouched (disk_seen tells content accounts faults d d)
+as_it_is tells content accounts faults d = record { left = λ t. refl; images = λ t file image. image }
 
 -- ---- what a command has printed when it halts
 module _ (words : List (List ℕ)) (o : Outside) (told : Bool) (old : List ℕ) where
@@ -37,10 +43,10 @@ module _ (words : List (List ℕ)) (o : Outside) (told : Bool) (old : List ℕ) 
   pub halts_at_exam : (command : Command) (h : Halt) → command_of words ≡ Some command → (h ≡ halt.Files → Rose o.files_before o.files_after)
       → IsUntouched o.disk → HaltsAtExam o.named o.content (bank_name command) (plan_name command) h → Halts words o told old old h
   halts_at_exam command (halt.Bank fault) e rose untouched is =
-      (nothing_before 3 _ (bank_refused command fault e is.0 is.1), nothing_before 10 _ (without_memory command e untouched))
+      (nothing_before 3 _ (bank_refused command fault e is.0 is.1 untouched), nothing_before 10 _ (without_memory command e untouched))
   halts_at_exam command (halt.Plan fault) e rose untouched is =
-      (nothing_before 4 _ (plan_refused command is.0 fault e is.1 is.2 is.3 is.4 is.5), nothing_before 10 _ (without_memory command e untouched))
-  halts_at_exam command halt.Files e rose untouched is = nothing_before 7 _ (without_files command e (rose refl))
+      (nothing_before 4 _ (plan_refused command is.0 fault e is.1 is.2 is.3 is.4 is.5 untouched), nothing_before 10 _ (without_memory command e untouched))
+  halts_at_exam command halt.Files e rose untouched is = nothing_before 7 _ (without_files command e (rose refl) untouched)
   halts_at_exam command halt.Memory e rose untouched is = nothing_before 10 _ (without_memory command e untouched)
   halts_at_exam command h e rose untouched is = absurd is
 
@@ -48,23 +54,23 @@ module _ (words : List (List ℕ)) (o : Outside) (told : Bool) (old : List ℕ) 
       → Reads o.named o.content bank plan b p → (h ≡ halt.Files → Rose o.files_before o.files_after) → IsUntouched o.disk
       → HaltsAtScript (o.named script) (o.content script) h → Halts words o told old old h
   halts_at_script bank plan script b p (halt.Script fault) e reads rose untouched is =
-      (nothing_before 5 _ (script_refused bank plan script b p fault e reads is.0 is.1 is.2), nothing_before 10 _ (without_memory (Replay bank plan script) e untouched))
-  halts_at_script bank plan script b p halt.Files e reads rose untouched is = nothing_before 7 _ (without_files (Replay bank plan script) e (rose refl))
+      (nothing_before 5 _ (script_refused bank plan script b p fault e reads is.0 is.1 is.2 untouched), nothing_before 10 _ (without_memory (Replay bank plan script) e untouched))
+  halts_at_script bank plan script b p halt.Files e reads rose untouched is = nothing_before 7 _ (without_files (Replay bank plan script) e (rose refl) untouched)
   halts_at_script bank plan script b p halt.Memory e reads rose untouched is = nothing_before 10 _ (without_memory (Replay bank plan script) e untouched)
   halts_at_script bank plan script b p h e reads rose untouched is = absurd is
 
   pub halts_at_base : (command : Command) (b : Tables) (p : Plan) (h : Halt) → command_of words ≡ Some command
       → IsReady o.named o.content command b p → IsUntouched o.disk → HaltsAtBase b p h → Halts words o told old old h
   halts_at_base command b p (halt.NoForm text) e ready untouched is =
-      nothing_before 11 text.items (subst (λ (t : List ℕ). Outcome words o 11 t) (sym is.2) (without_form command b p is.0 e ready is.1))
+      nothing_before 11 text.items (subst (λ (t : List ℕ). Outcome words o 11 t) (sym is.2) (without_form command b p is.0 e ready is.1 untouched))
   halts_at_base command b p (halt.NoBaseForm text) e ready untouched is =
-      nothing_before 12 text.items (subst (λ (t : List ℕ). Outcome words o 12 t) (sym is.2) (without_base_form command b p is.0 e ready is.1))
+      nothing_before 12 text.items (subst (λ (t : List ℕ). Outcome words o 12 t) (sym is.2) (without_base_form command b p is.0 e ready is.1 untouched))
   halts_at_base command b p halt.Memory e ready untouched is = nothing_before 10 _ (without_memory command e untouched)
   halts_at_base command b p h e ready untouched is = absurd is
 
   -- the usage is printed where the words are faulty
-  pub before_usage : command_of words ≡ None → PrintsBefore words o told old old 2 usage
-  before_usage e = nothing_before 2 usage (faulty_words e)
+  pub before_usage : command_of words ≡ None → IsUntouched o.disk → PrintsBefore words o told old old 2 usage
+  before_usage e untouched = nothing_before 2 usage (faulty_words e untouched)
 
   -- ---- one text that is printed whole, or in part
   pub prints : (new text : List ℕ) → Outcome words o 0 text → IsWritten told old new text → Prints words o told old new 0
@@ -90,7 +96,7 @@ module _ (words : List (List ℕ)) (o : Outside) (told : Bool) (old : List ℕ) 
       record { text = []; written = written; outcome = journal_refused b p script base fault is so },
       record { text = []; written = written; outcome = without_memory (Replay is.bank is.plan is.name) is.asked so.untouched },
     )
-    unopened_so _ written (failed rose) = record { text = []; written = written; outcome = without_journal b p script base is rose }
+    unopened_so _ written (failed so) = record { text = []; written = written; outcome = without_journal b p script base is so }
     unopened_so _ written (out_of_memory untouched) =
         record { text = []; written = written; outcome = without_memory (Replay is.bank is.plan is.name) is.asked untouched }
 
@@ -127,13 +133,38 @@ module _ (words : List (List ℕ)) (o : Outside) (told : Bool) (old : List ℕ) 
     halts_replayed h (inr stops) = stopped_so h stops
 
 pub outcome_checked : (words : List (List ℕ)) (o : Outside) (text bank plan : List ℕ) (b : Tables) (p : Plan) → command_of words ≡ Some (Check bank plan)
-    → Reads o.named o.content bank plan b p → text ≡ bank_line b ++ canonical p → Outcome words o 0 text
-outcome_checked words o text bank plan b p e reads is = subst (λ (t : List ℕ). Outcome words o 0 t) (sym is) (checked bank plan b p e reads)
+    → Reads o.named o.content bank plan b p → IsUntouched o.disk → text ≡ bank_line b ++ canonical p → Outcome words o 0 text
+outcome_checked words o text bank plan b p e reads untouched is = subst (λ (t : List ℕ). Outcome words o 0 t) (sym is) (checked bank plan b p e reads untouched)
 
 pub outcome_assembled : (words : List (List ℕ)) (o : Outside) (text bank plan : List ℕ) (b : Tables) (p : Plan)
-    → command_of words ≡ Some (Assemble bank plan) → Reads o.named o.content bank plan b p → TellsForm b p text → Outcome words o 0 text
-outcome_assembled words o text bank plan b p e reads tells =
-    subst (λ (t : List ℕ). Outcome words o 0 t) (sym tells.is) (form_found bank plan b p tells.problem tells.form tells.proved tells.tree e reads tells.finds)
+    → command_of words ≡ Some (Assemble bank plan) → Reads o.named o.content bank plan b p → IsUntouched o.disk → TellsForm b p text → Outcome words o 0 text
+outcome_assembled words o text bank plan b p e reads untouched tells =
+    subst (λ (t : List ℕ). Outcome words o 0 t) (sym tells.is) (form_found bank plan b p tells.problem tells.form tells.proved tells.tree e reads tells.finds untouched)
+
+-- ---- what is left of the journal
+module _ (words : List (List ℕ)) (o : Outside) where
+  leaves : (status : ℕ) (text : List ℕ) → Outcome words o status text → LeavesJournal words o
+  leaves _ _ (faulty_words e untouched) = as_found untouched
+  leaves _ _ (bank_refused command fault e found is untouched) = as_found untouched
+  leaves _ _ (plan_refused command b fault e found plan_found is of_text refusal untouched) = as_found untouched
+  leaves _ _ (script_refused bank plan name b p fault e reads found of_script refusal untouched) = as_found untouched
+  leaves _ _ (checked bank plan b p e reads untouched) = as_found untouched
+  leaves _ _ (form_found bank plan b p P form proved T e reads finds untouched) = as_found untouched
+  leaves _ _ (without_form command b p T e ready shows untouched) = as_found untouched
+  leaves _ _ (without_base_form command b p T e ready shows untouched) = as_found untouched
+  leaves _ _ (journal_refused b p script base fault is so) = as_found so.untouched
+  leaves _ _ (replayed b p script base H G replies is way) = after_requests b p script base H G [] replies is way
+  leaves _ _ (sessions_full b p script base H G request rest replies count is way why) = after_requests b p script base H G (request ∷ rest) replies is way
+  leaves _ _ (journal_full b p script base H G request rest replies K now size is way full at) = after_requests b p script base H G (request ∷ rest) replies is way
+  leaves _ _ (without_files command e rose untouched) = as_found untouched
+  leaves _ _ (without_journal b p script base is so) = at_opening b p script base is so
+  leaves _ _ (without_disk b p script base H G rest replies is way rose) = after_requests b p script base H G rest replies is way
+  leaves _ _ (without_memory command e untouched) = as_found untouched
+  leaves _ _ (without_more_memory b p script base H G rest replies is way) = after_requests b p script base H G rest replies is way
+
+  pub leaves_journal : (told : Bool) (old new : List ℕ) (status : ℕ) → Ends words o told old new status → LeavesJournal words o
+  leaves_journal told old new status (inl prints) = leaves status prints.text prints.outcome
+  leaves_journal told old new status (inr (_, part)) = leaves part.status (part.text ++ part.rest) part.outcome
 
 -- ---- the statuses
 pub is_2 : IsStatus 2
@@ -285,7 +316,7 @@ rose_so b p base disk script told old new h (inl (unopened, written)) is = unope
   where
     unopened_rose : (h : Halt) → IsUnopened b p disk h → h ≡ halt.Disk → Rose disk.before disk.after
     unopened_rose _ (refused fault so) is = cc
-    unopened_rose _ (failed rose) is = rose
+    unopened_rose _ (failed so) is = so.rose
     unopened_rose _ (out_of_memory untouched) is = cc
 rose_so b p base disk script told old new h (inr stops) is = stopped_rose h stops is
   where
@@ -304,7 +335,7 @@ opened_so b p base disk script told old new h (inl (unopened, written)) before =
   where
     unopened_not : (h : Halt) → IsUnopened b p disk h → IsBeforeJournal h → ⊥
     unopened_not _ (refused fault so) before = before
-    unopened_not _ (failed rose) before = before
+    unopened_not _ (failed so) before = before
     unopened_not _ (out_of_memory untouched) before = before
 opened_so b p base disk script told old new h (inr stops) before = stopped_not h stops before
   where

@@ -1,8 +1,9 @@
 -- A replay over a disk, from its office.
-use Rattle.std.proofs.Common.{◌≡◌, ℕ, ◌≤◌, ◌⊎◌, inl, inr, Bool, List, [], length, Option, Some, None, Result, Err, IfErr, IsTrue, refl, sym, ap, ◌∙◌, subst, arith}
+use Rattle.std.proofs.Common.{◌≡◌, ℕ, ◌≤◌, inr, Bool, List, [], length, Option, None, Result, Err, IfErr, IsTrue, refl, sym, ◌∙◌, subst, arith}
 use Rattle.bank_tables.specs.Tables.{Tables}
 use Rattle.exam_edge.specs.Faults.{Rose}
-use Rattle.exam_edge.specs.Images.{Account, IsImage, AllImages, latest}
+use Rattle.exam_edge.specs.Images.{Account, IsImage, AtEachMoment, IsSettled, latest}
+use Rattle.exam_edge.specs.ImageLaws.{at_end}
 use Rattle.exam_model.specs.Plan.{Plan}
 use Rattle.history_model.specs.declared.entry.Entry.{Entry}
 use Rattle.history_model.specs.declared.request.Reply.{Reply}
@@ -18,20 +19,34 @@ use Rattle.exam_office.specs.Writing.{IsOneOf, as_before, with_doubt, IsMending}
 use Rattle.answer_journal.specs.Journal.{tells_of, accounts_of, faults_of}
 use Rattle.exam_program.specs.declared.halt.Halt.{Halt}
 use Rattle.exam_program.specs.declared.halt.Halt.TheVariants as halt
-use Rattle.exam_program.specs.Outside.{DiskSeen, IsUntouched}
-use Rattle.exam_program.specs.Replays.{IsFileOf, IsGoingOn, IsUnderWay, IsLeftAt, IsFullAt, IsOfFile}
+use Rattle.exam_program.specs.Outside.{DiskSeen, disk_seen, IsUntouched}
+use Rattle.exam_program.specs.Replays.{IsGoingOn, IsLeftAt, IsOpeningFailed}
 use Rattle.exam_program.specs.Stopping.{IsUnopened, refused, failed, out_of_memory, opening_halt, Stops, by_sessions, by_journal, by_disk, by_memory, by_sink, Finishes, GoesOn, IsOfficeAt, IsServed, IsUnserved, IsReplayed, Halted}
-use Rattle.exam_program.specs.Writing.{IsWritten}
 
 -- ---- a journal that was not opened
+-- what a disk says of the moments of a call, said of the last one
+module _ {D : Type 0} (tells : D → Bool) (content : D → List ℕ) (accounts : D → List Account) (faults : D → ℕ) (old new : D) where
+  pub failing_so : (b : Tables) (plan : Plan) → Rose (faults old) (faults new) → (IsTrue (tells old) → IsImage (latest (accounts new)) (content new))
+      → (IsTrue (tells old) → IsSettled (content old) (accounts old) → (H : List Entry) → Stands b plan H (content old) → AtEachMoment (accounts old) (accounts new) (Stands b plan H))
+      → IsOpeningFailed b plan (disk_seen tells content accounts faults old new)
+  failing_so b plan rose image each = record {
+    rose = rose;
+    left = λ t settled H stands. at_end (Stands b plan H) (accounts old) (accounts new) (each t settled H stands) (content new) (image t);
+    images = λ t settled H stands. at_end (Stands b plan H) (accounts old) (accounts new) (each t settled H stands);
+  }
+
+  pub unwritten_so : (IsTrue (tells old) → content new ≡ content old) → (IsTrue (tells old) → AtEachMoment (accounts old) (accounts new) (IsImage (latest (accounts old))))
+      → IsUntouched (disk_seen tells content accounts faults old new)
+  unwritten_so same each = record { left = same; images = λ t. at_end (IsImage (latest (accounts old))) (accounts old) (accounts new) (each t) }
+
 pub unopened_so : (b : Tables) (plan : Plan) (disk : DiskSeen) (f : OpenFault) → (IsTrue disk.told → IsOpenAnswer b plan disk.found f)
-    → (f ≡ fault.Disk → Rose disk.before disk.after) → ((f ≡ fault.Disk → ⊥) → IsUntouched disk) → IsUnopened b plan disk (opening_halt f)
-unopened_so b plan disk fault.Disk answer rose untouched = failed (rose refl)
-unopened_so b plan disk fault.Memory answer rose untouched = out_of_memory (untouched (λ e. cc))
-unopened_so b plan disk (fault.Journal f) answer rose untouched = refused (fault.Journal f) (record { of_file = tt; answer = answer; untouched = untouched (λ e. cc) })
-unopened_so b plan disk (fault.BadRecord at f) answer rose untouched = refused (fault.BadRecord at f) (record { of_file = tt; answer = answer; untouched = untouched (λ e. cc) })
-unopened_so b plan disk (fault.BadTree at) answer rose untouched = refused (fault.BadTree at) (record { of_file = tt; answer = answer; untouched = untouched (λ e. cc) })
-unopened_so b plan disk (fault.Illegal at f) answer rose untouched = refused (fault.Illegal at f) (record { of_file = tt; answer = answer; untouched = untouched (λ e. cc) })
+    → (f ≡ fault.Disk → IsOpeningFailed b plan disk) → ((f ≡ fault.Disk → ⊥) → IsUntouched disk) → IsUnopened b plan disk (opening_halt f)
+unopened_so b plan disk fault.Disk answer so untouched = failed (so refl)
+unopened_so b plan disk fault.Memory answer so untouched = out_of_memory (untouched (λ e. cc))
+unopened_so b plan disk (fault.Journal f) answer so untouched = refused (fault.Journal f) (record { of_file = tt; answer = answer; untouched = untouched (λ e. cc) })
+unopened_so b plan disk (fault.BadRecord at f) answer so untouched = refused (fault.BadRecord at f) (record { of_file = tt; answer = answer; untouched = untouched (λ e. cc) })
+unopened_so b plan disk (fault.BadTree at) answer so untouched = refused (fault.BadTree at) (record { of_file = tt; answer = answer; untouched = untouched (λ e. cc) })
+unopened_so b plan disk (fault.Illegal at f) answer so untouched = refused (fault.Illegal at f) (record { of_file = tt; answer = answer; untouched = untouched (λ e. cc) })
 
 pub no_sink : (f : OpenFault) → opening_halt f ≡ halt.Sink → ⊥
 no_sink fault.Disk e = cc

@@ -1,6 +1,6 @@
 -- One request of a replay: how it ends.
 use Rattle.std.specs.Prelude.{⊤}
-use Rattle.std.proofs.Common.{◌≡◌, ℕ, Bool, true, false, cond, List, [], ◌∷◌, ◌++◌, Option, Some, None, Result, Ok, Err, OnOk, IfErr, IsTrue, nat_lt, ◌==◌, refl, sym, ap, ◌∙◌, subst}
+use Rattle.std.proofs.Common.{◌≡◌, ℕ, Bool, true, false, cond, List, [], ◌∷◌, Option, Some, None, Result, Ok, Err, OnOk, IfErr, IsTrue, nat_lt, ◌==◌, refl, sym, ap, ◌∙◌, subst}
 use Rattle.std.proofs.lemmas.List.{append-nil}
 use Rattle.bank_tables.specs.Tables.{Tables, categories}
 use Rattle.exam_edge.specs.Images.{AllImages, latest}
@@ -20,17 +20,17 @@ use Rattle.history_model.specs.Refusals.{recorded, refusal_of, refusal_of_new, r
 use Rattle.history_model.specs.Entries.{holder}
 use Rattle.history_model.specs.Places.{place}
 use Rattle.history_model.specs.Requests.{Does, DoesUnless, DoesUnrefused}
-use Rattle.exam_office.specs.Asking.{AreGood, IsStoppedBy, Halts, IsDurable, Becomes, done, halted, IsAsked, IsBegunBy, IsOnTheWay, StandsForOne}
+use Rattle.exam_office.specs.Asking.{AreGood, IsStoppedBy, Halts, Becomes, done, halted, IsAsked, IsBegunBy, IsOnTheWay, StandsForOne}
 use Rattle.exam_office.specs.Marks.{history, reach}
 use Rattle.exam_office.specs.Running.{Running}
 use Rattle.exam_office.specs.Writing.{IsOneOf, as_before, with_doubt}
-use Rattle.answer_journal.specs.Journal.{tells_of, accounts_of, faults_of}
+use Rattle.answer_journal.specs.Journal.{tells_of, accounts_of}
 use Rattle.replay_cli.specs.Replies.{line_of}
 use Rattle.exam_program.specs.declared.halt.Halt.{Halt}
 use Rattle.exam_program.specs.declared.halt.Halt.TheVariants as halt
 use Rattle.exam_program.specs.Replays.{halt_of, IsFileOf, IsFullAt}
 use Rattle.exam_program.specs.Stopping.{IsDone, IsStopped, at_sessions, at_journal, at_disk, at_memory, at_line, IsUnprinted}
-use Rattle.exam_program.specs.Writing.{IsWritten, WritesPart}
+use Rattle.exam_program.specs.Writing.{IsWritten}
 
 -- ---- what the tests of a request refuse it for: never the journal's limit, the disk or memory
 abbrev IsTested : Refusal → Type 0

@@ -1,25 +1,23 @@
 -- The requests of a script, one after another.
-use Rattle.std.proofs.Common.{◌≡◌, ℕ, suc, ◌+◌, ◌<◌, ◌≤◌, Bool, List, [], ◌∷◌, ◌++◌, length, take, drop, get_or, drop-cons, None, IsTrue, refl, sym, ap, ◌∙◌, subst, append_assoc, arith}
-use Rattle.std.specs.Prelude.{flat_map}
+use Rattle.std.proofs.Common.{◌≡◌, ℕ, suc, ◌+◌, ◌<◌, ◌≤◌, Bool, List, [], ◌∷◌, ◌++◌, length, take, drop, get_or, drop-cons, IsTrue, refl, sym, ap, ◌∙◌, subst, append_assoc, arith}
 use Rattle.std.proofs.lemmas.List.{append-nil, take-append-drop, take_more}
 use Rattle.std.proofs.lemmas.Grind.{flat_map-append}
 use Rattle.bank_tables.specs.Tables.{Tables}
-use Rattle.exam_edge.specs.Faults.{Rose}
 use Rattle.exam_edge.specs.Images.{AllImages, latest}
 use Rattle.exam_edge.specs.Lent.{IsLent}
 use Rattle.exam_model.specs.Plan.{Plan}
 use Rattle.history_model.specs.declared.entry.Entry.{Entry}
 use Rattle.history_model.specs.declared.request.Reply.{Reply}
 use Rattle.history_model.specs.declared.request.Request.{Request}
-use Rattle.exam_office.specs.Asking.{AreGood, no_more, one_more as good_more, IsGood, IsDurable, IsBegunBy, not_begun, StandsForOne}
+use Rattle.exam_office.specs.Asking.{AreGood, no_more, one_more as good_more, IsDurable, not_begun}
 use Rattle.exam_office.specs.Marks.{history, reach}
 use Rattle.exam_office.specs.Running.{Running}
 use Rattle.exam_office.specs.Writing.{IsSameOffice}
 use Rattle.answer_journal.specs.Journal.{JournalState, tells_of, accounts_of, faults_of, identity_of}
 use Rattle.replay_cli.specs.Replies.{line_of, lines_of}
 use Rattle.exam_program.specs.declared.halt.Halt.{Halt}
-use Rattle.exam_program.specs.Replays.{AreDone, none, one_more, MayBegin, IsFileOf, IsGoingOn}
-use Rattle.exam_program.specs.Stopping.{IsDone, IsAnswered, IsStopped, at_sessions, at_journal, at_disk, at_memory, at_line, Stops, by_sessions, by_journal, by_disk, by_memory, by_sink, GoesOn, IsOfficeAt, IsServed, IsUnserved}
+use Rattle.exam_program.specs.Replays.{AreDone, none, one_more, MayBegin, IsFileOf}
+use Rattle.exam_program.specs.Stopping.{IsDone, IsAnswered, IsStopped, at_sessions, at_journal, at_disk, at_memory, at_line, by_sessions, by_journal, by_disk, by_memory, by_sink, GoesOn, IsServed, IsUnserved}
 use Rattle.exam_program.specs.Writing.{IsWritten, WritesPart}
 
 -- ---- lists

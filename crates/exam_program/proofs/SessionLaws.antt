@@ -1,20 +1,20 @@
 -- The history that a replay leads to is a legal run.
-use Rattle.std.proofs.Common.{◌≡◌, ℕ, ◌<◌, Bool, List, [], ◌∷◌, ◌++◌, Option, Some, None, refl, sym, subst}
+use Rattle.std.proofs.Common.{ℕ, Bool, List, [], ◌∷◌, ◌++◌, Option, Some, None, sym, subst}
 use Rattle.bank_tables.specs.Tables.{Tables}
 use Rattle.exam_model.specs.Plan.{Plan}
 use Rattle.history_model.specs.declared.entry.Entry.{Entry}
 use Rattle.history_model.specs.declared.entry.Entry.TheVariants.{Closed}
 use Rattle.history_model.specs.declared.place.Place.{Place}
-use Rattle.history_model.specs.declared.place.Place.TheVariants.{Pending, Waiting, Complete, Closed as IsClosed}
+use Rattle.history_model.specs.declared.place.Place.TheVariants.{Pending}
 use Rattle.history_model.specs.declared.refusal.Refusal.{Refusal}
 use Rattle.history_model.specs.declared.request.Reply.{Reply}
 use Rattle.history_model.specs.declared.request.Request.{Request}
 use Rattle.history_model.specs.declared.request.Request.TheVariants.{Begin, Answer, Close, Look, Exposure}
-use Rattle.history_model.specs.Legality.{Legal, LegalRun, more}
+use Rattle.history_model.specs.Legality.{LegalRun, more}
 use Rattle.history_model.proofs.CompleteLaws.{complete_meets}
 use Rattle.history_model.specs.Places.{place}
 use Rattle.history_model.specs.Refusals.{refusal_of}
-use Rattle.history_model.specs.Requests.{Begins, RecordsAnswer, Leads, by_begin, by_answer, by_look, Serves, at_once, after_setting_aside, Advances, AdvancesFrom, IsServedBy, DoesUnrefused, DoesUnless, Does}
+use Rattle.history_model.specs.Requests.{Begins, RecordsAnswer, Leads, by_begin, by_answer, by_look, Serves, at_once, after_setting_aside, AdvancesFrom, IsServedBy, DoesUnrefused, DoesUnless}
 use Rattle.exam_program.specs.Laws.{CompleteSessionsMeet}
 use Rattle.exam_program.specs.Replays.{AreDone, none, one_more}
 

@@ -30,7 +30,7 @@ use Rattle.exam_program.specs.Bases.{FindsForm, ShowsNoForm, ShowsNoBase, IsBase
 use Rattle.exam_program.specs.Commands.{Command, Check, Assemble, Replay, command_of, bank_name, plan_name}
 use Rattle.exam_program.specs.Halts.{Reads, IsOfText, IsScriptIn}
 use Rattle.exam_program.specs.Outside.{Outside, IsUntouched}
-use Rattle.exam_program.specs.Replays.{IsUnderWay, IsJournalRefused, IsFullAt, IsLeftAt}
+use Rattle.exam_program.specs.Replays.{IsUnderWay, IsJournalRefused, IsOpeningFailed, IsFullAt, IsLeftAt}
 use Rattle.exam_program.specs.Writing.{IsWritten}
 use Rattle.exam_program.specs.Texts.{usage, disk_failed, journal_text, sessions_limit, journal_limit, no_form, no_base_form, bank_line, form_text}
 
@@ -63,38 +63,39 @@ pub record IsReplayOf (words : List (List ℕ)) (o : Outside) (b : Tables) (p : 
 -- apply, except where forms that are both best lead to other histories; where 12 applies, 11 may too
 pub data Outcome (words : List (List ℕ)) (o : Outside) : ℕ → List ℕ → Type 0 where
   -- the words are not in the table
-  faulty_words : command_of words ≡ None → Outcome words o 2 usage
+  faulty_words : command_of words ≡ None → IsUntouched o.disk → Outcome words o 2 usage
   -- the bank text is there and refused
   bank_refused : (command : Command) (fault : ReadFault) → command_of words ≡ Some command
       → IsTrue (o.named (bank_name command)) → bank_of (o.content (bank_name command)) ≡ Err fault
-      → Outcome words o 3 (bank_text fault)
+      → IsUntouched o.disk → Outcome words o 3 (bank_text fault)
   -- the plan text is there and refused
   plan_refused : (command : Command) (b : Tables) (fault : PlanFault)
       → command_of words ≡ Some command → IsTrue (o.named (bank_name command))
       → IsTrue (o.named (plan_name command)) → bank_of (o.content (bank_name command)) ≡ Ok b
       → IsOfText fault → IsReadFault b (o.content (plan_name command)) fault
-      → Outcome words o 4 (plan_text fault)
+      → IsUntouched o.disk → Outcome words o 4 (plan_text fault)
   -- the script text is there and refused
   script_refused : (bank plan name : List ℕ) (b : Tables) (p : Plan) (fault : ScriptFault)
       → command_of words ≡ Some (Replay bank plan name) → Reads o.named o.content bank plan b p
       → IsTrue (o.named name) → IsOfScript fault → IsScriptFault (o.content name) fault
-      → Outcome words o 5 (script_text fault)
+      → IsUntouched o.disk → Outcome words o 5 (script_text fault)
   -- bank and plan are read: what was understood
   checked : (bank plan : List ℕ) (b : Tables) (p : Plan) → command_of words ≡ Some (Check bank plan)
-      → Reads o.named o.content bank plan b p → Outcome words o 0 (bank_line b ++ canonical p)
+      → Reads o.named o.content bank plan b p → IsUntouched o.disk
+      → Outcome words o 0 (bank_line b ++ canonical p)
   -- a form of the whole problem was found, with its tree
   form_found : (bank plan : List ℕ) (b : Tables) (p : Plan) (P : Problem) (form : List ℕ)
       (proved : Bool) (T : ProofTree) → command_of words ≡ Some (Assemble bank plan)
-      → Reads o.named o.content bank plan b p → FindsForm b p P form proved T
+      → Reads o.named o.content bank plan b p → FindsForm b p P form proved T → IsUntouched o.disk
       → Outcome words o 0 (form_text P form proved T)
   -- no set of items is a form of the whole problem
   without_form : (command : Command) (b : Tables) (p : Plan) (T : ProofTree)
       → command_of words ≡ Some command → IsReady o.named o.content command b p → ShowsNoForm b p T
-      → Outcome words o 11 (no_form T)
+      → IsUntouched o.disk → Outcome words o 11 (no_form T)
   -- the plan has no base, and the base budget was spent with no form found
   without_base_form : (command : Command) (b : Tables) (p : Plan) (T : ProofTree)
       → command_of words ≡ Some command → IsReady o.named o.content command b p → ShowsNoBase b p T
-      → Outcome words o 12 (no_base_form p.base_budget T)
+      → IsUntouched o.disk → Outcome words o 12 (no_base_form p.base_budget T)
   -- the journal is refused
   journal_refused : (b : Tables) (p : Plan) (script : List Request) (base : List ℕ)
       (fault : OpenFault) → IsReplayOf words o b p script base → IsJournalRefused b p o.disk fault
@@ -119,10 +120,10 @@ pub data Outcome (words : List (List ℕ)) (o : Outside) : ℕ → List ℕ → 
       → Outcome words o 13 (lines_of replies ++ journal_limit size p.journal)
   -- the files failed before anything was printed
   without_files : (command : Command) → command_of words ≡ Some command
-      → Rose o.files_before o.files_after → Outcome words o 7 files_failed
-  -- the disk failed while the journal was opened
+      → Rose o.files_before o.files_after → IsUntouched o.disk → Outcome words o 7 files_failed
+  -- the disk failed while the journal was opened, which kept its history
   without_journal : (b : Tables) (p : Plan) (script : List Request) (base : List ℕ)
-      → IsReplayOf words o b p script base → Rose o.disk.before o.disk.after
+      → IsReplayOf words o b p script base → IsOpeningFailed b p o.disk
       → Outcome words o 9 disk_failed
   -- or at the next request
   without_disk : (b : Tables) (p : Plan) (script : List Request) (base : List ℕ) (H G : List Entry)
@@ -158,6 +159,19 @@ pub record PrintsPart (words : List (List ℕ)) (o : Outside) (told : Bool)
 -- status 8 is that of a sink that failed
 abbrev pub Ends : List (List ℕ) → Outside → Bool → List ℕ → List ℕ → ℕ → Type 0
 Ends words o told old new status = (Prints words o told old new status) ⊎ ((status ≡ 8) × PrintsPart words o told old new)
+
+-- ---- what is left of the journal, whatever the status
+-- the file is left as it was found; or the disk failed while the journal was opened, which kept its
+-- history; or the first requests of the script were done, and the file that is left, and each that a
+-- crash may leave, represents the history that they lead to, or that with the first entries of the next
+pub data LeavesJournal (words : List (List ℕ)) (o : Outside) : Type 0 where
+  as_found : IsUntouched o.disk → LeavesJournal words o
+  at_opening : (b : Tables) (p : Plan) (script : List Request) (base : List ℕ)
+      → IsReplayOf words o b p script base → IsOpeningFailed b p o.disk → LeavesJournal words o
+  after_requests : (b : Tables) (p : Plan) (script : List Request) (base : List ℕ)
+      (H G : List Entry) (rest : List Request) (replies : List Reply)
+      → IsReplayOf words o b p script base → IsUnderWay b p base o.disk script H G rest replies
+      → LeavesJournal words o
 
 -- ---- what a command has printed when it halts, before the text of its halt
 pub record PrintsBefore (words : List (List ℕ)) (o : Outside) (told : Bool) (old new : List ℕ)

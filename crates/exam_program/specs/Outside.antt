@@ -1,15 +1,17 @@
 -- What a run finds outside, and what it leaves there.
 use Rattle.std.specs.Prelude.{◌≡◌, ℕ, Bool, IsTrue, List}
-use Rattle.exam_edge.specs.Images.{Account, latest}
+use Rattle.exam_edge.specs.Images.{Account, IsImage, IsWithin, AllImages, settled, latest}
 
 -- the disk of the journal: whether it reports its content, its count of faults before and after,
--- the file that was found and the one that is left, and the account of what a crash may then leave
+-- the file that was found and the one that is left, and the accounts of what a crash might leave
+-- before, and of what it may leave after
 pub record DiskSeen : Type 0 where
   pub told : Bool
   pub before : ℕ
   pub after : ℕ
   pub found : List ℕ
   pub left : List ℕ
+  pub images_before : Account
   pub images : Account
 
 -- the names that have files, what these hold, and the files' count of faults before and after; and
@@ -33,9 +35,16 @@ disk_seen tells content accounts faults old new = record {
   after = faults new;
   found = content old;
   left = content new;
+  images_before = latest (accounts old);
   images = latest (accounts new);
 }
 
--- the file is left as it was found, if the disk reports its content
-abbrev pub IsUntouched : DiskSeen → Type 0
-IsUntouched disk = IsTrue disk.told → disk.left ≡ disk.found
+-- if the disk reports its content, the file is left as it was found, and each file that a crash may
+-- leave is one that it might have left before
+pub record IsUntouched (disk : DiskSeen) : Type 0 where
+  pub left : IsTrue disk.told → disk.left ≡ disk.found
+  pub images : IsTrue disk.told → AllImages (IsImage disk.images_before) disk.images
+
+-- the disk was settled: a crash would have left the file that was found, and nothing else
+abbrev pub WasSettled : DiskSeen → Type 0
+WasSettled disk = IsWithin disk.images_before (settled disk.found)

@@ -2,6 +2,7 @@
 -- request's entries are on the disk.
 use Rattle.std.specs.Prelude.{◌≡◌, ℕ, ◌+◌, ◌<◌, ⊤, Bool, IsTrue, List, [], ◌∷◌, ◌++◌, length, Option, Some, None}
 use Rattle.bank_tables.specs.Tables.{Tables}
+use Rattle.exam_edge.specs.Faults.{Rose}
 use Rattle.exam_edge.specs.Images.{Account, AllImages}
 use Rattle.exam_model.specs.Plan.{Plan}
 use Rattle.history_model.specs.declared.entry.Entry.{Entry}
@@ -21,7 +22,7 @@ use Rattle.exam_office.specs.Opening.{IsOpenAnswer}
 use Rattle.exam_records.specs.Spelling.{payload_of}
 use Rattle.exam_program.specs.declared.halt.Halt.{Halt}
 use Rattle.exam_program.specs.declared.halt.Halt.TheVariants as halt
-use Rattle.exam_program.specs.Outside.{DiskSeen, IsUntouched}
+use Rattle.exam_program.specs.Outside.{DiskSeen, IsUntouched, WasSettled}
 
 -- why a replay ends at a reply, if it does: a limit of the plan, a fault of the disk, or memory
 abbrev pub halt_of : Plan → Reply → Option Halt
@@ -103,3 +104,13 @@ pub record IsJournalRefused (b : Tables) (plan : Plan) (disk : DiskSeen)
   pub of_file : IsOfFile fault
   pub answer : IsTrue disk.told → IsOpenAnswer b plan disk.found fault
   pub untouched : IsUntouched disk
+
+-- ---- a disk that failed while the journal was opened
+-- its count of faults rose; and if it was settled, and its file represented a history, the file that
+-- is left represents that history, and so does each file that a crash may leave
+pub record IsOpeningFailed (b : Tables) (plan : Plan) (disk : DiskSeen) : Type 0 where
+  pub rose : Rose disk.before disk.after
+  pub left : IsTrue disk.told → WasSettled disk → (H : List Entry) → Stands b plan H disk.found
+      → Stands b plan H disk.left
+  pub images : IsTrue disk.told → WasSettled disk → (H : List Entry) → Stands b plan H disk.found
+      → AllImages (Stands b plan H) disk.images

@@ -20,14 +20,14 @@ use Rattle.replay_cli.specs.Replies.{line_of, lines_of}
 use Rattle.exam_program.specs.declared.halt.Halt.{Halt}
 use Rattle.exam_program.specs.declared.halt.Halt.TheVariants as halt
 use Rattle.exam_program.specs.Outside.{DiskSeen, IsUntouched}
-use Rattle.exam_program.specs.Replays.{halt_of, IsGoingOn, IsUnderWay, IsLeftAt, IsFullAt, IsJournalRefused}
+use Rattle.exam_program.specs.Replays.{halt_of, IsGoingOn, IsUnderWay, IsLeftAt, IsFullAt, IsJournalRefused, IsOpeningFailed}
 use Rattle.exam_program.specs.Writing.{IsWritten, WritesPart}
 
 -- why a journal was not opened
 pub data IsUnopened (b : Tables) (plan : Plan) (disk : DiskSeen) : Halt → Type 0 where
   refused : (fault : OpenFault) → IsJournalRefused b plan disk fault
       → IsUnopened b plan disk (halt.Journal fault)
-  failed : Rose disk.before disk.after → IsUnopened b plan disk halt.Disk
+  failed : IsOpeningFailed b plan disk → IsUnopened b plan disk halt.Disk
   out_of_memory : IsUntouched disk → IsUnopened b plan disk halt.Memory
 
 -- why a journal that was not opened ends a replay

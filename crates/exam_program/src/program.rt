@@ -5,7 +5,7 @@ ghost use Rattle.exam_edge.specs.Faults.{Rose};
 ghost use Rattle.exam_edge.specs.Lent.{IsLent};
 ghost use Rattle.exam_program.specs.Commands.{IsReplay, IsOfReplay, command_of, said};
 ghost use Rattle.exam_program.specs.Halts.{IsBeforeJournal};
-ghost use Rattle.exam_program.specs.Outcomes.{Ends, Prints, Halts, IsStatus, IsStatusBefore};
+ghost use Rattle.exam_program.specs.Outcomes.{Ends, Prints, Halts, LeavesJournal, IsStatus, IsStatusBefore};
 ghost use Rattle.exam_program.specs.Outside.{outside, disk_seen};
 
 use crate::command::{Command, command_of};
@@ -16,6 +16,7 @@ use crate::world::{Finish, World};
 use exam_edge::{Disk, Files, Sink};
 use std::alloc::Global;
 
+#[tactic(auto, using(crate::proofs::OutcomeLaws::as_it_is))]
 fn work<F: Files, O: Sink, D: Disk>(
     alloc: Global,
     command: Command<'_>,
@@ -120,6 +121,11 @@ pub fn run<R, F: Files, O: Sink, D: Disk>(
         (outside (F.has world.files) (F.content world.files) (F.faults world.files) (F.faults result.files)
         (disk_seen D.tells D.content D.accounts D.faults world.disk result.disk))
         (O.tells world.out) (O.written world.out) (O.written result.out) result.status }
+    // What is left of the journal, whatever the status.
+    ensures journal { IsTrue (F.tells world.files)
+        → LeavesJournal (map (λ w. string_bytes w) words.now)
+        (outside (F.has world.files) (F.content world.files) (F.faults world.files) (F.faults result.files)
+        (disk_seen D.tells D.content D.accounts D.faults world.disk result.disk)) }
     // The causes, whether they report their content or not.
     ensures faulty { command_of (map (λ w. string_bytes w) words.now) ≡ None
         → (result.status ≡ 2) ⊎ (result.status ≡ 8) }

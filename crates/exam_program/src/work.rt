@@ -43,7 +43,7 @@ pub(crate) fn check<F: Files, O: Sink>(
     plan: &str,
 ) -> Result<(), Halt>
     ensures ok { OnOk result (IsTrue (F.tells files.old) → (words : List (List ℕ)) (disk : DiskSeen)
-        → command_of words ≡ Some (Check bank.now plan.now)
+        → command_of words ≡ Some (Check bank.now plan.now) → IsUntouched disk
         → Prints words (outside (F.has files.old) (F.content files.old) (F.faults files.old) (F.faults files.new) disk)
         (O.tells out.old) (O.written out.old) (O.written out.new) 0) }
     ensures err { IfErr result (λ halt. IsTrue (F.tells files.old) → (words : List (List ℕ)) (disk : DiskSeen)
@@ -80,7 +80,7 @@ pub(crate) fn assemble<F: Files, O: Sink>(
     plan: &str,
 ) -> Result<(), Halt>
     ensures ok { OnOk result (IsTrue (F.tells files.old) → (words : List (List ℕ)) (disk : DiskSeen)
-        → command_of words ≡ Some (Assemble bank.now plan.now)
+        → command_of words ≡ Some (Assemble bank.now plan.now) → IsUntouched disk
         → Prints words (outside (F.has files.old) (F.content files.old) (F.faults files.old) (F.faults files.new) disk)
         (O.tells out.old) (O.written out.old) (O.written out.new) 0) }
     ensures err { IfErr result (λ halt. IsTrue (F.tells files.old) → (words : List (List ℕ)) (disk : DiskSeen)

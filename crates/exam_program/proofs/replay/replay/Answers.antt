@@ -1,7 +1,8 @@
-use Rattle.std.proofs.Common.{◌≡◌, ◌∙◌, ℕ, List, Bool, inl, true, refl, sym, ap, subst}
+use Rattle.std.proofs.Common.{◌≡◌, ◌∙◌, ℕ, List, inl, true, refl, sym, ap, subst}
 use Rattle.bank_tables.specs.Tables.{Tables}
 use Rattle.exam_edge.specs.Images.{latest}
 use Rattle.exam_model.specs.Plan.{Plan}
+use Rattle.exam_office.specs.declared.fault.OpenFault.TheVariants.{Disk as FailedDisk}
 use Rattle.exam_office.specs.Marks.{history}
 use Rattle.exam_office.specs.Writing.{IsMending}
 use Rattle.exam_program.specs.declared.halt.Halt.{Halt}
@@ -10,7 +11,7 @@ use Rattle.exam_program.specs.Halts.{IsBeforeJournal}
 use Rattle.exam_program.specs.Outside.{disk_seen}
 use Rattle.exam_program.specs.Stopping.{Finishes, IsServed, IsUnserved, IsReplayed, Halted}
 use Rattle.exam_program.proofs.OutcomeLaws.{rose_so, opened_so}
-use Rattle.exam_program.proofs.ReplayLaws.{unopened_so, IsHandedBack, finish_so, halted_so, as_given, at_err}
+use Rattle.exam_program.proofs.ReplayLaws.{failing_so, unwritten_so, unopened_so, IsHandedBack, finish_so, halted_so, as_given, at_err}
 use Rattle.exam_program.proofs.RequestLaws.{on_ok, if_err, nothing_written}
 use Rattle.exam_program.proofs.replay.replay.Goals as goal
 
@@ -21,8 +22,12 @@ returns-in-Err-clause-err g c =
     let told = g.O.Sink.tells c.args.out.now in
     let was = g.O.Sink.written c.args.out.now in
     let disk = disk_seen g.D.Disk.tells g.D.Disk.content g.D.Disk.accounts g.D.Disk.faults c.args.disk c.in-Err.disk in
+    let opened = c.in-Err.ensures in
+    let image = λ (t : disk.told ≡ true). g.met.D.Disk.is_image c.in-Err.disk (opened.frame_err.tells ∙ t) in
+    let failed = λ (e : c.in-Err.fault ≡ FailedDisk). failing_so g.D.Disk.tells g.D.Disk.content g.D.Disk.accounts g.D.Disk.faults c.args.disk c.in-Err.disk b plan (opened.cause e) image opened.settled_err in
+    let untouched = λ (e : c.in-Err.fault ≡ FailedDisk → ⊥). unwritten_so g.D.Disk.tells g.D.Disk.content g.D.Disk.accounts g.D.Disk.faults c.args.disk c.in-Err.disk (opened.untouched e) (opened.unwritten e) in
     subst (λ (h : Halt). Halted b plan c.args.base.now disk c.args.requests.now told was was h) (sym c.halt_of_opening.ensures)
-    (inl (unopened_so b plan disk c.in-Err.fault c.in-Err.ensures.why c.in-Err.ensures.cause c.in-Err.ensures.untouched, nothing_written told was))
+    (inl (unopened_so b plan disk c.in-Err.fault opened.why failed untouched, nothing_written told was))
 
 pub returns-clause-ok : goal.returns-clause-ok
 returns-clause-ok g c =

@@ -20,12 +20,12 @@ returns-in-Err-assembly_text-clause-err g c = λ told words disk e untouched.
     halts_at_base words o told_out was (Assemble c.args.bank.now c.args.plan.now) c.in-Ok.exam.bank c.in-Ok.exam.spec c.in-Err-assembly_text.halt e (c.in-Ok.ensures.ok told) untouched c.in-Err-assembly_text.ensures.halts
 
 pub returns-in-Ok-put-clause-ok : goal.returns-in-Ok-put-clause-ok
-returns-in-Ok-put-clause-ok g c = λ told words disk e.
+returns-in-Ok-put-clause-ok g c = λ told words disk e untouched.
     let o = outside (g.F.Files.has c.args.files.now) (g.F.Files.content c.args.files.now) (g.F.Files.faults c.args.files.now) (g.F.Files.faults c.exam_in.new.files) disk in
     let told_out = g.O.Sink.tells c.args.out.now in
     let was = g.O.Sink.written c.args.out.now in
     let tells = subst (λ (t : List ℕ). TellsForm c.in-Ok.exam.bank c.in-Ok.exam.spec t) (sym c.deref.ensures.value) c.in-Ok-assembly_text.ensures.text in
-    let outcome = outcome_assembled words o c.deref.result.now c.args.bank.now c.args.plan.now c.in-Ok.exam.bank c.in-Ok.exam.spec e (c.in-Ok.ensures.ok told) tells in
+    let outcome = outcome_assembled words o c.deref.result.now c.args.bank.now c.args.plan.now c.in-Ok.exam.bank c.in-Ok.exam.spec e (c.in-Ok.ensures.ok told) untouched tells in
     prints words o told_out was (g.O.Sink.written c.put.new.out) c.deref.result.now outcome c.in-Ok-put.ensures.ok
 
 pub returns-clause-err : goal.returns-clause-err
@@ -34,5 +34,5 @@ returns-clause-err g c = λ told words disk e untouched.
     let told_out = g.O.Sink.tells c.args.out.now in
     let was = g.O.Sink.written c.args.out.now in
     let tells = subst (λ (t : List ℕ). TellsForm c.in-Ok.exam.bank c.in-Ok.exam.spec t) (sym c.deref.ensures.value) c.in-Ok-assembly_text.ensures.text in
-    let outcome = outcome_assembled words o c.deref.result.now c.args.bank.now c.args.plan.now c.in-Ok.exam.bank c.in-Ok.exam.spec e (c.in-Ok.ensures.ok told) tells in
+    let outcome = outcome_assembled words o c.deref.result.now c.args.bank.now c.args.plan.now c.in-Ok.exam.bank c.in-Ok.exam.spec e (c.in-Ok.ensures.ok told) untouched tells in
     prints_part words o told_out was (g.O.Sink.written c.put.new.out) c.deref.result.now outcome c.in-Err-put.ensures.err

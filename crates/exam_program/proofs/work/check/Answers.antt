@@ -19,11 +19,11 @@ returns-in_default-clause-err g c = λ told words disk e untouched.
     halts_without_memory words o told_out was (Check c.args.bank.now c.args.plan.now) e untouched
 
 pub returns-in-Ok-put-clause-ok : goal.returns-in-Ok-put-clause-ok
-returns-in-Ok-put-clause-ok g c = λ told words disk e.
+returns-in-Ok-put-clause-ok g c = λ told words disk e untouched.
     let o = outside (g.F.Files.has c.args.files.now) (g.F.Files.content c.args.files.now) (g.F.Files.faults c.args.files.now) (g.F.Files.faults c.exam_in.new.files) disk in
     let told_out = g.O.Sink.tells c.args.out.now in
     let was = g.O.Sink.written c.args.out.now in
-    let outcome = outcome_checked words o c.deref.result.now c.args.bank.now c.args.plan.now c.in-Ok.exam.bank c.in-Ok.exam.spec e (c.in-Ok.ensures.ok told) (c.deref.ensures.value ∙ c.in-Some.ensures) in
+    let outcome = outcome_checked words o c.deref.result.now c.args.bank.now c.args.plan.now c.in-Ok.exam.bank c.in-Ok.exam.spec e (c.in-Ok.ensures.ok told) untouched (c.deref.ensures.value ∙ c.in-Some.ensures) in
     prints words o told_out was (g.O.Sink.written c.put.new.out) c.deref.result.now outcome c.in-Ok-put.ensures.ok
 
 pub returns-clause-err : goal.returns-clause-err
@@ -31,5 +31,5 @@ returns-clause-err g c = λ told words disk e untouched.
     let o = outside (g.F.Files.has c.args.files.now) (g.F.Files.content c.args.files.now) (g.F.Files.faults c.args.files.now) (g.F.Files.faults c.exam_in.new.files) disk in
     let told_out = g.O.Sink.tells c.args.out.now in
     let was = g.O.Sink.written c.args.out.now in
-    let outcome = outcome_checked words o c.deref.result.now c.args.bank.now c.args.plan.now c.in-Ok.exam.bank c.in-Ok.exam.spec e (c.in-Ok.ensures.ok told) (c.deref.ensures.value ∙ c.in-Some.ensures) in
+    let outcome = outcome_checked words o c.deref.result.now c.args.bank.now c.args.plan.now c.in-Ok.exam.bank c.in-Ok.exam.spec e (c.in-Ok.ensures.ok told) untouched (c.deref.ensures.value ∙ c.in-Some.ensures) in
     prints_part words o told_out was (g.O.Sink.written c.put.new.out) c.deref.result.now outcome c.in-Err-put.ensures.err

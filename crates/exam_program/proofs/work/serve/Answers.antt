@@ -1,4 +1,4 @@
-use Rattle.std.proofs.Common.{◌≡◌, ℕ, Bool, List, true, IsTrue, Some, Err, refl, sym, ◌∙◌, ap, subst}
+use Rattle.std.proofs.Common.{◌≡◌, ℕ, Bool, List, true, IsTrue, Some, Err, sym, ◌∙◌, ap, subst}
 use Rattle.history_model.specs.declared.request.Request.{Request}
 use Rattle.exam_program.specs.declared.halt.Halt.{Halt}
 use Rattle.exam_program.specs.declared.halt.Halt.TheVariants.{Files}
@@ -7,7 +7,7 @@ use Rattle.exam_program.specs.Halts.{HaltsAtScript, IsScriptIn}
 use Rattle.exam_program.specs.Outcomes.{IsReplayOf, Prints, Halts}
 use Rattle.exam_program.specs.Outside.{outside, disk_seen}
 use Rattle.exam_program.specs.Stopping.{Finishes, IsReplayed, Halted}
-use Rattle.exam_program.proofs.OutcomeLaws.{rose_later, halts_at_exam, halts_at_script, halts_at_base, prints_replayed, halts_replayed}
+use Rattle.exam_program.proofs.OutcomeLaws.{rose_later, as_it_is, halts_at_exam, halts_at_script, halts_at_base, prints_replayed, halts_replayed}
 use Rattle.exam_program.proofs.RequestLaws.{on_ok, if_err}
 use Rattle.exam_program.proofs.work.serve.Goals as goal
 
@@ -17,7 +17,7 @@ returns-in-Err-clause-err g c = λ told words e.
     let told_out = g.O.Sink.tells c.args.out.now in
     let was = g.O.Sink.written c.args.out.now in
     let asked = Replay c.args.bank.now c.args.plan.now c.args.script.now in
-    halts_at_exam words o told_out was asked c.in-Err.halt e (λ is. c.exam_in.ensures.failed (c.in-Err.is ∙ ap Err is)) (λ t. refl) (c.in-Err.ensures.err told)
+    halts_at_exam words o told_out was asked c.in-Err.halt e (λ is. c.exam_in.ensures.failed (c.in-Err.is ∙ ap Err is)) (as_it_is g.D.Disk.tells g.D.Disk.content g.D.Disk.accounts g.D.Disk.faults c.args.disk) (c.in-Err.ensures.err told)
 
 pub returns-in-Err-script_in-clause-err : goal.returns-in-Err-script_in-clause-err
 returns-in-Err-script_in-clause-err g c = λ told words e.
@@ -29,7 +29,7 @@ returns-in-Err-script_in-clause-err g c = λ told words e.
     let same = c.in-Ok.ensures.content told c.args.script.now in
     let found = subst (λ (has : Bool). HaltsAtScript has (g.F.Files.content c.exam_in.new.files c.args.script.now) c.in-Err-script_in.halt) (c.in-Ok.ensures.names told c.args.script.now) (c.in-Err-script_in.ensures.err there) in
     let rose = λ (is : c.in-Err-script_in.halt ≡ Files). rose_later (g.F.Files.faults c.args.files.now) (g.F.Files.faults c.exam_in.new.files) (g.F.Files.faults c.script_in.new.files) c.in-Ok.ensures.grows (c.script_in.ensures.failed (c.in-Err-script_in.is ∙ ap Err is)) in
-    halts_at_script words o told_out was c.args.bank.now c.args.plan.now c.args.script.now c.in-Ok.exam.bank c.in-Ok.exam.spec c.in-Err-script_in.halt e (c.in-Ok.ensures.ok told) rose (λ t. refl)
+    halts_at_script words o told_out was c.args.bank.now c.args.plan.now c.args.script.now c.in-Ok.exam.bank c.in-Ok.exam.spec c.in-Err-script_in.halt e (c.in-Ok.ensures.ok told) rose (as_it_is g.D.Disk.tells g.D.Disk.content g.D.Disk.accounts g.D.Disk.faults c.args.disk)
     (subst (λ (text : List ℕ). HaltsAtScript (g.F.Files.has c.args.files.now c.args.script.now) text c.in-Err-script_in.halt) same found)
 
 pub returns-in-Err-base_form-clause-err : goal.returns-in-Err-base_form-clause-err
@@ -41,7 +41,7 @@ returns-in-Err-base_form-clause-err g c = λ told words e.
     let there : g.F.Files.tells c.exam_in.new.files ≡ true = c.in-Ok.ensures.tells ∙ told in
     let found : g.F.Files.has c.args.files.now c.args.script.now ≡ true = sym (c.in-Ok.ensures.names told c.args.script.now) ∙ c.in-Ok-script_in.ensures.there there in
     let says : IsScriptIn (g.F.Files.content c.args.files.now c.args.script.now) c.in-Ok-script_in.requests.items = subst (λ (text : List ℕ). IsScriptIn text c.in-Ok-script_in.requests.items) (c.in-Ok.ensures.content told c.args.script.now) (c.in-Ok-script_in.ensures.ok there) in
-    halts_at_base words o told_out was asked c.in-Ok.exam.bank c.in-Ok.exam.spec c.in-Err-base_form.halt e (c.in-Ok.ensures.ok told, found, (c.in-Ok-script_in.requests.items, says)) (λ t. refl) c.in-Err-base_form.ensures.halts
+    halts_at_base words o told_out was asked c.in-Ok.exam.bank c.in-Ok.exam.spec c.in-Err-base_form.halt e (c.in-Ok.ensures.ok told, found, (c.in-Ok-script_in.requests.items, says)) (as_it_is g.D.Disk.tells g.D.Disk.content g.D.Disk.accounts g.D.Disk.faults c.args.disk) c.in-Err-base_form.ensures.halts
 
 pub returns-clause-ok : goal.returns-clause-ok
 returns-clause-ok g c =
