@@ -1,6 +1,6 @@
 //! The program as a library: what the words ask for, the texts of the files, the assembly of a form, the requests of a script
-//! over the journal, the lines and the statuses. Upward it promises, in the contract of the one call `run`, what is printed and with which status, for all words
-//! and all files; it opens no file of the host itself, and waits for nobody.
+//! over the journal, the lines and the statuses. Upward it promises, in the contract of the call `run`, what is printed and with which status, for all words
+//! and all files; it opens no file of the host itself. `run_alone` does the work of each command, and waits for nobody.
 #![tactic(auto)]
 
 mod base;
@@ -18,5 +18,5 @@ mod tree_texts;
 mod work;
 mod world;
 
-pub use program::run;
-pub use world::{Finish, World};
+pub use program::{run, run_alone};
+pub use world::{Finish, Tools, World};

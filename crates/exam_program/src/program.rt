@@ -1,6 +1,6 @@
-//! The program as one call.
+//! The program as one call, and the same call of the commands that wait for nobody.
 
-ghost use Rattle.std.specs.Prelude.{◌≡◌, ℕ, ◌≤◌, ◌⊎◌, List, map, None, Some, OnOk, IfErr, IsTrue, string_bytes};
+ghost use Rattle.std.specs.Prelude.{◌≡◌, ℕ, ◌≤◌, ◌⊎◌, All, List, false, length, map, None, Some, OnOk, IfErr, IsTrue, string_bytes};
 ghost use Rattle.exam_edge.specs.Faults.{Rose};
 ghost use Rattle.exam_edge.specs.Lent.{IsLent};
 ghost use Rattle.exam_program.specs.Commands.{IsReplay, IsOfReplay, command_of, said};
@@ -12,9 +12,11 @@ use crate::command::{Command, command_of};
 use crate::halt::Halt;
 use crate::report::{print, report};
 use crate::work::{assemble, check, serve};
-use crate::world::{Finish, World};
-use exam_edge::{Disk, Files, Sink};
+use crate::world::{Finish, Tools, World};
+use exam_edge::{Disk, Door, Files, Gate, Sink};
 use std::alloc::Global;
+use std::sync::Wait;
+use std::thread::Threads;
 
 #[tactic(auto, using(crate::proofs::OutcomeLaws::as_it_is))]
 fn work<F: Files, O: Sink, D: Disk>(
@@ -103,17 +105,71 @@ fn status_of<F: Files, O: Sink, D: Disk>(
     }
 }
 
-/// Does what the words ask for, which are those after the program's name.
+/// Does what the words ask for, which are those after the program's name, and waits for nobody.
 /// It gives the status to end with: 0 the work was done, 2 the words are not in the table,
 /// 3, 4 and 5 the bank, the plan or the script is refused, 6 the journal represents no history of the bank and the plan,
 /// 7, 8 and 9 a call of the files, the sink or the disk failed, 10 out of memory, 11 no set of items is a form, 12 the plan has
 /// no base and none was found within the base budget, 13 a limit of the plan is met.
-pub fn run<R, F: Files, O: Sink, D: Disk>(
-    _rt: &R,
+pub fn run_alone<F: Files, O: Sink, D: Disk>(
     alloc: Global,
     words: &[String],
-    world: World<F, O, D>,
-) -> Finish<F, O, D>
+    tools: Tools<F, O, D>,
+) -> (u8, Tools<F, O, D>)
+    // If the files report their content: what is printed, and with which status. If the sink reports its content too: that this
+    // is written. If the disk reports its content too: what the journal holds, and what a crash may leave of it.
+    ensures answers { IsTrue (F.tells tools.files)
+        → Ends (map (λ w. string_bytes w) words.now)
+        (outside (F.has tools.files) (F.content tools.files) (F.faults tools.files) (F.faults result.1.files)
+        (disk_seen D.tells D.content D.accounts D.faults tools.disk result.1.disk))
+        (O.tells tools.out) (O.written tools.out) (O.written result.1.out) result.0 }
+    // What is left of the journal, whatever the status.
+    ensures journal { IsTrue (F.tells tools.files)
+        → LeavesJournal (map (λ w. string_bytes w) words.now)
+        (outside (F.has tools.files) (F.content tools.files) (F.faults tools.files) (F.faults result.1.files)
+        (disk_seen D.tells D.content D.accounts D.faults tools.disk result.1.disk)) }
+    // The causes, whether they report their content or not.
+    ensures faulty { command_of (map (λ w. string_bytes w) words.now) ≡ None
+        → (result.0 ≡ 2) ⊎ (result.0 ≡ 8) }
+    ensures usage { result.0 ≡ 2 → command_of (map (λ w. string_bytes w) words.now) ≡ None }
+    ensures files { result.0 ≡ 7 → Rose (F.faults tools.files) (F.faults result.1.files) }
+    ensures sink { result.0 ≡ 8 → Rose (O.faults tools.out) (O.faults result.1.out) }
+    ensures failed { result.0 ≡ 9 → Rose (D.faults tools.disk) (D.faults result.1.disk) }
+    ensures kept { IsStatusBefore result.0 → result.1.disk ≡ tools.disk }
+    ensures unused { (IsOfReplay (command_of (map (λ w. string_bytes w) words.now)) → ⊥)
+        → result.1.disk ≡ tools.disk }
+    ensures status { IsStatus result.0 }
+
+    ensures files_grow { F.faults tools.files ≤ F.faults result.1.files }
+    ensures sink_grows { O.faults tools.out ≤ O.faults result.1.out }
+    ensures files_tell { F.tells result.1.files ≡ F.tells tools.files }
+    ensures sink_tells { O.tells result.1.out ≡ O.tells tools.out }
+    ensures disk { IsLent D.tells D.identity D.faults tools.disk result.1.disk }
+{
+    let Tools {
+        mut files,
+        mut out,
+        disk,
+    } = tools;
+    let (disk, status) = status_of(alloc, words, &mut files, &mut out, disk);
+    (status, Tools { files, out, disk })
+}
+
+/// Does what the words ask for, which are those after the program's name. At most 65,535 doors are given, and no link of
+/// theirs is out. No command uses the doors and the gate yet.
+/// It gives the status to end with: 0 the work was done, 2 the words are not in the table,
+/// 3, 4 and 5 the bank, the plan or the script is refused, 6 the journal represents no history of the bank and the plan,
+/// 7, 8 and 9 a call of the files, the sink or the disk failed, 10 out of memory, 11 no set of items is a form, 12 the plan has
+/// no base and none was found within the base budget, 13 a limit of the plan is met.
+pub fn run<
+    R: Threads + Wait + Sync,
+    F: Files,
+    O: Sink,
+    D: Disk + Send,
+    L: Door + Send,
+    G: Gate + Sync,
+>(_rt: &R, alloc: Global, words: &[String], world: World<F, O, D, L, G>) -> Finish<F, O, D, L>
+    requires few { length world.doors.items ≤ 65535 }
+    requires home { All (λ door. L.is_out door ≡ false) world.doors.items }
     // If the files report their content: what is printed, and with which status. If the sink reports its content too: that this
     // is written. If the disk reports its content too: what the journal holds, and what a crash may leave of it.
     ensures answers { IsTrue (F.tells world.files)
@@ -143,17 +199,22 @@ pub fn run<R, F: Files, O: Sink, D: Disk>(
     ensures files_tell { F.tells result.files ≡ F.tells world.files }
     ensures sink_tells { O.tells result.out ≡ O.tells world.out }
     ensures disk { IsLent D.tells D.identity D.faults world.disk result.disk }
+    ensures doors { result.doors ≡ world.doors }
 {
     let World {
-        mut files,
-        mut out,
+        files,
+        out,
         disk,
+        doors,
+        gate: _,
     } = world;
-    let (disk, status) = status_of(alloc, words, &mut files, &mut out, disk);
+    let (status, tools) = run_alone(alloc, words, Tools { files, out, disk });
+    let Tools { files, out, disk } = tools;
     Finish {
         status,
         files,
         out,
         disk,
+        doors,
     }
 }

@@ -1,18 +1,29 @@
 //! What the program is run on, and what it hands back.
 
-/// The outside: files to read, a sink to print to, and the disk of the journal.
+/// What a command that waits for nobody needs: files to read, a sink to print to, and the disk of the journal.
 #[derive(Drop)]
-pub struct World<F, O, D> {
+pub struct Tools<F, O, D> {
     pub files: F,
     pub out: O,
     pub disk: D,
 }
 
+/// The outside: files, sink and disk, the doors that connections come from, and the gate that may hold a caller.
+#[derive(Drop)]
+pub struct World<F, O, D, L, G> {
+    pub files: F,
+    pub out: O,
+    pub disk: D,
+    pub doors: Vec<L>,
+    pub gate: G,
+}
+
 /// The outside as the program leaves it, with the status to end with.
 #[derive(Drop)]
-pub struct Finish<F, O, D> {
+pub struct Finish<F, O, D, L> {
     pub status: u8,
     pub files: F,
     pub out: O,
     pub disk: D,
+    pub doors: Vec<L>,
 }

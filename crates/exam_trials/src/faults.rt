@@ -67,7 +67,7 @@ fn a_full_sink_keeps_the_journal(rt: HostRuntime) -> Result<(), Fail> {
     Ok(())
 }
 
-/// A failing call of the disk ends the run, and each line that is printed is one of those of a run in which none fails.
+/// A failing call of the disk ends the run, and the journal that is left is one: a run over it goes on.
 #[test]
 fn each_failing_call_of_the_disk(rt: HostRuntime) -> Result<(), Fail> {
     let texts = [BANK_A, PLAN_A, SCRIPT_A];
@@ -81,6 +81,14 @@ fn each_failing_call_of_the_disk(rt: HostRuntime) -> Result<(), Fail> {
         let ran = outcome(&rt, &REPLAY, &texts, &given)?;
         assert_eq!(rt; ran.status, 9, "call {call}");
         assert!(rt; ran.text.ends_with(b"disk failed\n"));
+        let left = Given {
+            journal: &ran.journal,
+            files: &[],
+            sink: &[],
+            disk: &[],
+        };
+        let again = outcome(&rt, &REPLAY, &[BANK_A, PLAN_A, ""], &left)?;
+        assert_eq!(rt; again.status, 0, "call {call}");
     }
     Ok(())
 }

@@ -6,6 +6,8 @@
 #[cfg(test)]
 mod bank_l;
 #[cfg(test)]
+mod doors;
+#[cfg(test)]
 mod faults;
 #[cfg(test)]
 mod outcome;

@@ -1,7 +1,7 @@
 //! The program over files, a sink and a disk in memory.
 
 use exam_edge::{MemoryDisk, MemoryFiles, MemorySink};
-use exam_program::{World, run};
+use exam_program::{Tools, run_alone};
 use std::alloc::{AllocError, AllocGlobal, Global};
 use std::process::Abort;
 use std::test::Fail;
@@ -37,7 +37,7 @@ pub struct Ran {
     pub journal: Vec<u8>,
 }
 
-fn words_of(alloc: Global, words: &[&str]) -> Result<Vec<String>, AllocError> {
+pub fn words_of(alloc: Global, words: &[&str]) -> Result<Vec<String>, AllocError> {
     let mut given = Vec::new(alloc);
     for word in words {
         given.push(String::from_str(alloc, word)?)?;
@@ -60,14 +60,14 @@ fn files_of(alloc: Global, texts: &[&str; 3]) -> Result<Vec<(String, Vec<u8>)>, 
     Ok(files)
 }
 
-fn world_of(
+pub fn tools_of(
     alloc: Global,
     texts: &[&str; 3],
     given: &Given<'_>,
-) -> Result<World<MemoryFiles, MemorySink, MemoryDisk>, AllocError> {
+) -> Result<Tools<MemoryFiles, MemorySink, MemoryDisk>, AllocError> {
     let files = files_of(alloc, texts)?;
     let journal = given.journal.to_vec(alloc)?;
-    Ok(World {
+    Ok(Tools {
         files: MemoryFiles::of(files, given.files.to_vec(alloc)?),
         out: MemorySink::of(alloc, Vec::new(alloc), given.sink.to_vec(alloc)?),
         disk: MemoryDisk::of(alloc, journal, given.disk.to_vec(alloc)?),
@@ -83,12 +83,12 @@ pub fn outcome<R: AllocGlobal>(
 ) -> Result<Ran, AllocError> {
     let alloc = rt.alloc();
     let words = words_of(alloc, words)?;
-    let world = world_of(alloc, texts, given)?;
-    let finish = run(rt, alloc, &words, world);
+    let tools = tools_of(alloc, texts, given)?;
+    let (status, tools) = run_alone(alloc, &words, tools);
     Ok(Ran {
-        status: finish.status,
-        text: finish.out.bytes().to_vec(alloc)?,
-        journal: finish.disk.bytes().to_vec(alloc)?,
+        status,
+        text: tools.out.bytes().to_vec(alloc)?,
+        journal: tools.disk.bytes().to_vec(alloc)?,
     })
 }
 

@@ -1,4 +1,4 @@
-//! The program `shadowd`: it hands the host's files, standard output and the journal's file to `run`, and ends with its status.
+//! The program `shadowd`: it hands the host's files, standard output and the journal's file to `run_alone`, and ends with its status.
 #![tactic(auto)]
 
 ghost use Rattle.std.specs.Prelude.{◌≡◌};
@@ -8,7 +8,7 @@ mod host_disk;
 mod host_files;
 mod host_sink;
 
-use exam_program::{Finish, World, run};
+use exam_program::{Tools, run_alone};
 use host_disk::HostDisk;
 use host_files::HostFiles;
 use host_sink::HostSink;
@@ -42,21 +42,16 @@ fn journal_path(rt: &HostRuntime) -> Result<String, AllocError> {
 }
 
 /// The process ends with the status of the program.
-fn exit_code(finish: Finish<HostFiles, HostSink, HostDisk>) -> ExitCode
-    ensures { exit_status result ≡ finish.status }
+fn exit_code(finish: (u8, Tools<HostFiles, HostSink, HostDisk>)) -> ExitCode
+    ensures { exit_status result ≡ finish.0 }
 {
-    let Finish {
-        status,
-        files: _,
-        out: _,
-        disk: _,
-    } = finish;
+    let (status, _tools) = finish;
     ExitCode::from(status)
 }
 
 /// The host's files, standard output and journal.
-fn world_of(rt: &HostRuntime) -> Result<World<HostFiles, HostSink, HostDisk>, AllocError> {
-    Ok(World {
+fn tools_of(rt: &HostRuntime) -> Result<Tools<HostFiles, HostSink, HostDisk>, AllocError> {
+    Ok(Tools {
         files: HostFiles::of(rt.clone()?),
         out: HostSink::of(rt.stdout()),
         disk: HostDisk::of(rt.clone()?, journal_path(rt)?),
@@ -67,8 +62,8 @@ fn main(rt: HostRuntime) -> ExitCode {
     let Ok(words) = words_of(&rt) else {
         return ExitCode::from(NO_MEMORY);
     };
-    let Ok(world) = world_of(&rt) else {
+    let Ok(tools) = tools_of(&rt) else {
         return ExitCode::from(NO_MEMORY);
     };
-    exit_code(run(&rt, rt.alloc(), &words, world))
+    exit_code(run_alone(rt.alloc(), &words, tools))
 }
