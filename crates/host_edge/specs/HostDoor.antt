@@ -1,0 +1,25 @@
+-- A door of the host.
+use Rattle.std.specs.Prelude.{◌≡◌, ◌-◌, ℕ, Bool, true, Option, Some, None, is_some, nat_lt}
+use Rattle.host_edge.specs.declared.fault_count.FaultCount.{FaultCount}
+use Rattle.host_edge.specs.declared.host_door.HostDoor.{HostDoor}
+
+-- whether it has a listener
+abbrev pub listens : HostDoor → Bool
+listens door = is_some door.listener
+
+-- how many more links it gives, if that is limited
+abbrev pub left_of : HostDoor → Option ℕ
+left_of door = door.left
+
+-- whether a link is out
+abbrev pub out_of : HostDoor → Bool
+out_of door = door.out
+
+-- its faults
+abbrev pub faults_of : HostDoor → FaultCount
+faults_of door = door.faults
+
+-- a link is given only while some are left, and is one less; none is given only where none is left
+abbrev pub IsLinkCounted : Bool → Option ℕ → Option ℕ → Type 0
+IsLinkCounted given None new = (given ≡ true) × (new ≡ None)
+IsLinkCounted given (Some n) new = (given ≡ nat_lt 0 n) × (new ≡ Some (n - 1))

@@ -1,0 +1,6 @@
+pub mod FaultCount
+pub mod HostDisk
+pub mod HostDoor
+pub mod HostFiles
+pub mod HostLink
+pub mod HostSink

@@ -1,0 +1,13 @@
+// Which objects may move to another thread.
+use crate::{HostDisk, HostDoor, HostFiles, HostLink, HostSink};
+
+fn may_move<T: Send>() {}
+
+// It compiles only while each of these types may move.
+fn objects_may_move() {
+    may_move::<HostFiles>();
+    may_move::<HostSink>();
+    may_move::<HostDisk>();
+    may_move::<HostLink>();
+    may_move::<HostDoor>();
+}

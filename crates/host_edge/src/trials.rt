@@ -1,0 +1,86 @@
+// The host's objects on files of a temporary folder and on a socket of the loopback address.
+use crate::{HostDisk, HostDoor, HostFiles, HostSink};
+use exam_edge::{Disk, Door, Files, Link, Sink};
+use std::io::{ErrorKind, Read, Write};
+use std::net::{Net, TcpListener, TcpStream};
+use std::test::Fail;
+use std::{env, fs, process, thread};
+
+// A new folder, and the path of a file in it.
+fn new_folder(rt: &HostRuntime) -> Result<(String, String), Fail> {
+    let alloc = rt.alloc();
+    let temporary = env::temp_dir(rt)?;
+    let place = temporary.as_path().as_str();
+    let number = process::id(rt.process());
+    let folder = format!(in alloc; "{place}/host_edge_{number}")?;
+    fs::create_dir(rt, folder.as_str())?;
+    let path = format!(in alloc; "{place}/host_edge_{number}/journal")?;
+    Ok((folder, path))
+}
+
+#[test]
+fn files_keep_what_was_written(rt: HostRuntime) -> Result<(), Fail> {
+    let (folder, path) = new_folder(&rt)?;
+    let mut buffer = [0u8; 4];
+    let mut disk = HostDisk::of(rt.clone()?, path.clone()?);
+    let wrote = disk.write_at(0, b"abcdef").is_ok() && disk.write_at(4, b"xyz").is_ok();
+    let cut = disk.cut(6).is_ok() && disk.sync().is_ok();
+    assert!(rt; wrote && cut && disk.len() == Ok(6) && disk.read(3, &mut buffer) == Ok(3));
+    assert!(rt;
+        buffer == *b"dxy\0" && disk.read(6, &mut buffer) == Ok(0) && disk.cause().is_none()
+    );
+    let mut files = HostFiles::of(rt.clone()?);
+    assert!(rt; files.read(path.as_str(), 0, &mut buffer) == Ok(4) && buffer == *b"abcd");
+    fs::remove_file(&rt, path.as_str())?;
+    assert!(rt; files.read(path.as_str(), 4, &mut buffer) == Ok(2) && buffer == *b"xycd");
+    assert!(rt; files.read(path.as_str(), 6, &mut buffer) == Ok(0) && files.cause().is_none());
+    assert!(rt; files.read(folder.as_str(), 0, &mut buffer).is_err());
+    assert!(rt;
+        files
+            .cause()
+            .is_some_and(|e| e.kind() == ErrorKind::IsADirectory)
+    );
+    fs::remove_dir(&rt, folder.as_str())?;
+    let mut lost = HostDisk::of(rt.clone()?, path);
+    assert!(rt; lost.sync().is_err() && lost.len().is_err());
+    assert!(rt;
+        lost.cause()
+            .is_some_and(|e| e.kind() == ErrorKind::NotFound)
+    );
+    let mut sink = HostSink::of(rt.stdout());
+    assert!(rt; sink.write(b"") == Ok(0) && sink.write(b"x") == Ok(1) && sink.cause().is_none());
+    Ok(())
+}
+
+#[test]
+fn a_door_gives_its_links(rt: HostRuntime) -> Result<(), Fail> {
+    let listener = TcpListener::bind(&rt, "127.0.0.1:0")?;
+    let address = listener.local_addr()?;
+    let client = thread::spawn(&rt, move || {
+        let mut got = [0u8; 8];
+        let Ok(mut stream) = TcpStream::connect(&rt, address) else {
+            return (0, got);
+        };
+        let _ = stream.write(b"ping");
+        let count = stream.read(&mut got).unwrap_or(0);
+        (count, got)
+    })?;
+    let mut door = HostDoor::of(Some(listener), Some(1));
+    let mut buffer = [0u8; 16];
+    let Ok(Some(mut link)) = door.accept() else {
+        return Err(Fail::new("no link"));
+    };
+    assert!(rt; link.read(&mut buffer) == Ok(4) && buffer.starts_with(b"ping"));
+    assert!(rt; link.write(b"") == Ok(0) && link.write(b"pong!") == Ok(5));
+    door.back(link);
+    assert!(rt; matches!(door.accept(), Ok(None)) && door.cause().is_none());
+    let (count, got) = client.join(&rt);
+    assert!(rt; count == 5 && got.starts_with(b"pong!"));
+    let mut deaf = HostDoor::of(None, Some(0));
+    assert!(rt; deaf.accept().is_err());
+    assert!(rt;
+        deaf.cause()
+            .is_some_and(|e| e.kind() == ErrorKind::NotConnected)
+    );
+    Ok(())
+}
