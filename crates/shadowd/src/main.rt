@@ -1,17 +1,12 @@
-//! The program `shadowd`: it hands the host's files, standard output and the journal's file to `run_alone`, and ends with its status.
+//! The program `shadowd`: it hands the host's files, standard output and the journal's file to `run_alone`, and ends with its status. If
+//! a call of one of them failed, standard error has a line on which, and why.
 #![tactic(auto)]
 
 ghost use Rattle.std.specs.Prelude.{◌≡◌};
 ghost use Rattle.std.specs.Process.{exit_status};
 
-mod host_disk;
-mod host_files;
-mod host_sink;
-
 use exam_program::{Tools, run_alone};
-use host_disk::HostDisk;
-use host_files::HostFiles;
-use host_sink::HostSink;
+use host_edge::{HostDisk, HostFiles, HostSink};
 use std::alloc::AllocError;
 use std::env::VarError;
 use std::io::ErrorKind;
@@ -41,6 +36,32 @@ fn journal_path(rt: &HostRuntime) -> Result<String, AllocError> {
     }
 }
 
+/// The host's files, standard output and journal.
+fn tools_of(
+    rt: &HostRuntime,
+    journal: &str,
+) -> Result<Tools<HostFiles, HostSink, HostDisk>, AllocError> {
+    Ok(Tools {
+        files: HostFiles::of(rt.clone()?),
+        out: HostSink::of(rt.stdout()),
+        disk: HostDisk::of(rt.clone()?, String::from_str(rt.alloc(), journal)?),
+    })
+}
+
+/// Writes a line to standard error for each object of the host of which a call failed.
+fn explain(rt: &HostRuntime, journal: &str, tools: &Tools<HostFiles, HostSink, HostDisk>) {
+    if let Some(cause) = tools.files.cause() {
+        let name = tools.files.refused().unwrap_or("a file");
+        let _ = eprintln!(rt; "shadowd: {name}: {cause}");
+    }
+    if let Some(cause) = tools.out.cause() {
+        let _ = eprintln!(rt; "shadowd: standard output: {cause}");
+    }
+    if let Some(cause) = tools.disk.cause() {
+        let _ = eprintln!(rt; "shadowd: journal {journal}: {cause}");
+    }
+}
+
 /// The process ends with the status of the program.
 fn exit_code(finish: (u8, Tools<HostFiles, HostSink, HostDisk>)) -> ExitCode
     ensures { exit_status result ≡ finish.0 }
@@ -49,21 +70,14 @@ fn exit_code(finish: (u8, Tools<HostFiles, HostSink, HostDisk>)) -> ExitCode
     ExitCode::from(status)
 }
 
-/// The host's files, standard output and journal.
-fn tools_of(rt: &HostRuntime) -> Result<Tools<HostFiles, HostSink, HostDisk>, AllocError> {
-    Ok(Tools {
-        files: HostFiles::of(rt.clone()?),
-        out: HostSink::of(rt.stdout()),
-        disk: HostDisk::of(rt.clone()?, journal_path(rt)?),
-    })
-}
-
 fn main(rt: HostRuntime) -> ExitCode {
-    let Ok(words) = words_of(&rt) else {
+    let (Ok(words), Ok(journal)) = (words_of(&rt), journal_path(&rt)) else {
         return ExitCode::from(NO_MEMORY);
     };
-    let Ok(tools) = tools_of(&rt) else {
+    let Ok(tools) = tools_of(&rt, journal.as_str()) else {
         return ExitCode::from(NO_MEMORY);
     };
-    exit_code(run_alone(rt.alloc(), &words, tools))
+    let finish = run_alone(rt.alloc(), &words, tools);
+    explain(&rt, journal.as_str(), &finish.1);
+    exit_code(finish)
 }
