@@ -48,7 +48,7 @@ def split_reply(data):
 class Connection:
     """A connection on which one request after another is asked. `Lost` where the server is gone."""
 
-    def __init__(self, address, timeout=60):
+    def __init__(self, address, timeout=300):
         self.kept = b""
         try:
             self.socket = socket.create_connection(address, timeout)
@@ -79,7 +79,7 @@ class Connection:
 class Server:
     """A process of `shadowd serve BANK PLAN` on a free port of the loopback address."""
 
-    def __init__(self, program, bank, plan, journal, workers=4, wait=120):
+    def __init__(self, program, bank, plan, journal, workers=4, wait=900):
         env = dict(os.environ, SHADOWD_JOURNAL=journal, SHADOWD_LISTEN="127.0.0.1:0", SHADOWD_WORKERS=str(workers))
         env.pop("SHADOWD_CONNECTIONS", None)
         self.process = subprocess.Popen([*program, "serve", bank, plan], env=env, stdin=subprocess.DEVNULL,

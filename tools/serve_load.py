@@ -64,7 +64,7 @@ class Client:
 
     def ask(self, message):
         """The reply; the request is sent again where its connection is lost."""
-        until = time.monotonic() + 120
+        until = time.monotonic() + 900
         while time.monotonic() < until:
             try:
                 if self.connection is None:
@@ -78,7 +78,7 @@ class Client:
                 with self.load.lock:
                     self.load.lost += 1
                 time.sleep(0.02)
-        raise RuntimeError("no reply in two minutes")
+        raise RuntimeError("no reply in a quarter of an hour")
 
     def session(self, booking):
         """A session from its begin to its end."""
