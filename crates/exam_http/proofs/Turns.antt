@@ -1,5 +1,5 @@
 -- One turn of the loop, and the loop.
-use Rattle.std.proofs.Common.{◌≡◌, ℕ, ◌+◌, ◌≤◌, List, ◌++◌, length, take, drop, refl, sym, ap, subst, ◌∙◌, inl, inr, append_assoc}
+use Rattle.std.proofs.Common.{◌≡◌, ℕ, ◌+◌, ◌≤◌, Bool, List, ◌++◌, length, take, drop, refl, sym, ap, subst, ◌∙◌, inl, inr, append_assoc}
 use Rattle.std.specs.Prelude.{Result, Ok, Err, OnErr}
 use Rattle.std.proofs.Math.Seq.{take-append-add}
 use Rattle.std.proofs.lemmas.List.{take-append-drop, length-take-le}
@@ -12,7 +12,9 @@ use Rattle.exam_http.specs.declared.ended.Ended.TheVariants.{Done, BadInput, Lin
 use Rattle.exam_http.specs.declared.ended.Turn.{Turn}
 use Rattle.exam_http.specs.declared.ended.Turn.TheVariants.{Answered, Over}
 use Rattle.exam_http.specs.Replies.{wire_fault_text}
-use Rattle.exam_http.specs.Serving.{IsCutOff, Turns, Becomes, IsPartOfResponse, Refuses}
+use Rattle.exam_http.specs.declared.message_fault.MessageFault.{MessageFault}
+use Rattle.exam_http.specs.Serving as serving
+use Rattle.exam_http.specs.Serving.{IsCutOff, Turns, Becomes, IsPartOfResponse, Refuses, Gets, IsResponse, LeadsTo, unchanged, then_asked}
 
 pub on_err : {T E : Type 0} (r : Result T E) (P : Type 0) → P → OnErr r P
 on_err (Ok x) P p = tt
@@ -49,6 +51,27 @@ module _ {H : Type 0} (does : H → Request → Reply → H → Type 0) (idles :
   answered_turn bytes text left old new m (Over (BadInput fault)) reads b = absurd b
   answered_turn bytes text left old new m (Over Link) reads b = part_cut bytes text left old new m reads b
   answered_turn bytes text left old new m (Over Memory) reads b = (b.0, part_cut bytes text left old new m reads b.1)
+
+  -- what a message asked leads to the handler after it
+  gets_leads : (asked : Result Request MessageFault) (close : Bool) (old : H) (text : List ℕ) (new : H)
+      → Gets does asked close old text new → LeadsTo does idles old new
+  gets_leads (Ok request) close old text new g = then_asked request g.0 old new unchanged g.1
+  gets_leads (Err fault) close old text new g = subst (λ h. LeadsTo does idles old h) (sym g.0) unchanged
+
+  pub nothing_leads : (start : H) → LeadsTo does idles start start
+  nothing_leads start = unchanged
+
+  pub response_leads : (old : H) (m : Message) (text : List ℕ) (new : H) → IsResponse does old m text new
+      → LeadsTo does idles old new
+  response_leads old m text new r = gets_leads r.asked m.close old text new r.gets
+
+  pub leads_through : (start middle new : H) → LeadsTo does idles start middle → LeadsTo does idles middle new
+      → LeadsTo does idles start new
+  leads_through start middle _ before serving.unchanged = before
+  leads_through start middle _ before (serving.then_asked request reply old new after asked) =
+      then_asked request reply old new (leads_through start middle old before after) asked
+  leads_through start middle _ before (serving.then_idle old new after idle) =
+      serving.then_idle old new (leads_through start middle old before after) idle
 
 -- what was written by two calls
 pub joined : (first middle last texts text : List ℕ) → middle ≡ first ++ texts → last ≡ middle ++ text

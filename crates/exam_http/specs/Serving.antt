@@ -98,6 +98,14 @@ module _ {H : Type 0} (does : H → Request → Reply → H → Type 0) where
       pub ends : Ends state rest last final ended
       pub whole : text ≡ texts ++ last
 
+    -- requests that were done and idle times that passed, one after another, lead from a handler to another. It is what is
+    -- known of a handler where the link does not tell its bytes
+    pub data LeadsTo (start : H) : H → Type 0 where
+      unchanged : LeadsTo start start
+      then_asked : (request : Request) (reply : Reply) (old new : H) → LeadsTo start old → does old request reply new
+          → LeadsTo start new
+      then_idle : (old new : H) → LeadsTo start old → idles old new → LeadsTo start new
+
     -- ---- one turn of the loop
 
     -- what became of the message that the bytes begin with

@@ -3,7 +3,7 @@ ghost use Rattle.std.specs.Prelude.{◌≡◌, ◌≢◌, ◌++◌, ◌⊎◌, L
 ghost use Rattle.exam_edge.specs.Faults.{Rose};
 ghost use Rattle.exam_edge.specs.Lent.{IsLent, FailsOnly};
 ghost use Rattle.wire_http.specs.Messages.{bytes_of};
-ghost use Rattle.exam_http.specs.Serving.{Begins, IsResponse, Becomes, Refuses, Turns, IsServed};
+ghost use Rattle.exam_http.specs.Serving.{Begins, IsResponse, Becomes, Refuses, Turns, IsServed, LeadsTo};
 ghost use Rattle.exam_http.specs.Table.{table};
 
 use crate::asking::request_of;
@@ -74,6 +74,7 @@ fn answer<R: Wait + Sync, H: Handler, K: Link>(
     message: &Message,
 ) -> Turn
     requires { router.now ≡ table }
+    ensures leads { LeadsTo H.does H.idles handler.old handler.new }
     ensures becomes { IsTrue (K.tells link.old) → (text : List ℕ)
         × (K.written link.new ≡ K.written link.old ++ text)
         × Becomes H.does H.idles handler.old message.now text handler.new result }
@@ -115,6 +116,7 @@ fn refuse<K: Link>(alloc: Global, link: &mut K, fault: WireFault) -> Turn
     }
 }
 
+#[tactic(auto, using(crate::proofs::Turns::nothing_leads))]
 // Reads one message and answers it.
 fn serve_message<R: Wait + Sync, H: Handler, K: Link>(
     rt: &R,
@@ -125,6 +127,7 @@ fn serve_message<R: Wait + Sync, H: Handler, K: Link>(
     kept: &mut Kept,
 ) -> Turn
     requires { router.now ≡ table }
+    ensures leads { LeadsTo H.does H.idles handler.old handler.new }
     ensures turns { IsTrue (K.tells link.old) → (text : List ℕ)
         × (K.written link.new ≡ K.written link.old ++ text)
         × Turns H.does H.idles handler.old (bytes_of kept.old ++ K.left link.old) text
@@ -151,6 +154,7 @@ fn serve_all<R: Wait + Sync, H: Handler, K: Link>(
     kept: &mut Kept,
 ) -> Ended
     requires { router.now ≡ table }
+    ensures leads { LeadsTo H.does H.idles handler.old handler.new }
     ensures served { IsTrue (K.tells link.old) → (text : List ℕ)
         × (K.written link.new ≡ K.written link.old ++ text)
         × IsServed H.does H.idles handler.old (bytes_of kept.old ++ K.left link.old) text
@@ -168,13 +172,15 @@ fn serve_all<R: Wait + Sync, H: Handler, K: Link>(
 }
 
 /// Serves one connection to its end: what each message asks is done, and its response written, in order; then the response
-/// of a fault, if there is one. If the link fails or memory runs out, the last response may be cut off.
+/// of a fault, if there is one. If the link fails or memory runs out, the last response may be cut off. Whatever the link
+/// tells of its bytes, nothing but requests and idle time changes the handler.
 pub fn serve_connection<R: Wait + Sync, H: Handler, K: Link>(
     rt: &R,
     alloc: Global,
     handler: &mut H,
     link: &mut K,
 ) -> Ended
+    ensures leads { LeadsTo H.does H.idles handler.old handler.new }
     ensures served { IsTrue (K.tells link.old) → (text : List ℕ)
         × (K.written link.new ≡ K.written link.old ++ text)
         × IsServed H.does H.idles handler.old (K.left link.old) text handler.new result }

@@ -5,6 +5,7 @@
 #![tactic(auto)]
 
 ghost use Rattle.std.specs.Prelude.{◌≡◌, ℕ, true, false, All, MatchBool, length};
+ghost use Rattle.std.specs.Thread.{IsSync};
 ghost use Rattle.exam_workers.specs.Stations.{ServesLink, Serves, Ends, EachServes};
 
 use exam_edge::{Door, Link};
@@ -21,8 +22,10 @@ pub trait Service<K: Link> {
     /// What it does: of the token and the link before, and of both after.
     ghost serves: { Self.Token → K → Self.Token → K → Type 0 };
 
-    /// Serves one link to its end.
+    /// Serves one link to its end. That threads may share `rt` is a clause too: a method of an impl doesn't know it by the
+    /// bound.
     fn serve<R: Wait + Sync>(&self, rt: &R, alloc: Global, token: &mut Self::Token, link: &mut K)
+        requires { IsSync R.row }
         ensures { serves token.old link.old token.new link.new };
 }
 

@@ -1,10 +1,11 @@
 use Rattle.std.proofs.Common.{◌++◌, [], IsTrue, arith, refl, sym, ◌∙◌, append-nil}
-use Rattle.exam_http.specs.Serving.{begun, one_more}
-use Rattle.exam_http.proofs.Turns.{joined}
+use Rattle.exam_http.specs.Serving.{begun, one_more, unchanged}
+use Rattle.exam_http.proofs.Turns.{joined, leads_through}
 use Rattle.exam_http.proofs.serve.serve_all.Goals as goal
 
 pub messages-init : goal.messages-init
 messages-init g c = record {
+  leads = unchanged;
   served = λ tells. ([], sym (append-nil _), begun);
   frame = record { grows = omega arith; tells = refl; identity = refl };
 }
@@ -14,6 +15,7 @@ messages-preserved g c =
     let frame = c.messages.invariant.frame in
     let turn = c.in-Answered.ensures.frame in
     record {
+      leads = leads_through g.H.Handler.does g.H.Handler.idles _ _ _ c.messages.invariant.leads c.in-Answered.ensures.leads;
       served = λ tells.
           let told : IsTrue (g.K.Link.tells c.messages.link) = rw frame.tells tells in
           let before = c.messages.invariant.served tells in
@@ -25,3 +27,7 @@ messages-preserved g c =
         identity = turn.identity ∙ frame.identity;
       };
     }
+
+pub returns-in-Over-clause-leads : goal.returns-in-Over-clause-leads
+returns-in-Over-clause-leads g c =
+    leads_through g.H.Handler.does g.H.Handler.idles _ _ _ c.messages.invariant.leads c.serve_message.ensures.leads

@@ -1,11 +1,12 @@
 use Rattle.std.proofs.Common.{◌≡◌, ◌++◌, ℕ, List, IsTrue}
 use Rattle.exam_edge.specs.Lent.{IsLent}
 use Rattle.wire_http.specs.Messages.{bytes_of}
-use Rattle.exam_http.specs.Serving.{Serves}
+use Rattle.exam_http.specs.Serving.{Serves, LeadsTo}
 use Rattle.exam_http.proofs.serve.serve_all.Given as goal
 
 abbrev pub invariant-messages : goal.invariant-messages
 invariant-messages g l = record {
+  leads : LeadsTo g.H.Handler.does g.H.Handler.idles l.fn.handler l.handler;
   served : IsTrue (g.K.Link.tells l.fn.link) → (texts : List ℕ)
       × (g.K.Link.written l.link ≡ g.K.Link.written l.fn.link ++ texts)
       × Serves g.H.Handler.does g.H.Handler.idles l.fn.handler (bytes_of l.fn.kept ++ g.K.Link.left l.fn.link) texts

@@ -1,5 +1,5 @@
 use Rattle.std.proofs.Common.{[], inl, refl, sym, append-nil}
-use Rattle.exam_http.specs.Serving.{begun}
+use Rattle.exam_http.specs.Serving.{begun, unchanged}
 use Rattle.exam_http.proofs.serve.serve_connection.Goals as goal
 
 pub returns-in-Err-clause-served : goal.returns-in-Err-clause-served
@@ -16,3 +16,6 @@ returns-in-Err-clause-served g c tells = (
     whole = refl;
   },
 )
+
+pub returns-in-Err-clause-leads : goal.returns-in-Err-clause-leads
+returns-in-Err-clause-leads g c = unchanged
