@@ -1,0 +1,246 @@
+-- The first entry of a request.
+use Rattle.std.proofs.Common.{◌≡◌, ◌≢◌, ◌⊎◌, ℕ, zero, suc, ◌+◌, ◌<◌, ◌≤◌, ◌==◌, ◌||◌, Bool, true, false, cond, List, [], ◌∷◌, ◌++◌, length, refl, sym, ap, ◌∙◌, subst, inl, inr, ⊎_elim, arith, Option, Some, None, Result, Ok, Err, IfOk, IfErr, Contains, slice_get, filter_map}
+use Rattle.std.specs.List.{cons_option, list_any}
+use Rattle.std.specs.Option.{option_map}
+use Rattle.std.proofs.lemmas.Bool.{eqb-true}
+use Rattle.std.proofs.lemmas.List.{append-nil}
+use Rattle.std.proofs.lemmas.List.Elements.{Contains-push}
+use Rattle.std.proofs.lemmas.Option.{slice_get-map}
+use Rattle.bank_tables.specs.Tables.{Tables}
+use Rattle.exam_model.specs.Plan.{Plan}
+use Rattle.exam_edge.specs.Lent.{IsLent}
+use Rattle.answer_journal.specs.Journal.{tells_of, faults_of, identity_of}
+use Rattle.history_model.specs.declared.entry.Entry.{Entry}
+use Rattle.history_model.specs.declared.entry.Entry.TheVariants.{Started, SetAside, Served, Answered, Closed}
+use Rattle.history_model.specs.declared.place.Place.{Place}
+use Rattle.history_model.specs.declared.place.Place.TheVariants.{Pending}
+use Rattle.history_model.specs.declared.place.Place.TheVariants as place_is
+use Rattle.history_model.specs.declared.refusal.Refusal.{Refusal}
+use Rattle.history_model.specs.declared.refusal.Refusal.TheVariants.{Memory}
+use Rattle.history_model.specs.declared.request.Exposure.{Exposure as Counts}
+use Rattle.history_model.specs.declared.request.Request.TheVariants.{Begin, Answer, Close, Look, Exposure}
+use Rattle.history_model.specs.declared.request.Reply.TheVariants as reply
+use Rattle.history_model.specs.Entries.{StepAnswer, starts, holder, step_answers}
+use Rattle.history_model.specs.Legality.{Legal, LegalRun}
+use Rattle.history_model.specs.Places.{place}
+use Rattle.history_model.specs.Refusals.{recorded, refusal_of}
+use Rattle.history_model.specs.Requests.{IsExposureOf}
+use Rattle.history_model.proofs.SessionEntries.{session_answer, answers_by}
+use Rattle.history_model.proofs.Ordered.{in_order}
+use Rattle.exam_office.specs.Asking.{reply_of}
+use Rattle.exam_office.specs.declared.mark.Mark.{Mark}
+use Rattle.exam_office.specs.declared.mark.Mark.TheVariants.{Own}
+use Rattle.exam_office.specs.Calls.{Finding, Calls, IsStartFor, FindsAnswer, FindsStart, FindsClosing, IsFreshly, refused_with}
+use Rattle.exam_office.specs.Marks.{history}
+use Rattle.exam_office.specs.Noting.{IsDoubtOf}
+use Rattle.exam_office.specs.Running.{Running}
+use Rattle.exam_office.specs.Writing.{IsSameOffice}
+use Rattle.exam_office.proofs.Advancing.{closed_there}
+use Rattle.exam_hall.specs.Parts.{owns, IsFirst, Fails}
+use Rattle.exam_hall.specs.Leading.{Leads}
+use Rattle.exam_hall.specs.Turns.{Adds, Led}
+use Rattle.exam_hall.proofs.Calls.{CameTo, to_refusal, to_nothing, to_entry, to_failure, Addition, addition, calls_on, settled_by, settles, none_faulty, own_faultless, both_faultless}
+use Rattle.exam_hall.proofs.Moved.{owns_append}
+
+-- ---- a recorded response is in the history
+later_one : (x e : Entry) (H : List Entry) → Contains H e → Contains (x ∷ H) e
+later_one x e H c = (let lt = c.1 in (suc c.0, omega arith, c.2))
+
+answered_at : (s : ℕ) (H : List Entry) (k : ℕ) (a : StepAnswer) → slice_get (filter_map (session_answer s) H) k ≡ Some a → Contains H (Answered s a.step a.response)
+answered_at s [] k a e = absurd (cc)
+answered_at s (Started session booking eligible ∷ H) k a e = later_one (Started session booking eligible) (Answered s a.step a.response) H (answered_at s H k a e)
+answered_at s (SetAside session cause nodes ∷ H) k a e = later_one (SetAside session cause nodes) (Answered s a.step a.response) H (answered_at s H k a e)
+answered_at s (Served session step item form proved nodes ∷ H) k a e = later_one (Served session step item form proved nodes) (Answered s a.step a.response) H (answered_at s H k a e)
+answered_at s (Closed session ∷ H) k a e = later_one (Closed session) (Answered s a.step a.response) H (answered_at s H k a e)
+answered_at s (Answered session step response ∷ H) k a e = by (session == s) refl k (answered_at s H) e
+  where
+    by : (t : Bool) → (session == s) ≡ t → (k : ℕ) → ((j : ℕ) (x : StepAnswer) → slice_get (filter_map (session_answer s) H) j ≡ Some x → Contains H (Answered s x.step x.response)) → slice_get (cons_option (cond t (Some (record { step = step; response = response })) None) (filter_map (session_answer s) H)) k ≡ Some a → Contains (Answered session step response ∷ H) (Answered s a.step a.response)
+    by true is zero ih f =
+        let this : ◌≡◌ {A = StepAnswer} (record { step = step; response = response }) a = cc in
+        let same : session ≡ s = eqb-true session s is in
+        (0, omega arith, ap (λ n. Answered n step response) same ∙ ap (λ (x : StepAnswer). Answered s x.step x.response) this)
+    by true is (suc j) ih f = later_one (Answered session step response) (Answered s a.step a.response) H (ih j a f)
+    by false is j ih f = later_one (Answered session step response) (Answered s a.step a.response) H (ih j a f)
+
+some_of : (o : Option StepAnswer) (response : ℕ) → option_map (λ (a : StepAnswer). a.response) o ≡ Some response → (a : StepAnswer) × (o ≡ Some a) × (a.response ≡ response)
+some_of None response e = absurd (cc)
+some_of (Some a) response e = (a, refl, cc)
+
+pub recorded_there : (b : Tables) (plan : Plan) (H : List Entry) (s step response : ℕ) → LegalRun b plan H → recorded H s step ≡ Some response → Contains H (Answered s step response)
+recorded_there b plan H s step response run e =
+    let a = some_of (slice_get (step_answers H s) step) response (sym (slice_get-map (λ (x : StepAnswer). x.response) (step_answers H s) step) ∙ e) in
+    let number : a.0.step ≡ step = (in_order b plan H s run).answers_steps step a.0 a.1 in
+    let there = answered_at s H step a.0 (ap (λ l. slice_get l step) (sym (answers_by H s)) ∙ a.1) in
+    subst (λ r. Contains H (Answered s step r)) a.2 (subst (λ k. Contains H (Answered s k a.0.response)) number there)
+
+-- ---- each request
+module _ {D : Type 0} (old new : Running D) (same : IsSameOffice old new) (frame : IsLent tells_of identity_of faults_of old.journal new.journal) where
+  abbrev adds : (finds : List Entry → Finding → Type 0) (o : Option Refusal) → Addition old.bank old.plan finds old.marks new.marks o → Adds old new
+  adds finds o a = record { same = same; frame = frame; added = a.added; is = a.is; few = a.few }
+
+  there : (s : ℕ) (at : Place) → place new.plan (history new.marks) s ≡ Some at → place old.plan (history new.marks) s ≡ Some at
+  there s at e = subst (λ (p : Plan). place p (history new.marks) s ≡ Some at) same.plan e
+
+  answer_leads : (s step response : ℕ) (result : Result Place Refusal) (T : List Mark) → LegalRun old.bank old.plan (history new.marks)
+      → CameTo old.bank old.plan (FindsAnswer old.bank old.plan s step response) new.marks T (refused_with result)
+      → IfOk result (λ at. place new.plan (history new.marks) s ≡ Some at) → Leads old.bank old.plan (Answer s step response) new.marks T (reply_of s false result)
+  answer_leads s step response (Ok at) T run (to_nothing says none whole) stands = record {
+    is_at = record {
+      session_is = refl;
+      stands = there s at stands;
+      answered = recorded_there old.bank old.plan (history new.marks) s step response run says.1;
+      fresh_is = sym (ap (λ l. list_any starts l) none);
+      closed = tt;
+      no_fault = whole;
+    };
+    one = inl none;
+    ends = tt;
+  }
+  answer_leads s step response (Ok at) T run (to_entry H e says grown own whole) stands = record {
+    is_at = record {
+      session_is = refl;
+      stands = there s at stands;
+      answered = subst (λ l. Contains l (Answered s step response)) (sym grown) (subst (λ x. Contains (H ++ e ∷ []) x) says.2 (Contains-push H e));
+      fresh_is = sym (ap (λ l. list_any starts l) (own ∙ ap (λ x. x ∷ []) says.2));
+      closed = tt;
+      no_fault = whole;
+    };
+    one = inr (e, own, says.2);
+    ends = tt;
+  }
+  answer_leads s step response (Err q) T run (to_refusal r says none whole) stands = inl (record { test = says; none = none; no_fault = whole })
+  answer_leads s step response (Err q) T run (to_failure r fails none) stands = inr (fails (IsFirst (Answer s step response)) (λ H e says. (says.2, says.3)), none)
+
+  pub answer_led : (s step response : ℕ) (result : Result Place Refusal) → IsDoubtOf old.marks old.doubt → LegalRun old.bank old.plan (history new.marks)
+      → Calls (FindsAnswer old.bank old.plan s step response) old new (refused_with result)
+      → IfOk result (λ at. place new.plan (history new.marks) s ≡ Some at) → Led (Answer s step response) old new (reply_of s false result)
+  answer_led s step response result doubt run calls stands =
+      let finds = FindsAnswer old.bank old.plan s step response in
+      let a = addition old.bank old.plan finds old.marks new.marks (refused_with result) (calls_on old new finds (refused_with result) doubt calls) in
+      record { adds = adds finds (refused_with result) a; leads = answer_leads s step response result a.added run a.came stands }
+
+  closing_leads : (s : ℕ) (result : Result Place Refusal) (T : List Mark)
+      → CameTo old.bank old.plan (FindsClosing old.bank old.plan s) new.marks T (refused_with result)
+      → IfOk result (λ at. place new.plan (history new.marks) s ≡ Some at) → Leads old.bank old.plan (Close s) new.marks T (reply_of s false result)
+  closing_leads s (Ok at) T (to_nothing says none whole) stands = absurd says
+  closing_leads s (Ok at) T (to_entry H e says grown own whole) stands =
+      let legal = subst (λ x. Legal old.bank old.plan H x) says.1 says.2 in
+      let ended : place old.plan (history new.marks) s ≡ Some place_is.Closed =
+      subst (λ l. place old.plan l s ≡ Some place_is.Closed) (sym (grown ∙ ap (λ x. H ++ x ∷ []) says.1)) (closed_there old.plan H s legal.at legal.stands) in
+      record {
+        is_at = record {
+          session_is = refl;
+          stands = there s at stands;
+          answered = tt;
+          fresh_is = sym (ap (λ l. list_any starts l) (own ∙ ap (λ x. x ∷ []) says.1));
+          closed = subst (λ l. Contains l (Closed s)) (sym own) (0, omega arith, says.1);
+          no_fault = whole;
+        };
+        one = inr (e, own, says.1);
+        ends = λ k is. never k (sym ended ∙ (there s at stands ∙ ap (λ p. Some p) is));
+      }
+    where
+      never : (k : ℕ) → ◌≡◌ {A = Option Place} (Some place_is.Closed) (Some (Pending k)) → ⊥
+      never k e = cc
+  closing_leads s (Err q) T (to_refusal r says none whole) stands = inl (record { test = says; none = none; no_fault = whole })
+  closing_leads s (Err q) T (to_failure r fails none) stands = inr (fails (IsFirst (Close s)) (λ H e says. (says.1, says.2)), none)
+
+  pub closing_led : (s : ℕ) (result : Result Place Refusal) → IsDoubtOf old.marks old.doubt → Calls (FindsClosing old.bank old.plan s) old new (refused_with result)
+      → IfOk result (λ at. place new.plan (history new.marks) s ≡ Some at) → Led (Close s) old new (reply_of s false result)
+  closing_led s result doubt calls stands =
+      let finds = FindsClosing old.bank old.plan s in
+      let a = addition old.bank old.plan finds old.marks new.marks (refused_with result) (calls_on old new finds (refused_with result) doubt calls) in
+      record { adds = adds finds (refused_with result) a; leads = closing_leads s result a.added a.came stands }
+
+  start_starts : (booking : ℕ) (e : Entry) → IsStartFor booking e → starts e ≡ true
+  start_starts booking e h = ap starts h.is
+
+  -- a booking that was begun
+  pub begin_led : (booking session : ℕ) (fresh : Bool) (at : Place) → holder (history new.marks) booking ≡ Some session → IsFreshly old new booking fresh
+      → place new.plan (history new.marks) session ≡ Some at → Led (Begin booking) old new (reply.At session at fresh)
+  begin_led booking session false at held how stands =
+      let s = settles old.marks new.marks (settled_by old.marks new.marks old.doubt how) in
+      record {
+        adds = record { same = same; frame = frame; added = s.added; is = s.is; few = (let n = s.few in omega arith) };
+        leads = record {
+          is_at = record { session_is = held; stands = there session at stands; answered = tt; fresh_is = sym (ap (λ l. list_any starts l) s.none); closed = tt; no_fault = s.no_fault };
+          one = inl s.none;
+          ends = tt;
+        };
+      }
+  begin_led booking session true at held how stands =
+      let mid = how.0 in
+      let e = how.1 in
+      let size = how.2 in
+      let s = settles old.marks mid (settled_by old.marks mid old.doubt how.3) in
+      let own : owns (s.added ++ Own e size ∷ []) ≡ e ∷ [] = owns_append s.added (Own e size ∷ []) ∙ ap (λ l. l ++ e ∷ []) s.none in
+      record {
+        adds = record {
+          same = same;
+          frame = frame;
+          added = s.added ++ Own e size ∷ [];
+          is = how.4 ∙ (ap (λ l. l ++ Own e size ∷ []) s.is ∙ Rattle.std.proofs.Common.append_assoc old.marks s.added (Own e size ∷ []));
+          few = (let n = s.few in let l = Rattle.std.proofs.Common.length-append s.added (Own e size ∷ []) in omega arith);
+        };
+        leads = record {
+          is_at = record {
+            session_is = held;
+            stands = there session at stands;
+            answered = tt;
+            fresh_is = sym (ap (λ l. list_any starts l) own ∙ ap (λ t. t || false) (start_starts booking e how.5));
+            closed = tt;
+            no_fault = both_faultless s.added (Own e size ∷ []) s.no_fault (own_faultless e size);
+          };
+          one = inr (e, own, how.5);
+          ends = tt;
+        };
+      }
+
+  refused_leads : (booking : ℕ) (q : Refusal) (o : Option Refusal) (T : List Mark) → o ≡ Some q → CameTo old.bank old.plan (FindsStart old.bank old.plan booking) new.marks T o
+      → Leads old.bank old.plan (Begin booking) new.marks T (reply.Refused q)
+  refused_leads booking q o T is (to_nothing says none whole) = absurd (cc)
+  refused_leads booking q o T is (to_entry H e says grown own whole) = absurd (cc)
+  refused_leads booking q o T is (to_refusal r says none whole) =
+      let same_r : r ≡ q = cc in
+      inl (record { test = subst (λ x. refusal_of old.bank old.plan (history new.marks) (Begin booking) ≡ Some x) same_r says; none = none; no_fault = whole })
+  refused_leads booking q o T is (to_failure r fails none) =
+      let same_r : r ≡ q = cc in
+      inr (subst (λ x. Fails old.bank old.plan (IsFirst (Begin booking)) new.marks T x) same_r (fails (IsFirst (Begin booking)) (λ H e says. (says.2, says.3))), none)
+
+  pub begin_refused : (booking : ℕ) (q : Refusal) → IsDoubtOf old.marks old.doubt → Calls (FindsStart old.bank old.plan booking) old new (Some q) → Led (Begin booking) old new (reply.Refused q)
+  begin_refused booking q doubt calls =
+      let finds = FindsStart old.bank old.plan booking in
+      let a = addition old.bank old.plan finds old.marks new.marks (Some q) (calls_on old new finds (Some q) doubt calls) in
+      record { adds = adds finds (Some q) a; leads = refused_leads booking q (Some q) a.added refl a.came }
+
+-- a request that only looks
+module _ {D : Type 0} (now : Running D) where
+  abbrev still : Adds now now
+  still = record {
+    same = record { bank = refl; plan = refl; base = refl; opened = refl };
+    frame = record { grows = omega arith; tells = refl; identity = refl };
+    added = [];
+    is = sym (append-nil now.marks);
+    few = omega arith;
+  }
+
+  pub look_led : (s : ℕ) (result : Result Place Refusal) → IfOk result (λ at. place now.plan (history now.marks) s ≡ Some at)
+      → IfErr result (λ r. refusal_of now.bank now.plan (history now.marks) (Look s) ≡ Some r) → Led (Look s) now now (reply_of s false result)
+  look_led s (Ok at) stands refuses = record {
+    adds = still;
+    leads = record {
+      is_at = record { session_is = refl; stands = stands; answered = tt; fresh_is = refl; closed = tt; no_fault = none_faulty };
+      one = inl refl;
+      ends = tt;
+    };
+  }
+  look_led s (Err r) stands refuses = record { adds = still; leads = inl (record { test = refuses; none = refl; no_fault = none_faulty }) }
+
+  pub exposure_led : (counts : Counts) → IsExposureOf now.bank now.plan (history now.marks) counts → Led Exposure now now (reply.Exposure counts)
+  exposure_led counts is = record { adds = still; leads = record { asked = refl; is_exposure = is; none = refl; no_fault = none_faulty } }
+
+  pub exposure_stopped : (r : Refusal) → r ≡ Memory → Led Exposure now now (reply.Refused r)
+  exposure_stopped r is = subst (λ x. Led Exposure now now (reply.Refused x)) (sym is) (record { adds = still; leads = inr (none_faulty, refl) })
+
+pub legal_before : {D : Type 0} (old new : Running D) → IsSameOffice old new → LegalRun new.bank new.plan (history new.marks) → LegalRun old.bank old.plan (history new.marks)
+legal_before old new same run = subst (λ (p : Plan). LegalRun old.bank p (history new.marks)) same.plan (subst (λ (b : Tables). LegalRun b new.plan (history new.marks)) same.bank run)

@@ -1,0 +1,9 @@
+pub mod Went
+pub mod Passes
+pub mod Moved
+pub mod Calls
+pub mod Leading
+pub mod Commits
+pub mod Served
+pub mod Seen
+pub mod Turning

@@ -1,0 +1,233 @@
+-- The turns of a request, one after another.
+use Rattle.std.proofs.Common.{◌≡◌, ◌≢◌, ℕ, Bool, true, List, [], ◌∷◌, ◌++◌, length, refl, sym, ap, ◌∙◌, subst, inl, inr, ⊎_elim, arith, append_assoc, Some, Result, Ok, Err, IfOk, length-append}
+use Rattle.std.proofs.lemmas.Bool.{cases_Bool, true≢false}
+use Rattle.std.proofs.lemmas.List.{append-nil}
+use Rattle.bank_tables.specs.Tables.{Tables}
+use Rattle.exam_model.specs.Plan.{Plan}
+use Rattle.exam_model.specs.Forms.{Meets}
+use Rattle.exam_model.specs.Problem.{Problem as Model}
+use Rattle.bank_tables.specs.Items.{has}
+use Rattle.constraint_model.specs.Views.{problem_of}
+use Rattle.branch_bound.specs.Assembled.{Assembly}
+use Rattle.branch_bound.specs.Assemblies.{IsAssembly}
+use Rattle.history_model.specs.SessionProblems.{IsProblemOf}
+use Rattle.exam_office.specs.Serving.{IsAssembledFor}
+use Rattle.exam_office.proofs.Assembling.{assembled_so}
+use Rattle.constraint_model.specs.declared.problem.Problem.{Problem}
+use Rattle.history_model.specs.declared.entry.Entry.{Entry}
+use Rattle.history_model.specs.declared.place.Place.{Place}
+use Rattle.history_model.specs.declared.refusal.Refusal.{Refusal}
+use Rattle.history_model.specs.declared.refusal.Refusal.TheVariants.{NoSession, WrongStep, Other, BadResponse, IsClosed, Stale, SessionsFull, JournalFull, Disk, Memory}
+use Rattle.history_model.specs.Entries.{is_set_aside}
+use Rattle.history_model.specs.Legality.{LegalRun}
+use Rattle.history_model.specs.Places.{place}
+use Rattle.turn_lock.specs.Histories.{StartsWith, places}
+use Rattle.turn_lock.specs.Passes.{Known, TakesTurn}
+use Rattle.exam_office.specs.declared.mark.Mark.{Mark}
+use Rattle.exam_office.specs.declared.mark.Mark.TheVariants.{Fault}
+use Rattle.exam_office.specs.Marks.{history}
+use Rattle.exam_office.specs.Noting.{NotedMark, marks_of}
+use Rattle.exam_hall.specs.Known.{HallKnown, marked, IsOf, IsOfficeOf, HasOpening}
+use Rattle.exam_hall.specs.Went.{Went, taken}
+use Rattle.exam_hall.specs.Parts.{owns, NoFault, AtMostOne, IsAside, IsServing, IsCommitted, Fails}
+use Rattle.exam_hall.specs.Leading.{IsAsked, GoesOn}
+use Rattle.exam_hall.specs.Rounds.{EndsRound, Rounds, Assembles}
+use Rattle.exam_hall.specs.declared.committing.Round.{Round}
+use Rattle.exam_hall.specs.declared.committing.Round.TheVariants.{Placed, Again, Failed}
+use Rattle.exam_hall.proofs.Went.{went_once, went_nowhere, went_through, taken_once, taken_both, starts_through}
+use Rattle.exam_hall.proofs.Passes.{turn_marked, opening_later, opening_office}
+use Rattle.exam_hall.proofs.Calls.{cancel, none_faulty, both_faultless}
+use Rattle.exam_hall.proofs.Moved.{history_append, owns_append, aside_stays, others_moved}
+use Rattle.exam_hall.proofs.Commits.{flag_is}
+
+-- ---- one turn of a pass on the hall's office
+module _ (h : HallKnown) (old new : Known NotedMark) (before : List NotedMark) (t : TakesTurn old new before) (is : IsOf old h)
+    (makes : Tables → Plan → List Mark → List Mark → Type 0) (g : GoesOn before new.seen (λ office S T. makes office.bank office.plan S T)) where
+  abbrev turned : TakesTurn (marked old) (marked new) (marks_of before)
+  turned = turn_marked old new before t
+
+  abbrev pub here : List ℕ
+  here = places (length (marks_of before)) (length turned.grows.0)
+
+  pub went_here : Went (marked old) (marked new) (length (marks_of new.seen) ∷ []) here
+  went_here = went_once (marked old) (marked new) (marks_of before) turned
+
+  office_is : IsOfficeOf g.office h
+  office_is =
+      let o : HasOpening before h = opening_later before old.seen h t.begins is.opening in
+      opening_office g.office (marks_of before) h (subst (λ l. HasOpening l h) g.from o)
+
+  on_hall : (F : Tables → Plan → Type 0) → F g.office.bank g.office.plan → F h.bank h.plan
+  on_hall F x = subst (λ p. F h.bank p) office_is.plan (subst (λ b. F b g.office.plan) office_is.bank x)
+
+  pub legal_here : LegalRun h.bank h.plan (history (marks_of new.seen))
+  legal_here = on_hall (λ b p. LegalRun b p (history (marks_of new.seen))) g.run
+
+  added_here : g.added ≡ taken (marks_of new.seen) here
+  added_here = cancel (marks_of before) g.added turned.grows.0 (sym g.is ∙ turned.grows.1) ∙ sym (taken_once (marked old) (marked new) (marks_of before) turned)
+
+  pub made_here : makes h.bank h.plan (marks_of new.seen) (taken (marks_of new.seen) here)
+  made_here = subst (λ T. makes h.bank h.plan (marks_of new.seen) T) added_here (on_hall (λ b p. makes b p (marks_of new.seen) g.added) g.made)
+
+-- ---- one assembly
+pub rounds_turn : (h : HallKnown) (old new : Known NotedMark) (before : List NotedMark) → TakesTurn old new before → IsOf old h → (P : Problem) (round : Round)
+    → GoesOn before new.seen (λ office S T. EndsRound office.bank office.plan P S T round) → Rounds h P (marked old) (marked new) round
+rounds_turn h old new before t is P round g =
+    let makes : Tables → Plan → List Mark → List Mark → Type 0 = λ b p S T. EndsRound b p P S T round in
+    record {
+      places = here h old new before t is makes g;
+      fronts = length (marks_of new.seen) ∷ [];
+      went = went_here h old new before t is makes g;
+      few = omega arith;
+      legal = legal_here h old new before t is makes g;
+      ends = made_here h old new before t is makes g;
+    }
+
+-- an assembly for which there was no memory
+pub rounds_nowhere : (h : HallKnown) (P : Problem) (p : Known Mark) → LegalRun h.bank h.plan (history p.seen) → Rounds h P p p (Failed Memory)
+rounds_nowhere h P p run = record { places = []; fronts = []; went = went_nowhere p; few = omega arith; legal = run; ends = (none_faulty, refl) }
+
+-- ---- up to two assemblies
+pub fails_more : (b : Tables) (plan : Plan) (K L : Entry → Type 0) → ((e : Entry) → K e → L e) → (S A T : List Mark) (r : Refusal) → NoFault A → Fails b plan K S T r → Fails b plan L S (A ++ T) r
+fails_more b plan K L w S A T (NoSession count) n h = absurd h
+fails_more b plan K L w S A T (WrongStep k) n h = absurd h
+fails_more b plan K L w S A T (Other k) n h = absurd h
+fails_more b plan K L w S A T (BadResponse k) n h = absurd h
+fails_more b plan K L w S A T (IsClosed at) n h = absurd h
+fails_more b plan K L w S A T (Stale at flag) n h = absurd h
+fails_more b plan K L w S A T (SessionsFull count) n h = absurd h
+fails_more b plan K L w S A T (JournalFull l) n h = ((h.0.0, w h.0.0 h.0.1, h.0.2), both_faultless A T n h.1)
+fails_more b plan K L w S A T Disk n h = record {
+  front = h.front;
+  before = A ++ h.before;
+  entry = h.entry;
+  last = h.last;
+  added = ap (λ l. A ++ l) h.added ∙ sym (append_assoc A h.before (Fault h.entry ∷ []));
+  cause = ⊎_elim (λ d. inl d) (λ p. inr (w h.entry p.0, p.1)) h.cause;
+}
+fails_more b plan K L w S A T Memory n h = both_faultless A T n h
+
+aside_through : (F S : List Mark) (s : ℕ) → StartsWith S F → is_set_aside (history F) s ≡ true → is_set_aside (history S) s ≡ true
+aside_through F S s h a = ap (λ l. is_set_aside (history l) s) h.1 ∙ (ap (λ l. is_set_aside l s) (history_append F h.0) ∙ aside_stays (history F) (history h.0) s a)
+
+no_third : (F S U : List Mark) (s : ℕ) (p a b : Bool) → StartsWith S F → StartsWith U S → is_set_aside (history F) s ≡ p → is_set_aside (history S) s ≡ a → is_set_aside (history U) s ≡ b → a ≢ p → b ≢ a → ⊥
+no_third F S U s p a b fs su pe ae be n m = ⊎_elim
+    (λ t. m (sym be ∙ (aside_through S U s su (ae ∙ t) ∙ sym t)))
+    (λ f. ⊎_elim
+    (λ t. true≢false (sym (aside_through F S s fs (pe ∙ t)) ∙ (ae ∙ f)))
+    (λ g. n (f ∙ sym g))
+    (cases_Bool p))
+    (cases_Bool a)
+
+module _ (h : HallKnown) (P : Problem) (old : Known Mark) (asked : IsAsked h.bank h.plan (history old.seen) P) (run : LegalRun h.bank h.plan (history old.seen)) where
+  pub once_done : (new : Known Mark) (at : Place) → Rounds h P old new (Placed at) → Assembles h P.session old new (Ok at)
+  once_done new at r = record {
+    places = r.places;
+    fronts = r.fronts;
+    went = r.went;
+    few = (let f = r.few in omega arith);
+    legal = r.legal;
+    serves = record {
+      stands = r.ends.stands;
+      aside = [];
+      serving = owns (taken new.seen r.places);
+      is = refl;
+      one_aside = inl refl;
+      one_serving = r.ends.one;
+      moved = λ step e.
+          (let o = r.ends.other step e in
+          others_moved h.bank h.plan P.session old.seen new.seen r.places P.step step r.went.seen run r.legal (inl o.1) asked.is_problem.pending (r.ends.stands ∙ ap (λ p. Some p) e) o.0);
+      no_fault = r.ends.no_fault;
+    };
+  }
+
+  pub once_failed : (new : Known Mark) (refusal : Refusal) → Rounds h P old new (Failed refusal) → Assembles h P.session old new (Err refusal)
+  once_failed new refusal r = record {
+    places = r.places;
+    fronts = r.fronts;
+    went = r.went;
+    few = (let f = r.few in omega arith);
+    legal = r.legal;
+    serves = (r.ends.0, inl r.ends.1);
+  }
+
+  module _ (Q : Problem) (mid new : Known Mark) (r : Rounds h P old mid (Again Q)) where
+    pub twice_done : (at : Place) → Rounds h Q mid new (Placed at) → Assembles h P.session old new (Ok at)
+    twice_done at q =
+        let same = r.ends.session in
+        let both = taken_both old mid new r.fronts q.fronts r.places q.places r.went q.went in
+        let T = taken mid.seen r.places in
+        let U = taken new.seen q.places in
+        let own : owns (taken new.seen (r.places ++ q.places)) ≡ owns T ++ owns U = ap owns both ∙ owns_append T U in
+        let stands : place h.plan (history new.seen) P.session ≡ Some at = subst (λ s. place h.plan (history new.seen) s ≡ Some at) same q.ends.stands in
+        record {
+          places = r.places ++ q.places;
+          fronts = r.fronts ++ q.fronts;
+          went = went_through old mid new r.fronts q.fronts r.places q.places r.went q.went;
+          few = (let f = r.few in let g = q.few in let l = length-append r.fronts q.fronts in omega arith);
+          legal = q.legal;
+          serves = record {
+            stands = stands;
+            aside = owns T;
+            serving = owns U;
+            is = own;
+            one_aside = r.ends.one;
+            one_serving = subst (λ s. AtMostOne (IsServing s) (owns U)) same q.ends.one;
+            moved = λ step e.
+                (let o = q.ends.other step e in
+                let asides : AtMostOne (IsAside P.session) (owns (taken new.seen (r.places ++ q.places))) =
+                subst (λ l. AtMostOne (IsAside P.session) l) (sym (own ∙ (ap (λ l. owns T ++ l) o.1 ∙ append-nil (owns T)))) r.ends.one in
+                others_moved h.bank h.plan P.session old.seen new.seen (r.places ++ q.places) P.step step (starts_through old.seen mid.seen new.seen r.went.seen q.went.seen) run q.legal asides asked.is_problem.pending
+                (stands ∙ ap (λ p. Some p) e) (λ s. o.0 (s ∙ sym r.ends.step)));
+            no_fault = subst NoFault (sym both) (both_faultless T U r.ends.no_fault q.ends.no_fault);
+          };
+        }
+
+    pub twice_failed : (refusal : Refusal) → Rounds h Q mid new (Failed refusal) → Assembles h P.session old new (Err refusal)
+    twice_failed refusal q =
+        let both = taken_both old mid new r.fronts q.fronts r.places q.places r.went q.went in
+        let T = taken mid.seen r.places in
+        let U = taken new.seen q.places in
+        let own : owns (taken new.seen (r.places ++ q.places)) ≡ owns T = ap owns both ∙ (owns_append T U ∙ (ap (λ l. owns T ++ l) q.ends.1 ∙ append-nil (owns T))) in
+        record {
+          places = r.places ++ q.places;
+          fronts = r.fronts ++ q.fronts;
+          went = went_through old mid new r.fronts q.fronts r.places q.places r.went q.went;
+          few = (let f = r.few in let g = q.few in let l = length-append r.fronts q.fronts in omega arith);
+          legal = q.legal;
+          serves = (
+            subst (λ l. Fails h.bank h.plan (IsCommitted P.session) new.seen l refusal) (sym both)
+                (fails_more h.bank h.plan (IsCommitted P.session) (IsCommitted P.session) (λ e k. k) new.seen T U refusal r.ends.no_fault
+                (subst (λ s. Fails h.bank h.plan (IsCommitted s) new.seen U refusal) r.ends.session q.ends.0)),
+            subst (λ l. AtMostOne (IsAside P.session) l) (sym own) r.ends.one,
+          );
+        }
+
+    pub never_thrice : (R : Problem) → Rounds h Q mid new (Again R) → ⊥
+    never_thrice R q =
+        let same = r.ends.session in
+        let also = q.ends.session ∙ same in
+        no_third old.seen mid.seen new.seen P.session P.aside Q.aside R.aside r.went.seen q.went.seen
+        (sym (flag_is h.bank h.plan (history old.seen) P asked.is_problem))
+        (subst (λ s. is_set_aside (history mid.seen) s ≡ Q.aside) same (sym (flag_is h.bank h.plan (history mid.seen) Q r.ends.asked.is_problem)))
+        (subst (λ s. is_set_aside (history new.seen) s ≡ R.aside) also (sym (flag_is h.bank h.plan (history new.seen) R q.ends.asked.is_problem)))
+        r.ends.aside q.ends.aside
+
+-- ---- an assembly
+-- what was assembled for a problem with its plan's budget and the base as the hint
+pub assembled_here : (h : HallKnown) → Meets h.bank h.plan (has h.base) → (P : Problem) (a : Assembly) (n : ℕ) → a.problem ≡ P → a.budget ≡ n → n ≡ P.spec.now.budget → IsAssembly (problem_of P) (Some (has h.base)) n a.tree a.outcome
+    → (H : List Entry) → LegalRun h.bank h.plan H → IsProblemOf h.bank h.plan H P.session P.step (problem_of P) → IsAssembledFor h.bank h.plan h.base H P.session a
+assembled_here h meets P a n same budget number is H run asked =
+    let plan_is : P.spec.now ≡ h.plan = ap (λ (R : Model). R.plan) asked.of_seat.is in
+    assembled_so h.bank h.plan h.base H P.session run meets a
+    (subst (λ (R : Problem). IsProblemOf h.bank h.plan H P.session R.step (problem_of R)) (sym same) asked)
+    (budget ∙ (number ∙ ap (λ (p : Plan). p.budget) plan_is))
+    n
+    (subst (λ (R : Problem). IsAssembly (problem_of R) (Some (has h.base)) n a.tree a.outcome) (sym same) is)
+
+pub assembled_result : {E : Type 0} (h : HallKnown) → Meets h.bank h.plan (has h.base) → (P Q : Problem) → Q ≡ P → (n : ℕ) → n ≡ P.spec.now.budget → (r : Result Assembly E)
+    → IfOk r (λ a. a.problem ≡ Q) → IfOk r (λ a. a.budget ≡ n) → IfOk r (λ a. IsAssembly (problem_of Q) (Some (has h.base)) n a.tree a.outcome)
+    → IfOk r (λ a. (H : List Entry) → LegalRun h.bank h.plan H → IsProblemOf h.bank h.plan H P.session P.step (problem_of P) → IsAssembledFor h.bank h.plan h.base H P.session a)
+assembled_result h meets P Q same n number (Ok a) problem budget is =
+    λ H run asked. assembled_here h meets P a n (problem ∙ same) budget number (subst (λ (R : Problem). IsAssembly (problem_of R) (Some (has h.base)) n a.tree a.outcome) same is) H run asked
+assembled_result h meets P Q same n number (Err e) problem budget is = tt

@@ -1,0 +1,11 @@
+use Rattle.exam_hall.proofs.Turning.{grows_by, committable_now, commit_made}
+use Rattle.exam_hall.proofs.committing.CommitTurnMoveOffice.make.Goals as goal
+
+pub commit_to-round-requires : goal.commit_to-round-requires
+commit_to-round-requires g c = committable_now g.D.Disk.faults c.args.value.now c.args.self.now.assembled c.requires
+
+pub returns-clause-grows : goal.returns-clause-grows
+returns-clause-grows g c = grows_by g.D.Disk.faults c.args.value.now c.commit_to-round.new.office c.commit_to-round.ensures.adds
+
+pub returns-clause-makes : goal.returns-clause-makes
+returns-clause-makes g c = commit_made g.D.Disk.faults c.args.value.now c.commit_to-round.new.office c.args.self.now.assembled c.commit_to-round.result c.commit_to-round.ensures c.keeps.ensures.run

@@ -1,0 +1,7 @@
+use Rattle.exam_hall.proofs.Seen.{begun_turn}
+use Rattle.exam_hall.proofs.hall.Hall.begin.Goals as goal
+
+pub returns-clause-begun : goal.returns-clause-begun
+returns-clause-begun g c =
+    let t = c.turn.ensures.turn in
+    begun_turn c.args.self.now c.args.pass.now c.turn.new.pass t.0 t.1 c.requires.of c.args.request.now c.turn.result t.2

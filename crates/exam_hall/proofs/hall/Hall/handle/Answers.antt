@@ -1,0 +1,14 @@
+use Rattle.exam_hall.specs.Known.{marked}
+use Rattle.exam_hall.proofs.Seen.{sees_done, sees_served, sees_failed}
+use Rattle.exam_hall.proofs.hall.Hall.handle.Goals as goal
+
+pub returns-in-Done-clause-sees : goal.returns-in-Done-clause-sees
+returns-in-Done-clause-sees g c = sees_done c.args.self.now (marked c.args.pass.now) (marked c.begin.new.pass) c.args.request.now c.in-Done.reply c.in-Done.ensures.begun
+
+pub returns-in-Ok-clause-sees : goal.returns-in-Ok-clause-sees
+returns-in-Ok-clause-sees g c =
+    sees_served c.args.self.now (marked c.args.pass.now) (marked c.begin.new.pass) (marked c.assemble_twice.new.pass) c.args.request.now c.in-Waits.fresh c.in-Waits.problem c.in-Waits.ensures.begun c.in-Ok.place c.in-Ok.ensures.assembles
+
+pub returns-in-Err-clause-sees : goal.returns-in-Err-clause-sees
+returns-in-Err-clause-sees g c =
+    sees_failed c.args.self.now (marked c.args.pass.now) (marked c.begin.new.pass) (marked c.assemble_twice.new.pass) c.args.request.now c.in-Waits.fresh c.in-Waits.problem c.in-Waits.ensures.begun c.in-Err.refusal c.in-Err.ensures.assembles

@@ -1,0 +1,144 @@
+-- The parts of what a request does on a shared hall.
+use Rattle.std.specs.Prelude.{◌≡◌, ◌≢◌, ◌⊎◌, ℕ, ◌≤◌, List, [], ◌∷◌, ◌++◌, length, slice_get, All, Contains, Option, Some, None}
+use Rattle.std.specs.List.{filter_map}
+use Rattle.bank_tables.specs.Tables.{Tables}
+use Rattle.exam_model.specs.Plan.{Plan}
+use Rattle.history_model.specs.declared.entry.Entry.{Entry}
+use Rattle.history_model.specs.declared.entry.Entry.TheVariants.{SetAside, Served, Answered, Closed}
+use Rattle.history_model.specs.declared.refusal.Refusal.{Refusal}
+use Rattle.history_model.specs.declared.refusal.Refusal.TheVariants.{JournalFull, Disk, Memory}
+use Rattle.history_model.specs.declared.request.Request.{Request}
+use Rattle.history_model.specs.declared.request.Request.TheVariants.{Begin, Answer, Close, Look, Exposure}
+use Rattle.history_model.specs.Entries.{holder}
+use Rattle.history_model.specs.Legality.{Legal}
+use Rattle.history_model.specs.Refusals.{refusal_of}
+use Rattle.exam_office.specs.declared.mark.Mark.{Mark}
+use Rattle.exam_office.specs.declared.mark.Mark.TheVariants.{Own, Fault}
+use Rattle.exam_office.specs.Calls.{IsTooLong, IsStartFor}
+use Rattle.exam_office.specs.Marks.{entry_of, history}
+use Rattle.exam_office.specs.Noting.{EndsInFault}
+
+-- ---- marks
+-- the entry of an Own mark
+abbrev pub own_of : Mark → Option Entry
+own_of (Own entry size) = Some entry
+own_of mark = None
+
+abbrev pub owns : List Mark → List Entry
+owns T = filter_map own_of T
+
+abbrev pub NoFault : List Mark → Type 0
+NoFault T = All (λ m. (e : Entry) → m ≢ Fault e) T
+
+-- ---- the entries of a request
+abbrev pub AtMostOne : {A : Type 0} → (A → Type 0) → List A → Type 0
+AtMostOne {A} P xs = (xs ≡ []) ⊎ ((x : A) × (xs ≡ x ∷ []) × P x)
+
+-- the entry that a request may add first
+abbrev pub IsFirst : Request → Entry → Type 0
+IsFirst (Begin booking) e = IsStartFor booking e
+IsFirst (Answer session step response) e = e ≡ Answered session step response
+IsFirst (Close session) e = e ≡ Closed session
+IsFirst (Look session) e = ⊥
+IsFirst Exposure e = ⊥
+
+-- eligibility is set aside for the session; an item is served in it; an item is answered
+abbrev pub IsAside : ℕ → Entry → Type 0
+IsAside s (SetAside session cause nodes) = session ≡ s
+IsAside s e = ⊥
+
+abbrev pub IsServing : ℕ → Entry → Type 0
+IsServing s (Served session step item form proved nodes) = session ≡ s
+IsServing s e = ⊥
+
+abbrev pub IsAnswer : ℕ → Entry → Type 0
+IsAnswer s (Answered session step response) = session ≡ s
+IsAnswer s e = ⊥
+
+-- the session of a request, after the history H: for a booking, the one that the booking has
+abbrev pub IsSessionOf : List Entry → Request → ℕ → Type 0
+IsSessionOf H (Begin booking) s = holder H booking ≡ Some s
+IsSessionOf H (Answer session step response) s = s ≡ session
+IsSessionOf H (Close session) s = s ≡ session
+IsSessionOf H (Look session) s = s ≡ session
+IsSessionOf H Exposure s = ⊥
+
+-- the session that a request may serve
+abbrev pub IsServedFor : List Entry → Request → ℕ → Type 0
+IsServedFor H (Close session) s = ⊥
+IsServedFor H q s = IsSessionOf H q s
+
+-- E has the entries of the request: its first one, then a setting aside, then a serving; or a part of them
+pub record IsPartOf (H : List Entry) (q : Request) (E : List Entry) : Type 0 where
+  pub first : List Entry
+  pub aside : List Entry
+  pub serving : List Entry
+  pub is : E ≡ first ++ (aside ++ serving)
+  pub one_first : AtMostOne (IsFirst q) first
+  pub one_aside : AtMostOne (λ e. (s : ℕ) × IsServedFor H q s × IsAside s e) aside
+  pub one_serving : AtMostOne (λ e. (s : ℕ) × IsServedFor H q s × IsServing s e) serving
+
+-- the same, and an entry of the request is not there: its serving, or for a closing its only one
+pub record LacksServing (H : List Entry) (q : Request) (E : List Entry) : Type 0 where
+  pub first : List Entry
+  pub aside : List Entry
+  pub is : E ≡ first ++ aside
+  pub one_first : AtMostOne (IsFirst q) first
+  pub one_aside : AtMostOne (λ e. (s : ℕ) × IsServedFor H q s × IsAside s e) aside
+
+abbrev pub IsUnfinished : List Entry → Request → List Entry → Type 0
+IsUnfinished H (Close session) E = E ≡ []
+IsUnfinished H Exposure E = E ≡ []
+IsUnfinished H q E = LacksServing H q E
+
+-- an entry that a commit for the session may add; one that the request may add
+abbrev pub IsCommitted : ℕ → Entry → Type 0
+IsCommitted s e = IsAside s e ⊎ IsServing s e
+
+abbrev pub IsWanted : List Entry → Request → Entry → Type 0
+IsWanted H q e = IsFirst q e ⊎ ((s : ℕ) × IsServedFor H q s × IsCommitted s e)
+
+-- ---- other callers
+-- the marks S after their beginning F have, at a place that isn't one of the call's own entries, an entry that passes P
+pub record HasOther (P : Entry → Type 0) (F S : List Mark) (own : List ℕ) : Type 0 where
+  pub at : ℕ
+  pub mark : Mark
+  pub entry : Entry
+  pub later : length F ≤ at
+  pub there : slice_get S at ≡ Some mark
+  pub is : entry_of mark ≡ Some entry
+  pub passes : P entry
+  pub not_own : Contains own at → own_of mark ≡ None
+
+-- other callers served the session and answered in it
+abbrev pub MovedOn : ℕ → List Mark → List Mark → List ℕ → Type 0
+MovedOn s F S own = HasOther (IsServing s) F S own × HasOther (IsAnswer s) F S own
+
+-- ---- why a request is not done
+-- the first test of the request that fails on the history; nothing was added
+pub record IsRefusedBy (b : Tables) (plan : Plan) (q : Request) (S T : List Mark) (r : Refusal) : Type 0 where
+  pub test : refusal_of b plan (history S) q ≡ Some r
+  pub none : owns T ≡ []
+  pub no_fault : NoFault T
+
+module _ (b : Tables) (plan : Plan) (comes_next : Entry → Type 0) where
+  -- the journal would be above its limit with a record of the next entry that may follow
+  abbrev pub IsFull : List Mark → ℕ → Type 0
+  IsFull S size = (e : Entry) × comes_next e × IsTooLong b plan S e size
+
+  -- the last mark, which this call added, is a fault: of the next entry, which may follow, or of the entry that was in doubt
+  -- before it
+  pub record EndsInDoubt (S T : List Mark) : Type 0 where
+    pub front : List Mark
+    pub before : List Mark
+    pub entry : Entry
+    pub last : S ≡ front ++ Fault entry ∷ []
+    pub added : T ≡ before ++ Fault entry ∷ []
+    pub cause : EndsInFault front entry ⊎ (comes_next entry × Legal b plan (history front) entry)
+
+  -- why the next entry was not added
+  abbrev pub Fails : List Mark → List Mark → Refusal → Type 0
+  Fails S T Disk = EndsInDoubt S T
+  Fails S T (JournalFull size) = IsFull S size × NoFault T
+  Fails S T Memory = NoFault T
+  Fails S T r = ⊥

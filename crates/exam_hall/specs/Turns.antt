@@ -1,0 +1,70 @@
+-- What a call of the office does, as a part of a turn.
+use Rattle.std.specs.Prelude.{◌≡◌, ⊤, ℕ, ◌≤◌, List, [], ◌∷◌, ◌++◌, length, Some}
+use Rattle.bank_tables.specs.Tables.{Tables}
+use Rattle.exam_model.specs.Plan.{Plan}
+use Rattle.exam_edge.specs.Lent.{IsLent}
+use Rattle.answer_journal.specs.Journal.{tells_of, faults_of, identity_of}
+use Rattle.constraint_model.specs.declared.problem.Problem.{Problem}
+use Rattle.history_model.specs.declared.entry.Entry.{Entry}
+use Rattle.history_model.specs.declared.request.Request.{Request}
+use Rattle.history_model.specs.declared.request.Reply.{Reply}
+use Rattle.history_model.specs.declared.request.Reply.TheVariants as reply
+use Rattle.exam_office.specs.declared.mark.Mark.{Mark}
+use Rattle.exam_office.specs.Running.{Running}
+use Rattle.exam_office.specs.Writing.{IsSameOffice}
+use Rattle.history_model.specs.declared.place.Place.{Place}
+use Rattle.history_model.specs.declared.place.Place.TheVariants.{Pending}
+use Rattle.history_model.specs.Legality.{LegalRun}
+use Rattle.history_model.specs.Places.{place}
+use Rattle.turn_lock.specs.Passes.{Known}
+use Rattle.exam_office.specs.Marks.{history}
+use Rattle.exam_hall.specs.Known.{HallKnown}
+use Rattle.exam_hall.specs.Went.{Went, taken}
+use Rattle.exam_hall.specs.Leading.{Leads, IsAsked, IsNoWait, IsBegun}
+use Rattle.exam_hall.specs.Rounds.{EndsRound}
+use Rattle.exam_hall.specs.declared.committing.Round.{Round}
+use Rattle.exam_hall.specs.declared.committing.Round.TheVariants.{Placed, Again, Failed}
+use Rattle.exam_hall.specs.declared.asking.Begun.{Begun}
+use Rattle.exam_hall.specs.declared.asking.Begun.TheVariants.{Done, Waits}
+
+-- the office is the same, with at most two marks more
+pub record Adds {D : Type 0} (old new : Running D) : Type 0 where
+  pub same : IsSameOffice old new
+  pub frame : IsLent tells_of identity_of faults_of old.journal new.journal
+  pub added : List Mark
+  pub is : new.marks ≡ old.marks ++ added
+  pub few : length added ≤ 2
+
+-- the first entry of a request was added where it was not there yet
+pub record Led {D : Type 0} (q : Request) (old new : Running D) (answer : Reply) : Type 0 where
+  pub adds : Adds old new
+  pub leads : Leads old.bank old.plan q new.marks adds.added answer
+
+-- the session of the reply is at the place of the reply
+abbrev pub IsPlacedReply : Plan → List Entry → Reply → Type 0
+IsPlacedReply plan H (reply.At session at fresh) = place plan H session ≡ Some at
+IsPlacedReply plan H answer = ⊤
+
+-- the problem of the session of the reply, where it waits for an item
+abbrev pub IsBegunAt : Tables → Plan → List Entry → Reply → Begun → Type 0
+IsBegunAt b plan H answer (Done same) = (same ≡ answer) × IsNoWait answer
+IsBegunAt b plan H (reply.At session at fresh) (Waits started P) = (P.session ≡ session) × (started ≡ fresh) × IsAsked b plan H P
+IsBegunAt b plan H answer (Waits started P) = ⊥
+
+-- where a session is after a commit for the problem P: at this place, or it still waits for the item of that step
+abbrev pub IsRoundAt : Tables → Plan → List Entry → Problem → Place → Round → Type 0
+IsRoundAt b plan H P at (Placed same) = (same ≡ at) × (at ≡ Pending P.step → ⊥)
+IsRoundAt b plan H P at (Again next) = IsAsked b plan H next × (next.session ≡ P.session) × (next.step ≡ P.step)
+IsRoundAt b plan H P at (Failed r) = ⊥
+
+-- what was assembled for the problem was committed, where the session still waited for it
+pub record Ended {D : Type 0} (P : Problem) (old new : Running D) (round : Round) : Type 0 where
+  pub adds : Adds old new
+  pub ends : EndsRound old.bank old.plan P new.marks adds.added round
+
+-- what the first turn of a request does to a pass
+pub record HasBegun (h : HallKnown) (old new : Known Mark) (q : Request) (begun : Begun) : Type 0 where
+  pub places : List ℕ
+  pub went : Went old new (length new.seen ∷ []) places
+  pub legal : LegalRun h.bank h.plan (history new.seen)
+  pub begins : IsBegun h.bank h.plan q new.seen (taken new.seen places) begun

@@ -1,0 +1,155 @@
+//! The first turn of a request.
+
+ghost use Rattle.std.specs.Prelude.{◌≡◌, false};
+ghost use Rattle.history_model.specs.declared.request.Request.TheVariants.{Begin, Answer, Close, Look, Exposure};
+ghost use Rattle.exam_hall.specs.Leading.{BeginsRequest};
+ghost use Rattle.exam_hall.specs.Turns.{IsBegunAt, IsPlacedReply, Led};
+ghost use Rattle.exam_office.specs.Asking.{reply_of};
+ghost use Rattle.exam_office.specs.Marks.{history};
+
+use constraint_model::Problem;
+use exam_edge::Disk;
+use exam_office::{Office, Place, Refusal, Reply, Request};
+use std::alloc::Global;
+use turn_lock::Move as TurnMove;
+
+/// What the first turn of a request did.
+#[derive(Drop)]
+pub enum Begun<'a> {
+    /// The request is done, with this reply.
+    Done(Reply),
+    /// Its session waits for an item, with this problem; and whether the request started the session.
+    Waits { fresh: bool, problem: Problem<'a> },
+}
+
+/// Asks an office for the first entry of a request, and for the problem of its session.
+#[derive(Drop)]
+pub(crate) struct First {
+    pub(crate) alloc: Global,
+    pub(crate) request: Request,
+}
+
+/// The reply of a place or a refusal.
+fn replied(session: u32, found: Result<Place, Refusal>) -> Reply
+    ensures { result ≡ reply_of session false found }
+{
+    match found {
+        Ok(place) => Reply::At {
+            session,
+            place,
+            fresh: false,
+        },
+        Err(refusal) => Reply::Refused(refusal),
+    }
+}
+
+fn begin<'a, D: Disk>(office: &mut Office<'a, D>, alloc: Global, booking: u64) -> Reply
+    ensures { Led (Begin booking) office.old office.new result }
+{
+    office.keeps();
+    let begun = office.begin(alloc, booking);
+    match begun {
+        Ok(begun) => match office.look(begun.session) {
+            Ok(place) => Reply::At {
+                session: begun.session,
+                place,
+                fresh: begun.fresh,
+            },
+            Err(_) => unreachable!(),
+        },
+        Err(refusal) => Reply::Refused(refusal),
+    }
+}
+
+fn answer<'a, D: Disk>(
+    office: &mut Office<'a, D>,
+    alloc: Global,
+    session: u32,
+    step: u16,
+    response: u8,
+) -> Reply
+    ensures { Led (Answer session step response) office.old office.new result }
+{
+    office.keeps();
+    let found = office.answer(alloc, session, step, response);
+    office.keeps();
+    replied(session, found)
+}
+
+fn close<'a, D: Disk>(office: &mut Office<'a, D>, alloc: Global, session: u32) -> Reply
+    ensures { Led (Close session) office.old office.new result }
+{
+    office.keeps();
+    let found = office.close(alloc, session);
+    replied(session, found)
+}
+
+fn look<'a, D: Disk>(office: &Office<'a, D>, session: u32) -> Reply
+    ensures { Led (Look session) office.now office.now result }
+{
+    replied(session, office.look(session))
+}
+
+fn exposure<'a, D: Disk>(office: &Office<'a, D>, alloc: Global) -> Reply
+    ensures { Led Exposure office.now office.now result }
+{
+    match office.exposure(alloc) {
+        Ok(exposure) => Reply::Exposure(exposure),
+        Err(refusal) => Reply::Refused(refusal),
+    }
+}
+
+fn lead<'a, D: Disk>(office: &mut Office<'a, D>, alloc: Global, request: &Request) -> Reply
+    ensures { Led request.now office.old office.new result }
+{
+    match request {
+        Request::Begin(booking) => begin(office, alloc, *booking),
+        Request::Answer {
+            session,
+            step,
+            response,
+        } => answer(office, alloc, *session, *step, *response),
+        Request::Close(session) => close(office, alloc, *session),
+        Request::Look(session) => look(office, *session),
+        Request::Exposure => exposure(office, alloc),
+    }
+}
+
+/// The problem of the session of a reply, where it waits for an item.
+fn begun_by<'a, D: Disk>(office: &Office<'a, D>, reply: Reply) -> Begun<'a>
+    requires { IsPlacedReply office.now.plan (history office.now.marks) reply }
+    ensures { IsBegunAt office.now.bank office.now.plan
+        (history office.now.marks) reply result }
+{
+    match reply {
+        Reply::At {
+            session,
+            place,
+            fresh,
+        } => match office.problem(session) {
+            Some(problem) => Begun::Waits { fresh, problem },
+            None => Begun::Done(Reply::At {
+                session,
+                place,
+                fresh,
+            }),
+        },
+        other => Begun::Done(other),
+    }
+}
+
+impl<'a, D: Disk> TurnMove<Office<'a, D>> for First {
+    type Answer = Begun<'a>;
+
+    ghost needs = { λ _ _. Unit {0} };
+
+    ghost makes = { λ m before after _ begun. BeginsRequest m.request before after begun };
+
+    fn make(&mut self, value: &mut Office<'a, D>) -> Begun<'a> {
+        let reply = lead(value, self.alloc, &self.request);
+        value.keeps();
+        begun_by(value, reply)
+    }
+
+    ghost lasts = { λ _ _ _ h. h };
+}

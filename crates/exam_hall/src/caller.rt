@@ -1,0 +1,75 @@
+//! One caller of a hall.
+
+ghost use Rattle.std.specs.Prelude.{◌≡◌};
+ghost use Rattle.exam_hall.specs.Known.{IsOf};
+
+use crate::hall::Hall;
+use exam_edge::{Disk, Gate};
+use exam_office::{Handler, Office, Reply, Request};
+use std::alloc::Global;
+use std::marker::Model;
+use std::sync::Wait;
+use turn_lock::Pass;
+
+/// A caller of a hall: it answers requests with a pass of its own. By its type the pass is of the hall.
+#[derive(Drop)]
+pub struct Caller<'h, 'a, D: Disk, G: Gate> {
+    hall: &'h Hall<'a, D>,
+    gate: &'h G,
+    pass: Pass<Office<'a, D>>,
+}
+
+impl<'h, 'a, D: Disk, G: Gate> Model for Caller<'h, 'a, D, G> {
+    ghost use Rattle.exam_hall.specs.Known.{CallerKnown, IsOf};
+
+    ghost Value = { CallerKnown };
+
+    ghost view = { λ c. record { hall = c.hall.now; pass = c.pass } };
+
+    ghost invariant = { λ c. IsOf c.pass c.hall.now };
+}
+
+impl<'h, 'a, D: Disk, G: Gate> Caller<'h, 'a, D, G> {
+    /// A caller with this pass.
+    pub fn new(
+        hall: &'h Hall<'a, D>,
+        gate: &'h G,
+        pass: Pass<Office<'a, D>>,
+    ) -> Caller<'h, 'a, D, G>
+        requires { IsOf pass hall.now }
+        ensures { result ≡ record { hall = hall.now; pass = pass.entry } }
+    {
+        Caller { hall, gate, pass }
+    }
+
+    /// Gives the pass back.
+    pub fn into_pass(self) -> Pass<Office<'a, D>>
+        ensures pass { result ≡ self.entry.pass }
+        ensures of { IsOf result self.entry.hall }
+    {
+        let Caller {
+            hall: _,
+            gate: _,
+            pass,
+        } = self;
+        pass
+    }
+}
+
+impl<'h, 'a, D: Disk, G: Gate> Handler for Caller<'h, 'a, D, G> {
+    ghost use Rattle.std.specs.Prelude.{◌≡◌, refl};
+    ghost use Rattle.exam_hall.specs.Known.{marked};
+    ghost use Rattle.exam_hall.specs.Sees.{Sees};
+
+    ghost does = { λ old request reply new. Sees old.hall (marked old.pass) (marked new.pass) request reply
+        × (new.hall ≡ old.hall) };
+
+    ghost idles = { λ old new. new ≡ old };
+
+    ghost stays = { λ handler. refl };
+
+    fn handle<R: Wait + Sync>(&mut self, rt: &R, alloc: Global, request: &Request) -> Reply {
+        self.hall
+            .handle(rt, alloc, self.gate, &mut self.pass, request)
+    }
+}

@@ -1,0 +1,271 @@
+//! The hall.
+
+ghost use Rattle.std.specs.Prelude.{◌≡◌, ◌<◌, ◌+◌, List, IfOk, IfErr};
+ghost use Rattle.exam_model.specs.Validity.{IsWellMade};
+ghost use Rattle.constraint_model.specs.Views.{problem_of};
+ghost use Rattle.turn_lock.specs.Histories.{StartsWith};
+ghost use Rattle.turn_lock.specs.Passes.{TakesIn, new_pass};
+ghost use Rattle.history_model.specs.declared.entry.Entry.{Entry};
+ghost use Rattle.history_model.specs.Legality.{LegalRun};
+ghost use Rattle.history_model.specs.SessionProblems.{IsProblemOf};
+ghost use Rattle.exam_office.specs.Commits.{MayBeCommitted};
+ghost use Rattle.exam_office.specs.Handling.{IsReply};
+ghost use Rattle.exam_office.specs.Marks.{history};
+ghost use Rattle.exam_office.specs.Noting.{noted, marks_of, opened_with};
+ghost use Rattle.exam_office.specs.Serving.{IsAssembledFor};
+ghost use Rattle.exam_hall.specs.Leading.{IsAsked};
+ghost use Rattle.exam_hall.specs.Known.{IsOf, IsOfficeOf, marked};
+ghost use Rattle.exam_hall.specs.Rounds.{Rounds, Assembles};
+ghost use Rattle.exam_hall.specs.Sees.{Sees};
+ghost use Rattle.exam_hall.specs.Turns.{HasBegun};
+
+use crate::asking::{Begun, First};
+use crate::committing::{Commit, Round};
+use bank_tables::{Bank, ItemSet};
+use branch_bound::{Assembled, assemble};
+use constraint_model::{Problem, Spec};
+use exam_edge::{Disk, Gate, Memory, Point};
+use exam_office::{Office, Place, Refusal, Reply, Request};
+use std::alloc::Global;
+use std::marker::Model;
+use std::sync::Wait;
+use turn_lock::{Pass, Turn};
+
+/// An office that callers share, each with a pass. Contracts see the hall's lock, and the bank, the plan and the base
+/// form of its office. It can't be dropped: `close` ends it, and gives the office back.
+pub struct Hall<'a, D: Disk> {
+    turn: Turn<Office<'a, D>>,
+    bank: &'a Bank,
+    spec: &'a Spec,
+    base: ItemSet,
+}
+
+impl<'a, D: Disk> Model for Hall<'a, D> {
+    ghost use Rattle.bank_tables.specs.Items.{has};
+    ghost use Rattle.exam_model.specs.Forms.{Meets};
+    ghost use Rattle.exam_hall.specs.Known.{HallKnown};
+
+    ghost Value = { HallKnown };
+
+    ghost view = { λ h. record {
+      lock = h.turn;
+      bank = h.bank.now;
+      plan = h.spec.now;
+      base = h.base;
+    } };
+
+    ghost invariant = { λ h. Meets h.bank.now h.spec.now (has h.base) };
+}
+
+impl<'a, D: Disk> Hall<'a, D> {
+    /// A hall over an office, and its first pass, which has seen all marks of the office. Out of memory, the office is
+    /// given back as it was.
+    pub fn new(
+        alloc: Global,
+        office: Office<'a, D>,
+    ) -> Result<(Hall<'a, D>, Pass<Office<'a, D>>), Office<'a, D>>
+        ensures pass { IfOk result (λ r. r.1
+            ≡ new_pass r.0.lock 0
+            (noted (opened_with D.faults office.entry) office.entry.marks)) }
+        ensures office { IfOk result (λ r. IsOfficeOf (opened_with D.faults office.entry) r.0) }
+        ensures of { IfOk result (λ r. IsOf r.1 r.0) }
+        ensures same { IfErr result (λ o. o ≡ office.entry) }
+    {
+        office.keeps();
+        let bank = office.bank();
+        let spec = office.spec();
+        let base = office.base();
+        match Turn::new(alloc, office) {
+            Ok((turn, pass)) => Ok((
+                Hall {
+                    turn,
+                    bank,
+                    spec,
+                    base,
+                },
+                pass,
+            )),
+            Err(office) => Err(office),
+        }
+    }
+
+    /// A new pass, which has seen as much as the first one. It takes no memory. Only the first pass is split, at most
+    /// 65,535 times.
+    pub fn split(&self, pass: &mut Pass<Office<'a, D>>) -> Pass<Office<'a, D>>
+        requires of { IsOf pass.old self.now }
+        requires first { (pass.old.number ≡ 0) × (pass.old.splits < 65535) }
+        ensures pass { pass.new ≡ record pass.old { splits = pass.old.splits + 1 } }
+        ensures new { result ≡ new_pass self.now.lock (pass.old.splits + 1) pass.old.seen }
+        ensures of { IsOf pass.new self.now }
+        ensures new_of { IsOf result self.now }
+    {
+        self.turn.split(pass)
+    }
+
+    /// Joins another pass into this one, which has then seen the longer of what the two have seen, and has both their
+    /// places for its own.
+    pub fn join(&self, pass: &mut Pass<Office<'a, D>>, other: Pass<Office<'a, D>>)
+        requires of { IsOf pass.old self.now }
+        requires other_of { IsOf other self.now }
+        ensures joined { TakesIn pass.old other.entry pass.new }
+        ensures of { IsOf pass.new self.now }
+    {
+        self.turn.join(pass, other);
+    }
+
+    /// Waits for a last turn, and gives the office that is found then. Its marks begin with all that the pass has seen.
+    /// Nothing is promised of marks that only other passes have seen: join every pass first.
+    pub fn close<R: Wait>(self, rt: &R, pass: Pass<Office<'a, D>>) -> Office<'a, D>
+        requires of { IsOf pass self }
+        ensures begins { StartsWith (noted (opened_with D.faults result) result.marks)
+            pass.entry.seen }
+    {
+        let Hall {
+            turn,
+            bank: _,
+            spec: _,
+            base: _,
+        } = self;
+        turn.close(rt, pass)
+    }
+
+    /// Answers a request, in one turn, and two more at most. Where its session waits for an item, a form is assembled
+    /// between two turns, and the gate is passed before and after that. If the session moved on meanwhile, its place
+    /// is the reply; if it still waits at the same step, there is one assembly more. It waits for its turns.
+    pub fn handle<G: Gate, R: Wait>(
+        &self,
+        rt: &R,
+        alloc: Global,
+        gate: &G,
+        pass: &mut Pass<Office<'a, D>>,
+        request: &Request,
+    ) -> Reply
+        requires of { IsOf pass.old self.now }
+        ensures sees { Sees self.now (marked pass.old) (marked pass.new) request.now result }
+        ensures of { IsOf pass.new self.now }
+        ensures reply { IsReply result }
+    {
+        match self.begin(rt, alloc, pass, request) {
+            Begun::Done(reply) => reply,
+            Begun::Waits { fresh, problem } => {
+                let session = problem.session;
+                match self.assemble_twice(rt, alloc, gate, pass, &problem) {
+                    Ok(place) => Reply::At {
+                        session,
+                        place,
+                        fresh,
+                    },
+                    Err(refusal) => Reply::Refused(refusal),
+                }
+            }
+        }
+    }
+
+    /// The first turn of a request.
+    fn begin<R: Wait>(
+        &self,
+        rt: &R,
+        alloc: Global,
+        pass: &mut Pass<Office<'a, D>>,
+        request: &Request,
+    ) -> Begun<'a>
+        requires of { IsOf pass.old self.now }
+        ensures of { IsOf pass.new self.now }
+        ensures begun { HasBegun self.now (marked pass.old) (marked pass.new) request.now result }
+    {
+        let mut first = First {
+            alloc,
+            request: *request,
+        };
+        self.turn.turn(rt, pass, &mut first)
+    }
+
+    /// Assembles and commits, and once more where the session still waits at the same step.
+    fn assemble_twice<G: Gate, R: Wait>(
+        &self,
+        rt: &R,
+        alloc: Global,
+        gate: &G,
+        pass: &mut Pass<Office<'a, D>>,
+        problem: &Problem<'a>,
+    ) -> Result<Place, Refusal>
+        requires of { IsOf pass.old self.now }
+        requires asked { IsAsked self.now.bank self.now.plan (history (marks_of pass.old.seen))
+            problem.now }
+        requires legal { LegalRun self.now.bank self.now.plan (history (marks_of pass.old.seen)) }
+        ensures of { IsOf pass.new self.now }
+        ensures assembles { Assembles self.now problem.now.session (marked pass.old)
+            (marked pass.new) result }
+    {
+        match self.serve_once(rt, alloc, gate, pass, problem) {
+            Round::Placed(place) => Ok(place),
+            Round::Failed(refusal) => Err(refusal),
+            Round::Again(next) => match self.serve_once(rt, alloc, gate, pass, &next) {
+                Round::Placed(place) => Ok(place),
+                Round::Failed(refusal) => Err(refusal),
+                Round::Again(_) => unreachable!(),
+            },
+        }
+    }
+
+    /// One assembly, and its commit in a turn.
+    fn serve_once<G: Gate, R: Wait>(
+        &self,
+        rt: &R,
+        alloc: Global,
+        gate: &G,
+        pass: &mut Pass<Office<'a, D>>,
+        problem: &Problem<'a>,
+    ) -> Round<'a>
+        requires of { IsOf pass.old self.now }
+        requires asked { IsAsked self.now.bank self.now.plan (history (marks_of pass.old.seen))
+            problem.now }
+        requires legal { LegalRun self.now.bank self.now.plan (history (marks_of pass.old.seen)) }
+        ensures of { IsOf pass.new self.now }
+        ensures rounds { Rounds self.now problem.now (marked pass.old) (marked pass.new) result }
+    {
+        gate.pass(Point::BeforeAssembly, pass.number());
+        let Ok(assembled) = self.assembled(alloc, problem) else {
+            return Round::Failed(Refusal::Memory);
+        };
+        gate.pass(Point::AfterAssembly, pass.number());
+        self.commit(rt, alloc, pass, assembled)
+    }
+
+    /// What is assembled for a problem, with the base as the hint.
+    fn assembled(&self, alloc: Global, problem: &Problem<'a>) -> Result<Assembled<'a>, Memory>
+        requires { IsWellMade (problem_of problem.now) }
+        ensures problem { IfOk result (λ a. a.problem ≡ problem.now) }
+        ensures assembled { IfOk result (λ a. (H : List Entry) → LegalRun self.now.bank self.now.plan H
+            → IsProblemOf self.now.bank self.now.plan H problem.now.session problem.now.step
+            (problem_of problem.now)
+            → IsAssembledFor self.now.bank self.now.plan self.now.base H problem.now.session a) }
+    {
+        let base = self.base;
+        assemble(
+            alloc,
+            problem.again(),
+            Some(&base),
+            problem.spec.budget() as u16,
+        )
+    }
+
+    /// The turn of a commit.
+    fn commit<R: Wait>(
+        &self,
+        rt: &R,
+        alloc: Global,
+        pass: &mut Pass<Office<'a, D>>,
+        assembled: Assembled<'a>,
+    ) -> Round<'a>
+        requires of { IsOf pass.old self.now }
+        requires may { MayBeCommitted self.now.bank self.now.plan self.now.base
+            (history (marks_of pass.old.seen)) assembled }
+        ensures of { IsOf pass.new self.now }
+        ensures rounds { Rounds self.now assembled.entry.problem (marked pass.old) (marked pass.new)
+            result }
+    {
+        let mut step = Commit { alloc, assembled };
+        self.turn.turn(rt, pass, &mut step)
+    }
+}

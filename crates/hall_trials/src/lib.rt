@@ -1,0 +1,7 @@
+//! Tests of a hall over a disk in memory: requests of one caller. It promises nothing upward and holds no code of the product.
+#![tactic(auto)]
+
+#[cfg(test)]
+mod halls;
+#[cfg(test)]
+mod requests;
