@@ -1,0 +1,31 @@
+use Rattle.std.proofs.Common.{◌≡◌, ◌+◌, ◌++◌, [], ◌∷◌, ◌||◌, rules, sym, ap, subst, ◌∙◌}
+use Rattle.std.proofs.lemmas.List.Elements.{All-pop}
+use Rattle.exam_serve.specs.Joining.{IsUnseated}
+use Rattle.exam_serve.proofs.Joins.{starts_through, sees_old, unseated_more}
+use Rattle.exam_serve.proofs.seating.unseat_all.Goals as goal
+use Rattle.exam_serve.proofs.seating.unseat_all.Goals.{then-failed, else-failed}
+
+pub loop-preserved : goal.loop-preserved
+loop-preserved g c =
+    let l = c.loop in
+    let s = c.unwrap-station.result in
+    let last : l.stations.items ≡ c.pop.new.self.items ++ s ∷ [] = (search rules) in
+    let failed : c.if-failed.failed ≡ (l.failed || s.failed) =
+    elim c.if-failed.branch [
+      | then-failed w ↦ w.failed-is ∙ w.if-failed.true ∙ sym (ap (λ b. b || s.failed) w.if-failed.true)
+      | else-failed w ↦ w.failed-is ∙ c.unseat-now.ensures.failed ∙ sym (ap (λ b. b || s.failed) w.if-failed.false)
+    ] in
+    record {
+      of = c.unseat-now.ensures.of;
+      same = (All-pop (λ t. t.token.hall ≡ c.args.hall.now) l.stations.items c.pop.new.self.items c.pop.result c.pop.ensures.items l.invariant.same).0;
+      begins = starts_through _ _ _ (sees_old _ _ _ c.unseat-now.ensures.joined) l.invariant.begins;
+      all = (search rules);
+      so_far = c.unseat-now.ensures.len ∙ ap (λ n. n + 1) l.invariant.so_far;
+      room = (search rules);
+      unseated = subst (λ b. IsUnseated c.unseat-now.new.pass c.args.stations.now.items c.pop.new.self.items c.unseat-now.new.doors.items b)
+          (sym failed)
+          (subst (λ d. IsUnseated c.unseat-now.new.pass c.args.stations.now.items c.pop.new.self.items d (l.failed || s.failed))
+          (sym c.unseat-now.ensures.doors)
+          (unseated_more l.pass c.unseat-now.new.pass c.args.stations.now.items l.stations.items c.pop.new.self.items s
+          l.doors.items l.failed last c.unseat-now.ensures.joined l.invariant.unseated));
+    }

@@ -1,0 +1,58 @@
+-- What becomes of doors whose links are served on passes of one hall.
+use Rattle.std.specs.Prelude.{◌≡◌, ℕ, Bool, false, List, map}
+use Rattle.std.specs.List.{All, AllZip, AllPairs, list_any}
+use Rattle.turn_lock.specs.Histories.{StartsWith, AreDisjoint}
+use Rattle.turn_lock.specs.Passes.{new_pass}
+use Rattle.exam_workers.specs.declared.Station.{Station}
+use Rattle.exam_workers.specs.Stations.{Serves, Ends}
+use Rattle.exam_office.specs.Noting.{NotedMark}
+use Rattle.exam_hall.specs.Known.{HallKnown, CallerKnown}
+use Rattle.exam_serve.specs.Connections.{IsConnection}
+
+module _ {D K : Type 0} where
+  abbrev pub door_of : Station D CallerKnown K → D
+  door_of station = station.door
+
+  -- the marks that the station's pass has seen
+  abbrev pub seen_of : Station D CallerKnown K → List NotedMark
+  seen_of station = station.token.pass.seen
+
+  -- the places of the marks that are the pass's own
+  abbrev pub own_of : Station D CallerKnown K → List ℕ
+  own_of station = station.token.pass.mine
+
+  abbrev pub has_failed : Station D CallerKnown K → Bool
+  has_failed station = station.failed
+
+  -- the station has a new pass of the hall, and its door no link out
+  pub record IsSeated (is_out : D → Bool) (hall : HallKnown) (opened : List NotedMark) (station : Station D CallerKnown K)
+      : Type 0 where
+    pub number : ℕ
+    pub token : station.token ≡ record { hall = hall; pass = new_pass hall.lock number opened }
+    pub home : is_out station.door ≡ false
+
+module _ {D K : Type 0} (tells : D → Bool) (coming returned : D → List K) (is_out : D → Bool) (faults identity : D → ℕ)
+    (link_tells : K → Bool) (left written : K → List ℕ) (link_faults link_identity : K → ℕ) where
+  -- a station before and after its work. It began with a new pass of the hall. Each link that its door gave was served, in
+  -- order, on this one pass, and then went back to the door. It ended where the door failed, or gave no more
+  pub record IsWorked (hall : HallKnown) (opened : List NotedMark) (before after : Station D CallerKnown K) : Type 0 where
+    pub seated : IsSeated is_out hall opened before
+    pub serves : Serves tells coming returned is_out faults identity
+        (IsConnection link_tells left written link_faults link_identity) before after
+    pub ends : Ends tells coming faults before after
+    pub same_hall : after.token.hall ≡ hall
+
+  -- the work of a hall, whose office had the marks `opened` at first and has the marks `closed` in the end. There was one
+  -- station for each door, in order. The marks that a pass saw are a beginning of those in the end, which begin with those at
+  -- first; no mark is the own of two passes. It failed exactly if a door failed
+  pub record AreServed (opened closed : List NotedMark) (doors back : List D) (failed : Bool) : Type 0 where
+    pub hall : HallKnown
+    pub before : List (Station D CallerKnown K)
+    pub after : List (Station D CallerKnown K)
+    pub doors_are : map door_of before ≡ doors
+    pub back_are : map door_of after ≡ back
+    pub worked : AllZip (IsWorked hall opened) before after
+    pub seen : All (λ station. StartsWith closed (seen_of station)) after
+    pub apart : AllPairs AreDisjoint (map own_of after)
+    pub failed_is : failed ≡ list_any has_failed after
+    pub grows : StartsWith closed opened

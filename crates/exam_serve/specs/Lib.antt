@@ -1,0 +1,4 @@
+pub mod Connections
+pub mod Doors
+pub mod Joining
+pub mod Results

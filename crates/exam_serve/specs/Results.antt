@@ -1,0 +1,26 @@
+-- What the work leaves of the office and the doors.
+use Rattle.std.specs.Prelude.{◌≡◌, ℕ, Bool, true, false, List}
+use Rattle.exam_office.specs.Noting.{NotedMark, noted, opened_with}
+use Rattle.exam_office.specs.Running.{Running}
+use Rattle.exam_serve.specs.declared.serve.End.{End}
+use Rattle.exam_serve.specs.declared.serve.End.TheVariants.{Done, DoorFailed, Memory}
+use Rattle.exam_serve.specs.Doors.{AreServed}
+
+-- how the work ended, by whether a door failed
+abbrev pub end_of : Bool → End
+end_of true = DoorFailed
+end_of false = Done
+
+-- an office's marks, each with what the office was opened with, by the faults that its disk counts
+abbrev pub notes_of : {A : Type 0} → (A → ℕ) → Running A → List NotedMark
+notes_of disk_faults office = noted (opened_with disk_faults office) office.marks
+
+module _ {A D K : Type 0} (disk_faults : A → ℕ) (tells : D → Bool) (coming returned : D → List K) (is_out : D → Bool)
+    (faults identity : D → ℕ) (link_tells : K → Bool) (left written : K → List ℕ) (link_faults link_identity : K → ℕ) where
+  -- the office and the doors after the work, by how it ended. Out of memory, no link was accepted
+  abbrev pub IsResult : Running A → List D → Running A → List D → End → Type 0
+  IsResult office doors closed back Done = AreServed tells coming returned is_out faults identity link_tells left written
+      link_faults link_identity (notes_of disk_faults office) (notes_of disk_faults closed) doors back false
+  IsResult office doors closed back DoorFailed = AreServed tells coming returned is_out faults identity link_tells left written
+      link_faults link_identity (notes_of disk_faults office) (notes_of disk_faults closed) doors back true
+  IsResult office doors closed back Memory = (closed ≡ office) × (back ≡ doors)

@@ -1,0 +1,140 @@
+//! The work of a server, from an office and doors to the office and the doors.
+
+ghost use Rattle.std.specs.Prelude.{◌≡◌, ◌≤◌, ℕ, [], List, true, false, vec_len, vec_capacity};
+ghost use Rattle.std.specs.List.{All};
+ghost use Rattle.exam_hall.specs.Known.{IsOf};
+ghost use Rattle.turn_lock.specs.Histories.{StartsWith};
+ghost use Rattle.exam_serve.specs.Doors.{AreServed};
+ghost use Rattle.exam_serve.specs.Results.{IsResult};
+ghost use Rattle.exam_office.specs.Noting.{opened_with};
+
+use crate::connections::Connections;
+use crate::seating::{seat_all, unseat_all};
+use exam_edge::{Disk, Door, Gate};
+use exam_hall::{Caller, Hall};
+use exam_office::Office;
+use exam_workers::{Station, run_workers};
+use std::alloc::Global;
+use std::sync::Wait;
+use std::thread::Threads;
+use turn_lock::Pass;
+
+/// How the work ended.
+#[derive(Clone, Copy, Debug, PartialEq, Eq)]
+pub enum End {
+    /// Each door gave no more links.
+    Done,
+    /// A door failed, and has counted that.
+    DoorFailed,
+    /// Out of memory, before any link was accepted.
+    Memory,
+}
+
+/// What is left of the work.
+pub struct Served<'a, D: Disk, L> {
+    /// The office, with all that was done.
+    pub office: Office<'a, D>,
+    /// The doors, in their order.
+    pub doors: Vec<L>,
+    /// How the work ended.
+    pub end: End,
+}
+
+/// How the work ended.
+fn end_of(failed: bool) -> End
+    ensures { result ≡ Rattle.exam_serve.specs.Results.end_of failed }
+{
+    if failed { End::DoorFailed } else { End::Done }
+}
+
+/// Serves the links of the doors at a hall. There is room for a station for each door.
+fn serve_at<'h, 'a, R, D, L, G>(
+    rt: &R,
+    alloc: Global,
+    hall: &'h Hall<'a, D>,
+    gate: &'h G,
+    pass: &mut Pass<Office<'a, D>>,
+    doors: &mut Vec<L>,
+    stations: Vec<Station<L, Caller<'h, 'a, D, G>>>,
+) -> bool
+where
+    R: Threads + Wait + Sync,
+    D: Disk + Send,
+    L: Door + Send,
+    G: Gate + Sync,
+    requires of { IsOf pass.old hall.now }
+    requires new { (pass.old.number ≡ 0) × (pass.old.splits ≡ 0) }
+    requires few { vec_len doors.old ≤ 65535 }
+    requires home { All (λ d. L.is_out d ≡ false) doors.old.items }
+    requires empty { stations.items ≡ [] }
+    requires room { vec_len doors.old ≤ vec_capacity stations }
+    ensures served { AreServed L.tells L.coming L.returned L.is_out L.faults L.identity
+        L.Link.tells L.Link.left L.Link.written L.Link.faults L.Link.identity
+        pass.old.seen pass.new.seen doors.old.items doors.new.items result }
+    ensures of { IsOf pass.new hall.now }
+{
+    let mut stations = stations;
+    seat_all(hall, gate, pass, doors, &mut stations);
+    run_workers(rt, alloc, &mut stations, &Connections { hall, gate });
+    let failed = unseat_all(hall, pass, doors, &mut stations);
+    stations.destroy_empty();
+    failed
+}
+
+/// Serves the connections of each door over one office, which all doors share, the doors in threads of their own, until
+/// each door gives no more links or fails. At most 65,535 doors, with no link out. Where no thread can be made, the caller
+/// does that work itself. The office comes back with one list of marks, which begins with those that it had: of each door,
+/// the links that it gave were served in order on one pass, and came back to it; what a pass saw is a beginning of that
+/// list, and no mark is the own of two passes. It may wait, and ends only where each door ends.
+pub fn serve_doors<'a, R, D, L, G>(
+    rt: &R,
+    alloc: Global,
+    office: Office<'a, D>,
+    gate: &G,
+    doors: Vec<L>,
+) -> Served<'a, D, L>
+where
+    R: Threads + Wait + Sync,
+    D: Disk + Send,
+    L: Door + Send,
+    G: Gate + Sync,
+    requires few { vec_len doors ≤ 65535 }
+    requires home { All (λ d. L.is_out d ≡ false) doors.items }
+    // What no call changes: the bank, the plan and the base form, and which disk it is.
+    ensures same { opened_with D.faults result.office ≡ opened_with D.faults office.entry }
+    // The office's marks at the close begin with those that it had at first.
+    ensures begins { StartsWith result.office.marks office.entry.marks }
+    ensures result { IsResult D.faults L.tells L.coming L.returned L.is_out L.faults L.identity
+        L.Link.tells L.Link.left L.Link.written L.Link.faults L.Link.identity
+        office.entry doors.items result.office result.doors.items result.end }
+{
+    let mut doors = doors;
+    let stations = match Vec::with_capacity(alloc, doors.len()) {
+        Ok(stations) => stations,
+        Err(_) => {
+            return Served {
+                office,
+                doors,
+                end: End::Memory,
+            };
+        }
+    };
+    let (hall, mut pass) = match Hall::new(alloc, office) {
+        Ok(made) => made,
+        Err(office) => {
+            stations.destroy_empty();
+            return Served {
+                office,
+                doors,
+                end: End::Memory,
+            };
+        }
+    };
+    let failed = serve_at(rt, alloc, &hall, gate, &mut pass, &mut doors, stations);
+    let office = hall.close(rt, pass);
+    Served {
+        office,
+        doors,
+        end: end_of(failed),
+    }
+}
