@@ -60,7 +60,7 @@ fn expect<R: Wait + Sync + Abort>(rt: &R, alloc: Global, row: &Row<'_>) -> Resul
         push_response(alloc, &mut text, status, body, !goes_on)?;
     }
     let alone = serve_bytes(rt, alloc, row.message.as_bytes(), None, &[])?;
-    assert_eq!(rt; alone.text.as_slice(), text.as_bytes());
+    assert_eq!(rt; alone.text.as_str(), text.as_str());
     assert_eq!(rt; alone.ended, row.ended);
     if row.response.is_some() {
         if goes_on {
@@ -72,7 +72,7 @@ fn expect<R: Wait + Sync + Abort>(rt: &R, alloc: Global, row: &Row<'_>) -> Resul
             seed: 4,
         };
         let both = serve_bytes(rt, alloc, sent.as_bytes(), Some(cutting), &[])?;
-        assert_eq!(rt; both.text.as_slice(), text.as_bytes());
+        assert_eq!(rt; both.text.as_str(), text.as_str());
         assert_eq!(rt; both.ended, row.ended);
     }
     Ok(())

@@ -62,10 +62,10 @@ pub(crate) struct Cutting {
     pub(crate) seed: u64,
 }
 
-/// What a client got: the bytes, and how the connection ended.
+/// What a client got: a text, and how the connection ended.
 #[derive(Drop)]
 pub(crate) struct Heard {
-    pub(crate) text: Vec<u8>,
+    pub(crate) text: String,
     pub(crate) ended: Ended,
 }
 
@@ -90,6 +90,11 @@ pub(crate) fn serve_bytes<R: Wait + Sync>(
             serve_bank_a(rt, alloc, &mut pieces)?
         }
     };
-    let text = link.bytes().to_vec(alloc)?;
-    Ok(Heard { text, ended })
+    match std::str::from_utf8(link.bytes()) {
+        Ok(text) => Ok(Heard {
+            text: String::from_str(alloc, text)?,
+            ended,
+        }),
+        Err(_) => Err(Fail::from("no text")),
+    }
 }

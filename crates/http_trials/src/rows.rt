@@ -30,7 +30,7 @@ const CUTTINGS: [Option<Cutting>; 5] = [
 fn expect<R: Wait + Sync + Abort>(rt: &R, alloc: Global, exchange: &Exchange) -> Result<(), Fail> {
     for cutting in CUTTINGS {
         let got = serve_bytes(rt, alloc, exchange.sent.as_bytes(), cutting, &[])?;
-        assert_eq!(rt; got.text.as_slice(), exchange.text.as_bytes());
+        assert_eq!(rt; got.text.as_str(), exchange.text.as_str());
         assert_eq!(rt; got.ended, exchange.ended);
     }
     Ok(())
@@ -58,14 +58,11 @@ fn beginnings<R: Wait + Sync + Abort>(
     for call in 0..1000u64 {
         let got = serve_bytes(rt, alloc, exchange.sent.as_bytes(), cutting, &[call])?;
         if got.ended != Ended::Link {
-            assert_eq!(rt; got.text.as_slice(), exchange.text.as_bytes());
+            assert_eq!(rt; got.text.as_str(), exchange.text.as_str());
             assert_eq!(rt; got.ended, exchange.ended);
             return Ok(lengths.len());
         }
-        assert!(rt;
-            exchange.text.as_bytes().starts_with(&got.text),
-            "call {call}"
-        );
+        assert!(rt; exchange.text.starts_with(got.text.as_str()), "call {call}");
         if lengths.last() != Some(&got.text.len()) {
             lengths.push(got.text.len())?;
         }
