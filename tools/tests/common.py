@@ -1,0 +1,55 @@
+"""What the tests of the tools share: running a tool in a folder of its own, and what is there to test with."""
+import contextlib
+import importlib
+import importlib.util
+import io
+import os
+import tempfile
+import unittest
+
+TOOLS = os.path.dirname(os.path.dirname(os.path.abspath(__file__)))
+ROOT = os.path.dirname(TOOLS)
+PROGRAM = os.environ.get("SHADOWD") or os.path.join(ROOT, "crates", "shadowd", "out", "shadowd")
+
+
+def has(module):
+    return importlib.util.find_spec(module) is not None
+
+
+needs_numpy = unittest.skipUnless(has("numpy"), "needs python3-numpy")
+needs_matplotlib = unittest.skipUnless(has("numpy") and has("matplotlib"), "needs python3-numpy and python3-matplotlib")
+needs_program = unittest.skipUnless(os.path.exists(PROGRAM), "needs the built program")
+
+
+class Folder(unittest.TestCase):
+    """A test with a folder of its own."""
+
+    def setUp(self):
+        holder = tempfile.TemporaryDirectory()
+        self.addCleanup(holder.cleanup)
+        self.folder = holder.name
+
+    def path(self, name):
+        return os.path.join(self.folder, name)
+
+    def write(self, name, text):
+        with open(self.path(name), "w", encoding="utf-8", newline="") as file:
+            file.write(text)
+        return self.path(name)
+
+    def read(self, name):
+        with open(self.path(name), encoding="utf-8", newline="") as file:
+            return file.read()
+
+    def tool(self, name, *words):
+        """Status, standard output and standard error of a tool, called within this process in the test's folder."""
+        said, errors, before = io.StringIO(), io.StringIO(), os.getcwd()
+        os.chdir(self.folder)
+        try:
+            with contextlib.redirect_stdout(said), contextlib.redirect_stderr(errors):
+                status = importlib.import_module(name).command(list(words))
+        except SystemExit as end:
+            status = end.code
+        finally:
+            os.chdir(before)
+        return status, said.getvalue(), errors.getvalue()
