@@ -354,7 +354,8 @@ def first_forms(program, prefix, theta, options, plan):
         finally:
             os.unlink(file.name)
         if status:
-            print(f"ability {mean:+d}: {said[:60]} (status {status}; tools/explain.py names the rules)")
+            what = {11: "no form; tools/explain.py names the rules", 12: "no form found within the base budget"}
+            print(f"ability {mean:+d}: {what.get(status, said[:60])} (status {status})")
             continue
         words = said.splitlines()[1].split()
         print(f"ability {mean:+d}: best form informs {int(words[1]) / options.information_unit:.3f}, "

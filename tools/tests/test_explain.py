@@ -1,0 +1,133 @@
+"""Why a plan has no form, beside all sets of items; and the gap of an unproved form."""
+import os
+import random
+import subprocess
+import sys
+import unittest
+
+import check_tree
+import data_of_bank_a as a
+from common import PROGRAM, TOOLS, Folder, needs_program
+from examination import plan_of
+from explain import Program, clash, greatest_bound, without
+
+# A program that has `assemble` alone: it tries all sets of items.
+BY_ALL_SETS = """import sys
+sys.path.insert(0, %r)
+import check_tree
+bank = check_tree.read_bank(sys.argv[2])
+plan = check_tree.read_plan(sys.argv[3], bank)
+problem = check_tree.Problem(bank, plan, 0, frozenset(), frozenset(), None)
+best = check_tree.best_of_all(problem)
+if best is None:
+    print("no form 0006")
+    sys.exit(11)
+print("form", *sorted(best))
+print("objective", check_tree.objective(problem, best), "proved nodes 1")
+print("tree 0006")
+"""
+CLASHES = [
+    ("count 2 3 0-1\ncount 2 3 2-3\ncount 1 1 4\ncount 0 3 5\n", ["count 2 3 0-1", "count 2 3 2-3"]),
+    ("count 0 1 0-2\ncount 0 1 3-5\nenemies 0 5\n", ["count 0 1 0-2", "count 0 1 3-5"]),
+    ("count 1 2 0\ncount 1 2 1\nenemies 0-1\ncount 0 9 0-5\n", ["count 1 2 0", "count 1 2 1", "enemies 0-1"]),
+    ("count 3 3 5\ncount 1 1 0-1\n", ["count 3 3 5"]),
+]
+
+
+class Clash(Folder):
+    def setUp(self):
+        super().setUp()
+        self.write("bank", a.BANK)
+        path = self.write("all_sets", f"#!{sys.executable}\n" + BY_ALL_SETS % TOOLS)
+        os.chmod(path, 0o755)
+
+    def explained(self, program):
+        for rules, wanted in CLASHES:
+            with self.subTest(rules):
+                text = "length 3\nprior -10 0 -10\n" + rules
+                status, said = program.assemble(text)
+                self.assertEqual(status, 11)
+                kept, of = clash(program, text, said.split()[-1])
+                self.assertEqual([rule.text for rule in kept], wanted)
+                self.assertEqual(of, rules.count("\n"))
+                self.irreducible(program, text, kept)
+
+    def irreducible(self, program, text, kept):
+        rules = plan_of(text).rules
+        self.assertEqual(program.assemble(without(text, rules, kept))[0], 11)
+        for rule in kept:
+            fewer = [one for one in kept if one is not rule]
+            self.assertEqual(program.assemble(without(text, rules, fewer))[0], 0)
+
+    def test_beside_all_sets(self):
+        self.explained(Program(self.path("all_sets"), self.path("bank")))
+
+    @needs_program
+    def test_with_the_program(self):
+        self.explained(Program(PROGRAM, self.path("bank")))
+
+    @needs_program
+    def test_the_trees_are_sound(self):
+        """The tree of a clash is a proof by the checker in Python."""
+        self.write("plan", "length 3\nprior -10 0 -10\n" + CLASHES[2][0])
+        said = subprocess.run([PROGRAM, "assemble", self.path("bank"), self.path("plan")], capture_output=True, text=True)
+        tree = said.stdout.split()[-1]
+        checked = subprocess.run([sys.executable, os.path.join(TOOLS, "check_tree.py"), self.path("bank"), self.path("plan"),
+                                  tree, "--brute"], capture_output=True, text=True)
+        self.assertEqual(checked.stdout, "NoForm\nbest none\n")
+
+    def test_the_tool(self):
+        self.write("plan", "length 3\nprior -10 0 -10\n# row 0: algebra\ncount 2 3 0-1\n# row 1: geometry\ncount 2 3 2-3\n")
+        status, said, errors = self.tool("explain", "bank", "plan", "--program", self.path("all_sets"))
+        self.assertEqual(status, 11, errors)
+        self.assertIn("These 2 of 2 rules cannot be met together in a test of 3 items:\n"
+                      "  line 4: count 2 3 0-1   row 0: algebra\n  line 6: count 2 3 2-3   row 1: geometry\n", said)
+        self.write("plan", a.PLAN)
+        status, said, _ = self.tool("explain", "bank", "plan", "--program", self.path("all_sets"))
+        self.assertEqual((status, said[:24]), (0, "This form is proved best"))
+
+    def test_a_program_that_is_not_there(self):
+        self.write("plan", a.PLAN)
+        status, _, errors = self.tool("explain", "bank", "plan", "--program", "nowhere")
+        self.assertEqual((status, "nowhere" in errors), (1, True))
+
+    @needs_program
+    def test_a_refused_plan(self):
+        self.write("plan", "length 7\nprior 0 0 0\n")
+        status, _, errors = self.tool("explain", "bank", "plan", "--program", PROGRAM)
+        self.assertEqual((status, errors), (1, "shadowd assemble, status 4: plan: length\n"))
+
+
+class Gap(unittest.TestCase):
+    def test_the_bound_holds(self):
+        """On small random problems no form informs more than the greatest bound of open leaves, at any depth."""
+        rng, tried = random.Random(5), 0
+        while tried < 60:
+            problem = check_tree.any_problem(rng)
+            best = check_tree.best_of_all(problem)
+            if best is None:
+                continue
+            tried += 1
+            vectors, depth = check_tree.any_vectors(rng, problem), rng.randint(0, 2)
+            nodes = open_tree(problem, check_tree.root(problem), depth)
+            bound = greatest_bound(problem, vectors, nodes)
+            self.assertGreaterEqual(bound, check_tree.objective(problem, best))
+
+    def test_without_rules_the_bound_is_the_best(self):
+        items = [check_tree.Item(0, [], [info]) for info in (5, 9, 2, 7)]
+        problem = check_tree.Problem(check_tree.Bank(items, 1, 0), check_tree.Plan(2, [0], [], []), 0, frozenset(), frozenset(), None)
+        self.assertEqual(greatest_bound(problem, [], [(check_tree.OPEN, None)]), 16)
+        self.assertIsNone(greatest_bound(problem, [], [(check_tree.WHOLE, None)]))
+
+
+def open_tree(problem, path, depth):
+    """A tree in which every leaf is open."""
+    if depth == 0 or not path.free:
+        return [(check_tree.OPEN, None)]
+    item = min(path.free)
+    left, right = check_tree.below(problem, path, check_tree.ITEM, item)
+    return [(check_tree.ITEM, item)] + open_tree(problem, left, depth - 1) + open_tree(problem, right, depth - 1)
+
+
+if __name__ == "__main__":
+    unittest.main()
