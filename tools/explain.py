@@ -1,7 +1,7 @@
 #!/usr/bin/env python3
 """Why a plan has no form; and how far from the best an unproved form can be.
 
-usage: explain.py BANK PLAN [--map MAP] [--program SHADOWD]      default program crates/shadowd/out/shadowd
+usage: explain.py BANK PLAN [--map MAP] [--program SHADOWD]      default $SHADOWD, else crates/shadowd/out/shadowd
 
 It runs `shadowd assemble`. Where no set of items meets the plan (status 11), it leaves out one rule after the
 other for as long as there is still no form. The rules that stay cannot be met together, and without any one of them
@@ -20,10 +20,10 @@ import sys
 import tempfile
 
 import check_tree
-from examination import plan_of, opened, read_map
+from examination import opened, plan_of, read_map
+from program import BUILT
 from tables import Refused
 
-BUILT = os.path.join(os.path.dirname(os.path.dirname(os.path.abspath(__file__))), "crates", "shadowd", "out", "shadowd")
 DONE, NO_FORM, NOT_FOUND = 0, 11, 12
 
 

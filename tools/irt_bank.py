@@ -13,7 +13,7 @@ usage: irt_bank.py --items ITEMS.csv [--attributes ATTRIBUTES.csv] [--constraint
   --quantity NAME      an attribute that becomes a quantity of the bank, in the order given (words, seconds)
   --budget N, --base-budget N, --sessions N, --journal N   lines of the plan
   --rate NUM DEN --key HEX                                 exposure control
-  --program SHADOWD    the program that checks what is written; default crates/shadowd/out/shadowd, else none
+  --program SHADOWD    the program that checks what is written; default $SHADOWD, else crates/shadowd/out/shadowd if it is there
 
 ATTRIBUTES has a line for each item: ID, perhaps STID (the name of its passage), and any other columns. An item
 without a value has an empty field or NA. CONSTRAINTS is described in blueprint.py, conditions in conditions.py.
@@ -42,10 +42,10 @@ except ImportError:
 
 from bank_parameters import FORMATS, read_items
 from blueprint import MOST_PASSAGES, compile_blueprint
+from program import BUILT
 from tables import ABSENT, Refused, read_table
 
 MOST_POINTS, MOST_INFORMATION, LEAST_LOG = 61, 1_000_000, -10_000_000
-BUILT = os.path.join(os.path.dirname(os.path.dirname(os.path.abspath(__file__))), "crates", "shadowd", "out", "shadowd")
 PRIOR_MEANS = (-2, -1, 0, 1, 2)
 
 

@@ -11,9 +11,10 @@ usage: simulate.py PREFIX --out OUT [options]      PREFIX.bank.csv, PREFIX.plan.
                     the draws of a session see only sessions that are finished
   --clients N       connections at once through serve, 1 to 16; default 4
   --rules PLAN      the rules that are counted; default those of the plan
-  --program SHADOWD default crates/shadowd/out/shadowd
+  --program SHADOWD default $SHADOWD, else crates/shadowd/out/shadowd
 
 Written: OUT.journal, the journal; OUT.run.json, the examinees and how they were taken through. report.py reads both.
+The journal is kept in memory (/dev/shm, where there is one) until the end, so that no disk is waited for.
 The answers of an examinee are drawn beforehand for every item. At the end the journal is read, the items of each session are
 held against every rule of the plan by a reader that shares nothing with the product, and the program's exposure counts
 against those of the journal. Exit status: 0; 1 with the place of a broken rule, a refusal or another status.
@@ -22,6 +23,7 @@ import argparse
 import json
 import os
 import re
+import shutil
 import subprocess
 import sys
 import tempfile
@@ -34,11 +36,12 @@ except ImportError:
 
 from drivers import Progress, Replay, Server, Stopped, by_http, by_replay, replay_exposure
 from examination import read_journal, read_plan, sessions_of
+from program import BUILT
 from simulation import abilities, broken_rules, drawn_responses, load
-from tables import Refused
+from tables import Refused, runs
 
-BUILT = os.path.join(os.path.dirname(os.path.dirname(os.path.abspath(__file__))), "crates", "shadowd", "out", "shadowd")
 MOST_SESSIONS, MOST_BYTES = 65_536, 536_870_912
+MEMORY = "/dev/shm"
 
 
 def options(words):
@@ -69,25 +72,31 @@ def roomy(text):
     return f"{kept.rstrip()}\nsessions {MOST_SESSIONS}\njournal {MOST_BYTES}\n"
 
 
-def understood(program, files):
-    """The first line of `check`; refusals end the simulation."""
+def lines_of(program, command, files):
+    """What a command prints; refusals end the simulation."""
     try:
-        done = subprocess.run([program, "check", *files], stdin=subprocess.DEVNULL, capture_output=True, text=True)
+        done = subprocess.run([program, command, *files], stdin=subprocess.DEVNULL, capture_output=True, text=True)
     except OSError as error:
         raise Refused(f"{program}: {error.strerror}")
     if done.returncode:
-        raise Refused(f"shadowd check, status {done.returncode}: {done.stdout.strip()}")
-    return done.stdout.splitlines()[0]
+        raise Refused(f"shadowd {command}, status {done.returncode}: {done.stdout.strip()[:80]}")
+    return done.stdout.splitlines()
+
+
+def with_base(program, files, text):
+    """The plan with the base form that each run would assemble again, where the plan has none."""
+    if re.search(r"(?m)^base ", text):
+        return text
+    form = lines_of(program, "assemble", files)[0].split()[1:]
+    return f"{text}base {runs(map(int, form))}\n"
 
 
 def taken_through(given, examination, responses, folder):
     """Takes all examinees through; the seconds of the requests, the exposure, and what the program printed last."""
     bank, plan = examination.prefix + ".bank.csv", os.path.join(folder, "plan.txt")
     with open(examination.prefix + ".plan.txt", encoding="utf-8") as file, open(plan, "w", encoding="utf-8") as out:
-        out.write(roomy(file.read()))
-    journal = os.path.abspath(given.out + ".journal")
-    if os.path.exists(journal):
-        os.unlink(journal)
+        out.write(with_base(given.program, examination.files(), roomy(file.read())))
+    journal = os.path.join(folder, "journal")
     answers = len(responses) * examination.plan.length
     progress = Progress(answers, lambda text: print(text, file=sys.stderr, flush=True))
     if given.through == "replay":
@@ -101,6 +110,14 @@ def taken_through(given, examination, responses, folder):
         return seconds, exposure, server.end()
     finally:
         server.process.kill()
+
+
+def keep(journal, path):
+    """Copies the journal out of memory; an older one of another simulation never stays."""
+    if os.path.exists(path):
+        os.unlink(path)
+    if os.path.exists(journal):
+        shutil.copyfile(journal, path)
 
 
 # ---------------------------------------------------------------- what is tested at the end
@@ -153,10 +170,13 @@ def main(words):
     rules = read_plan(given.rules).rules if given.rules else examination.plan.rules
     theta = abilities(given.true, given.examinees, given.seed)
     responses = drawn_responses(examination.items, theta, examination.scaling, given.seed)
-    line = understood(given.program, examination.files())
+    line = lines_of(given.program, "check", examination.files())[0]
     begun = time.perf_counter()
-    with tempfile.TemporaryDirectory() as folder:
-        seconds, exposure, said = taken_through(given, examination, responses, folder)
+    with tempfile.TemporaryDirectory(dir=MEMORY if os.access(MEMORY, os.W_OK) else None) as folder:
+        try:
+            seconds, exposure, said = taken_through(given, examination, responses, folder)
+        finally:
+            keep(os.path.join(folder, "journal"), given.out + ".journal")
     wall = time.perf_counter() - begun
     sessions = sessions_of(read_journal(given.out + ".journal"))
     fault = verdict(examination, rules, sessions, responses, exposure)

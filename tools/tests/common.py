@@ -7,9 +7,10 @@ import os
 import tempfile
 import unittest
 
+from program import BUILT as PROGRAM
+
 TOOLS = os.path.dirname(os.path.dirname(os.path.abspath(__file__)))
 ROOT = os.path.dirname(TOOLS)
-PROGRAM = os.environ.get("SHADOWD") or os.path.join(ROOT, "crates", "shadowd", "out", "shadowd")
 
 
 def has(module):

@@ -1,7 +1,7 @@
 #!/usr/bin/env python3
-"""A small stand-in for shadowd: check, replay and serve over a journal, with forms from all sets of items.
+"""A small stand-in for shadowd: check, assemble, replay and serve over a journal, with forms from all sets of items.
 
-usage: fake_shadowd.py check BANK PLAN | replay BANK PLAN SCRIPT | serve BANK PLAN
+usage: fake_shadowd.py check BANK PLAN | assemble BANK PLAN | replay BANK PLAN SCRIPT | serve BANK PLAN
 
 Environment: SHADOWD_JOURNAL, SHADOWD_LISTEN and SHADOWD_CONNECTIONS as shadowd has them; FAKE makes it faulty:
 `rules` leaves the plan's rules out, `refuse` refuses the answer of step 1, `status` ends with 9, `count` counts an
@@ -11,7 +11,6 @@ import json
 import os
 import sys
 import threading
-from http.server import BaseHTTPRequestHandler, ThreadingHTTPServer
 
 sys.path[:0] = [os.path.dirname(os.path.dirname(os.path.abspath(__file__))), os.path.dirname(os.path.abspath(__file__))]
 import check_tree  # noqa: E402
@@ -115,6 +114,8 @@ def replay(office, requests):
 
 
 def handler(office):
+    from http.server import BaseHTTPRequestHandler
+
     class Handler(BaseHTTPRequestHandler):
         protocol_version = "HTTP/1.1"
 
@@ -161,6 +162,10 @@ def main(words):
         points = len(office.plan.prior)
         print(f"bank items {len(office.bank)} grid {points} quantities 0 stimuli 0")
         return 0
+    if words[1] == "assemble":
+        best = check_tree.best_of_all(Office(*words[2:4]).problem)
+        print("form", *sorted(best))
+        return 0
     if FAULT == "status":
         print("disk failed")
         return 9
@@ -169,6 +174,8 @@ def main(words):
         with open(words[4]) as file:
             replay(office, file.read().splitlines())
         return 0
+    from http.server import ThreadingHTTPServer  # not at the top, since it is slow to import
+
     host, port = os.environ["SHADOWD_LISTEN"].split(":")
     ThreadingHTTPServer((host, int(port)), handler(office)).serve_forever()
     return 0

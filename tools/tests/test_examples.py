@@ -1,0 +1,59 @@
+"""The examples are what their commands make, and the commands of docs/GUIDE.md run from parameters to results."""
+import csv
+import os
+import re
+import subprocess
+import sys
+import unittest
+
+from common import PROGRAM, ROOT, Folder, needs_matplotlib, needs_numpy, needs_program
+
+NAMES = ("knowledge", "aggression", "passages")
+
+
+@needs_numpy
+class Examples(Folder):
+    def test_made_again(self):
+        """examples/make.sh gives the files that are there, byte for byte."""
+        done = subprocess.run(["bash", os.path.join(ROOT, "examples", "make.sh"), self.folder], capture_output=True, text=True,
+                              env=dict(os.environ, PYTHON=sys.executable, SHADOWD=""))
+        self.assertEqual(done.returncode, 0, done.stderr)
+        for name in NAMES:
+            for end in ("bank.csv", "plan.txt", "map.json"):
+                with self.subTest(f"{name}.{end}"):
+                    with open(os.path.join(ROOT, "examples", name, f"{name}.{end}"), encoding="utf-8", newline="") as file:
+                        self.assertEqual(self.read(f"{name}/{name}.{end}"), file.read())
+
+    @needs_program
+    def test_the_program_takes_them(self):
+        for name, line in zip(NAMES, ("bank items 45 grid 41 quantities 1 stimuli 0", "bank items 24 grid 45 quantities 0 stimuli 4",
+                                      "bank items 400 grid 61 quantities 1 stimuli 40")):
+            prefix = os.path.join(ROOT, "examples", name, name)
+            done = subprocess.run([PROGRAM, "check", prefix + ".bank.csv", prefix + ".plan.txt"], capture_output=True, text=True)
+            self.assertEqual((done.returncode, done.stdout.splitlines()[0]), (0, line))
+
+
+@needs_matplotlib
+@needs_program
+class Guide(Folder):
+    def test_commands(self):
+        """All commands of the guide, in order, with 30 examinees; the results agree with those of the report."""
+        with open(os.path.join(ROOT, "docs", "GUIDE.md"), encoding="utf-8") as file:
+            blocks = re.findall(r"^```\n((?:python3|mkdir) .*?)^```$", file.read(), re.M | re.S)
+        script = "".join(blocks).replace("/tmp/exam", self.folder).replace("--examinees 1000", "--examinees 30")
+        self.assertEqual([script.count(f"tools/{tool}.py") for tool in ("irt_bank", "explain", "simulate", "report", "score")], [1] * 5)
+        done = subprocess.run(["bash", "-e", "-c", script.replace("python3 ", sys.executable + " ")], cwd=ROOT, capture_output=True,
+                              text=True, env=dict(os.environ, SHADOWD=os.path.abspath(PROGRAM)))
+        self.assertEqual(done.returncode, 0, done.stderr)
+        self.assertIn("check: bank items 45 grid 41 quantities 1 stimuli 0", done.stdout)
+        self.assertIn("30 sessions of 20 items through replay: no rule of 14 is broken", done.stdout)
+        with open(self.path("results.csv")) as one, open(self.path("report.sessions.csv")) as other:
+            scored, reported = list(csv.DictReader(one)), list(csv.DictReader(other))
+        self.assertEqual([row["mode"] for row in scored], [row["mode"] for row in reported])
+        for one, other in zip(scored, reported):
+            self.assertLess(abs(float(one["eap"]) - float(other["eap"])), 0.01)
+            self.assertLess(abs(float(one["posterior_sd"]) - float(other["posterior_sd"])), 0.01)
+
+
+if __name__ == "__main__":
+    unittest.main()
