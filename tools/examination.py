@@ -101,7 +101,6 @@ class Plan:
     length: int = 0
     prior: list = field(default_factory=list)
     rate: tuple = (1, 1)
-    budget: int = 2001
     rules: list = field(default_factory=list)
 
     @property
@@ -127,24 +126,23 @@ def rule_of(words, remark, line):
 
 
 def plan_of(text):
-    """The plan of a text."""
-    plan, remark, kind = Plan(), "", ""
+    """The plan of a text. A remark labels the row below it, and all `stimulus` lines that follow one another."""
+    plan, remark = Plan(), ""
     for number, line in enumerate(text.splitlines(), 1):
         words = line.split()
-        if line.startswith("#") or not words:
-            remark, kind = line[1:].strip(), ""
-        elif words[0] in RULE_WORDS:
-            kept = remark if kind in ("", words[0]) else ""
-            plan.rules.append(rule_of(words, kept, number))
-            remark, kind = (remark, words[0]) if words[0] == "stimulus" else ("", "")
-        elif words[0] == "length":
+        if line.startswith("#"):
+            remark = line[1:].strip()
+            continue
+        if words and words[0] in RULE_WORDS:
+            plan.rules.append(rule_of(words, remark, number))
+        elif words and words[0] == "length":
             plan.length = int(words[1])
-        elif words[0] == "prior":
+        elif words and words[0] == "prior":
             plan.prior = [int(word) for word in words[1:]]
-        elif words[0] == "rate":
+        elif words and words[0] == "rate":
             plan.rate = int(words[1]), int(words[2])
-        elif words[0] == "budget":
-            plan.budget = int(words[1])
+        if not words or words[0] != "stimulus":
+            remark = ""
     return plan
 
 

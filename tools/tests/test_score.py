@@ -20,11 +20,12 @@ AFTER_ONE, AFTER_TWO = [-40, -15, -11], [-40, -16, -31]
 class Readers(Folder):
     def test_plan(self):
         plan = plan_of("# c\nlength 4\nprior -1 0\nrate 1 2\n\n# row 0: alpha\ncount 1 2 0-1 4\nenemies 2 5\n"
-                       "# words\nquantity 1 5 9 3\n# per passage\nstimulus 1 2 3\nstimulus 2 1 4\nstimuli 0 1\n")
+                       "# words\nquantity 1 5 9 3\n# per passage\nstimulus 1 2 3\nstimulus 2 1 4\n# not of a row\n"
+                       "budget 5\nstimuli 0 1\n")
         self.assertEqual((plan.length, plan.prior, plan.rate, plan.start), (4, [-1, 0], (1, 2), 1))
         self.assertEqual([(r.label, r.line, r.low, r.high) for r in plan.rules], [
             ("row 0: alpha", 7, 1, 2), ("enemies 2 5", 8, 0, 1), ("words", 10, 5, 9),
-            ("per passage, passage 1", 12, 2, 3), ("per passage, passage 2", 13, 1, 4), ("stimuli 0 1", 14, 0, 1)])
+            ("per passage, passage 1", 12, 2, 3), ("per passage, passage 2", 13, 1, 4), ("stimuli 0 1", 16, 0, 1)])
         self.assertEqual(plan.rules[0].members, {0, 1, 4})
 
     def test_values_of_rules(self):
