@@ -11,8 +11,8 @@ from common import PROGRAM, ROOT, Folder, needs_matplotlib, needs_numpy, needs_p
 NAMES = ("knowledge", "aggression", "passages")
 
 
-@needs_numpy
 class Examples(Folder):
+    @needs_numpy
     def test_made_again(self):
         """examples/make.sh gives the files that are there, byte for byte."""
         done = subprocess.run(["bash", os.path.join(ROOT, "examples", "make.sh"), self.folder], capture_output=True, text=True,
@@ -31,6 +31,38 @@ class Examples(Folder):
             prefix = os.path.join(ROOT, "examples", name, name)
             done = subprocess.run([PROGRAM, "check", prefix + ".bank.csv", prefix + ".plan.txt"], capture_output=True, text=True)
             self.assertEqual((done.returncode, done.stdout.splitlines()[0]), (0, line))
+
+
+@needs_program
+class Clashes(Folder):
+    """Plans of the knowledge example that no set of items meets, with sets of rules worked out by hand."""
+
+    def explained(self, changes, more=""):
+        """The labels that explain.py names, where rows of these labels have other bounds."""
+        prefix = os.path.join(ROOT, "examples", "knowledge", "knowledge")
+        with open(prefix + ".plan.txt", encoding="utf-8") as file:
+            text = file.read() + more
+        for label, bounds in changes.items():
+            text, times = re.subn(rf"(?m)^(# row \d+: {label}: .*\n\w+) \d+ \d+", rf"\g<1> {bounds}", text)
+            self.assertEqual(times, 1, label)
+        self.write("plan", text)
+        status, said, errors = self.tool("explain", prefix + ".bank.csv", "plan", "--program", PROGRAM)
+        self.assertEqual((status, errors), (11, ""))
+        return re.findall(r"(?m)^  line .*?   (?:row \d+: )?([\w ]+)", said)
+
+    def test_too_many_of_one_key(self):
+        """14 of key D and 3 of each other key are 23 of 20 items; any three of the four fit."""
+        self.assertEqual(self.explained({"key D": "14 20"}), ["key A", "key B", "key C", "key D"])
+
+    def test_domains_that_add_up_to_more(self):
+        """6 + 6 + 6 + 3 of four domains are 21 of 20 items; the fifth, of 3 too, is not needed beside one of its kind."""
+        found = self.explained({"politics": "6 9", "history": "6 9", "economy": "6 9"})
+        self.assertEqual((found[:3], len(found)), (["politics", "history", "economy"], 4))
+        self.assertIn(found[3], ("culture", "science"))
+
+    def test_one_rule_alone(self):
+        """The 20 shortest items have 412 words in all."""
+        self.assertEqual(self.explained({}, "# row 14: few words\nquantity 0 100 411 0-44\n"), ["few words"])
 
 
 @needs_matplotlib
