@@ -21,6 +21,7 @@ import sys
 
 try:
     import matplotlib
+    import matplotlib.ticker
     import numpy as np
 except ImportError:
     sys.exit("report.py needs numpy and matplotlib: apt-get install python3-numpy python3-matplotlib, "
@@ -301,22 +302,26 @@ def forms(study):
 # ---------------------------------------------------------------- rules and proofs
 
 def rules(study, broken):
-    rows = []
-    for rule in study.rules:
-        values = [rule.value(session.items, study.examination.bank) for session in study.sessions]
-        values = np.array([value for value in values if value is not None])
-        if len(values) == 0:
-            rows.append([html.escape(rule.label), rule.low, rule.high] + ["-"] * 5 + [0])
-            continue
-        bad = sum(one.rule is rule for one in broken)
-        rows.append([html.escape(rule.label), rule.low, rule.high, values.min(), f"{values.mean():.1f}", values.max(),
-                     f"{(values == rule.low).mean():.0%}", f"{(values == rule.high).mean():.0%}",
-                     f"<span class=bad>{bad}</span>" if bad else 0])
-    head = ["Rule", "Low", "High", "Least", "Mean", "Greatest", "At low", "At high", "Broken"]
+    rows = [rule_row(study, rule, sum(one.rule is rule for one in broken)) for rule in study.rules]
+    head = ["Rule", "Low", "High", "Tests", "Least", "Mean", "Greatest", "At low", "At high", "Broken"]
     said = f"<span class=bad>{len(broken)} rules are broken.</span>" if broken else "No rule is broken."
     return f"<p>{said} {len(study.rules)} rules, {len(study.sessions)} tests.</p>" + table(head, rows) + note(
-        "Counted here from the items served, by a reader of the plan that shares nothing with the product. A passage "
-        "counts where a test uses it. A rule that is at a bound in most tests may cost information.")
+        "Counted here from the items served, by a reader of the plan that shares nothing with the product. The rule of a "
+        "passage is counted in the tests that use it. A rule that is at a bound in most tests may cost information.")
+
+
+def rule_row(study, rule, bad):
+    """A rule with its bounds, and its values over the tests that it speaks of."""
+    label = rule.label
+    if rule.kind == "stimulus" and rule.number <= len(study.examination.map["passages"]):
+        label = f"{label} ({study.examination.map['passages'][rule.number - 1]})"
+    values = [rule.value(session.items, study.examination.bank) for session in study.sessions]
+    values = np.array([value for value in values if value is not None])
+    begin = [html.escape(label), rule.low, rule.high, len(values)]
+    if len(values) == 0:
+        return begin + ["-"] * 5 + [0]
+    return begin + [values.min(), f"{values.mean():.1f}", values.max(), f"{(values == rule.low).mean():.0%}",
+                    f"{(values == rule.high).mean():.0%}", f"<span class=bad>{bad}</span>" if bad else 0]
 
 
 def proofs(study):
@@ -329,15 +334,17 @@ def proofs(study):
     right.plot(steps, nodes.mean(0), "-o", ms=3, label="mean")
     right.plot(steps, nodes.max(0), "-s", ms=3, label="greatest")
     right.set(xlabel="step", ylabel="nodes of the proof tree", yscale="log", ylim=(0.8, 1.6 * max(3, nodes.max())))
+    right.yaxis.set_major_formatter(matplotlib.ticker.ScalarFormatter())
+    right.yaxis.set_minor_formatter(matplotlib.ticker.NullFormatter())
     for axes in (left, right):
         axes.xaxis.get_major_locator().set_params(integer=True)
     right.legend(fontsize=8)
     rows = [["steps proved best", f"{marks.sum()} of {marks.size} ({marks.mean():.2%})"],
             ["nodes of a step, mean and greatest", f"{nodes.mean():.1f}, {nodes.max()}"],
             ["wall time", f"{study.run['wall']:.1f} s"]] + times(study.run)
-    return picture(figure, "Proofs and nodes") + facts(rows) + note(html.escape(
-        f"Through {study.run['through']}: {study.run['said']}. Through replay each round reads and checks the whole journal "
-        "again, which serve does once."))
+    said = {"replay": f"{study.run['said']}, each of which reads and checks the whole journal again.",
+            "serve": f"The server's last line: {study.run['said']}"}
+    return picture(figure, "Proofs and nodes") + facts(rows) + note(html.escape(said[study.run["through"]]))
 
 
 def times(run):
