@@ -117,6 +117,9 @@ class Gap(unittest.TestCase):
         items = [check_tree.Item(0, [], [info]) for info in (5, 9, 2, 7)]
         problem = check_tree.Problem(check_tree.Bank(items, 1, 0), check_tree.Plan(2, [0], [], []), 0, frozenset(), frozenset(), None)
         self.assertEqual(greatest_bound(problem, [], [(check_tree.OPEN, None)]), 16)
+        row = check_tree.Row("count", 0, 9, frozenset(range(4)), None)
+        worse = problem._replace(plan=problem.plan._replace(rows=[row]))
+        self.assertEqual(greatest_bound(worse, [{0: 5000}], [(check_tree.OPEN, None)]), 16)
         self.assertIsNone(greatest_bound(problem, [], [(check_tree.WHOLE, None)]))
 
 

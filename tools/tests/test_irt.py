@@ -72,6 +72,7 @@ class Models(unittest.TestCase):
         self.near(np.log(Item("x", "2PL", [2.5, 4.0]).probabilities(-8.0)[1]), -30.0)
         self.near(np.log(Item("x", "GR", [2.5, -4.0, 4.0]).probabilities(-8.0)[2]), -30.0)
         self.near(np.log(Item("x", "2PL", [2.5, -4.0]).probabilities(8.0)[0]), -30.0)
+        self.near(np.log(Item("x", "GR", [2.5, -4.0, 4.0]).probabilities(8.0)[0]), -30.0)
 
     def test_faults(self):
         for item in one_of_each():

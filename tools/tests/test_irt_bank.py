@@ -76,6 +76,10 @@ class Numbers(Converter):
                           "0,0,2,197,250,197,-313,-693,-1313,-1313,-693,-313"])
         self.assertIn("\nprior -500 0 -500\n", self.read("o.plan.txt"))
 
+    def test_the_greatest_value_of_a_prior_is_0(self):
+        self.convert({"items": TWO}, "--length", "1", "--grid", "-1", "3", "3", "--prior", "0", "1")
+        self.assertIn("\nprior 0 0 -4000\n", self.read("o.plan.txt"))
+
     def test_the_same_bytes_again(self):
         first = self.bank(TWO), self.read("o.plan.txt"), self.read("o.map.json")
         self.assertEqual((self.bank(TWO), self.read("o.plan.txt"), self.read("o.map.json")), first)
@@ -111,6 +115,13 @@ class Plans(Converter):
             "# ps: Number Item Per Stimulus", "stimulus 1 1 2", "# row 3: e: Enemy Item W < 99", "enemies 0-1",
             "# row 4: i: Include Item K == x", "count 1 1 0", "# row 5: x: Exclude Item K == y", "count 0 0 1",
             "# row 6: t: Sum Item W, K == x", "quantity 0 1 33553920 0"])
+
+    def test_a_mean_is_a_sum(self):
+        """A mean of 5.5 to 6.2 over two items is a sum of 11 to 12."""
+        rules = ONE_ITEM.replace("1,1", "2,2") + "m,Mean,Item,W,5.5,6.2\n"
+        status, errors = self.convert(dict(items=TWO, attributes=ATTRIBUTES, constraints=rules), "--quantity", "W")
+        self.assertEqual(status, 0, errors)
+        self.assertIn("\nquantity 0 11 12 0-1\n", self.read("o.plan.txt"))
 
     def test_all_or_none_is_a_passage(self):
         rules = ONE_ITEM.replace("1,1", "2,2") + "pair,AllOrNone,Item,K %in% c(x),,\n"
@@ -174,6 +185,7 @@ class Refusals(Converter):
                 (ONE_ITEM + "c1,Number,Item,K == z,1,1\n", "no item meets"),
                 (ONE_ITEM + "c1,Number,Item,K == x,2,2\n", "at least 2 asked, 1 items meet"),
                 (ONE_ITEM + "c1,Number,Item,K == x,2,1\n", "LB 2 is above UB 1"),
+                (ONE_ITEM + "c1,Number,Item,W > 0,2,2\n", "at least 2 asked, a test has 1 items"),
                 (ONE_ITEM + "c1,Number,Item,K == x,0.5,1\n", "line 3 column LB: '0.5' is not a whole number"),
                 (ONE_ITEM + "c1,Number,Item,K ~ x,1,1\n", "c1: after K one of"),
                 (ONE_ITEM + "c1,Sum,Item,W,1,9\n", "'W' is no quantity; add --quantity W"),
@@ -219,6 +231,11 @@ class Warnings(Converter):
         rules = RULES + "c0,Number,Item,,2,2\nx,Number,Item,K == x,0,1\ny,Number,Item,K == y,0,0\n"
         self.warns("the greatest numbers of the rules on K add up to 1, a test has 2 items",
                    dict(items=TWO, attributes=ATTRIBUTES, constraints=rules))
+        rules = RULES + "c0,Number,Item,,1,1\nx,Number,Item,K == x,1,1\nxy,Number,Item,\"K %in% c(x,y)\",1,1\n"
+        status, errors = self.convert(dict(items=TWO, attributes=ATTRIBUTES, constraints=rules))
+        self.assertEqual((status, "add up to" in errors), (0, False))
+
+    def test_items_in_no_rule(self):
         rules = RULES + "c0,Number,Item,,1,1\ny,Number,Item,W == 7,0,1\n"
         self.warns("1 items are in no rule of content (A)", dict(items=TWO, attributes=ATTRIBUTES, constraints=rules))
 

@@ -124,6 +124,12 @@ class Results(Folder):
         status, _, errors = self.tool("score", "bank", "plan", "map", "--lines", "lines", "--script", "script")
         self.assertEqual((status, "is not the map of" in errors), (1, True))
 
+    def test_an_answer_that_is_sent_again_counts_once(self):
+        self.write("script", "begin 70\nanswer 0 0 1\nanswer 0 0 1\nlook 0\n")
+        self.write("lines", "session 0 step 0 item 2 proved\n" + "session 0 step 1 item 4 proved\n" * 3)
+        row = self.rows("--lines", "lines", "--script", "script")[0]
+        self.assertEqual((row["state"], row["answered"], row["mode"]), ("open", "1", "1.0000"))
+
     def test_sessions_that_are_closed(self):
         self.write("script", "begin 70\nanswer 0 0 1\nclose 0\n")
         self.write("lines", "session 0 step 0 item 2 proved\nsession 0 step 1 item 4 proved\nsession 0 closed\n")
