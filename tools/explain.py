@@ -151,7 +151,7 @@ def options(words):
     parser.add_argument("-h", "--help", action="store_true")
     found = parser.parse_args(words)
     if found.help or not found.plan:
-        sys.stderr.write(__doc__)
+        print(__doc__, file=sys.stdout if found.help else sys.stderr)
         sys.exit(0 if found.help else 2)
     return found
 

@@ -67,7 +67,7 @@ def options(words):
     parser.add_argument("-h", "--help", action="store_true")
     found = parser.parse_args(words)
     if found.help or not found.items or not found.out or not (found.constraints or found.length):
-        sys.stderr.write(__doc__)
+        print(__doc__, file=sys.stdout if found.help else sys.stderr)
         sys.exit(0 if found.help else 2)
     return found
 
@@ -103,6 +103,8 @@ def read_attributes(path, items):
 
 def read_quantities(path, items, names):
     """The values of each quantity by item."""
+    if names and not path:
+        raise Refused("--quantity needs --attributes")
     if len(names) > 8:
         raise Refused(f"{len(names)} quantities; shadowd takes at most 8")
     return [[whole(path, item, name) for item in items] for name in names]

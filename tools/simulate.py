@@ -59,7 +59,7 @@ def options(words):
     parser.add_argument("-h", "--help", action="store_true")
     found = parser.parse_args(words)
     if found.help or not found.prefix or not found.out:
-        sys.stderr.write(__doc__)
+        print(__doc__, file=sys.stdout if found.help else sys.stderr)
         sys.exit(0 if found.help else 2)
     if not 1 <= found.examinees <= MOST_SESSIONS or not 1 <= found.clients <= 16:
         raise Refused(f"--examinees is 1 to {MOST_SESSIONS}, --clients 1 to 16")

@@ -23,6 +23,8 @@ def read_table(path):
     if not records:
         raise Refused(f"{path}: empty")
     head = [cell.strip() for cell in records[0][1]]
+    if len(head) == 1 and ";" in head[0]:
+        raise Refused(f"{path}: line 1: the fields are parted by semicolons; save it with commas")
     named = [name for name in head if name]
     if len(set(named)) != len(named):
         twice = next(name for name in named if named.count(name) > 1)

@@ -150,7 +150,7 @@ class Refusals(Converter):
     def test_parameters(self):
         many = HEAD + "".join(f"B{k},2PL,1,0,\n" for k in range(513))
         for text, words in (
-                ("", "items: empty"), ("x,y\n1,2\n", "none of the known conventions"),
+                ("", "items: empty"), ("a;b\n1;0\n", "parted by semicolons"), ("x,y\n1,2\n", "none of the known conventions"),
                 ("lambdaj,delta1\n1,2\n", "rating scale model"), ("a,a,b\n1,1,0\n", "column a is there twice"),
                 (HEAD + "A,2PL,1,zero,\n", "line 2 column PAR2: 'zero' is not a finite number"),
                 (HEAD + "A,2PL,1,inf,\n", "line 2 column PAR2: 'inf' is not a finite number"),
@@ -200,8 +200,19 @@ class Refusals(Converter):
 
     def test_command_line(self):
         self.refuses({"items": TWO}, "2 to 61 points", "--length", "1", "--grid", "-4", "4", "62")
+        self.refuses({"items": TWO}, "--quantity needs --attributes", "--length", "1", "--quantity", "W")
         self.refuses({"items": TWO}, "--rate needs --key", "--length", "1", "--rate", "1", "2")
         self.refuses({"items": TWO}, "is not above 0", "--length", "1", "--prior", "0", "0")
+
+
+@needs_numpy
+class Usage(Folder):
+    def test_help_and_a_faulty_command_line(self):
+        for tool in ("irt_bank", "explain", "score", "simulate"):
+            status, said, errors = self.tool(tool, "--help")
+            self.assertEqual((status, "usage: " in said, errors), (0, True, ""))
+            status, said, errors = self.tool(tool)
+            self.assertEqual((status, said, "usage: " in errors), (2, "", True))
 
 
 @needs_numpy
