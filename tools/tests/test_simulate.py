@@ -5,7 +5,7 @@ import os
 import re
 import unittest
 
-from common import PROGRAM, Folder, needs_matplotlib, needs_numpy, needs_program
+from common import PROGRAM, Folder, needs_matplotlib, needs_numpy, needs_program, needs_serve
 
 try:
     import numpy as np
@@ -138,6 +138,17 @@ class Simulations(Examination):
         status, said, errors = self.simulate(program=PROGRAM)
         self.assertEqual(status, 0, errors)
         self.assertEqual([len(items) for _, items, _ in self.sessions()], [4] * 4)
+
+    @needs_serve
+    def test_the_program_over_http(self):
+        """The same sessions through serve, by one client and by three, as through replay."""
+        status, _, errors = self.simulate(program=PROGRAM)
+        self.assertEqual(status, 0, errors)
+        by_replay = self.sessions()
+        for clients in ("1", "3"):
+            status, said, errors = self.simulate("--through", "serve", "--clients", clients, program=PROGRAM)
+            self.assertEqual((status, self.sessions()), (0, by_replay), errors)
+            self.assertIn("entries ", said)
 
 
 @needs_matplotlib
