@@ -90,7 +90,7 @@ def row(name, found, theta, examination, sessions):
 
 
 def main():
-    parser = argparse.ArgumentParser(usage=__doc__, add_help=False)
+    parser = argparse.ArgumentParser(usage=__doc__.partition("usage: ")[2], add_help=False)
     parser.add_argument("prefix")
     parser.add_argument("--run", required=True)
     parser.add_argument("--examinees", type=int, default=200)

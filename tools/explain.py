@@ -143,7 +143,7 @@ def print_gap(objective, bound, unit):
 # ---------------------------------------------------------------- command line
 
 def options(words):
-    parser = argparse.ArgumentParser(usage=__doc__, add_help=False)
+    parser = argparse.ArgumentParser(usage=__doc__.partition("usage: ")[2], add_help=False)
     parser.add_argument("bank", nargs="?")
     parser.add_argument("plan", nargs="?")
     parser.add_argument("--map")

@@ -50,7 +50,7 @@ PRIOR_MEANS = (-2, -1, 0, 1, 2)
 
 
 def options(words):
-    parser = argparse.ArgumentParser(usage=__doc__, add_help=False)
+    parser = argparse.ArgumentParser(usage=__doc__.partition("usage: ")[2], add_help=False)
     for name in ("items", "attributes", "constraints", "out", "key", "model", "program"):
         parser.add_argument("--" + name)
     parser.add_argument("--format", default="auto", choices=("auto",) + FORMATS)

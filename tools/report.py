@@ -118,10 +118,12 @@ def recovery(study):
         rows.append([NAMES[name], f"{errors.mean():+.3f}", f"{root_mean_square(errors):.3f}",
                      f"{np.abs(errors).mean():.3f}", correlation])
     head = ["Estimate, from the same answers", "Bias", "RMSE", "Mean absolute error", "Correlation with the truth"]
-    standard = study.errors("mode").std(ddof=1) / np.sqrt(len(study.true)) if len(study.true) > 1 else 0
-    return table(head, rows) + note(
-        f"RMSE is the root mean square error. The standard error of a bias here is about {standard:.3f}. shadowd chooses "
-        "items at the mode on the grid. The mean is what a score report gives (tools/score.py).")
+    said = "RMSE is the root mean square error. "
+    if len(study.true) > 1:
+        standard = study.errors("mode").std(ddof=1) / np.sqrt(len(study.true))
+        said += f"The standard error of a bias here is about {standard:.3f}. "
+    return table(head, rows) + note(said + "shadowd chooses items at the mode on the grid. The mean is what a score "
+                                    "report gives (tools/score.py).")
 
 
 def by_ability(study):
@@ -395,7 +397,7 @@ def write_sessions(path, study):
 
 
 def options(words):
-    parser = argparse.ArgumentParser(usage=__doc__, add_help=False)
+    parser = argparse.ArgumentParser(usage=__doc__.partition("usage: ")[2], add_help=False)
     parser.add_argument("prefix", nargs="?")
     for name in ("run", "to", "rules"):
         parser.add_argument("--" + name)

@@ -28,7 +28,7 @@ from tables import Refused
 
 
 def options(words):
-    parser = argparse.ArgumentParser(usage=__doc__, add_help=False)
+    parser = argparse.ArgumentParser(usage=__doc__.partition("usage: ")[2], add_help=False)
     for name in ("bank", "plan", "map"):
         parser.add_argument(name, nargs="?")
     for name in ("journal", "lines", "script", "answers"):

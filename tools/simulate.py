@@ -5,7 +5,7 @@ usage: simulate.py PREFIX --out OUT [options]      PREFIX.bank.csv, PREFIX.plan.
 
   --examinees N     default 1000; at most 65,536
   --seed N          default 1: the same seed gives the same abilities and answers
-  --true ..         normal MEAN SD (default normal 0 1), uniform LOW HIGH, or points T,T,.. with equal numbers
+  --true ..         normal MEAN SD (default normal 0 1), uniform LOW HIGH, or points T T .. with equal numbers
   --through WAY     replay (default) or serve: rounds of `shadowd replay`, or HTTP against `shadowd serve`
   --group N         examinees at once through replay; default all, and 25 where the plan has an exposure rate, since
                     the draws of a session see only sessions that are finished
@@ -45,7 +45,7 @@ MEMORY = "/dev/shm"
 
 
 def options(words):
-    parser = argparse.ArgumentParser(usage=__doc__, add_help=False)
+    parser = argparse.ArgumentParser(usage=__doc__.partition("usage: ")[2], add_help=False)
     parser.add_argument("prefix", nargs="?")
     parser.add_argument("--out")
     parser.add_argument("--examinees", type=int, default=1000)

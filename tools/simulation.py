@@ -49,19 +49,19 @@ def load(prefix):
 # ---------------------------------------------------------------- examinees
 
 def abilities(words, number, seed):
-    """True abilities: normal MEAN SD, uniform LOW HIGH, or points T,T,.. with equal numbers at each."""
+    """True abilities: normal MEAN SD, uniform LOW HIGH, or points T T .. with equal numbers at each."""
     rng = np.random.default_rng([seed, 1])
     try:
         if words[0] == "normal" and len(words) == 3:
             return rng.normal(float(words[1]), float(words[2]), number)
         if words[0] == "uniform" and len(words) == 3:
             return rng.uniform(float(words[1]), float(words[2]), number)
-        if words[0] == "points" and len(words) == 2:
-            points = [float(word) for word in words[1].split(",")]
+        if words[0] == "points" and len(words) > 1:
+            points = [float(word) for word in words[1:]]
             return np.repeat(points, -(-number // len(points)))[:number]
     except ValueError:
         pass
-    raise Refused(f"--true {' '.join(words)}: normal MEAN SD, uniform LOW HIGH, or points T,T,..")
+    raise Refused(f"--true {' '.join(words)}: normal MEAN SD, uniform LOW HIGH, or points T T ..")
 
 
 def drawn_responses(items, theta, scaling, seed):

@@ -50,7 +50,7 @@ class Examinees(unittest.TestCase):
         self.assertTrue((drawn == simulation.drawn_responses(items, theta, 1.0, 7)).all())
 
     def test_points_have_equal_numbers(self):
-        self.assertEqual(simulation.abilities(["points", "-1,0,2"], 6, 1).tolist(), [-1, -1, 0, 0, 2, 2])
+        self.assertEqual(simulation.abilities(["points", "-1", "0", "2"], 6, 1).tolist(), [-1, -1, 0, 0, 2, 2])
 
     def test_responses_follow_the_model(self):
         """At one ability the shares of the categories are within four standard errors of their probabilities."""
@@ -99,7 +99,7 @@ class Simulations(Examination):
         self.assertEqual(status, 0, errors)
         self.assertIn("4 sessions of 4 items through replay: no rule of 1 is broken", said)
         by_replay = self.sessions()
-        status, _, errors = self.simulate("--group", "2")
+        status, _, errors = self.simulate("--group", "2", "--true", "normal", "0", "1")
         self.assertEqual((status, self.sessions()), (0, by_replay), errors)
         status, said, errors = self.simulate("--through", "serve", "--clients", "3")
         self.assertEqual(status, 0, errors)
@@ -127,6 +127,11 @@ class Simulations(Examination):
                 status, _, errors = self.simulate("--through", "serve", "--clients", "2", fake=fake)
                 self.assertEqual(status, 1)
                 self.assertIn(words, errors)
+
+    def test_points_below_zero_on_the_command_line(self):
+        status, _, errors = self.simulate("--true", "points", "-2", "0")
+        self.assertEqual(status, 0, errors)
+        self.assertEqual(json.loads(self.read("run.run.json"))["true"], [-2, -2, 0, 0])
 
     def test_other_rules_can_be_counted(self):
         self.write("other", "length 4\nprior 0\n# row 0: odds\ncount 0 2 1 3 5 7\n")
