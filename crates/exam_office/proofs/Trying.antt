@@ -1,4 +1,4 @@
--- What the commit of an assembly comes to, where nothing is in doubt.
+-- What the commit of an assembly does, where nothing is in doubt.
 use Rattle.std.proofs.Common.{◌≡◌, inl, inr, ℕ, List, length, Option, Some, Result, Ok, Err, OnOk, IsTrue, sym, ap, subst, arith}
 use Rattle.bank_tables.specs.Items.{Set, has}
 use Rattle.bank_tables.specs.Tables.{Tables}

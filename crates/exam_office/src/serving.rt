@@ -73,7 +73,7 @@ impl<'a, D: Disk> Office<'a, D> {
         }
     }
 
-    /// Serves the item of a session that stands here, if it waits for one.
+    /// Serves the item of a session, if it waits for one.
     pub(crate) fn serve(&mut self, alloc: Global, session: u32, at: Place) -> Result<Place, Refusal>
         requires at { place self.old.plan (history self.old.marks) session ≡ Some at }
         requires durable { IsDurable self.old.bank self.old.plan self.old }

@@ -65,7 +65,7 @@ sure_of b plan H doubt file e m = subst (λ (G : List Entry). Stands b plan G fi
     here doubt e _ (as_before _) = refl
     here _ e _ (with_doubt entry) = cc
 
--- what the office says of its disk when it is handed back
+-- what is known of an office's disk when it is handed back
 pub record IsHandedBack {D : Type 0} (b : Tables) (plan : Plan) (disk : DiskSeen) (old new : Running D) : Type 0 where
   pub legal : LegalRun b plan (history old.marks)
   pub found : IsTrue disk.told → Stands b plan (history old.marks) disk.found
@@ -116,7 +116,7 @@ module _ {D : Type 0} (b : Tables) (plan : Plan) (base : List ℕ) (disk : DiskS
     pub halted_so : (h : Halt) → IsUnserved b plan base script old new told was now h → Halted b plan base disk script told was now h
     halted_so h stops = inr (stop_so h stops)
 
--- what is said of equals
+-- what holds of equals
 pub as_given : (P : Tables → Plan → List ℕ → Type 0) (b c : Tables) (p q : Plan) (f h : List ℕ) → b ≡ c → p ≡ q → f ≡ h → P b p f → P c q h
 as_given P b c p q f h same_bank same_plan same_base is =
     subst (λ (x : Tables). P x q h) same_bank (subst (λ (y : Plan). P b y h) same_plan (subst (λ (z : List ℕ). P b p z) same_base is))

@@ -139,7 +139,7 @@ module _ {D : Type 0} (b : Tables) (plan : Plan) (base : List ℕ) (script : Lis
       drop_all (x ∷ xs) = drop_all xs
 
 -- ---- from one office to the next
--- what is said of the office now, said of the first one
+-- what holds of the office now holds of the first one
 as_first : {D : Type 0} (P : Tables → Plan → List ℕ → Type 0) (old cur : Running D) → IsSameOffice old cur → P cur.bank cur.plan cur.base → P old.bank old.plan old.base
 as_first P old cur same is =
     subst (λ (b : Tables). P b old.plan old.base) same.bank (subst (λ (p : Plan). P cur.bank p old.base) same.plan (subst (λ (f : List ℕ). P cur.bank cur.plan f) same.base is))
