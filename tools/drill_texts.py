@@ -4,8 +4,8 @@
 usage: drill_texts.py NUMBER SESSIONS FOLDER
 
 NUMBER is 0 to 4294967295, SESSIONS is 1 to 200. The files are `bank.csv`, `plan.txt` and `script.txt` in FOLDER, which is made if
-it is missing. It shares no text with the product: it is written from the rules of the drill in the format page alone,
-so that the texts of `shadowd drill` have a second source. Exit status: 0, or 2 for a faulty command line.
+it is missing. It shares no text with the product: it is written from the rules of the drill alone (docs/FORMATS.md),
+so that the texts of crate bank_maker have a second source. Exit status: 0, or 2 for a faulty command line.
 """
 import os
 import sys

@@ -1,7 +1,7 @@
 #!/usr/bin/env python3
 """Changes each byte of a small bank text to each of the 256 values, and runs the built program on every text that comes out.
 
-usage: mutate_bank.py PROGRAM [--first-form] [--check] [--jobs N] [--places A-B] [--every N]
+usage: mutate_bank.py PROGRAM [--check] [--jobs N] [--places A-B] [--every N]
 
 PROGRAM is the built `shadowd`. Each text is either refused with status 3 and the one line that names its first fault, or it
 is read, and then the items that the program serves are those of the text's own numbers. Both are decided by the small
@@ -9,7 +9,6 @@ reader and the plain enumeration of forms in this file, which share nothing with
 were read, and how many were refused for which kind of fault; the last line is 'N passed, M failed'. Exit status 0 where each text had its
 answer.
 
---first-form   the program takes banks without stimuli alone: a text whose items have one gives status 15
 --check        the program has the command `check`: a text that is read also has its bank line there
 --jobs N       so many runs at a time (default 4)
 --places A-B   only these places of the text, from 0 on
@@ -279,7 +278,7 @@ def write(folder, name, content):
 
 def judge(settings, text, folder):
     """The kind of answer that a text had, and what was wrong with it or None."""
-    program, first_form, has_check = settings
+    program, has_check = settings
     bank = write(folder, "bank", text)
     plan = write(folder, "plan", PLAN)
     scripts = []
@@ -293,10 +292,6 @@ def judge(settings, text, folder):
         got = run(program, ["replay", bank, plan, script], folder)
         want = (3, fault.line.encode() + b"\n")
         return "refused: " + fault.kind, None if got == want else "wanted %r, got %r" % (want, got)
-    if first_form and (len(items) > 16 or any(item[0] for item in items)):
-        script = write(folder, "script", scripts[0][1])
-        got = run(program, ["replay", bank, plan, script], folder)
-        return "read, not yet served", None if got == (15, b"not yet\n") else "wanted 15, got %r" % (got,)
     if grid != len(PRIOR) or len(items) != 6:
         return "read, of another shape", "no such text is known: grid %d, %d items" % (grid, len(items))
     if has_check:
@@ -334,13 +329,11 @@ def place_answers(job):
 
 
 def main():
-    words, first_form, has_check, jobs, places, every = [], False, False, 4, range(len(BANK)), 1
+    words, has_check, jobs, places, every = [], False, 4, range(len(BANK)), 1
     rest = sys.argv[1:]
     while rest:
         word = rest.pop(0)
-        if word == "--first-form":
-            first_form = True
-        elif word == "--check":
+        if word == "--check":
             has_check = True
         elif word == "--jobs":
             jobs = int(rest.pop(0))
@@ -354,7 +347,7 @@ def main():
     if len(words) != 1:
         print(__doc__)
         return 2
-    settings, places = (os.path.abspath(words[0]), first_form, has_check), places[::every]
+    settings, places = (os.path.abspath(words[0]), has_check), places[::every]
     with tempfile.TemporaryDirectory() as folder:
         kind, fault = judge(settings, BANK, folder)
     if fault or kind != "read":
