@@ -65,6 +65,8 @@ def next_request(examinee, request, reply, responses):
     waiting = WAITING.fullmatch(reply)
     if waiting:
         session, step, item = map(int, waiting.groups())
+        if item >= len(responses[examinee]):
+            raise Stopped(f"examinee {examinee}: {reply!r}, the bank has {len(responses[examinee])} items")
         return f"answer {session} {step} {responses[examinee][item]}"
     if COMPLETE.fullmatch(reply):
         return None
@@ -199,6 +201,8 @@ def by_http(server, responses, clients, progress):
             pass
         except Stopped as stopped:
             faults.append(stopped)
+        except (LookupError, TypeError, ValueError) as fault:
+            faults.append(Stopped(f"a reply of serve is none of docs/HTTP.md: {fault!r}"))
 
     threads = [threading.Thread(target=work, args=(client,)) for client in made]
     for thread in threads:

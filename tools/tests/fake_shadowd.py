@@ -5,7 +5,7 @@ usage: fake_shadowd.py check BANK PLAN | assemble BANK PLAN | replay BANK PLAN S
 
 Environment: SHADOWD_JOURNAL, SHADOWD_LISTEN and SHADOWD_CONNECTIONS as shadowd has them; FAKE makes it faulty:
 `rules` leaves the plan's rules out, `refuse` refuses the answer of step 1, `status` ends with 9, `count` counts an
-exposure wrong, `answer` records another response.
+exposure wrong, `answer` records another response, `garbled` serves an item that the bank does not have.
 """
 import json
 import os
@@ -82,13 +82,15 @@ class Office:
         session = self.sessions[number]
         if self.complete(number):
             return f"session {number} complete"
-        return f"session {number} step {len(session.responses)} item {session.items[-1]} proved"
+        item = 999 if FAULT == "garbled" else session.items[-1]
+        return f"session {number} step {len(session.responses)} item {item} proved"
 
     def place(self, number):
         session = self.sessions[number]
         if self.complete(number):
             return {"session": number, "state": "complete"}
-        return {"item": session.items[-1], "proved": True, "session": number, "state": "waiting", "step": len(session.responses)}
+        item = None if FAULT == "garbled" else session.items[-1]
+        return {"item": item, "proved": True, "session": number, "state": "waiting", "step": len(session.responses)}
 
     def exposure(self):
         whole = [session for number, session in enumerate(self.sessions) if self.complete(number)]

@@ -3,6 +3,7 @@ import json
 import math
 import os
 import re
+import sys
 import unittest
 
 from common import PROGRAM, Folder, needs_matplotlib, needs_numpy, needs_program, needs_serve
@@ -25,16 +26,18 @@ class Examination(Folder):
 
     def setUp(self):
         super().setUp()
+        self.fake = self.write("fake", f'#!/bin/sh\nexec "{sys.executable}" "{FAKE}" "$@"\n')
+        os.chmod(self.fake, 0o755)
         for name, text in (("items", PARAMETERS), ("attributes", ATTRIBUTES), ("constraints", RULES)):
             self.write(name, text)
         status, _, errors = self.tool("irt_bank", "--items", "items", "--attributes", "attributes", "--constraints",
                                       "constraints", "--out", "e", "--grid", "-3", "3", "7")
         self.assertEqual(status, 0, errors)
 
-    def simulate(self, *words, fake="", program=FAKE):
+    def simulate(self, *words, fake="", program=None):
         os.environ["FAKE"] = fake
         try:
-            return self.tool("simulate", "e", "--out", "run", "--program", program, "--examinees", "4", *words)
+            return self.tool("simulate", "e", "--out", "run", "--program", program or self.fake, "--examinees", "4", *words)
         finally:
             os.environ["FAKE"] = ""
 
@@ -114,6 +117,7 @@ class Simulations(Examination):
     def test_faults_end_it_with_their_place(self):
         for fake, words in (("rules", "rules are broken, the first in session 0: count 1 1 0 2 4 6 (row 0: evens"),
                             ("refuse", "examinee 0: 'answer 0 1 "), ("status", "status 9: disk failed"),
+                            ("garbled", "item 999 proved', the bank has 8 items"),
                             ("count", "item 0: shown "), ("answer", "session 0: the journal's answers are not those")):
             with self.subTest(fake):
                 status, _, errors = self.simulate(fake=fake)
@@ -122,6 +126,7 @@ class Simulations(Examination):
 
     def test_faults_over_http(self):
         for fake, words in (("rules", "rules are broken"), ("refuse", 'answers: status 422: {"error": "bad-response"'),
+                            ("garbled", "is none of docs/HTTP.md"),
                             ("status", "serve ended with status 9: disk failed"), ("count", "item 0: shown ")):
             with self.subTest(fake):
                 status, _, errors = self.simulate("--through", "serve", "--clients", "2", fake=fake)
