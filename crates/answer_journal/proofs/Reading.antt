@@ -11,7 +11,7 @@ use Rattle.answer_journal.specs.Frames.{FileHeader, IsPayload, frames, front, Sc
 use Rattle.answer_journal.specs.FrameLaws.{fits-push}
 use Rattle.answer_journal.specs.Payload.{bytes_of, at_of, places_of, end_of}
 use Rattle.answer_journal.specs.Reading.{length_at, IsFound, with_all, IsRead}
-use Rattle.answer_journal.specs.Reading.{Walked}
+use Rattle.answer_journal.specs.Reading.{Walked, IsPlaced}
 use Rattle.answer_journal.specs.declared.payload.Payload.{Payload}
 use Rattle.answer_journal.specs.declared.frames.Found.TheVariants.{Closed, NoLength, Short, Record}
 
@@ -97,27 +97,23 @@ module _ (h : FileHeader) where
         below (suc (suc (suc zero))) = small (at + 4)
         below (suc (suc (suc (suc i)))) = omega arith
 
-  module _ (bytes : List ℕ) (read : List Payload) (at : ℕ) (w : Walked h bytes read at) where
-    ps : List (List ℕ)
-    ps = map bytes_of read
-
-    fuel : 0 < length bytes - length read
+  module _ (bytes : List ℕ) (ps : List (List ℕ)) (at : ℕ) (w : Walked h bytes ps at) where
+    fuel : 0 < length bytes - length ps
     fuel = omega (arith, w.in_file, w.count)
 
     here : drop at bytes ≡ get_or bytes at 0 ∷ drop (at + 1) bytes
     here = drop_more bytes at 0 w.in_file
 
-    opens : (get_or bytes at 0 == 1) ≡ true → scan (length bytes - length read) at (drop at bytes) ≡ goes_on_behind at (behind (drop (at + 1) bytes)) (scan (length bytes - length read - 1))
-    opens is = ap (scan (length bytes - length read) at) here ∙ scan_open (length bytes - length read) at (get_or bytes at 0) (drop (at + 1) bytes) fuel is
+    opens : (get_or bytes at 0 == 1) ≡ true → scan (length bytes - length ps) at (drop at bytes) ≡ goes_on_behind at (behind (drop (at + 1) bytes)) (scan (length bytes - length ps - 1))
+    opens is = ap (scan (length bytes - length ps) at) here ∙ scan_open (length bytes - length ps) at (get_or bytes at 0) (drop (at + 1) bytes) fuel is
 
-    pub closed : 9 < length bytes → IsFound bytes at Closed → IsRead h bytes read at
+    pub closed : 9 < length bytes → IsFound bytes at Closed → IsRead h bytes ps at
     unfolding payloads
     closed more shut =
-        let ends : scan (length bytes - length read) at (drop at bytes) ≡ Whole [] = ap (scan (length bytes - length read) at) here ∙ scan_shut (length bytes - length read) at (get_or bytes at 0) (drop (at + 1) bytes) fuel shut in
-        let all : scan (length bytes) 8 (drop 8 bytes) ≡ Whole (map bytes_of read) = sym w.scanned ∙ ap (with_all (map bytes_of read)) ends ∙ with_all-whole (map bytes_of read) [] ∙ ap Whole (append-nil (map bytes_of read)) in
+        let ends : scan (length bytes - length ps) at (drop at bytes) ≡ Whole [] = ap (scan (length bytes - length ps) at) here ∙ scan_shut (length bytes - length ps) at (get_or bytes at 0) (drop (at + 1) bytes) fuel shut in
+        let all : scan (length bytes) 8 (drop 8 bytes) ≡ Whole ps = sym w.scanned ∙ ap (with_all ps) ends ∙ with_all-whole ps [] ∙ ap Whole (append-nil ps) in
         let long : nat_le (length bytes) 9 ≡ false = lt-leb (length bytes) 9 more in
         record {
-          places = w.places;
           gives = rw (long, w.header, all) refl;
           in_file = w.in_file;
           closed = eqb-false (get_or bytes at 0) 1 shut;
@@ -127,58 +123,61 @@ module _ (h : FileHeader) where
 
     pub refused_length : IsFound bytes at NoLength → scan (length bytes) 8 (drop 8 bytes) ≡ BadLength at
     refused_length found =
-        sym w.scanned ∙ ap (with_all (map bytes_of read)) (opens found.0 ∙ ap (λ (b : Behind). goes_on_behind at b (scan (length bytes - length read - 1))) found.1) ∙ with_all-length (map bytes_of read) at
+        sym w.scanned ∙ ap (with_all ps) (opens found.0 ∙ ap (λ (b : Behind). goes_on_behind at b (scan (length bytes - length ps - 1))) found.1) ∙ with_all-length ps at
 
     pub refused_cut : IsFound bytes at Short → scan (length bytes) 8 (drop 8 bytes) ≡ CutOff at
     refused_cut found =
-        sym w.scanned ∙ ap (with_all (map bytes_of read)) (opens found.0 ∙ ap (λ (b : Behind). goes_on_behind at b (scan (length bytes - length read - 1))) found.1) ∙ with_all-cut (map bytes_of read) at
+        sym w.scanned ∙ ap (with_all ps) (opens found.0 ∙ ap (λ (b : Behind). goes_on_behind at b (scan (length bytes - length ps - 1))) found.1) ∙ with_all-cut ps at
 
-    module _ (n : ℕ) (found : IsFound bytes at (Record n)) (payload : Payload) (at_is : payload.at ≡ at) (is : payload.bytes.items ≡ take n (drop (at + 5) bytes)) (small : (i : ℕ) → get_or bytes i 0 < 256) where
-      size : length payload.bytes.items ≡ n
+    module _ (n : ℕ) (found : IsFound bytes at (Record n)) (p : List ℕ) (is : p ≡ take n (drop (at + 5) bytes)) (small : (i : ℕ) → get_or bytes i 0 < 256) where
+      size : length p ≡ n
       size = omega (arith, ap length is, length-take n (drop (at + 5) bytes), length-drop (at + 5) bytes, found.3)
 
-      ps_new : map bytes_of (read ++ payload ∷ []) ≡ map bytes_of read ++ payload.bytes.items ∷ []
-      ps_new = map-append bytes_of read (payload ∷ [])
-
-      before_new : take (at + 5 + n) bytes ≡ front h (map bytes_of read ++ payload.bytes.items ∷ [])
+      before_new : take (at + 5 + n) bytes ≡ front h (ps ++ p ∷ [])
       before_new =
-          let q = payload.bytes.items in
-          let parts : drop at bytes ≡ 1 ∷ (to_be_bytes w32 (length q) ++ q ++ drop (at + 5 + n) bytes) =
+          let parts : drop at bytes ≡ 1 ∷ (to_be_bytes w32 (length p) ++ p ++ drop (at + 5 + n) bytes) =
           spelled bytes at n small found.3 found.4
           ∙ ap (λ (g : ℕ). g ∷ (to_be_bytes w32 (length (take n (drop (at + 5) bytes))) ++ take n (drop (at + 5) bytes) ++ drop (at + 5 + n) bytes)) (eqb-true (get_or bytes at 0) 1 found.0)
           ∙ ap (λ (l : List ℕ). 1 ∷ (to_be_bytes w32 (length l) ++ l ++ drop (at + 5 + n) bytes)) (sym is) in
-          let head = front h (map bytes_of read) ++ (1 ∷ (to_be_bytes w32 (length q) ++ q)) in
+          let head = front h ps ++ (1 ∷ (to_be_bytes w32 (length p) ++ p)) in
           let all : bytes ≡ head ++ drop (at + 5 + n) bytes =
-          sym (take-append-drop at bytes) ∙ ap (λ (l : List ℕ). l ++ drop at bytes) w.before ∙ ap (λ (l : List ℕ). front h (map bytes_of read) ++ l) parts
-          ∙ sym (append_assoc (front h (map bytes_of read)) (1 ∷ (to_be_bytes w32 (length q) ++ q)) (drop (at + 5 + n) bytes)) in
-          let long : length (front h (map bytes_of read)) ≡ at = omega (arith, ap length w.before, length-take at bytes, w.in_file) in
-          let head_size : length head ≡ at + 5 + n = omega (arith, long, size, length-append (front h (map bytes_of read)) (1 ∷ (to_be_bytes w32 (length q) ++ q)), length-append (to_be_bytes w32 (length q)) q) in
-          ap (take (at + 5 + n)) all ∙ take_at head (drop (at + 5 + n) bytes) (at + 5 + n) head_size ∙ sym (front-snoc (map bytes_of read) q)
+          sym (take-append-drop at bytes) ∙ ap (λ (l : List ℕ). l ++ drop at bytes) w.before ∙ ap (λ (l : List ℕ). front h ps ++ l) parts
+          ∙ sym (append_assoc (front h ps) (1 ∷ (to_be_bytes w32 (length p) ++ p)) (drop (at + 5 + n) bytes)) in
+          let long : length (front h ps) ≡ at = omega (arith, ap length w.before, length-take at bytes, w.in_file) in
+          let head_size : length head ≡ at + 5 + n = omega (arith, long, size, length-append (front h ps) (1 ∷ (to_be_bytes w32 (length p) ++ p)), length-append (to_be_bytes w32 (length p)) p) in
+          ap (take (at + 5 + n)) all ∙ take_at head (drop (at + 5 + n) bytes) (at + 5 + n) head_size ∙ sym (front-snoc ps p)
 
-      pub next : (new : List Payload) → new ≡ read ++ payload ∷ [] → Walked h bytes new (at + 5 + n)
-      next new new_is =
-          let q = payload.bytes.items in
-          let more = length bytes - length read - 1 in
-          let count_is : length new ≡ length read + 1 = omega (arith, ap length new_is, length-append read (payload ∷ [])) in
+      pub next : Walked h bytes (ps ++ p ∷ []) (at + 5 + n)
+      next =
+          let new = ps ++ p ∷ [] in
+          let more = length bytes - length ps - 1 in
+          let count_is : length new ≡ length ps + 1 = length-append ps (p ∷ []) in
           let left_is : length bytes - length new ≡ more = omega (arith, count_is) in
-          let reads : scan (length bytes - length read) at (drop at bytes) ≡ with_payload q (scan more (at + 5 + n) (drop (at + 5 + n) bytes)) =
+          let reads : scan (length bytes - length ps) at (drop at bytes) ≡ with_payload p (scan more (at + 5 + n) (drop (at + 5 + n) bytes)) =
           opens found.0
           ∙ ap (λ (b : Behind). goes_on_behind at b (scan more)) (found.5 ∙ ap (λ (l : List ℕ). BehindPayload l (drop (at + 5 + n) bytes)) (sym is))
-          ∙ ap (λ (k : ℕ). with_payload q (scan more (at + 5 + k) (drop (at + 5 + n) bytes))) size in
-          let names : map bytes_of new ≡ map bytes_of read ++ q ∷ [] = ap (map bytes_of) new_is ∙ ps_new in
+          ∙ ap (λ (k : ℕ). with_payload p (scan more (at + 5 + k) (drop (at + 5 + n) bytes))) size in
           record {
             in_file = found.3;
             count = omega (arith, w.count, count_is, found.1);
-            places = ap (map at_of) new_is ∙ map-append at_of read (payload ∷ []) ∙ ap (λ (l : List ℕ). l ++ payload.at ∷ []) w.places
-                ∙ ap (λ (k : ℕ). places_of 8 (map bytes_of read) ++ k ∷ []) (at_is ∙ w.place)
-                ∙ sym (places-push 8 (map bytes_of read) q) ∙ ap (places_of 8) (sym names);
-            place = (let e : at + 5 + n ≡ end_of 8 (map bytes_of read) + 5 + length q = omega (arith, size, w.place) in e ∙ sym (end-push 8 (map bytes_of read) q) ∙ ap (end_of 8) (sym names));
+            place = (let e : at + 5 + n ≡ end_of 8 ps + 5 + length p = omega (arith, size, w.place) in e ∙ sym (end-push 8 ps p));
             header = w.header;
-            scanned = ap (λ (l : List (List ℕ)). with_all l (scan (length bytes - length new) (at + 5 + n) (drop (at + 5 + n) bytes))) names
-                ∙ ap (λ (k : ℕ). with_all (map bytes_of read ++ q ∷ []) (scan k (at + 5 + n) (drop (at + 5 + n) bytes))) left_is
-                ∙ with_all-push (map bytes_of read) q (scan more (at + 5 + n) (drop (at + 5 + n) bytes))
-                ∙ ap (with_all (map bytes_of read)) (sym reads)
+            scanned = ap (λ (k : ℕ). with_all new (scan k (at + 5 + n) (drop (at + 5 + n) bytes))) left_is
+                ∙ with_all-push ps p (scan more (at + 5 + n) (drop (at + 5 + n) bytes))
+                ∙ ap (with_all ps) (sym reads)
                 ∙ w.scanned;
-            before = before_new ∙ ap (front h) (sym names);
-            fits = subst (AllByRecursion IsPayload) (sym names) (fits-push (map bytes_of read) q w.fits (record { some = omega (arith, size, found.1); few = omega (arith, size, found.2) }));
+            before = before_new;
+            fits = fits-push ps p w.fits (record { some = omega (arith, size, found.1); few = omega (arith, size, found.2) });
           }
+
+  -- the same of payloads in memory
+  pub placed : (bytes : List ℕ) (read : List Payload) (at n : ℕ) → IsPlaced h bytes read at → IsFound bytes at (Record n) → (payload : Payload) → payload.at ≡ at → payload.bytes.items ≡ take n (drop (at + 5) bytes) → ((i : ℕ) → get_or bytes i 0 < 256) → (new : List Payload) → new ≡ read ++ payload ∷ [] → IsPlaced h bytes new (at + 5 + n)
+  placed bytes read at n w found payload at_is is small new new_is =
+      let p = payload.bytes.items in
+      let names : map bytes_of new ≡ map bytes_of read ++ p ∷ [] = ap (map bytes_of) new_is ∙ map-append bytes_of read (payload ∷ []) in
+      record {
+        walked = subst (λ (qs : List (List ℕ)). Walked h bytes qs (at + 5 + n)) (sym names) (next bytes (map bytes_of read) at w.walked n found p is small);
+        places = ap (map at_of) new_is ∙ map-append at_of read (payload ∷ []) ∙ ap (λ (l : List ℕ). l ++ payload.at ∷ []) w.places
+            ∙ ap (λ (k : ℕ). places_of 8 (map bytes_of read) ++ k ∷ []) (at_is ∙ w.walked.place)
+            ∙ sym (places-push 8 (map bytes_of read) p) ∙ ap (places_of 8) (sym names);
+      }

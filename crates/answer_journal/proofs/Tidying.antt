@@ -7,9 +7,7 @@ use Rattle.exam_edge.specs.ImageLaws.{torn, trimmed, only, started, goes_on}
 use Rattle.answer_journal.specs.Frames.{FileHeader, front, payloads}
 use Rattle.answer_journal.specs.Standing.{payload_list, IsAtRest, Unopened, opened_file}
 use Rattle.answer_journal.specs.StandingLaws.{unopened_gives}
-use Rattle.answer_journal.specs.Payload.{bytes_of}
 use Rattle.answer_journal.specs.Reading.{IsRead}
-use Rattle.answer_journal.specs.declared.payload.Payload.{Payload}
 use Rattle.answer_journal.proofs.Crash.{at_rest, trimmed_behind, cut_behind}
 
 module _ (h : FileHeader) where
@@ -25,29 +23,29 @@ module _ (h : FileHeader) where
           goes_on P (written 0 9 (latest a0)) a0 a0 a1 (started P a0 (λ file i. ap (payloads h) (only (latest a0) content file settles i))) g
           (λ file i. let t = torn 0 9 (latest a0) content file settles i in short_gives file (omega (arith, few, t.greatest)) ∙ sym (short_gives content few))
 
-    module _ (read : List Payload) (end : ℕ) (r : IsRead h content read end) where
-      size_is : end + 1 ≡ length (front h (map bytes_of read)) + 1
+    module _ (ps : List (List ℕ)) (end : ℕ) (r : IsRead h content ps end) where
+      size_is : end + 1 ≡ length (front h ps) + 1
       size_is = omega (arith, ap length r.before, length-take end content, r.in_file)
 
-      pub shut : Unopened h (map bytes_of read) content
+      pub shut : Unopened h ps content
       shut = record {
         gate = get_or content end 0;
         junk = drop (end + 1) content;
         closed = r.closed;
-        is = sym (take-append-drop end content) ∙ ap (λ (l : List ℕ). l ++ drop end content) r.before ∙ ap (λ (l : List ℕ). front h (map bytes_of read) ++ l) (drop_more content end 0 r.in_file);
+        is = sym (take-append-drop end content) ∙ ap (λ (l : List ℕ). l ++ drop end content) r.before ∙ ap (λ (l : List ℕ). front h ps ++ l) (drop_more content end 0 r.in_file);
       }
 
       pub cut_keeps : Grows (cut_to (end + 1) (latest a0)) a0 a1 → AtEachMoment a0 a1 (λ file. payloads h file ≡ payloads h content)
       cut_keeps g =
           let P : List ℕ → Type 0 = λ file. payloads h file ≡ payloads h content in
           goes_on P (cut_to (end + 1) (latest a0)) a0 a0 a1 (started P a0 (λ file i. ap (payloads h) (only (latest a0) content file settles i))) g
-          (λ file i. unopened_gives h (map bytes_of read) file r.fits (trimmed_behind h (map bytes_of read) (end + 1) content file size_is shut (trimmed (end + 1) (latest a0) content file settles i)) ∙ sym r.gives)
+          (λ file i. unopened_gives h ps file r.fits (trimmed_behind h ps (end + 1) content file size_is shut (trimmed (end + 1) (latest a0) content file settles i)) ∙ sym r.gives)
 
-      pub cut_rests : (c1 : List ℕ) (a2 : List Account) → c1 ≡ take (end + 1) content → IsSettled c1 a2 → IsAtRest h c1 a2 (end + 1) × (payload_list h c1 ≡ map bytes_of read)
+      pub cut_rests : (c1 : List ℕ) (a2 : List Account) → c1 ≡ take (end + 1) content → IsSettled c1 a2 → IsAtRest h c1 a2 (end + 1) × (payload_list h c1 ≡ ps)
       cut_rests c1 a2 is settles1 =
-          let u : Unopened h (map bytes_of read) content = shut in
-          let file : c1 ≡ front h (map bytes_of read) ++ u.gate ∷ [] = is ∙ cut_behind h (map bytes_of read) (end + 1) content size_is u in
-          at_rest h (map bytes_of read) u.gate c1 a2 (end + 1) r.fits u.closed file (omega (arith, ap length file, size_is, length-append (front h (map bytes_of read)) (u.gate ∷ []))) settles1
+          let u : Unopened h ps content = shut in
+          let file : c1 ≡ front h ps ++ u.gate ∷ [] = is ∙ cut_behind h ps (end + 1) content size_is u in
+          at_rest h ps u.gate c1 a2 (end + 1) r.fits u.closed file (omega (arith, ap length file, size_is, length-append (front h ps) (u.gate ∷ []))) settles1
 
   pub begun_is : (content c1 : List ℕ) → length content ≤ 9 → c1 ≡ overwritten content 0 (h.bytes ++ 0 ∷ []) → c1 ≡ h.bytes ++ 0 ∷ []
   begun_is content c1 few is =

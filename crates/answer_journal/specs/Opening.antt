@@ -4,7 +4,6 @@ use Rattle.exam_edge.specs.Images.{Account, IsSettled}
 use Rattle.answer_journal.specs.Frames.{FileHeader}
 use Rattle.answer_journal.specs.Reading.{IsRead}
 use Rattle.answer_journal.specs.declared.opening.Extent.{Extent}
-use Rattle.answer_journal.specs.declared.payload.Payload.{Payload}
 
 -- the file's disk, the limit of the journal's length, and the length that the journal is to have
 pub record OpeningState (D : Type 0) : Type 0 where
@@ -20,7 +19,7 @@ pub record IsExtent (h : FileHeader) (tells : Bool) (content : List ℕ) (accoun
   pub in_file : extent.end < max extent.size 9
   pub size_is : IsTrue tells → extent.size ≡ length content
   pub settled : IsTrue tells → IsSettled content accounts
-  pub read : IsTrue tells → 9 < extent.size → (ps : List Payload) × IsRead h content ps extent.end
+  pub read : IsTrue tells → 9 < extent.size → (ps : List (List ℕ)) × IsRead h content ps extent.end
 
 -- such an extent within a limit that a journal may have
 pub record IsOpening (h : FileHeader) (tells : Bool) (content : List ℕ) (accounts : List Account)

@@ -24,21 +24,24 @@ with_all [] rest = rest
 with_all (payload ∷ payloads) rest = with_payload payload (with_all payloads rest)
 
 -- frames read whole: their payloads, and the place of the closed gate that ends them
-pub record IsRead (h : FileHeader) (bytes : List ℕ) (read : List Payload) (end : ℕ) : Type 0 where
-  pub gives : payloads h bytes ≡ Some (map bytes_of read)
-  pub places : map at_of read ≡ places_of 8 (map bytes_of read)
+pub record IsRead (h : FileHeader) (bytes : List ℕ) (ps : List (List ℕ)) (end : ℕ) : Type 0 where
+  pub gives : payloads h bytes ≡ Some ps
   pub in_file : end < length bytes
   pub closed : get_or bytes end 0 ≢ 1
-  pub before : take end bytes ≡ front h (map bytes_of read)
-  pub fits : AllByRecursion IsPayload (map bytes_of read)
+  pub before : take end bytes ≡ front h ps
+  pub fits : AllByRecursion IsPayload ps
 
 -- a walk that has read these payloads, and is at the next gate
-pub record Walked (h : FileHeader) (bytes : List ℕ) (read : List Payload) (at : ℕ) : Type 0 where
+pub record Walked (h : FileHeader) (bytes : List ℕ) (ps : List (List ℕ)) (at : ℕ) : Type 0 where
   pub in_file : at < length bytes
-  pub count : 8 + 6 * length read ≤ at
-  pub places : map at_of read ≡ places_of 8 (map bytes_of read)
-  pub place : at ≡ end_of 8 (map bytes_of read)
+  pub count : 8 + 6 * length ps ≤ at
+  pub place : at ≡ end_of 8 ps
   pub header : begins h bytes ≡ true
-  pub scanned : with_all (map bytes_of read) (scan (length bytes - length read) at (drop at bytes)) ≡ scan (length bytes) 8 (drop 8 bytes)
-  pub before : take at bytes ≡ front h (map bytes_of read)
-  pub fits : AllByRecursion IsPayload (map bytes_of read)
+  pub scanned : with_all ps (scan (length bytes - length ps) at (drop at bytes)) ≡ scan (length bytes) 8 (drop 8 bytes)
+  pub before : take at bytes ≡ front h ps
+  pub fits : AllByRecursion IsPayload ps
+
+-- the same of payloads in memory, each with the place of its gate
+pub record IsPlaced (h : FileHeader) (bytes : List ℕ) (read : List Payload) (at : ℕ) : Type 0 where
+  pub walked : Walked h bytes (map bytes_of read) at
+  pub places : map at_of read ≡ places_of 8 (map bytes_of read)

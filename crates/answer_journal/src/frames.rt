@@ -1,7 +1,8 @@
 // The frames of a file in memory.
-ghost use Rattle.std.specs.Prelude.{◌≡◌, ◌<◌, ◌≤◌, ◌+◌, length, IfOk, IfErr};
+ghost use Rattle.std.specs.Prelude.{◌≡◌, ◌<◌, ◌≤◌, ◌+◌, length, map, IfOk, IfErr};
 ghost use Rattle.answer_journal.specs.Frames.{shadowj1, begins};
 ghost use Rattle.answer_journal.specs.OpenFault.{IsRefused};
+ghost use Rattle.answer_journal.specs.Payload.{bytes_of, at_of, places_of};
 ghost use Rattle.answer_journal.specs.Reading.{IsFound, IsRead};
 
 use crate::{OpenFault, Payload};
@@ -68,7 +69,10 @@ fn has_header(bytes: &[u8]) -> bool
 /// Reads the frames of a file of more than nine bytes, up to the first closed gate: their payloads, and its place.
 pub fn read_frames(alloc: Global, bytes: &[u8]) -> Result<(Vec<Payload>, usize), OpenFault>
     requires { 9 < length bytes.now }
-    ensures ok { IfOk result (λ read. IsRead shadowj1 bytes.now read.0.items read.1) }
+    ensures ok { IfOk result
+        (λ read. IsRead shadowj1 bytes.now (map bytes_of read.0.items) read.1) }
+    ensures places { IfOk result
+        (λ read. map at_of read.0.items ≡ places_of 8 (map bytes_of read.0.items)) }
     ensures err { IfErr result (IsRefused shadowj1 bytes.now) }
 {
     if !has_header(bytes) {

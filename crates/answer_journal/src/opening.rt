@@ -108,7 +108,7 @@ fn find_frames<D: Disk>(
     ensures places { IfOk result
         (λ found. map at_of found.0.items ≡ places_of 8 (map bytes_of found.0.items)) }
     ensures read { IfOk result (λ found. IsTrue (D.tells disk.old)
-        → IsRead shadowj1 (D.content disk.old) found.0.items found.1) }
+        → IsRead shadowj1 (D.content disk.old) (map bytes_of found.0.items) found.1) }
     ensures why { IfErr result (λ e. IsTrue (D.tells disk.old)
         → IsFramesAnswer shadowj1 (D.content disk.old) e) }
     ensures cause { IfErr result

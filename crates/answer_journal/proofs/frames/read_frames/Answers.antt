@@ -1,19 +1,20 @@
-use Rattle.std.proofs.Common.{◌≡◌, ℕ, false, ◌+◌, ◌-◌, ◌<◌, [], ◌∷◌, ◌++◌, take, drop, get_or, refl, ◌∙◌, ap, subst, arith, rules}
+use Rattle.std.proofs.Common.{◌≡◌, map, ℕ, false, ◌+◌, ◌-◌, ◌<◌, [], ◌∷◌, ◌++◌, take, drop, get_or, refl, ◌∙◌, ap, subst, arith, rules}
 use Rattle.answer_journal.specs.Frames.{shadowj1, begins, BadLength, CutOff}
 use Rattle.answer_journal.specs.OpenFaultLaws.{header_fault, scanned_fault}
-use Rattle.answer_journal.specs.Reading.{Walked}
+use Rattle.answer_journal.specs.Payload.{bytes_of}
+use Rattle.answer_journal.specs.Reading.{IsPlaced}
 use Rattle.answer_journal.specs.declared.payload.Payload.{Payload}
-use Rattle.answer_journal.proofs.Reading.{closed, refused_length, refused_cut, next}
+use Rattle.answer_journal.proofs.Reading.{closed, refused_length, refused_cut, placed}
 use Rattle.answer_journal.proofs.frames.read_frames.Goals as goal
 
 pub returns-in-Closed-clause-ok : goal.returns-in-Closed-clause-ok
-returns-in-Closed-clause-ok c = closed shadowj1 c.args.bytes.now c.walk.payloads.items c.walk.at c.walk.invariant c.requires c.in-Closed.ensures
+returns-in-Closed-clause-ok c = closed shadowj1 c.args.bytes.now (map bytes_of c.walk.payloads.items) c.walk.at c.walk.invariant.walked c.requires c.in-Closed.ensures
 
 pub returns-in-NoLength-clause-err : goal.returns-in-NoLength-clause-err
-returns-in-NoLength-clause-err c = scanned_fault shadowj1 c.args.bytes.now (BadLength c.walk.at) c.walk.invariant.header (refused_length shadowj1 c.args.bytes.now c.walk.payloads.items c.walk.at c.walk.invariant c.in-NoLength.ensures)
+returns-in-NoLength-clause-err c = scanned_fault shadowj1 c.args.bytes.now (BadLength c.walk.at) c.walk.invariant.walked.header (refused_length shadowj1 c.args.bytes.now (map bytes_of c.walk.payloads.items) c.walk.at c.walk.invariant.walked c.in-NoLength.ensures)
 
 pub returns-in-Short-clause-err : goal.returns-in-Short-clause-err
-returns-in-Short-clause-err c = scanned_fault shadowj1 c.args.bytes.now (CutOff c.walk.at) c.walk.invariant.header (refused_cut shadowj1 c.args.bytes.now c.walk.payloads.items c.walk.at c.walk.invariant c.in-Short.ensures)
+returns-in-Short-clause-err c = scanned_fault shadowj1 c.args.bytes.now (CutOff c.walk.at) c.walk.invariant.walked.header (refused_cut shadowj1 c.args.bytes.now (map bytes_of c.walk.payloads.items) c.walk.at c.walk.invariant.walked c.in-Short.ensures)
 
 pub walk-preserved : goal.walk-preserved
 walk-preserved c =
@@ -27,7 +28,7 @@ walk-preserved c =
     let pushed : c.push.new.self.items ≡ c.walk.payloads.items ++ payload ∷ [] = search rules in
     let place : at + 5 + n ≡ at + (5 + n) = omega arith in
     let small : (i : ℕ) → get_or bytes i 0 < 256 = λ i. omega (arith, c.type_inv.bytes i) in
-    subst (λ (k : ℕ). Walked shadowj1 bytes c.push.new.self.items k) place (next shadowj1 bytes c.walk.payloads.items at c.walk.invariant n c.in-Record.ensures payload refl is small c.push.new.self.items pushed)
+    subst (IsPlaced shadowj1 bytes c.push.new.self.items) place (placed shadowj1 bytes c.walk.payloads.items at n c.walk.invariant c.in-Record.ensures payload refl is small c.push.new.self.items pushed)
 
 pub returns-then-not-has_header-clause-err : goal.returns-then-not-has_header-clause-err
 returns-then-not-has_header-clause-err c =
