@@ -9,3 +9,4 @@ mod OpeningMoments
 mod Reading
 mod Syncing
 mod Tidying
+mod Walking

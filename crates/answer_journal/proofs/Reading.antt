@@ -1,17 +1,16 @@
 -- A walk over the frames of a file: its start, a step, and its ends.
 use Rattle.std.proofs.Common.{◌≡◌, ℕ, zero, suc, ◌+◌, ◌-◌, ◌<◌, ◌==◌, nat_le, true, false, List, [], ◌∷◌, ◌++◌, length, take, drop, get_or, map, refl, sym, ◌∙◌, ap, subst, arith, w32, append_assoc, length-append, length-take, length-drop, take-append-drop}
-use Rattle.std.specs.List.{AllByRecursion}
 use Rattle.std.specs.Int.{to_be_bytes}
 use Rattle.std.proofs.lemmas.Nat.{be_bytes_4}
 use Rattle.std.proofs.lemmas.Bool.{eqb-true, eqb-false, lt-leb}
 use Rattle.std.proofs.lemmas.Bool.Decides.{Decides-eqb}
 use Rattle.std.proofs.lemmas.Slice.Eq.{slice_eq-Decides}
 use Rattle.std.proofs.lemmas.List.{drop_more, drop-drop, take_at, map-append, append-nil}
-use Rattle.answer_journal.specs.Frames.{FileHeader, IsPayload, frames, front, Scan, Whole, BadLength, CutOff, Behind, Payload as BehindPayload, behind, with_payload, goes_on_behind, scan, begins, payloads}
+use Rattle.answer_journal.specs.Frames.{FileHeader, frames, front, Scan, Whole, BadLength, CutOff, Behind, Payload as BehindPayload, behind, with_payload, goes_on_behind, scan, begins, payloads}
 use Rattle.answer_journal.specs.FrameLaws.{fits-push}
 use Rattle.answer_journal.specs.Payload.{bytes_of, at_of, places_of, end_of}
 use Rattle.answer_journal.specs.Reading.{length_at, IsFound, with_all, IsRead}
-use Rattle.answer_journal.specs.Reading.{Walked, IsPlaced}
+use Rattle.answer_journal.specs.Reading.{Walked, IsPlaced, IsSmallAt}
 use Rattle.answer_journal.specs.declared.payload.Payload.{Payload}
 use Rattle.answer_journal.specs.declared.frames.Found.TheVariants.{Closed, NoLength, Short, Record}
 
@@ -65,7 +64,7 @@ module _ (h : FileHeader) where
   drop_next bytes i j is lt = drop_more bytes i 0 lt ∙ ap (λ (k : ℕ). get_or bytes i 0 ∷ drop k bytes) (sym is)
 
   -- the bytes of one more record
-  module _ (bytes : List ℕ) (at n : ℕ) (small : (i : ℕ) → get_or bytes i 0 < 256) where
+  module _ (bytes : List ℕ) (at n : ℕ) (small : IsSmallAt bytes at) where
     abbrev p : List ℕ
     p = take n (drop (at + 5) bytes)
 
@@ -91,10 +90,10 @@ module _ (h : FileHeader) where
         ∙ ap (λ (l : List ℕ). get_or bytes at 0 ∷ (to_be_bytes w32 (length p) ++ l)) rest
       where
         below : (i : ℕ) → get_or (get_or bytes (at + 1) 0 ∷ get_or bytes (at + 2) 0 ∷ get_or bytes (at + 3) 0 ∷ get_or bytes (at + 4) 0 ∷ []) i 0 < 256
-        below zero = small (at + 1)
-        below (suc zero) = small (at + 2)
-        below (suc (suc zero)) = small (at + 3)
-        below (suc (suc (suc zero))) = small (at + 4)
+        below zero = small 1 (omega arith)
+        below (suc zero) = small 2 (omega arith)
+        below (suc (suc zero)) = small 3 (omega arith)
+        below (suc (suc (suc zero))) = small 4 (omega arith)
         below (suc (suc (suc (suc i)))) = omega arith
 
   module _ (bytes : List ℕ) (ps : List (List ℕ)) (at : ℕ) (w : Walked h bytes ps at) where
@@ -129,7 +128,7 @@ module _ (h : FileHeader) where
     refused_cut found =
         sym w.scanned ∙ ap (with_all ps) (opens found.0 ∙ ap (λ (b : Behind). goes_on_behind at b (scan (length bytes - length ps - 1))) found.1) ∙ with_all-cut ps at
 
-    module _ (n : ℕ) (found : IsFound bytes at (Record n)) (p : List ℕ) (is : p ≡ take n (drop (at + 5) bytes)) (small : (i : ℕ) → get_or bytes i 0 < 256) where
+    module _ (n : ℕ) (found : IsFound bytes at (Record n)) (p : List ℕ) (is : p ≡ take n (drop (at + 5) bytes)) (small : IsSmallAt bytes at) where
       size : length p ≡ n
       size = omega (arith, ap length is, length-take n (drop (at + 5) bytes), length-drop (at + 5) bytes, found.3)
 
@@ -171,7 +170,7 @@ module _ (h : FileHeader) where
           }
 
   -- the same of payloads in memory
-  pub placed : (bytes : List ℕ) (read : List Payload) (at n : ℕ) → IsPlaced h bytes read at → IsFound bytes at (Record n) → (payload : Payload) → payload.at ≡ at → payload.bytes.items ≡ take n (drop (at + 5) bytes) → ((i : ℕ) → get_or bytes i 0 < 256) → (new : List Payload) → new ≡ read ++ payload ∷ [] → IsPlaced h bytes new (at + 5 + n)
+  pub placed : (bytes : List ℕ) (read : List Payload) (at n : ℕ) → IsPlaced h bytes read at → IsFound bytes at (Record n) → (payload : Payload) → payload.at ≡ at → payload.bytes.items ≡ take n (drop (at + 5) bytes) → IsSmallAt bytes at → (new : List Payload) → new ≡ read ++ payload ∷ [] → IsPlaced h bytes new (at + 5 + n)
   placed bytes read at n w found payload at_is is small new new_is =
       let p = payload.bytes.items in
       let names : map bytes_of new ≡ map bytes_of read ++ p ∷ [] = ap (map bytes_of) new_is ∙ map-append bytes_of read (payload ∷ []) in

@@ -1,5 +1,6 @@
 -- The device calls that bring a file to rest when it is opened.
-use Rattle.std.proofs.Common.{◌≡◌, ℕ, ◌+◌, ◌<◌, ◌≤◌, nat_le, true, false, List, [], ◌∷◌, ◌++◌, length, take, drop, get_or, map, Some, refl, sym, ◌∙◌, ap, arith, length-append, length-take, take-append-drop}
+use Rattle.std.proofs.Common.{◌≡◌, ℕ, ◌+◌, ◌<◌, ◌≤◌, nat_le, true, false, List, [], ◌∷◌, ◌++◌, length, take, drop, get_or, Some, refl, sym, ◌∙◌, ap, arith, length-append, length-take, take-append-drop}
+use Rattle.std.specs.Prelude.{Option, unwrap_or}
 use Rattle.std.proofs.lemmas.Bool.{le-leb, lt-leb}
 use Rattle.std.proofs.lemmas.List.{drop_more, drop_all, append-nil}
 use Rattle.exam_edge.specs.Images.{Account, IsSettled, latest, written, cut_to, overwritten, Grows, AtEachMoment}
@@ -14,6 +15,9 @@ module _ (h : FileHeader) where
   pub short_gives : (file : List ℕ) → length file ≤ 9 → payloads h file ≡ Some []
   unfolding payloads
   short_gives file le = let e : nat_le (length file) 9 ≡ true = le-leb (length file) 9 le in rw e refl
+
+  pub listed : (file : List ℕ) (ps : List (List ℕ)) → payloads h file ≡ Some ps → payloads h file ≡ Some (payload_list h file)
+  listed file ps is = is ∙ ap Some (sym (ap (λ (o : Option (List (List ℕ))). unwrap_or o []) is))
 
   module _ (content : List ℕ) (a0 a1 : List Account) (settles : IsSettled content a0) where
     module _ (few : length content ≤ 9) (g : Grows (written 0 9 (latest a0)) a0 a1) where

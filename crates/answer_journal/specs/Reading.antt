@@ -18,6 +18,23 @@ IsFound bytes at NoLength = ((get_or bytes at 0 == 1) ≡ true) × (behind (drop
 IsFound bytes at Short = ((get_or bytes at 0 == 1) ≡ true) × (behind (drop (at + 1) bytes) ≡ TooShort)
 IsFound bytes at (Record n) = ((get_or bytes at 0 == 1) ≡ true) × (1 ≤ n) × (n ≤ 131072) × (at + 5 + n < length bytes) × (n ≡ length_at bytes at) × (behind (drop (at + 1) bytes) ≡ BehindPayload (take n (drop (at + 5) bytes)) (drop (at + 5 + n) bytes))
 
+-- the numbers of a gate and of the four bytes after it are below 256
+abbrev pub IsSmallAt : List ℕ → ℕ → Type 0
+IsSmallAt file at = (i : ℕ) → i < 5 → get_or file (at + i) 0 < 256
+
+-- a payload of so many bytes after the gate at this place, and the next gate, are within this length
+pub record IsRoomFor (at size n : ℕ) : Type 0 where
+  pub some : 1 ≤ n
+  pub few : n ≤ 131072
+  pub within : at + 5 + n < size
+
+-- where a record is found
+abbrev pub OnRecord : Found → (ℕ → Type 0) → Type 0
+OnRecord Closed P = Unit {0}
+OnRecord NoLength P = Unit {0}
+OnRecord Short P = Unit {0}
+OnRecord (Record n) P = P n
+
 -- payloads put before the scan of the rest
 abbrev pub with_all : List (List ℕ) → Scan → Scan
 with_all [] rest = rest

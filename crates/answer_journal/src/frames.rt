@@ -1,9 +1,9 @@
 // The frames of a file in memory.
-ghost use Rattle.std.specs.Prelude.{◌≡◌, ◌<◌, ◌≤◌, ◌+◌, length, map, IfOk, IfErr};
+ghost use Rattle.std.specs.Prelude.{◌≡◌, ◌<◌, ◌≤◌, ◌+◌, ◌-◌, ℕ, List, length, map, take, drop, IfOk, IfErr};
 ghost use Rattle.answer_journal.specs.Frames.{shadowj1, begins};
 ghost use Rattle.answer_journal.specs.OpenFault.{IsRefused};
 ghost use Rattle.answer_journal.specs.Payload.{bytes_of, at_of, places_of};
-ghost use Rattle.answer_journal.specs.Reading.{IsFound, IsRead};
+ghost use Rattle.answer_journal.specs.Reading.{IsFound, IsRead, IsRoomFor, OnRecord};
 
 use crate::{OpenFault, Payload};
 use std::alloc::Global;
@@ -58,8 +58,35 @@ pub fn frame_at(bytes: &[u8], at: usize) -> Found
     Found::Record(count)
 }
 
-// Whether a file begins with the header.
-fn has_header(bytes: &[u8]) -> bool
+/// What is at a gate, and the frame after it, by the first five of the bytes from there on, or all
+/// of them, and by their number up to the end of the file.
+pub fn found_in(head: &[u8], left: u64) -> Found
+    requires { left ≤ 536870912 }
+    ensures found { (file : List ℕ) (at : ℕ) → at < length file → left ≡ length file - at
+        → head.now ≡ take 5 (drop at file) → IsFound file at result }
+    ensures room { OnRecord result (IsRoomFor 0 left) }
+{
+    if head.is_empty() {
+        return Found::Short;
+    }
+    if head[0] != OPEN {
+        return Found::Closed;
+    }
+    if head.len() < 5 {
+        return Found::Short;
+    }
+    let count = u32::from_be_bytes([head[1], head[2], head[3], head[4]]) as usize;
+    if count == 0 || count > MAX_PAYLOAD {
+        return Found::NoLength;
+    }
+    if left <= 5 + count as u64 {
+        return Found::Short;
+    }
+    Found::Record(count)
+}
+
+/// Whether a file begins with the header.
+pub fn has_header(bytes: &[u8]) -> bool
     requires { 9 < length bytes.now }
     ensures { result ≡ begins shadowj1 bytes.now }
 {

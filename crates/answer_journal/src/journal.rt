@@ -8,11 +8,11 @@ ghost use Rattle.answer_journal.specs.Frames.{shadowj1, front, payloads};
 ghost use Rattle.answer_journal.specs.OpenFault.{IsAnswerTo, first_fault};
 ghost use Rattle.answer_journal.specs.Outcome.{OnFull, OnDisk, payloads_after, size_after};
 ghost use Rattle.answer_journal.specs.Payload.{bytes_of, at_of, places_of};
-ghost use Rattle.answer_journal.specs.Standing.{IsBeforeOrWith, IsImageOrGives, opened_file};
+ghost use Rattle.answer_journal.specs.Standing.{IsBeforeOrWith, IsImageOrGives, opened_file, payload_list};
 
 use crate::appending::{resolve_record, write_record};
-use crate::opening::read_journal;
-use crate::{Frame, OpenFault, Opening, Payload};
+use crate::opening::{read_journal, test_file};
+use crate::{Frame, OpenFault, Opening, Payload, Walk};
 use exam_edge::{Disk, Failed};
 use std::alloc::Global;
 use std::marker::Model;
@@ -142,6 +142,67 @@ impl<D: Disk> Journal<D> {
                 };
                 Ok((opening, read))
             }
+            Err(e) => Err((disk, e)),
+        }
+    }
+
+    /// Tests the frames of a file, to walk over its payloads one after another. It syncs first,
+    /// and writes nothing. It takes no memory. The limit of the journal's length is in bytes, at
+    /// most 536,870,912. A refusal gives the disk back.
+    pub fn walk(disk: D, limit: u64) -> Result<Walk<D>, (D, OpenFault)>
+        requires { limit ≤ 536870912 }
+        ensures limit { IfOk result (λ walk. walk.limit ≡ limit) }
+        ensures start { IfOk result (λ walk. (walk.at ≡ 8) × (walk.given ≡ 0)) }
+
+        // No rule is broken: its payloads are those that the walk is to give.
+        ensures gives { IfOk result (λ walk. IsTrue (D.tells disk)
+            → payloads shadowj1 (D.content disk) ≡ Some (payload_list shadowj1 (D.content disk))) }
+
+        // The first thing that is wrong with the file, if anything is, unless the disk failed.
+        ensures sound { IfOk result (λ walk. IsTrue (D.tells disk)
+            → first_fault shadowj1 limit (D.content disk) ≡ None) }
+        ensures why { IfErr result (λ e. IsTrue (D.tells disk)
+            → IsAnswerTo shadowj1 limit (D.content disk) e.1) }
+        ensures cause { IfErr result
+            (λ e. e.1 ≡ OpenFault.Disk → Rose (D.faults disk) (D.faults e.0)) }
+        ensures no_memory { IfErr result (λ e. e.1 ≢ OpenFault.Memory) }
+
+        // The file is not changed, also if the disk failed.
+        ensures untouched { IfOk result (λ walk. IsTrue (D.tells disk)
+            → D.content walk.disk ≡ D.content disk) }
+        ensures untouched_err { IfErr result (λ e. IsTrue (D.tells disk)
+            → D.content e.0 ≡ D.content disk) }
+
+        // At each moment of the call a crash leaves what it might have left before.
+        ensures moments { IfOk result (λ walk. IsTrue (D.tells disk)
+            → AtEachMoment (D.accounts disk) (D.accounts walk.disk)
+            (IsImage (latest (D.accounts disk)))) }
+        ensures moments_err { IfErr result (λ e. IsTrue (D.tells disk)
+            → AtEachMoment (D.accounts disk) (D.accounts e.0)
+            (IsImage (latest (D.accounts disk)))) }
+        ensures settled { IfOk result (λ walk. IsTrue (D.tells disk)
+            → IsSettled (D.content disk) (D.accounts disk)
+            → AtEachMoment (D.accounts disk) (D.accounts walk.disk)
+            (λ file. file ≡ D.content disk)) }
+        ensures settled_err { IfErr result (λ e. IsTrue (D.tells disk)
+            → IsSettled (D.content disk) (D.accounts disk)
+            → AtEachMoment (D.accounts disk) (D.accounts e.0) (λ file. file ≡ D.content disk)) }
+        ensures images { IfOk result (λ walk. IsTrue (D.tells disk)
+            → AllImages (λ file. file ≡ D.content disk) (latest (D.accounts walk.disk))) }
+
+        ensures frame { IfOk result
+            (λ walk. IsLent D.tells D.identity D.faults disk walk.disk) }
+        ensures frame_err { IfErr result (λ e. IsLent D.tells D.identity D.faults disk e.0) }
+    {
+        let mut disk = disk;
+        match test_file(&mut disk, limit) {
+            Ok(extent) => Ok(Walk {
+                disk,
+                limit,
+                extent,
+                at: 8,
+                given: 0,
+            }),
             Err(e) => Err((disk, e)),
         }
     }

@@ -1,5 +1,5 @@
 // How a file is opened: what is read first, and what is written then.
-ghost use Rattle.std.specs.Prelude.{◌≡◌, ◌≤◌, ◌<◌, ◌+◌, ◌^◌, length, take, map, Some, None};
+ghost use Rattle.std.specs.Prelude.{◌≡◌, ◌≢◌, ◌≤◌, ◌<◌, ◌+◌, ◌^◌, length, take, map, Some, None};
 ghost use Rattle.std.specs.Prelude.{IsTrue, IfOk, IfErr, OnOk};
 ghost use Rattle.exam_edge.specs.Faults.{Rose};
 ghost use Rattle.exam_edge.specs.Lent.{IsLent, FailsOnly};
@@ -14,6 +14,7 @@ ghost use Rattle.answer_journal.specs.Standing.{payload_list, IsAtRest, opened_f
 
 use crate::durable::{cut_tail, write_durably};
 use crate::frames::{EMPTY_JOURNAL, read_frames};
+use crate::gates::{read_from, test_frames};
 use crate::{Journal, OpenFault, Payload};
 use exam_edge::{Disk, Failed};
 use std::alloc::Global;
@@ -52,27 +53,6 @@ impl<D: Disk> Model for Opening<D> {
         (D.accounts o.disk) o.limit o.extent };
 }
 
-// Reads a file from its start into a buffer, as far as the file goes.
-fn read_from_start<D: Disk>(disk: &mut D, buffer: &mut [u8]) -> Result<usize, Failed>
-    ensures count { IfOk result (λ k. k ≤ length buffer.old) }
-    ensures bytes { IfOk result (λ k. IsTrue (D.tells disk.old) → take k buffer.new ≡ take k (D.content disk.old)) }
-    ensures all { IfOk result (λ k. IsTrue (D.tells disk.old) → k < length buffer.old → length (D.content disk.old) ≤ k) }
-    ensures content { IsTrue (D.tells disk.old) → D.content disk.new ≡ D.content disk.old }
-    ensures accounts { IsTrue (D.tells disk.old) → D.accounts disk.new ≡ D.accounts disk.old }
-    ensures failed { FailsOnly D.faults disk.old disk.new result }
-    ensures frame { IsLent D.tells D.identity D.faults disk.old disk.new }
-{
-    let mut at = 0;
-    'read_from_start: while at < buffer.len() {
-        let count = disk.read(at as u64, &mut buffer[at..])?;
-        if count == 0 {
-            return Ok(at);
-        }
-        at += count;
-    }
-    Ok(at)
-}
-
 // Reads a file of this length.
 fn read_file<D: Disk>(alloc: Global, disk: &mut D, size: u64) -> Result<Vec<u8>, OpenFault>
     requires few { size < 2 ^ 63 }
@@ -85,7 +65,7 @@ fn read_file<D: Disk>(alloc: Global, disk: &mut D, size: u64) -> Result<Vec<u8>,
     ensures frame { IsLent D.tells D.identity D.faults disk.old disk.new }
 {
     let mut bytes = vec![in alloc; 0u8; size as usize]?;
-    match read_from_start(disk, &mut bytes) {
+    match read_from(disk, 0, &mut bytes) {
         Ok(count) => {
             bytes.truncate(count);
             Ok(bytes)
@@ -173,6 +153,47 @@ pub fn read_journal<D: Disk>(
     }
     match find_frames(alloc, disk, size) {
         Ok((read, end)) => Ok((Extent { size, end }, read)),
+        Err(e) => Err(e),
+    }
+}
+
+/// Syncs and tests a file, and writes nothing: its extent.
+pub fn test_file<D: Disk>(disk: &mut D, limit: u64) -> Result<Extent, OpenFault>
+    requires { limit ≤ 536870912 }
+    ensures within { IfOk result (λ extent. extent.size ≤ limit) }
+    ensures extent { IfOk result (λ extent. IsExtent shadowj1 (D.tells disk.new)
+        (D.content disk.new) (D.accounts disk.new) extent) }
+    ensures gives { OnOk result (IsTrue (D.tells disk.old)
+        → payloads shadowj1 (D.content disk.old)
+        ≡ Some (payload_list shadowj1 (D.content disk.old))) }
+    ensures sound { OnOk result (IsTrue (D.tells disk.old)
+        → first_fault shadowj1 limit (D.content disk.old) ≡ None) }
+    ensures why { IfErr result (λ e. IsTrue (D.tells disk.old)
+        → IsAnswerTo shadowj1 limit (D.content disk.old) e) }
+    ensures cause { IfErr result
+        (λ e. e ≡ OpenFault.Disk → Rose (D.faults disk.old) (D.faults disk.new)) }
+    ensures no_memory { IfErr result (λ e. e ≢ OpenFault.Memory) }
+    ensures content { IsTrue (D.tells disk.old) → D.content disk.new ≡ D.content disk.old }
+    ensures crash { IsTrue (D.tells disk.old)
+        → Grows (latest (D.accounts disk.old)) (D.accounts disk.old) (D.accounts disk.new) }
+    ensures frame { IsLent D.tells D.identity D.faults disk.old disk.new }
+{
+    match disk.sync() {
+        Ok(()) => {}
+        Err(_) => return Err(OpenFault::Disk),
+    }
+    let size = match disk.len() {
+        Ok(size) => size,
+        Err(_) => return Err(OpenFault::Disk),
+    };
+    if limit < size {
+        return Err(OpenFault::TooLong(size));
+    }
+    if size <= 9 {
+        return Ok(Extent { size, end: 8 });
+    }
+    match test_frames(disk, size) {
+        Ok(end) => Ok(Extent { size, end }),
         Err(e) => Err(e),
     }
 }

@@ -1,5 +1,5 @@
 // Which objects may move to another thread.
-use crate::{Frame, Journal, Opening, Payload};
+use crate::{Frame, Journal, Opening, Payload, Walk};
 use exam_edge::Disk;
 
 fn may_move<T: Send>() {}
@@ -10,4 +10,5 @@ fn objects_may_move<D: Disk + Send>() {
     may_move::<Payload>();
     may_move::<Journal<D>>();
     may_move::<Opening<D>>();
+    may_move::<Walk<D>>();
 }

@@ -1,8 +1,8 @@
-use Rattle.std.proofs.Common.{◌≡◌, map, ℕ, false, ◌+◌, ◌-◌, ◌<◌, [], ◌∷◌, ◌++◌, take, drop, get_or, refl, ◌∙◌, ap, subst, arith, rules}
+use Rattle.std.proofs.Common.{◌≡◌, map, ℕ, false, ◌+◌, ◌-◌, [], ◌∷◌, ◌++◌, take, drop, refl, ◌∙◌, ap, subst, arith, rules}
 use Rattle.answer_journal.specs.Frames.{shadowj1, begins, BadLength, CutOff}
 use Rattle.answer_journal.specs.OpenFaultLaws.{header_fault, scanned_fault}
 use Rattle.answer_journal.specs.Payload.{bytes_of}
-use Rattle.answer_journal.specs.Reading.{IsPlaced}
+use Rattle.answer_journal.specs.Reading.{IsPlaced, IsSmallAt}
 use Rattle.answer_journal.specs.declared.payload.Payload.{Payload}
 use Rattle.answer_journal.proofs.Reading.{closed, refused_length, refused_cut, placed}
 use Rattle.answer_journal.proofs.frames.read_frames.Goals as goal
@@ -27,7 +27,7 @@ walk-preserved c =
     let is : c.in_ok-payload-in-Record.payload.items ≡ take n (drop (at + 5) bytes) = cut_out ∙ ap (λ (k : ℕ). take k (drop (at + 5) bytes)) count_is in
     let pushed : c.push.new.self.items ≡ c.walk.payloads.items ++ payload ∷ [] = search rules in
     let place : at + 5 + n ≡ at + (5 + n) = omega arith in
-    let small : (i : ℕ) → get_or bytes i 0 < 256 = λ i. omega (arith, c.type_inv.bytes i) in
+    let small : IsSmallAt bytes at = λ i _. omega (arith, c.type_inv.bytes (at + i)) in
     subst (IsPlaced shadowj1 bytes c.push.new.self.items) place (placed shadowj1 bytes c.walk.payloads.items at n c.walk.invariant c.in-Record.ensures payload refl is small c.push.new.self.items pushed)
 
 pub returns-then-not-has_header-clause-err : goal.returns-then-not-has_header-clause-err

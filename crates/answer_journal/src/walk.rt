@@ -1,0 +1,307 @@
+// A file that is walked over to be opened, one payload in memory at a time.
+ghost use Rattle.std.specs.Prelude.{◌≡◌, ◌≢◌, ◌≤◌, ◌<◌, ◌+◌, ◌^◌, List, ℕ, [], ◌∷◌, ◌++◌, length, take, drop, Some, None, IsTrue, IfOk, IfErr, OnErr};
+ghost use Rattle.std.specs.Option.{ForSome};
+ghost use Rattle.exam_edge.specs.Faults.{Rose};
+ghost use Rattle.exam_edge.specs.Lent.{IsLent, FailsOnly};
+ghost use Rattle.exam_edge.specs.Images.{AllImages, AtEachMoment, latest};
+ghost use Rattle.answer_journal.specs.Frames.{IsPayload, shadowj1, payloads};
+ghost use Rattle.answer_journal.specs.Reading.{IsRoomFor};
+ghost use Rattle.answer_journal.specs.Standing.{payload_list, opened_file};
+ghost use Rattle.answer_journal.specs.Walk.{HasRecord, IsJust, first_payloads};
+
+use crate::frames::Found;
+use crate::gates::{find_frame, read_from};
+use crate::opening::{Extent, Opening};
+use crate::{Journal, OpenFault};
+use exam_edge::{Disk, Failed};
+use std::alloc::{AllocError, Global};
+use std::marker::Model;
+
+/// Why a walk gave no payload. The walk is as it was.
+#[derive(Clone, Copy, Debug, PartialEq, Eq)]
+pub enum WalkFault {
+    /// A call of the disk failed, and the disk has counted that.
+    Disk,
+    /// Out of memory.
+    Memory,
+}
+
+impl From<AllocError> for WalkFault {
+    ghost use Rattle.answer_journal.specs.declared.walk.WalkFault.TheVariants.{Memory};
+
+    ghost from_gives = { λ _ e. e ≡ Memory };
+
+    fn from(_: AllocError) -> Self {
+        WalkFault::Memory
+    }
+}
+
+/// A file whose frames were tested up to the first closed gate, and that was not changed. It gives
+/// the payloads one after another. Once all were given, `finish` makes the file a journal; `stop`
+/// leaves it as it is. Contracts see the place of the next gate, and how many payloads of the file
+/// were given.
+pub struct Walk<D: Disk> {
+    pub(crate) disk: D,
+    pub(crate) limit: u64,
+    pub(crate) extent: Extent,
+    pub(crate) at: u64,
+    pub(crate) given: u64,
+}
+
+impl<D: Disk> Model for Walk<D> {
+    ghost use Rattle.std.specs.Prelude.{◌+◌};
+    ghost use Rattle.answer_journal.specs.Frames.{shadowj1};
+    ghost use Rattle.answer_journal.specs.Walk.{WalkState, IsWalk};
+
+    ghost Value = { WalkState D };
+
+    ghost view = { λ w. record {
+      disk = w.disk;
+      limit = w.limit;
+      size = w.extent.end + 1;
+      at = w.at;
+      given = w.given;
+    } };
+
+    ghost invariant = { λ w. IsWalk shadowj1 (D.tells w.disk) (D.content w.disk)
+        (D.accounts w.disk) w.limit w.extent w.at w.given };
+}
+
+// The length of the payload after the gate at a place, where that record ends by the end of these
+// records.
+fn find_record<D: Disk>(disk: &mut D, at: u64, extent: Extent) -> Result<Option<usize>, Failed>
+    requires before { at < extent.end }
+    requires within { extent.end < extent.size }
+    requires few { extent.size ≤ 536870912 }
+    requires all { IsTrue (D.tells disk.old) → extent.size ≡ length (D.content disk.old) }
+    ensures room { IfOk result (λ found. ForSome found (IsRoomFor at (extent.end + 1))) }
+    ensures found { IfOk result (λ found. IsTrue (D.tells disk.old) → (p : List ℕ)
+        → HasRecord (D.content disk.old) at p → at + 5 + length p ≤ extent.end
+        → found ≡ Some (length p)) }
+    ensures content { IsTrue (D.tells disk.old) → D.content disk.new ≡ D.content disk.old }
+    ensures accounts { IsTrue (D.tells disk.old) → D.accounts disk.new ≡ D.accounts disk.old }
+    ensures failed { FailsOnly D.faults disk.old disk.new result }
+    ensures frame { IsLent D.tells D.identity D.faults disk.old disk.new }
+{
+    match find_frame(disk, at, extent.size)? {
+        Found::Record(count) => {
+            if at + 5 + count as u64 <= extent.end {
+                Ok(Some(count))
+            } else {
+                Ok(None)
+            }
+        }
+        _ => Ok(None),
+    }
+}
+
+// Reads so many bytes from a place on, if they are there.
+fn read_payload<D: Disk>(
+    alloc: Global,
+    disk: &mut D,
+    from: u64,
+    count: usize,
+) -> Result<Option<Vec<u8>>, WalkFault>
+    requires { from + count < 2 ^ 63 }
+    ensures count { IfOk result (λ found. ForSome found (λ v. length v.items ≡ count)) }
+    ensures bytes { IfOk result (λ found. IsTrue (D.tells disk.old)
+        → from + count ≤ length (D.content disk.old)
+        → IsJust found (λ v. v.items ≡ take count (drop from (D.content disk.old)))) }
+    ensures cause { IfErr result
+        (λ e. e ≡ WalkFault.Disk → Rose (D.faults disk.old) (D.faults disk.new)) }
+    ensures content { IsTrue (D.tells disk.old) → D.content disk.new ≡ D.content disk.old }
+    ensures accounts { IsTrue (D.tells disk.old) → D.accounts disk.new ≡ D.accounts disk.old }
+    ensures frame { IsLent D.tells D.identity D.faults disk.old disk.new }
+{
+    let mut bytes = vec![in alloc; 0u8; count]?;
+    match read_from(disk, from, &mut bytes) {
+        Ok(read) => {
+            if read == count {
+                Ok(Some(bytes))
+            } else {
+                Ok(None)
+            }
+        }
+        Err(_) => Err(WalkFault::Disk),
+    }
+}
+
+// Reads the payload after the gate at a place. Only of a disk that doesn't report its content the
+// record may not be there any more: then there is none.
+fn read_record<D: Disk>(
+    alloc: Global,
+    disk: &mut D,
+    at: u64,
+    extent: Extent,
+) -> Result<Option<Vec<u8>>, WalkFault>
+    requires before { at < extent.end }
+    requires within { extent.end < extent.size }
+    requires few { extent.size ≤ 536870912 }
+    requires all { IsTrue (D.tells disk.old) → extent.size ≡ length (D.content disk.old) }
+    ensures room { IfOk result
+        (λ found. ForSome found (λ v. IsRoomFor at (extent.end + 1) (length v.items))) }
+    ensures payload { IfOk result (λ found. IsTrue (D.tells disk.old) → (p : List ℕ)
+        → HasRecord (D.content disk.old) at p → at + 5 + length p ≤ extent.end
+        → IsJust found (λ v. v.items ≡ p)) }
+    ensures cause { IfErr result
+        (λ e. e ≡ WalkFault.Disk → Rose (D.faults disk.old) (D.faults disk.new)) }
+    ensures content { IsTrue (D.tells disk.old) → D.content disk.new ≡ D.content disk.old }
+    ensures accounts { IsTrue (D.tells disk.old) → D.accounts disk.new ≡ D.accounts disk.old }
+    ensures frame { IsLent D.tells D.identity D.faults disk.old disk.new }
+{
+    match find_record(disk, at, extent) {
+        Ok(Some(count)) => read_payload(alloc, disk, at + 5, count),
+        Ok(None) => Ok(None),
+        Err(_) => Err(WalkFault::Disk),
+    }
+}
+
+impl<D: Disk> Walk<D> {
+    ghost use Rattle.answer_journal.specs.Journal.{tells_of, content_of, accounts_of, faults_of};
+    ghost use Rattle.answer_journal.specs.Journal.{identity_of, length_of, limit_of, payloads_of};
+    ghost use Rattle.answer_journal.specs.Journal.{IsReady};
+
+    /// Puts the next payload into the buffer, which then has just that payload, and gives the place
+    /// of its gate. `None` exactly after the last one. The walk and the buffer are as they were at
+    /// `None` and at a fault.
+    pub fn next(&mut self, alloc: Global, buffer: &mut Vec<u8>) -> Result<Option<u64>, WalkFault>
+        // The next one, where there is one.
+        ensures place { IfOk result (λ found. ForSome found (λ at. at ≡ self.old.at)) }
+        ensures at { IfOk result (λ found. ForSome found
+            (λ at. self.new.at ≡ at + 5 + length buffer.new.items)) }
+        ensures given { IfOk result
+            (λ found. ForSome found (λ _. self.new.given ≡ self.old.given + 1)) }
+        ensures fits { IfOk result (λ found. ForSome found (λ _. IsPayload buffer.new.items)) }
+        ensures payload { IfOk result (λ found. ForSome found (λ _. IsTrue (D.tells self.old.disk)
+            → first_payloads self.new.given (D.content self.old.disk)
+            ≡ first_payloads self.old.given (D.content self.old.disk)
+            ++ buffer.new.items ∷ [])) }
+
+        // None only after the last.
+        ensures last { IfOk result (λ found. found ≡ None → IsTrue (D.tells self.old.disk)
+            → first_payloads self.old.given (D.content self.old.disk)
+            ≡ payload_list shadowj1 (D.content self.old.disk)) }
+        ensures ended { IfOk result (λ found. found ≡ None → IsTrue (D.tells self.old.disk)
+            → self.old.at + 1 ≡ self.old.size) }
+        ensures stays { IfOk result (λ found. found ≡ None
+            → (self.new.at ≡ self.old.at) × (self.new.given ≡ self.old.given)) }
+        ensures kept { IfOk result (λ found. found ≡ None → buffer.new ≡ buffer.old) }
+
+        ensures stays_err { OnErr result
+            ((self.new.at ≡ self.old.at) × (self.new.given ≡ self.old.given)) }
+        ensures kept_err { OnErr result (buffer.new ≡ buffer.old) }
+        ensures cause { IfErr result (λ e. e ≡ WalkFault.Disk
+            → Rose (D.faults self.old.disk) (D.faults self.new.disk)) }
+
+        ensures within { self.new.at < self.new.size }
+        ensures size { self.new.size ≡ self.old.size }
+        ensures limit { self.new.limit ≡ self.old.limit }
+        ensures untouched { IsTrue (D.tells self.old.disk)
+            → D.content self.new.disk ≡ D.content self.old.disk }
+        ensures accounts { IsTrue (D.tells self.old.disk)
+            → D.accounts self.new.disk ≡ D.accounts self.old.disk }
+        ensures frame { IsLent D.tells D.identity D.faults self.old.disk self.new.disk }
+    {
+        if self.extent.end <= self.at {
+            return Ok(None);
+        }
+        match read_record(alloc, &mut self.disk, self.at, self.extent) {
+            Ok(Some(bytes)) => {
+                let place = self.at;
+                self.at += 5 + bytes.len() as u64;
+                self.given += 1;
+                *buffer = bytes;
+                Ok(Some(place))
+            }
+            Ok(None) => Ok(None),
+            Err(fault) => Err(fault),
+        }
+    }
+
+    /// The place of the next gate.
+    pub fn place(&self) -> u64
+        ensures { result ≡ self.now.at }
+    {
+        self.at
+    }
+
+    /// The length in bytes that the journal is to have.
+    pub fn length(&self) -> u64
+        ensures { result ≡ self.now.size }
+    {
+        self.extent.end + 1
+    }
+
+    /// Makes the file a journal, as opening does, once all payloads were given. If a call of the
+    /// disk fails, the disk has counted that and comes back. The file may then be changed in part.
+    pub fn finish(self) -> Result<Journal<D>, (D, OpenFault)>
+        requires { IsTrue (D.tells self.disk)
+            → first_payloads self.given (D.content self.disk)
+            ≡ payload_list shadowj1 (D.content self.disk) }
+        ensures ready { IfOk result IsReady }
+        ensures limit { IfOk result (λ journal. limit_of journal ≡ self.limit) }
+        ensures length { IfOk result (λ journal. length_of journal ≡ self.size) }
+        ensures keeps { IfOk result (λ journal. IsTrue (D.tells self.disk)
+            → payloads shadowj1 (D.content self.disk) ≡ Some (payloads_of journal)) }
+        ensures content { IfOk result (λ journal. IsTrue (D.tells self.disk)
+            → content_of journal ≡ opened_file shadowj1 (D.content self.disk) (length_of journal)) }
+
+        // Only the disk can fail. A disk that doesn't report its content may have lost a record
+        // since its frame was tested: then the file is not changed.
+        ensures why { IfErr result (λ e. IsTrue (D.tells self.disk) → e.1 ≡ OpenFault.Disk) }
+        ensures cause { IfErr result
+            (λ e. e.1 ≡ OpenFault.Disk → Rose (D.faults self.disk) (D.faults e.0)) }
+        ensures untouched { IfErr result (λ e. e.1 ≢ OpenFault.Disk → e.0 ≡ self.disk) }
+
+        // At each moment of the call a crash leaves the same payloads.
+        ensures moments { IfOk result (λ journal. IsTrue (D.tells self.disk)
+            → AtEachMoment (D.accounts self.disk) (accounts_of journal)
+            (λ file. payloads shadowj1 file ≡ payloads shadowj1 (D.content self.disk))) }
+        ensures moments_err { IfErr result (λ e. IsTrue (D.tells self.disk)
+            → AtEachMoment (D.accounts self.disk) (D.accounts e.0)
+            (λ file. payloads shadowj1 file ≡ payloads shadowj1 (D.content self.disk))) }
+        ensures images { IfOk result (λ journal. IsTrue (D.tells self.disk)
+            → AllImages (λ file. payloads shadowj1 file ≡ payloads shadowj1 (D.content self.disk))
+            (latest (accounts_of journal))) }
+
+        ensures grows { IfOk result (λ journal. D.faults self.disk ≤ faults_of journal) }
+        ensures tells { IfOk result (λ journal. tells_of journal ≡ D.tells self.disk) }
+        ensures identity { IfOk result (λ journal. identity_of journal ≡ D.identity self.disk) }
+        ensures frame_err { IfErr result
+            (λ e. IsLent D.tells D.identity D.faults self.disk e.0) }
+    {
+        let Walk {
+            disk,
+            limit,
+            extent,
+            at,
+            given: _,
+        } = self;
+        if at < extent.end {
+            return Err((disk, OpenFault::Cut(at)));
+        }
+        let opening = Opening {
+            disk,
+            limit,
+            extent,
+        };
+        match opening.finish() {
+            Ok(journal) => Ok(journal),
+            Err(disk) => Err((disk, OpenFault::Disk)),
+        }
+    }
+
+    /// The disk as it is. The file is not changed.
+    pub fn stop(self) -> D
+        ensures { result ≡ self.disk }
+    {
+        let Walk {
+            disk,
+            limit: _,
+            extent: _,
+            at: _,
+            given: _,
+        } = self;
+        disk
+    }
+}
