@@ -1,0 +1,131 @@
+//! The audit of a journal.
+
+ghost use Rattle.std.specs.Prelude.{◌≡◌, ◌≤◌, Some, IsTrue, IfOk, IfErr};
+ghost use Rattle.exam_model.specs.Validity.{IsPlanFor};
+ghost use Rattle.exam_edge.specs.Faults.{Rose};
+ghost use Rattle.exam_edge.specs.Lent.{IsLent};
+ghost use Rattle.exam_edge.specs.Images.{AtEachMoment, IsImage, IsSettled, latest};
+ghost use Rattle.answer_journal.specs.Frames.{payloads, shadowj1};
+ghost use Rattle.answer_journal.specs.Standing.{payload_list};
+ghost use Rattle.exam_office.specs.Opening.{IsOpenAnswer};
+ghost use Rattle.exam_office.specs.declared.fault.OpenFault.TheVariants.{Disk as OfDisk};
+ghost use Rattle.journal_audit.specs.Audit.{IsAudit};
+
+use crate::records::{journal_fault, take_records};
+use crate::report::exposure_of;
+use answer_journal::{Journal, Walk};
+use bank_tables::Bank;
+use constraint_model::Spec;
+use exam_edge::Disk;
+use exam_office::OpenFault;
+use exam_session::Book;
+use history_model::{Exposure, Summary};
+use std::alloc::Global;
+
+// Judges every record of a file that is walked over.
+fn audit_walk<D: Disk>(
+    alloc: Global,
+    bank: &Bank,
+    spec: &Spec,
+    walk: &mut Walk<D>,
+) -> Result<(Summary, Exposure), OpenFault>
+    requires plan { IsPlanFor bank.now spec.now }
+    requires start { (walk.old.at ≡ 8) × (walk.old.given ≡ 0) }
+    requires gives { IsTrue (D.tells walk.old.disk)
+        → payloads shadowj1 (D.content walk.old.disk)
+        ≡ Some (payload_list shadowj1 (D.content walk.old.disk)) }
+    ensures found { IfOk result (λ found. IsTrue (D.tells walk.old.disk)
+        → IsAudit bank.now spec.now (D.content walk.old.disk) found.0 found.1) }
+    ensures why { IfErr result (λ e. IsTrue (D.tells walk.old.disk)
+        → IsOpenAnswer bank.now spec.now (D.content walk.old.disk) e) }
+    ensures cause { IfErr result (λ e. e ≡ OfDisk
+        → Rose (D.faults walk.old.disk) (D.faults walk.new.disk)) }
+    ensures content { IsTrue (D.tells walk.old.disk)
+        → D.content walk.new.disk ≡ D.content walk.old.disk }
+    ensures accounts { IsTrue (D.tells walk.old.disk)
+        → D.accounts walk.new.disk ≡ D.accounts walk.old.disk }
+    ensures frame { IsLent D.tells D.identity D.faults walk.old.disk walk.new.disk }
+{
+    let mut book = match Book::new(alloc, bank, spec) {
+        Ok(book) => book,
+        Err(_) => return Err(OpenFault::Memory),
+    };
+    match take_records(alloc, walk, &mut book) {
+        Ok(()) => {}
+        Err(fault) => return Err(fault),
+    }
+    match exposure_of(alloc, &book) {
+        Ok(exposure) => Ok((book.summary(), exposure)),
+        Err(_) => Err(OpenFault::Memory),
+    }
+}
+
+// Audits the journal of a disk, which comes back.
+fn audit_disk<D: Disk>(
+    alloc: Global,
+    bank: &Bank,
+    spec: &Spec,
+    disk: D,
+    answer: &mut Result<(Summary, Exposure), OpenFault>,
+) -> D
+    requires { IsPlanFor bank.now spec.now }
+    ensures found { IfOk answer.new (λ found. IsTrue (D.tells disk)
+        → IsAudit bank.now spec.now (D.content disk) found.0 found.1) }
+    ensures why { IfErr answer.new (λ e. IsTrue (D.tells disk)
+        → IsOpenAnswer bank.now spec.now (D.content disk) e) }
+    ensures cause { IfErr answer.new (λ e. e ≡ OfDisk
+        → Rose (D.faults disk) (D.faults result)) }
+    ensures untouched { IsTrue (D.tells disk) → D.content result ≡ D.content disk }
+    ensures moments { IsTrue (D.tells disk)
+        → AtEachMoment (D.accounts disk) (D.accounts result)
+        (IsImage (latest (D.accounts disk))) }
+    ensures settled { IsTrue (D.tells disk) → IsSettled (D.content disk) (D.accounts disk)
+        → AtEachMoment (D.accounts disk) (D.accounts result) (λ file. file ≡ D.content disk) }
+    ensures frame { IsLent D.tells D.identity D.faults disk result }
+{
+    let mut walk = match Journal::walk(disk, spec.journal()) {
+        Ok(walk) => walk,
+        Err((disk, fault)) => {
+            *answer = Err(journal_fault(fault));
+            return disk;
+        }
+    };
+    *answer = audit_walk(alloc, bank, spec, &mut walk);
+    walk.stop()
+}
+
+/// Judges every record of a journal, its proof tree included, and gives the summary and the
+/// exposure of the history that the file represents, or the fault that opening gives. It takes the
+/// memory of a book and one record. It syncs, writes nothing, and leaves the disk as it was.
+pub fn audit<D: Disk>(
+    alloc: Global,
+    bank: &Bank,
+    spec: &Spec,
+    disk: &mut D,
+) -> Result<(Summary, Exposure), OpenFault>
+    requires { IsPlanFor bank.now spec.now }
+    // The file represents a history, and the numbers are those of that history.
+    ensures found { IfOk result (λ found. IsTrue (D.tells disk.old)
+        → IsAudit bank.now spec.now (D.content disk.old) found.0 found.1) }
+    // What is wrong with the file, if anything is. Nothing is wrong with a file within the limit
+    // that represents a history.
+    ensures why { IfErr result (λ e. IsTrue (D.tells disk.old)
+        → IsOpenAnswer bank.now spec.now (D.content disk.old) e) }
+    ensures cause { IfErr result (λ e. e ≡ OfDisk
+        → Rose (D.faults disk.old) (D.faults disk.new)) }
+    ensures untouched { IsTrue (D.tells disk.old) → D.content disk.new ≡ D.content disk.old }
+    // At each moment of the call a crash leaves what it might have left before.
+    ensures moments { IsTrue (D.tells disk.old)
+        → AtEachMoment (D.accounts disk.old) (D.accounts disk.new)
+        (IsImage (latest (D.accounts disk.old))) }
+    ensures settled { IsTrue (D.tells disk.old)
+        → IsSettled (D.content disk.old) (D.accounts disk.old)
+        → AtEachMoment (D.accounts disk.old) (D.accounts disk.new)
+        (λ file. file ≡ D.content disk.old) }
+    ensures grows { D.faults disk.old ≤ D.faults disk.new }
+    ensures tells { D.tells disk.new ≡ D.tells disk.old }
+{
+    let mut answer = Err(OpenFault::Memory);
+    let _ = audit_disk(alloc, bank, spec, &mut *disk, &mut answer);
+    answer
+}
