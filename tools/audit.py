@@ -339,7 +339,7 @@ def print_tree(at, nodes, said, spent):
     print(f"tree at {at} nodes {nodes} {said}" + (" spent" if spent else ""))
 
 
-def main(words):
+def command(words):
     paths = [word for word in words if word != "--trees"]
     if len(paths) != 3:
         print(__doc__.split("\n\n")[1], file=sys.stderr)
@@ -357,4 +357,4 @@ def main(words):
 
 
 if __name__ == "__main__":
-    sys.exit(main(sys.argv[1:]))
+    sys.exit(command(sys.argv[1:]))

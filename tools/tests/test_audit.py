@@ -1,0 +1,131 @@
+"""The audit of a journal, by hand-made files and beside the program on drills."""
+import os
+import random
+import shutil
+import struct
+import subprocess
+import unittest
+
+import audit
+import data_of_bank_a as a
+import drill_texts
+from common import PROGRAM, Folder, needs_program
+
+EMPTY = b"SHADOWJ1\0"
+# Three records with payloads of one, two and three bytes, the gates at 8, 14, 21 and 29.
+THREE = b"SHADOWJ1" + bytes([1, 0, 0, 0, 1, 5, 1, 0, 0, 0, 2, 6, 7, 1, 0, 0, 0, 3, 8, 9, 10, 0])
+SESSIONS, CHANGES = 2, 60
+
+
+def framed(payload):
+    return b"\1" + struct.pack(">I", len(payload)) + payload
+
+
+class Draw(unittest.TestCase):
+    def test_block_of_the_rfc(self):
+        """RFC 8439, section 2.3.2: counter 1, nonce 000000090000004a00000000."""
+        words = audit.chacha_block(bytes(range(32)), 0x4A000000, 0x09000000 << 32 | 1)
+        self.assertEqual(words[:4], [0xE4E7F110, 0x15593BD1, 0x1FDD0F50, 0xC47120A3])
+        self.assertEqual(words[-1], 0x4E3C50A2)
+
+
+class Files(Folder):
+    """What a file that stands for no history is refused for."""
+
+    def said(self, data):
+        with open(self.path("journal"), "wb") as file:
+            file.write(data)
+        status, said, _ = self.tool("audit", self.bank, self.plan, self.path("journal"))
+        return status, said.splitlines()[0]
+
+    def setUp(self):
+        super().setUp()
+        self.bank, self.plan = self.write("bank", a.BANK), self.write("plan", a.PLAN)
+
+    def test_frames(self):
+        none = (0, "entries 0 sessions 0 finished 0 proved 0 unproved 0 aside 0 nodes 0")
+        for data, wanted in (
+                (b"", none), (b"any bytes", none), (EMPTY, none), (EMPTY + b"junk", none), (b"SHADOWJ1\2junk", none),
+                (b"SHADOWJ2\0junk", (6, "journal: header")),
+                (b"SHADOWJ1\1\0\0\0", (6, "journal: cut at 8")),
+                (b"SHADOWJ1\1\0\0\0\0\0", (6, "journal: length at 8")),
+                (b"SHADOWJ1\1\0\2\0\1\0", (6, "journal: length at 8")),
+                (THREE[:-1], (6, "journal: cut at 21")),
+                (THREE[:21] + b"\1\0\0\0\3\10\11", (6, "journal: cut at 21")),
+                (THREE, (6, "journal: record at 8"))):
+            with self.subTest(data):
+                self.assertEqual(self.said(data), wanted)
+
+    def test_records(self):
+        started = bytes.fromhex("01 00000000 0000000000000046 3f") + bytes(63)
+        answered = bytes.fromhex("04 00000000 0000 01")
+        for payloads, wanted in (
+                ([started], (0, "entries 1 sessions 1 finished 0 proved 0 unproved 0 aside 0 nodes 0")),
+                ([started[:14] + b"\1" + started[15:]], (6, "journal: illegal at 8")),
+                ([started, started], (6, "journal: illegal at 90")),
+                ([started, answered], (6, "journal: illegal at 90")),
+                ([answered[:7]], (6, "journal: record at 8")), ([answered + b"\0"], (6, "journal: record at 8")),
+                ([started, b"\5\0\0\0\0", b"\5\0\0\0\0"], (6, "journal: illegal at 100")),
+                ([started, b"\5\0\0\0\0"], (0, "entries 2 sessions 1 finished 1 proved 0 unproved 0 aside 0 nodes 0"))):
+            with self.subTest(payloads):
+                self.assertEqual(self.said(b"SHADOWJ1" + b"".join(map(framed, payloads)) + b"\0"), wanted)
+
+
+@needs_program
+class Drills(Folder):
+    """Journals of drills, and such journals with a byte changed, as the program reads them."""
+
+    def drill(self, number):
+        """A folder with the texts of a drill, its journal, and a script that asks for the exposure."""
+        folder = self.path(str(number))
+        self.assertFalse(drill_texts.main([str(number), str(SESSIONS), folder]))
+        with open(os.path.join(folder, "report.txt"), "w", encoding="utf-8") as file:
+            file.write("exposure\n")
+        self.assertEqual(self.replay(folder, "script.txt", "journal")[0], 0)
+        return folder
+
+    def replay(self, folder, script, journal):
+        words = [os.path.join(folder, name) for name in ("bank.csv", "plan.txt", script)]
+        done = subprocess.run([PROGRAM, "replay", *words], stdin=subprocess.DEVNULL, capture_output=True, text=True,
+                              env={"SHADOWD_JOURNAL": os.path.join(folder, journal)})
+        return done.returncode, done.stdout.splitlines()
+
+    def audit(self, folder, journal, *more):
+        words = [os.path.join(folder, name) for name in ("bank.csv", "plan.txt", journal)]
+        status, said, _ = self.tool("audit", *words, *more)
+        return status, said.splitlines()
+
+    def test_drills(self):
+        for number in range(3):
+            with self.subTest(number):
+                folder = self.drill(number)
+                status, said = self.audit(folder, "journal", "--trees")
+                trees = [line.split() for line in said if line.startswith("tree")]
+                summary = said[len(trees)].split()
+                self.assertEqual((status, said[len(trees) + 1:]), self.replay(folder, "report.txt", "journal"))
+                # Two starts; 20 items served and answered; 11 served and 10 answered before the session is closed.
+                self.assertEqual(summary[:6], ["entries", "64", "sessions", "2", "finished", "2"])
+                self.assertEqual(len(trees), 20 + 11)
+                self.assertEqual(int(summary[-1]), sum(int(tree[4]) for tree in trees))
+                self.assertEqual(int(summary[7]), sum(tree[5] == "Optimal" for tree in trees))
+
+    def test_changed_bytes(self):
+        folder = self.drill(3)
+        with open(os.path.join(folder, "journal"), "rb") as file:
+            data = file.read()
+        seen, rng = set(), random.Random(1)
+        for at in sorted(rng.sample(range(len(data)), CHANGES)):
+            changed = bytearray(data)
+            changed[at] ^= 1 << rng.randrange(8)
+            with self.subTest(at), open(os.path.join(folder, "changed"), "wb") as file:
+                file.write(changed)
+                file.flush()
+                shutil.copy(file.name, os.path.join(folder, "read"))
+                status, said = self.audit(folder, "read")
+                self.assertEqual((status, said[1:] if status == 0 else said), self.replay(folder, "report.txt", "changed"))
+                seen.add(said[0].rsplit(" ", 1)[0] if status else "0")
+        self.assertGreater(len(seen), 2)
+
+
+if __name__ == "__main__":
+    unittest.main()
