@@ -1,10 +1,10 @@
 -- What the seats of a book give for its sessions.
-use Rattle.std.proofs.Common.{◌≡◌, ℕ, ◌+◌, ◌≤◌, ◌<◌, inl, inr, Bool, true, false, cond, List, length, slice_get, Option, Some, None, refl, sym, ap, ◌∙◌, subst, arith, Bor, get_or}
+use Rattle.std.proofs.Common.{◌≡◌, ℕ, ◌≤◌, ◌<◌, Bool, true, false, cond, List, length, slice_get, Option, Some, None, refl, sym, ap, ◌∙◌, subst, arith, Bor}
 use Rattle.std.specs.Prelude.{nat_le, IsSome, IfSome, IfNone, ◌↔◌}
 use Rattle.std.specs.Option.{option_copied}
 use Rattle.std.proofs.Math.Bool.{true≢false}
-use Rattle.std.proofs.lemmas.Bool.{leb-true, cases_lt}
-use Rattle.std.proofs.lemmas.Option.{slice_get_past, slice_get-get_or, get_or_from_slice_get}
+use Rattle.std.proofs.lemmas.Bool.{leb-true}
+use Rattle.std.proofs.lemmas.Option.{slice_get_past, slice_get-get_or}
 use Rattle.std.specs.Slice.{IsItemAt}
 use Rattle.bank_tables.specs.Tables.{Tables, size}
 use Rattle.exam_model.specs.declared.seat.Seat.{Seat}
@@ -18,7 +18,7 @@ use Rattle.history_model.specs.declared.place.Place.TheVariants.{Pending, Waitin
 use Rattle.constraint_model.specs.declared.problem.Problem.{Problem as Given}
 use Rattle.constraint_model.specs.Views.{problem_of}
 use Rattle.bank_tables.specs.Items.{Set}
-use Rattle.history_model.specs.Entries.{sessions, holder, is_started, seat_of}
+use Rattle.history_model.specs.Entries.{sessions, is_started, seat_of}
 use Rattle.history_model.specs.Places.{place}
 use Rattle.history_model.specs.SessionProblems.{IsProblemOf}
 use Rattle.history_model.specs.Legality.{LegalRun}
@@ -28,7 +28,7 @@ use Rattle.history_model.proofs.SeatSteps.{shown_at}
 use Rattle.history_model.proofs.Running.{sessions_are_numbered, place_is_of_seat, pending_is_of_seat, seat_is_seat}
 use Rattle.shadow_select.specs.Next.{HasFreeItem}
 use Rattle.shadow_select.proofs.ProblemLaws.{free_item_is_left}
-use Rattle.exam_session.specs.Kept.{AreSeats, AreBookings}
+use Rattle.exam_session.specs.Kept.{AreSeats}
 
 -- what a list lends at a place is its element there
 pub looked_up : {X : Type 0} (xs : List X) (i : ℕ) (r : Option (Bor X)) → IsItemAt xs i r → option_copied r ≡ slice_get xs i
@@ -143,17 +143,3 @@ free_given b plan H s seat (Some p) pending of_seat = free_item b plan H s seat 
 pub none_given : (b : Tables) (plan : Plan) (H : List Entry) (s : ℕ) (seat : Seat) (r : Option Given) → LegalRun b plan H → Some seat ≡ seat_if_started H s → (IsSome r ↔ IsPending plan seat) → IfNone r ((step : ℕ) → place plan H s ≡ Some (Pending step) → ⊥)
 none_given b plan H s seat None run found pending = λ step e. true≢false (sym (pending.1 (seat_waits b plan H s step seat run found e)))
 none_given b plan H s seat (Some p) run found pending = tt
-
--- ---- bookings
-pub not_held : (H : List Entry) (bookings : List ℕ) (booking : ℕ) → AreBookings H bookings → ((s : ℕ) → slice_get bookings s ≡ Some booking → ⊥) → None ≡ holder H booking
-not_held H bookings booking kept none = by (holder H booking) refl
-  where
-    by : (o : Option ℕ) → holder H booking ≡ o → ◌≡◌ {A = Option ℕ} None o
-    by None e = refl
-    by (Some s) e = absurd (none s (kept.held s booking e))
-
-pub not_at : (bookings : List ℕ) (n booking : ℕ) → ((k : ℕ) → k < n → slice_get bookings k ≡ Some booking → ⊥) → (get_or bookings n 0 ≡ booking → ⊥) → (k : ℕ) → k < n + 1 → slice_get bookings k ≡ Some booking → ⊥
-not_at bookings n booking before here k below e = elim (cases_lt k n) [
-  | inl earlier ↦ before k earlier e
-  | inr later ↦ (let same : k ≡ n = omega arith in here (ap (λ (j : ℕ). get_or bookings j 0) (sym same) ∙ get_or_from_slice_get bookings k booking 0 e))
-]

@@ -1,7 +1,8 @@
 -- The bookings of a book after one entry more.
-use Rattle.std.proofs.Common.{◌≡◌, ℕ, inl, inr, Bool, true, false, cond, ◌==◌, List, [], ◌∷◌, ◌++◌, length, slice_get, Option, Some, None, refl, sym, ap, ◌∙◌, arith, length-append}
-use Rattle.std.specs.List.{filter_map}
-use Rattle.std.proofs.lemmas.Bool.{eqb-true, eq-eqb}
+use Rattle.std.proofs.Common.{◌≡◌, ℕ, Bool, true, false, cond, ◌==◌, List, [], ◌∷◌, ◌++◌, length, slice_get, Option, Some, None, refl, sym, ap, ◌∙◌, arith}
+use Rattle.std.specs.List.{filter_map, insert}
+use Rattle.std.proofs.lemmas.List.Edits.{length-insert}
+use Rattle.std.proofs.lemmas.Bool.{eqb-true}
 use Rattle.std.proofs.lemmas.List.Elements.{filter_map-append}
 use Rattle.bank_tables.specs.Tables.{Tables}
 use Rattle.exam_model.specs.Plan.{Plan}
@@ -10,8 +11,9 @@ use Rattle.history_model.specs.declared.entry.Entry.TheVariants.{Started, SetAsi
 use Rattle.history_model.specs.Entries.{starts, sessions, holder_of, holder}
 use Rattle.history_model.specs.Legality.{Legal}
 use Rattle.history_model.proofs.Pushed.{list_end, sessions-push}
-use Rattle.exam_session.specs.Kept.{AreBookings}
-use Rattle.exam_session.proofs.Lists.{pushed, at_end, before_end}
+use Rattle.exam_session.specs.declared.bookings.Booked.{Booked}
+use Rattle.exam_session.specs.Bookings.{session_with, IsPlaceFor, AreBookings}
+use Rattle.exam_session.proofs.BookingLaws.{inserted, new_before, rises}
 use Rattle.exam_session.proofs.SeatNotes.{same_sessions}
 
 -- ---- the session of a booking, after a start
@@ -32,46 +34,44 @@ still_held H e booking s held = holder-push H e booking ∙ first_of (filter_map
 only_new : (H : List Entry) (e : Entry) (booking : ℕ) → holder H booking ≡ None → holder (H ++ e ∷ []) booking ≡ slice_get (filter_map (holder_of booking) (e ∷ [])) 0
 only_new H e booking none = holder-push H e booking ∙ first_after (filter_map (holder_of booking) H) (filter_map (holder_of booking) (e ∷ [])) none
 
--- the session that a start by itself gives a booking
-given_by : (session other : ℕ) (eligible : List ℕ) (booking s : ℕ) → slice_get (filter_map (holder_of booking) (Started session other eligible ∷ [])) 0 ≡ Some s → (other ≡ booking) × (session ≡ s)
-given_by session other eligible booking s e = by (other == booking) refl e
+-- the sessions of the bookings after a start
+given : (session booking : ℕ) (eligible : List ℕ) (other : ℕ) → slice_get (filter_map (holder_of other) (Started session booking eligible ∷ [])) 0 ≡ cond (booking == other) (Some session) None
+given session booking eligible other = by (booking == other)
   where
-    by : (t : Bool) → (other == booking) ≡ t → slice_get (filter_map (λ (x : Entry). cond t (Some session) None) (Started session other eligible ∷ [])) 0 ≡ Some s → (other ≡ booking) × (session ≡ s)
-    by true same f = (eqb-true other booking same, cc)
-    by false same f = absurd (cc)
+    by : (t : Bool) → slice_get (filter_map (λ (x : Entry). cond t (Some session) None) (Started session booking eligible ∷ [])) 0 ≡ cond t (Some session) None
+    by true = refl
+    by false = refl
 
-gives : (session booking : ℕ) (eligible : List ℕ) → slice_get (filter_map (holder_of booking) (Started session booking eligible ∷ [])) 0 ≡ Some session
-gives session booking eligible = rw (eq-eqb booking booking refl) refl
+goes_on : (H : List Entry) (session booking : ℕ) (eligible : List ℕ) → holder H booking ≡ None → (other : ℕ) → holder (H ++ Started session booking eligible ∷ []) other ≡ cond (booking == other) (Some session) (holder H other)
+goes_on H session booking eligible unbooked other = by (holder H other) refl (booking == other) refl
+  where
+    by : (o : Option ℕ) → holder H other ≡ o → (t : Bool) → (booking == other) ≡ t → holder (H ++ Started session booking eligible ∷ []) other ≡ cond t (Some session) (holder H other)
+    by None was true same = only_new H _ other was ∙ (given session booking eligible other ∙ ap (λ (t : Bool). cond t (Some session) None) same)
+    by None was false same = only_new H _ other was ∙ (given session booking eligible other ∙ (ap (λ (t : Bool). cond t (Some session) None) same ∙ sym was))
+    by (Some s) was true same = let equal = eqb-true booking other same in absurd (differ s (sym was ∙ (ap (holder H) (sym equal) ∙ unbooked)))
+      where
+        differ : (x : ℕ) → Some x ≡ None → ⊥
+        differ x e = cc
+    by (Some s) was false same = still_held H _ other s was ∙ sym was
 
-pub bookings_started : (b : Tables) (plan : Plan) (H : List Entry) (bookings : List ℕ) (session booking : ℕ) (eligible : List ℕ) → Legal b plan H (Started session booking eligible) → AreBookings H bookings
-    → AreBookings (H ++ Started session booking eligible ∷ []) (bookings ++ booking ∷ [])
-bookings_started b plan H bookings session booking eligible legal kept = record { number = number; holds = holds; held = held }
+-- the pair of a start is inserted at the place for its booking
+pub bookings_started : (b : Tables) (plan : Plan) (H : List Entry) (bookings : List Booked) (session booking place : ℕ) (eligible : List ℕ) → IsPlaceFor bookings booking place → Legal b plan H (Started session booking eligible) → AreBookings H bookings
+    → AreBookings (H ++ Started session booking eligible ∷ []) (insert bookings place (record { booking = booking; session = session }))
+bookings_started b plan H bookings session booking place eligible is legal kept = record { number = number; rising = rises bookings booking place is session (kept.each booking ∙ legal.not_booked) kept.rising; each = each }
   where
     e : Entry
     e = Started session booking eligible
 
-    number : length (bookings ++ booking ∷ []) ≡ sessions (H ++ e ∷ [])
-    number = let more = sessions-push H e in let before = kept.number in let one = length-append bookings (booking ∷ []) in omega arith
+    pair : Booked
+    pair = record { booking = booking; session = session }
 
-    is_last : session ≡ length bookings
-    is_last = let next = legal.number.next in let before = kept.number in omega arith
+    number : length (insert bookings place pair) ≡ sessions (H ++ e ∷ [])
+    number = let more = sessions-push H e in let before = kept.number in let longer = length-insert bookings place pair is.within in omega arith
 
-    last : (s other : ℕ) → s ≡ length bookings → other ≡ booking → holder (H ++ e ∷ []) other ≡ Some s
-    last s other at same =
-        ap (holder (H ++ e ∷ [])) same ∙ (only_new H e booking legal.not_booked ∙ (gives session booking eligible ∙ ap (λ (n : ℕ). Some n) (is_last ∙ sym at)))
-
-    holds : (s other : ℕ) → slice_get (bookings ++ booking ∷ []) s ≡ Some other → holder (H ++ e ∷ []) other ≡ Some s
-    holds s other found = elim (pushed bookings booking other s found) [ inl here ↦ still_held H e other s (kept.holds s other here) | inr at_end ↦ last s other at_end.0 at_end.1 ]
-
-    held : (s other : ℕ) → holder (H ++ e ∷ []) other ≡ Some s → slice_get (bookings ++ booking ∷ []) s ≡ Some other
-    held s other f = by (holder H other) refl
-      where
-        by : (o : Option ℕ) → holder H other ≡ o → slice_get (bookings ++ booking ∷ []) s ≡ Some other
-        by (Some t) was = let same : Some t ≡ Some s = sym (still_held H e other t was) ∙ f in let equal : t ≡ s = cc in before_end bookings booking other s (kept.held s other (was ∙ ap (λ (n : ℕ). Some n) equal))
-        by None was =
-            let given = given_by session booking eligible other s (sym (only_new H e other was) ∙ f) in
-            let at : s ≡ length bookings = sym given.1 ∙ is_last in
-            ap (slice_get (bookings ++ booking ∷ [])) at ∙ (at_end bookings booking ∙ ap (λ (n : ℕ). Some n) given.0)
+    each : (other : ℕ) → session_with (insert bookings place pair) other ≡ holder (H ++ e ∷ []) other
+    each other =
+        inserted bookings booking session place (new_before bookings booking place is) other
+        ∙ (ap (λ (o : Option ℕ). cond (booking == other) (Some session) o) (kept.each other) ∙ sym (goes_on H session booking eligible legal.not_booked other))
 
 -- ---- any other entry changes nothing
 no_holder : (H : List Entry) (e : Entry) (booking : ℕ) → starts e ≡ false → holder (H ++ e ∷ []) booking ≡ holder H booking
@@ -81,9 +81,9 @@ no_holder H (Served session step item form proved nodes) booking no_start = hold
 no_holder H (Answered session step response) booking no_start = holder-push H (Answered session step response) booking ∙ ap (λ (xs : List ℕ). slice_get xs 0) (list_end (filter_map (holder_of booking) H))
 no_holder H (Closed session) booking no_start = holder-push H (Closed session) booking ∙ ap (λ (xs : List ℕ). slice_get xs 0) (list_end (filter_map (holder_of booking) H))
 
-pub bookings_kept : (H : List Entry) (bookings : List ℕ) (e : Entry) → starts e ≡ false → AreBookings H bookings → AreBookings (H ++ e ∷ []) bookings
+pub bookings_kept : (H : List Entry) (bookings : List Booked) (e : Entry) → starts e ≡ false → AreBookings H bookings → AreBookings (H ++ e ∷ []) bookings
 bookings_kept H bookings e no_start kept = record {
   number = kept.number ∙ sym (same_sessions H e no_start);
-  holds = λ s booking found. no_holder H e booking no_start ∙ kept.holds s booking found;
-  held = λ s booking f. kept.held s booking (sym (no_holder H e booking no_start) ∙ f);
+  rising = kept.rising;
+  each = λ booking. kept.each booking ∙ sym (no_holder H e booking no_start);
 }

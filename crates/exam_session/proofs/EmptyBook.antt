@@ -1,16 +1,17 @@
 -- A book of no entries.
-use Rattle.std.proofs.Common.{◌≡◌, ℕ, [], length, refl}
+use Rattle.std.proofs.Common.{◌≡◌, ℕ, [], length, refl, arith}
 use Rattle.bank_tables.specs.Tables.{Tables, size}
 use Rattle.exam_model.specs.Plan.{Plan}
 use Rattle.history_model.specs.declared.counts.Counts.{Counts}
 use Rattle.exposure_counters.specs.Tallies.{Tally, counts_at, IsTallyOf}
-use Rattle.exam_session.specs.Kept.{AreSeats, AreBookings, AreCounts}
+use Rattle.exam_session.specs.Kept.{AreSeats, AreCounts}
+use Rattle.exam_session.specs.Bookings.{AreBookings}
 
 pub no_seats : AreSeats [] []
 no_seats = record { number = refl; each = λ s seat e. absurd (cc) }
 
 pub no_bookings : AreBookings [] []
-no_bookings = record { number = refl; holds = λ s booking e. absurd (cc); held = λ s booking e. absurd (cc) }
+no_bookings = record { number = refl; rising = λ i j below within. absurd (omega arith); each = λ booking. refl }
 
 both_zero : (a e : ℕ) → a ≡ 0 → e ≡ 0 → (let x : Counts = record { alpha = a; eps = e } in let z : Counts = record { alpha = 0; eps = 0 } in x ≡ z)
 both_zero a e f g = cc

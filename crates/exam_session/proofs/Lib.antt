@@ -1,6 +1,7 @@
 pub mod Lists
 pub mod BookLaws
 pub mod SeatNotes
+pub mod BookingLaws
 pub mod BookingNotes
 pub mod CountNotes
 pub mod DrawNotes

@@ -5,7 +5,7 @@ use Rattle.history_model.specs.declared.entry.Entry.{Entry}
 use Rattle.history_model.specs.declared.entry.Entry.TheVariants.{Served, Answered}
 use Rattle.exam_model.specs.declared.seat.Seat.{Seat}
 use Rattle.exam_model.specs.Plan.{Plan}
-use Rattle.history_model.specs.Entries.{session_of, sessions, holder, seat_of}
+use Rattle.history_model.specs.Entries.{session_of, sessions, seat_of}
 use Rattle.history_model.specs.Counts.{counts, finished}
 use Rattle.exposure_counters.specs.Tallies.{Tally, counts_at}
 
@@ -13,12 +13,6 @@ use Rattle.exposure_counters.specs.Tallies.{Tally, counts_at}
 pub record AreSeats (H : List Entry) (seats : List Seat) : Type 0 where
   pub number : length seats ≡ sessions H
   pub each : (s : ℕ) (seat : Seat) → slice_get seats s ≡ Some seat → seat ≡ seat_of H s
-
--- the booking of each session, by its number
-pub record AreBookings (H : List Entry) (bookings : List ℕ) : Type 0 where
-  pub number : length bookings ≡ sessions H
-  pub holds : (s booking : ℕ) → slice_get bookings s ≡ Some booking → holder H booking ≡ Some s
-  pub held : (s booking : ℕ) → holder H booking ≡ Some s → slice_get bookings s ≡ Some booking
 
 -- the exposure counts of the bank's items, and the number of finished sessions
 pub record AreCounts (b : Tables) (plan : Plan) (H : List Entry) (tally : Tally) : Type 0 where

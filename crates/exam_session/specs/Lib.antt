@@ -1,5 +1,6 @@
 pub mod Ledgers
 pub mod Kept
+pub mod Bookings
 pub mod Totals
 pub mod Claims
 pub mod Waits

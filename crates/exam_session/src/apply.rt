@@ -4,8 +4,9 @@ ghost use Rattle.std.specs.Prelude.{◌≡◌, ◌+◌, ◌<◌, max, [], ◌∷
 ghost use Rattle.history_model.specs.Legality.{Legal};
 
 use crate::book::Book;
+use crate::bookings::note_booking;
 use crate::counting::count_entry;
-use crate::seats::{note_booking, note_seat};
+use crate::seats::note_seat;
 use crate::totals::totals_with;
 use exposure_counters::Memory;
 use history_model::Entry;

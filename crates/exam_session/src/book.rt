@@ -22,6 +22,7 @@ ghost use Rattle.history_model.specs.SessionProblems.{IsProblemOf};
 ghost use Rattle.exam_session.specs.Ledgers.{IsExamination};
 ghost use Rattle.exam_session.specs.Kept.{AreCounts};
 
+use crate::bookings::{Booked, session_with};
 use crate::totals::Totals;
 use bank_tables::{Bank, ItemSet};
 use constraint_model::{Problem, Spec};
@@ -43,8 +44,8 @@ pub struct Book<'a> {
     pub(crate) entries: Counted<Entry>,
     /// The seat of each session.
     pub(crate) seats: Vec<Seat>,
-    /// The booking of each session.
-    pub(crate) bookings: Vec<u64>,
+    /// The bookings in ascending order, each with its session.
+    pub(crate) bookings: Vec<Booked>,
     pub(crate) counters: Counters,
     pub(crate) totals: Totals,
     /// For how many entries more there is room: in the seats and the bookings up to the plan's limit of sessions.
@@ -55,7 +56,8 @@ impl<'a> Model for Book<'a> {
     ghost use Rattle.std.specs.Prelude.{◌+◌, ◌^◌, ◌≤◌, min, length};
     ghost use Rattle.std.specs.Vec.{vec_len, vec_capacity};
     ghost use Rattle.exam_session.specs.Ledgers.{Ledger, IsExamination};
-    ghost use Rattle.exam_session.specs.Kept.{AreSeats, AreBookings, AreCounts};
+    ghost use Rattle.exam_session.specs.Kept.{AreSeats, AreCounts};
+    ghost use Rattle.exam_session.specs.Bookings.{AreBookings};
     ghost use Rattle.exam_session.specs.Totals.{AreTotals};
 
     ghost Value = { Ledger };
@@ -219,13 +221,7 @@ impl<'a> Book<'a> {
     pub fn booked(&self, booking: u64) -> Option<u32>
         ensures { result ≡ holder self.now.entries booking }
     {
-        let bookings = self.bookings.as_slice();
-        for session in 0..bookings.len() {
-            if bookings[session] == booking {
-                return Some(session as u32);
-            }
-        }
-        None
+        session_with(self.bookings.as_slice(), booking)
     }
 
     /// The entries in numbers.

@@ -7,6 +7,7 @@
 
 mod apply;
 mod book;
+mod bookings;
 mod claims;
 mod counting;
 mod judge;

@@ -1,4 +1,4 @@
-//! What an entry changes in the seats and bookings of a book.
+//! What an entry changes in the seats of a book.
 
 ghost use Rattle.std.specs.Prelude.{◌≡◌, ◌+◌, ◌<◌, [], ◌∷◌, ◌++◌, List, IsTrue, IsFalse, if◌then◌else◌};
 ghost use Rattle.std.specs.Vec.{vec_len, vec_capacity};
@@ -8,7 +8,7 @@ ghost use Rattle.history_model.specs.declared.entry.Entry.{Entry};
 ghost use Rattle.history_model.specs.Entries.{session_of, starts};
 ghost use Rattle.history_model.specs.Legality.{Legal, LegalRun};
 ghost use Rattle.history_model.specs.Laws.{no_seat, seat_with};
-ghost use Rattle.exam_session.specs.Kept.{HasRoomFor, IsSeated, AreSeats, AreBookings};
+ghost use Rattle.exam_session.specs.Kept.{HasRoomFor, IsSeated, AreSeats};
 
 use bank_tables::{ItemSet, Short};
 use exam_model::Seat;
@@ -88,17 +88,5 @@ pub(crate) fn note_seat(seats: &mut Vec<Seat>, entry: &Entry)
     match *entry {
         Entry::Started { eligible, .. } => seats.push_reserved(new_seat(eligible)),
         _ => change_seat(seats.as_mut_slice(), entry),
-    }
-}
-
-/// Notes the booking of a start.
-pub(crate) fn note_booking(bookings: &mut Vec<u64>, entry: &Entry)
-    requires room { IsTrue (starts entry.now) → vec_len bookings.old < vec_capacity bookings.old }
-    ensures bookings { (b : Tables) (plan : Plan) (H : List Entry) → LegalRun b plan H → Legal b plan H entry.now → AreBookings H bookings.old.items → AreBookings (H ++ entry.now ∷ []) bookings.new.items }
-    ensures number { vec_len bookings.new ≡ vec_len bookings.old + (if starts entry.now then 1 else 0) }
-    ensures capacity { vec_capacity bookings.new ≡ vec_capacity bookings.old }
-{
-    if let Entry::Started { booking, .. } = entry {
-        bookings.push_reserved(*booking);
     }
 }

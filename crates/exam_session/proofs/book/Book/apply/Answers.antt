@@ -58,7 +58,7 @@ note_booking-requires c =
     let e = c.args.entry in
     let legal : Legal b plan H e = subst (λ (book : Ledger). Legal book.bank book.plan book.entries e) (sym c.self.view_is) c.requires.legal in
     let some : 0 < c.self.inside.room = subst (λ (book : Ledger). 0 < book.room) (sym c.self.view_is) c.requires.room in
-    record { room = λ start. seat_free plan.sessions (sessions H) _ _ c.self.inside.room kept.7 some (c.self.inside.bookings.ok.0 ∙ kept.2.number) (is_below b plan H e legal start) }
+    record { rising = kept.2.rising; room = λ start. seat_free plan.sessions (sessions H) _ _ c.self.inside.room kept.7 some (c.self.inside.bookings.ok.0 ∙ kept.2.number) (is_below b plan H e legal start) }
 
 pub totals_with-self-inside-requires : goal.totals_with-self-inside-requires
 totals_with-self-inside-requires c =
