@@ -1,6 +1,5 @@
 //! The ability estimate of a seat.
 
-ghost use Rattle.std.specs.Prelude.{◌≡◌, ◌≤◌, length};
 ghost use Rattle.exam_model.specs.Seats.{answers, IsSeat};
 ghost use Rattle.exam_model.specs.Validity.{IsPlanFor};
 ghost use Rattle.ability_grid.specs.Running.{IsSumsOf};
@@ -11,11 +10,10 @@ use bank_tables::Bank;
 use constraint_model::Spec;
 use exam_model::Seat;
 
-/// The sums of the plan's prior and the seat's answers, where each item shown is answered.
+/// The sums of the plan's prior and the seat's answers.
 pub fn sums_of(bank: &Bank, spec: &Spec, seat: &Seat) -> Sums
     requires plan { IsPlanFor bank.now spec.now }
     requires seat { IsSeat bank.now spec.now seat.now }
-    requires answered { length seat.now.shown ≡ length seat.now.responses }
     ensures { IsSumsOf bank.now spec.now.prior (answers seat.now) result }
 {
     prove!(bank.items() <= 512);

@@ -11,8 +11,9 @@ mod seat;
 mod serving;
 mod shown;
 
+pub use ability_grid::Sums;
 pub use exam_model::Seat;
-pub use problem::next_problem;
+pub use problem::{next_problem, next_problem_from};
 pub use seat::{new_seat, with_item, with_response};
 pub use serving::next_item;
 pub use shown::{all_items, shown_items};

@@ -1,13 +1,15 @@
 //! The next problem of a seat.
 
 ghost use Rattle.std.specs.Prelude.{◌↔◌, IsTrue, IsSome, IfSome};
-ghost use Rattle.exam_model.specs.Seats.{IsSeat, IsPending, IsSeatProblem};
+ghost use Rattle.exam_model.specs.Seats.{answers, IsSeat, IsPending, IsSeatProblem};
 ghost use Rattle.exam_model.specs.Validity.{IsPlanFor, IsWellMade};
 ghost use Rattle.constraint_model.specs.Views.{problem_of};
+ghost use Rattle.ability_grid.specs.Running.{IsSumsOf};
 
 use crate::bar::barred_items;
 use crate::estimate::sums_of;
 use crate::shown::{last_shown, shown_items};
+use ability_grid::Sums;
 use bank_tables::Bank;
 use constraint_model::{Problem, Spec};
 use exam_model::Seat;
@@ -21,15 +23,17 @@ fn is_pending(spec: &Spec, seat: &Seat) -> bool
 }
 
 /// The problem of a seat that waits for an item, with the posterior mode of its answers as estimate; none where it doesn't
-/// wait for one.
-pub fn next_problem<'a>(
+/// wait for one. The sums of the prior and its answers are given.
+pub fn next_problem_from<'a>(
     bank: &'a Bank,
     spec: &'a Spec,
     session: u32,
     seat: &Seat,
+    sums: &Sums,
 ) -> Option<Problem<'a>>
     requires plan { IsPlanFor bank.now spec.now }
     requires seat { IsSeat bank.now spec.now seat.now }
+    requires sums { IsSumsOf bank.now spec.now.prior (answers seat.now) sums.now }
     ensures pending { IsSome result ↔ IsPending spec.now seat.now }
     ensures problem { IfSome result (λ p. IsSeatProblem bank.now spec.now session seat.now (problem_of p)) }
     ensures well_made { IfSome result (λ p. IsWellMade (problem_of p)) }
@@ -40,7 +44,7 @@ pub fn next_problem<'a>(
     prove!(bank.items() <= 512);
     let given = shown_items(bank, seat);
     let barred = barred_items(bank, seat, &given);
-    let theta = sums_of(bank, spec, seat).mode();
+    let theta = sums.mode();
     Some(Problem {
         bank,
         spec,
@@ -53,4 +57,21 @@ pub fn next_problem<'a>(
         last: last_shown(seat),
         start: seat.form,
     })
+}
+
+/// The same, with the sums made of the prior and the seat's answers.
+pub fn next_problem<'a>(
+    bank: &'a Bank,
+    spec: &'a Spec,
+    session: u32,
+    seat: &Seat,
+) -> Option<Problem<'a>>
+    requires plan { IsPlanFor bank.now spec.now }
+    requires seat { IsSeat bank.now spec.now seat.now }
+    ensures pending { IsSome result ↔ IsPending spec.now seat.now }
+    ensures problem { IfSome result (λ p. IsSeatProblem bank.now spec.now session seat.now (problem_of p)) }
+    ensures well_made { IfSome result (λ p. IsWellMade (problem_of p)) }
+{
+    let sums = sums_of(bank, spec, seat);
+    next_problem_from(bank, spec, session, seat, &sums)
 }
