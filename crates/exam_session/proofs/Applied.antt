@@ -1,19 +1,21 @@
 -- What a book needs for an entry that is legal after its own.
-use Rattle.std.proofs.Common.{◌≡◌, ℕ, ◌+◌, ◌-◌, ◌≤◌, ◌<◌, Bool, true, false, cond, List, Some, None, refl, ap, ◌∙◌, arith}
+use Rattle.std.proofs.Common.{◌≡◌, ℕ, ◌+◌, ◌-◌, ◌≤◌, ◌<◌, Bool, true, false, cond, List, length, map, slice_get, Option, Some, None, refl, sym, ap, ◌∙◌, arith}
 use Rattle.std.specs.Prelude.{min}
 use Rattle.bank_tables.specs.Tables.{Tables}
-use Rattle.bank_tables.specs.Validity.{IsBank}
 use Rattle.exam_model.specs.declared.seat.Seat.{Seat}
 use Rattle.exam_model.specs.Plan.{Plan}
-use Rattle.exam_model.specs.Validity.{IsPlanFor}
 use Rattle.history_model.specs.declared.entry.Entry.{Entry}
 use Rattle.history_model.specs.declared.entry.Entry.TheVariants.{Started, SetAside, Served, Answered, Closed}
 use Rattle.history_model.specs.Entries.{session_of, starts, sessions, is_started, seat_of}
 use Rattle.history_model.specs.Legality.{Legal, LegalRun}
 use Rattle.history_model.proofs.Standing.{there, waiting}
 use Rattle.history_model.proofs.Running.{pending_is_of_seat, responses_number}
-use Rattle.exam_session.specs.Kept.{HasRoomFor, IsSeated, AreSeats}
+use Rattle.std.specs.Option.{option_map}
+use Rattle.std.proofs.lemmas.Option.{slice_get-map}
+use Rattle.exam_session.specs.declared.kept_seat.KeptSeat.{KeptSeat}
+use Rattle.exam_session.specs.KeptSeats.{seat_kept, HasRoom, HasRoomFor, IsSeated, AreKept}
 use Rattle.exam_session.proofs.BookLaws.{found_seat}
+use Rattle.exam_session.proofs.KeptLaws.{is_of}
 
 session_there : (b : Tables) (plan : Plan) (H : List Entry) (e : Entry) → starts e ≡ false → Legal b plan H e → is_started H (session_of e) ≡ true
 session_there b plan H (Started session booking eligible) no_start legal = absurd (cc)
@@ -22,31 +24,38 @@ session_there b plan H (Served session step item form proved nodes) no_start leg
 session_there b plan H (Answered session step response) no_start legal = there plan H session _ legal.waiting
 session_there b plan H (Closed session) no_start legal = there plan H session legal.at legal.stands
 
-has_room : (b : Tables) (plan : Plan) (H : List Entry) (e : Entry) → IsBank b → IsPlanFor b plan → LegalRun b plan H → Legal b plan H e → HasRoomFor e (seat_of H (session_of e))
-has_room b plan H (Started session booking eligible) bank valid run legal = tt
-has_room b plan H (SetAside session cause nodes) bank valid run legal = tt
-has_room b plan H (Served session step item form proved nodes) bank valid run legal =
+has_room : (b : Tables) (plan : Plan) (H : List Entry) (e : Entry) (kept : KeptSeat) → LegalRun b plan H → Legal b plan H e → seat_kept kept ≡ seat_of H (session_of e) → HasRoom plan.length kept → HasRoomFor e kept
+has_room b plan H (Started session booking eligible) kept run legal is room = tt
+has_room b plan H (SetAside session cause nodes) kept run legal is room = tt
+has_room b plan H (Served session step item form proved nodes) kept run legal is room =
     let waits = (pending_is_of_seat b plan H session step run legal.is_problem.pending).0 in
     let answered = waits.answered in
-    let room = waits.not_complete in
-    let few = valid.few_items in
-    let small = bank.few in
+    let more = waits.not_complete in
+    let shown : length kept.shown.items ≡ length (seat_of H session).shown = ap (λ (x : Seat). length x.shown) is in
+    let number = kept.shown.ok.0 in
+    let free = room.shown in
     omega arith
-has_room b plan H (Answered session step response) bank valid run legal =
-    let room = (waiting plan H session step legal.item legal.proved legal.waiting).not_full in
-    let number = responses_number H session in
-    let few = valid.few_items in
-    let small = bank.few in
+has_room b plan H (Answered session step response) kept run legal is room =
+    let more = (waiting plan H session step legal.item legal.proved legal.waiting).not_full in
+    let answered = responses_number H session in
+    let responses : length kept.responses.items ≡ length (seat_of H session).responses = ap (λ (x : Seat). length x.responses) is in
+    let number = kept.responses.ok.0 in
+    let free = room.responses in
     omega arith
-has_room b plan H (Closed session) bank valid run legal = tt
+has_room b plan H (Closed session) kept run legal is room = tt
 
-pub is_seated : (b : Tables) (plan : Plan) (H : List Entry) (seats : List Seat) (e : Entry) → IsBank b → IsPlanFor b plan → starts e ≡ false → LegalRun b plan H → Legal b plan H e → AreSeats H seats → IsSeated seats e
-is_seated b plan H seats e bank valid no_start run legal kept =
-    record {
-      seat = seat_of H (session_of e);
-      there = found_seat b plan H seats (session_of e) run kept ∙ ap (λ (t : Bool). cond t (Some (seat_of H (session_of e))) None) (session_there b plan H e no_start legal);
-      room = has_room b plan H e bank valid run legal;
-    }
+pub is_seated : (b : Tables) (plan : Plan) (H : List Entry) (seats : List KeptSeat) (e : Entry) → starts e ≡ false → LegalRun b plan H → Legal b plan H e → AreKept plan H seats → IsSeated seats e
+is_seated b plan H seats e no_start run legal are = by (slice_get seats (session_of e)) refl
+  where
+    found : slice_get (map seat_kept seats) (session_of e) ≡ Some (seat_of H (session_of e))
+    found = found_seat b plan H (map seat_kept seats) (session_of e) run are.are ∙ ap (λ (t : Bool). cond t (Some (seat_of H (session_of e))) None) (session_there b plan H e no_start legal)
+
+    differ : (x : Seat) → None ≡ Some x → ⊥
+    differ x e = cc
+
+    by : (o : Option KeptSeat) → slice_get seats (session_of e) ≡ o → IsSeated seats e
+    by None at = absurd (differ _ (sym (slice_get-map seat_kept seats (session_of e) ∙ ap (option_map seat_kept) at) ∙ found))
+    by (Some kept) at = record { kept = kept; there = at; room = has_room b plan H e kept run legal (is_of plan H seats (session_of e) kept are at) (are.room (session_of e) kept at) }
 
 -- the room that is left where at most one element was added
 pub room_left : (len cap room new_len new_cap added : ℕ) → len + room ≤ cap → 0 < room → new_len ≡ len + added → new_cap ≡ cap → added ≤ 1 → new_len + (room - 1) ≤ new_cap

@@ -82,7 +82,7 @@ is_there H s seat e = by (is_started H s) e
     by false same = absurd (cc)
 
 -- ---- waiting for an item
-above_of : (n m : ℕ) → m < n → nat_le n m ≡ false
+pub above_of : (n m : ℕ) → m < n → nat_le n m ≡ false
 above_of n m below = by (nat_le n m) refl
   where
     by : (t : Bool) → nat_le n m ≡ t → t ≡ false

@@ -21,7 +21,12 @@ use Rattle.history_model.proofs.Running.{sessions_are_numbered, seat_is_seat}
 use Rattle.history_model.proofs.Bounds.{eligible_is_of_bank, sessions_are_few, finished_are_few}
 use Rattle.history_model.proofs.CountLaws.{counts_go_on, finished_goes_on}
 use Rattle.exposure_counters.specs.Tallies.{Tally, counts_at, counted}
-use Rattle.exam_session.specs.Kept.{AreSeats, AreCounts}
+use Rattle.std.proofs.lemmas.List.{length-map}
+use Rattle.bank_tables.specs.Validity.{IsBank}
+use Rattle.exam_session.specs.Kept.{AreCounts}
+use Rattle.exam_session.specs.declared.kept_seat.KeptSeat.{KeptSeat}
+use Rattle.exam_session.specs.KeptSeats.{seat_kept, IsShort, AreKept}
+use Rattle.exam_session.proofs.KeptLaws.{is_of, is_short}
 
 -- ---- the number of finished sessions
 no_more : (b : Tables) (plan : Plan) (H : List Entry) (e : Entry) → 0 < plan.length → LegalRun b plan H → Legal b plan H e → finished_by plan e ≡ None → finished plan (H ++ e ∷ []) ≡ finished plan H
@@ -97,12 +102,23 @@ drawn_where_not_aside seat i none = by (has seat.eligible i) seat.aside none
     by false u e = sym e
 
 -- the session of a legal entry that finishes one has a seat
-pub finishes_seat : (b : Tables) (plan : Plan) (H : List Entry) (seats : List Seat) (e : Entry) (s : ℕ) → LegalRun b plan H → Legal b plan H e → AreSeats H seats → finished_by plan e ≡ Some s → s < length seats
-finishes_seat b plan H seats e s run legal kept finishes = let below = finishes_session b plan H e s run legal finishes in let number = kept.number in omega arith
+pub finishes_seat : (b : Tables) (plan : Plan) (H : List Entry) (seats : List KeptSeat) (e : Entry) (s : ℕ) → LegalRun b plan H → Legal b plan H e → AreKept plan H seats → finished_by plan e ≡ Some s → s < length seats
+finishes_seat b plan H seats e s run legal are finishes =
+    let below = finishes_session b plan H e s run legal finishes in
+    let number = are.are.number in
+    let same = length-map seats seat_kept in
+    omega arith
 
--- the seat at a place of the table
-pub seat_at : (H : List Entry) (seats : List Seat) (s : ℕ) (seat : Seat) → AreSeats H seats → s < length seats → seat ≡ get_or seats s seat → seat ≡ seat_of H s
-seat_at H seats s seat kept below is = kept.each s seat (slice_get_read seats (length seats) s seat refl below is)
+-- the seat at its place is that of the session
+pub seat_at : (b : Tables) (plan : Plan) (H : List Entry) (seats : List KeptSeat) (e : Entry) (s : ℕ) (kept : KeptSeat) (seat : Seat) → LegalRun b plan H → Legal b plan H e → AreKept plan H seats → finished_by plan e ≡ Some s
+    → kept ≡ get_or seats s kept → seat ≡ seat_kept kept → seat ≡ seat_of H s
+seat_at b plan H seats e s kept seat run legal are finishes is of =
+    of ∙ is_of plan H seats s kept are (slice_get_read seats (length seats) s kept refl (finishes_seat b plan H seats e s run legal are finishes) is)
+
+pub short_at : (b : Tables) (plan : Plan) (H : List Entry) (seats : List KeptSeat) (e : Entry) (s : ℕ) (kept : KeptSeat) → IsBank b → IsPlanFor b plan → LegalRun b plan H → Legal b plan H e → AreKept plan H seats → finished_by plan e ≡ Some s
+    → kept ≡ get_or seats s kept → IsShort kept
+short_at b plan H seats e s kept bank valid run legal are finishes is =
+    is_short b plan H seats s kept bank valid run are (slice_get_read seats (length seats) s kept refl (finishes_seat b plan H seats e s run legal are finishes) is)
 
 pub shown_of_bank : (b : Tables) (plan : Plan) (H : List Entry) (s : ℕ) (seat : Seat) → LegalRun b plan H → seat ≡ seat_of H s → (i : ℕ) → is_shown seat i ≡ true → i < size b
 shown_of_bank b plan H s seat run is i shown = (seat_is_seat b plan H s run).items i (subst (λ (x : Seat). is_shown x i ≡ true) is shown)

@@ -5,10 +5,14 @@ use Rattle.exam_model.specs.Plan.{Plan}
 use Rattle.history_model.specs.declared.counts.Counts.{Counts}
 use Rattle.exposure_counters.specs.Tallies.{Tally, counts_at, IsTallyOf}
 use Rattle.exam_session.specs.Kept.{AreSeats, AreCounts}
+use Rattle.exam_session.specs.KeptSeats.{AreKept}
 use Rattle.exam_session.specs.Bookings.{AreBookings}
 
-pub no_seats : AreSeats [] []
+no_seats : AreSeats [] []
 no_seats = record { number = refl; each = λ s seat e. absurd (cc) }
+
+pub no_kept : (plan : Plan) → AreKept plan [] []
+no_kept plan = record { are = no_seats; room = λ s kept e. absurd (cc) }
 
 pub no_bookings : AreBookings [] []
 no_bookings = record { number = refl; rising = λ i j below within. absurd (omega arith); each = λ booking. refl }

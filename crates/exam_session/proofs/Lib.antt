@@ -1,6 +1,8 @@
 pub mod Lists
 pub mod BookLaws
+pub mod KeptLaws
 pub mod SeatNotes
+pub mod KeptNotes
 pub mod BookingLaws
 pub mod BookingNotes
 pub mod CountNotes

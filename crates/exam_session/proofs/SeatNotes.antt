@@ -79,12 +79,12 @@ seats_started b plan H seats session booking eligible run legal kept = record { 
     each s seat found = elim (pushed seats new seat s found) [ inl here ↦ old s seat here | inr at_end ↦ last s seat at_end.0 at_end.1 ]
 
 -- ---- any other entry changes a seat
-same_place : {A : Type 0} (xs : List A) (i : ℕ) (v y : A) → slice_get (set xs i v) i ≡ Some y → y ≡ v
+pub same_place : {A : Type 0} (xs : List A) (i : ℕ) (v y : A) → slice_get (set xs i v) i ≡ Some y → y ≡ v
 same_place [] i v y e = absurd (cc)
 same_place (x ∷ xs) zero v y e = cc
 same_place (x ∷ xs) (suc i) v y e = same_place xs i v y e
 
-other_place : {A : Type 0} (xs : List A) (i k : ℕ) (v : A) → (i ≡ k → ⊥) → slice_get (set xs i v) k ≡ slice_get xs k
+pub other_place : {A : Type 0} (xs : List A) (i k : ℕ) (v : A) → (i ≡ k → ⊥) → slice_get (set xs i v) k ≡ slice_get xs k
 other_place [] i k v other = refl
 other_place (x ∷ xs) zero zero v other = absurd (other refl)
 other_place (x ∷ xs) zero (suc k) v other = refl

@@ -1,5 +1,6 @@
 pub mod Ledgers
 pub mod Kept
+pub mod KeptSeats
 pub mod Bookings
 pub mod Totals
 pub mod Claims

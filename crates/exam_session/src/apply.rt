@@ -6,7 +6,7 @@ ghost use Rattle.history_model.specs.Legality.{Legal};
 use crate::book::Book;
 use crate::bookings::note_booking;
 use crate::counting::count_entry;
-use crate::seats::note_seat;
+use crate::seats::{make_spare, note_seat};
 use crate::totals::totals_with;
 use exposure_counters::Memory;
 use history_model::Entry;
@@ -16,9 +16,9 @@ use std::alloc::Global;
 const ENTRIES: u64 = 1 << 47;
 
 impl<'a> Book<'a> {
-    /// Makes room for one entry, where there is none: in the lists with an element for each session only while the plan
-    /// allows a further one.
-    pub fn reserve(&mut self, _alloc: Global) -> Result<(), Memory>
+    /// Makes room for one entry, where there is none: in the lists with an element for each session, and for the seat of the
+    /// next one, only while the plan allows a further one.
+    pub fn reserve(&mut self, alloc: Global) -> Result<(), Memory>
         ensures bank { self.new.bank ≡ self.old.bank }
         ensures plan { self.new.plan ≡ self.old.plan }
         ensures entries { self.new.entries ≡ self.old.entries }
@@ -34,6 +34,7 @@ impl<'a> Book<'a> {
         if self.seats.len() < self.spec.sessions() as usize {
             self.seats.reserve(1)?;
             self.bookings.reserve(1)?;
+            make_spare(&mut self.spare, alloc, self.spec)?;
         }
         self.room = 1;
         Ok(())
@@ -56,7 +57,7 @@ impl<'a> Book<'a> {
             &mut self.counters,
             &entry,
         );
-        note_seat(&mut self.seats, &entry);
+        note_seat(&mut self.seats, &mut self.spare, &entry);
         note_booking(&mut self.bookings, &entry);
         self.totals = totals_with(self.totals, &entry);
         self.entries.push(&entry);

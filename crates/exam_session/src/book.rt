@@ -1,7 +1,6 @@
 //! The book.
 
 ghost use Rattle.std.specs.Prelude.{◌≡◌, ◌↔◌, ℕ, Bool, ◌+◌, ◌<◌, ◌≤◌, [], length, Option, Some, None, IsTrue, IsSome, IfOk, IfSome, IfNone, OnOk, OnErr, if◌then◌else◌};
-ghost use Rattle.std.specs.Option.{option_copied};
 ghost use Rattle.std.specs.Vec.{vec_len, vec_capacity};
 ghost use Rattle.bank_tables.specs.Items.{Set, has};
 ghost use Rattle.bank_tables.specs.Tables.{size};
@@ -15,7 +14,6 @@ ghost use Rattle.history_model.specs.Entries.{sessions, is_started, holder, seat
 ghost use Rattle.history_model.specs.Places.{place};
 ghost use Rattle.history_model.specs.Counts.{counts, finished};
 ghost use Rattle.history_model.specs.Draws.{draw, SameItems};
-ghost use Rattle.history_model.specs.Laws.{seat_place};
 ghost use Rattle.history_model.specs.Refusals.{recorded};
 ghost use Rattle.history_model.specs.Summaries.{summary};
 ghost use Rattle.history_model.specs.SessionProblems.{IsProblemOf};
@@ -23,6 +21,7 @@ ghost use Rattle.exam_session.specs.Ledgers.{IsExamination};
 ghost use Rattle.exam_session.specs.Kept.{AreCounts};
 
 use crate::bookings::{Booked, session_with};
+use crate::kept_seat::KeptSeat;
 use crate::totals::Totals;
 use bank_tables::{Bank, ItemSet};
 use constraint_model::{Problem, Spec};
@@ -43,20 +42,23 @@ pub struct Book<'a> {
     /// The entries, for contracts alone.
     pub(crate) entries: Counted<Entry>,
     /// The seat of each session.
-    pub(crate) seats: Vec<Seat>,
+    pub(crate) seats: Vec<KeptSeat>,
+    /// The seat for the next session, where there is room for it.
+    pub(crate) spare: Option<KeptSeat>,
     /// The bookings in ascending order, each with its session.
     pub(crate) bookings: Vec<Booked>,
     pub(crate) counters: Counters,
     pub(crate) totals: Totals,
-    /// For how many entries more there is room: in the seats and the bookings up to the plan's limit of sessions.
+    /// For how many entries more there is room, one or none: in the seats and the bookings up to the plan's limit of sessions.
     pub(crate) room: usize,
 }
 
 impl<'a> Model for Book<'a> {
-    ghost use Rattle.std.specs.Prelude.{◌+◌, ◌^◌, ◌≤◌, min, length};
+    ghost use Rattle.std.specs.Prelude.{◌+◌, ◌^◌, ◌<◌, ◌≤◌, min, length, IsSome, IfSome};
     ghost use Rattle.std.specs.Vec.{vec_len, vec_capacity};
     ghost use Rattle.exam_session.specs.Ledgers.{Ledger, IsExamination};
-    ghost use Rattle.exam_session.specs.Kept.{AreSeats, AreCounts};
+    ghost use Rattle.exam_session.specs.Kept.{AreCounts};
+    ghost use Rattle.exam_session.specs.KeptSeats.{IsSpare, AreKept};
     ghost use Rattle.exam_session.specs.Bookings.{AreBookings};
     ghost use Rattle.exam_session.specs.Totals.{AreTotals};
 
@@ -66,34 +68,16 @@ impl<'a> Model for Book<'a> {
 
     ghost invariant = { λ b.
         IsExamination (record { bank = b.bank.now; plan = b.spec.now; entries = b.entries; room = b.room })
-        × AreSeats b.entries b.seats.items
+        × AreKept b.spec.now b.entries b.seats.items
         × AreBookings b.entries b.bookings.items
         × AreCounts b.bank.now b.spec.now b.entries b.counters
         × AreTotals b.entries b.totals
         × (length b.entries + b.room ≤ 2 ^ 47)
+        × (b.room ≤ 1)
+        × IfSome b.spare (IsSpare b.spec.now)
+        × (0 < b.room → vec_len b.seats < b.spec.now.sessions → IsSome b.spare)
         × (min b.spec.now.sessions (vec_len b.seats + b.room) ≤ vec_capacity b.seats)
         × (min b.spec.now.sessions (vec_len b.bookings + b.room) ≤ vec_capacity b.bookings) };
-}
-
-/// The place of a seat.
-fn seat_place(spec: &Spec, seat: &Seat) -> Place
-    ensures { result ≡ seat_place spec.now seat.now }
-{
-    if seat.closed {
-        return Place::Closed;
-    }
-    let step = seat.responses.len();
-    if step >= spec.length() as usize {
-        return Place::Complete;
-    }
-    match seat.shown.get(step) {
-        Some(item) => Place::Waiting {
-            step: step as u16,
-            item,
-            proved: seat.proved,
-        },
-        None => Place::Pending(step as u16),
-    }
 }
 
 /// A book may be moved to another thread.
@@ -118,6 +102,7 @@ impl<'a> Book<'a> {
             spec,
             entries: Counted::new(),
             seats: Vec::new(alloc),
+            spare: None,
             bookings: Vec::new(alloc),
             counters,
             totals: Totals {
@@ -168,11 +153,14 @@ impl<'a> Book<'a> {
         self.seats.len() as u32
     }
 
-    /// What a session holds so far; none where it isn't there.
-    pub fn seat(&self, session: u32) -> Option<&Seat>
-        ensures { option_copied result ≡ (if is_started self.now.entries session then Some (seat_of self.now.entries session) else None) }
+    /// What a session holds so far, made of what is kept of it; none where it isn't there.
+    pub fn seat(&self, session: u32) -> Option<Seat>
+        ensures { result ≡ (if is_started self.now.entries session then Some (seat_of self.now.entries session) else None) }
     {
-        self.seats.get(session as usize)
+        match self.seats.get(session as usize) {
+            Some(kept) => Some(kept.seat()),
+            None => None,
+        }
     }
 
     #[tactic(auto, using(crate::proofs::BookLaws::placed, crate::proofs::BookLaws::not_placed))]
@@ -182,8 +170,8 @@ impl<'a> Book<'a> {
         // the item that waits for its answer is one of the bank
         ensures item { (step item : ℕ) (proved : Bool) → result ≡ Some (Waiting step item proved) → item < size self.now.bank }
     {
-        match self.seat(session) {
-            Some(seat) => Some(seat_place(self.spec, seat)),
+        match self.seats.get(session as usize) {
+            Some(kept) => Some(kept.place(self.spec)),
             None => None,
         }
     }
@@ -208,11 +196,8 @@ impl<'a> Book<'a> {
     pub fn recorded(&self, session: u32, step: u16) -> Option<u8>
         ensures { result ≡ recorded self.now.entries session step }
     {
-        let Some(seat) = self.seats.get(session as usize) else {
-            return None;
-        };
-        match seat.responses.get(step as usize) {
-            Some(response) => Some(response as u8),
+        match self.seats.get(session as usize) {
+            Some(kept) => kept.response(step),
             None => None,
         }
     }
@@ -248,7 +233,7 @@ impl<'a> Book<'a> {
         ensures none { IfNone result ((step : ℕ) → place self.now.plan self.now.entries session ≡ Some (Pending step) → ⊥) }
     {
         match self.seat(session) {
-            Some(seat) => next_problem(self.bank, self.spec, session, seat),
+            Some(seat) => next_problem(self.bank, self.spec, session, &seat),
             None => None,
         }
     }

@@ -11,6 +11,7 @@ mod bookings;
 mod claims;
 mod counting;
 mod judge;
+mod kept_seat;
 pub mod laws;
 mod seats;
 mod totals;

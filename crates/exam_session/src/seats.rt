@@ -1,58 +1,20 @@
 //! What an entry changes in the seats of a book.
 
-ghost use Rattle.std.specs.Prelude.{◌≡◌, ◌+◌, ◌<◌, [], ◌∷◌, ◌++◌, List, IsTrue, IsFalse, if◌then◌else◌};
+ghost use Rattle.std.specs.Prelude.{◌≡◌, ◌+◌, ◌<◌, [], ◌∷◌, ◌++◌, List, IsTrue, IsFalse, IsSome, IfSome, OnOk, None, if◌then◌else◌};
 ghost use Rattle.std.specs.Vec.{vec_len, vec_capacity};
 ghost use Rattle.bank_tables.specs.Tables.{Tables};
 ghost use Rattle.exam_model.specs.Plan.{Plan};
 ghost use Rattle.history_model.specs.declared.entry.Entry.{Entry};
 ghost use Rattle.history_model.specs.Entries.{session_of, starts};
 ghost use Rattle.history_model.specs.Legality.{Legal, LegalRun};
-ghost use Rattle.history_model.specs.Laws.{no_seat, seat_with};
-ghost use Rattle.exam_session.specs.Kept.{HasRoomFor, IsSeated, AreSeats};
+ghost use Rattle.exam_session.specs.KeptSeats.{HasRoom, IsSpare, IsSeated, AreKept, StartsSeat};
 
-use bank_tables::{ItemSet, Short};
-use exam_model::Seat;
+use crate::kept_seat::KeptSeat;
+use bank_tables::ItemSet;
+use constraint_model::Spec;
+use exposure_counters::Memory;
 use history_model::Entry;
-
-/// The seat of a session that was just started.
-fn new_seat(eligible: ItemSet) -> Seat
-    ensures { result ≡ record no_seat { eligible = eligible } }
-{
-    Seat {
-        shown: Short::empty(),
-        responses: Short::empty(),
-        eligible,
-        aside: false,
-        form: None,
-        proved: false,
-        closed: false,
-    }
-}
-
-/// The seat after an entry of its session.
-fn seat_with(seat: Seat, entry: &Entry) -> Seat
-    requires { HasRoomFor entry.now seat }
-    ensures { result ≡ seat_with (session_of entry.now) seat entry.now }
-{
-    let mut after = seat;
-    match *entry {
-        Entry::Started { eligible, .. } => after.eligible = eligible,
-        Entry::SetAside { .. } => after.aside = true,
-        Entry::Served {
-            item,
-            form,
-            proved,
-            ..
-        } => {
-            after.shown.push(item);
-            after.form = Some(form);
-            after.proved = proved;
-        }
-        Entry::Answered { response, .. } => after.responses.push(u16::from(response)),
-        Entry::Closed { .. } => after.closed = true,
-    }
-    after
-}
+use std::alloc::Global;
 
 /// The session that an entry is of.
 pub(crate) fn session_of(entry: &Entry) -> u32
@@ -67,26 +29,67 @@ pub(crate) fn session_of(entry: &Entry) -> u32
     }
 }
 
-/// Changes the seat of an entry's session.
-fn change_seat(seats: &mut [Seat], entry: &Entry)
-    requires { IsSeated seats.old entry.now }
-    ensures seats { (b : Tables) (plan : Plan) (H : List Entry) → IsFalse (starts entry.now) → LegalRun b plan H → Legal b plan H entry.now → AreSeats H seats.old → AreSeats (H ++ entry.now ∷ []) seats.new }
+/// Makes the seat for the next session, where there is none.
+pub(crate) fn make_spare(
+    spare: &mut Option<KeptSeat>,
+    alloc: Global,
+    spec: &Spec,
+) -> Result<(), Memory>
+    requires { IfSome spare.old (IsSpare spec.now) }
+    ensures spare { IfSome spare.new (IsSpare spec.now) }
+    ensures there { OnOk result (IsSome spare.new) }
 {
-    let session = session_of(entry) as usize;
-    let seat = seats[session];
-    seats[session] = seat_with(seat, entry);
+    if spare.is_none() {
+        *spare = Some(KeptSeat::new(alloc, spec.length() as usize)?);
+    }
+    Ok(())
 }
 
-/// Notes an entry in the seats: a start adds one, any other entry changes that of its session.
-pub(crate) fn note_seat(seats: &mut Vec<Seat>, entry: &Entry)
+/// Adds the spare seat as that of a session that starts.
+fn start_seat(seats: &mut Vec<KeptSeat>, spare: &mut Option<KeptSeat>, eligible: ItemSet)
+    requires room { vec_len seats.old < vec_capacity seats.old }
+    requires spare { IsSome spare.old }
+    ensures seats { IfSome spare.old (StartsSeat seats.old.items eligible seats.new.items) }
+    ensures none { spare.new ≡ None }
+    ensures number { vec_len seats.new ≡ vec_len seats.old + 1 }
+    ensures capacity { vec_capacity seats.new ≡ vec_capacity seats.old }
+{
+    match spare.take() {
+        Some(kept) => {
+            let mut seat = kept;
+            seat.eligible = eligible;
+            seats.push_reserved(seat);
+        }
+        None => unreachable!(),
+    }
+}
+
+/// Changes the seat of an entry's session.
+fn change_seat(seats: &mut [KeptSeat], entry: &Entry)
+    requires { IsSeated seats.old entry.now }
+    ensures { (b : Tables) (plan : Plan) (H : List Entry) → IsFalse (starts entry.now)
+        → LegalRun b plan H → Legal b plan H entry.now → AreKept plan H seats.old
+        → AreKept plan (H ++ entry.now ∷ []) seats.new }
+{
+    let session = session_of(entry) as usize;
+    seats[session].note(entry);
+}
+
+/// Notes an entry in the seats: a start adds the spare one, any other entry changes that of its session.
+pub(crate) fn note_seat(seats: &mut Vec<KeptSeat>, spare: &mut Option<KeptSeat>, entry: &Entry)
     requires room { IsTrue (starts entry.now) → vec_len seats.old < vec_capacity seats.old }
+    requires spare { IsTrue (starts entry.now) → IsSome spare.old }
     requires seated { IsFalse (starts entry.now) → IsSeated seats.old.items entry.now }
-    ensures seats { (b : Tables) (plan : Plan) (H : List Entry) → LegalRun b plan H → Legal b plan H entry.now → AreSeats H seats.old.items → AreSeats (H ++ entry.now ∷ []) seats.new.items }
+    ensures seats { (b : Tables) (plan : Plan) (H : List Entry) → LegalRun b plan H
+        → Legal b plan H entry.now → IfSome spare.old (IsSpare plan)
+        → AreKept plan H seats.old.items → AreKept plan (H ++ entry.now ∷ []) seats.new.items }
+    ensures spare { (plan : Plan) → IfSome spare.old (IsSpare plan)
+        → IfSome spare.new (IsSpare plan) }
     ensures number { vec_len seats.new ≡ vec_len seats.old + (if starts entry.now then 1 else 0) }
     ensures capacity { vec_capacity seats.new ≡ vec_capacity seats.old }
 {
     match *entry {
-        Entry::Started { eligible, .. } => seats.push_reserved(new_seat(eligible)),
+        Entry::Started { eligible, .. } => start_seat(seats, spare, eligible),
         _ => change_seat(seats.as_mut_slice(), entry),
     }
 }

@@ -29,7 +29,7 @@ fn follow(book: &mut Book, alloc: Global, rec: &Record) -> Result<Option<Illegal
 }
 
 /// Takes a record that has to follow.
-fn take(book: &mut Book, alloc: Global, rec: &Record) -> Result<(), Fail> {
+pub(crate) fn take(book: &mut Book, alloc: Global, rec: &Record) -> Result<(), Fail> {
     match follow(book, alloc, rec)? {
         None => Ok(()),
         Some(_) => Err(Fail::from("refused")),
@@ -208,7 +208,7 @@ fn reasons_of_an_answer(rt: HostRuntime) -> Result<(), Fail> {
 }
 
 /// In how many finished sessions each item was shown, and in how many it was eligible.
-fn counts_of(alloc: Global, counters: &Counters) -> Result<Vec<(u32, u32)>, Fail> {
+pub(crate) fn counts_of(alloc: Global, counters: &Counters) -> Result<Vec<(u32, u32)>, Fail> {
     let mut pairs = Vec::new(alloc);
     for item in 0..counters.items() {
         let counts = counters.read(item);
@@ -273,7 +273,7 @@ fn told_by(book: &Book) -> Told {
         finished: book.counters().finished(),
         booked: (book.booked(71), book.booked(72)),
         places: (book.place(0), book.place(2)),
-        seat: book.seat(0).copied(),
+        seat: book.seat(0),
     }
 }
 

@@ -1,22 +1,20 @@
-use Rattle.std.proofs.Common.{◌≡◌, ◌++◌, ◌∷◌, [], ℕ, sym, ap, ◌∙◌, subst, slice_set, slice_get, Some}
+use Rattle.std.proofs.Common.{◌≡◌, ◌++◌, ◌∷◌, [], ℕ, sym, ap, ◌∙◌, subst, set, get_or, slice_get, Some}
 use Rattle.std.proofs.lemmas.Option.{get_or_from_slice_get}
-use Rattle.exam_model.specs.declared.seat.Seat.{Seat}
 use Rattle.history_model.specs.Laws.{seat_with}
 use Rattle.history_model.specs.Entries.{session_of}
-use Rattle.exam_session.specs.Kept.{AreSeats}
-use Rattle.exam_session.proofs.SeatNotes.{seats_changed}
+use Rattle.exam_session.specs.declared.kept_seat.KeptSeat.{KeptSeat}
+use Rattle.exam_session.specs.KeptSeats.{seat_kept, KeepsRoom, AreKept}
+use Rattle.exam_session.proofs.KeptNotes.{kept_changed}
 use Rattle.exam_session.proofs.seats.change_seat.Goals as goal
 
 pub returns : goal.returns
-returns c = record {
-  seats = λ b plan H no_start run legal kept.
-      let seats = c.args.seats.now in
-      let entry = c.args.entry.now in
-      let there = c.requires.there in
-      let at : slice_get seats c.session_of-session.result ≡ Some c.requires.seat = ap (slice_get seats) c.session_of-session.ensures ∙ there in
-      let found : c.index-seats-session.result ≡ c.requires.seat = c.index-seats-session.is ∙ get_or_from_slice_get seats c.session_of-session.result c.requires.seat c.index-seats-session.result at in
-      let new : c.seat_with.result ≡ seat_with (session_of entry) c.requires.seat entry = c.seat_with.ensures ∙ ap (λ (seat : Seat). seat_with (session_of entry) seat entry) found in
-      subst (λ (seat : Seat). AreSeats (H ++ entry ∷ []) (slice_set seats c.session_of-session.result seat)) (sym new)
-      (subst (λ (s : ℕ). AreSeats (H ++ entry ∷ []) (slice_set seats s (seat_with (session_of entry) c.requires.seat entry))) (sym c.session_of-session.ensures)
-      (seats_changed b plan H seats entry c.requires.seat no_start run legal kept there));
-}
+returns c = λ b plan H no_start run legal are.
+    let seats = c.args.seats.now in
+    let entry = c.args.entry.now in
+    let kept = c.requires.kept in
+    let after = c.note.new.self in
+    let at : slice_get seats c.session_of-session.result ≡ Some kept = ap (slice_get seats) c.session_of-session.ensures ∙ c.requires.there in
+    let found : get_or seats c.session_of-session.result c.index-seats-session.result ≡ kept = get_or_from_slice_get seats c.session_of-session.result kept c.index-seats-session.result at in
+    let is : seat_kept after ≡ seat_with (session_of entry) (seat_kept kept) entry = c.note.ensures.seat ∙ ap (λ (k : KeptSeat). seat_with (session_of entry) (seat_kept k) entry) found in
+    subst (λ (s : ℕ). AreKept plan (H ++ entry ∷ []) (set seats s after)) (sym c.session_of-session.ensures)
+    (kept_changed b plan H seats entry kept after no_start run legal are c.requires.there is (subst (λ (k : KeptSeat). KeepsRoom k after) found c.note.ensures.room))

@@ -1,18 +1,34 @@
-use Rattle.std.proofs.Common.{◌≡◌, ◌++◌, ◌∷◌, [], List, sym, ap, ◌∙◌, subst}
-use Rattle.exam_model.specs.declared.seat.Seat.{Seat}
+use Rattle.std.proofs.Common.{◌+◌, ◌++◌, ◌∷◌, [], List, length, Bool, cond, sym, ap, ◌∙◌, subst, arith}
+use Rattle.std.specs.Vec.{vec_len}
 use Rattle.history_model.specs.declared.entry.Entry.{Entry}
+use Rattle.history_model.specs.Entries.{starts}
 use Rattle.history_model.specs.Legality.{Legal}
-use Rattle.history_model.specs.Laws.{no_seat}
-use Rattle.exam_session.specs.Kept.{AreSeats}
-use Rattle.exam_session.proofs.SeatNotes.{seats_started}
+use Rattle.exam_session.specs.declared.kept_seat.KeptSeat.{KeptSeat}
+use Rattle.exam_session.specs.KeptSeats.{IsSeated, AreKept}
+use Rattle.exam_session.proofs.Applied.{no_start}
+use Rattle.exam_session.proofs.KeptNotes.{kept_started, whole}
 use Rattle.exam_session.proofs.seats.note_seat.Goals as goal
 
 pub returns-in-Started-clause-seats : goal.returns-in-Started-clause-seats
-returns-in-Started-clause-seats c = λ b plan H run legal kept.
-    let seats = c.args.seats.now.items in
+returns-in-Started-clause-seats c = λ b plan H run legal ready are.
     let is = c.in-Started.is in
-    let added : c.push_reserved.new.self.items ≡ seats ++ record no_seat { eligible = c.in-Started.eligible } ∷ [] =
-    c.push_reserved.ensures.items ∙ ap (λ (seat : Seat). seats ++ seat ∷ []) c.new_seat.ensures in
-    subst (λ (xs : List Seat). AreSeats (H ++ c.args.entry.now ∷ []) xs) (sym added)
-    (subst (λ (e : Entry). AreSeats (H ++ e ∷ []) (seats ++ record no_seat { eligible = c.in-Started.eligible } ∷ [])) (sym is)
-    (seats_started b plan H seats c.in-Started.session c.in-Started.booking c.in-Started.eligible run (subst (λ (e : Entry). Legal b plan H e) is legal) kept))
+    subst (λ (e : Entry). AreKept plan (H ++ e ∷ []) c.start_seat.new.seats.items) (sym is)
+    (kept_started b plan H c.args.seats.now.items c.start_seat.new.seats.items c.in-Started.session c.in-Started.booking c.in-Started.eligible c.args.spare.now run (subst (λ (e : Entry). Legal b plan H e) is legal) (c.requires.spare (ap starts is)) ready c.start_seat.ensures.seats are)
+
+pub change_seat-requires : goal.change_seat-requires
+change_seat-requires c = subst (λ (xs : List KeptSeat). IsSeated xs c.args.entry.now) (sym c.as_mut_slice.ensures.value) (c.requires.seated (no_start c.args.entry.now c.in_default.not-Started))
+
+pub returns-in_default : goal.returns-in_default
+returns-in_default c =
+    let other = no_start c.args.entry.now c.in_default.not-Started in
+    let lent = c.as_mut_slice.ensures.value in
+    let after = c.change_seat.new.seats in
+    let is = whole c.args.seats.now.len c.args.seats.now.items after c.args.seats.now.ok.0 (c.change_seat.auto.seats ∙ ap (λ (xs : List KeptSeat). length xs) lent) in
+    record {
+      seats = λ b plan H run legal ready are.
+          subst (λ (xs : List KeptSeat). AreKept plan (H ++ c.args.entry.now ∷ []) xs) (sym is)
+          (c.change_seat.ensures b plan H other run legal (subst (λ (xs : List KeptSeat). AreKept plan H xs) (sym lent) are));
+      spare = λ plan ready. ready;
+      number = sym (ap (λ (t : Bool). vec_len c.args.seats.now + cond t 1 0) other ∙ omega arith);
+      capacity = search;
+    }
