@@ -1,7 +1,8 @@
 -- What the commit of an assembly comes to.
-use Rattle.std.proofs.Common.{◌≡◌, ℕ, ◌+◌, ◌==◌, Bool, true, false, cond, List, [], ◌∷◌, ◌++◌, length, refl, sym, ap, ◌∙◌, subst, inl, inr, arith, Option, Some, None, length-append, eq-eqb}
+use Rattle.std.proofs.Common.{◌≡◌, ℕ, ◌+◌, ◌==◌, Bool, true, false, cond, List, [], ◌∷◌, ◌++◌, length, refl, sym, ap, ◌∙◌, subst, inl, inr, ⊎_elim, arith, append_assoc, Option, Some, None, length-append, eq-eqb}
 use Rattle.std.specs.List.{list_any}
 use Rattle.std.proofs.lemmas.Bool.{true≢false}
+use Rattle.bank_tables.specs.Items.{has}
 use Rattle.bank_tables.specs.Tables.{Tables}
 use Rattle.exam_model.specs.Plan.{Plan}
 use Rattle.exam_model.specs.Problem.{Problem as Model}
@@ -29,22 +30,28 @@ use Rattle.history_model.proofs.RunParts.{beginning_is_legal}
 use Rattle.history_model.proofs.Standing.{there}
 use Rattle.history_model.proofs.Staying.{still_started}
 use Rattle.branch_bound.specs.Assembled.{Assembly}
+use Rattle.branch_bound.specs.Assemblies.{IsFirmOutcome, IsNoWorseThan}
 use Rattle.branch_bound.specs.declared.outcome.Outcome.{Outcome}
 use Rattle.branch_bound.specs.declared.outcome.Outcome.TheVariants.{Found, NoForm, NoneFound}
 use Rattle.exam_office.specs.declared.mark.Mark.{Mark}
+use Rattle.exam_office.specs.declared.mark.Mark.TheVariants.{Old, Opened, Own, Adopted, Fault}
+use Rattle.exam_office.specs.Asking.{IsGood}
 use Rattle.exam_office.specs.Calls.{Finding, Calls, refused_with}
 use Rattle.exam_office.specs.Commits.{IsStaleBy, IsEntryFor, IsOfStart, IsStillAsked, FindsCommit, MayBeCommitted}
 use Rattle.exam_office.specs.Marks.{history}
 use Rattle.exam_office.specs.Noting.{IsDoubtOf}
 use Rattle.exam_office.specs.Running.{Running}
 use Rattle.exam_office.specs.Writing.{IsSameOffice}
+use Rattle.exam_office.proofs.Committed.{asked_now, still_may}
 use Rattle.exam_hall.specs.Parts.{owns, NoFault, AtMostOne, IsAside, IsServing, IsCommitted, Fails}
-use Rattle.exam_hall.specs.Rounds.{IsPlaced, EndsRound}
+use Rattle.exam_hall.specs.Good.{IsFirm, IsGoodMark}
+use Rattle.exam_hall.specs.Rounds.{IsGoodFor, IsPlaced, EndsRound, EndsGood}
 use Rattle.exam_hall.specs.Turns.{Adds, Ended, IsRoundAt}
 use Rattle.exam_hall.specs.declared.committing.Round.{Round}
 use Rattle.exam_hall.specs.declared.committing.Round.TheVariants.{Placed, Again, Failed}
 use Rattle.exam_hall.proofs.Calls.{CameTo, to_refusal, to_nothing, to_entry, to_failure, addition, calls_on}
-use Rattle.exam_hall.proofs.Moved.{more_servings, more_answers, even}
+use Rattle.exam_hall.proofs.Moved.{history_append, more_servings, more_answers, even}
+use Rattle.exam_hall.proofs.Owned.{EachMark, IsFoundMark, ends_good}
 
 -- ---- the session after one more entry
 -- after an item was served the session doesn't wait for one
@@ -136,6 +143,38 @@ committed P n (Found form proved) e h = inr (subst (λ x. IsServing P.session x)
 committed P n NoForm e h = inl (subst (λ x. IsAside P.session x) (sym h) refl)
 committed P n NoneFound e h = inl (subst (λ x. IsAside P.session x) (sym h) refl)
 
+-- what was found is firm and good
+committed_good : (b : Tables) (plan : Plan) (base : List ℕ) (H : List Entry) (Q : Model) (n : ℕ) (o : Outcome) (e : Entry) → IsProblemOf b plan H Q.session Q.step Q → IsOfStart Q base o → IsFirmOutcome Q o
+    → IsNoWorseThan Q Q.start o → IsNoWorseThan Q (Some (has base)) o → IsEntryFor Q n o e → Legal b plan H e → IsFirm b plan H e × IsGood b plan base H e
+committed_good b plan base H Q n (Found form proved) e asked at firm start hint made legal =
+    let x : Entry = Served Q.session Q.step made.0 form proved n in
+    subst (λ y. IsFirm b plan H y × IsGood b plan base H y) (sym made.2) (
+      record { step = Q.step; item = made.0; form = form; proved = proved; nodes = n; is = refl; legal = subst (λ y. Legal b plan H y) made.2 legal; problem = Q; is_problem = asked; firm = firm },
+      record { problem = Q; is_problem = asked; base_is = hint; start = λ X is. subst (λ s. IsNoWorseThan Q s (Found form proved)) is start },
+    )
+committed_good b plan base H Q n NoForm e asked at firm start hint made legal = subst (λ y. IsFirm b plan H y × IsGood b plan base H y) (sym made) (tt, tt)
+committed_good b plan base H Q n NoneFound e asked at firm start hint made legal =
+    subst (λ y. IsFirm b plan H y × IsGood b plan base H y) (sym made)
+    (tt, record { problem = Q; is_problem = subst (λ k. IsProblemOf b plan H Q.session k Q) at.0 asked; no_base = at.2 })
+
+module _ (b : Tables) (plan : Plan) (base : List ℕ) (a : Assembly) (fits : IsGoodFor base a) where
+  mark_good : (H : List Entry) (m : Mark) → MayBeCommitted b plan base H a → LegalRun b plan H → IsFoundMark (FindsCommit b plan a) H m → IsGoodMark b plan base H m
+  mark_good H (Old e) may run says = tt
+  mark_good H (Opened n) may run says = tt
+  mark_good H (Own e n) may run says =
+      let Q = problem_of a.problem in
+      committed_good b plan base H Q (length a.tree.nodes) a.outcome e (asked_now b plan base H a run may says.0) may.of_start fits.firm fits.start fits.hint says.1 says.2
+  mark_good H (Adopted e n) may run says = tt
+  mark_good H (Fault e) may run says = tt
+
+  marks_good : (T M : List Mark) → MayBeCommitted b plan base (history M) a → LegalRun b plan (history (M ++ T)) → EachMark (IsFoundMark (FindsCommit b plan a)) M T → EachMark (IsGoodMark b plan base) M T
+  marks_good [] M may run found = tt
+  marks_good (m ∷ T) M may run found =
+      let early : LegalRun b plan (history M) = beginning_is_legal b plan (history M) (history (m ∷ T)) (subst (λ l. LegalRun b plan l) (history_append M (m ∷ T)) run) in
+      let longer : MayBeCommitted b plan base (history (M ++ m ∷ [])) a =
+      subst (λ l. MayBeCommitted b plan base l a) (sym (history_append M (m ∷ []))) (still_may b plan base (history M) (history (m ∷ [])) a may) in
+      (mark_good (history M) m may early found.0, marks_good T (M ++ m ∷ []) longer (subst (λ l. LegalRun b plan (history l)) (sym (append_assoc M (m ∷ []) T)) run) found.1)
+
 -- the same of the office before the call
 pub round_there : {D : Type 0} (old new : Running D) → IsSameOffice old new → (P Q : Problem) → P ≡ Q → (at : Place) (round : Round) → IsRoundAt new.bank new.plan (history new.marks) P at round
     → IsRoundAt old.bank old.plan (history new.marks) Q at round
@@ -144,7 +183,7 @@ round_there old new same P Q is at round h =
     (subst (λ (p : Plan). IsRoundAt old.bank p (history new.marks) P at round) same.plan (subst (λ (b : Tables). IsRoundAt b new.plan (history new.marks) P at round) same.bank h))
 
 module _ {D : Type 0} (old new : Running D) (a : Assembly) (same : IsSameOffice old new) (frame : IsLent tells_of identity_of faults_of old.journal new.journal)
-    (may : MayBeCommitted old.bank old.plan old.base (history old.marks) a) (run : LegalRun old.bank old.plan (history new.marks)) where
+    (may : MayBeCommitted old.bank old.plan old.base (history old.marks) a) (fits : IsGoodFor old.base a) (run : LegalRun old.bank old.plan (history new.marks)) where
   abbrev b : Tables
   b = old.bank
 
@@ -190,7 +229,7 @@ module _ {D : Type 0} (old new : Running D) (a : Assembly) (same : IsSameOffice 
   done_ends at round T o none (to_nothing says gap whole) stands is = absurd says
   done_ends at round T o none (to_entry H e says grown own whole) stands is = made_ends H T a.outcome e at round may.of_start says.0 says.1 says.2 grown own whole stands is
   done_ends at round T o none (to_refusal r says gap whole) stands is = absurd (cc)
-  done_ends at round T o none (to_failure r fails gap) stands is = absurd (cc)
+  done_ends at round T o none (to_failure r fails gap why) stands is = absurd (cc)
 
   stale_ends : (at : Place) (aside : Bool) (round : Round) (T : List Mark) (o : Option Refusal) → Some (Stale at aside) ≡ o → CameTo old.bank old.plan finds new.marks T o
       → ((stands : place old.plan (history new.marks) P.session ≡ Some at) → IsRoundAt old.bank old.plan (history new.marks) P at round) → EndsRound old.bank old.plan P new.marks T round
@@ -200,7 +239,7 @@ module _ {D : Type 0} (old new : Running D) (a : Assembly) (same : IsSameOffice 
       let same_r : r ≡ Stale at aside = cc in
       let stale = subst (λ x. finds (history new.marks) (Rattle.exam_office.specs.Calls.refuse x)) same_r says in
       after_stale old.bank old.plan P new.marks T at stale.stands round aside stale gap whole (is stale.stands)
-  stale_ends at aside round T o some (to_failure r fails gap) is =
+  stale_ends at aside round T o some (to_failure r fails gap why) is =
       let same_r : r ≡ Stale at aside = cc in
       absurd (subst (λ x. Fails old.bank old.plan (IsCommitted P.session) new.marks T x) same_r (fails (IsCommitted P.session) leads))
 
@@ -223,26 +262,32 @@ module _ {D : Type 0} (old new : Running D) (a : Assembly) (same : IsSameOffice 
   failed_ends q T o some never (to_refusal r says gap whole) =
       let same_r : r ≡ q = cc in
       absurd (fails_if q T never (subst (λ x. finds (history new.marks) (Rattle.exam_office.specs.Calls.refuse x)) same_r says))
-  failed_ends q T o some never (to_failure r fails gap) =
+  failed_ends q T o some never (to_failure r fails gap why) =
       let same_r : r ≡ q = cc in
-      (subst (λ x. Fails old.bank old.plan (IsCommitted P.session) new.marks T x) same_r (fails (IsCommitted P.session) leads), gap)
+      (subst (λ x. Fails old.bank old.plan (IsCommitted P.session) new.marks T x) same_r (fails (IsCommitted P.session) leads), gap, ⊎_elim (λ d. inl d) (λ t. inr t.1.0.pending) why)
 
   module _ (o : Option Refusal) (doubt : IsDoubtOf old.marks old.doubt) (calls : Calls finds old new o) where
     abbrev made_addition : Rattle.exam_hall.proofs.Calls.Addition old.bank old.plan finds old.marks new.marks o
     made_addition = addition old.bank old.plan finds old.marks new.marks o (calls_on old new finds o doubt calls)
 
+    made_good : EndsGood old.bank old.plan old.base new.marks made_addition.added
+    made_good =
+        let T = made_addition.added in
+        ends_good old.bank old.plan old.base new.marks old.marks T made_addition.is
+        (marks_good old.bank old.plan old.base a fits T old.marks may (subst (λ l. LegalRun old.bank old.plan (history l)) made_addition.is run) made_addition.found)
+
     abbrev made_adds : Adds old new
     made_adds = record { same = same; frame = frame; added = made_addition.added; is = made_addition.is; few = made_addition.few }
 
     pub done_ended : (at : Place) (round : Round) → None ≡ o → place old.plan (history new.marks) P.session ≡ Some at → IsRoundAt old.bank old.plan (history new.marks) P at round → Ended P old new round
-    done_ended at round none stands is = record { adds = made_adds; ends = done_ends at round made_addition.added o none made_addition.came stands is }
+    done_ended at round none stands is = record { adds = made_adds; ends = done_ends at round made_addition.added o none made_addition.came stands is; good = made_good }
 
     pub stale_ended : (at : Place) (aside : Bool) (round : Round) → Some (Stale at aside) ≡ o
         → ((stands : place old.plan (history new.marks) P.session ≡ Some at) → IsRoundAt old.bank old.plan (history new.marks) P at round) → Ended P old new round
-    stale_ended at aside round some is = record { adds = made_adds; ends = stale_ends at aside round made_addition.added o some made_addition.came is }
+    stale_ended at aside round some is = record { adds = made_adds; ends = stale_ends at aside round made_addition.added o some made_addition.came is; good = made_good }
 
     pub failed_ended : (q : Refusal) → Some q ≡ o → ((at : Place) (aside : Bool) → q ≡ Stale at aside → ⊥) → Ended P old new (Failed q)
-    failed_ended q some never = record { adds = made_adds; ends = failed_ends q made_addition.added o some never made_addition.came }
+    failed_ended q some never = record { adds = made_adds; ends = failed_ends q made_addition.added o some never made_addition.came; good = made_good }
 
     pub stale_there : (at : Place) (aside : Bool) → Some (Stale at aside) ≡ o → place old.plan (history new.marks) P.session ≡ Some at
     stale_there at aside some = by made_addition.added o some made_addition.came
@@ -253,6 +298,6 @@ module _ {D : Type 0} (old new : Running D) (a : Assembly) (same : IsSameOffice 
         by T x same_x (to_refusal r says gap whole) =
             let same_r : r ≡ Stale at aside = cc in
             (subst (λ y. finds (history new.marks) (Rattle.exam_office.specs.Calls.refuse y)) same_r says).stands
-        by T x same_x (to_failure r fails gap) =
+        by T x same_x (to_failure r fails gap why) =
             let same_r : r ≡ Stale at aside = cc in
             absurd (subst (λ y. Fails old.bank old.plan (IsCommitted P.session) new.marks T y) same_r (fails (IsCommitted P.session) leads))

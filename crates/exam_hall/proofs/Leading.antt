@@ -109,7 +109,8 @@ module _ {D : Type 0} (old new : Running D) (same : IsSameOffice old new) (frame
     ends = tt;
   }
   answer_leads s step response (Err q) T run (to_refusal r says none whole) stands = inl (record { test = says; none = none; no_fault = whole })
-  answer_leads s step response (Err q) T run (to_failure r fails none) stands = inr (fails (IsFirst (Answer s step response)) (λ H e says. (says.2, says.3)), none)
+  answer_leads s step response (Err q) T run (to_failure r fails none why) stands =
+      inr (fails (IsFirst (Answer s step response)) (λ H e says. (says.2, says.3)), (none, ⊎_elim (λ d. inl d) (λ t. inr (t.0, t.1.2, t.1.3)) why))
 
   pub answer_led : (s step response : ℕ) (result : Result Place Refusal) → IsDoubtOf old.marks old.doubt → LegalRun old.bank old.plan (history new.marks)
       → Calls (FindsAnswer old.bank old.plan s step response) old new (refused_with result)
@@ -143,7 +144,7 @@ module _ {D : Type 0} (old new : Running D) (same : IsSameOffice old new) (frame
       never : (k : ℕ) → ◌≡◌ {A = Option Place} (Some place_is.Closed) (Some (Pending k)) → ⊥
       never k e = cc
   closing_leads s (Err q) T (to_refusal r says none whole) stands = inl (record { test = says; none = none; no_fault = whole })
-  closing_leads s (Err q) T (to_failure r fails none) stands = inr (fails (IsFirst (Close s)) (λ H e says. (says.1, says.2)), none)
+  closing_leads s (Err q) T (to_failure r fails none why) stands = inr (fails (IsFirst (Close s)) (λ H e says. (says.1, says.2)), (none, ⊎_elim (λ d. inl d) (λ t. inr (t.0, t.1.1, t.1.2)) why))
 
   pub closing_led : (s : ℕ) (result : Result Place Refusal) → IsDoubtOf old.marks old.doubt → Calls (FindsClosing old.bank old.plan s) old new (refused_with result)
       → IfOk result (λ at. place new.plan (history new.marks) s ≡ Some at) → Led (Close s) old new (reply_of s false result)
@@ -203,9 +204,12 @@ module _ {D : Type 0} (old new : Running D) (same : IsSameOffice old new) (frame
   refused_leads booking q o T is (to_refusal r says none whole) =
       let same_r : r ≡ q = cc in
       inl (record { test = subst (λ x. refusal_of old.bank old.plan (history new.marks) (Begin booking) ≡ Some x) same_r says; none = none; no_fault = whole })
-  refused_leads booking q o T is (to_failure r fails none) =
+  refused_leads booking q o T is (to_failure r fails none why) =
       let same_r : r ≡ q = cc in
-      inr (subst (λ x. Fails old.bank old.plan (IsFirst (Begin booking)) new.marks T x) same_r (fails (IsFirst (Begin booking)) (λ H e says. (says.2, says.3))), none)
+      inr (
+        subst (λ x. Fails old.bank old.plan (IsFirst (Begin booking)) new.marks T x) same_r (fails (IsFirst (Begin booking)) (λ H e says. (says.2, says.3))),
+        (none, ⊎_elim (λ d. inl d) (λ t. inr (t.0, t.1.2, t.1.3)) why),
+      )
 
   pub begin_refused : (booking : ℕ) (q : Refusal) → IsDoubtOf old.marks old.doubt → Calls (FindsStart old.bank old.plan booking) old new (Some q) → Led (Begin booking) old new (reply.Refused q)
   begin_refused booking q doubt calls =

@@ -1,6 +1,7 @@
 pub mod Went
 pub mod Passes
 pub mod Moved
+pub mod Owned
 pub mod Calls
 pub mod Leading
 pub mod Commits

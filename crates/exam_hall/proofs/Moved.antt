@@ -144,7 +144,7 @@ owns_has S (x ∷ ps) p e n c at = ⊎_elim
     (λ t. kept_owns (slice_get S x) (taken S ps) e (owns_has S ps p e n t at))
     (contains_cons x p ps c)
 
-only_one : {A : Type 0} (P : A → Type 0) (E : List A) (e : A) → AtMostOne P E → Contains E e → P e
+pub only_one : {A : Type 0} (P : A → Type 0) (E : List A) (e : A) → AtMostOne P E → Contains E e → P e
 only_one P E e h c = ⊎_elim
     (λ t. absurd (contains_nothing e (subst (λ l. Contains l e) t c)))
     (λ t. ⊎_elim (λ s. subst P s t.2) (λ s. absurd (contains_nothing e s)) (contains_cons t.0 e [] (subst (λ l. Contains l e) t.1 c)))

@@ -1,5 +1,5 @@
 -- From the turns of a request to what its reply tells.
-use Rattle.std.proofs.Common.{◌≡◌, ℕ, ◌||◌, Bool, false, List, [], ◌∷◌, ◌++◌, length, refl, sym, ap, ◌∙◌, subst, inl, inr, ⊎_elim, arith, Ok, Err}
+use Rattle.std.proofs.Common.{◌≡◌, ℕ, ◌||◌, Bool, true, false, List, [], ◌∷◌, ◌++◌, length, refl, sym, ap, ◌∙◌, subst, inl, inr, ⊎_elim, arith, Ok, Err}
 use Rattle.std.specs.List.{list_any}
 use Rattle.std.proofs.lemmas.List.{append-nil}
 use Rattle.std.proofs.lemmas.List.Elements.{Contains-append_left}
@@ -16,9 +16,10 @@ use Rattle.history_model.specs.declared.request.Request.{Request}
 use Rattle.history_model.specs.declared.request.Request.TheVariants.{Begin, Answer, Close, Look, Exposure}
 use Rattle.history_model.specs.declared.request.Reply.{Reply}
 use Rattle.history_model.specs.declared.request.Reply.TheVariants as reply
-use Rattle.history_model.specs.Entries.{starts}
+use Rattle.history_model.specs.Entries.{starts, is_started}
 use Rattle.history_model.specs.Legality.{LegalRun}
-use Rattle.history_model.proofs.Staying.{holder_stays}
+use Rattle.history_model.proofs.Standing.{there}
+use Rattle.history_model.proofs.Staying.{holder_stays, still_started}
 use Rattle.turn_lock.specs.Histories.{StartsWith}
 use Rattle.turn_lock.specs.Passes.{Known, TakesTurn}
 use Rattle.exam_office.specs.declared.mark.Mark.{Mark}
@@ -30,21 +31,23 @@ use Rattle.exam_hall.specs.declared.asking.Begun.{Begun}
 use Rattle.exam_hall.specs.declared.asking.Begun.TheVariants.{Done, Waits}
 use Rattle.exam_hall.specs.Known.{HallKnown, marked, IsOf}
 use Rattle.exam_hall.specs.Went.{Went, taken}
-use Rattle.exam_hall.specs.Parts.{owns, AtMostOne, IsFirst, IsAside, IsServing, IsCommitted, IsSessionOf, IsServedFor, IsPartOf, LacksServing, IsUnfinished, IsWanted, Fails}
-use Rattle.exam_hall.specs.Sees.{IsAnswered, HasClosed, IsAt, Tells, Sees}
+use Rattle.exam_hall.specs.Good.{AreGoodAt}
+use Rattle.exam_hall.specs.Parts.{owns, AtMostOne, IsFirst, IsAside, IsServing, IsCommitted, IsSessionOf, IsAnswered, IsServedFor, IsPartOf, LacksFirst, LacksServing, IsWanted, Fails}
+use Rattle.exam_hall.specs.Sees.{HasClosed, IsAt, Tells, Sees}
 use Rattle.exam_hall.specs.Leading.{EndsSession, IsLed, IsBegun, BeginsRequest}
 use Rattle.exam_hall.specs.Rounds.{Assembles}
 use Rattle.exam_hall.specs.Turns.{HasBegun}
 use Rattle.exam_hall.proofs.Went.{went_nowhere, taken_both}
 use Rattle.exam_hall.proofs.Calls.{none_faulty, both_faultless}
 use Rattle.exam_hall.proofs.Moved.{history_append, owns_append}
+use Rattle.exam_hall.proofs.Owned.{firsts_good, both_good}
 use Rattle.exam_hall.proofs.Served.{here, went_here, legal_here, made_here, fails_more}
 
 -- ---- the first turn
 pub begun_turn : (h : HallKnown) (old new : Known NotedMark) (before : List NotedMark) → TakesTurn old new before → IsOf old h → (q : Request) (begun : Begun)
     → BeginsRequest q before new.seen begun → HasBegun h (marked old) (marked new) q begun
 begun_turn h old new before t is q begun g =
-    let makes : Tables → Plan → List Mark → List Mark → Type 0 = λ b p S T. IsBegun b p q S T begun in
+    let makes : Tables → Plan → List ℕ → List Mark → List Mark → Type 0 = λ b p s S T. IsBegun b p q S T begun in
     record {
       places = here h old new before t is makes g;
       went = went_here h old new before t is makes g;
@@ -56,19 +59,12 @@ begun_turn h old new before t is q begun g =
 one_weaker : {A : Type 0} (P Q : A → Type 0) → ((x : A) → P x → Q x) → (xs : List A) → AtMostOne P xs → AtMostOne Q xs
 one_weaker P Q w xs h = ⊎_elim (λ e. inl e) (λ t. inr (t.0, t.1, w t.0 t.2)) h
 
-unfinished_none : (H : List Entry) (q : Request) (E : List Entry) → E ≡ [] → IsUnfinished H q E
-unfinished_none H (Begin booking) E e = record { first = []; aside = []; is = e; one_first = inl refl; one_aside = inl refl }
-unfinished_none H (Answer session step response) E e = record { first = []; aside = []; is = e; one_first = inl refl; one_aside = inl refl }
-unfinished_none H (Close session) E e = e
-unfinished_none H (Look session) E e = record { first = []; aside = []; is = e; one_first = inl refl; one_aside = inl refl }
-unfinished_none H Exposure E e = e
-
-unfinished_some : (H : List Entry) (q : Request) (s : ℕ) (E : List Entry) → IsServedFor H q s → LacksServing H q E → IsUnfinished H q E
-unfinished_some H (Begin booking) s E is l = l
-unfinished_some H (Answer session step response) s E is l = l
-unfinished_some H (Close session) s E is l = absurd is
-unfinished_some H (Look session) s E is l = l
-unfinished_some H Exposure s E is l = absurd is
+lacks_all : (b : Tables) (plan : Plan) (S : List Mark) (q : Request) (E : List Entry) → LacksFirst b plan S q E → E ≡ []
+lacks_all b plan S (Begin booking) E h = h.0
+lacks_all b plan S (Answer session step response) E h = h.0
+lacks_all b plan S (Close session) E h = h.0
+lacks_all b plan S (Look session) E h = absurd h
+lacks_all b plan S Exposure E h = h
 
 part_first : (H : List Entry) (q : Request) (E : List Entry) → AtMostOne (IsFirst q) E → IsPartOf H q E
 part_first H q E one = record { first = E; aside = []; serving = []; is = sym (append-nil E); one_first = one; one_aside = inl refl; one_serving = inl refl }
@@ -89,12 +85,12 @@ session_later H G (Look session) s h = h
 session_later H G Exposure s h = h
 
 -- the session of a request that waits for an item is one that it may serve
-served_for : (H : List Entry) (q : Request) (s k : ℕ) → EndsSession q (Pending k) → IsSessionOf H q s → IsServedFor H q s
-served_for H (Begin booking) s k ends h = h
-served_for H (Answer session step response) s k ends h = h
-served_for H (Close session) s k ends h = absurd (ends k refl)
-served_for H (Look session) s k ends h = h
-served_for H Exposure s k ends h = h
+served_for : (H : List Entry) (q : Request) (s k : ℕ) → EndsSession q (Pending k) → IsSessionOf H q s → IsAnswered H q → is_started H s ≡ true → IsServedFor H q s
+served_for H (Begin booking) s k ends h a i = (h, a, i)
+served_for H (Answer session step response) s k ends h a i = (h, a, i)
+served_for H (Close session) s k ends h a i = absurd (ends k refl)
+served_for H (Look session) s k ends h a i = (h, a, i)
+served_for H Exposure s k ends h a i = (h, a, i)
 
 no_closing : (q : Request) (k : ℕ) (E : List Entry) → EndsSession q (Pending k) → HasClosed q E
 no_closing (Begin booking) k E ends = tt
@@ -128,8 +124,8 @@ any_append (x ∷ xs) ys h = ap (λ b. starts x || b) (any_append xs ys h)
 -- ---- a request that was done in one turn
 module _ (h : HallKnown) (old new : Known Mark) (q : Request) where
   seen_once : (answer : Reply) (places : List ℕ) → Went old new (length new.seen ∷ []) places → LegalRun h.bank h.plan (history new.seen)
-      → IsPartOf (history new.seen) q (owns (taken new.seen places)) → Tells h.bank h.plan q new.seen new.seen (taken new.seen places) [] answer → Sees h old new q answer
-  seen_once answer places went legal part tells =
+      → AtMostOne (IsFirst q) (owns (taken new.seen places)) → Tells h.bank h.plan q new.seen new.seen (taken new.seen places) [] answer → Sees h old new q answer
+  seen_once answer places went legal one tells =
       let all : places ++ [] ≡ places = append-nil places in
       record {
         mid = new;
@@ -140,23 +136,24 @@ module _ (h : HallKnown) (old new : Known Mark) (q : Request) where
         more = went_nowhere new;
         few = omega arith;
         legal = legal;
-        part = subst (λ ps. IsPartOf (history new.seen) q (owns (taken new.seen ps))) (sym all) part;
+        part = subst (λ ps. IsPartOf (history new.seen) q (owns (taken new.seen ps))) (sym all) (part_first (history new.seen) q (owns (taken new.seen places)) one);
+        good = subst (λ ps. AreGoodAt h.bank h.plan h.base new.seen ps) (sym all) (firsts_good h.bank h.plan h.base q new.seen places one);
         tells = subst (λ ps. Tells h.bank h.plan q new.seen new.seen (taken new.seen ps) [] answer) (sym all) tells;
       }
 
   pub sees_done : (answer : Reply) → HasBegun h old new q (Done answer) → Sees h old new q answer
   sees_done (reply.At session at fresh) b =
       let led = b.begins.0 in
-      seen_once (reply.At session at fresh) b.places b.went b.legal (part_first (history new.seen) q (owns (taken new.seen b.places)) led.one) (led.is_at, λ step e. absurd (b.begins.1 step e))
+      seen_once (reply.At session at fresh) b.places b.went b.legal led.one (led.is_at, λ step e. absurd (b.begins.1 step e))
   sees_done (reply.Exposure exposure) b =
       let x = b.begins.0 in
-      seen_once (reply.Exposure exposure) b.places b.went b.legal (part_first (history new.seen) q (owns (taken new.seen b.places)) (inl x.none)) x
+      seen_once (reply.Exposure exposure) b.places b.went b.legal (inl x.none) x
   sees_done (reply.Refused r) b =
       let T = taken new.seen b.places in
-      let none : owns T ≡ [] = ⊎_elim (λ x. x.none) (λ x. x.1) b.begins.0 in
-      seen_once (reply.Refused r) b.places b.went b.legal (part_first (history new.seen) q (owns T) (inl none))
+      let none : owns T ≡ [] = ⊎_elim (λ x. x.none) (λ x. lacks_all h.bank h.plan new.seen q (owns T) x.1) b.begins.0 in
+      seen_once (reply.Refused r) b.places b.went b.legal (inl none)
       (⊎_elim (λ x. inl x)
-      (λ x. inr (fails_more h.bank h.plan (IsFirst q) (IsWanted (history new.seen) q) (λ e k. inl k) new.seen [] T r none_faulty x.0, unfinished_none (history new.seen) q (owns T) none))
+      (λ x. inr (fails_more h.bank h.plan (IsFirst q) (IsWanted (history new.seen) q) (λ e k. inl k) new.seen [] T r none_faulty x.0, inl x.1))
       b.begins.0)
 
 -- ---- a request whose session waited for an item
@@ -170,11 +167,25 @@ module _ (h : HallKnown) (old mid new : Known Mark) (q : Request) (fresh : Bool)
   session_now : StartsWith new.seen mid.seen → IsSessionOf (history new.seen) q P.session
   session_now s = subst (λ H. IsSessionOf H q P.session) (sym (later s)) (session_later (history mid.seen) (history s.0) q P.session led.is_at.session_is)
 
-  served_now : StartsWith new.seen mid.seen → IsServedFor (history new.seen) q P.session
-  served_now s = served_for (history new.seen) q P.session P.step led.ends (session_now s)
-
   answered_now : StartsWith new.seen mid.seen → IsAnswered (history new.seen) q
   answered_now s = subst (λ H. IsAnswered H q) (sym (later s)) (answered_later (history mid.seen) (history s.0) q led.is_at.answered)
+
+  -- its session is one that it may serve, after the first turn and later
+  started : is_started (history mid.seen) P.session ≡ true
+  started = there h.plan (history mid.seen) P.session (Pending P.step) led.is_at.stands
+
+  served_then : IsServedFor (history mid.seen) q P.session
+  served_then = served_for (history mid.seen) q P.session P.step led.ends led.is_at.session_is led.is_at.answered started
+
+  served_now : StartsWith new.seen mid.seen → IsServedFor (history new.seen) q P.session
+  served_now s =
+      let still : is_started (history new.seen) P.session ≡ true = ap (λ H. is_started H P.session) (later s) ∙ still_started (history mid.seen) (history s.0) P.session started in
+      served_for (history new.seen) q P.session P.step led.ends (session_now s) (answered_now s) still
+
+  -- what the call added later is good, and so is all that it added
+  all_good : (ps fs : List ℕ) → Went mid new fs ps → AreGoodAt h.bank h.plan h.base new.seen ps → AreGoodAt h.bank h.plan h.base new.seen (b.places ++ ps)
+  all_good ps fs went good =
+      both_good h.bank h.plan h.base old mid new (length mid.seen ∷ []) fs b.places ps b.went went (firsts_good h.bank h.plan h.base q mid.seen b.places led.one) good
 
   both : (ps fs : List ℕ) → Went mid new fs ps → taken new.seen (b.places ++ ps) ≡ taken mid.seen b.places ++ taken new.seen ps
   both ps fs went = taken_both old mid new (length mid.seen ∷ []) fs b.places ps b.went went
@@ -218,6 +229,7 @@ module _ (h : HallKnown) (old mid new : Known Mark) (q : Request) (fresh : Bool)
         few = a.few;
         legal = a.legal;
         part = subst (λ l. IsPartOf H q (owns l)) (sym whole) part;
+        good = all_good a.places a.fronts a.went a.good;
         tells = subst (λ l. Tells h.bank h.plan q mid.seen new.seen l a.places (reply.At P.session at fresh)) (sym whole) (is_at, v.moved);
       }
 
@@ -240,7 +252,16 @@ module _ (h : HallKnown) (old mid new : Known Mark) (q : Request) (fresh : Bool)
         one_aside = asides;
         one_serving = inl refl;
       } in
-      let lacks : LacksServing H q (owns (T ++ U)) = record { first = owns T; aside = owns U; is = split; one_first = led.one; one_aside = asides } in
+      let lacks : LacksServing h.plan mid.seen new.seen q (owns (T ++ U)) = record {
+        session = P.session;
+        is_served = served_then;
+        owes = a.serves.2;
+        first = owns T;
+        aside = owns U;
+        is = split;
+        one_first = led.one;
+        one_aside = a.serves.1;
+      } in
       record {
         mid = mid;
         early = b.places;
@@ -251,10 +272,11 @@ module _ (h : HallKnown) (old mid new : Known Mark) (q : Request) (fresh : Bool)
         few = a.few;
         legal = a.legal;
         part = subst (λ l. IsPartOf H q (owns l)) (sym whole) part;
+        good = all_good a.places a.fronts a.went a.good;
         tells = subst (λ l. Tells h.bank h.plan q mid.seen new.seen l a.places (reply.Refused r)) (sym whole)
             (inr (
               fails_more h.bank h.plan (IsCommitted P.session) (IsWanted H q) (λ e k. inr (P.session, served_now s, k)) new.seen T U r led.is_at.no_fault a.serves.0,
-              unfinished_some H q P.session (owns (T ++ U)) (served_now s) lacks,
+              inr lacks,
             ));
       }
 

@@ -1,5 +1,5 @@
 -- The turns of a request, one after another.
-use Rattle.std.proofs.Common.{◌≡◌, ◌≢◌, ℕ, Bool, true, List, [], ◌∷◌, ◌++◌, length, refl, sym, ap, ◌∙◌, subst, inl, inr, ⊎_elim, arith, append_assoc, Some, Result, Ok, Err, IfOk, length-append}
+use Rattle.std.proofs.Common.{◌≡◌, ◌≢◌, ℕ, ◌+◌, ◌-◌, Bool, true, List, [], ◌∷◌, ◌++◌, length, refl, sym, ap, ◌∙◌, subst, inl, inr, ⊎_elim, arith, append_assoc, Some, Result, Ok, Err, IfOk, length-append}
 use Rattle.std.proofs.lemmas.Bool.{cases_Bool, true≢false}
 use Rattle.std.proofs.lemmas.List.{append-nil}
 use Rattle.bank_tables.specs.Tables.{Tables}
@@ -16,6 +16,7 @@ use Rattle.exam_office.proofs.Assembling.{assembled_so}
 use Rattle.constraint_model.specs.declared.problem.Problem.{Problem}
 use Rattle.history_model.specs.declared.entry.Entry.{Entry}
 use Rattle.history_model.specs.declared.place.Place.{Place}
+use Rattle.history_model.specs.declared.place.Place.TheVariants.{Pending}
 use Rattle.history_model.specs.declared.refusal.Refusal.{Refusal}
 use Rattle.history_model.specs.declared.refusal.Refusal.TheVariants.{NoSession, WrongStep, Other, BadResponse, IsClosed, Stale, SessionsFull, JournalFull, Disk, Memory}
 use Rattle.history_model.specs.Entries.{is_set_aside}
@@ -31,18 +32,20 @@ use Rattle.exam_hall.specs.Known.{HallKnown, marked, IsOf, IsOfficeOf, HasOpenin
 use Rattle.exam_hall.specs.Went.{Went, taken}
 use Rattle.exam_hall.specs.Parts.{owns, NoFault, AtMostOne, IsAside, IsServing, IsCommitted, Fails}
 use Rattle.exam_hall.specs.Leading.{IsAsked, GoesOn}
-use Rattle.exam_hall.specs.Rounds.{EndsRound, Rounds, Assembles}
+use Rattle.exam_hall.specs.Good.{AreGoodAt}
+use Rattle.exam_hall.specs.Rounds.{EndsRound, EndsGood, Rounds, Assembles}
 use Rattle.exam_hall.specs.declared.committing.Round.{Round}
 use Rattle.exam_hall.specs.declared.committing.Round.TheVariants.{Placed, Again, Failed}
 use Rattle.exam_hall.proofs.Went.{went_once, went_nowhere, went_through, taken_once, taken_both, starts_through}
 use Rattle.exam_hall.proofs.Passes.{turn_marked, opening_later, opening_office}
 use Rattle.exam_hall.proofs.Calls.{cancel, none_faulty, both_faultless}
 use Rattle.exam_hall.proofs.Moved.{history_append, owns_append, aside_stays, others_moved}
+use Rattle.exam_hall.proofs.Owned.{both_good}
 use Rattle.exam_hall.proofs.Commits.{flag_is}
 
 -- ---- one turn of a pass on the hall's office
 module _ (h : HallKnown) (old new : Known NotedMark) (before : List NotedMark) (t : TakesTurn old new before) (is : IsOf old h)
-    (makes : Tables → Plan → List Mark → List Mark → Type 0) (g : GoesOn before new.seen (λ office S T. makes office.bank office.plan S T)) where
+    (makes : Tables → Plan → List ℕ → List Mark → List Mark → Type 0) (g : GoesOn before new.seen (λ office S T. makes office.bank office.plan office.base S T)) where
   abbrev turned : TakesTurn (marked old) (marked new) (marks_of before)
   turned = turn_marked old new before t
 
@@ -57,35 +60,56 @@ module _ (h : HallKnown) (old new : Known NotedMark) (before : List NotedMark) (
       let o : HasOpening before h = opening_later before old.seen h t.begins is.opening in
       opening_office g.office (marks_of before) h (subst (λ l. HasOpening l h) g.from o)
 
-  on_hall : (F : Tables → Plan → Type 0) → F g.office.bank g.office.plan → F h.bank h.plan
-  on_hall F x = subst (λ p. F h.bank p) office_is.plan (subst (λ b. F b g.office.plan) office_is.bank x)
+  on_hall : (F : Tables → Plan → List ℕ → Type 0) → F g.office.bank g.office.plan g.office.base → F h.bank h.plan h.base
+  on_hall F x = subst (λ s. F h.bank h.plan s) office_is.base (subst (λ p. F h.bank p g.office.base) office_is.plan (subst (λ b. F b g.office.plan g.office.base) office_is.bank x))
 
   pub legal_here : LegalRun h.bank h.plan (history (marks_of new.seen))
-  legal_here = on_hall (λ b p. LegalRun b p (history (marks_of new.seen))) g.run
+  legal_here = on_hall (λ b p s. LegalRun b p (history (marks_of new.seen))) g.run
 
   added_here : g.added ≡ taken (marks_of new.seen) here
   added_here = cancel (marks_of before) g.added turned.grows.0 (sym g.is ∙ turned.grows.1) ∙ sym (taken_once (marked old) (marked new) (marks_of before) turned)
 
-  pub made_here : makes h.bank h.plan (marks_of new.seen) (taken (marks_of new.seen) here)
-  made_here = subst (λ T. makes h.bank h.plan (marks_of new.seen) T) added_here (on_hall (λ b p. makes b p (marks_of new.seen) g.added) g.made)
+  pub made_here : makes h.bank h.plan h.base (marks_of new.seen) (taken (marks_of new.seen) here)
+  made_here = subst (λ T. makes h.bank h.plan h.base (marks_of new.seen) T) added_here (on_hall (λ b p s. makes b p s (marks_of new.seen) g.added) g.made)
+
+  -- the places of what the turn added are the last ones
+  pub last_places : places (length (marks_of new.seen) - length (taken (marks_of new.seen) here)) (length (taken (marks_of new.seen) here)) ≡ here
+  last_places =
+      let S = marks_of new.seen in
+      let M = marks_of before in
+      let n : length (taken S here) ≡ length turned.grows.0 = ap length (taken_once (marked old) (marked new) M turned) in
+      let whole : length S ≡ length M + length turned.grows.0 = ap length turned.grows.1 ∙ length-append M turned.grows.0 in
+      let start : length S - length (taken S here) ≡ length M = omega arith in
+      ap (λ k. places k (length (taken S here))) start ∙ ap (λ k. places (length M) k) n
 
 -- ---- one assembly
 pub rounds_turn : (h : HallKnown) (old new : Known NotedMark) (before : List NotedMark) → TakesTurn old new before → IsOf old h → (P : Problem) (round : Round)
-    → GoesOn before new.seen (λ office S T. EndsRound office.bank office.plan P S T round) → Rounds h P (marked old) (marked new) round
+    → GoesOn before new.seen (λ office S T. EndsRound office.bank office.plan P S T round × EndsGood office.bank office.plan office.base S T)
+    → Rounds h P (marked old) (marked new) round
 rounds_turn h old new before t is P round g =
-    let makes : Tables → Plan → List Mark → List Mark → Type 0 = λ b p S T. EndsRound b p P S T round in
+    let makes : Tables → Plan → List ℕ → List Mark → List Mark → Type 0 = λ b p s S T. EndsRound b p P S T round × EndsGood b p s S T in
+    let made = made_here h old new before t is makes g in
     record {
       places = here h old new before t is makes g;
       fronts = length (marks_of new.seen) ∷ [];
       went = went_here h old new before t is makes g;
       few = omega arith;
       legal = legal_here h old new before t is makes g;
-      ends = made_here h old new before t is makes g;
+      ends = made.0;
+      good = subst (λ ps. AreGoodAt h.bank h.plan h.base (marks_of new.seen) ps) (last_places h old new before t is makes g) made.1;
     }
 
 -- an assembly for which there was no memory
-pub rounds_nowhere : (h : HallKnown) (P : Problem) (p : Known Mark) → LegalRun h.bank h.plan (history p.seen) → Rounds h P p p (Failed Memory)
-rounds_nowhere h P p run = record { places = []; fronts = []; went = went_nowhere p; few = omega arith; legal = run; ends = (none_faulty, refl) }
+pub rounds_nowhere : (h : HallKnown) (P : Problem) (p : Known Mark) → IsAsked h.bank h.plan (history p.seen) P → LegalRun h.bank h.plan (history p.seen) → Rounds h P p p (Failed Memory)
+rounds_nowhere h P p asked run = record {
+  places = [];
+  fronts = [];
+  went = went_nowhere p;
+  few = omega arith;
+  legal = run;
+  ends = (none_faulty, refl, inr asked.is_problem.pending);
+  good = λ k d lt. absurd (omega arith);
+}
 
 -- ---- up to two assemblies
 pub fails_more : (b : Tables) (plan : Plan) (K L : Entry → Type 0) → ((e : Entry) → K e → L e) → (S A T : List Mark) (r : Refusal) → NoFault A → Fails b plan K S T r → Fails b plan L S (A ++ T) r
@@ -139,6 +163,7 @@ module _ (h : HallKnown) (P : Problem) (old : Known Mark) (asked : IsAsked h.ban
           others_moved h.bank h.plan P.session old.seen new.seen r.places P.step step r.went.seen run r.legal (inl o.1) asked.is_problem.pending (r.ends.stands ∙ ap (λ p. Some p) e) o.0);
       no_fault = r.ends.no_fault;
     };
+    good = r.good;
   }
 
   pub once_failed : (new : Known Mark) (refusal : Refusal) → Rounds h P old new (Failed refusal) → Assembles h P.session old new (Err refusal)
@@ -148,7 +173,8 @@ module _ (h : HallKnown) (P : Problem) (old : Known Mark) (asked : IsAsked h.ban
     went = r.went;
     few = (let f = r.few in omega arith);
     legal = r.legal;
-    serves = (r.ends.0, inl r.ends.1);
+    serves = (r.ends.0, inl r.ends.1, record { step = P.step; waited = asked.is_problem.pending; waits = r.ends.2 });
+    good = r.good;
   }
 
   module _ (Q : Problem) (mid new : Known Mark) (r : Rounds h P old mid (Again Q)) where
@@ -181,6 +207,7 @@ module _ (h : HallKnown) (P : Problem) (old : Known Mark) (asked : IsAsked h.ban
                 (stands ∙ ap (λ p. Some p) e) (λ s. o.0 (s ∙ sym r.ends.step)));
             no_fault = subst NoFault (sym both) (both_faultless T U r.ends.no_fault q.ends.no_fault);
           };
+          good = both_good h.bank h.plan h.base old mid new r.fronts q.fronts r.places q.places r.went q.went r.good q.good;
         }
 
     pub twice_failed : (refusal : Refusal) → Rounds h Q mid new (Failed refusal) → Assembles h P.session old new (Err refusal)
@@ -200,7 +227,16 @@ module _ (h : HallKnown) (P : Problem) (old : Known Mark) (asked : IsAsked h.ban
                 (fails_more h.bank h.plan (IsCommitted P.session) (IsCommitted P.session) (λ e k. k) new.seen T U refusal r.ends.no_fault
                 (subst (λ s. Fails h.bank h.plan (IsCommitted s) new.seen U refusal) r.ends.session q.ends.0)),
             subst (λ l. AtMostOne (IsAside P.session) l) (sym own) r.ends.one,
+            record {
+              step = P.step;
+              waited = asked.is_problem.pending;
+              waits = ⊎_elim
+                  (λ d. inl d)
+                  (λ e. inr (subst (λ s. place h.plan (history new.seen) s ≡ Some (Pending P.step)) r.ends.session (subst (λ k. place h.plan (history new.seen) Q.session ≡ Some (Pending k)) r.ends.step e)))
+                  q.ends.2;
+            },
           );
+          good = both_good h.bank h.plan h.base old mid new r.fronts q.fronts r.places q.places r.went q.went r.good q.good;
         }
 
     pub never_thrice : (R : Problem) → Rounds h Q mid new (Again R) → ⊥

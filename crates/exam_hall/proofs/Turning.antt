@@ -27,7 +27,7 @@ use Rattle.exam_hall.specs.declared.asking.Begun.{Begun}
 use Rattle.exam_hall.specs.declared.asking.Begun.TheVariants.{Done, Waits}
 use Rattle.exam_hall.specs.declared.committing.Round.{Round}
 use Rattle.exam_hall.specs.Leading.{Leads, IsLed, IsNoWait, IsBegun, GoesOn, BeginsRequest}
-use Rattle.exam_hall.specs.Rounds.{IsCommittable, EndsRound, Commits}
+use Rattle.exam_hall.specs.Rounds.{IsGoodFor, IsCommittable, EndsRound, EndsGood, Commits}
 use Rattle.exam_hall.specs.Turns.{Adds, Led, Ended, IsBegunAt, IsPlacedReply}
 use Rattle.exam_hall.proofs.Leading.{legal_before}
 use Rattle.exam_hall.proofs.Passes.{marks_noted, noted_number, noted_with}
@@ -102,9 +102,14 @@ committable_now faults office made h =
     subst (λ M. MayBeCommitted office.bank office.plan office.base (history M) made) (marks_noted o office.marks)
     (subst (λ (x : OpenedWith). MayBeCommitted x.bank x.plan x.base (history (marks_of (noted o office.marks))) made) same h.may)
 
+pub good_now : {D : Type 0} (faults : D → ℕ) (office : Running D) (made : Assembly) → IsCommittable (noted (opened_with faults office) office.marks) made → IsGoodFor office.base made
+good_now faults office made h =
+    let o = opened_with faults office in
+    subst (λ (x : OpenedWith). IsGoodFor x.base made) (noted_with o office.marks h.one h.there) h.good
+
 pub commit_made : {D : Type 0} (faults : D → ℕ) (old new : Running D) (made : Assembly) (round : Round) → Ended made.problem old new round → LegalRun new.bank new.plan (history new.marks)
     → Commits made (noted (opened_with faults old) old.marks) (noted (opened_with faults new) new.marks) round
-commit_made faults old new made round e run = goes_on faults old new e.adds (λ office S T. EndsRound office.bank office.plan made.problem S T round) run e.ends
+commit_made faults old new made round e run = goes_on faults old new e.adds (λ office S T. EndsRound office.bank office.plan made.problem S T round × EndsGood office.bank office.plan office.base S T) run (e.ends, e.good)
 
 -- ---- where the session is
 pub placed_reply : {D : Type 0} (old new : Running D) (q : Request) (answer : Reply) → Led q old new answer → IsPlacedReply new.plan (history new.marks) answer

@@ -1,11 +1,11 @@
 -- Turns of a pass, one after another.
-use Rattle.std.proofs.Common.{◌≡◌, ℕ, zero, suc, ◌+◌, ◌-◌, ◌<◌, ◌≤◌, List, [], ◌∷◌, ◌++◌, length, refl, sym, ap, ◌∙◌, arith, append_assoc, Some, All, slice_get, length-append}
+use Rattle.std.proofs.Common.{◌≡◌, ℕ, zero, suc, ◌+◌, ◌-◌, ◌<◌, ◌≤◌, List, [], ◌∷◌, ◌++◌, length, refl, sym, ap, ◌∙◌, subst, arith, append_assoc, Some, All, slice_get, length-append}
 use Rattle.std.proofs.lemmas.List.{append-nil}
 use Rattle.std.proofs.lemmas.List.Elements.{filter_map-append, All-append}
 use Rattle.turn_lock.specs.Histories.{StartsWith, places}
 use Rattle.turn_lock.specs.Passes.{Known, TakesTurn}
 use Rattle.turn_lock.proofs.Lists.{starts_length, starts_itself, places_range, all_of, all_more}
-use Rattle.exam_hall.specs.Went.{Went, Rising, taken}
+use Rattle.exam_hall.specs.Went.{Went, Rising, GrowsTo, taken}
 
 module _ {E : Type 0} where
   pub starts_through : (a b c : List E) → StartsWith b a → StartsWith c b → StartsWith c a
@@ -56,6 +56,10 @@ rising_append k m (p ∷ ps) qs le h below r =
     let lt = below 0 0 (omega arith) in
     (h.0, rising_append (suc p) m ps qs (omega arith) h.1 (λ j d l. below (suc j) d (omega arith)) r)
 
+grows_through : (k m n : ℕ) (fs gs : List ℕ) → GrowsTo k fs m → GrowsTo m gs n → GrowsTo k (fs ++ gs) n
+grows_through k m n [] gs f g = subst (λ x. GrowsTo x gs n) f g
+grows_through k m n (l ∷ fs) gs f g = (f.0, grows_through l m n fs gs f.1 g)
+
 module _ {E : Type 0} where
   pub went_through : (a b c : Known E) (f g ps qs : List ℕ) → Went a b f ps → Went b c g qs → Went a c (f ++ g) (ps ++ qs)
   went_through a b c f g ps qs p q = record {
@@ -64,6 +68,7 @@ module _ {E : Type 0} where
     splits = q.splits ∙ p.splits;
     seen = starts_through a.seen b.seen c.seen p.seen q.seen;
     turns = q.turns ∙ ap (λ l. l ++ g) p.turns ∙ append_assoc a.fronts f g;
+    lengths = grows_through (length a.seen) (length b.seen) (length c.seen) f g p.lengths q.lengths;
     own = q.own ∙ ap (λ l. l ++ qs) p.own ∙ append_assoc a.mine ps qs;
     rising = rising_append (length a.seen) (length b.seen) ps qs (starts_length b.seen a.seen p.seen) p.rising p.below q.rising;
     below = All-append (λ k. k < length c.seen) ps qs (all_more (length b.seen) (length c.seen) ps (starts_length c.seen b.seen q.seen) p.below) q.below;
@@ -76,6 +81,7 @@ module _ {E : Type 0} where
     splits = refl;
     seen = starts_itself a.seen;
     turns = sym (append-nil a.fronts);
+    lengths = refl;
     own = sym (append-nil a.mine);
     rising = tt;
     below = λ k d lt. absurd (omega arith);
@@ -93,6 +99,7 @@ module _ {E : Type 0} where
         splits = t.splits;
         seen = starts_through a.seen before b.seen t.begins (t.grows.0, t.grows.1);
         turns = t.fronts;
+        lengths = (omega arith, refl);
         own = t.mine ∙ ap (λ n. a.mine ++ places (length before) n) count;
         rising = rising_from (length a.seen) (length before) _ le (rising_places (length before) (length t.grows.0));
         below = all_of (λ p. p < length b.seen) _ (λ p c. (let r = places_range (length t.grows.0) (length before) p c in let lt = r.1 in omega arith));

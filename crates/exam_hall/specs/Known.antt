@@ -24,7 +24,7 @@ pub record IsOfficeOf (office : OpenedWith) (h : HallKnown) : Type 0 where
   pub plan : office.plan ≡ h.plan
   pub base : office.base ≡ h.base
 
--- the marks begin with those of the opening of an office of the hall
+-- some mark is the opening of an office with the hall's bank, plan and base form
 pub record HasOpening (seen : List NotedMark) (h : HallKnown) : Type 0 where
   pub size : ℕ
   pub office : OpenedWith

@@ -22,4 +22,5 @@ committable_later made seen rest h =
         budget = m.budget;
         of_start = m.of_start;
       };
+      good = h.good;
     }

@@ -1,5 +1,5 @@
 -- What the first turn of a request does.
-use Rattle.std.specs.Prelude.{◌≡◌, ◌⊎◌, ⊤, ℕ, Bool, List, [], ◌++◌}
+use Rattle.std.specs.Prelude.{◌≡◌, ◌⊎◌, ⊤, ℕ, Bool, List, ◌++◌}
 use Rattle.bank_tables.specs.Tables.{Tables}
 use Rattle.exam_model.specs.Plan.{Plan}
 use Rattle.exam_model.specs.Validity.{IsWellMade}
@@ -17,7 +17,7 @@ use Rattle.history_model.specs.SessionProblems.{IsProblemOf}
 use Rattle.exam_office.specs.declared.mark.Mark.{Mark}
 use Rattle.exam_office.specs.Marks.{history}
 use Rattle.exam_office.specs.Noting.{OpenedWith, NotedMark, noted, marks_of}
-use Rattle.exam_hall.specs.Parts.{owns, AtMostOne, IsFirst, IsRefusedBy, Fails}
+use Rattle.exam_hall.specs.Parts.{owns, AtMostOne, IsFirst, LacksFirst, IsRefusedBy, Fails}
 use Rattle.exam_hall.specs.Sees.{IsAt, IsExposed}
 use Rattle.exam_hall.specs.declared.asking.Begun.{Begun}
 use Rattle.exam_hall.specs.declared.asking.Begun.TheVariants.{Done, Waits}
@@ -42,7 +42,7 @@ pub record IsLed (plan : Plan) (q : Request) (S T : List Mark) (session : ℕ) (
 abbrev pub Leads : Tables → Plan → Request → List Mark → List Mark → Reply → Type 0
 Leads b plan q S T (reply.At session at fresh) = IsLed plan q S T session at fresh
 Leads b plan q S T (reply.Exposure exposure) = IsExposed b plan q S T exposure
-Leads b plan q S T (reply.Refused r) = IsRefusedBy b plan q S T r ⊎ (Fails b plan (IsFirst q) S T r × (owns T ≡ []))
+Leads b plan q S T (reply.Refused r) = IsRefusedBy b plan q S T r ⊎ (Fails b plan (IsFirst q) S T r × LacksFirst b plan S q (owns T))
 
 -- the reply is not that a session waits for an item
 abbrev pub IsNoWait : Reply → Type 0

@@ -1,9 +1,9 @@
 pub mod Known
 pub mod Parts
 pub mod Went
+pub mod Good
 pub mod Sees
 pub mod Leading
 pub mod Rounds
-pub mod Calls
 pub mod Lasting
 pub mod Turns

@@ -1,16 +1,18 @@
 -- The parts of what a request does on a shared hall.
-use Rattle.std.specs.Prelude.{◌≡◌, ◌≢◌, ◌⊎◌, ℕ, ◌≤◌, List, [], ◌∷◌, ◌++◌, length, slice_get, All, Contains, Option, Some, None}
+use Rattle.std.specs.Prelude.{◌≡◌, ◌≢◌, ◌⊎◌, ⊤, ℕ, ◌≤◌, List, [], ◌∷◌, ◌++◌, length, slice_get, All, Contains, Option, Some, None, IsTrue}
 use Rattle.std.specs.List.{filter_map}
 use Rattle.bank_tables.specs.Tables.{Tables}
 use Rattle.exam_model.specs.Plan.{Plan}
 use Rattle.history_model.specs.declared.entry.Entry.{Entry}
 use Rattle.history_model.specs.declared.entry.Entry.TheVariants.{SetAside, Served, Answered, Closed}
+use Rattle.history_model.specs.declared.place.Place.TheVariants.{Pending}
 use Rattle.history_model.specs.declared.refusal.Refusal.{Refusal}
 use Rattle.history_model.specs.declared.refusal.Refusal.TheVariants.{JournalFull, Disk, Memory}
 use Rattle.history_model.specs.declared.request.Request.{Request}
 use Rattle.history_model.specs.declared.request.Request.TheVariants.{Begin, Answer, Close, Look, Exposure}
-use Rattle.history_model.specs.Entries.{holder}
+use Rattle.history_model.specs.Entries.{holder, is_started}
 use Rattle.history_model.specs.Legality.{Legal}
+use Rattle.history_model.specs.Places.{place}
 use Rattle.history_model.specs.Refusals.{refusal_of}
 use Rattle.exam_office.specs.declared.mark.Mark.{Mark}
 use Rattle.exam_office.specs.declared.mark.Mark.TheVariants.{Own, Fault}
@@ -63,10 +65,15 @@ IsSessionOf H (Close session) s = s ≡ session
 IsSessionOf H (Look session) s = s ≡ session
 IsSessionOf H Exposure s = ⊥
 
--- the session that a request may serve
+-- the answer of the request is in the history
+abbrev pub IsAnswered : List Entry → Request → Type 0
+IsAnswered H (Answer session step response) = Contains H (Answered session step response)
+IsAnswered H q = ⊤
+
+-- the session that a request may serve: the history has it, and the request's answer
 abbrev pub IsServedFor : List Entry → Request → ℕ → Type 0
 IsServedFor H (Close session) s = ⊥
-IsServedFor H q s = IsSessionOf H q s
+IsServedFor H q s = IsSessionOf H q s × IsAnswered H q × IsTrue (is_started H s)
 
 -- E has the entries of the request: its first one, then a setting aside, then a serving; or a part of them
 pub record IsPartOf (H : List Entry) (q : Request) (E : List Entry) : Type 0 where
@@ -78,18 +85,37 @@ pub record IsPartOf (H : List Entry) (q : Request) (E : List Entry) : Type 0 whe
   pub one_aside : AtMostOne (λ e. (s : ℕ) × IsServedFor H q s × IsAside s e) aside
   pub one_serving : AtMostOne (λ e. (s : ℕ) × IsServedFor H q s × IsServing s e) serving
 
--- the same, and an entry of the request is not there: its serving, or for a closing its only one
-pub record LacksServing (H : List Entry) (q : Request) (E : List Entry) : Type 0 where
+-- ---- what an unfinished request lacks
+-- the last mark is a fault: its entry may be in doubt, and a call resolves that before it tests the history
+abbrev pub IsAfterFault : List Mark → Type 0
+IsAfterFault S = (e : Entry) × EndsInFault S e
+
+-- nothing was added, and the first entry of the request may follow, or the history was not tested; or counts were asked for
+abbrev pub LacksFirst : Tables → Plan → List Mark → Request → List Entry → Type 0
+LacksFirst b plan S (Look session) E = ⊥
+LacksFirst b plan S Exposure E = E ≡ []
+LacksFirst b plan S q E = (E ≡ []) × (IsAfterFault S ⊎ ((e : Entry) × IsFirst q e × Legal b plan (history S) e))
+
+-- the session waited for an item after the marks F, and still waits for it after S, or the history was not tested
+pub record OwesItem (plan : Plan) (F S : List Mark) (session : ℕ) : Type 0 where
+  pub step : ℕ
+  pub waited : place plan (history F) session ≡ Some (Pending step)
+  pub waits : IsAfterFault S ⊎ (place plan (history S) session ≡ Some (Pending step))
+
+-- the session of the request is owed an item, and E has no serving of it
+pub record LacksServing (plan : Plan) (F S : List Mark) (q : Request) (E : List Entry) : Type 0 where
+  pub session : ℕ
+  pub is_served : IsServedFor (history F) q session
+  pub owes : OwesItem plan F S session
   pub first : List Entry
   pub aside : List Entry
   pub is : E ≡ first ++ aside
   pub one_first : AtMostOne (IsFirst q) first
-  pub one_aside : AtMostOne (λ e. (s : ℕ) × IsServedFor H q s × IsAside s e) aside
+  pub one_aside : AtMostOne (IsAside session) aside
 
-abbrev pub IsUnfinished : List Entry → Request → List Entry → Type 0
-IsUnfinished H (Close session) E = E ≡ []
-IsUnfinished H Exposure E = E ≡ []
-IsUnfinished H q E = LacksServing H q E
+-- E lacks an entry of the request; F are the marks after its first turn, S all of them
+abbrev pub IsUnfinished : Tables → Plan → List Mark → List Mark → Request → List Entry → Type 0
+IsUnfinished b plan F S q E = LacksFirst b plan S q E ⊎ LacksServing plan F S q E
 
 -- an entry that a commit for the session may add; one that the request may add
 abbrev pub IsCommitted : ℕ → Entry → Type 0

@@ -1,7 +1,9 @@
 -- What the assemblies of a request and their commits do.
-use Rattle.std.specs.Prelude.{◌≡◌, ◌≢◌, ℕ, ◌≤◌, List, [], ◌++◌, length, Contains, Result, Ok, Err, Some}
+use Rattle.std.specs.Prelude.{◌≡◌, ◌≢◌, ◌⊎◌, ℕ, ◌-◌, ◌≤◌, List, [], ◌++◌, length, Contains, Result, Ok, Err, Some}
+use Rattle.bank_tables.specs.Items.{has}
 use Rattle.bank_tables.specs.Tables.{Tables}
 use Rattle.exam_model.specs.Plan.{Plan}
+use Rattle.turn_lock.specs.Histories.{places}
 use Rattle.turn_lock.specs.Passes.{Known}
 use Rattle.constraint_model.specs.declared.problem.Problem.{Problem}
 use Rattle.constraint_model.specs.Views.{problem_of}
@@ -13,13 +15,15 @@ use Rattle.history_model.specs.Legality.{LegalRun}
 use Rattle.history_model.specs.Places.{place}
 use Rattle.history_model.specs.SessionProblems.{IsProblemOf}
 use Rattle.branch_bound.specs.Assembled.{Assembly}
+use Rattle.branch_bound.specs.Assemblies.{IsFirmOutcome, IsNoWorseThan}
 use Rattle.exam_office.specs.Commits.{MayBeCommitted}
 use Rattle.exam_office.specs.declared.mark.Mark.{Mark}
 use Rattle.exam_office.specs.Marks.{history}
 use Rattle.exam_office.specs.Noting.{NotedMark, marks_of}
 use Rattle.exam_hall.specs.Known.{HallKnown}
 use Rattle.exam_hall.specs.Went.{Went, taken}
-use Rattle.exam_hall.specs.Parts.{owns, NoFault, AtMostOne, IsAside, IsServing, IsCommitted, Fails, MovedOn}
+use Rattle.exam_hall.specs.Good.{AreGoodAt}
+use Rattle.exam_hall.specs.Parts.{owns, NoFault, AtMostOne, IsAside, IsServing, IsAfterFault, OwesItem, IsCommitted, Fails, MovedOn}
 use Rattle.exam_hall.specs.Leading.{IsAsked, GoesOn}
 use Rattle.exam_hall.specs.declared.committing.Round.{Round}
 use Rattle.exam_hall.specs.declared.committing.Round.TheVariants.{Placed, Again, Failed}
@@ -31,11 +35,18 @@ pub record WasAsked (b : Tables) (plan : Plan) (H : List Entry) (P : Problem) : 
   pub is : H ≡ before ++ since
   pub asked : IsProblemOf b plan before P.session P.step (problem_of P)
 
--- what was assembled may be committed to an office with these marks
+-- a form that was found is firm, and no worse than the problem's start and the base
+pub record IsGoodFor (base : List ℕ) (made : Assembly) : Type 0 where
+  pub firm : IsFirmOutcome (problem_of made.problem) made.outcome
+  pub start : IsNoWorseThan (problem_of made.problem) (problem_of made.problem).start made.outcome
+  pub hint : IsNoWorseThan (problem_of made.problem) (Some (has base)) made.outcome
+
+-- what was assembled may be committed to an office with these marks, and is good for its base
 pub record IsCommittable (seen : List NotedMark) (made : Assembly) : Type 0 where
   pub one : NotedMark
   pub there : Contains seen one
   pub may : MayBeCommitted one.office.bank one.office.plan one.office.base (history (marks_of seen)) made
+  pub good : IsGoodFor one.office.base made
 
 -- the session of the problem is at this place. At most its item was served; if it waits for an item, then that of another step
 pub record IsPlaced (plan : Plan) (P : Problem) (S T : List Mark) (at : Place) : Type 0 where
@@ -57,11 +68,17 @@ abbrev pub EndsRound : Tables → Plan → Problem → List Mark → List Mark �
 EndsRound b plan P S T (Placed at) = IsPlaced plan P S T at
 EndsRound b plan P S T (Again next) = IsAgain b plan P S T next
 EndsRound b plan P S T (Failed r) = Fails b plan (IsCommitted P.session) S T r × (owns T ≡ [])
+    × (IsAfterFault S ⊎ (place plan (history S) P.session ≡ Some (Pending P.step)))
+
+-- the last marks of S, as many as T has, are good
+abbrev pub EndsGood : Tables → Plan → List ℕ → List Mark → List Mark → Type 0
+EndsGood b plan base S T = AreGoodAt b plan base S (places (length S - length T) (length T))
 
 -- the turn of a commit
 abbrev pub Commits : Assembly → List NotedMark → List NotedMark → Round → Type 0
 Commits made before after round =
-    GoesOn before after (λ office S T. EndsRound office.bank office.plan made.problem S T round)
+    GoesOn before after (λ office S T. EndsRound office.bank office.plan made.problem S T round
+    × EndsGood office.bank office.plan office.base S T)
 
 -- one assembly with its commit, in at most one turn
 pub record Rounds (h : HallKnown) (P : Problem) (old new : Known Mark) (round : Round) : Type 0 where
@@ -71,6 +88,7 @@ pub record Rounds (h : HallKnown) (P : Problem) (old new : Known Mark) (round : 
   pub few : length fronts ≤ 1
   pub legal : LegalRun h.bank h.plan (history new.seen)
   pub ends : EndsRound h.bank h.plan P new.seen (taken new.seen places) round
+  pub good : AreGoodAt h.bank h.plan h.base new.seen places
 
 -- the session is at this place; at most eligibility was set aside, and then an item served
 pub record IsServedAt (plan : Plan) (session : ℕ) (F S T : List Mark) (places : List ℕ) (at : Place) : Type 0 where
@@ -86,6 +104,7 @@ pub record IsServedAt (plan : Plan) (session : ℕ) (F S T : List Mark) (places 
 abbrev pub Serves : Tables → Plan → ℕ → List Mark → List Mark → List Mark → List ℕ → Result Place Refusal → Type 0
 Serves b plan session F S T places (Ok at) = IsServedAt plan session F S T places at
 Serves b plan session F S T places (Err r) = Fails b plan (IsCommitted session) S T r × AtMostOne (IsAside session) (owns T)
+    × OwesItem plan F S session
 
 -- at most two assemblies with their commits, the first for a problem of the history that the pass had seen
 pub record Assembles (h : HallKnown) (session : ℕ) (old new : Known Mark) (result : Result Place Refusal) : Type 0 where
@@ -95,3 +114,4 @@ pub record Assembles (h : HallKnown) (session : ℕ) (old new : Known Mark) (res
   pub few : length fronts ≤ 2
   pub legal : LegalRun h.bank h.plan (history new.seen)
   pub serves : Serves h.bank h.plan session old.seen new.seen (taken new.seen places) places result
+  pub good : AreGoodAt h.bank h.plan h.base new.seen places

@@ -5,7 +5,7 @@ use Rattle.bank_tables.specs.Tables.{Tables}
 use Rattle.exam_model.specs.Plan.{Plan}
 use Rattle.turn_lock.specs.Passes.{Known}
 use Rattle.history_model.specs.declared.entry.Entry.{Entry}
-use Rattle.history_model.specs.declared.entry.Entry.TheVariants.{Answered, Closed}
+use Rattle.history_model.specs.declared.entry.Entry.TheVariants.{Closed}
 use Rattle.history_model.specs.declared.place.Place.{Place}
 use Rattle.history_model.specs.declared.place.Place.TheVariants.{Pending}
 use Rattle.history_model.specs.declared.request.Exposure.{Exposure}
@@ -21,12 +21,8 @@ use Rattle.exam_office.specs.declared.mark.Mark.{Mark}
 use Rattle.exam_office.specs.Marks.{history}
 use Rattle.exam_hall.specs.Known.{HallKnown}
 use Rattle.exam_hall.specs.Went.{Went, taken}
-use Rattle.exam_hall.specs.Parts.{owns, NoFault, IsSessionOf, IsPartOf, IsUnfinished, IsWanted, IsRefusedBy, Fails, MovedOn}
-
--- the answer of the request is in the history
-abbrev pub IsAnswered : List Entry → Request → Type 0
-IsAnswered H (request.Answer session step response) = Contains H (Answered session step response)
-IsAnswered H q = ⊤
+use Rattle.exam_hall.specs.Good.{AreGoodAt}
+use Rattle.exam_hall.specs.Parts.{owns, NoFault, IsSessionOf, IsAnswered, IsPartOf, IsUnfinished, IsWanted, IsRefusedBy, Fails, MovedOn}
 
 -- a closing added its entry
 abbrev pub HasClosed : Request → List Entry → Type 0
@@ -57,10 +53,10 @@ Tells b plan q F S T later (reply.At session at fresh) =
     IsAt plan q S T session at fresh × ((step : ℕ) → at ≡ Pending step → MovedOn session F S later)
 Tells b plan q F S T later (reply.Exposure exposure) = IsExposed b plan q S T exposure
 Tells b plan q F S T later (reply.Refused r) =
-    IsRefusedBy b plan q S T r ⊎ (Fails b plan (IsWanted (history S) q) S T r × IsUnfinished (history S) q (owns T))
+    IsRefusedBy b plan q S T r ⊎ (Fails b plan (IsWanted (history S) q) S T r × IsUnfinished b plan F S q (owns T))
 
 -- the call made one turn, after which its pass was `mid`, and at most two more; `early` and `later` are the places of the
--- marks that it added. The whole history is a legal run
+-- marks that it added, whose servings are good. The whole history is a legal run
 pub record Sees (h : HallKnown) (old new : Known Mark) (q : Request) (answer : Reply) : Type 0 where
   pub mid : Known Mark
   pub early : List ℕ
@@ -71,4 +67,5 @@ pub record Sees (h : HallKnown) (old new : Known Mark) (q : Request) (answer : R
   pub few : length fronts ≤ 2
   pub legal : LegalRun h.bank h.plan (history new.seen)
   pub part : IsPartOf (history new.seen) q (owns (taken new.seen (early ++ later)))
+  pub good : AreGoodAt h.bank h.plan h.base new.seen (early ++ later)
   pub tells : Tells h.bank h.plan q mid.seen new.seen (taken new.seen (early ++ later)) later answer

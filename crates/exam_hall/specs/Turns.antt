@@ -21,7 +21,7 @@ use Rattle.exam_office.specs.Marks.{history}
 use Rattle.exam_hall.specs.Known.{HallKnown}
 use Rattle.exam_hall.specs.Went.{Went, taken}
 use Rattle.exam_hall.specs.Leading.{Leads, IsAsked, IsNoWait, IsBegun}
-use Rattle.exam_hall.specs.Rounds.{EndsRound}
+use Rattle.exam_hall.specs.Rounds.{EndsRound, EndsGood}
 use Rattle.exam_hall.specs.declared.committing.Round.{Round}
 use Rattle.exam_hall.specs.declared.committing.Round.TheVariants.{Placed, Again, Failed}
 use Rattle.exam_hall.specs.declared.asking.Begun.{Begun}
@@ -61,6 +61,7 @@ IsRoundAt b plan H P at (Failed r) = ⊥
 pub record Ended {D : Type 0} (P : Problem) (old new : Running D) (round : Round) : Type 0 where
   pub adds : Adds old new
   pub ends : EndsRound old.bank old.plan P new.marks adds.added round
+  pub good : EndsGood old.bank old.plan old.base new.marks adds.added
 
 -- what the first turn of a request does to a pass
 pub record HasBegun (h : HallKnown) (old new : Known Mark) (q : Request) (begun : Begun) : Type 0 where

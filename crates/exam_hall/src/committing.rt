@@ -5,7 +5,7 @@ ghost use Rattle.history_model.specs.Places.{place};
 ghost use Rattle.exam_office.specs.Commits.{MayBeCommitted};
 ghost use Rattle.exam_office.specs.Marks.{history};
 ghost use Rattle.exam_hall.specs.Lasting.{committable_later};
-ghost use Rattle.exam_hall.specs.Rounds.{IsCommittable, Commits};
+ghost use Rattle.exam_hall.specs.Rounds.{IsGoodFor, IsCommittable, Commits};
 ghost use Rattle.exam_hall.specs.Turns.{Ended, IsRoundAt};
 
 use branch_bound::Assembled;
@@ -56,8 +56,9 @@ fn commit_to<'a, D: Disk>(
     alloc: Global,
     assembled: &Assembled<'a>,
 ) -> Round<'a>
-    requires { MayBeCommitted office.old.bank office.old.plan office.old.base
+    requires may { MayBeCommitted office.old.bank office.old.plan office.old.base
         (history office.old.marks) assembled.now }
+    requires good { IsGoodFor office.old.base assembled.now }
     ensures { Ended assembled.now.problem office.old office.new result }
 {
     office.keeps();

@@ -15,7 +15,7 @@ ghost use Rattle.exam_office.specs.Noting.{noted, marks_of, opened_with};
 ghost use Rattle.exam_office.specs.Serving.{IsAssembledFor};
 ghost use Rattle.exam_hall.specs.Leading.{IsAsked};
 ghost use Rattle.exam_hall.specs.Known.{IsOf, IsOfficeOf, marked};
-ghost use Rattle.exam_hall.specs.Rounds.{Rounds, Assembles};
+ghost use Rattle.exam_hall.specs.Rounds.{IsGoodFor, Rounds, Assembles};
 ghost use Rattle.exam_hall.specs.Sees.{Sees};
 ghost use Rattle.exam_hall.specs.Turns.{HasBegun};
 
@@ -261,6 +261,7 @@ impl<'a, D: Disk> Hall<'a, D> {
         requires of { IsOf pass.old self.now }
         requires may { MayBeCommitted self.now.bank self.now.plan self.now.base
             (history (marks_of pass.old.seen)) assembled }
+        requires good { IsGoodFor self.now.base assembled }
         ensures of { IsOf pass.new self.now }
         ensures rounds { Rounds self.now assembled.entry.problem (marked pass.old) (marked pass.new)
             result }

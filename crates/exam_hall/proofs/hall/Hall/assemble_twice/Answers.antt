@@ -1,5 +1,5 @@
 use Rattle.exam_hall.specs.Known.{marked}
-use Rattle.exam_hall.proofs.Served.{once_done, twice_done, twice_failed, never_thrice}
+use Rattle.exam_hall.proofs.Served.{once_done, once_failed, twice_done, twice_failed, never_thrice}
 use Rattle.exam_hall.proofs.hall.Hall.assemble_twice.Goals as goal
 
 pub unreachable-requires : goal.unreachable-requires
@@ -10,6 +10,10 @@ unreachable-requires g c =
 pub returns-in-Placed-clause-assembles : goal.returns-in-Placed-clause-assembles
 returns-in-Placed-clause-assembles g c =
     once_done c.args.self.now c.args.problem.now (marked c.args.pass.now) c.requires.asked c.requires.legal (marked c.serve_once.new.pass) c.in-Placed.place c.in-Placed.ensures.rounds
+
+pub returns-in-Failed-clause-assembles : goal.returns-in-Failed-clause-assembles
+returns-in-Failed-clause-assembles g c =
+    once_failed c.args.self.now c.args.problem.now (marked c.args.pass.now) c.requires.asked c.requires.legal (marked c.serve_once.new.pass) c.in-Failed.refusal c.in-Failed.ensures.rounds
 
 pub returns-in-Placed-serve_once-clause-assembles : goal.returns-in-Placed-serve_once-clause-assembles
 returns-in-Placed-serve_once-clause-assembles g c =
