@@ -31,6 +31,16 @@ pub(crate) fn told(reply: &Reply) -> Told {
     }
 }
 
+// The session waits for the answer to this item.
+pub(crate) fn waiting(session: u32, step: u16, item: u16, fresh: bool) -> Told {
+    let place = Place::Waiting {
+        step,
+        item,
+        proved: true,
+    };
+    Ok((session, place, fresh))
+}
+
 // Plan A at this rate.
 pub(crate) fn plan_of(alloc: Global, bank: &Bank, rate: Rate) -> Result<Spec, Fail>
     ensures { IfOk result (λ spec. IsPlanFor bank.now spec) }

@@ -2,7 +2,7 @@
 
 ghost use Rattle.exam_model.specs.Validity.{IsPlanFor};
 
-use crate::halls::{Told, ask_all, hall_over, office_of, plan_of};
+use crate::halls::{Told, ask_all, hall_over, office_of, plan_of, waiting};
 use bank_tables::Bank;
 use constraint_model::{Rate, Spec};
 use exam_edge::OpenGate;
@@ -18,15 +18,6 @@ const fn answer(session: u32, step: u16, response: u8) -> Request {
         step,
         response,
     }
-}
-
-fn waiting(session: u32, step: u16, item: u16, fresh: bool) -> Told {
-    let place = Place::Waiting {
-        step,
-        item,
-        proved: true,
-    };
-    Ok((session, place, fresh))
 }
 
 fn replies_over<'a, R: Wait + Sync>(
