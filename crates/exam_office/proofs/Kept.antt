@@ -52,6 +52,7 @@ module _ {D : Type 0} (b : Tables) (plan : Plan) (base : List ℕ) (count : ℕ)
         limit = limit ∙ kept.limit;
         marks_are = own M r.entry (length_of j1) kept.marks_are;
         counted = counted-own M count (faults_of j) (faults_of j1) kept.counted r.entry (length_of j1) grows;
+        grows = omega (arith, kept.grows, grows);
         backed = subst (λ (H : List Entry). IsSure b plan H j1) (sym e) (sure_more (history M) r kept.backed spells may ready tells added);
         base_is = kept.base_is;
       }
@@ -67,9 +68,9 @@ module _ {D : Type 0} (b : Tables) (plan : Plan) (base : List ℕ) (count : ℕ)
   -- the disk failed while an entry was written
   pub kept_fault : (kept : IsKept b plan base book j M None count) (r : Record) → IsRecord r → MayFollow b plan (history M) r.entry r.tree
       → book1.bank ≡ book.bank → book1.plan ≡ book.plan → book1.entries ≡ book.entries → 0 < book1.room
-      → IsDoubtful (payloads_of j) (payload_of r) j1 → length_of j1 ≡ length_of j → limit_of j1 ≡ limit_of j → Rose (faults_of j) (faults_of j1) → tells_of j1 ≡ tells_of j
+      → IsDoubtful (payloads_of j) (payload_of r) j1 → length_of j1 ≡ length_of j → limit_of j1 ≡ limit_of j → Rose (faults_of j) (faults_of j1) → faults_of j ≤ faults_of j1 → tells_of j1 ≡ tells_of j
       → IsKept b plan base book1 j1 (M ++ Fault r.entry ∷ []) (Some r.entry) count
-  kept_fault kept r spells may bank plan_is entries room doubtful size limit rose tells =
+  kept_fault kept r spells may bank plan_is entries room doubtful size limit rose grows tells =
       let e : history (M ++ Fault r.entry ∷ []) ≡ history M = history-fault M r.entry in
       let s : IsSure b plan (history M) j = kept.backed in
       record {
@@ -80,6 +81,7 @@ module _ {D : Type 0} (b : Tables) (plan : Plan) (base : List ℕ) (count : ℕ)
         limit = limit ∙ kept.limit;
         marks_are = fault M r.entry kept.marks_are;
         counted = counted-fault M count (faults_of j) (faults_of j1) kept.counted r.entry rose;
+        grows = omega (arith, kept.grows, grows);
         backed = record {
           records = s.records;
           are = subst (λ (H : List Entry). AreRecordsOf b plan H s.records) (sym e) s.are;
@@ -120,6 +122,7 @@ module _ {D : Type 0} (b : Tables) (plan : Plan) (base : List ℕ) (count : ℕ)
         limit = limit ∙ kept.limit;
         marks_are = subst (λ (N : List Mark). AreMarks (N ++ Adopted entry size ∷ [])) (sym u.fault) (adopted u.before entry size (subst AreMarks u.fault kept.marks_are));
         counted = counted-adopted M count (faults_of j) (faults_of j1) kept.counted entry size grows;
+        grows = omega (arith, kept.grows, grows);
         backed = subst (λ (G : List Entry). IsSure b plan G j1) (ap (λ (last : Entry). H ++ last ∷ []) u.is_entry ∙ sym e) sure;
         base_is = kept.base_is;
       }
@@ -140,6 +143,7 @@ module _ {D : Type 0} (b : Tables) (plan : Plan) (base : List ℕ) (count : ℕ)
         limit = limit ∙ kept.limit;
         marks_are = kept.marks_are;
         counted = counted-still M count (faults_of j) (faults_of j1) kept.counted grows;
+        grows = omega (arith, kept.grows, grows);
         backed = record { records = u.records; are = u.are; ready = ready; holds = λ told1. mended (sym tells ∙ told1) (map payload_of u.records) (payload_of u.last) u.doubtful };
         base_is = kept.base_is;
       }
@@ -147,10 +151,10 @@ module _ {D : Type 0} (b : Tables) (plan : Plan) (base : List ℕ) (count : ℕ)
   -- the disk failed once more, and the entry stays in doubt
   pub kept_unmended : (entry : Entry) (kept : IsKept b plan base book j M (Some entry) count)
       → book1.bank ≡ book.bank → book1.plan ≡ book.plan → book1.entries ≡ book.entries → book1.room ≡ book.room
-      → length_of j1 ≡ length_of j → limit_of j1 ≡ limit_of j → Rose (faults_of j) (faults_of j1)
+      → length_of j1 ≡ length_of j → limit_of j1 ≡ limit_of j → Rose (faults_of j) (faults_of j1) → faults_of j ≤ faults_of j1
       → ((ps : List (List ℕ)) (payload : List ℕ) → IsDoubtful ps payload j → IsDoubtful ps payload j1)
       → IsKept b plan base book1 j1 (M ++ Fault entry ∷ []) (Some entry) count
-  kept_unmended entry kept bank plan_is entries room size limit rose still =
+  kept_unmended entry kept bank plan_is entries room size limit rose grows still =
       let u : IsUnsure b plan M entry book.room j = kept.backed in
       let e : history (M ++ Fault entry ∷ []) ≡ history M = history-fault M entry in
       record {
@@ -161,6 +165,7 @@ module _ {D : Type 0} (b : Tables) (plan : Plan) (base : List ℕ) (count : ℕ)
         limit = limit ∙ kept.limit;
         marks_are = fault M entry kept.marks_are;
         counted = counted-fault M count (faults_of j) (faults_of j1) kept.counted entry rose;
+        grows = omega (arith, kept.grows, grows);
         backed = record {
           records = u.records;
           are = subst (λ (H : List Entry). AreRecordsOf b plan H u.records) (sym e) u.are;

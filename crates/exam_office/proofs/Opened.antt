@@ -107,6 +107,7 @@ module _ {D : Type 0} (b : Tables) (plan : Plan) (base : List ℕ) (count : ℕ)
         limit = limit;
         marks_are = subst AreMarks (sym (marks_are size)) (opened book.entries size);
         counted = let none : count_by is_fault (marks ++ Opened size ∷ []) ≡ 0 = ap (count_by is_fault) (marks_are size) ∙ no_faults-opened book.entries size in omega arith;
+        grows = grows;
         backed = subst (λ (H : List Entry). IsSure b plan H j) (sym (history_is size)) (record { records = taken.records; are = taken.are; ready = ready; holds = λ told. keeps told ∙ sym taken.bytes });
         base_is = base_is;
       }

@@ -103,9 +103,9 @@ module _ {D : Type 0} (b : Tables) (plan : Plan) (base : List ℕ) (book : Ledge
       dropped_so = kept_dropped b plan base count book book1 j j1 M entry kept_some
 
       pub still_so : book1.bank ≡ book.bank → book1.plan ≡ book.plan → book1.entries ≡ book.entries → book1.room ≡ book.room
-          → length_of j1 ≡ length_of j → limit_of j1 ≡ limit_of j → Rose (faults_of j) (faults_of j1)
+          → length_of j1 ≡ length_of j → limit_of j1 ≡ limit_of j → Rose (faults_of j) (faults_of j1) → faults_of j ≤ faults_of j1
           → ((ps : List (List ℕ)) (payload : List ℕ) → IsDoubtful ps payload j → IsDoubtful ps payload j1)
           → IsKept b plan base book1 j1 (M ++ Fault entry ∷ []) doubt count
-      still_so bank plan_is entries room size limit rose still =
+      still_so bank plan_is entries room size limit rose grows still =
           subst (λ (d : Option Entry). IsKept b plan base book1 j1 (M ++ Fault entry ∷ []) d count) (sym is)
-          (kept_unmended b plan base count book book1 j j1 M entry kept_some bank plan_is entries room size limit rose still)
+          (kept_unmended b plan base count book book1 j j1 M entry kept_some bank plan_is entries room size limit rose grows still)

@@ -71,7 +71,7 @@ module _ {D : Type 0} (b : Tables) (plan : Plan) (base : List ℕ) (book : Ledge
   -- the disk failed
   pub kept_faulted : (book1 : Ledger) (j1 : JournalState D) (payload : List ℕ) → payload ≡ payload_of r → IsRecord r
       → book1.bank ≡ book.bank → book1.plan ≡ book.plan → book1.entries ≡ book.entries → 0 < book1.room
-      → IsDoubtful (payloads_of j) payload j1 → length_of j1 ≡ length_of j → limit_of j1 ≡ limit_of j → Rose (faults_of j) (faults_of j1) → tells_of j1 ≡ tells_of j
+      → IsDoubtful (payloads_of j) payload j1 → length_of j1 ≡ length_of j → limit_of j1 ≡ limit_of j → Rose (faults_of j) (faults_of j1) → faults_of j ≤ faults_of j1 → tells_of j1 ≡ tells_of j
       → IsKept b plan base book1 j1 (M ++ Fault r.entry ∷ []) (Some r.entry) count
-  kept_faulted book1 j1 payload is spells bank plan_is entries room doubtful size limit rose tells =
-      kept_fault b plan base count book book1 j j1 M kept_sure r spells may_here bank plan_is entries room (subst (λ (p : List ℕ). IsDoubtful (payloads_of j) p j1) is doubtful) size limit rose tells
+  kept_faulted book1 j1 payload is spells bank plan_is entries room doubtful size limit rose grows tells =
+      kept_fault b plan base count book book1 j j1 M kept_sure r spells may_here bank plan_is entries room (subst (λ (p : List ℕ). IsDoubtful (payloads_of j) p j1) is doubtful) size limit rose grows tells

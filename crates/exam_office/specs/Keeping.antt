@@ -1,5 +1,5 @@
 -- What an office keeps between its calls.
-use Rattle.std.specs.Prelude.{◌≡◌, ℕ, ◌<◌, List, [], ◌∷◌, ◌++◌, map, Option, Some, None, IsTrue}
+use Rattle.std.specs.Prelude.{◌≡◌, ℕ, ◌<◌, ◌≤◌, List, [], ◌∷◌, ◌++◌, map, Option, Some, None, IsTrue}
 use Rattle.bank_tables.specs.Items.{has}
 use Rattle.bank_tables.specs.Tables.{Tables}
 use Rattle.exam_model.specs.Plan.{Plan}
@@ -50,5 +50,6 @@ pub record IsKept {D : Type 0} (b : Tables) (plan : Plan) (base : List ℕ) (boo
   pub limit : limit_of journal ≡ plan.journal
   pub marks_are : AreMarks marks
   pub counted : AreCounted marks count (faults_of journal)
+  pub grows : count ≤ faults_of journal
   pub backed : IsBacked b plan marks book.room journal doubt
   pub base_is : Meets b plan (has base)

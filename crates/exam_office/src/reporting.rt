@@ -1,6 +1,6 @@
 //! What an office reports, and what it was opened with.
 
-ghost use Rattle.std.specs.Prelude.{◌≡◌, ℕ, Some, IfOk, IfErr, IfSome, IfNone};
+ghost use Rattle.std.specs.Prelude.{◌≡◌, ℕ, ◌≤◌, Some, IfOk, IfErr, IfSome, IfNone};
 ghost use Rattle.exam_model.specs.Validity.{IsWellMade};
 ghost use Rattle.constraint_model.specs.Views.{problem_of};
 ghost use Rattle.history_model.specs.declared.place.Place.TheVariants.{Pending};
@@ -95,13 +95,14 @@ impl<'a, D: Disk> Office<'a, D> {
     }
 
     /// What the type keeps of the marks, as a law: the history is a legal run; the marks are in order; there are no more
-    /// faults among them than the disk's count rose since it was handed in; an entry in doubt is that of the last mark, a
-    /// fault. The base is a form of the plan alone.
+    /// faults among them than the disk's count rose since it was handed in, and that count is no lower; an entry in doubt
+    /// is that of the last mark, a fault. The base is a form of the plan alone.
     pub fn keeps(&self)
         ensures run { LegalRun self.now.bank self.now.plan (history self.now.marks) }
         ensures marks { AreMarks self.now.marks }
         ensures counted { AreCounted self.now.marks (D.faults self.now.opened)
             (faults_of self.now.journal) }
+        ensures grows { D.faults self.now.opened ≤ faults_of self.now.journal }
         ensures doubt { IsDoubtOf self.now.marks self.now.doubt }
         ensures base { Meets self.now.bank self.now.plan (has self.now.base) }
     {

@@ -96,4 +96,4 @@ invariant_of-self-in-Err-mend g c =
     let noted : c.push-in-Err-mend.new.self ≡ o.marks ++ Fault e ∷ [] =
     c.push-in-Err-mend.ensures in
     subst (λ (ms : List Mark). IsKept o.bank.now o.spec.now o.base o.book c.mend.new.self ms o.doubt (g.D.Disk.faults o.opened.value)) (sym noted)
-    (still_so o.bank.now o.spec.now o.base o.book o.journal o.marks o.doubt o.opened.value (g.D.Disk.faults o.opened.value) c.self.invariant c.args.self.now c.self.view_is c.in-Some.entry c.in-Some.is o.book c.mend.new.self refl refl refl refl c.in-Err-mend.ensures.length_err c.mend.ensures.limit c.in-Err-mend.ensures.cause c.in-Err-mend.ensures.still)
+    (still_so o.bank.now o.spec.now o.base o.book o.journal o.marks o.doubt o.opened.value (g.D.Disk.faults o.opened.value) c.self.invariant c.args.self.now c.self.view_is c.in-Some.entry c.in-Some.is o.book c.mend.new.self refl refl refl refl c.in-Err-mend.ensures.length_err c.mend.ensures.limit c.in-Err-mend.ensures.cause c.mend.ensures.frame.grows c.in-Err-mend.ensures.still)

@@ -78,4 +78,4 @@ invariant_of-self-in-Err-Disk g c =
     subst (λ (ms : List Mark). IsKept o.bank.now o.spec.now o.base c.reserve.new.self c.append.new.self ms (Some r.entry) (g.D.Disk.faults o.opened.value)) (sym noted)
     (kept_faulted o.bank.now o.spec.now o.base o.book o.journal o.marks o.doubt o.opened.value (g.D.Disk.faults o.opened.value) c.self.invariant c.args.self.now c.self.view_is c.requires.sure r c.requires.may c.reserve.new.self c.append.new.self c.in-Ok.frame c.in-Ok.ensures.frame c.frame_of.ensures.is_record
     c.reserve.ensures.bank c.reserve.ensures.plan c.reserve.ensures.entries (some_room c.reserve.new.self.room o.book.room c.in-Ok-reserve.ensures.room)
-    (rw c.in-Err-Disk.field-0-is at c.in-Err-Disk.ensures.doubt) c.in-Err-Disk.ensures.length_err c.append.ensures.limit (rw c.in-Err-Disk.field-0-is at c.in-Err-Disk.ensures.cause) c.append.ensures.frame.tells)
+    (rw c.in-Err-Disk.field-0-is at c.in-Err-Disk.ensures.doubt) c.in-Err-Disk.ensures.length_err c.append.ensures.limit (rw c.in-Err-Disk.field-0-is at c.in-Err-Disk.ensures.cause) c.append.ensures.frame.grows c.append.ensures.frame.tells)
