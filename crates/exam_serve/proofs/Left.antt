@@ -1,13 +1,23 @@
--- Where no door failed, none that reports its links has one left.
-use Rattle.std.proofs.Common.{◌≡◌, ℕ, Bool, true, false, ◌||◌, List, [], ◌∷◌, map, All, subst, sym, refl}
+-- What the work leaves of the doors.
+use Rattle.std.proofs.Common.{◌≡◌, ℕ, suc, Bool, true, false, ◌||◌, List, [], ◌∷◌, map, All, subst, sym, refl, ◌∙◌, arith}
+use Rattle.std.proofs.lemmas.Bool.{false≢true}
 use Rattle.std.specs.Prelude.{IsTrue, MatchBool}
 use Rattle.std.specs.List.{AllZip, list_any}
-use Rattle.std.proofs.lemmas.List.Elements.{All-nil, All-cons}
+use Rattle.std.proofs.lemmas.List.Elements.{All-nil, All-cons, All-head, All-tail}
 use Rattle.exam_edge.specs.Faults.{Rose}
+use Rattle.exam_edge.specs.Lent.{IsLent}
 use Rattle.exam_workers.specs.declared.Station.{Station}
 use Rattle.exam_office.specs.Noting.{NotedMark}
 use Rattle.exam_hall.specs.Known.{HallKnown, CallerKnown}
-use Rattle.exam_serve.specs.Doors.{IsWorked, AreServed, door_of, has_failed}
+use Rattle.exam_serve.specs.declared.serve.End.{End}
+use Rattle.exam_serve.specs.declared.serve.End.TheVariants.{Done, DoorFailed, Memory}
+use Rattle.exam_serve.specs.Results.{end_of}
+use Rattle.exam_serve.specs.Doors.{AreLent, HasFailedDoor, HasNone, IsWorked, AreServed, door_of, has_failed}
+
+-- work that was begun did not run out of memory
+pub not_memory : (failed : Bool) (end : End) → end ≡ end_of failed → end ≡ Memory → ⊥
+not_memory true end e is = let f : DoorFailed ≡ Memory = sym e ∙ is in cc
+not_memory false end e is = let f : Done ≡ Memory = sym e ∙ is in cc
 
 first_false : (a b : Bool) → (a || b) ≡ false → a ≡ false
 first_false true b e = e
@@ -22,29 +32,98 @@ rest_false false b e = e
 
 module _ {D K : Type 0} (tells : D → Bool) (coming returned : D → List K) (is_out : D → Bool) (faults identity : D → ℕ)
     (link_tells : K → Bool) (left written : K → List ℕ) (link_faults link_identity : K → ℕ) where
-  abbrev IsLeft : D → Type 0
-  IsLeft door = IsTrue (tells door) → coming door ≡ []
+  abbrev Worked : HallKnown → List NotedMark → Station D CallerKnown K → Station D CallerKnown K → Type 0
+  Worked = IsWorked tells coming returned is_out faults identity link_tells left written link_faults link_identity
 
+  abbrev Served : List NotedMark → List NotedMark → List D → List D → Bool → Type 0
+  Served = AreServed tells coming returned is_out faults identity link_tells left written link_faults link_identity
+
+  abbrev Lent : D → D → Type 0
+  Lent door after = IsLent tells identity faults door after × (is_out after ≡ false)
+
+  -- ---- where no door failed
   left_of : (hall : HallKnown) (opened : List NotedMark) (a b : Station D CallerKnown K)
-      → IsWorked tells coming returned is_out faults identity link_tells left written link_faults link_identity hall opened a b
-      → b.failed ≡ false → IsLeft b.door
+      → Worked hall opened a b → b.failed ≡ false → HasNone tells coming b.door
   left_of hall opened a b w e h =
       let ends = subst (λ f. MatchBool f (Rose (faults a.door) (faults b.door)) (IsTrue (tells a.door) → coming b.door ≡ [])) e w.ends in
       ends (subst (λ x. IsTrue x) w.serves.same.0 h)
 
   all_left : (hall : HallKnown) (opened : List NotedMark) (old new : List (Station D CallerKnown K))
-      → AllZip (IsWorked tells coming returned is_out faults identity link_tells left written link_faults link_identity hall opened) old new
-      → list_any has_failed new ≡ false → All IsLeft (map door_of new)
-  all_left hall opened [] [] w e = All-nil IsLeft
+      → AllZip (Worked hall opened) old new → list_any has_failed new ≡ false → All (HasNone tells coming) (map door_of new)
+  all_left hall opened [] [] w e = All-nil (HasNone tells coming)
   all_left hall opened [] (b ∷ new) w e = absurd w
   all_left hall opened (a ∷ old) [] w e = absurd w
   all_left hall opened (a ∷ old) (b ∷ new) w e =
-      All-cons IsLeft b.door (map door_of new)
+      All-cons (HasNone tells coming) b.door (map door_of new)
       (left_of hall opened a b w.0 (first_false b.failed (list_any has_failed new) e))
       (all_left hall opened old new w.1 (rest_false b.failed (list_any has_failed new) e))
 
   pub none_left : (opened closed : List NotedMark) (doors back : List D)
-      → AreServed tells coming returned is_out faults identity link_tells left written link_faults link_identity opened closed doors back false
-      → All IsLeft back
+      → Served opened closed doors back false → All (HasNone tells coming) back
   none_left opened closed doors back s =
-      subst (λ l. All IsLeft l) s.back_are (all_left s.hall opened s.before s.after s.worked (sym s.failed_is))
+      subst (λ l. All (HasNone tells coming) l) s.back_are (all_left s.hall opened s.before s.after s.worked (sym s.failed_is))
+
+  -- ---- where a door failed
+  rose_of : (hall : HallKnown) (opened : List NotedMark) (a b : Station D CallerKnown K)
+      → Worked hall opened a b → b.failed ≡ true → Rose (faults a.door) (faults b.door)
+  rose_of hall opened a b w e =
+      subst (λ f. MatchBool f (Rose (faults a.door) (faults b.door)) (IsTrue (tells a.door) → coming b.door ≡ [])) e w.ends
+
+  later : (a b : D) (doors back : List D) → HasFailedDoor faults doors back → HasFailedDoor faults (a ∷ doors) (b ∷ back)
+  later a b doors back h = record { place = suc h.place; before = h.before; after = h.after; was = h.was; is = h.is; rose = h.rose }
+
+  any_rose : (hall : HallKnown) (opened : List NotedMark) (old new : List (Station D CallerKnown K))
+      → AllZip (Worked hall opened) old new → list_any has_failed new ≡ true
+      → HasFailedDoor faults (map door_of old) (map door_of new)
+  any_rose hall opened [] [] w e = absurd (false≢true e)
+  any_rose hall opened [] (b ∷ new) w e = absurd w
+  any_rose hall opened (a ∷ old) [] w e = absurd w
+  any_rose hall opened (a ∷ old) (b ∷ new) w e = here (any_rose hall opened old new w.1) b.failed refl e
+    where
+      here : (list_any has_failed new ≡ true → HasFailedDoor faults (map door_of old) (map door_of new)) → (f : Bool) → b.failed ≡ f → (f || list_any has_failed new) ≡ true
+          → HasFailedDoor faults (map door_of (a ∷ old)) (map door_of (b ∷ new))
+      here more true is e = record { place = 0; before = a.door; after = b.door; was = refl; is = refl; rose = rose_of hall opened a b w.0 is }
+      here more false is e = later a.door b.door (map door_of old) (map door_of new) (more e)
+
+  pub one_failed : (opened closed : List NotedMark) (doors back : List D)
+      → Served opened closed doors back true → HasFailedDoor faults doors back
+  one_failed opened closed doors back s =
+      subst (λ l. HasFailedDoor faults l back) s.doors_are
+      (subst (λ l. HasFailedDoor faults (map door_of s.before) l) s.back_are
+      (any_rose s.hall opened s.before s.after s.worked (sym s.failed_is)))
+
+  -- ---- whether one failed or not
+  each_lent : (hall : HallKnown) (opened : List NotedMark) (old new : List (Station D CallerKnown K))
+      → AllZip (Worked hall opened) old new → AllZip Lent (map door_of old) (map door_of new)
+  each_lent hall opened [] [] w = tt
+  each_lent hall opened [] (b ∷ new) w = absurd w
+  each_lent hall opened (a ∷ old) [] w = absurd w
+  each_lent hall opened (a ∷ old) (b ∷ new) w =
+      let did = w.0.serves in
+      ((record { grows = did.grows; tells = did.same.0; identity = did.same.1 }, did.home), each_lent hall opened old new w.1)
+
+  pub all_lent : (opened closed : List NotedMark) (doors back : List D) (failed : Bool)
+      → Served opened closed doors back failed → AllZip Lent doors back
+  all_lent opened closed doors back failed s =
+      subst (λ l. AllZip Lent l back) s.doors_are
+      (subst (λ l. AllZip Lent (map door_of s.before) l) s.back_are (each_lent s.hall opened s.before s.after s.worked))
+
+  -- ---- by how the work ended
+  pub done_so : (opened closed : List NotedMark) (doors back : List D) (failed : Bool) (end : End)
+      → end ≡ end_of failed → Served opened closed doors back failed → end ≡ Done → All (HasNone tells coming) back
+  done_so opened closed doors back true end e s is = absurd (let f : DoorFailed ≡ Done = sym e ∙ is in cc)
+  done_so opened closed doors back false end e s is = none_left opened closed doors back s
+
+  pub failed_so : (opened closed : List NotedMark) (doors back : List D) (failed : Bool) (end : End)
+      → end ≡ end_of failed → Served opened closed doors back failed → end ≡ DoorFailed → HasFailedDoor faults doors back
+  failed_so opened closed doors back true end e s is = one_failed opened closed doors back s
+  failed_so opened closed doors back false end e s is = absurd (let f : Done ≡ DoorFailed = sym e ∙ is in cc)
+
+-- doors that were not used
+module _ {D : Type 0} (tells is_out : D → Bool) (faults identity : D → ℕ) where
+  pub still_lent : (doors : List D) → All (λ d. is_out d ≡ false) doors → AreLent tells identity faults is_out doors doors
+  still_lent [] home = tt
+  still_lent (d ∷ doors) home = (
+    (record { grows = omega arith; tells = refl; identity = refl }, All-head (λ e. is_out e ≡ false) d doors home),
+    still_lent doors (All-tail (λ e. is_out e ≡ false) d doors home),
+  )

@@ -5,7 +5,7 @@ use Rattle.turn_lock.specs.Histories.{StartsWith}
 use Rattle.exam_office.specs.Noting.{NotedMark, OpenedWith, noted, marks_of}
 use Rattle.exam_office.specs.declared.mark.Mark.{Mark}
 
-marks_noted : (o : OpenedWith) (ms : List Mark) → marks_of (noted o ms) ≡ ms
+pub marks_noted : (o : OpenedWith) (ms : List Mark) → marks_of (noted o ms) ≡ ms
 marks_noted o [] = refl
 marks_noted o (m ∷ ms) = ap (λ l. m ∷ l) (marks_noted o ms)
 

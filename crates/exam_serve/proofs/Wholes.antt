@@ -8,7 +8,7 @@ use Rattle.turn_lock.specs.Histories.{StartsWith}
 use Rattle.turn_lock.specs.Passes.{Known}
 use Rattle.exam_workers.specs.declared.Station.{Station}
 use Rattle.exam_office.specs.Noting.{NotedMark}
-use Rattle.exam_hall.specs.Known.{HallKnown, CallerKnown}
+use Rattle.exam_hall.specs.Known.{HallKnown, CallerKnown, HasOpening}
 use Rattle.exam_serve.specs.Doors.{IsWorked, AreServed, door_of, seen_of, has_failed}
 use Rattle.exam_office.specs.Running.{Running}
 use Rattle.exam_serve.specs.declared.serve.End.{End}
@@ -38,13 +38,14 @@ module _ {D K : Type 0} (tells : D → Bool) (coming returned : D → List K) (i
   Served = AreServed tells coming returned is_out faults identity link_tells left written link_faults link_identity
 
   -- what was served up to the last join
-  pub served_joined : (hall : HallKnown) (opened : List NotedMark) (pass : Known NotedMark) (doors back : List D) (failed : Bool)
+  pub served_joined : (hall : HallKnown) (opened : List NotedMark) → HasOpening opened hall → (pass : Known NotedMark) (doors back : List D) (failed : Bool)
       (old new : List (Station D CallerKnown K)) → map door_of old ≡ reverse doors → back ≡ map door_of (reverse new)
       → AllZip (IsWorked tells coming returned is_out faults identity link_tells left written link_faults link_identity hall opened) old new
       → AreJoined pass (reverse new) → failed ≡ list_any has_failed (reverse new) → StartsWith pass.seen opened
       → Served opened pass.seen doors back failed
-  served_joined hall opened pass doors back failed old new d b worked joined f grows = record {
+  served_joined hall opened is_of pass doors back failed old new d b worked joined f grows = record {
     hall = hall;
+    is_of = is_of;
     before = reverse old;
     after = reverse new;
     doors_are = map_reverse door_of old ∙ ap reverse d ∙ reverse-reverse doors;
@@ -61,6 +62,7 @@ module _ {D K : Type 0} (tells : D → Bool) (coming returned : D → List K) (i
       → Served opened seen doors back failed → Served opened closed doors back failed
   served_closed opened seen closed doors back failed more s = record {
     hall = s.hall;
+    is_of = s.is_of;
     before = s.before;
     after = s.after;
     doors_are = s.doors_are;

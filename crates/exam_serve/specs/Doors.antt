@@ -1,13 +1,33 @@
 -- What becomes of doors whose links are served on passes of one hall.
-use Rattle.std.specs.Prelude.{◌≡◌, ℕ, Bool, false, List, map}
+use Rattle.std.specs.Prelude.{◌≡◌, ℕ, Bool, false, List, [], map, slice_get, Some, IsTrue}
 use Rattle.std.specs.List.{All, AllZip, AllPairs, list_any}
+use Rattle.exam_edge.specs.Faults.{Rose}
+use Rattle.exam_edge.specs.Lent.{IsLent}
 use Rattle.turn_lock.specs.Histories.{StartsWith, AreDisjoint}
 use Rattle.turn_lock.specs.Passes.{new_pass}
 use Rattle.exam_workers.specs.declared.Station.{Station}
 use Rattle.exam_workers.specs.Stations.{Serves, Ends}
 use Rattle.exam_office.specs.Noting.{NotedMark}
-use Rattle.exam_hall.specs.Known.{HallKnown, CallerKnown}
+use Rattle.exam_hall.specs.Known.{HallKnown, CallerKnown, HasOpening}
 use Rattle.exam_serve.specs.Connections.{IsConnection}
+
+-- each door is the same object, reports its links exactly if it did before, has counted no fewer faults, and has no link out
+abbrev pub AreLent : {D : Type 0} → (D → Bool) → (D → ℕ) → (D → ℕ) → (D → Bool) → List D → List D → Type 0
+AreLent tells identity faults is_out doors back =
+    AllZip (λ door after. IsLent tells identity faults door after × (is_out after ≡ false)) doors back
+
+-- a door's count of faults rose
+pub record HasFailedDoor {D : Type 0} (faults : D → ℕ) (doors back : List D) : Type 0 where
+  pub place : ℕ
+  pub before : D
+  pub after : D
+  pub was : slice_get doors place ≡ Some before
+  pub is : slice_get back place ≡ Some after
+  pub rose : Rose (faults before) (faults after)
+
+-- if the door reports its links, none is left
+abbrev pub HasNone : {D K : Type 0} → (D → Bool) → (D → List K) → D → Type 0
+HasNone tells coming door = IsTrue (tells door) → coming door ≡ []
 
 module _ {D K : Type 0} where
   abbrev pub door_of : Station D CallerKnown K → D
@@ -42,11 +62,13 @@ module _ {D K : Type 0} (tells : D → Bool) (coming returned : D → List K) (i
     pub ends : Ends tells coming faults before after
     pub same_hall : after.token.hall ≡ hall
 
-  -- the work of a hall, whose office had the marks `opened` at first and has the marks `closed` in the end. There was one
-  -- station for each door, in order. The marks that a pass saw are a beginning of those in the end, which begin with those at
-  -- first; no mark is the own of two passes. It failed exactly if a door failed
+  -- the work of a hall, whose office had the marks `opened` at first and has the marks `closed` in the end; the hall has the
+  -- bank, the plan and the base form of that office. There was one station for each door, in order. The marks that a pass saw
+  -- are a beginning of those in the end, which begin with those at first; no mark is the own of two passes. It failed exactly
+  -- if a door failed
   pub record AreServed (opened closed : List NotedMark) (doors back : List D) (failed : Bool) : Type 0 where
     pub hall : HallKnown
+    pub is_of : HasOpening opened hall
     pub before : List (Station D CallerKnown K)
     pub after : List (Station D CallerKnown K)
     pub doors_are : map door_of before ≡ doors

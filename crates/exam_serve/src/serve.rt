@@ -4,7 +4,8 @@ ghost use Rattle.std.specs.Prelude.{◌≡◌, ◌≤◌, ℕ, [], List, true, f
 ghost use Rattle.std.specs.List.{All};
 ghost use Rattle.exam_hall.specs.Known.{IsOf};
 ghost use Rattle.turn_lock.specs.Histories.{StartsWith};
-ghost use Rattle.exam_serve.specs.Doors.{AreServed};
+ghost use Rattle.exam_serve.specs.declared.serve.End.TheVariants as end;
+ghost use Rattle.exam_serve.specs.Doors.{AreLent, AreServed, HasFailedDoor, HasNone};
 ghost use Rattle.exam_serve.specs.Results.{IsResult};
 ghost use Rattle.exam_office.specs.Noting.{opened_with};
 
@@ -84,8 +85,9 @@ where
 /// Serves the connections of each door over one office, which all doors share, the doors in threads of their own, until
 /// each door gives no more links or fails. At most 65,535 doors, with no link out. Where no thread can be made, the caller
 /// does that work itself. The office comes back with one list of marks, which begins with those that it had: of each door,
-/// the links that it gave were served in order on one pass, and came back to it; what a pass saw is a beginning of that
-/// list, and no mark is the own of two passes. It may wait, and ends only where each door ends.
+/// the links that it gave were served in order on one pass, by the bank, the plan and the base form of the office, and came
+/// back to it; what a pass saw is a beginning of that list, and no mark is the own of two passes. It may wait, and ends only
+/// where each door ends.
 pub fn serve_doors<'a, R, D, L, G>(
     rt: &R,
     alloc: Global,
@@ -107,6 +109,15 @@ where
     ensures result { IsResult D.faults L.tells L.coming L.returned L.is_out L.faults L.identity
         L.Link.tells L.Link.left L.Link.written L.Link.faults L.Link.identity
         office.entry doors.items result.office result.doors.items result.end }
+    // However it ended: each door is the same object, with no fewer faults, and no link of it is out.
+    ensures lent { AreLent L.tells L.identity L.faults L.is_out doors.items result.doors.items }
+    // Out of memory, nothing was done.
+    ensures unused { result.end ≡ end.Memory
+        → (result.office ≡ office.entry) × (result.doors ≡ doors) }
+    // The causes of the end.
+    ensures done { result.end ≡ end.Done → All (HasNone L.tells L.coming) result.doors.items }
+    ensures failed { result.end ≡ end.DoorFailed
+        → HasFailedDoor L.faults doors.items result.doors.items }
 {
     let mut doors = doors;
     let stations = match Vec::with_capacity(alloc, doors.len()) {

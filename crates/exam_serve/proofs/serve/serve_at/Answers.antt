@@ -35,7 +35,7 @@ returns-clause-served g c =
     let out = c.unseat_all-failed in
     served_joined g.L.Door.tells g.L.Door.coming g.L.Door.returned g.L.Door.is_out g.L.Door.faults g.L.Door.identity
     g.L.Link.Link.tells g.L.Link.Link.left g.L.Link.Link.written g.L.Link.Link.faults g.L.Link.Link.identity
-    c.args.hall.now c.args.pass.now.seen out.new.pass c.args.doors.now.items out.new.doors.items out.result lent new
+    c.args.hall.now c.args.pass.now.seen c.requires.of.opening out.new.pass c.args.doors.now.items out.new.doors.items out.result lent new
     (ap (map door_of) value ∙ c.seat_all.ensures.doors)
     (out.ensures.doors ∙ ap (λ l. map door_of (reverse l)) whole)
     (worked_all g.L.Door.tells g.L.Door.coming g.L.Door.returned g.L.Door.is_out g.L.Door.faults g.L.Door.identity

@@ -3,6 +3,7 @@ use Rattle.turn_lock.specs.Histories.{StartsWith}
 use Rattle.exam_office.specs.Noting.{opened_with}
 use Rattle.exam_serve.specs.Results.{notes_of}
 use Rattle.exam_serve.proofs.Joins.{starts_through}
+use Rattle.exam_serve.proofs.Left.{all_lent, done_so, failed_so, not_memory, still_lent}
 use Rattle.exam_serve.proofs.Notes.{begins_marks, same_office}
 use Rattle.exam_serve.proofs.Wholes.{result_of}
 use Rattle.exam_serve.proofs.serve.serve_doors.Goals as goal
@@ -40,3 +41,33 @@ returns-clause-result g c =
     g.D.Disk.faults c.args.office c.close-office.result c.args.doors.items c.serve_at-failed.new.doors.items
     c.serve_at-failed.result c.end_of.result last first.seen c.end_of.ensures begun c.close-office.ensures.begins
     c.serve_at-failed.ensures.served
+
+pub returns-in-Err-clause-lent : goal.returns-in-Err-clause-lent
+returns-in-Err-clause-lent g c = still_lent g.L.Door.tells g.L.Door.is_out g.L.Door.faults g.L.Door.identity c.args.doors.items c.requires.home
+
+pub returns-in-Err-new-clause-lent : goal.returns-in-Err-new-clause-lent
+returns-in-Err-new-clause-lent g c = still_lent g.L.Door.tells g.L.Door.is_out g.L.Door.faults g.L.Door.identity c.args.doors.items c.requires.home
+
+pub returns-clause-lent : goal.returns-clause-lent
+returns-clause-lent g c =
+    all_lent g.L.Door.tells g.L.Door.coming g.L.Door.returned g.L.Door.is_out g.L.Door.faults g.L.Door.identity
+    g.L.Link.Link.tells g.L.Link.Link.left g.L.Link.Link.written g.L.Link.Link.faults g.L.Link.Link.identity
+    c.in-Ok-new.made.1.seen c.serve_at-failed.new.pass.seen c.args.doors.items c.serve_at-failed.new.doors.items
+    c.serve_at-failed.result c.serve_at-failed.ensures.served
+
+pub returns-clause-unused : goal.returns-clause-unused
+returns-clause-unused g c = λ is. absurd (not_memory c.serve_at-failed.result c.end_of.result c.end_of.ensures is)
+
+pub returns-clause-done : goal.returns-clause-done
+returns-clause-done g c =
+    done_so g.L.Door.tells g.L.Door.coming g.L.Door.returned g.L.Door.is_out g.L.Door.faults g.L.Door.identity
+    g.L.Link.Link.tells g.L.Link.Link.left g.L.Link.Link.written g.L.Link.Link.faults g.L.Link.Link.identity
+    c.in-Ok-new.made.1.seen c.serve_at-failed.new.pass.seen c.args.doors.items c.serve_at-failed.new.doors.items
+    c.serve_at-failed.result c.end_of.result c.end_of.ensures c.serve_at-failed.ensures.served
+
+pub returns-clause-failed : goal.returns-clause-failed
+returns-clause-failed g c =
+    failed_so g.L.Door.tells g.L.Door.coming g.L.Door.returned g.L.Door.is_out g.L.Door.faults g.L.Door.identity
+    g.L.Link.Link.tells g.L.Link.Link.left g.L.Link.Link.written g.L.Link.Link.faults g.L.Link.Link.identity
+    c.in-Ok-new.made.1.seen c.serve_at-failed.new.pass.seen c.args.doors.items c.serve_at-failed.new.doors.items
+    c.serve_at-failed.result c.end_of.result c.end_of.ensures c.serve_at-failed.ensures.served
