@@ -2,3 +2,4 @@ mod DrawLaws
 mod TextLaws
 mod PlanLaws
 mod ScriptLaws
+mod ReadableScripts

@@ -1,11 +1,12 @@
 -- The texts of a drill.
 use Rattle.std.specs.Prelude.{◌≡◌, ℕ, List}
+use Rattle.history_model.specs.declared.request.Request.{Request}
 use Rattle.bank_maker.specs.declared.drill.Made.{Made}
 use Rattle.bank_maker.specs.Draws.{state_after}
 use Rattle.bank_maker.specs.Items.{items, draws_of_items}
 use Rattle.bank_maker.specs.Banks.{bank_text}
 use Rattle.bank_maker.specs.Plans.{plan_text}
-use Rattle.bank_maker.specs.Scripts.{turns, script_text}
+use Rattle.bank_maker.specs.Scripts.{turns, requests_from, script_text}
 
 -- the bank of the items that are drawn from the number
 abbrev pub bank_of_drill : ℕ → List ℕ
@@ -15,7 +16,11 @@ bank_of_drill number = bank_text (items number)
 abbrev pub plan_of_drill : ℕ → ℕ → List ℕ
 plan_of_drill number sessions = plan_text number sessions (items number)
 
--- the script, which draws on after the items
+-- the requests of the script, which draws on after the items
+abbrev pub requests_of_drill : ℕ → ℕ → List Request
+requests_of_drill number sessions = requests_from (state_after number draws_of_items) (turns sessions)
+
+-- the script
 abbrev pub script_of_drill : ℕ → ℕ → List ℕ
 script_of_drill number sessions = script_text (state_after number draws_of_items) (turns sessions)
 

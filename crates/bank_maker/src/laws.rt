@@ -1,9 +1,12 @@
-//! Values of the definitions that were computed outside.
+//! What the definitions mean: functions that do nothing, and whose clauses are laws.
 
-ghost use Rattle.std.specs.Prelude.{◌≡◌, ℕ, List, [], ◌∷◌};
+ghost use Rattle.std.specs.Prelude.{◌≡◌, ℕ, ◌≤◌, List, [], ◌∷◌, length};
 ghost use Rattle.history_model.specs.declared.request.Request.TheVariants.{Begin, Answer, Close};
+ghost use Rattle.replay_cli.specs.Scripts.{IsScript};
+ghost use Rattle.replay_cli.specs.Reading.{most_bytes};
 ghost use Rattle.bank_maker.specs.Draws.{draw, state_after};
 ghost use Rattle.bank_maker.specs.Items.{drawn, items, draws_of_items};
+ghost use Rattle.bank_maker.specs.Drills.{script_of_drill, requests_of_drill};
 ghost use Rattle.bank_maker.specs.Plans.{base_quantity};
 ghost use Rattle.bank_maker.specs.Scripts.{turns, requests_from};
 
@@ -16,4 +19,12 @@ pub fn drill_of_seven()
     ensures script { requests_from (state_after 7 draws_of_items) (turns 1)
         ≡ Begin 1 ∷ Answer 0 0 1 ∷ Answer 0 1 0 ∷ Answer 0 2 1 ∷ Answer 0 3 0 ∷ Answer 0 4 0 ∷ Answer 0 5 0
         ∷ Answer 0 6 1 ∷ Answer 0 7 1 ∷ Answer 0 8 0 ∷ Answer 0 9 0 ∷ Close 0 ∷ [] }
+{}
+
+/// The script of a drill is a script of its requests, and is short enough to be read.
+pub fn a_script_is_read()
+    ensures script { (number sessions : ℕ) → sessions ≤ 200
+        → IsScript (script_of_drill number sessions) (requests_of_drill number sessions) }
+    ensures short { (number sessions : ℕ) → sessions ≤ 200
+        → length (script_of_drill number sessions) ≤ most_bytes }
 {}
