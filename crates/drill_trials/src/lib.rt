@@ -1,6 +1,10 @@
-//! Tests of the drill: its texts against those of a second source. It promises nothing upward and
-//! holds no code of the product.
+//! Tests of the drill: its texts against those of a second source, its summary, and the lines that
+//! it prints. It promises nothing upward and holds no code of the product.
 #![tactic(auto)]
 
+#[cfg(test)]
+mod lines;
+#[cfg(test)]
+mod summaries;
 #[cfg(test)]
 mod texts;

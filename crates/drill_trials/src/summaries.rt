@@ -1,0 +1,33 @@
+//! The summaries of drills.
+
+ghost use Rattle.std.specs.Prelude.{◌≤◌};
+
+use exam_drill::run_drill;
+use history_model::Summary;
+use std::alloc::Global;
+use std::test::Fail;
+
+fn summary_of(rt: &HostRuntime, number: u32, sessions: u32) -> Result<Summary, Fail>
+    requires some { 1 ≤ sessions }
+    requires few { sessions ≤ 200 }
+{
+    match run_drill(rt.alloc(), number, sessions) {
+        Ok(summary) => Ok(summary),
+        Err(_) => Err(Fail::from("no summary")),
+    }
+}
+
+/// Two sessions: 2 starts, 31 items served, 30 answers and the close of the last session. The second
+/// run gives the same.
+#[test]
+fn two_sessions(rt: HostRuntime) -> Result<(), Fail> {
+    let summary = summary_of(&rt, 7, 2)?;
+    assert_eq!(rt; summary.entries, 64);
+    assert_eq!(rt; summary.sessions, 2);
+    assert_eq!(rt; summary.finished, 2);
+    assert_eq!(rt; summary.proved.wrapping_add(summary.unproved), 31);
+    assert_eq!(rt; summary.aside, 0);
+    let again = summary_of(&rt, 7, 2)?;
+    assert_eq!(rt; again, summary);
+    Ok(())
+}

@@ -1,0 +1,4 @@
+pub mod Reading
+pub mod Leading
+pub mod Drills
+pub mod Texts

@@ -1,0 +1,31 @@
+//! Why a drill has no summary.
+
+ghost use Rattle.std.specs.Prelude.{◌≡◌};
+ghost use Rattle.exam_drill.specs.declared.fault.DrillFault.TheVariants.{Memory};
+
+use bank_reader::ReadFault;
+use spec_reader::PlanFault;
+use std::alloc::AllocError;
+
+/// Why a drill has no summary.
+#[derive(Debug, Drop)]
+pub enum DrillFault {
+    /// The bank text is refused.
+    Bank(ReadFault),
+    /// The plan text is refused.
+    Plan(PlanFault),
+    /// The plan has no base form.
+    NoBase,
+    /// With its next record the journal would have `size` bytes, more than its limit of `most`.
+    JournalFull { size: u64, most: u64 },
+    /// Out of memory.
+    Memory,
+}
+
+impl From<AllocError> for DrillFault {
+    ghost from_gives = { λ _ e. e ≡ Memory };
+
+    fn from(_e: AllocError) -> DrillFault {
+        DrillFault::Memory
+    }
+}

@@ -1,0 +1,62 @@
+//! The texts of a drill, read as the texts of files are.
+
+ghost use Rattle.std.specs.Prelude.{◌≡◌, ◌≤◌, List, length, IfOk, IfErr};
+ghost use Rattle.bank_reader.specs.Reading.{bank_of};
+ghost use Rattle.exam_model.specs.Validity.{IsPlanFor};
+ghost use Rattle.history_model.specs.declared.request.Request.{Request};
+ghost use Rattle.replay_cli.specs.Scripts.{IsScript};
+ghost use Rattle.replay_cli.specs.Reading.{most_bytes};
+ghost use Rattle.spec_reader.specs.Reading.{IsPlanText};
+ghost use Rattle.exam_drill.specs.Reading.{IsBankRefused, IsPlanRefused};
+
+use crate::fault::DrillFault;
+use bank_reader::{ReadFault, read_bank};
+use bank_tables::Bank;
+use constraint_model::Spec;
+use exam_edge::MemorySource;
+use history_model::Request;
+use replay_cli::{ScriptFault, read_script};
+use spec_reader::{PlanFault, read_plan};
+use std::alloc::Global;
+
+/// The bank of a text.
+pub fn bank_of(alloc: Global, text: Vec<u8>) -> Result<Bank, DrillFault>
+    ensures ok { IfOk result (λ bank. bank_of text.items ≡ Ok bank) }
+    ensures err { IfErr result (IsBankRefused text.items) }
+{
+    let mut source = MemorySource::of(text, Vec::new(alloc));
+    match read_bank(alloc, &mut source) {
+        Ok(bank) => Ok(bank),
+        Err(ReadFault::Source) | Err(ReadFault::Memory) => Err(DrillFault::Memory),
+        Err(fault) => Err(DrillFault::Bank(fault)),
+    }
+}
+
+/// The plan of a text, valid for the bank.
+pub fn plan_of(alloc: Global, bank: &Bank, text: Vec<u8>) -> Result<Spec, DrillFault>
+    ensures ok { IfOk result (IsPlanText bank.now text.items) }
+    ensures valid { IfOk result (IsPlanFor bank.now) }
+    ensures err { IfErr result (IsPlanRefused bank.now text.items) }
+{
+    let mut source = MemorySource::of(text, Vec::new(alloc));
+    match read_plan(alloc, bank, &mut source) {
+        Ok(spec) => Ok(spec),
+        Err(PlanFault::Source) | Err(PlanFault::Memory) => Err(DrillFault::Memory),
+        Err(fault) => Err(DrillFault::Plan(fault)),
+    }
+}
+
+/// The requests of a script that is not too long.
+pub fn script_of(alloc: Global, text: Vec<u8>) -> Result<Vec<Request>, DrillFault>
+    requires script { (requests : List Request) × IsScript text.items requests }
+    requires short { length text.items ≤ most_bytes }
+    ensures ok { IfOk result (λ requests. IsScript text.items requests.items) }
+    ensures err { IfErr result (λ fault. fault ≡ DrillFault.Memory) }
+{
+    let mut source = MemorySource::of(text, Vec::new(alloc));
+    match read_script(alloc, &mut source) {
+        Ok(requests) => Ok(requests),
+        Err(ScriptFault::Source) | Err(ScriptFault::Memory) => Err(DrillFault::Memory),
+        Err(ScriptFault::TooLong) | Err(ScriptFault::Line(_)) => unreachable!(),
+    }
+}
