@@ -3,3 +3,5 @@ mod TextLaws
 mod PlanLaws
 mod ScriptLaws
 mod ReadableScripts
+mod ReadableBanks
+mod BankTexts

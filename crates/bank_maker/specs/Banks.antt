@@ -1,8 +1,8 @@
 -- The bank text of a drill.
-use Rattle.std.specs.Prelude.{ℕ, ◌-◌, List, [], ◌∷◌, ◌++◌, length, get_or, map, codes}
+use Rattle.std.specs.Prelude.{ℕ, ◌-◌, List, [], ◌∷◌, ◌++◌, length, get_or, map}
 use Rattle.std.specs.List.{flat_map, range_with_len}
 use Rattle.std.specs.Fmt.{decimal, signed_decimal}
-use Rattle.bank_tables.specs.Tables.{Item}
+use Rattle.bank_tables.specs.Tables.{Item, Tables}
 use Rattle.bank_reader.specs.declared.item.Shape.{Shape}
 use Rattle.bank_reader.specs.Columns.{width, name_of}
 use Rattle.bank_maker.specs.declared.item.DrawnItem.{DrawnItem}
@@ -32,6 +32,14 @@ header = record_text (name_of shape 0) (map (name_of shape) (range_with_len 1 (w
 -- the item past the last one
 abbrev pub no_item : DrawnItem
 no_item = record { peak = 0; height = 0; quantity = 0 }
+
+-- the bank that the text describes
+abbrev pub tables_of : List DrawnItem → Tables
+tables_of xs = record {
+  grid = 11;
+  quantities = 1;
+  items = map (λ i. row_of i (get_or xs i no_item)) (range_with_len 0 (length xs));
+}
 
 -- the header, and the record of each item, in order
 unfoldable pub bank_text : List DrawnItem → List ℕ

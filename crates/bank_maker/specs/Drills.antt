@@ -1,16 +1,21 @@
 -- The texts of a drill.
 use Rattle.std.specs.Prelude.{◌≡◌, ℕ, List}
+use Rattle.bank_tables.specs.Tables.{Tables}
 use Rattle.history_model.specs.declared.request.Request.{Request}
 use Rattle.bank_maker.specs.declared.drill.Made.{Made}
 use Rattle.bank_maker.specs.Draws.{state_after}
 use Rattle.bank_maker.specs.Items.{items, draws_of_items}
-use Rattle.bank_maker.specs.Banks.{bank_text}
+use Rattle.bank_maker.specs.Banks.{tables_of, bank_text}
 use Rattle.bank_maker.specs.Plans.{plan_text}
 use Rattle.bank_maker.specs.Scripts.{turns, requests_from, script_text}
 
 -- the bank of the items that are drawn from the number
 abbrev pub bank_of_drill : ℕ → List ℕ
 bank_of_drill number = bank_text (items number)
+
+-- the bank that it describes
+abbrev pub tables_of_drill : ℕ → Tables
+tables_of_drill number = tables_of (items number)
 
 -- their plan
 abbrev pub plan_of_drill : ℕ → ℕ → List ℕ

@@ -2,11 +2,12 @@
 
 ghost use Rattle.std.specs.Prelude.{◌≡◌, ℕ, ◌≤◌, List, [], ◌∷◌, length};
 ghost use Rattle.history_model.specs.declared.request.Request.TheVariants.{Begin, Answer, Close};
+ghost use Rattle.bank_reader.specs.Grammar.{IsBankText};
 ghost use Rattle.replay_cli.specs.Scripts.{IsScript};
 ghost use Rattle.replay_cli.specs.Reading.{most_bytes};
 ghost use Rattle.bank_maker.specs.Draws.{draw, state_after};
 ghost use Rattle.bank_maker.specs.Items.{drawn, items, draws_of_items};
-ghost use Rattle.bank_maker.specs.Drills.{script_of_drill, requests_of_drill};
+ghost use Rattle.bank_maker.specs.Drills.{bank_of_drill, tables_of_drill, script_of_drill, requests_of_drill};
 ghost use Rattle.bank_maker.specs.Plans.{base_quantity};
 ghost use Rattle.bank_maker.specs.Scripts.{turns, requests_from};
 
@@ -27,4 +28,9 @@ pub fn a_script_is_read()
         → IsScript (script_of_drill number sessions) (requests_of_drill number sessions) }
     ensures short { (number sessions : ℕ) → sessions ≤ 200
         → length (script_of_drill number sessions) ≤ most_bytes }
+{}
+
+/// The bank text of a drill is the text of its bank, by the grammar of bank texts.
+pub fn a_bank_is_read()
+    ensures { (number : ℕ) → IsBankText (bank_of_drill number) (tables_of_drill number) }
 {}
