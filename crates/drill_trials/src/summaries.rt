@@ -31,3 +31,16 @@ fn two_sessions(rt: HostRuntime) -> Result<(), Fail> {
     assert_eq!(rt; again, summary);
     Ok(())
 }
+
+/// Ten sessions: 10 starts, 191 items served, 190 answers and the close of the last session. All start
+/// before one is finished, so every item is eligible for each.
+#[test]
+fn ten_sessions(rt: HostRuntime) -> Result<(), Fail> {
+    let summary = summary_of(&rt, 1, 10)?;
+    assert_eq!(rt; summary.entries, 392);
+    assert_eq!(rt; summary.sessions, 10);
+    assert_eq!(rt; summary.finished, 10);
+    assert_eq!(rt; summary.proved.wrapping_add(summary.unproved), 191);
+    assert_eq!(rt; summary.aside, 0);
+    Ok(())
+}

@@ -1,11 +1,14 @@
 -- What the parts of a drill give together.
-use Rattle.std.proofs.Common.{◌≡◌, ◌∙◌, ℕ, List, [], refl, ap, subst}
+use Rattle.std.proofs.Common.{◌≡◌, ◌∙◌, ℕ, List, [], refl, ap, subst, sym}
 use Rattle.bank_tables.specs.Tables.{Tables}
 use Rattle.exam_model.specs.Plan.{Plan as Numbers}
 use Rattle.history_model.specs.declared.entry.Entry.{Entry}
 use Rattle.history_model.specs.declared.request.Request.{Request}
 use Rattle.history_model.specs.declared.summary.Summary.{Summary}
 use Rattle.history_model.specs.Judging.{empty}
+use Rattle.replay_cli.specs.Scripts.{IsScript}
+use Rattle.bank_maker.specs.declared.drill.Made.{Made}
+use Rattle.bank_maker.specs.Drills.{IsDrill, script_of_drill, requests_of_drill}
 use Rattle.history_model.specs.Summaries.{summary}
 use Rattle.answer_journal.specs.Frames.{payloads}
 use Rattle.exam_office.specs.Files.{Stands}
@@ -45,3 +48,9 @@ module _ {D : Type 0} (b : Tables) (plan : Numbers) (old new : Running D) (is_ba
 
   pub unsummed : (f : DrillFault) → IsStopped old.bank old.plan (history old.marks) requests f → IsExamFault b plan requests f
   unsummed f s = of_stop f (given (λ (x : Tables) (y : Numbers) (H : List Entry). IsStopped x y H requests f) s)
+
+-- ---- from the script that was made
+pub script_there : (number sessions : ℕ) (made : Made) → IsDrill number sessions made
+    → IsScript (script_of_drill number sessions) (requests_of_drill number sessions) → (requests : List Request) × IsScript made.script.items requests
+script_there number sessions made drill is =
+    (requests_of_drill number sessions, subst (λ (text : List ℕ). IsScript text (requests_of_drill number sessions)) (sym drill.script) is)

@@ -3,15 +3,12 @@
 ghost use Rattle.std.specs.Prelude.{◌≡◌};
 ghost use Rattle.exam_drill.specs.declared.fault.DrillFault.TheVariants.{Memory};
 
-use bank_reader::ReadFault;
 use spec_reader::PlanFault;
 use std::alloc::AllocError;
 
 /// Why a drill has no summary.
 #[derive(Debug, Drop)]
 pub enum DrillFault {
-    /// The bank text is refused.
-    Bank(ReadFault),
     /// The plan text is refused.
     Plan(PlanFault),
     /// The plan has no base form.

@@ -1,13 +1,15 @@
 //! The texts of a drill, read as the texts of files are.
 
-ghost use Rattle.std.specs.Prelude.{◌≡◌, ◌≤◌, List, length, IfOk, IfErr};
-ghost use Rattle.bank_reader.specs.Reading.{bank_of};
+ghost use Rattle.std.specs.Prelude.{◌≡◌, ◌≤◌, ◌⊎◌, List, length, IfOk, IfErr};
+ghost use Rattle.bank_reader.specs.Grammar.{IsBankText};
+ghost use Rattle.bank_reader.specs.declared.fault.ReadFault.TheVariants as read_fault;
+ghost use Rattle.bank_tables.specs.Tables.{Tables};
 ghost use Rattle.exam_model.specs.Validity.{IsPlanFor};
 ghost use Rattle.history_model.specs.declared.request.Request.{Request};
 ghost use Rattle.replay_cli.specs.Scripts.{IsScript};
 ghost use Rattle.replay_cli.specs.Reading.{most_bytes};
 ghost use Rattle.spec_reader.specs.Reading.{IsPlanText};
-ghost use Rattle.exam_drill.specs.Reading.{IsBankRefused, IsPlanRefused};
+ghost use Rattle.exam_drill.specs.Reading.{IsPlanRefused};
 
 use crate::fault::DrillFault;
 use bank_reader::{ReadFault, read_bank};
@@ -19,16 +21,27 @@ use replay_cli::{ScriptFault, read_script};
 use spec_reader::{PlanFault, read_plan};
 use std::alloc::Global;
 
-/// The bank of a text.
+/// The fault that ends a drill where a bank text was not read.
+fn fault_of(fault: ReadFault) -> DrillFault
+    requires { (fault ≡ read_fault.Memory) ⊎ (fault ≡ read_fault.Source) }
+    ensures { result ≡ DrillFault.Memory }
+{
+    match fault {
+        ReadFault::Source | ReadFault::Memory => DrillFault::Memory,
+        _ => unreachable!(),
+    }
+}
+
+/// The bank of a bank text.
 pub fn bank_of(alloc: Global, text: Vec<u8>) -> Result<Bank, DrillFault>
-    ensures ok { IfOk result (λ bank. bank_of text.items ≡ Ok bank) }
-    ensures err { IfErr result (IsBankRefused text.items) }
+    requires { (b : Tables) × IsBankText text.items b }
+    ensures ok { IfOk result (IsBankText text.items) }
+    ensures err { IfErr result (λ fault. fault ≡ DrillFault.Memory) }
 {
     let mut source = MemorySource::of(text, Vec::new(alloc));
     match read_bank(alloc, &mut source) {
         Ok(bank) => Ok(bank),
-        Err(ReadFault::Source) | Err(ReadFault::Memory) => Err(DrillFault::Memory),
-        Err(fault) => Err(DrillFault::Bank(fault)),
+        Err(fault) => Err(fault_of(fault)),
     }
 }
 
