@@ -1,0 +1,82 @@
+-- The definition, computed on command lines.
+use Rattle.std.proofs.Common.{◌≡◌, ℕ, List, [], ◌∷◌, Some, None, refl, codes}
+use Rattle.exam_text.specs.Numbers.{number_of}
+use Rattle.command_line.specs.Commands.{Check, Assemble, Replay, Serve, Drill, command_of, table, of_two, drill_of}
+
+-- ---- the words of the table
+a_check : command_of (codes "check" ∷ codes "b" ∷ codes "p" ∷ []) ≡ Some (Check (codes "b") (codes "p"))
+unfolding command_of table of_two
+a_check = refl
+
+an_assembly : command_of (codes "assemble" ∷ codes "b" ∷ codes "p" ∷ []) ≡ Some (Assemble (codes "b") (codes "p"))
+unfolding command_of table of_two
+an_assembly = refl
+
+a_replay : command_of (codes "replay" ∷ codes "b" ∷ codes "p" ∷ codes "s" ∷ []) ≡ Some (Replay (codes "b") (codes "p") (codes "s"))
+unfolding command_of table
+a_replay = refl
+
+a_server : command_of (codes "serve" ∷ codes "b" ∷ codes "p" ∷ []) ≡ Some (Serve (codes "b") (codes "p"))
+unfolding command_of table of_two
+a_server = refl
+
+a_drill : command_of (codes "drill" ∷ codes "7" ∷ codes "2" ∷ []) ≡ Some (Drill 7 2)
+unfolding command_of table of_two drill_of number_of
+a_drill = refl
+
+the_greatest : command_of (codes "drill" ∷ codes "4294967295" ∷ codes "200" ∷ []) ≡ Some (Drill 4294967295 200)
+unfolding command_of table of_two drill_of number_of
+the_greatest = refl
+
+the_least : command_of (codes "drill" ∷ codes "0" ∷ codes "1" ∷ []) ≡ Some (Drill 0 1)
+unfolding command_of table of_two drill_of number_of
+the_least = refl
+
+-- ---- others
+no_words : command_of [] ≡ None
+unfolding command_of table
+no_words = refl
+
+help : command_of (codes "help" ∷ []) ≡ None
+unfolding command_of table
+help = refl
+
+too_few : command_of (codes "replay" ∷ codes "b" ∷ codes "p" ∷ []) ≡ None
+unfolding command_of table of_two
+too_few = refl
+
+too_many : command_of (codes "check" ∷ codes "b" ∷ codes "p" ∷ codes "s" ∷ []) ≡ None
+unfolding command_of table
+too_many = refl
+
+an_empty_word : command_of (codes "check" ∷ [] ∷ codes "p" ∷ []) ≡ None
+unfolding command_of
+an_empty_word = refl
+
+a_hyphen : command_of (codes "check" ∷ codes "b" ∷ codes "-p" ∷ []) ≡ None
+unfolding command_of
+a_hyphen = refl
+
+-- ---- drills out of range, and numbers that are not plain
+abbrev NoDrill : List (List ℕ) → Type 0
+NoDrill words = command_of (codes "drill" ∷ words) ≡ None
+
+too_many_sessions : NoDrill (codes "7" ∷ codes "201" ∷ [])
+unfolding command_of table of_two drill_of number_of
+too_many_sessions = refl
+
+no_sessions : NoDrill (codes "7" ∷ codes "0" ∷ [])
+unfolding command_of table of_two drill_of number_of
+no_sessions = refl
+
+too_great : NoDrill (codes "4294967296" ∷ codes "2" ∷ [])
+unfolding command_of table of_two drill_of number_of
+too_great = refl
+
+a_leading_zero : NoDrill (codes "07" ∷ codes "2" ∷ [])
+unfolding command_of table of_two drill_of number_of
+a_leading_zero = refl
+
+a_sign : NoDrill (codes "+7" ∷ codes "2" ∷ [])
+unfolding command_of table of_two drill_of number_of
+a_sign = refl

@@ -1,0 +1,90 @@
+//! The commands, and the table of their words.
+
+ghost use Rattle.std.specs.Prelude.{◌≡◌, map};
+ghost use Rattle.std.specs.Option.{option_map};
+ghost use Rattle.command_line.specs.Commands.{drill_of, of_two, table, said};
+
+/// What the words ask for.
+#[derive(Clone, Copy, Debug)]
+pub enum Command<'a> {
+    /// Read the bank and the plan, and print what was understood.
+    Check {
+        bank: &'a str,
+        plan: &'a str,
+    },
+    /// Assemble a form of the whole problem, and print it with its tree.
+    Assemble {
+        bank: &'a str,
+        plan: &'a str,
+    },
+    /// Serve the sessions of a script over the journal.
+    Replay {
+        bank: &'a str,
+        plan: &'a str,
+        script: &'a str,
+    },
+    /// Serve the sessions of connections over the journal.
+    Serve {
+        bank: &'a str,
+        plan: &'a str,
+    },
+    /// Make a bank, a plan and a script of 1 to 200 sessions from a number, and do the script over a
+    /// disk in memory.
+    Drill {
+        number: u32,
+        sessions: u32,
+    },
+}
+
+#[tactic(auto, unfolding(crate::specs::Commands::drill_of))]
+fn drill_of<'a>(number: &str, sessions: &str) -> Option<Command<'a>>
+    ensures { option_map said result ≡ drill_of number.now sessions.now }
+{
+    let number = exam_text::number(number.as_bytes(), 4_294_967_295)?;
+    let sessions = exam_text::number(sessions.as_bytes(), 200)?;
+    if sessions == 0 {
+        return None;
+    }
+    Some(Command::Drill {
+        number: number as u32,
+        sessions: sessions as u32,
+    })
+}
+
+#[tactic(auto, unfolding(crate::specs::Commands::of_two))]
+fn of_two<'a>(word: &str, first: &'a str, second: &'a str) -> Option<Command<'a>>
+    ensures { option_map said result ≡ of_two word.now first.now second.now }
+{
+    match word {
+        "check" => Some(Command::Check {
+            bank: first,
+            plan: second,
+        }),
+        "assemble" => Some(Command::Assemble {
+            bank: first,
+            plan: second,
+        }),
+        "serve" => Some(Command::Serve {
+            bank: first,
+            plan: second,
+        }),
+        "drill" => drill_of(first, second),
+        _ => None,
+    }
+}
+
+/// The command that the table has for the words.
+#[tactic(auto, unfolding(crate::specs::Commands::table))]
+pub(crate) fn in_table<'a>(words: &[&'a str]) -> Option<Command<'a>>
+    ensures { option_map said result ≡ table (map (λ w. w.now) words.now) }
+{
+    match words {
+        [word, first, second] => of_two(*word, *first, *second),
+        [word, bank, plan, script] if *word == "replay" => Some(Command::Replay {
+            bank: *bank,
+            plan: *plan,
+            script: *script,
+        }),
+        _ => None,
+    }
+}

@@ -1,0 +1,11 @@
+//! What the words of a command line ask for. `clap` reads the words.
+//!
+//! Upward it promises the command that the table of commands has for the words, or that the table
+//! has none. Out of memory is its only error. It opens no file and does no command's work.
+#![tactic(auto)]
+
+mod command;
+mod words;
+
+pub use command::Command;
+pub use words::command_of;
