@@ -1,14 +1,12 @@
 -- Accepted texts, and files and a disk that never failed, leave few statuses.
-use Rattle.std.proofs.Common.{◌≡◌, ℕ, ◌≤◌, ◌⊎◌, inl, inr, Bool, List, length, Option, Some, None, Result, Ok, Err, IsTrue, refl, sym, ap, ◌∙◌, subst, arith}
-use Rattle.std.specs.Option.{option_map}
-use Rattle.bank_tables.specs.Items.{Set, has}
+use Rattle.std.proofs.Common.{◌≡◌, ℕ, ◌≤◌, ◌⊎◌, inl, inr, Bool, List, length, Option, Some, None, Result, Ok, Err, IsTrue, refl, ap, ◌∙◌, subst, arith}
+use Rattle.bank_tables.specs.Items.{has}
 use Rattle.bank_tables.specs.Tables.{Tables}
 use Rattle.bank_reader.specs.declared.fault.ReadFault.{ReadFault}
 use Rattle.bank_reader.specs.Reading.{bank_of}
 use Rattle.spec_reader.specs.declared.plan_fault.PlanFault.{PlanFault}
 use Rattle.spec_reader.specs.Reading.{IsReadFault}
-use Rattle.spec_reader.specs.Plans.{SaidPlan, plan_said}
-use Rattle.spec_reader.proofs.SameLaws.{one_plan, only_outside}
+use Rattle.spec_reader.proofs.SameLaws.{only_outside}
 use Rattle.exam_edge.specs.Faults.{Rose}
 use Rattle.exam_model.specs.Plan.{Plan}
 use Rattle.exam_model.specs.ProofTrees.{ProofTree}
@@ -24,10 +22,11 @@ use Rattle.replay_cli.proofs.ReadLaws.{no_fault}
 use Rattle.exam_program.specs.Bases.{ShowsNoForm, ShowsNoBase}
 use Rattle.exam_program.specs.Commands.{Command, Check, Assemble, Replay, command_of, bank_name, plan_name}
 use Rattle.exam_program.specs.Halts.{IsPlanIn, IsOfText, Reads, IsScriptIn}
-use Rattle.exam_program.specs.Laws.{CheckIsComplete, AssembleIsComplete, ReplayIsComplete}
+use Rattle.exam_program.specs.Laws.{CheckIsComplete, AssembleIsComplete, ReplayIsComplete, MeetsLimit, of_sessions, of_journal}
 use Rattle.exam_program.specs.Outside.{Outside}
 use Rattle.exam_program.specs.Replays.{IsOfFile, IsJournalRefused}
 use Rattle.exam_program.proofs.BaseLaws.{whole_form}
+use Rattle.exam_program.proofs.OnePlan.{one_plan_in}
 use Rattle.exam_program.specs.Outcomes.{IsReady, IsReplayOf, Outcome, faulty_words, bank_refused, plan_refused, script_refused, checked, form_found, without_form, without_base_form, journal_refused, replayed, sessions_full, journal_full, without_files, without_journal, without_disk, without_memory, without_more_memory}
 
 -- ---- a reading is one
@@ -43,26 +42,15 @@ command_same o c d e f = cc
 bank_same : (r : Result Tables ReadFault) (b c : Tables) → r ≡ Ok b → r ≡ Ok c → b ≡ c
 bank_same r b c e f = cc
 
-some_base : (o : Option (List ℕ)) (X : Set) → option_map has o ≡ Some X → (words : List ℕ) × (o ≡ Some words)
-some_base (Some words) X e = (words, refl)
-some_base None X e = cc
-
--- two plans that a text describes alike: if the one has a base, so has the other
-has_base : (p q : Plan) (base : List ℕ) → plan_said p ≡ plan_said q → p.base ≡ Some base → (other : List ℕ) × (q.base ≡ Some other)
-has_base p q base same e =
-    let said : option_map has q.base ≡ Some (has base) = ap (λ (s : SaidPlan). s.base) (sym same) ∙ ap (option_map has) e in
-    some_base q.base (has base) said
-
--- two readings of the same files: the plan of the one has a base where that of the other has
-base_there : (named : List ℕ → Bool) (content : List ℕ → List ℕ) (bank plan base : List ℕ) (b c : Tables) (p q : Plan)
+-- two readings of the same files give one plan
+plan_same : (named : List ℕ → Bool) (content : List ℕ → List ℕ) (bank plan : List ℕ) (b c : Tables) (p q : Plan)
     → Reads named content bank plan b p
-    → p.base ≡ Some base
     → Reads named content bank plan c q
-    → (other : List ℕ) × (q.base ≡ Some other)
-base_there named content bank plan base b c p q first e second =
+    → (c ≡ b) × (q ≡ p)
+plan_same named content bank plan b c p q first second =
     let same = bank_same (bank_of (content bank)) c b second.says_bank first.says_bank in
     let there = subst (λ (t : Tables). IsPlanIn t (content plan) q) same second.says_plan in
-    has_base p q base (one_plan b (content plan) p q first.says_plan.says there.says) e
+    (same, one_plan_in b (content plan) q p there first.says_plan)
 
 -- a base is a form of the whole problem
 form_there : (named : List ℕ → Bool) (content : List ℕ → List ℕ) (bank plan base : List ℕ) (b c : Tables) (p q : Plan) (T : ProofTree)
@@ -72,8 +60,8 @@ form_there : (named : List ℕ → Bool) (content : List ℕ → List ℕ) (bank
     → ShowsNoForm c q T
     → ⊥
 form_there named content bank plan base b c p q T first e second shows =
-    let (other, is) = base_there named content bank plan base b c p q first e second in
-    shows.none.none (has other) (whole_form c q shows.problem (has other) shows.whole (second.says_plan.valid.base_meets other is))
+    let is : q.base ≡ Some base = ap (λ (x : Plan). x.base) (plan_same named content bank plan b c p q first second).1 ∙ e in
+    shows.none.none (has base) (whole_form c q shows.problem (has base) shows.whole (second.says_plan.valid.base_meets base is))
 
 no_base_there : (named : List ℕ → Bool) (content : List ℕ → List ℕ) (bank plan base : List ℕ) (b c : Tables) (p q : Plan) (T : ProofTree)
     → Reads named content bank plan b p
@@ -81,7 +69,8 @@ no_base_there : (named : List ℕ → Bool) (content : List ℕ → List ℕ) (b
     → Reads named content bank plan c q
     → ShowsNoBase c q T
     → ⊥
-no_base_there named content bank plan base b c p q T first e second shows = let (other, is) = base_there named content bank plan base b c p q first e second in none_some q.base other is shows.no_base
+no_base_there named content bank plan base b c p q T first e second shows =
+    none_some q.base base (ap (λ (x : Plan). x.base) (plan_same named content bank plan b c p q first second).1 ∙ e) shows.no_base
 
 -- an accepted plan text has no fault of its own
 no_plan_fault : (b c : Tables) (text : List ℕ) (p : Plan) (f : PlanFault) → c ≡ b → IsPlanIn b text p → IsOfText f → IsReadFault c text f → ⊥
@@ -99,7 +88,12 @@ no_script_fault text script script_fault.TooLong is of_script halts = omega (ari
 no_script_fault text script (script_fault.Line n) is of_script halts = no_fault text script n is.says halts.1
 
 -- a file that represents a history is not refused
-no_journal_fault : (b : Tables) (p : Plan) (o : Outside) (f : OpenFault) (H : List Entry) → Stands b p H o.disk.found → length o.disk.found ≤ p.journal → IsTrue o.disk.told → IsJournalRefused b p o.disk f → ⊥
+no_journal_fault : (b : Tables) (p : Plan) (o : Outside) (f : OpenFault) (H : List Entry)
+    → Stands b p H o.disk.found
+    → length o.disk.found ≤ p.journal
+    → IsTrue o.disk.told
+    → IsJournalRefused b p o.disk f
+    → ⊥
 no_journal_fault b p o f H stands short told is = elim (standing_is_opened b p H o.disk.found f stands short (is.answer told)) [
   | inl e ↦ subst (λ (g : OpenFault). IsOfFile g) e is.of_file
   | inr e ↦ subst (λ (g : OpenFault). IsOfFile g) e is.of_file
@@ -125,15 +119,15 @@ HasJournal (Check bank plan) = ⊥
 HasJournal (Assemble bank plan) = ⊥
 HasJournal (Replay bank plan name) = Unit {0}
 
-data Left (o : Outside) (command : Command) : ℕ → Type 0 where
-  done : Left o command 0
-  memory : Left o command 10
-  no_form : (b : Tables) (p : Plan) (T : ProofTree) → IsReady o.named o.content command b p → ShowsNoForm b p T → Left o command 11
-  no_base : (b : Tables) (p : Plan) (T : ProofTree) → IsReady o.named o.content command b p → ShowsNoBase b p T → Left o command 12
-  no_script : NoScript o command → Left o command 5
-  no_journal : NoJournal o command → Left o command 6
-  limit : HasJournal command → Left o command 13
-  disk : HasJournal command → Rose o.disk.before o.disk.after → Left o command 9
+data Left (words : List (List ℕ)) (o : Outside) (command : Command) : ℕ → Type 0 where
+  done : Left words o command 0
+  memory : Left words o command 10
+  no_form : (b : Tables) (p : Plan) (T : ProofTree) → IsReady o.named o.content command b p → ShowsNoForm b p T → Left words o command 11
+  no_base : (b : Tables) (p : Plan) (T : ProofTree) → IsReady o.named o.content command b p → ShowsNoBase b p T → Left words o command 12
+  no_script : NoScript o command → Left words o command 5
+  no_journal : NoJournal o command → Left words o command 6
+  limit : HasJournal command → MeetsLimit words o → Left words o command 13
+  disk : HasJournal command → Rose o.disk.before o.disk.after → Left words o command 9
 
 module _ (words : List (List ℕ)) (o : Outside) (command : Command) (e : command_of words ≡ Some command) where
   same_command : (other : Command) → command_of words ≡ Some other → other ≡ command
@@ -143,7 +137,7 @@ module _ (words : List (List ℕ)) (o : Outside) (command : Command) (e : comman
   has_journal b p script base is = subst HasJournal (same_command (Replay is.bank is.plan is.name) is.asked) tt
 
   left : (b : Tables) (p : Plan) (status : ℕ) (text : List ℕ) → Reads o.named o.content (bank_name command) (plan_name command) b p
-      → (Rose o.files_before o.files_after → ⊥) → Outcome words o status text → Left o command status
+      → (Rose o.files_before o.files_after → ⊥) → Outcome words o status text → Left words o command status
   left b p _ _ reads quiet (faulty_words f untouched) = absurd (none_some (command_of words) command e f)
   left b p _ _ reads quiet (bank_refused other why f found is untouched) =
       absurd (ok_err (bank_of (o.content (bank_name command))) b why reads.says_bank (subst (λ (c : Command). bank_of (o.content (bank_name c)) ≡ Err why) (same_command other f) is))
@@ -159,8 +153,10 @@ module _ (words : List (List ℕ)) (o : Outside) (command : Command) (e : comman
   left b p _ _ reads quiet (journal_refused c q script base why is refusal) =
       no_journal (subst (NoJournal o) (same_command (Replay is.bank is.plan is.name) is.asked) (c, q, why, is.reads.reads, refusal))
   left b p _ _ reads quiet (replayed c q script base H G replies is way) = done
-  left b p _ _ reads quiet (sessions_full c q script base H G request rest replies count is way why) = limit (has_journal c q script base is)
-  left b p _ _ reads quiet (journal_full c q script base H G request rest replies K now size is way full at) = limit (has_journal c q script base is)
+  left b p _ _ reads quiet (sessions_full c q script base H G request rest replies count is way why) =
+      limit (has_journal c q script base is) (of_sessions c q script base H G request rest replies count is way why)
+  left b p _ _ reads quiet (journal_full c q script base H G request rest replies K now size is way full at) =
+      limit (has_journal c q script base is) (of_journal c q script base H G request rest replies K now size is way full)
   left b p _ _ reads quiet (without_files other f rose untouched) = absurd (quiet rose)
   left b p _ _ reads quiet (without_journal c q script base is so) = disk (has_journal c q script base is) so.rose
   left b p _ _ reads quiet (without_disk c q script base H G rest replies is way rose) = disk (has_journal c q script base is) rose
@@ -171,41 +167,44 @@ module _ (words : List (List ℕ)) (o : Outside) (command : Command) (e : comman
 pub check_is_complete : CheckIsComplete
 check_is_complete words o bank plan b p status text e reads quiet outcome = of status (left words o (Check bank plan) e b p status text reads quiet outcome)
   where
-    of : (s : ℕ) → Left o (Check bank plan) s → (s ≡ 0) ⊎ (s ≡ 10)
+    of : (s : ℕ) → Left words o (Check bank plan) s → (s ≡ 0) ⊎ (s ≡ 10)
     of _ done = inl refl
     of _ memory = inr refl
     of _ (no_form c q T ready shows) = absurd ready
     of _ (no_base c q T ready shows) = absurd ready
     of _ (no_script none) = absurd none
     of _ (no_journal none) = absurd none
-    of _ (limit none) = absurd none
+    of _ (limit none met) = absurd none
     of _ (disk none rose) = absurd none
 
 pub assemble_is_complete : AssembleIsComplete
 assemble_is_complete words o bank plan base b p status text e reads with_base quiet outcome = of status (left words o (Assemble bank plan) e b p status text reads quiet outcome)
   where
-    of : (s : ℕ) → Left o (Assemble bank plan) s → (s ≡ 0) ⊎ (s ≡ 10)
+    of : (s : ℕ) → Left words o (Assemble bank plan) s → (s ≡ 0) ⊎ (s ≡ 10)
     of _ done = inl refl
     of _ memory = inr refl
     of _ (no_form c q T ready shows) = absurd (form_there o.named o.content bank plan base b c p q T reads with_base ready shows)
     of _ (no_base c q T ready shows) = absurd (no_base_there o.named o.content bank plan base b c p q T reads with_base ready shows)
     of _ (no_script none) = absurd none
     of _ (no_journal none) = absurd none
-    of _ (limit none) = absurd none
+    of _ (limit none met) = absurd none
     of _ (disk none rose) = absurd none
 
 pub replay_is_complete : ReplayIsComplete
-replay_is_complete words o bank plan name base b p script status text e reads with_base says told of_history quiet disk_quiet outcome =
+replay_is_complete words o bank plan name base b p script H status text e reads with_base says told stands short within quiet disk_quiet outcome =
     of status (left words o (Replay bank plan name) e b p status text reads quiet outcome)
   where
-    of : (s : ℕ) → Left o (Replay bank plan name) s → (s ≡ 0) ⊎ ((s ≡ 10) ⊎ (s ≡ 13))
+    of : (s : ℕ) → Left words o (Replay bank plan name) s → (s ≡ 0) ⊎ (s ≡ 10)
     of _ done = inl refl
-    of _ memory = inr (inl refl)
+    of _ memory = inr refl
     of _ (no_form c q T ready shows) = absurd (form_there o.named o.content bank plan base b c p q T reads with_base ready.0 shows)
     of _ (no_base c q T ready shows) = absurd (no_base_there o.named o.content bank plan base b c p q T reads with_base ready.0 shows)
     of _ (no_script none) = absurd (no_script_fault (o.content name) script none.0 says none.1 none.2)
     of _ (no_journal none) =
-        let h = of_history none.0 none.1 none.3 in
-        absurd (no_journal_fault none.0 none.1 o none.2 h.0 h.1 h.2 told none.4)
-    of _ (limit has) = inr (inr refl)
+        (let (bank_is, plan_is) = plan_same o.named o.content bank plan b none.0 p none.1 reads none.3 in
+        let refused : IsJournalRefused b p o.disk none.2 =
+        subst (λ (x : Plan). IsJournalRefused b x o.disk none.2) plan_is
+        (subst (λ (t : Tables). IsJournalRefused t none.1 o.disk none.2) bank_is none.4) in
+        absurd (no_journal_fault b p o none.2 H stands short told refused))
+    of _ (limit has met) = absurd (within met)
     of _ (disk has rose) = absurd (disk_quiet rose)

@@ -1,5 +1,6 @@
 pub mod BaseLaws
 pub mod Completeness
+pub mod OnePlan
 pub mod OutcomeLaws
 pub mod ReplayLaws
 pub mod RequestLaws

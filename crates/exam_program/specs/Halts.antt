@@ -14,6 +14,7 @@ use Rattle.replay_cli.specs.Reading.{IsScriptFault, most_bytes as longest_script
 use Rattle.exam_program.specs.declared.halt.Halt.{Halt}
 use Rattle.exam_program.specs.declared.halt.Halt.TheVariants.{Bank, Plan, Script, NoForm, NoBaseForm, Files, Sink, Memory}
 use Rattle.exam_program.specs.Bases.{ShowsNoForm, ShowsNoBase}
+use Rattle.exam_program.specs.ItemSets.{HasItemSets}
 use Rattle.exam_program.specs.Texts.{no_form, no_base_form}
 
 -- the bank text is there and refused with this fault, unless its files failed or memory ran out
@@ -24,11 +25,12 @@ HaltsAtBank there text Memory = Unit {0}
 HaltsAtBank there text halt = ⊥
 
 -- the text is a plan text for the bank that is not too long; it describes this plan, which is valid
--- for the bank
+-- for the bank, and whose sets are 8 words of 64 bits each. So a text describes one plan
 pub record IsPlanIn (b : Tables) (text : List ℕ) (plan : Numbers) : Type 0 where
   pub short : length text ≤ most_bytes
   pub says : IsPlanText b text plan
   pub valid : IsPlanFor b plan
+  pub sets : HasItemSets plan
 
 -- a fault of the text itself
 abbrev pub IsOfText : PlanFault → Type 0

@@ -1,5 +1,5 @@
 -- What the definitions imply, as the public laws state it.
-use Rattle.std.specs.Prelude.{◌≡◌, ℕ, ◌⊎◌, ◌<◌, ◌≤◌, IsTrue, List, Some, Ok, length}
+use Rattle.std.specs.Prelude.{◌≡◌, ℕ, ◌⊎◌, ◌<◌, ◌≤◌, IsTrue, List, ◌∷◌, Some, Ok, length}
 use Rattle.hex.specs.Hex.{decode_of, encode_lower}
 use Rattle.bank_tables.specs.Tables.{Tables}
 use Rattle.exam_edge.specs.Faults.{Rose}
@@ -7,10 +7,12 @@ use Rattle.exam_model.specs.Forms.{Meets}
 use Rattle.exam_model.specs.Seats.{is_shown}
 use Rattle.history_model.specs.declared.entry.Entry.{Entry}
 use Rattle.history_model.specs.declared.place.Place.TheVariants.{Complete}
+use Rattle.history_model.specs.declared.refusal.Refusal.TheVariants.{SessionsFull}
 use Rattle.history_model.specs.declared.request.Reply.{Reply}
 use Rattle.history_model.specs.declared.request.Request.{Request}
 use Rattle.history_model.specs.Entries.{seat_of}
 use Rattle.history_model.specs.Places.{place}
+use Rattle.history_model.specs.Refusals.{refusal_of}
 use Rattle.exam_office.specs.Files.{Stands}
 use Rattle.exam_model.specs.Plan.{Plan}
 use Rattle.exam_model.specs.ProofTrees.{ProofTree}
@@ -18,10 +20,10 @@ use Rattle.proof_tree.specs.Shape.{IsTree}
 use Rattle.proof_tree.specs.Spelling.{bytes_of}
 use Rattle.proof_tree.specs.Reading.{read}
 use Rattle.exam_program.specs.Commands.{Check, Assemble, Replay, command_of}
-use Rattle.exam_program.specs.Halts.{Reads, IsScriptIn}
-use Rattle.exam_program.specs.Outcomes.{Outcome}
+use Rattle.exam_program.specs.Halts.{IsPlanIn, Reads, IsScriptIn}
+use Rattle.exam_program.specs.Outcomes.{IsReplayOf, Outcome}
 use Rattle.exam_program.specs.Outside.{Outside, DiskSeen}
-use Rattle.exam_program.specs.Replays.{IsUnderWay}
+use Rattle.exam_program.specs.Replays.{IsUnderWay, IsFullAt}
 use Rattle.exam_program.specs.Texts.{tree_text}
 
 -- ---- a printed tree is read again
@@ -37,6 +39,10 @@ PrintedTreeIsReadBack = (T : ProofTree) → IsTree T → IsReadBack T
 -- so the text of a tree is that of no other
 abbrev pub OneTreeOfText : Type 0
 OneTreeOfText = (T U : ProofTree) → IsTree T → IsTree U → tree_text T ≡ tree_text U → T ≡ U
+
+-- ---- a plan text describes one plan
+abbrev pub OnePlanOfText : Type 0
+OnePlanOfText = (b : Tables) (text : List ℕ) (p q : Plan) → IsPlanIn b text p → IsPlanIn b text q → p ≡ q
 
 -- ---- completeness: where the texts are accepted and no fault of the files was counted
 
@@ -61,28 +67,37 @@ AssembleIsComplete =
     → Outcome words o status text
     → (status ≡ 0) ⊎ (status ≡ 10)
 
--- the file represents a history of the bank and the plan that the texts describe, within the
--- journal's limit
-abbrev pub IsOfHistory : Outside → List ℕ → List ℕ → Type 0
-IsOfHistory o bank plan =
-    (b : Tables) (p : Plan) → Reads o.named o.content bank plan b p
-    → (H : List Entry) × Stands b p H o.disk.found × (length o.disk.found ≤ p.journal)
+-- the next request of a replay meets a limit of the plan: that of the sessions, or, with an entry of
+-- the request, that of the journal
+pub data MeetsLimit (words : List (List ℕ)) (o : Outside) : Type 0 where
+  of_sessions : (b : Tables) (p : Plan) (script : List Request) (base : List ℕ) (H G : List Entry)
+      (request : Request) (rest : List Request) (replies : List Reply) (count : ℕ)
+      → IsReplayOf words o b p script base
+      → IsUnderWay b p base o.disk script H G (request ∷ rest) replies
+      → refusal_of b p G request ≡ Some (SessionsFull count) → MeetsLimit words o
+  of_journal : (b : Tables) (p : Plan) (script : List Request) (base : List ℕ) (H G : List Entry)
+      (request : Request) (rest : List Request) (replies : List Reply) (K : List Entry)
+      (now size : ℕ) → IsReplayOf words o b p script base
+      → IsUnderWay b p base o.disk script H G (request ∷ rest) replies
+      → IsFullAt b p G request K now size → MeetsLimit words o
 
--- and so does replay, where the script is one, the plan has a base and no fault of the disk was
--- counted; or it meets a limit of the plan
+-- and so does replay, where the plan has a base, the script is one, the file represents a history
+-- within the journal's limit, no limit of the plan is met and no fault of the disk was counted
 abbrev pub ReplayIsComplete : Type 0
 ReplayIsComplete =
-    (words : List (List ℕ)) (o : Outside) (bank plan name base : List ℕ) (b : Tables) (p : Plan) (script : List Request) (status : ℕ) (text : List ℕ)
+    (words : List (List ℕ)) (o : Outside) (bank plan name base : List ℕ) (b : Tables) (p : Plan) (script : List Request) (H : List Entry) (status : ℕ) (text : List ℕ)
     → command_of words ≡ Some (Replay bank plan name)
     → Reads o.named o.content bank plan b p
     → p.base ≡ Some base
     → IsScriptIn (o.content name) script
     → IsTrue o.disk.told
-    → IsOfHistory o bank plan
+    → Stands b p H o.disk.found
+    → length o.disk.found ≤ p.journal
+    → (MeetsLimit words o → ⊥)
     → (Rose o.files_before o.files_after → ⊥)
     → (Rose o.disk.before o.disk.after → ⊥)
     → Outcome words o status text
-    → (status ≡ 0) ⊎ ((status ≡ 10) ⊎ (status ≡ 13))
+    → (status ≡ 0) ⊎ (status ≡ 10)
 
 -- ---- what a replay leaves
 -- the items shown in each complete session meet the plan

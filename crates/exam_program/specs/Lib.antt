@@ -6,5 +6,6 @@ pub mod Outside
 pub mod Replays
 pub mod Stopping
 pub mod Halts
+pub mod ItemSets
 pub mod Outcomes
 pub mod Laws

@@ -1,6 +1,6 @@
 //! What the definitions imply, for all words and all files.
 
-ghost use Rattle.exam_program.specs.Laws.{PrintedTreeIsReadBack, OneTreeOfText, CheckIsComplete, AssembleIsComplete, ReplayIsComplete, CompleteSessionsMeet};
+ghost use Rattle.exam_program.specs.Laws.{PrintedTreeIsReadBack, OneTreeOfText, OnePlanOfText, CheckIsComplete, AssembleIsComplete, ReplayIsComplete, CompleteSessionsMeet};
 
 /// A tree that is printed can be read: its digits give its bytes, and these give the tree.
 pub fn a_printed_tree_is_read_back()
@@ -10,6 +10,11 @@ pub fn a_printed_tree_is_read_back()
 /// No other tree is printed so.
 pub fn one_tree_of_a_text()
     ensures { OneTreeOfText }
+{}
+
+/// A text is read as one plan.
+pub fn one_plan_of_a_text()
+    ensures { OnePlanOfText }
 {}
 
 /// `check` over accepted texts and files that never failed ends with status 0, or 10.
@@ -22,8 +27,8 @@ pub fn assemble_is_complete()
     ensures { AssembleIsComplete }
 {}
 
-/// `replay` of a plan with a base, a script in its form and a journal of the plan ends so too, or with status 13 where a limit
-/// of the plan is met.
+/// So does `replay` of a plan with a base, a script in its form and a journal of the plan, if it meets no limit of the plan
+/// and the disk never failed.
 pub fn replay_is_complete()
     ensures { ReplayIsComplete }
 {}

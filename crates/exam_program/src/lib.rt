@@ -6,6 +6,7 @@
 mod base;
 mod command;
 mod halt;
+mod item_sets;
 pub mod laws;
 mod lines;
 mod marked_form;

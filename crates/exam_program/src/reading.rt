@@ -7,6 +7,7 @@ ghost use Rattle.exam_model.specs.Validity.{IsPlanFor};
 ghost use Rattle.exam_program.specs.Halts.{HaltsAtBank, IsPlanIn, HaltsAtPlan, Reads, HaltsAtExam, IsScriptIn, HaltsAtScript, IsEarly};
 
 use crate::halt::Halt;
+use crate::item_sets::has_item_sets;
 use bank_reader::{ReadFault, read_bank};
 use bank_tables::Bank;
 use constraint_model::Spec;
@@ -59,7 +60,10 @@ fn plan_in<F: Files>(alloc: Global, files: &mut F, bank: &Bank, name: &str) -> R
 {
     let mut source = FileSource { files, name, at: 0 };
     match read_plan(alloc, bank, &mut source) {
-        Ok(spec) => Ok(spec),
+        Ok(spec) => {
+            has_item_sets(&spec);
+            Ok(spec)
+        }
         Err(PlanFault::Source) => Err(Halt::Files),
         Err(PlanFault::Memory) => Err(Halt::Memory),
         Err(fault) => Err(Halt::Plan(fault)),
