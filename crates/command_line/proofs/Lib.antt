@@ -1,2 +1,3 @@
 mod Rows
+pub mod Spelling
 pub mod Walking

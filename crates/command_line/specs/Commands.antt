@@ -1,5 +1,6 @@
 -- What the words of a command line ask for.
-use Rattle.std.specs.Prelude.{ℕ, Bool, ◌||◌, ◌==◌, List, [], ◌∷◌, length, slice_index, Option, Some, None, if◌then◌else◌, bytes_eq, codes}
+use Rattle.std.specs.Prelude.{ℕ, ◌<◌, ◌≤◌, ◌^◌, Bool, IsFalse, ◌||◌, ◌==◌, List, [], ◌∷◌, length, slice_index, Option, Some, None, if◌then◌else◌, bytes_eq, codes}
+use Rattle.std.specs.Fmt.{decimal}
 use Rattle.std.specs.List.{list_any}
 use Rattle.std.specs.Option.{option_map, option_and_then}
 use Rattle.exam_text.specs.Numbers.{number_of}
@@ -55,6 +56,23 @@ said (AskedAssemble bank plan) = Assemble bank.now plan.now
 said (AskedReplay bank plan script) = Replay bank.now plan.now script.now
 said (AskedServe bank plan) = Serve bank.now plan.now
 said (AskedDrill number sessions) = Drill number sessions
+
+-- the words that ask for it
+abbrev pub words_of : Command → List (List ℕ)
+words_of (Check bank plan) = codes "check" ∷ bank ∷ plan ∷ []
+words_of (Assemble bank plan) = codes "assemble" ∷ bank ∷ plan ∷ []
+words_of (Replay bank plan script) = codes "replay" ∷ bank ∷ plan ∷ script ∷ []
+words_of (Serve bank plan) = codes "serve" ∷ bank ∷ plan ∷ []
+words_of (Drill number sessions) = codes "drill" ∷ decimal number ∷ decimal sessions ∷ []
+
+-- words may name its files, and its numbers are in their ranges
+abbrev pub IsCommand : Command → Type 0
+IsCommand (Check bank plan) = IsFalse (is_no_name bank) × IsFalse (is_no_name plan)
+IsCommand (Assemble bank plan) = IsFalse (is_no_name bank) × IsFalse (is_no_name plan)
+IsCommand (Replay bank plan script) =
+    IsFalse (is_no_name bank) × IsFalse (is_no_name plan) × IsFalse (is_no_name script)
+IsCommand (Serve bank plan) = IsFalse (is_no_name bank) × IsFalse (is_no_name plan)
+IsCommand (Drill number sessions) = (number < 2 ^ 32) × (0 < sessions) × (sessions ≤ 200)
 
 -- the names of the bank and the plan that it reads; a drill reads no file
 abbrev pub files_of : Command → Option (List ℕ × List ℕ)

@@ -5,6 +5,7 @@
 #![tactic(auto)]
 
 mod command;
+pub mod laws;
 mod words;
 
 pub use command::Command;

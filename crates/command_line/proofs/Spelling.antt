@@ -1,0 +1,132 @@
+-- A command is asked for by its words, and by no others.
+use Rattle.std.proofs.Common.{◌≡◌, ℕ, zero, suc, ◌<◌, ◌≤◌, ◌^◌, Bool, true, false, cond, eqb, ◌||◌, List, [], ◌∷◌, length, get_or, Option, Some, None, refl, ap, ap₂, ◌∙◌, subst, arith, codes}
+use Rattle.std.specs.Fmt.{decimal}
+use Rattle.std.specs.List.{list_any}
+use Rattle.std.specs.Option.{option_map, option_and_then}
+use Rattle.std.specs.Str.{bytes_eq}
+use Rattle.std.proofs.lemmas.Bool.{ne_eqb, or_parts, or_from}
+use Rattle.std.proofs.lemmas.Fmt.{decimal_nonempty, first_decimal, decimal_digit}
+use Rattle.std.proofs.lemmas.Slice.Eq.{bytes_eq-Decides}
+use Rattle.exam_text.specs.Numbers.{number_of}
+use Rattle.exam_text.proofs.Numerals.{number_is, number_again}
+use Rattle.command_line.specs.Commands.{Command, Check, Assemble, Replay, Serve, Drill, IsCommand, is_no_name, sessions_of, drill_of, of_two, table, command_of, words_of}
+
+-- ---- the words of a command ask for it
+
+named : (ws : List (List ℕ)) (c : Command) → list_any is_no_name ws ≡ false → table ws ≡ Some c → command_of ws ≡ Some c
+unfolding command_of
+named ws c h e = ap (λ (b : Bool). cond b None (table ws)) h ∙ e
+
+two_names : (a b : List ℕ) → is_no_name a ≡ false → is_no_name b ≡ false → (is_no_name a || (is_no_name b || false)) ≡ false
+two_names a b p q = or_from (is_no_name a) (is_no_name b || false) p (or_from (is_no_name b) false q refl)
+
+-- what is written of a number begins with a digit
+number_named : (n : ℕ) → n < 2 ^ 64 → is_no_name (decimal n) ≡ false
+number_named n h = or_from (eqb (length (decimal n)) 0) (eqb (get_or (decimal n) 0 0) 45) (ne_eqb _ _ (λ e. omega (arith, e, decimal_nonempty n h))) (first n h)
+  where
+    first : (k : ℕ) → k < 2 ^ 64 → eqb (get_or (decimal k) 0 0) 45 ≡ false
+    first zero g = ap (λ (ds : List ℕ). eqb (get_or ds 0 0) 45) (decimal_digit 0 (omega arith))
+    first (suc k) g = ne_eqb _ _ (λ e. omega (arith, e, first_decimal (suc k) (omega arith) g))
+
+some_sessions : (s : ℕ) → 0 < s → s ≤ 200 → sessions_of (decimal s) ≡ Some s
+some_sessions s some few =
+    ap (option_and_then (λ (n : ℕ). cond (eqb n 0) None (Some n))) (number_again 200 s (omega arith) few)
+    ∙ ap (λ (b : Bool). cond b None (Some s)) (ne_eqb s 0 (λ e. omega (arith, some, e)))
+
+drill_again : (n s : ℕ) → n < 2 ^ 32 → 0 < s → s ≤ 200 → drill_of (decimal n) (decimal s) ≡ Some (Drill n s)
+unfolding drill_of
+drill_again n s small some few =
+    ap (option_and_then (λ (k : ℕ). option_map (λ (r : ℕ). Drill k r) (sessions_of (decimal s)))) (number_again 4294967295 n (omega arith) (omega (arith, small)))
+    ∙ ap (option_map (λ (r : ℕ). Drill n r)) (some_sessions s some few)
+
+pub answered : (c : Command) → IsCommand c → command_of (words_of c) ≡ Some c
+unfolding table of_two
+answered (Check bank plan) h = named (words_of (Check bank plan)) (Check bank plan) (two_names bank plan h.0 h.1) refl
+answered (Assemble bank plan) h = named (words_of (Assemble bank plan)) (Assemble bank plan) (two_names bank plan h.0 h.1) refl
+answered (Serve bank plan) h = named (words_of (Serve bank plan)) (Serve bank plan) (two_names bank plan h.0 h.1) refl
+answered (Replay bank plan script) h =
+    named (words_of (Replay bank plan script)) (Replay bank plan script) (or_from (is_no_name bank) _ h.0 (two_names plan script h.1 h.2)) refl
+answered (Drill n s) h =
+    named (words_of (Drill n s)) (Drill n s)
+    (two_names (decimal n) (decimal s) (number_named n (omega (arith, h.0))) (number_named s (omega (arith, h.2))))
+    (drill_again n s h.0 h.1 h.2)
+
+-- ---- and no others do
+
+none_is : (c : Command) → None ≡ Some c → ⊥
+none_is c e = cc
+
+at : (P : Command → Type 0) (d c : Command) → Some d ≡ Some c → P d → P c
+at P d c e p = let same : d ≡ c = cc in subst P same p
+
+-- by cases of a test
+either : (P : Type 0) (c : Command) (b : Bool) (x y : Option Command) → cond b x y ≡ Some c → (b ≡ true → x ≡ Some c → P) → (b ≡ false → y ≡ Some c → P) → P
+either P c true x y e here other = here refl e
+either P c false x y e here other = other refl e
+
+abbrev IsAsked : List (List ℕ) → Command → Type 0
+IsAsked words c = IsCommand c × (words ≡ words_of c)
+
+same_word : (word text : List ℕ) → bytes_eq word text ≡ true → word ≡ text
+same_word word text h = (bytes_eq-Decides word text).0 h
+
+-- the numbers of a drill
+drill_is : (o p : Option ℕ) (c : Command)
+    → option_and_then (λ n. option_map (λ s. Drill n s) (option_and_then (λ k. cond (eqb k 0) None (Some k)) p)) o ≡ Some c
+    → (n : ℕ) × (s : ℕ) × (o ≡ Some n) × (p ≡ Some s) × (0 < s) × (Drill n s ≡ c)
+drill_is None p c e = absurd cc
+drill_is (Some n) None c e = absurd cc
+drill_is (Some n) (Some zero) c e = absurd cc
+drill_is (Some n) (Some (suc s)) c e =
+    let f : Some (Drill n (suc s)) ≡ Some c = rw (ne_eqb (suc s) 0 (λ h. omega (arith, h))) at e in
+    (n, suc s, refl, refl, omega arith, cc)
+
+drill_asked : (first second : List ℕ) (c : Command) → drill_of first second ≡ Some c → IsAsked (codes "drill" ∷ first ∷ second ∷ []) c
+unfolding drill_of
+drill_asked first second c e =
+    let (n, s, number, sessions, some, is) = drill_is (number_of 4294967295 first) (number_of 200 second) c e in
+    let n_is = number_is 4294967295 first n (omega arith) number in
+    let s_is = number_is 200 second s (omega arith) sessions in
+    subst (IsAsked (codes "drill" ∷ first ∷ second ∷ [])) is
+    ((omega (arith, n_is.0), some, s_is.0), ap₂ (λ (a b : List ℕ). codes "drill" ∷ a ∷ b ∷ []) n_is.1 s_is.1)
+
+two_asked : (word first second : List ℕ) (c : Command) → is_no_name first ≡ false → is_no_name second ≡ false
+    → of_two word first second ≡ Some c → IsAsked (word ∷ first ∷ second ∷ []) c
+unfolding of_two
+two_asked word first second c a b e =
+    let P = IsAsked (word ∷ first ∷ second ∷ []) in
+    let front = λ (w : List ℕ). w ∷ first ∷ second ∷ [] in
+    either (P c) c (bytes_eq word (codes "check")) _ _ e (λ h f. at P (Check first second) c f ((a, b), ap front (same_word word (codes "check") h)))
+    (λ _ e1. either (P c) c (bytes_eq word (codes "assemble")) _ _ e1 (λ h f. at P (Assemble first second) c f ((a, b), ap front (same_word word (codes "assemble") h)))
+    (λ _ e2. either (P c) c (bytes_eq word (codes "serve")) _ _ e2 (λ h f. at P (Serve first second) c f ((a, b), ap front (same_word word (codes "serve") h)))
+    (λ _ e3. either (P c) c (bytes_eq word (codes "drill")) _ _ e3
+    (λ h f. (let d = drill_asked first second c f in (d.0, ap front (same_word word (codes "drill") h) ∙ d.1)))
+    (λ _ e4. absurd (none_is c e4)))))
+
+table_asked : (words : List (List ℕ)) (c : Command) → list_any is_no_name words ≡ false → table words ≡ Some c → IsAsked words c
+unfolding table
+table_asked [] c h e = absurd (none_is c e)
+table_asked (word ∷ []) c h e = absurd (none_is c e)
+table_asked (word ∷ x ∷ []) c h e = absurd (none_is c e)
+table_asked (word ∷ x ∷ y ∷ []) c h e =
+    let p = or_parts (is_no_name word) _ h in
+    let q = or_parts (is_no_name x) _ p.1 in
+    let r = or_parts (is_no_name y) _ q.1 in
+    two_asked word x y c q.0 r.0 e
+table_asked (word ∷ x ∷ y ∷ z ∷ []) c h e =
+    let p = or_parts (is_no_name word) _ h in
+    let q = or_parts (is_no_name x) _ p.1 in
+    let r = or_parts (is_no_name y) _ q.1 in
+    let s = or_parts (is_no_name z) _ r.1 in
+    let P = IsAsked (word ∷ x ∷ y ∷ z ∷ []) in
+    either (P c) c (bytes_eq word (codes "replay")) _ _ e
+    (λ t f. at P (Replay x y z) c f ((q.0, r.0, s.0), ap (λ (w : List ℕ). w ∷ x ∷ y ∷ z ∷ []) (same_word word (codes "replay") t)))
+    (λ _ g. absurd (none_is c g))
+table_asked (word ∷ x ∷ y ∷ z ∷ more ∷ rest) c h e = absurd (none_is c e)
+
+pub asked : (words : List (List ℕ)) (c : Command) → command_of words ≡ Some c → IsAsked words c
+unfolding command_of
+asked words c e =
+    either (IsAsked words c) c (list_any is_no_name words) None (table words) e
+    (λ _ f. absurd (none_is c f))
+    (λ h f. table_asked words c h f)
