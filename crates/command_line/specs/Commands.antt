@@ -5,7 +5,7 @@ use Rattle.std.specs.List.{list_any}
 use Rattle.std.specs.Option.{option_map, option_and_then}
 use Rattle.exam_text.specs.Numbers.{number_of}
 use Rattle.command_line.specs.declared.command.Command.{Command as Asked}
-use Rattle.command_line.specs.declared.command.Command.TheVariants.{Check as AskedCheck, Assemble as AskedAssemble, Replay as AskedReplay, Serve as AskedServe, Drill as AskedDrill}
+use Rattle.command_line.specs.declared.command.Command.TheVariants.{Check as AskedCheck, Assemble as AskedAssemble, Replay as AskedReplay, Serve as AskedServe, Audit as AskedAudit, Drill as AskedDrill}
 
 -- a command, with the names of its files as bytes
 pub data Command : Type 0 where
@@ -13,6 +13,7 @@ pub data Command : Type 0 where
   Assemble : (bank plan : List ℕ) → Command
   Replay : (bank plan script : List ℕ) → Command
   Serve : (bank plan : List ℕ) → Command
+  Audit : (bank plan : List ℕ) → Command
   Drill : (number sessions : ℕ) → Command
 
 -- a word that names nothing: an empty one, or one that begins with a hyphen
@@ -35,8 +36,9 @@ of_two word first second =
     if bytes_eq word (codes "check") then Some (Check first second)
     else (if bytes_eq word (codes "assemble") then Some (Assemble first second)
     else (if bytes_eq word (codes "serve") then Some (Serve first second)
+    else (if bytes_eq word (codes "audit") then Some (Audit first second)
     else (if bytes_eq word (codes "drill") then drill_of first second
-    else None)))
+    else None))))
 
 -- the commands that there are, by their words
 unfoldable pub table : List (List ℕ) → Option Command
@@ -55,6 +57,7 @@ said (AskedCheck bank plan) = Check bank.now plan.now
 said (AskedAssemble bank plan) = Assemble bank.now plan.now
 said (AskedReplay bank plan script) = Replay bank.now plan.now script.now
 said (AskedServe bank plan) = Serve bank.now plan.now
+said (AskedAudit bank plan) = Audit bank.now plan.now
 said (AskedDrill number sessions) = Drill number sessions
 
 -- the words that ask for it
@@ -63,6 +66,7 @@ words_of (Check bank plan) = codes "check" ∷ bank ∷ plan ∷ []
 words_of (Assemble bank plan) = codes "assemble" ∷ bank ∷ plan ∷ []
 words_of (Replay bank plan script) = codes "replay" ∷ bank ∷ plan ∷ script ∷ []
 words_of (Serve bank plan) = codes "serve" ∷ bank ∷ plan ∷ []
+words_of (Audit bank plan) = codes "audit" ∷ bank ∷ plan ∷ []
 words_of (Drill number sessions) = codes "drill" ∷ decimal number ∷ decimal sessions ∷ []
 
 -- words may name its files, and its numbers are in their ranges
@@ -72,6 +76,7 @@ IsCommand (Assemble bank plan) = IsFalse (is_no_name bank) × IsFalse (is_no_nam
 IsCommand (Replay bank plan script) =
     IsFalse (is_no_name bank) × IsFalse (is_no_name plan) × IsFalse (is_no_name script)
 IsCommand (Serve bank plan) = IsFalse (is_no_name bank) × IsFalse (is_no_name plan)
+IsCommand (Audit bank plan) = IsFalse (is_no_name bank) × IsFalse (is_no_name plan)
 IsCommand (Drill number sessions) = (number < 2 ^ 32) × (0 < sessions) × (sessions ≤ 200)
 
 -- the names of the bank and the plan that it reads; a drill reads no file
@@ -80,6 +85,7 @@ files_of (Check bank plan) = Some (bank, plan)
 files_of (Assemble bank plan) = Some (bank, plan)
 files_of (Replay bank plan script) = Some (bank, plan)
 files_of (Serve bank plan) = Some (bank, plan)
+files_of (Audit bank plan) = Some (bank, plan)
 files_of (Drill number sessions) = None
 
 -- it is a replay
@@ -88,6 +94,7 @@ IsReplay (Check bank plan) = ⊥
 IsReplay (Assemble bank plan) = ⊥
 IsReplay (Replay bank plan script) = Unit {0}
 IsReplay (Serve bank plan) = ⊥
+IsReplay (Audit bank plan) = ⊥
 IsReplay (Drill number sessions) = ⊥
 
 -- the words ask for one
@@ -101,9 +108,37 @@ IsServe (Check bank plan) = ⊥
 IsServe (Assemble bank plan) = ⊥
 IsServe (Replay bank plan script) = ⊥
 IsServe (Serve bank plan) = Unit {0}
+IsServe (Audit bank plan) = ⊥
 IsServe (Drill number sessions) = ⊥
 
 -- the words ask for that
 abbrev pub IsOfServe : Option Command → Type 0
 IsOfServe (Some command) = IsServe command
 IsOfServe None = ⊥
+
+-- it opens the journal
+abbrev pub HasJournal : Command → Type 0
+HasJournal (Check bank plan) = ⊥
+HasJournal (Assemble bank plan) = ⊥
+HasJournal (Replay bank plan script) = Unit {0}
+HasJournal (Serve bank plan) = Unit {0}
+HasJournal (Audit bank plan) = Unit {0}
+HasJournal (Drill number sessions) = ⊥
+
+-- the words ask for that
+abbrev pub IsOfJournal : Option Command → Type 0
+IsOfJournal (Some command) = HasJournal command
+IsOfJournal None = ⊥
+
+-- its numbers are in their ranges
+abbrev pub IsInRange : Command → Type 0
+IsInRange (Drill number sessions) = (number ≤ 4294967295) × ((1 ≤ sessions) × (sessions ≤ 200))
+IsInRange (Check bank plan) = Unit {0}
+IsInRange (Assemble bank plan) = Unit {0}
+IsInRange (Replay bank plan script) = Unit {0}
+IsInRange (Serve bank plan) = Unit {0}
+IsInRange (Audit bank plan) = Unit {0}
+
+abbrev pub AreInRange : Option Command → Type 0
+AreInRange (Some command) = IsInRange command
+AreInRange None = Unit {0}

@@ -2,7 +2,7 @@
 
 ghost use Rattle.std.specs.Prelude.{◌≡◌, map};
 ghost use Rattle.std.specs.Option.{option_map};
-ghost use Rattle.command_line.specs.Commands.{drill_of, of_two, table, said};
+ghost use Rattle.command_line.specs.Commands.{AreInRange, drill_of, of_two, table, said};
 
 /// What the words ask for.
 #[derive(Clone, Copy, Debug)]
@@ -28,6 +28,11 @@ pub enum Command<'a> {
         bank: &'a str,
         plan: &'a str,
     },
+    /// Judge every record of the journal, and print what it has.
+    Audit {
+        bank: &'a str,
+        plan: &'a str,
+    },
     /// Make a bank, a plan and a script of 1 to 200 sessions from a number, and do the script over a
     /// disk in memory.
     Drill {
@@ -38,7 +43,8 @@ pub enum Command<'a> {
 
 #[tactic(auto, unfolding(crate::specs::Commands::drill_of))]
 fn drill_of<'a>(number: &str, sessions: &str) -> Option<Command<'a>>
-    ensures { option_map said result ≡ drill_of number.now sessions.now }
+    ensures command { option_map said result ≡ drill_of number.now sessions.now }
+    ensures range { AreInRange (option_map said result) }
 {
     let number = exam_text::number(number.as_bytes(), 4_294_967_295)?;
     let sessions = exam_text::number(sessions.as_bytes(), 200)?;
@@ -53,7 +59,8 @@ fn drill_of<'a>(number: &str, sessions: &str) -> Option<Command<'a>>
 
 #[tactic(auto, unfolding(crate::specs::Commands::of_two))]
 fn of_two<'a>(word: &str, first: &'a str, second: &'a str) -> Option<Command<'a>>
-    ensures { option_map said result ≡ of_two word.now first.now second.now }
+    ensures command { option_map said result ≡ of_two word.now first.now second.now }
+    ensures range { AreInRange (option_map said result) }
 {
     match word {
         "check" => Some(Command::Check {
@@ -68,6 +75,10 @@ fn of_two<'a>(word: &str, first: &'a str, second: &'a str) -> Option<Command<'a>
             bank: first,
             plan: second,
         }),
+        "audit" => Some(Command::Audit {
+            bank: first,
+            plan: second,
+        }),
         "drill" => drill_of(first, second),
         _ => None,
     }
@@ -76,7 +87,8 @@ fn of_two<'a>(word: &str, first: &'a str, second: &'a str) -> Option<Command<'a>
 /// The command that the table has for the words.
 #[tactic(auto, unfolding(crate::specs::Commands::table))]
 pub(crate) fn in_table<'a>(words: &[&'a str]) -> Option<Command<'a>>
-    ensures { option_map said result ≡ table (map (λ w. w.now) words.now) }
+    ensures command { option_map said result ≡ table (map (λ w. w.now) words.now) }
+    ensures range { AreInRange (option_map said result) }
 {
     match words {
         [word, first, second] => of_two(*word, *first, *second),

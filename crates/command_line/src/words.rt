@@ -5,7 +5,7 @@ ghost use Rattle.std.specs.List.{list_any};
 ghost use Rattle.std.specs.Option.{option_map};
 ghost use Rattle.clap.specs.Values.{kind_of};
 ghost use Rattle.clap.specs.Matches.{found_of};
-ghost use Rattle.command_line.specs.Commands.{is_no_name, table, command_of, said};
+ghost use Rattle.command_line.specs.Commands.{AreInRange, is_no_name, table, command_of, said};
 ghost use Rattle.command_line.specs.Words.{words_in};
 
 use crate::command::{Command, in_table};
@@ -45,7 +45,8 @@ fn read<'a>(alloc: Global, words: &'a [String]) -> Result<ArgMatches<'a>, Error>
 /// The command of the words that clap read. It has no entry of them if there are none.
 #[tactic(auto, unfolding(crate::specs::Commands::table))]
 fn asked<'a>(matches: &ArgMatches<'a>) -> Option<Command<'a>>
-    ensures { option_map said result ≡ table (words_in (found_of matches.now)) }
+    ensures command { option_map said result ≡ table (words_in (found_of matches.now)) }
+    ensures range { AreInRange (option_map said result) }
 {
     in_table(matches.get_strs("words")?)
 }
@@ -54,8 +55,10 @@ fn asked<'a>(matches: &ArgMatches<'a>) -> Option<Command<'a>>
 /// is empty or begins with a hyphen. `Memory` is lack of memory.
 #[tactic(auto, using(crate::proofs::Walking::any_mapped), unfolding(crate::specs::Commands::command_of))]
 pub fn command_of<'a>(alloc: Global, words: &'a [String]) -> Result<Option<Command<'a>>, Memory>
-    ensures { IfOk result (λ command. option_map said command
+    ensures command { IfOk result (λ command. option_map said command
         ≡ command_of (map (λ w. string_bytes w) words.entry.now)) }
+    // the numbers of a drill are in their ranges
+    ensures range { IfOk result (λ command. AreInRange (option_map said command)) }
 {
     if has_no_name(words) {
         return Ok(None);
