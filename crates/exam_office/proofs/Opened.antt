@@ -16,6 +16,10 @@ use Rattle.exam_session.specs.Ledgers.{Ledger}
 use Rattle.answer_journal.specs.declared.payload.Payload.{Payload}
 use Rattle.answer_journal.specs.Journal.{JournalState, length_of, limit_of, tells_of, payloads_of, IsReady, faults_of}
 use Rattle.answer_journal.specs.Frames.{payloads, shadowj1}
+use Rattle.answer_journal.specs.OpenFault.{first_fault}
+use Rattle.answer_journal.specs.declared.open_fault.OpenFault.TheVariants.{TooLong}
+use Rattle.std.proofs.lemmas.Bool.{ltb-false}
+use Rattle.std.specs.Prelude.{nat_lt}
 use Rattle.answer_journal.specs.Payload.{bytes_of as payload_bytes, at_of, places_of}
 use Rattle.exam_records.specs.Spelling.{payload_of}
 use Rattle.exam_office.specs.declared.mark.Mark.{Mark}
@@ -135,3 +139,12 @@ pub same_payloads : (content between : List ℕ) (ps qs : List (List ℕ)) → p
 same_payloads content between ps qs gives same keeps =
     let both : Some ps ≡ Some qs = sym keeps ∙ ap (payloads shadowj1) same ∙ gives in
     cc
+
+-- a file that nothing is wrong with is within the limit
+pub short_so : (limit : ℕ) (file : List ℕ) → first_fault shadowj1 limit file ≡ None → length file ≤ limit
+unfolding first_fault
+short_so limit file e = by (nat_lt limit (length file)) refl
+  where
+    by : (long : Bool) → nat_lt limit (length file) ≡ long → length file ≤ limit
+    by false is = ltb-false limit (length file) is
+    by true is = let none : Some (TooLong (length file)) ≡ None = rw is at e in cc

@@ -149,6 +149,9 @@ impl<'a, D: Disk> Office<'a, D> {
         // The file represented the history, and so does each file that a crash may leave now.
         ensures stands { IfOk result (λ office. IsTrue (D.tells disk)
             → Stands bank.now spec.now (history office.marks) (D.content disk)) }
+        // The file was within the journal's limit.
+        ensures short { IfOk result (λ office. IsTrue (D.tells disk)
+            → length (D.content disk) ≤ spec.now.journal) }
         ensures images { IfOk result (λ office. IsTrue (D.tells disk)
             → AllImages (Stands bank.now spec.now (history office.marks))
             (latest (accounts_of office.journal))) }

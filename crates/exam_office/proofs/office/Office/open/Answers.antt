@@ -1,4 +1,4 @@
-use Rattle.std.proofs.Common.{◌≡◌, ◌≤◌, ◌∙◌, ◌+◌, ℕ, List, [], ◌∷◌, ◌++◌, map, None, IsTrue, refl, sym, ap, subst, arith}
+use Rattle.std.proofs.Common.{◌≡◌, ◌≤◌, ◌∙◌, ◌+◌, ℕ, List, [], ◌∷◌, ◌++◌, length, map, None, IsTrue, refl, sym, ap, subst, arith}
 use Rattle.answer_journal.specs.Journal.{accounts_of, faults_of}
 use Rattle.answer_journal.specs.Frames.{payloads, shadowj1}
 use Rattle.answer_journal.specs.Payload.{bytes_of as payload_bytes}
@@ -15,7 +15,7 @@ use Rattle.exam_office.specs.Files.{Stands}
 use Rattle.exam_office.specs.Marks.{history, reach}
 use Rattle.exam_office.specs.Keeping.{IsKept}
 use Rattle.exam_office.specs.Opening.{AreTaken}
-use Rattle.exam_office.proofs.Opened.{history_is, marks_told, kept_open, same_payloads, stood, stands_while_read, stands_while_opened}
+use Rattle.exam_office.proofs.Opened.{history_is, marks_told, kept_open, same_payloads, stood, stands_while_read, stands_while_opened, short_so}
 use Rattle.exam_office.proofs.office.Office.open.Goals as goal
 
 -- a record is refused
@@ -161,3 +161,9 @@ returns-clause-legal g c =
     let noted : c.note.new.marks ≡ marks ++ Opened size ∷ [] = c.in-Ok-note.ensures.noted ∙ ap (λ (n : ℕ). marks ++ Opened n ∷ []) (c.length.ensures ∙ sym c.in-Ok-finish.ensures.length) in
     let told_history : history c.note.new.marks ≡ book.entries = ap history noted ∙ history_is b plan c.args.base count book j read marks taken size in
     subst (λ (H : List Entry). LegalRun b plan H) (taken.are.entries ∙ sym told_history) (backed_is_legal_run b plan taken.records taken.are.backed)
+
+-- the file was within the limit
+pub returns-clause-short : goal.returns-clause-short
+returns-clause-short g c = λ told.
+    subst (λ (limit : ℕ). length (g.D.Disk.content c.args.disk) ≤ limit) c.journal.ensures
+    (short_so c.journal.result (g.D.Disk.content c.args.disk) (c.in-Ok.ensures.sound told))
