@@ -61,7 +61,7 @@ fn audit_walk<D: Disk>(
 }
 
 // Audits the journal of a disk, which comes back.
-fn audit_disk<D: Disk>(
+fn audit_into<D: Disk>(
     alloc: Global,
     bank: &Bank,
     spec: &Spec,
@@ -126,6 +126,31 @@ pub fn audit<D: Disk>(
     ensures tells { D.tells disk.new ≡ D.tells disk.old }
 {
     let mut answer = Err(OpenFault::Memory);
-    let _ = audit_disk(alloc, bank, spec, &mut *disk, &mut answer);
+    let _ = audit_into(alloc, bank, spec, &mut *disk, &mut answer);
     answer
+}
+
+/// The same of a disk that is handed over, and comes back.
+pub fn audit_disk<D: Disk>(
+    alloc: Global,
+    bank: &Bank,
+    spec: &Spec,
+    disk: D,
+) -> (D, Result<(Summary, Exposure), OpenFault>)
+    requires { IsPlanFor bank.now spec.now }
+    ensures found { IfOk result.1 (λ found. IsTrue (D.tells disk)
+        → IsAudit bank.now spec.now (D.content disk) found.0 found.1) }
+    ensures why { IfErr result.1 (λ e. IsTrue (D.tells disk)
+        → IsOpenAnswer bank.now spec.now (D.content disk) e) }
+    ensures cause { IfErr result.1 (λ e. e ≡ OfDisk
+        → Rose (D.faults disk) (D.faults result.0)) }
+    ensures untouched { IsTrue (D.tells disk) → D.content result.0 ≡ D.content disk }
+    ensures moments { IsTrue (D.tells disk)
+        → AtEachMoment (D.accounts disk) (D.accounts result.0)
+        (IsImage (latest (D.accounts disk))) }
+    ensures frame { IsLent D.tells D.identity D.faults disk result.0 }
+{
+    let mut answer = Err(OpenFault::Memory);
+    let disk = audit_into(alloc, bank, spec, disk, &mut answer);
+    (disk, answer)
 }

@@ -7,4 +7,4 @@ mod auditing;
 mod records;
 mod report;
 
-pub use auditing::audit;
+pub use auditing::{audit, audit_disk};
