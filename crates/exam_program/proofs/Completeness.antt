@@ -1,5 +1,5 @@
 -- Accepted texts, and files and a disk that never failed, leave few statuses.
-use Rattle.std.proofs.Common.{◌≡◌, ℕ, ◌≤◌, ◌⊎◌, inl, inr, Bool, List, length, Option, Some, None, Result, Ok, Err, IsTrue, refl, ap, ◌∙◌, subst, arith}
+use Rattle.std.proofs.Common.{◌≡◌, ℕ, ◌≤◌, ◌⊎◌, inl, inr, Bool, List, length, Option, Some, None, Result, Ok, Err, IsTrue, refl, sym, ap, ◌∙◌, subst, arith}
 use Rattle.bank_tables.specs.Items.{has}
 use Rattle.bank_tables.specs.Tables.{Tables}
 use Rattle.bank_reader.specs.declared.fault.ReadFault.{ReadFault}
@@ -20,14 +20,15 @@ use Rattle.replay_cli.specs.declared.script_fault.ScriptFault.TheVariants as scr
 use Rattle.replay_cli.specs.Reading.{IsScriptFault, IsOfText as IsOfScript}
 use Rattle.replay_cli.proofs.ReadLaws.{no_fault}
 use Rattle.exam_program.specs.Bases.{ShowsNoForm, ShowsNoBase}
-use Rattle.exam_program.specs.Commands.{Command, Check, Assemble, Replay, command_of, bank_name, plan_name}
+use Rattle.command_line.specs.Commands.{Command, Check, Assemble, Replay, Serve, Audit, Drill, HasJournal, IsReplay, IsServe, command_of, files_of}
 use Rattle.exam_program.specs.Halts.{IsPlanIn, IsOfText, Reads, IsScriptIn}
-use Rattle.exam_program.specs.Laws.{CheckIsComplete, AssembleIsComplete, ReplayIsComplete, MeetsLimit, of_sessions, of_journal}
+use Rattle.exam_program.specs.Laws.{CheckIsComplete, AssembleIsComplete, ReplayIsComplete, ServeIsComplete, AuditIsComplete, MeetsLimit, of_sessions, of_journal}
 use Rattle.exam_program.specs.Outside.{Outside}
 use Rattle.exam_program.specs.Replays.{IsOfFile, IsJournalRefused}
 use Rattle.exam_program.proofs.BaseLaws.{whole_form}
 use Rattle.exam_program.proofs.OnePlan.{one_plan_in}
-use Rattle.exam_program.specs.Outcomes.{IsReady, IsReplayOf, Outcome, faulty_words, bank_refused, plan_refused, script_refused, checked, form_found, without_form, without_base_form, journal_refused, replayed, sessions_full, journal_full, without_files, without_journal, without_disk, without_memory, without_more_memory}
+use Rattle.exam_program.specs.Outcomes.{IsOver, IsReady, IsReplayOf, Outcome, faulty_words, bank_refused, plan_refused, script_refused, checked, form_found, without_form, without_base_form, journal_refused, replayed, sessions_full, journal_full, without_files, without_journal, without_disk, without_memory, without_more_memory, server_refused, server_without_journal, server_without_memory, IsAuditOf, audited, audit_refused, without_audit, drilled, drill_refused, drill_without_base, drill_full}
+use Rattle.exam_program.specs.Serves.{IsServeOf}
 
 -- ---- a reading is one
 none_some : {A : Type 0} (o : Option A) (x : A) → o ≡ Some x → o ≡ None → ⊥
@@ -38,6 +39,17 @@ ok_err r x e a b = cc
 
 command_same : (o : Option Command) (c d : Command) → o ≡ Some c → o ≡ Some d → c ≡ d
 command_same o c d e f = cc
+
+pair_same : (x y z w : List ℕ) → ◌≡◌ {A = Option (List ℕ × List ℕ)} (Some (x, y)) (Some (z, w)) → (x ≡ z) × (y ≡ w)
+pair_same x y z w e = (ap (first_or x) e, ap (second_or y) e)
+  where
+    first_or : List ℕ → Option (List ℕ × List ℕ) → List ℕ
+    first_or d (Some pair) = pair.0
+    first_or d None = d
+
+    second_or : List ℕ → Option (List ℕ × List ℕ) → List ℕ
+    second_or d (Some pair) = pair.1
+    second_or d None = d
 
 bank_same : (r : Result Tables ReadFault) (b c : Tables) → r ≡ Ok b → r ≡ Ok c → b ≡ c
 bank_same r b c e f = cc
@@ -88,12 +100,7 @@ no_script_fault text script script_fault.TooLong is of_script halts = omega (ari
 no_script_fault text script (script_fault.Line n) is of_script halts = no_fault text script n is.says halts.1
 
 -- a file that represents a history is not refused
-no_journal_fault : (b : Tables) (p : Plan) (o : Outside) (f : OpenFault) (H : List Entry)
-    → Stands b p H o.disk.found
-    → length o.disk.found ≤ p.journal
-    → IsTrue o.disk.told
-    → IsJournalRefused b p o.disk f
-    → ⊥
+no_journal_fault : (b : Tables) (p : Plan) (o : Outside) (f : OpenFault) (H : List Entry) → Stands b p H o.disk.found → length o.disk.found ≤ p.journal → IsTrue o.disk.told → IsJournalRefused b p o.disk f → ⊥
 no_journal_fault b p o f H stands short told is = elim (standing_is_opened b p H o.disk.found f stands short (is.answer told)) [
   | inl e ↦ subst (λ (g : OpenFault). IsOfFile g) e is.of_file
   | inr e ↦ subst (λ (g : OpenFault). IsOfFile g) e is.of_file
@@ -105,6 +112,9 @@ no_journal_fault b p o f H stands short told is = elim (standing_is_opened b p H
 abbrev NoScript : Outside → Command → Type 0
 NoScript o (Check bank plan) = ⊥
 NoScript o (Assemble bank plan) = ⊥
+NoScript o (Serve bank plan) = ⊥
+NoScript o (Audit bank plan) = ⊥
+NoScript o (Drill number sessions) = ⊥
 NoScript o (Replay bank plan name) = (f : ScriptFault) × IsOfScript f × IsScriptFault (o.content name) f
 
 -- its journal is refused
@@ -112,12 +122,9 @@ abbrev NoJournal : Outside → Command → Type 0
 NoJournal o (Check bank plan) = ⊥
 NoJournal o (Assemble bank plan) = ⊥
 NoJournal o (Replay bank plan name) = (b : Tables) × (p : Plan) × (f : OpenFault) × Reads o.named o.content bank plan b p × IsJournalRefused b p o.disk f
-
--- it has a journal
-abbrev HasJournal : Command → Type 0
-HasJournal (Check bank plan) = ⊥
-HasJournal (Assemble bank plan) = ⊥
-HasJournal (Replay bank plan name) = Unit {0}
+NoJournal o (Serve bank plan) = (b : Tables) × (p : Plan) × (f : OpenFault) × Reads o.named o.content bank plan b p × IsJournalRefused b p o.disk f
+NoJournal o (Audit bank plan) = (b : Tables) × (p : Plan) × (f : OpenFault) × Reads o.named o.content bank plan b p × IsJournalRefused b p o.disk f
+NoJournal o (Drill number sessions) = ⊥
 
 data Left (words : List (List ℕ)) (o : Outside) (command : Command) : ℕ → Type 0 where
   done : Left words o command 0
@@ -126,46 +133,125 @@ data Left (words : List (List ℕ)) (o : Outside) (command : Command) : ℕ → 
   no_base : (b : Tables) (p : Plan) (T : ProofTree) → IsReady o.named o.content command b p → ShowsNoBase b p T → Left words o command 12
   no_script : NoScript o command → Left words o command 5
   no_journal : NoJournal o command → Left words o command 6
-  limit : HasJournal command → MeetsLimit words o → Left words o command 13
+  limit : IsReplay command → MeetsLimit words o → Left words o command 13
   disk : HasJournal command → Rose o.disk.before o.disk.after → Left words o command 9
 
 module _ (words : List (List ℕ)) (o : Outside) (command : Command) (e : command_of words ≡ Some command) where
   same_command : (other : Command) → command_of words ≡ Some other → other ≡ command
   same_command other f = command_same (command_of words) other command f e
 
+  is_replay : (b : Tables) (p : Plan) (script : List Request) (base : List ℕ) → IsReplayOf words o b p script base → IsReplay command
+  is_replay b p script base is = subst IsReplay (same_command (Replay is.bank is.plan is.name) is.asked) tt
+
   has_journal : (b : Tables) (p : Plan) (script : List Request) (base : List ℕ) → IsReplayOf words o b p script base → HasJournal command
   has_journal b p script base is = subst HasJournal (same_command (Replay is.bank is.plan is.name) is.asked) tt
 
-  left : (b : Tables) (p : Plan) (status : ℕ) (text : List ℕ) → Reads o.named o.content (bank_name command) (plan_name command) b p
+  serves_journal : (b : Tables) (p : Plan) (base : List ℕ) → IsServeOf words o b p base → HasJournal command
+  serves_journal b p base is = subst HasJournal (same_command (Serve is.bank is.plan) is.asked) tt
+
+  audits_journal : (b : Tables) (p : Plan) → IsAuditOf words o b p → HasJournal command
+  audits_journal b p is = subst HasJournal (same_command (Audit is.bank is.plan) is.asked) tt
+
+  -- the bank of the files that are read
+  module _ (bank plan : List ℕ) (names : files_of command ≡ Some (bank, plan)) where
+    same_names : (other_bank other_plan : List ℕ) → IsOver words other_bank other_plan → (other_bank ≡ bank) × (other_plan ≡ plan)
+    same_names other_bank other_plan over =
+        pair_same other_bank other_plan bank plan (sym over.names ∙ (ap files_of (same_command over.command over.asked) ∙ names))
+
+    no_bank : (b : Tables) (p : Plan) (other_bank other_plan : List ℕ) (why : ReadFault) → Reads o.named o.content bank plan b p
+        → IsOver words other_bank other_plan → bank_of (o.content other_bank) ≡ Err why → ⊥
+    no_bank b p other_bank other_plan why reads over is =
+        ok_err (bank_of (o.content bank)) b why reads.says_bank
+        (subst (λ (name : List ℕ). bank_of (o.content name) ≡ Err why) (same_names other_bank other_plan over).0 is)
+
+    no_plan : (b c : Tables) (p : Plan) (other_bank other_plan : List ℕ) (why : PlanFault) → Reads o.named o.content bank plan b p
+        → IsOver words other_bank other_plan → bank_of (o.content other_bank) ≡ Ok c → IsOfText why → IsReadFault c (o.content other_plan) why → ⊥
+    no_plan b c p other_bank other_plan why reads over is of_text refusal =
+        let same = same_names other_bank other_plan over in
+        let there = subst (λ (name : List ℕ). bank_of (o.content name) ≡ Ok c) same.0 is in
+        no_plan_fault b c (o.content plan) p why (bank_same (bank_of (o.content bank)) c b there reads.says_bank) reads.says_plan of_text
+        (subst (λ (name : List ℕ). IsReadFault c (o.content name) why) same.1 refusal)
+
+  -- a drill reads no files
+  no_drill : (bank plan : List ℕ) → files_of command ≡ Some (bank, plan) → (number sessions : ℕ) → command_of words ≡ Some (Drill number sessions) → ⊥
+  no_drill bank plan names number sessions f = none_some (files_of command) (bank, plan) names (sym (ap files_of (same_command (Drill number sessions) f)))
+
+  left : (bank plan : List ℕ) → files_of command ≡ Some (bank, plan) → (b : Tables) (p : Plan) (status : ℕ) (text : List ℕ)
+      → Reads o.named o.content bank plan b p
       → (Rose o.files_before o.files_after → ⊥) → Outcome words o status text → Left words o command status
-  left b p _ _ reads quiet (faulty_words f untouched) = absurd (none_some (command_of words) command e f)
-  left b p _ _ reads quiet (bank_refused other why f found is untouched) =
-      absurd (ok_err (bank_of (o.content (bank_name command))) b why reads.says_bank (subst (λ (c : Command). bank_of (o.content (bank_name c)) ≡ Err why) (same_command other f) is))
-  left b p _ _ reads quiet (plan_refused other c why f found plan_found is of_text refusal untouched) =
-      let there = subst (λ (d : Command). bank_of (o.content (bank_name d)) ≡ Ok c) (same_command other f) is in
-      absurd (no_plan_fault b c (o.content (plan_name command)) p why (bank_same (bank_of (o.content (bank_name command))) c b there reads.says_bank) reads.says_plan of_text (subst (λ (d : Command). IsReadFault c (o.content (plan_name d)) why) (same_command other f) refusal))
-  left b p _ _ reads quiet (script_refused bank plan name c q why f there found of_script refusal untouched) =
-      no_script (subst (NoScript o) (same_command (Replay bank plan name) f) (why, of_script, refusal))
-  left b p _ _ reads quiet (checked bank plan c q f there untouched) = done
-  left b p _ _ reads quiet (form_found bank plan c q P form proved T f there finds untouched) = done
-  left b p _ _ reads quiet (without_form other c q T f ready shows untouched) = no_form c q T (subst (λ (d : Command). IsReady o.named o.content d c q) (same_command other f) ready) shows
-  left b p _ _ reads quiet (without_base_form other c q T f ready shows untouched) = no_base c q T (subst (λ (d : Command). IsReady o.named o.content d c q) (same_command other f) ready) shows
-  left b p _ _ reads quiet (journal_refused c q script base why is refusal) =
+  left bank plan names b p _ _ reads quiet (faulty_words f untouched) = absurd (none_some (command_of words) command e f)
+  left bank plan names b p _ _ reads quiet (bank_refused other_bank other_plan why over found is untouched) =
+      absurd (no_bank bank plan names b p other_bank other_plan why reads over is)
+  left bank plan names b p _ _ reads quiet (plan_refused other_bank other_plan c why over found plan_found is of_text refusal untouched) =
+      absurd (no_plan bank plan names b c p other_bank other_plan why reads over is of_text refusal)
+  left bank plan names b p _ _ reads quiet (script_refused script_bank script_plan name c q why f there found of_script refusal untouched) =
+      no_script (subst (NoScript o) (same_command (Replay script_bank script_plan name) f) (why, of_script, refusal))
+  left bank plan names b p _ _ reads quiet (checked other_bank other_plan c q f there untouched) = done
+  left bank plan names b p _ _ reads quiet (form_found other_bank other_plan c q P form proved T f there finds untouched) = done
+  left bank plan names b p _ _ reads quiet (without_form other c q T f ready shows untouched) = no_form c q T (subst (λ (d : Command). IsReady o.named o.content d c q) (same_command other f) ready) shows
+  left bank plan names b p _ _ reads quiet (without_base_form other c q T f ready shows untouched) = no_base c q T (subst (λ (d : Command). IsReady o.named o.content d c q) (same_command other f) ready) shows
+  left bank plan names b p _ _ reads quiet (journal_refused c q script base why is refusal) =
       no_journal (subst (NoJournal o) (same_command (Replay is.bank is.plan is.name) is.asked) (c, q, why, is.reads.reads, refusal))
-  left b p _ _ reads quiet (replayed c q script base H G replies is way) = done
-  left b p _ _ reads quiet (sessions_full c q script base H G request rest replies count is way why) =
-      limit (has_journal c q script base is) (of_sessions c q script base H G request rest replies count is way why)
-  left b p _ _ reads quiet (journal_full c q script base H G request rest replies K now size is way full at) =
-      limit (has_journal c q script base is) (of_journal c q script base H G request rest replies K now size is way full)
-  left b p _ _ reads quiet (without_files other f rose untouched) = absurd (quiet rose)
-  left b p _ _ reads quiet (without_journal c q script base is so) = disk (has_journal c q script base is) so.rose
-  left b p _ _ reads quiet (without_disk c q script base H G rest replies is way rose) = disk (has_journal c q script base is) rose
-  left b p _ _ reads quiet (without_memory other f untouched) = memory
-  left b p _ _ reads quiet (without_more_memory c q script base H G rest replies is way) = memory
+  left bank plan names b p _ _ reads quiet (replayed c q script base H G replies is way) = done
+  left bank plan names b p _ _ reads quiet (sessions_full c q script base H G request rest replies count is way why) =
+      limit (is_replay c q script base is) (of_sessions c q script base H G request rest replies count is way why)
+  left bank plan names b p _ _ reads quiet (journal_full c q script base H G request rest replies K now size is way full at) =
+      limit (is_replay c q script base is) (of_journal c q script base H G request rest replies K now size is way full at)
+  left bank plan names b p _ _ reads quiet (without_files other_bank other_plan over rose untouched) = absurd (quiet rose)
+  left bank plan names b p _ _ reads quiet (without_journal c q script base is so) = disk (has_journal c q script base is) so.rose
+  left bank plan names b p _ _ reads quiet (without_disk c q script base H G rest replies is way rose) = disk (has_journal c q script base is) rose
+  left bank plan names b p _ _ reads quiet (without_memory untouched) = memory
+  left bank plan names b p _ _ reads quiet (without_more_memory c q script base H G rest replies is way) = memory
+  left bank plan names b p _ _ reads quiet (server_refused c q base why is refusal) =
+      no_journal (subst (NoJournal o) (same_command (Serve is.bank is.plan) is.asked) (c, q, why, is.reads, refusal))
+  left bank plan names b p _ _ reads quiet (server_without_journal c q base is so) = disk (serves_journal c q base is) so.rose
+  left bank plan names b p _ _ reads quiet (server_without_memory c q base opened H is examined) = memory
+  left bank plan names b p _ _ reads quiet (audited c q s exposure is found untouched) = done
+  left bank plan names b p _ _ reads quiet (audit_refused c q why is refusal) =
+      no_journal (subst (NoJournal o) (same_command (Audit is.bank is.plan) is.asked) (c, q, why, is.reads, refusal))
+  left bank plan names b p _ _ reads quiet (without_audit c q is rose untouched) = disk (audits_journal c q is) rose
+  left bank plan names b p _ _ reads quiet (drilled number sessions s f is untouched) = absurd (no_drill bank plan names number sessions f)
+  left bank plan names b p _ _ reads quiet (drill_refused number sessions why f is untouched) = absurd (no_drill bank plan names number sessions f)
+  left bank plan names b p _ _ reads quiet (drill_without_base number sessions f is untouched) = absurd (no_drill bank plan names number sessions f)
+  left bank plan names b p _ _ reads quiet (drill_full number sessions size most f is untouched) = absurd (no_drill bank plan names number sessions f)
+
+-- a server that served no connection was not done
+module _ (words : List (List ℕ)) (o : Outside) (command : Command) (e : command_of words ≡ Some command) (server : IsServe command) where
+  no_server : (other : Command) → command_of words ≡ Some other → (IsServe other → ⊥) → ⊥
+  no_server other f none = none (subst IsServe (command_same (command_of words) command other e f) server)
+
+  not_done : (status : ℕ) (text : List ℕ) → Outcome words o status text → status ≡ 0 → ⊥
+  not_done _ _ (checked bank plan c q f there untouched) zero = no_server (Check bank plan) f (λ x. x)
+  not_done _ _ (form_found bank plan c q P form proved T f there finds untouched) zero = no_server (Assemble bank plan) f (λ x. x)
+  not_done _ _ (replayed c q script base H G replies is way) zero = no_server (Replay is.bank is.plan is.name) is.asked (λ x. x)
+  not_done _ _ (audited c q s exposure is found untouched) zero = no_server (Audit is.bank is.plan) is.asked (λ x. x)
+  not_done _ _ (faulty_words f untouched) zero = omega (arith, zero)
+  not_done _ _ (bank_refused bank plan why over found is untouched) zero = omega (arith, zero)
+  not_done _ _ (plan_refused bank plan c why over found plan_found is of_text refusal untouched) zero = omega (arith, zero)
+  not_done _ _ (script_refused bank plan name c q why f there found of_script refusal untouched) zero = omega (arith, zero)
+  not_done _ _ (without_form other c q T f ready shows untouched) zero = omega (arith, zero)
+  not_done _ _ (without_base_form other c q T f ready shows untouched) zero = omega (arith, zero)
+  not_done _ _ (journal_refused c q script base why is refusal) zero = omega (arith, zero)
+  not_done _ _ (sessions_full c q script base H G request rest replies count is way why) zero = omega (arith, zero)
+  not_done _ _ (journal_full c q script base H G request rest replies K now size is way full at) zero = omega (arith, zero)
+  not_done _ _ (without_files bank plan over rose untouched) zero = omega (arith, zero)
+  not_done _ _ (without_journal c q script base is so) zero = omega (arith, zero)
+  not_done _ _ (without_disk c q script base H G rest replies is way rose) zero = omega (arith, zero)
+  not_done _ _ (without_memory untouched) zero = omega (arith, zero)
+  not_done _ _ (without_more_memory c q script base H G rest replies is way) zero = omega (arith, zero)
+  not_done _ _ (server_refused c q base why is refusal) zero = omega (arith, zero)
+  not_done _ _ (server_without_journal c q base is so) zero = omega (arith, zero)
+  not_done _ _ (server_without_memory c q base opened H is examined) zero = omega (arith, zero)
+  not_done _ _ (audit_refused c q why is refusal) zero = omega (arith, zero)
+  not_done _ _ (without_audit c q is rose untouched) zero = omega (arith, zero)
+  not_done _ _ (drilled number sessions s f is untouched) zero = no_server (Drill number sessions) f (λ x. x)
+  not_done _ _ (drill_refused number sessions why f is untouched) zero = omega (arith, zero)
+  not_done _ _ (drill_without_base number sessions f is untouched) zero = omega (arith, zero)
+  not_done _ _ (drill_full number sessions size most f is untouched) zero = omega (arith, zero)
 
 -- ---- the laws
 pub check_is_complete : CheckIsComplete
-check_is_complete words o bank plan b p status text e reads quiet outcome = of status (left words o (Check bank plan) e b p status text reads quiet outcome)
+check_is_complete words o bank plan b p status text e reads quiet outcome = of status (left words o (Check bank plan) e bank plan refl b p status text reads quiet outcome)
   where
     of : (s : ℕ) → Left words o (Check bank plan) s → (s ≡ 0) ⊎ (s ≡ 10)
     of _ done = inl refl
@@ -178,7 +264,7 @@ check_is_complete words o bank plan b p status text e reads quiet outcome = of s
     of _ (disk none rose) = absurd none
 
 pub assemble_is_complete : AssembleIsComplete
-assemble_is_complete words o bank plan base b p status text e reads with_base quiet outcome = of status (left words o (Assemble bank plan) e b p status text reads quiet outcome)
+assemble_is_complete words o bank plan base b p status text e reads with_base quiet outcome = of status (left words o (Assemble bank plan) e bank plan refl b p status text reads quiet outcome)
   where
     of : (s : ℕ) → Left words o (Assemble bank plan) s → (s ≡ 0) ⊎ (s ≡ 10)
     of _ done = inl refl
@@ -190,9 +276,20 @@ assemble_is_complete words o bank plan base b p status text e reads with_base qu
     of _ (limit none met) = absurd none
     of _ (disk none rose) = absurd none
 
+-- a journal of the files that are read is not refused
+module _ (o : Outside) (bank plan : List ℕ) (b : Tables) (p : Plan) (H : List Entry) (reads : Reads o.named o.content bank plan b p)
+    (told : IsTrue o.disk.told) (stands : Stands b p H o.disk.found) (short : length o.disk.found ≤ p.journal) where
+  not_refused : (c : Tables) (q : Plan) (f : OpenFault) → Reads o.named o.content bank plan c q → IsJournalRefused c q o.disk f → ⊥
+  not_refused c q f there refusal =
+      let same = plan_same o.named o.content bank plan b c p q reads there in
+      let refused : IsJournalRefused b p o.disk f =
+      subst (λ (x : Plan). IsJournalRefused b x o.disk f) same.1
+      (subst (λ (t : Tables). IsJournalRefused t q o.disk f) same.0 refusal) in
+      no_journal_fault b p o f H stands short told refused
+
 pub replay_is_complete : ReplayIsComplete
 replay_is_complete words o bank plan name base b p script H status text e reads with_base says told stands short within quiet disk_quiet outcome =
-    of status (left words o (Replay bank plan name) e b p status text reads quiet outcome)
+    of status (left words o (Replay bank plan name) e bank plan refl b p status text reads quiet outcome)
   where
     of : (s : ℕ) → Left words o (Replay bank plan name) s → (s ≡ 0) ⊎ (s ≡ 10)
     of _ done = inl refl
@@ -200,11 +297,34 @@ replay_is_complete words o bank plan name base b p script H status text e reads 
     of _ (no_form c q T ready shows) = absurd (form_there o.named o.content bank plan base b c p q T reads with_base ready.0 shows)
     of _ (no_base c q T ready shows) = absurd (no_base_there o.named o.content bank plan base b c p q T reads with_base ready.0 shows)
     of _ (no_script none) = absurd (no_script_fault (o.content name) script none.0 says none.1 none.2)
-    of _ (no_journal none) =
-        (let (bank_is, plan_is) = plan_same o.named o.content bank plan b none.0 p none.1 reads none.3 in
-        let refused : IsJournalRefused b p o.disk none.2 =
-        subst (λ (x : Plan). IsJournalRefused b x o.disk none.2) plan_is
-        (subst (λ (t : Tables). IsJournalRefused t none.1 o.disk none.2) bank_is none.4) in
-        absurd (no_journal_fault b p o none.2 H stands short told refused))
-    of _ (limit has met) = absurd (within met)
+    of _ (no_journal none) = absurd (not_refused o bank plan b p H reads told stands short none.0 none.1 none.2 none.3 none.4)
+    of _ (limit is met) = absurd (within met)
+    of _ (disk has rose) = absurd (disk_quiet rose)
+
+pub serve_is_complete : ServeIsComplete
+serve_is_complete words o bank plan base b p H status text e reads with_base told stands short quiet disk_quiet outcome =
+    of status (left words o (Serve bank plan) e bank plan refl b p status text reads quiet outcome) (not_done words o (Serve bank plan) e tt status text outcome)
+  where
+    of : (s : ℕ) → Left words o (Serve bank plan) s → (s ≡ 0 → ⊥) → s ≡ 10
+    of _ done not = absurd (not refl)
+    of _ memory not = refl
+    of _ (no_form c q T ready shows) not = absurd (form_there o.named o.content bank plan base b c p q T reads with_base ready shows)
+    of _ (no_base c q T ready shows) not = absurd (no_base_there o.named o.content bank plan base b c p q T reads with_base ready shows)
+    of _ (no_script none) not = absurd none
+    of _ (no_journal none) not = absurd (not_refused o bank plan b p H reads told stands short none.0 none.1 none.2 none.3 none.4)
+    of _ (limit none met) not = absurd none
+    of _ (disk has rose) not = absurd (disk_quiet rose)
+
+pub audit_is_complete : AuditIsComplete
+audit_is_complete words o bank plan b p H status text e reads told stands short quiet disk_quiet outcome =
+    of status (left words o (Audit bank plan) e bank plan refl b p status text reads quiet outcome)
+  where
+    of : (s : ℕ) → Left words o (Audit bank plan) s → (s ≡ 0) ⊎ (s ≡ 10)
+    of _ done = inl refl
+    of _ memory = inr refl
+    of _ (no_form c q T ready shows) = absurd ready
+    of _ (no_base c q T ready shows) = absurd ready
+    of _ (no_script none) = absurd none
+    of _ (no_journal none) = absurd (not_refused o bank plan b p H reads told stands short none.0 none.1 none.2 none.3 none.4)
+    of _ (limit none met) = absurd none
     of _ (disk has rose) = absurd (disk_quiet rose)

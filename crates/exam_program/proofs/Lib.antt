@@ -4,8 +4,9 @@ pub mod OnePlan
 pub mod OutcomeLaws
 pub mod ReplayLaws
 pub mod RequestLaws
+pub mod RunLaws
 pub mod ScriptLaws
+pub mod ServeLaws
 pub mod SessionLaws
 pub mod TreeTexts
-pub mod WordLaws
 mod RowsOfA

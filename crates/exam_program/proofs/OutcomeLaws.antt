@@ -1,5 +1,5 @@
 -- The outcome of a command, from the outcomes of its parts.
-use Rattle.std.proofs.Common.{◌≡◌, ℕ, ◌≤◌, Bool, List, [], ◌∷◌, ◌++◌, inl, inr, Some, None, arith, refl, sym, ◌∙◌, ap, subst, append_assoc, length-append}
+use Rattle.std.proofs.Common.{◌≡◌, ℕ, ◌≤◌, Bool, List, [], ◌∷◌, ◌++◌, IsTrue, inl, inr, Option, Some, None, arith, refl, sym, ◌∙◌, ap, subst, append_assoc, length-append}
 use Rattle.std.proofs.lemmas.List.{append-nil}
 use Rattle.std.proofs.lemmas.Bool.{false≢true}
 use Rattle.bank_tables.specs.Tables.{Tables}
@@ -13,14 +13,18 @@ use Rattle.replay_cli.specs.Replies.{lines_of}
 use Rattle.exam_program.specs.declared.halt.Halt.{Halt}
 use Rattle.exam_program.specs.declared.halt.Halt.TheVariants as halt
 use Rattle.exam_program.specs.Bases.{TellsForm}
-use Rattle.exam_program.specs.Commands.{Command, Check, Assemble, Replay, command_of, bank_name, plan_name}
+use Rattle.command_line.specs.Commands.{Command, Check, Assemble, Replay, Serve, Drill, command_of, files_of}
+use Rattle.exam_program.specs.Drilling.{HaltsAtDrill}
 use Rattle.exam_program.specs.Halts.{HaltsAtExam, HaltsAtScript, HaltsAtBase, Reads, IsBeforeJournal}
 use Rattle.exam_program.specs.Outside.{Outside, DiskSeen, disk_seen, IsUntouched}
-use Rattle.exam_program.specs.Replays.{IsLeftAt}
-use Rattle.exam_program.specs.Stopping.{IsUnopened, refused, failed, out_of_memory, Stops, by_sessions, by_journal, by_disk, by_memory, by_sink, Finishes, IsReplayed, Halted}
-use Rattle.exam_program.specs.Texts.{bank_line, usage}
+use Rattle.exam_office.specs.declared.fault.OpenFault.{OpenFault}
+use Rattle.exam_office.specs.declared.fault.OpenFault.TheVariants as open_fault
+use Rattle.exam_office.specs.Opening.{IsOpenAnswer}
+use Rattle.exam_program.specs.Replays.{IsLeftAt, IsJournalRefused}
+use Rattle.exam_program.specs.Stopping.{opening_halt, IsUnopened, refused, failed, out_of_memory, Stops, by_sessions, by_journal, by_disk, by_memory, by_sink, Finishes, IsReplayed, Halted}
+use Rattle.exam_program.specs.Texts.{bank_line, journal_text, usage}
 use Rattle.exam_program.specs.Writing.{IsWritten, WritesPart}
-use Rattle.exam_program.specs.Outcomes.{IsReady, IsReplayOf, Outcome, faulty_words, bank_refused, plan_refused, script_refused, checked, form_found, without_form, without_base_form, journal_refused, replayed, sessions_full, journal_full, without_files, without_journal, without_disk, without_memory, without_more_memory, Prints, PrintsPart, PrintsBefore, Ends, LeavesJournal, as_found, at_opening, after_requests, Halts, EndsBy, IsStatus, IsStatusBefore}
+use Rattle.exam_program.specs.Outcomes.{IsOver, IsReady, IsReplayOf, Outcome, faulty_words, bank_refused, plan_refused, script_refused, checked, form_found, without_form, without_base_form, journal_refused, replayed, sessions_full, journal_full, without_files, without_journal, without_disk, without_memory, without_more_memory, server_refused, server_without_journal, server_without_memory, IsAuditOf, audited, audit_refused, without_audit, drilled, drill_refused, drill_without_base, drill_full, Prints, PrintsPart, PrintsBefore, PrintsBeforeText, Ends, LeavesJournal, as_found, at_opening, after_requests, server_at_opening, after_opening, Halts, EndsBy, IsStatus, IsStatusBefore}
 
 -- a count that rose later, rose
 pub rose_later : (before now after : ℕ) → before ≤ now → Rose now after → Rose before after
@@ -29,7 +33,11 @@ rose_later before now after le rose = omega (arith, le, rose)
 -- ---- a disk that is handed back as it was handed in
 pub as_it_is : {D : Type 0} (tells : D → Bool) (content : D → List ℕ) (accounts : D → List Account) (faults : D → ℕ) (d : D)
     → IsUntouched (disk_seen tells content accounts faults d d)
-as_it_is tells content accounts faults d = record { left = λ t. refl; images = λ t file image. image }
+as_it_is tells content accounts faults d = record {
+  left = λ t. refl;
+  images = λ t file image. image;
+  moments = λ t. record { more = []; grown = sym (append-nil (accounts d)); start = λ file image. image; each = tt };
+}
 
 -- ---- what a command has printed when it halts
 module _ (words : List (List ℕ)) (o : Outside) (told : Bool) (old : List ℕ) where
@@ -37,26 +45,26 @@ module _ (words : List (List ℕ)) (o : Outside) (told : Bool) (old : List ℕ) 
   nothing_before : (status : ℕ) (last : List ℕ) → Outcome words o status last → PrintsBefore words o told old old status last
   nothing_before status last outcome = record { text = []; written = λ t. sym (append-nil old); outcome = outcome }
 
-  pub halts_without_memory : (command : Command) → command_of words ≡ Some command → IsUntouched o.disk → Halts words o told old old halt.Memory
-  halts_without_memory command e untouched = nothing_before 10 _ (without_memory command e untouched)
+  pub halts_without_memory : IsUntouched o.disk → Halts words o told old old halt.Memory
+  halts_without_memory untouched = nothing_before 10 _ (without_memory untouched)
 
-  pub halts_at_exam : (command : Command) (h : Halt) → command_of words ≡ Some command → (h ≡ halt.Files → Rose o.files_before o.files_after)
-      → IsUntouched o.disk → HaltsAtExam o.named o.content (bank_name command) (plan_name command) h → Halts words o told old old h
-  halts_at_exam command (halt.Bank fault) e rose untouched is =
-      (nothing_before 3 _ (bank_refused command fault e is.0 is.1 untouched), nothing_before 10 _ (without_memory command e untouched))
-  halts_at_exam command (halt.Plan fault) e rose untouched is =
-      (nothing_before 4 _ (plan_refused command is.0 fault e is.1 is.2 is.3 is.4 is.5 untouched), nothing_before 10 _ (without_memory command e untouched))
-  halts_at_exam command halt.Files e rose untouched is = nothing_before 7 _ (without_files command e (rose refl) untouched)
-  halts_at_exam command halt.Memory e rose untouched is = nothing_before 10 _ (without_memory command e untouched)
-  halts_at_exam command h e rose untouched is = absurd is
+  pub halts_at_exam : (bank plan : List ℕ) (h : Halt) → IsOver words bank plan → (h ≡ halt.Files → Rose o.files_before o.files_after)
+      → IsUntouched o.disk → HaltsAtExam o.named o.content bank plan h → Halts words o told old old h
+  halts_at_exam bank plan (halt.Bank fault) over rose untouched is =
+      (nothing_before 3 _ (bank_refused bank plan fault over is.0 is.1 untouched), nothing_before 10 _ (without_memory untouched))
+  halts_at_exam bank plan (halt.Plan fault) over rose untouched is =
+      (nothing_before 4 _ (plan_refused bank plan is.0 fault over is.1 is.2 is.3 is.4 is.5 untouched), nothing_before 10 _ (without_memory untouched))
+  halts_at_exam bank plan halt.Files over rose untouched is = nothing_before 7 _ (without_files bank plan over (rose refl) untouched)
+  halts_at_exam bank plan halt.Memory over rose untouched is = nothing_before 10 _ (without_memory untouched)
+  halts_at_exam bank plan h over rose untouched is = absurd is
 
   pub halts_at_script : (bank plan script : List ℕ) (b : Tables) (p : Plan) (h : Halt) → command_of words ≡ Some (Replay bank plan script)
       → Reads o.named o.content bank plan b p → (h ≡ halt.Files → Rose o.files_before o.files_after) → IsUntouched o.disk
       → HaltsAtScript (o.named script) (o.content script) h → Halts words o told old old h
   halts_at_script bank plan script b p (halt.Script fault) e reads rose untouched is =
-      (nothing_before 5 _ (script_refused bank plan script b p fault e reads is.0 is.1 is.2 untouched), nothing_before 10 _ (without_memory (Replay bank plan script) e untouched))
-  halts_at_script bank plan script b p halt.Files e reads rose untouched is = nothing_before 7 _ (without_files (Replay bank plan script) e (rose refl) untouched)
-  halts_at_script bank plan script b p halt.Memory e reads rose untouched is = nothing_before 10 _ (without_memory (Replay bank plan script) e untouched)
+      (nothing_before 5 _ (script_refused bank plan script b p fault e reads is.0 is.1 is.2 untouched), nothing_before 10 _ (without_memory untouched))
+  halts_at_script bank plan script b p halt.Files e reads rose untouched is = nothing_before 7 _ (without_files bank plan (record { command = Replay bank plan script; asked = e; names = refl }) (rose refl) untouched)
+  halts_at_script bank plan script b p halt.Memory e reads rose untouched is = nothing_before 10 _ (without_memory untouched)
   halts_at_script bank plan script b p h e reads rose untouched is = absurd is
 
   pub halts_at_base : (command : Command) (b : Tables) (p : Plan) (h : Halt) → command_of words ≡ Some command
@@ -65,7 +73,7 @@ module _ (words : List (List ℕ)) (o : Outside) (told : Bool) (old : List ℕ) 
       nothing_before 11 text.items (subst (λ (t : List ℕ). Outcome words o 11 t) (sym is.2) (without_form command b p is.0 e ready is.1 untouched))
   halts_at_base command b p (halt.NoBaseForm text) e ready untouched is =
       nothing_before 12 text.items (subst (λ (t : List ℕ). Outcome words o 12 t) (sym is.2) (without_base_form command b p is.0 e ready is.1 untouched))
-  halts_at_base command b p halt.Memory e ready untouched is = nothing_before 10 _ (without_memory command e untouched)
+  halts_at_base command b p halt.Memory e ready untouched is = nothing_before 10 _ (without_memory untouched)
   halts_at_base command b p h e ready untouched is = absurd is
 
   -- the usage is printed where the words are faulty
@@ -86,6 +94,40 @@ module _ (words : List (List ℕ)) (o : Outside) (told : Bool) (old : List ℕ) 
     unfinished = part.unfinished;
   }
 
+  -- ---- an audit
+  refused_audit : (b : Tables) (p : Plan) (f : OpenFault) → IsAuditOf words o b p → IsJournalRefused b p o.disk f
+      → PrintsBeforeText words o told old old 6 (journal_text f)
+  refused_audit b p f is so = (nothing_before 6 _ (audit_refused b p f is so), nothing_before 10 _ (without_memory so.untouched))
+
+  -- a journal that was not read, or is refused
+  pub halts_audited : (b : Tables) (p : Plan) (f : OpenFault) → IsAuditOf words o b p → IsUntouched o.disk
+      → (IsTrue o.disk.told → IsOpenAnswer b p o.disk.found f) → (f ≡ open_fault.Disk → Rose o.disk.before o.disk.after)
+      → Halts words o told old old (opening_halt f)
+  halts_audited b p open_fault.Disk is untouched answer rose = nothing_before 9 _ (without_audit b p is (rose refl) untouched)
+  halts_audited b p open_fault.Memory is untouched answer rose = nothing_before 10 _ (without_memory untouched)
+  halts_audited b p (open_fault.Journal f) is untouched answer rose = refused_audit b p (open_fault.Journal f) is (record { of_file = tt; answer = answer; untouched = untouched })
+  halts_audited b p (open_fault.BadRecord at f) is untouched answer rose = refused_audit b p (open_fault.BadRecord at f) is (record { of_file = tt; answer = answer; untouched = untouched })
+  halts_audited b p (open_fault.BadTree at) is untouched answer rose = refused_audit b p (open_fault.BadTree at) is (record { of_file = tt; answer = answer; untouched = untouched })
+  halts_audited b p (open_fault.Illegal at f) is untouched answer rose = refused_audit b p (open_fault.Illegal at f) is (record { of_file = tt; answer = answer; untouched = untouched })
+
+  -- ---- a drill
+  module _ (number sessions : ℕ) (e : command_of words ≡ Some (Drill number sessions)) (untouched : IsUntouched o.disk) where
+    pub halts_at_drill : (h : Halt) → HaltsAtDrill number sessions h → Halts words o told old old h
+    halts_at_drill (halt.Plan fault) is = (nothing_before 4 _ (drill_refused number sessions fault e is untouched), nothing_before 10 _ (without_memory untouched))
+    halts_at_drill (halt.NoBaseForm text) is = nothing_before 12 text.items
+        (subst (λ (t : List ℕ). Outcome words o 12 t) (sym is.1) (drill_without_base number sessions e is.0 untouched))
+    halts_at_drill (halt.JournalFull size most) is =
+        (nothing_before 13 _ (drill_full number sessions size most e is untouched), nothing_before 10 _ (without_memory untouched))
+    halts_at_drill halt.Memory is = nothing_before 10 _ (without_memory untouched)
+    halts_at_drill (halt.Bank fault) is = absurd is
+    halts_at_drill (halt.Script fault) is = absurd is
+    halts_at_drill (halt.NoForm text) is = absurd is
+    halts_at_drill (halt.Journal fault) is = absurd is
+    halts_at_drill (halt.Sessions count most) is = absurd is
+    halts_at_drill halt.Files is = absurd is
+    halts_at_drill halt.Disk is = absurd is
+    halts_at_drill halt.Sink is = absurd is
+
   -- ---- a replay
   module _ (b : Tables) (p : Plan) (base : List ℕ) (script : List Request) (is : IsReplayOf words o b p script base) (new : List ℕ) where
     pub prints_replayed : Finishes (IsReplayed b p base o.disk script) told old new → Prints words o told old new 0
@@ -94,11 +136,11 @@ module _ (words : List (List ℕ)) (o : Outside) (told : Bool) (old : List ℕ) 
     unopened_so : (h : Halt) → IsWritten told old new [] → IsUnopened b p o.disk h → Halts words o told old new h
     unopened_so _ written (refused fault so) = (
       record { text = []; written = written; outcome = journal_refused b p script base fault is so },
-      record { text = []; written = written; outcome = without_memory (Replay is.bank is.plan is.name) is.asked so.untouched },
+      record { text = []; written = written; outcome = without_memory so.untouched },
     )
     unopened_so _ written (failed so) = record { text = []; written = written; outcome = without_journal b p script base is so }
     unopened_so _ written (out_of_memory untouched) =
-        record { text = []; written = written; outcome = without_memory (Replay is.bank is.plan is.name) is.asked untouched }
+        record { text = []; written = written; outcome = without_memory untouched }
 
     stopped_so : (h : Halt) → Stops b p (IsReplayed b p base o.disk script) (IsLeftAt b p o.disk) (Rose o.disk.before o.disk.after) told old new h
         → Halts words o told old new h
@@ -145,8 +187,8 @@ outcome_assembled words o text bank plan b p e reads untouched tells =
 module _ (words : List (List ℕ)) (o : Outside) where
   leaves : (status : ℕ) (text : List ℕ) → Outcome words o status text → LeavesJournal words o
   leaves _ _ (faulty_words e untouched) = as_found untouched
-  leaves _ _ (bank_refused command fault e found is untouched) = as_found untouched
-  leaves _ _ (plan_refused command b fault e found plan_found is of_text refusal untouched) = as_found untouched
+  leaves _ _ (bank_refused bank plan fault over found is untouched) = as_found untouched
+  leaves _ _ (plan_refused bank plan b fault over found plan_found is of_text refusal untouched) = as_found untouched
   leaves _ _ (script_refused bank plan name b p fault e reads found of_script refusal untouched) = as_found untouched
   leaves _ _ (checked bank plan b p e reads untouched) = as_found untouched
   leaves _ _ (form_found bank plan b p P form proved T e reads finds untouched) = as_found untouched
@@ -156,11 +198,21 @@ module _ (words : List (List ℕ)) (o : Outside) where
   leaves _ _ (replayed b p script base H G replies is way) = after_requests b p script base H G [] replies is way
   leaves _ _ (sessions_full b p script base H G request rest replies count is way why) = after_requests b p script base H G (request ∷ rest) replies is way
   leaves _ _ (journal_full b p script base H G request rest replies K now size is way full at) = after_requests b p script base H G (request ∷ rest) replies is way
-  leaves _ _ (without_files command e rose untouched) = as_found untouched
+  leaves _ _ (without_files bank plan over rose untouched) = as_found untouched
   leaves _ _ (without_journal b p script base is so) = at_opening b p script base is so
   leaves _ _ (without_disk b p script base H G rest replies is way rose) = after_requests b p script base H G rest replies is way
-  leaves _ _ (without_memory command e untouched) = as_found untouched
+  leaves _ _ (without_memory untouched) = as_found untouched
   leaves _ _ (without_more_memory b p script base H G rest replies is way) = after_requests b p script base H G rest replies is way
+  leaves _ _ (server_refused b p base fault is so) = as_found so.untouched
+  leaves _ _ (server_without_journal b p base is so) = server_at_opening b p base is so
+  leaves _ _ (server_without_memory b p base opened H is examined) = after_opening b p base opened H is examined
+  leaves _ _ (audited b p s exposure is found untouched) = as_found untouched
+  leaves _ _ (audit_refused b p fault is so) = as_found so.untouched
+  leaves _ _ (without_audit b p is rose untouched) = as_found untouched
+  leaves _ _ (drilled number sessions s e is untouched) = as_found untouched
+  leaves _ _ (drill_refused number sessions fault e is untouched) = as_found untouched
+  leaves _ _ (drill_without_base number sessions e is untouched) = as_found untouched
+  leaves _ _ (drill_full number sessions size most e is untouched) = as_found untouched
 
   pub leaves_journal : (told : Bool) (old new : List ℕ) (status : ℕ) → Ends words o told old new status → LeavesJournal words o
   leaves_journal told old new status (inl prints) = leaves status prints.text prints.outcome
@@ -173,7 +225,7 @@ is_2 = (1, omega arith, refl)
 pub is_8 : IsStatus 8
 is_8 = (7, omega arith, refl)
 
-is_10 : IsStatus 10
+pub is_10 : IsStatus 10
 is_10 = (9, omega arith, refl)
 
 is_13 : IsStatus 13

@@ -3,7 +3,7 @@ use Rattle.std.proofs.Common.{◌≡◌, ℕ, ◌≤◌, inr, Bool, List, [], le
 use Rattle.bank_tables.specs.Tables.{Tables}
 use Rattle.exam_edge.specs.Faults.{Rose}
 use Rattle.exam_edge.specs.Images.{Account, IsImage, AtEachMoment, IsSettled, latest}
-use Rattle.exam_edge.specs.ImageLaws.{at_end}
+use Rattle.exam_edge.specs.ImageLaws.{at_end, joined, weaker}
 use Rattle.exam_model.specs.Plan.{Plan}
 use Rattle.history_model.specs.declared.entry.Entry.{Entry}
 use Rattle.history_model.specs.declared.request.Reply.{Reply}
@@ -19,8 +19,10 @@ use Rattle.exam_office.specs.Writing.{IsOneOf, as_before, with_doubt, IsMending}
 use Rattle.answer_journal.specs.Journal.{tells_of, accounts_of, faults_of}
 use Rattle.exam_program.specs.declared.halt.Halt.{Halt}
 use Rattle.exam_program.specs.declared.halt.Halt.TheVariants as halt
-use Rattle.exam_program.specs.Outside.{DiskSeen, disk_seen, IsUntouched}
-use Rattle.exam_program.specs.Replays.{IsGoingOn, IsLeftAt, IsOpeningFailed}
+use Rattle.exam_program.specs.Outside.{DiskSeen, disk_seen, IsUntouched, WasSettled}
+use Rattle.exam_program.specs.Replays.{none, IsGoingOn, IsReached, IsFileOnTheWay, IsLeftAt, IsOpeningFailed}
+use Rattle.exam_office.specs.Asking.{no_more}
+use Rattle.exam_program.proofs.ScriptLaws.{not_yet}
 use Rattle.exam_program.specs.Stopping.{IsUnopened, refused, failed, out_of_memory, opening_halt, Stops, by_sessions, by_journal, by_disk, by_memory, by_sink, Finishes, GoesOn, IsOfficeAt, IsServed, IsUnserved, IsReplayed, Halted}
 
 -- ---- a journal that was not opened
@@ -33,11 +35,12 @@ module _ {D : Type 0} (tells : D → Bool) (content : D → List ℕ) (accounts 
     rose = rose;
     left = λ t settled H stands. at_end (Stands b plan H) (accounts old) (accounts new) (each t settled H stands) (content new) (image t);
     images = λ t settled H stands. at_end (Stands b plan H) (accounts old) (accounts new) (each t settled H stands);
+    moments = each;
   }
 
   pub unwritten_so : (IsTrue (tells old) → content new ≡ content old) → (IsTrue (tells old) → AtEachMoment (accounts old) (accounts new) (IsImage (latest (accounts old))))
       → IsUntouched (disk_seen tells content accounts faults old new)
-  unwritten_so same each = record { left = same; images = λ t. at_end (IsImage (latest (accounts old))) (accounts old) (accounts new) (each t) }
+  unwritten_so same each = record { left = same; images = λ t. at_end (IsImage (latest (accounts old))) (accounts old) (accounts new) (each t); moments = each }
 
 pub unopened_so : (b : Tables) (plan : Plan) (disk : DiskSeen) (f : OpenFault) → (IsTrue disk.told → IsOpenAnswer b plan disk.found f)
     → (f ≡ fault.Disk → IsOpeningFailed b plan disk) → ((f ≡ fault.Disk → ⊥) → IsUntouched disk) → IsUnopened b plan disk (opening_halt f)
@@ -71,6 +74,9 @@ pub record IsHandedBack {D : Type 0} (b : Tables) (plan : Plan) (disk : DiskSeen
   pub found : IsTrue disk.told → Stands b plan (history old.marks) disk.found
   pub told : tells_of old.journal ≡ disk.told
   pub images : latest (accounts_of new.journal) ≡ disk.images
+  pub moments : accounts_of new.journal ≡ disk.moments
+  pub opening : IsTrue disk.told → WasSettled disk
+      → AtEachMoment disk.moments_before (accounts_of old.journal) (Stands b plan (history old.marks))
   pub left : IsTrue disk.told → IsImage disk.images disk.left
   pub content : IsTrue disk.told → IsMending b plan (history new.marks) new.doubt disk.left
   pub length_is : IsTrue disk.told → new.doubt ≡ None → length disk.left ≡ reach new.marks
@@ -81,7 +87,8 @@ module _ {D : Type 0} (b : Tables) (plan : Plan) (base : List ℕ) (disk : DiskS
   way_so : (G : List Entry) (rest : List Request) (replies : List Reply) → GoesOn b plan base script old new G rest replies → IsReplayed b plan base disk script G rest replies
   way_so G rest replies going =
       let going_on = subst (λ (t : Bool). IsGoingOn b plan base script t disk.images (history old.marks) G rest replies) back.told
-      (subst (λ (a : Account). IsGoingOn b plan base script (tells_of old.journal) a (history old.marks) G rest replies) back.images going) in
+      (subst (λ (a : Account). IsGoingOn b plan base script (tells_of old.journal) a (history old.marks) G rest replies) back.images going.going) in
+      let on_the_way = IsFileOnTheWay b plan base script (history old.marks) in
       record {
         H = history old.marks;
         under_way = record {
@@ -89,7 +96,24 @@ module _ {D : Type 0} (b : Tables) (plan : Plan) (base : List ℕ) (disk : DiskS
           found = back.found;
           left = λ t. going_on.each t disk.left (back.left t);
           going_on = going_on;
+          moments = λ t settled.
+              joined on_the_way disk.moments_before (accounts_of old.journal) disk.moments
+              (weaker (Stands b plan (history old.marks)) on_the_way (λ file stands. record { so_far = history old.marks; is_one = reached_first; stands = stands })
+              disk.moments_before (accounts_of old.journal) (back.opening t settled))
+              (subst (λ (m : List Account). AtEachMoment (accounts_of old.journal) m on_the_way) back.moments (going.moments (back.told ∙ t)));
         };
+      }
+    where
+      reached_first : IsReached b plan base script (history old.marks) (history old.marks)
+      reached_first = record {
+        done = [];
+        rest = script;
+        G = history old.marks;
+        replies = [];
+        whole = refl;
+        are_done = none;
+        good = no_more;
+        begins = not_yet b plan base (history old.marks) script;
       }
 
   left_so : (K : List Entry) (reached : ℕ) → IsOfficeAt new K reached → IsLeftAt b plan disk K reached
@@ -122,5 +146,5 @@ as_given P b c p q f h same_bank same_plan same_base is =
     subst (λ (x : Tables). P x q h) same_bank (subst (λ (y : Plan). P b y h) same_plan (subst (λ (z : List ℕ). P b p z) same_base is))
 
 -- the halt of a result
-pub at_err : {A : Type 0} (P : Halt → Type 0) (r : Result A Halt) (h : Halt) → r ≡ Err h → IfErr r P → P h
-at_err {A} P r h is if_err = subst (λ (x : Result A Halt). IfErr x P) is if_err
+pub at_err : {A E : Type 0} (P : E → Type 0) (r : Result A E) (h : E) → r ≡ Err h → IfErr r P → P h
+at_err {A} {E} P r h is if_err = subst (λ (x : Result A E). IfErr x P) is if_err

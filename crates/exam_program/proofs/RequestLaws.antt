@@ -3,8 +3,8 @@ use Rattle.std.specs.Prelude.{⊤}
 use Rattle.std.proofs.Common.{◌≡◌, ℕ, Bool, true, false, cond, List, [], ◌∷◌, Option, Some, None, Result, Ok, Err, OnOk, IfErr, IsTrue, nat_lt, ◌==◌, refl, sym, ap, ◌∙◌, subst}
 use Rattle.std.proofs.lemmas.List.{append-nil}
 use Rattle.bank_tables.specs.Tables.{Tables, categories}
-use Rattle.exam_edge.specs.Images.{AllImages, latest}
-use Rattle.exam_edge.specs.ImageLaws.{at_end}
+use Rattle.exam_edge.specs.Images.{AtEachMoment}
+use Rattle.exam_edge.specs.ImageLaws.{weaker}
 use Rattle.exam_model.specs.Plan.{Plan}
 use Rattle.history_model.specs.declared.entry.Entry.{Entry}
 use Rattle.history_model.specs.declared.place.Place.{Place}
@@ -119,13 +119,14 @@ module _ {D : Type 0} (request : Request) (old new : Running D) where
     good_so = subst (λ (G : List Entry). AreGood old.bank old.plan old.base G (history new.marks)) from_is asked.good
 
     pub each_so : IsTrue (tells_of old.journal)
-        → AllImages (IsFileOf old.bank old.plan old.base (history old.marks) (request ∷ [])) (latest (accounts_of new.journal))
-    each_so told file image = here (at_end (StandsForOne old.bank old.plan (IsOnTheWay old.bank old.plan old.base (history old.marks) old.doubt request))
-        (accounts_of old.journal) (accounts_of new.journal) (asked.steps.moments told) file image)
+        → AtEachMoment (accounts_of old.journal) (accounts_of new.journal) (IsFileOf old.bank old.plan old.base (history old.marks) (request ∷ []))
+    each_so told = weaker (StandsForOne old.bank old.plan (IsOnTheWay old.bank old.plan old.base (history old.marks) old.doubt request))
+        (IsFileOf old.bank old.plan old.base (history old.marks) (request ∷ [])) here
+        (accounts_of old.journal) (accounts_of new.journal) (asked.steps.moments told)
       where
-        here : StandsForOne old.bank old.plan (IsOnTheWay old.bank old.plan old.base (history old.marks) old.doubt request) file
+        here : (file : List ℕ) → StandsForOne old.bank old.plan (IsOnTheWay old.bank old.plan old.base (history old.marks) old.doubt request) file
             → IsFileOf old.bank old.plan old.base (history old.marks) (request ∷ []) file
-        here s = record {
+        here file s = record {
           so_far = s.so_far;
           is_one = subst (λ (G : List Entry). IsBegunBy old.bank old.plan old.base G request s.so_far) (one_of_none (history old.marks) s.is_one.from old.doubt sure s.is_one.is_one_of) s.is_one.begun;
           stands = s.stands;

@@ -40,7 +40,8 @@ use Rattle.exam_office.specs.Asking.{IsGood, AreGood, no_more, one_more as good_
 use Rattle.exam_office.specs.Files.{Stands}
 use Rattle.exam_office.proofs.FileLaws.{one_history}
 use Rattle.exam_program.specs.Outside.{DiskSeen}
-use Rattle.exam_program.specs.Replays.{AreDone, none, one_more, IsFileOf, IsUnderWay, IsOpeningFailed}
+use Rattle.exam_program.specs.Replays.{AreDone, none, one_more, IsFileOf, IsFileOnTheWay, IsUnderWay, IsOpeningFailed}
+use Rattle.exam_program.proofs.ScriptLaws.{not_yet}
 
 -- ---- the script, its replies and their lines: a session of three items, answered by 1, 0 and 1
 script_a : List Request
@@ -267,10 +268,25 @@ good_a =
 
 -- ---- the whole replay, from an empty file to that of the session, which is synced
 disk_a : DiskSeen
-disk_a = record { told = true; before = 0; after = 0; found = []; left = file_a; images_before = settled []; images = settled file_a }
+disk_a = record { told = true; before = 0; after = 0; found = []; left = file_a; images_before = settled []; images = settled file_a; moments_before = settled [] ∷ []; moments = settled [] ∷ settled file_a ∷ [] }
 
 is_file_a : IsFileOf bank_a plan_a base_a answered_2 [] file_a
 is_file_a = record { so_far = answered_2; is_one = refl; stands = file_stands }
+
+-- before the first request, and after the last
+on_the_way_first : IsFileOnTheWay bank_a plan_a base_a script_a [] []
+on_the_way_first = record {
+  so_far = [];
+  is_one = record { done = []; rest = script_a; G = []; replies = []; whole = refl; are_done = none; good = no_more; begins = not_yet bank_a plan_a base_a [] script_a };
+  stands = empty_stands;
+}
+
+on_the_way_last : IsFileOnTheWay bank_a plan_a base_a script_a [] file_a
+on_the_way_last = record {
+  so_far = answered_2;
+  is_one = record { done = script_a; rest = []; G = answered_2; replies = replies_a; whole = sym (append-nil script_a); are_done = done_a; good = good_a; begins = refl };
+  stands = file_stands;
+}
 
 replayed_a : IsUnderWay bank_a plan_a base_a disk_a script_a [] answered_2 [] replies_a
 unfolding disk_a
@@ -285,11 +301,17 @@ replayed_a = record {
     good = good_a;
     each = λ t file image. subst (λ (f : List ℕ). IsFileOf bank_a plan_a base_a answered_2 [] f) (sym (only (settled file_a) file_a file (within_refl (settled file_a)) image)) is_file_a;
   };
+  moments = λ t quiet. record {
+    more = settled file_a ∷ [];
+    grown = refl;
+    start = λ file image. subst (λ (f : List ℕ). IsFileOnTheWay bank_a plan_a base_a script_a [] f) (sym (only (settled []) [] file (within_refl (settled [])) image)) on_the_way_first;
+    each = (λ file image. subst (λ (f : List ℕ). IsFileOnTheWay bank_a plan_a base_a script_a [] f) (sym (only (settled file_a) file_a file (within_refl (settled file_a)) image)) on_the_way_last, tt);
+  };
 }
 
 -- ---- a disk that fails at the first write of an empty journal: any file of at most nine bytes may be left
 torn : List ℕ → DiskSeen
-torn left = record { told = true; before = 0; after = 1; found = []; left = left; images_before = settled []; images = written 0 9 (settled []) }
+torn left = record { told = true; before = 0; after = 1; found = []; left = left; images_before = settled []; images = written 0 9 (settled []); moments_before = settled [] ∷ []; moments = settled [] ∷ written 0 9 (settled []) ∷ [] }
 
 short_stands : (file : List ℕ) → length file ≤ 9 → Stands bank_a plan_a [] file
 short_stands file short = record { records = []; are = record { spell = tt; backed = empty; entries = refl }; holds = short_holds file short }
@@ -300,6 +322,12 @@ opening_failed = record {
   rose = omega arith;
   left = λ t quiet H stands. stands_here H stands (83 ∷ 72 ∷ []) (omega arith);
   images = λ t quiet H stands file image. stands_here H stands file (omega (arith, image.greatest));
+  moments = λ t quiet H stands. record {
+    more = written 0 9 (settled []) ∷ [];
+    grown = refl;
+    start = λ file image. stands_here H stands file (omega (arith, image.greatest));
+    each = (λ file image. stands_here H stands file (omega (arith, image.greatest)), tt);
+  };
 }
   where
     stands_here : (H : List Entry) → Stands bank_a plan_a H [] → (file : List ℕ) → length file ≤ 9 → Stands bank_a plan_a H file

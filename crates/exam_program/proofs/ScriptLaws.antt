@@ -3,20 +3,21 @@ use Rattle.std.proofs.Common.{◌≡◌, ℕ, suc, ◌+◌, ◌<◌, ◌≤◌, 
 use Rattle.std.proofs.lemmas.List.{append-nil, take-append-drop, take_more}
 use Rattle.std.proofs.lemmas.Grind.{flat_map-append}
 use Rattle.bank_tables.specs.Tables.{Tables}
-use Rattle.exam_edge.specs.Images.{AllImages, latest}
+use Rattle.exam_edge.specs.Images.{AtEachMoment, latest}
+use Rattle.exam_edge.specs.ImageLaws.{at_end, joined, weaker}
 use Rattle.exam_edge.specs.Lent.{IsLent}
 use Rattle.exam_model.specs.Plan.{Plan}
 use Rattle.history_model.specs.declared.entry.Entry.{Entry}
 use Rattle.history_model.specs.declared.request.Reply.{Reply}
 use Rattle.history_model.specs.declared.request.Request.{Request}
-use Rattle.exam_office.specs.Asking.{AreGood, no_more, one_more as good_more, IsDurable, not_begun}
+use Rattle.exam_office.specs.Asking.{AreGood, no_more, one_more as good_more, IsDurable, not_begun, StandsForOne}
 use Rattle.exam_office.specs.Marks.{history, reach}
 use Rattle.exam_office.specs.Running.{Running}
 use Rattle.exam_office.specs.Writing.{IsSameOffice}
 use Rattle.answer_journal.specs.Journal.{JournalState, tells_of, accounts_of, faults_of, identity_of}
 use Rattle.replay_cli.specs.Replies.{line_of, lines_of}
 use Rattle.exam_program.specs.declared.halt.Halt.{Halt}
-use Rattle.exam_program.specs.Replays.{AreDone, none, one_more, MayBegin, IsFileOf}
+use Rattle.exam_program.specs.Replays.{AreDone, none, one_more, MayBegin, IsFileOf, IsReached, IsFileOnTheWay}
 use Rattle.exam_program.specs.Stopping.{IsDone, IsAnswered, IsStopped, at_sessions, at_journal, at_disk, at_memory, at_line, by_sessions, by_journal, by_disk, by_memory, by_sink, GoesOn, IsServed, IsUnserved}
 use Rattle.exam_program.specs.Writing.{IsWritten, WritesPart}
 
@@ -45,10 +46,36 @@ pub record IsSoFar {D : Type 0} (b : Tables) (plan : Plan) (base : List ℕ) (sc
   pub good : AreGood b plan base (history old.marks) (history cur.marks)
   pub durable : IsDurable b plan cur
   pub written : IsWritten told was now (lines_of replies)
+  pub moments : IsTrue (tells_of old.journal)
+      → AtEachMoment (accounts_of old.journal) (accounts_of cur.journal) (IsFileOnTheWay b plan base script (history old.marks))
 
 module _ {D : Type 0} (b : Tables) (plan : Plan) (base : List ℕ) (script : List Request) where
   pub none_so_far : (old : Running D) (told : Bool) (was : List ℕ) → IsDurable b plan old → IsSoFar b plan base script 0 old old told was was
-  none_so_far old told was durable = record { replies = []; are_done = none; good = no_more; durable = durable; written = λ t. sym (append-nil was) }
+  none_so_far old told was durable = record {
+    replies = [];
+    are_done = none;
+    good = no_more;
+    durable = durable;
+    written = λ t. sym (append-nil was);
+    moments = λ t. record {
+      more = [];
+      grown = sym (append-nil (accounts_of old.journal));
+      start = λ file image. record { so_far = history old.marks; is_one = reached_first; stands = durable.images t file image };
+      each = tt;
+    };
+  }
+    where
+      reached_first : IsReached b plan base script (history old.marks) (history old.marks)
+      reached_first = record {
+        done = [];
+        rest = script;
+        G = history old.marks;
+        replies = [];
+        whole = refl;
+        are_done = none;
+        good = no_more;
+        begins = not_yet b plan base (history old.marks) script;
+      }
 
   module _ (i : ℕ) (old cur new : Running D) (told : Bool) (was mid now : List ℕ) (s : IsSoFar b plan base script i old cur told was mid) where
     -- text after the lines so far
@@ -64,8 +91,36 @@ module _ {D : Type 0} (b : Tables) (plan : Plan) (base : List ℕ) (script : Lis
       done_more reply is = subst (λ (xs : List Request). AreDone b plan (history old.marks) xs (history new.marks) (s.replies ++ reply ∷ [])) (sym (take_more script i d lt))
           (one_more (take i script) (history cur.marks) s.replies (get_or script i d) (history new.marks) reply s.are_done is.does is.goes_on)
 
-      pub one_so_far : IsAnswered b plan base (get_or script i d) cur new told mid now → IsSoFar b plan base script (i + 1) old new told was now
-      one_so_far is = record {
+      -- the histories on the way of this request are on that of the script
+      on_the_way : (file : List ℕ) → IsFileOf b plan base (history cur.marks) (get_or script i d ∷ []) file → IsFileOnTheWay b plan base script (history old.marks) file
+      on_the_way file s1 = record {
+        so_far = s1.so_far;
+        is_one = record {
+          done = take i script;
+          rest = get_or script i d ∷ drop (suc i) script;
+          G = history cur.marks;
+          replies = s.replies;
+          whole = parted script i d lt;
+          are_done = s.are_done;
+          good = s.good;
+          begins = s1.is_one;
+        };
+        stands = s1.stands;
+      }
+
+      moments_on : tells_of cur.journal ≡ tells_of old.journal
+          → (IsTrue (tells_of cur.journal) → AtEachMoment (accounts_of cur.journal) (accounts_of new.journal) (IsFileOf b plan base (history cur.marks) (get_or script i d ∷ [])))
+          → IsTrue (tells_of old.journal) → AtEachMoment (accounts_of old.journal) (accounts_of new.journal) (IsFileOnTheWay b plan base script (history old.marks))
+      moments_on same step t =
+          joined (IsFileOnTheWay b plan base script (history old.marks)) (accounts_of old.journal) (accounts_of cur.journal) (accounts_of new.journal) (s.moments t)
+          (weaker (IsFileOf b plan base (history cur.marks) (get_or script i d ∷ [])) (IsFileOnTheWay b plan base script (history old.marks)) on_the_way
+          (accounts_of cur.journal) (accounts_of new.journal) (step (same ∙ t)))
+
+      pub one_so_far : tells_of cur.journal ≡ tells_of old.journal
+          → (IsTrue (tells_of cur.journal) → AtEachMoment (accounts_of cur.journal) (accounts_of new.journal) (IsFileOf b plan base (history cur.marks) (get_or script i d ∷ [])))
+          → IsAnswered b plan base (get_or script i d) cur new told mid now → IsSoFar b plan base script (i + 1) old new told was now
+      one_so_far same step is = record {
+        moments = moments_on same step;
         replies = s.replies ++ is.reply ∷ [];
         are_done = done_more is.reply is.done;
         good = good_on b plan base (history old.marks) (history cur.marks) (history new.marks) s.good is.done.good;
@@ -74,29 +129,38 @@ module _ {D : Type 0} (b : Tables) (plan : Plan) (base : List ℕ) (script : Lis
       }
 
       -- ---- the next request stops
-      module _ (each : IsTrue (tells_of old.journal) → AllImages (IsFileOf b plan base (history cur.marks) (get_or script i d ∷ [])) (latest (accounts_of new.journal)))
+      module _ (step : IsTrue (tells_of cur.journal) → AtEachMoment (accounts_of cur.journal) (accounts_of new.journal) (IsFileOf b plan base (history cur.marks) (get_or script i d ∷ [])))
+          (same_cur : tells_of cur.journal ≡ tells_of old.journal)
           (same_told : tells_of new.journal ≡ tells_of old.journal) (grows : faults_of old.journal ≤ faults_of cur.journal) where
         way_here : GoesOn b plan base script old new (history cur.marks) (get_or script i d ∷ drop (suc i) script) s.replies
         way_here = record {
-          done = take i script;
-          whole = parted script i d lt;
-          are_done = s.are_done;
-          good = s.good;
-          each = λ t file image. let e = each t file image in record { so_far = e.so_far; is_one = e.is_one; stands = e.stands };
+          going = record {
+            done = take i script;
+            whole = parted script i d lt;
+            are_done = s.are_done;
+            good = s.good;
+            each = λ t file image.
+                let e = at_end (IsFileOf b plan base (history cur.marks) (get_or script i d ∷ [])) (accounts_of cur.journal) (accounts_of new.journal) (step (same_cur ∙ t)) file image in
+                record { so_far = e.so_far; is_one = e.is_one; stands = e.stands };
+          };
+          moments = moments_on same_cur step;
         }
 
         way_after : (reply : Reply) → IsDone b plan base (get_or script i d) cur new reply
             → GoesOn b plan base script old new (history new.marks) (drop (i + 1) script) (s.replies ++ reply ∷ [])
         way_after reply is = record {
-          done = take (i + 1) script;
-          whole = sym (take-append-drop (i + 1) script);
-          are_done = done_more reply is;
-          good = good_on b plan base (history old.marks) (history cur.marks) (history new.marks) s.good is.good;
-          each = λ t file image. record {
-            so_far = history new.marks;
-            is_one = not_yet b plan base (history new.marks) (drop (i + 1) script);
-            stands = is.durable.images (same_told ∙ t) file image;
+          going = record {
+            done = take (i + 1) script;
+            whole = sym (take-append-drop (i + 1) script);
+            are_done = done_more reply is;
+            good = good_on b plan base (history old.marks) (history cur.marks) (history new.marks) s.good is.good;
+            each = λ t file image. record {
+              so_far = history new.marks;
+              is_one = not_yet b plan base (history new.marks) (drop (i + 1) script);
+              stands = is.durable.images (same_told ∙ t) file image;
+            };
           };
+          moments = moments_on same_cur step;
         }
 
         part_after : (reply : Reply) → WritesPart told mid now (line_of reply) → WritesPart told was now (lines_of (s.replies ++ reply ∷ []))
@@ -125,11 +189,14 @@ module _ {D : Type 0} (b : Tables) (plan : Plan) (base : List ℕ) (script : Lis
     G = history new.marks;
     replies = s.replies;
     way = record {
-      done = take (length script) script;
-      whole = sym (take-append-drop (length script) script) ∙ ap (λ (xs : List Request). take (length script) script ++ xs) (drop_all script);
-      are_done = s.are_done;
-      good = s.good;
-      each = λ t file image. record { so_far = history new.marks; is_one = refl; stands = s.durable.images (same ∙ t) file image };
+      going = record {
+        done = take (length script) script;
+        whole = sym (take-append-drop (length script) script) ∙ ap (λ (xs : List Request). take (length script) script ++ xs) (drop_all script);
+        are_done = s.are_done;
+        good = s.good;
+        each = λ t file image. record { so_far = history new.marks; is_one = refl; stands = s.durable.images (same ∙ t) file image };
+      };
+      moments = s.moments;
     };
     written = s.written;
   }
@@ -152,18 +219,24 @@ lent_on old cur new first then = record { grows = omega (arith, first.grows, the
 
 module _ {D : Type 0} (script : List Request) (i : ℕ) (old cur new : Running D) (told : Bool) (was mid now : List ℕ)
     (s : IsSoFar old.bank old.plan old.base script i old cur told was mid) (d : Request) (lt : i < length script) (same : IsSameOffice old cur) (told_now : Bool) (e : told_now ≡ told) where
-  pub next_so_far : IsAnswered cur.bank cur.plan cur.base (get_or script i d) cur new told_now mid now → IsSoFar old.bank old.plan old.base script (i + 1) old new told was now
-  next_so_far is =
-      one_so_far old.bank old.plan old.base script i old cur new told was mid now s d lt
+  -- each moment of the next request, by the bank, the plan and the base of the first office
+  each_as_first : (IsTrue (tells_of cur.journal) → AtEachMoment (accounts_of cur.journal) (accounts_of new.journal) (IsFileOf cur.bank cur.plan cur.base (history cur.marks) (get_or script i d ∷ [])))
+      → IsTrue (tells_of cur.journal) → AtEachMoment (accounts_of cur.journal) (accounts_of new.journal) (IsFileOf old.bank old.plan old.base (history cur.marks) (get_or script i d ∷ []))
+  each_as_first each t = as_first (λ (b : Tables) (p : Plan) (f : List ℕ). AtEachMoment (accounts_of cur.journal) (accounts_of new.journal) (IsFileOf b p f (history cur.marks) (get_or script i d ∷ []))) old cur same (each t)
+
+  pub next_so_far : (IsTrue (tells_of cur.journal) → AtEachMoment (accounts_of cur.journal) (accounts_of new.journal) (IsFileOf cur.bank cur.plan cur.base (history cur.marks) (get_or script i d ∷ [])))
+      → IsLent tells_of identity_of faults_of old.journal cur.journal
+      → IsAnswered cur.bank cur.plan cur.base (get_or script i d) cur new told_now mid now → IsSoFar old.bank old.plan old.base script (i + 1) old new told was now
+  next_so_far each first is =
+      one_so_far old.bank old.plan old.base script i old cur new told was mid now s d lt first.tells (each_as_first each)
       (subst (λ (t : Bool). IsAnswered old.bank old.plan old.base (get_or script i d) cur new t mid now) e
       (as_first (λ (b : Tables) (p : Plan) (f : List ℕ). IsAnswered b p f (get_or script i d) cur new told_now mid now) old cur same is))
 
-  pub next_stops : (IsTrue (tells_of cur.journal) → AllImages (IsFileOf cur.bank cur.plan cur.base (history cur.marks) (get_or script i d ∷ [])) (latest (accounts_of new.journal)))
+  pub next_stops : (IsTrue (tells_of cur.journal) → AtEachMoment (accounts_of cur.journal) (accounts_of new.journal) (IsFileOf cur.bank cur.plan cur.base (history cur.marks) (get_or script i d ∷ [])))
       → IsLent tells_of identity_of faults_of old.journal cur.journal → IsLent tells_of identity_of faults_of cur.journal new.journal
       → (h : Halt) → IsStopped cur.bank cur.plan cur.base (get_or script i d) cur new told_now mid now h → IsUnserved old.bank old.plan old.base script old new told was now h
   next_stops each first then h is =
       stop_so_far old.bank old.plan old.base script i old cur new told was mid now s d lt
-      (λ t. as_first (λ (b : Tables) (p : Plan) (f : List ℕ). AllImages (IsFileOf b p f (history cur.marks) (get_or script i d ∷ [])) (latest (accounts_of new.journal))) old cur same (each (first.tells ∙ t)))
-      (then.tells ∙ first.tells) first.grows h
+      (each_as_first each) first.tells (then.tells ∙ first.tells) first.grows h
       (subst (λ (t : Bool). IsStopped old.bank old.plan old.base (get_or script i d) cur new t mid now h) e
       (as_first (λ (b : Tables) (p : Plan) (f : List ℕ). IsStopped b p f (get_or script i d) cur new told_now mid now h) old cur same is))

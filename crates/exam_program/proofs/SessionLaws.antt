@@ -15,7 +15,7 @@ use Rattle.history_model.proofs.CompleteLaws.{complete_meets}
 use Rattle.history_model.specs.Places.{place}
 use Rattle.history_model.specs.Refusals.{refusal_of}
 use Rattle.history_model.specs.Requests.{Begins, RecordsAnswer, Leads, by_begin, by_answer, by_look, Serves, at_once, after_setting_aside, AdvancesFrom, IsServedBy, DoesUnrefused, DoesUnless}
-use Rattle.exam_program.specs.Laws.{CompleteSessionsMeet}
+use Rattle.exam_program.specs.Laws.{CompleteSessionsMeet, CompleteServedSessionsMeet}
 use Rattle.exam_program.specs.Replays.{AreDone, none, one_more}
 
 -- the first entry of a request
@@ -64,3 +64,6 @@ done_legal b plan H _ _ _ run (one_more done G replies request K reply are does 
 pub complete_sessions_meet : CompleteSessionsMeet
 complete_sessions_meet b plan base disk script H G rest replies s some way complete =
     complete_meets b plan G s some (done_legal b plan H way.going_on.done G replies way.legal way.going_on.are_done) complete
+
+pub complete_served_sessions_meet : CompleteServedSessionsMeet
+complete_served_sessions_meet b plan base disk opened closed H s some examined complete = complete_meets b plan H s some examined.legal complete

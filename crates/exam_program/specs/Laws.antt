@@ -14,16 +14,18 @@ use Rattle.history_model.specs.Entries.{seat_of}
 use Rattle.history_model.specs.Places.{place}
 use Rattle.history_model.specs.Refusals.{refusal_of}
 use Rattle.exam_office.specs.Files.{Stands}
+use Rattle.exam_office.specs.Noting.{NotedMark}
 use Rattle.exam_model.specs.Plan.{Plan}
 use Rattle.exam_model.specs.ProofTrees.{ProofTree}
 use Rattle.proof_tree.specs.Shape.{IsTree}
 use Rattle.proof_tree.specs.Spelling.{bytes_of}
 use Rattle.proof_tree.specs.Reading.{read}
-use Rattle.exam_program.specs.Commands.{Check, Assemble, Replay, command_of}
+use Rattle.command_line.specs.Commands.{Check, Assemble, Replay, Serve, Audit, command_of}
 use Rattle.exam_program.specs.Halts.{IsPlanIn, Reads, IsScriptIn}
 use Rattle.exam_program.specs.Outcomes.{IsReplayOf, Outcome}
 use Rattle.exam_program.specs.Outside.{Outside, DiskSeen}
-use Rattle.exam_program.specs.Replays.{IsUnderWay, IsFullAt}
+use Rattle.exam_program.specs.Replays.{IsUnderWay, IsFullAt, IsLeftAt}
+use Rattle.exam_program.specs.Serves.{IsExamined}
 use Rattle.exam_program.specs.Texts.{tree_text}
 
 -- ---- a printed tree is read again
@@ -68,7 +70,7 @@ AssembleIsComplete =
     → (status ≡ 0) ⊎ (status ≡ 10)
 
 -- the next request of a replay meets a limit of the plan: that of the sessions, or, with an entry of
--- the request, that of the journal
+-- the request after the file that is left, that of the journal
 pub data MeetsLimit (words : List (List ℕ)) (o : Outside) : Type 0 where
   of_sessions : (b : Tables) (p : Plan) (script : List Request) (base : List ℕ) (H G : List Entry)
       (request : Request) (rest : List Request) (replies : List Reply) (count : ℕ)
@@ -79,7 +81,7 @@ pub data MeetsLimit (words : List (List ℕ)) (o : Outside) : Type 0 where
       (request : Request) (rest : List Request) (replies : List Reply) (K : List Entry)
       (now size : ℕ) → IsReplayOf words o b p script base
       → IsUnderWay b p base o.disk script H G (request ∷ rest) replies
-      → IsFullAt b p G request K now size → MeetsLimit words o
+      → IsFullAt b p G request K now size → IsLeftAt b p o.disk K now → MeetsLimit words o
 
 -- and so does replay, where the plan has a base, the script is one, the file represents a history
 -- within the journal's limit, no limit of the plan is met and no fault of the disk was counted
@@ -99,6 +101,38 @@ ReplayIsComplete =
     → Outcome words o status text
     → (status ≡ 0) ⊎ (status ≡ 10)
 
+-- serve, where the plan has a base, the file represents a history within the journal's limit and no
+-- fault of the disk was counted, serves connections, or memory ran out: if none was served, it ends
+-- with 10
+abbrev pub ServeIsComplete : Type 0
+ServeIsComplete =
+    (words : List (List ℕ)) (o : Outside) (bank plan base : List ℕ) (b : Tables) (p : Plan) (H : List Entry) (status : ℕ) (text : List ℕ)
+    → command_of words ≡ Some (Serve bank plan)
+    → Reads o.named o.content bank plan b p
+    → p.base ≡ Some base
+    → IsTrue o.disk.told
+    → Stands b p H o.disk.found
+    → length o.disk.found ≤ p.journal
+    → (Rose o.files_before o.files_after → ⊥)
+    → (Rose o.disk.before o.disk.after → ⊥)
+    → Outcome words o status text
+    → status ≡ 10
+
+-- and so does audit, where the file represents a history within the journal's limit and no fault of
+-- the disk was counted
+abbrev pub AuditIsComplete : Type 0
+AuditIsComplete =
+    (words : List (List ℕ)) (o : Outside) (bank plan : List ℕ) (b : Tables) (p : Plan) (H : List Entry) (status : ℕ) (text : List ℕ)
+    → command_of words ≡ Some (Audit bank plan)
+    → Reads o.named o.content bank plan b p
+    → IsTrue o.disk.told
+    → Stands b p H o.disk.found
+    → length o.disk.found ≤ p.journal
+    → (Rose o.files_before o.files_after → ⊥)
+    → (Rose o.disk.before o.disk.after → ⊥)
+    → Outcome words o status text
+    → (status ≡ 0) ⊎ (status ≡ 10)
+
 -- ---- what a replay leaves
 -- the items shown in each complete session meet the plan
 abbrev pub CompleteSessionsMeet : Type 0
@@ -108,3 +142,12 @@ CompleteSessionsMeet =
     → IsUnderWay b plan base disk script H G rest replies
     → place plan G s ≡ Some Complete
     → Meets b plan (is_shown (seat_of G s))
+
+-- and so do those that a server leaves
+abbrev pub CompleteServedSessionsMeet : Type 0
+CompleteServedSessionsMeet =
+    (b : Tables) (plan : Plan) (base : List ℕ) (disk : DiskSeen) (opened closed : List NotedMark) (H : List Entry) (s : ℕ)
+    → 0 < plan.length
+    → IsExamined b plan base disk opened closed H
+    → place plan H s ≡ Some Complete
+    → Meets b plan (is_shown (seat_of H s))

@@ -1,11 +1,13 @@
-pub mod Commands
 pub mod Writing
 pub mod Bases
 pub mod Texts
 pub mod Outside
 pub mod Replays
 pub mod Stopping
-pub mod Halts
 pub mod ItemSets
+pub mod Halts
+pub mod Drilling
+pub mod Serves
 pub mod Outcomes
+pub mod Runs
 pub mod Laws

@@ -19,20 +19,30 @@ use Rattle.history_model.specs.declared.refusal.Refusal.TheVariants.{SessionsFul
 use Rattle.history_model.specs.declared.request.Reply.{Reply}
 use Rattle.history_model.specs.declared.request.Request.{Request}
 use Rattle.history_model.specs.Refusals.{refusal_of}
+use Rattle.history_model.specs.declared.request.Exposure.{Exposure}
+use Rattle.history_model.specs.declared.request.Reply.TheVariants.{Exposure as Exposed}
+use Rattle.history_model.specs.declared.summary.Summary.{Summary}
+use Rattle.exam_drill.specs.declared.fault.DrillFault.TheVariants as drill
+use Rattle.exam_drill.specs.Drills.{IsSummaryOfDrill, IsDrillFault}
+use Rattle.exam_drill.specs.Texts.{drill_text}
+use Rattle.exam_lines.specs.Texts.{summary_text}
+use Rattle.journal_audit.specs.Audit.{IsAudit}
+use Rattle.exam_office.specs.Noting.{NotedMark}
 use Rattle.exam_office.specs.declared.fault.OpenFault.{OpenFault}
 use Rattle.replay_cli.specs.declared.script_fault.ScriptFault.{ScriptFault}
 use Rattle.replay_cli.specs.Reading.{IsScriptFault, IsOfText as IsOfScript}
-use Rattle.replay_cli.specs.Replies.{lines_of}
+use Rattle.replay_cli.specs.Replies.{line_of, lines_of}
 use Rattle.replay_cli.specs.Texts.{script_text}
 use Rattle.exam_program.specs.declared.halt.Halt.{Halt}
 use Rattle.exam_program.specs.declared.halt.Halt.TheVariants as halt
 use Rattle.exam_program.specs.Bases.{FindsForm, ShowsNoForm, ShowsNoBase, IsBaseForm}
-use Rattle.exam_program.specs.Commands.{Command, Check, Assemble, Replay, command_of, bank_name, plan_name}
+use Rattle.command_line.specs.Commands.{Command, Check, Assemble, Replay, Serve, Audit, Drill, command_of, files_of}
 use Rattle.exam_program.specs.Halts.{Reads, IsOfText, IsScriptIn}
 use Rattle.exam_program.specs.Outside.{Outside, IsUntouched}
 use Rattle.exam_program.specs.Replays.{IsUnderWay, IsJournalRefused, IsOpeningFailed, IsFullAt, IsLeftAt}
+use Rattle.exam_program.specs.Serves.{IsServeOf, IsExamined}
 use Rattle.exam_program.specs.Writing.{IsWritten}
-use Rattle.exam_program.specs.Texts.{usage, disk_failed, journal_text, sessions_limit, journal_limit, no_form, no_base_form, bank_line, form_text}
+use Rattle.exam_program.specs.Texts.{usage, disk_failed, journal_text, sessions_limit, journal_limit, no_form, no_base_form, no_drill_base, bank_line, form_text}
 
 -- there are the files of a replay, they describe this bank, plan and script, and this is the base
 -- form
@@ -43,11 +53,20 @@ pub record ReadsAll (named : List ℕ → Bool) (content : List ℕ → List ℕ
   pub says_script : IsScriptIn (content name) script
   pub is_base : IsBaseForm b p base
 
+-- the words ask for a command over a bank and a plan of these names
+pub record IsOver (words : List (List ℕ)) (bank plan : List ℕ) : Type 0 where
+  pub command : Command
+  pub asked : command_of words ≡ Some command
+  pub names : files_of command ≡ Some (bank, plan)
+
 -- a command that assembles the whole problem has read what comes before: its bank and plan and, for a replay, its script
 abbrev pub IsReady : (List ℕ → Bool) → (List ℕ → List ℕ) → Command → Tables → Plan → Type 0
 IsReady named content (Check bank plan) b p = ⊥
 IsReady named content (Assemble bank plan) b p = Reads named content bank plan b p
 IsReady named content (Replay bank plan name) b p = Reads named content bank plan b p × IsTrue (named name) × ((script : List Request) × IsScriptIn (content name) script)
+IsReady named content (Serve bank plan) b p = Reads named content bank plan b p
+IsReady named content (Audit bank plan) b p = ⊥
+IsReady named content (Drill number sessions) b p = ⊥
 
 -- the words ask for a replay; its files are read, and this is the base form
 pub record IsReplayOf (words : List (List ℕ)) (o : Outside) (b : Tables) (p : Plan)
@@ -58,6 +77,13 @@ pub record IsReplayOf (words : List (List ℕ)) (o : Outside) (b : Tables) (p : 
   pub asked : command_of words ≡ Some (Replay bank plan name)
   pub reads : ReadsAll o.named o.content bank plan name b p script base
 
+-- the words ask for an audit, and its files are read
+pub record IsAuditOf (words : List (List ℕ)) (o : Outside) (b : Tables) (p : Plan) : Type 0 where
+  pub bank : List ℕ
+  pub plan : List ℕ
+  pub asked : command_of words ≡ Some (Audit bank plan)
+  pub reads : Reads o.named o.content bank plan b p
+
 -- the status and what is printed, for words and what is outside; each rule has its conditions. If
 -- the disk reports its content, the rules of two statuses other than 7, 9, 10 and 12 never both
 -- apply, except where forms that are both best lead to other histories; where 12 applies, 11 may too
@@ -65,14 +91,13 @@ pub data Outcome (words : List (List ℕ)) (o : Outside) : ℕ → List ℕ → 
   -- the words are not in the table
   faulty_words : command_of words ≡ None → IsUntouched o.disk → Outcome words o 2 usage
   -- the bank text is there and refused
-  bank_refused : (command : Command) (fault : ReadFault) → command_of words ≡ Some command
-      → IsTrue (o.named (bank_name command)) → bank_of (o.content (bank_name command)) ≡ Err fault
+  bank_refused : (bank plan : List ℕ) (fault : ReadFault) → IsOver words bank plan
+      → IsTrue (o.named bank) → bank_of (o.content bank) ≡ Err fault
       → IsUntouched o.disk → Outcome words o 3 (bank_text fault)
   -- the plan text is there and refused
-  plan_refused : (command : Command) (b : Tables) (fault : PlanFault)
-      → command_of words ≡ Some command → IsTrue (o.named (bank_name command))
-      → IsTrue (o.named (plan_name command)) → bank_of (o.content (bank_name command)) ≡ Ok b
-      → IsOfText fault → IsReadFault b (o.content (plan_name command)) fault
+  plan_refused : (bank plan : List ℕ) (b : Tables) (fault : PlanFault) → IsOver words bank plan
+      → IsTrue (o.named bank) → IsTrue (o.named plan) → bank_of (o.content bank) ≡ Ok b
+      → IsOfText fault → IsReadFault b (o.content plan) fault
       → IsUntouched o.disk → Outcome words o 4 (plan_text fault)
   -- the script text is there and refused
   script_refused : (bank plan name : List ℕ) (b : Tables) (p : Plan) (fault : ScriptFault)
@@ -119,9 +144,9 @@ pub data Outcome (words : List (List ℕ)) (o : Outside) : ℕ → List ℕ → 
       → IsFullAt b p G request K now size → IsLeftAt b p o.disk K now
       → Outcome words o 13 (lines_of replies ++ journal_limit size p.journal)
   -- the files failed before anything was printed
-  without_files : (command : Command) → command_of words ≡ Some command
+  without_files : (bank plan : List ℕ) → IsOver words bank plan
       → Rose o.files_before o.files_after → IsUntouched o.disk → Outcome words o 7 files_failed
-  -- the disk failed while the journal was opened, which kept its history
+  -- the disk failed while the journal was opened; a settled file keeps its history
   without_journal : (b : Tables) (p : Plan) (script : List Request) (base : List ℕ)
       → IsReplayOf words o b p script base → IsOpeningFailed b p o.disk
       → Outcome words o 9 disk_failed
@@ -131,13 +156,50 @@ pub data Outcome (words : List (List ℕ)) (o : Outside) : ℕ → List ℕ → 
       → IsUnderWay b p base o.disk script H G rest replies → Rose o.disk.before o.disk.after
       → Outcome words o 9 (lines_of replies ++ disk_failed)
   -- memory ran out before anything was printed, and before the journal was opened
-  without_memory : (command : Command) → command_of words ≡ Some command → IsUntouched o.disk
-      → Outcome words o 10 no_memory
+  without_memory : IsUntouched o.disk → Outcome words o 10 no_memory
   -- or at the next request, or its line
   without_more_memory : (b : Tables) (p : Plan) (script : List Request) (base : List ℕ)
       (H G : List Entry) (rest : List Request) (replies : List Reply)
       → IsReplayOf words o b p script base → IsUnderWay b p base o.disk script H G rest replies
       → Outcome words o 10 (lines_of replies ++ no_memory)
+  -- a server's journal is refused
+  server_refused : (b : Tables) (p : Plan) (base : List ℕ) (fault : OpenFault)
+      → IsServeOf words o b p base → IsJournalRefused b p o.disk fault
+      → Outcome words o 6 (journal_text fault)
+  -- the disk failed while a server's journal was opened; a settled file keeps its history
+  server_without_journal : (b : Tables) (p : Plan) (base : List ℕ) → IsServeOf words o b p base
+      → IsOpeningFailed b p o.disk → Outcome words o 9 disk_failed
+  -- memory ran out after a server's journal was opened, before any connection was accepted
+  server_without_memory : (b : Tables) (p : Plan) (base : List ℕ) (opened : List NotedMark)
+      (H : List Entry) → IsServeOf words o b p base → IsExamined b p base o.disk opened opened H
+      → Outcome words o 10 no_memory
+  -- the file represents a history: its numbers, and its exposure counts
+  audited : (b : Tables) (p : Plan) (s : Summary) (exposure : Exposure) → IsAuditOf words o b p
+      → (IsTrue o.disk.told → IsAudit b p o.disk.found s exposure) → IsUntouched o.disk
+      → Outcome words o 0 (summary_text s ++ line_of (Exposed exposure))
+  -- the journal of an audit is refused
+  audit_refused : (b : Tables) (p : Plan) (fault : OpenFault) → IsAuditOf words o b p
+      → IsJournalRefused b p o.disk fault → Outcome words o 6 (journal_text fault)
+  -- the disk failed in an audit
+  without_audit : (b : Tables) (p : Plan) → IsAuditOf words o b p
+      → Rose o.disk.before o.disk.after → IsUntouched o.disk → Outcome words o 9 disk_failed
+  -- the requests of a drill were done, over a disk in memory: its line, and the numbers of the
+  -- history that they lead to
+  drilled : (number sessions : ℕ) (s : Summary) → command_of words ≡ Some (Drill number sessions)
+      → IsSummaryOfDrill number sessions s → IsUntouched o.disk
+      → Outcome words o 0 (drill_text number sessions ++ summary_text s)
+  -- the plan text of a drill is refused, or its plan has no base form
+  drill_refused : (number sessions : ℕ) (fault : PlanFault)
+      → command_of words ≡ Some (Drill number sessions)
+      → IsDrillFault number sessions (drill.Plan fault) → IsUntouched o.disk
+      → Outcome words o 4 (plan_text fault)
+  drill_without_base : (number sessions : ℕ) → command_of words ≡ Some (Drill number sessions)
+      → IsDrillFault number sessions drill.NoBase → IsUntouched o.disk
+      → Outcome words o 12 no_drill_base
+  -- an entry of a drill has no room in its journal
+  drill_full : (number sessions size most : ℕ) → command_of words ≡ Some (Drill number sessions)
+      → IsDrillFault number sessions (drill.JournalFull size most) → IsUntouched o.disk
+      → Outcome words o 13 (journal_limit size most)
 
 -- this was printed
 pub record Prints (words : List (List ℕ)) (o : Outside) (told : Bool) (old new : List ℕ)
@@ -161,9 +223,10 @@ abbrev pub Ends : List (List ℕ) → Outside → Bool → List ℕ → List ℕ
 Ends words o told old new status = (Prints words o told old new status) ⊎ ((status ≡ 8) × PrintsPart words o told old new)
 
 -- ---- what is left of the journal, whatever the status
--- the file is left as it was found; or the disk failed while the journal was opened, which kept its
--- history; or the first requests of the script were done, and the file that is left, and each that a
--- crash may leave, represents the history that they lead to, or that with the first entries of the next
+-- the file is left as it was found; or the disk failed while the journal was opened, and a settled file
+-- kept its history; or the first requests of the script were done, and the file that is left, and each that a
+-- crash may leave, represents the history that they lead to, or that with the first entries of the
+-- next; or a server's journal was opened, and memory ran out before any connection was accepted
 pub data LeavesJournal (words : List (List ℕ)) (o : Outside) : Type 0 where
   as_found : IsUntouched o.disk → LeavesJournal words o
   at_opening : (b : Tables) (p : Plan) (script : List Request) (base : List ℕ)
@@ -171,6 +234,11 @@ pub data LeavesJournal (words : List (List ℕ)) (o : Outside) : Type 0 where
   after_requests : (b : Tables) (p : Plan) (script : List Request) (base : List ℕ)
       (H G : List Entry) (rest : List Request) (replies : List Reply)
       → IsReplayOf words o b p script base → IsUnderWay b p base o.disk script H G rest replies
+      → LeavesJournal words o
+  server_at_opening : (b : Tables) (p : Plan) (base : List ℕ) → IsServeOf words o b p base
+      → IsOpeningFailed b p o.disk → LeavesJournal words o
+  after_opening : (b : Tables) (p : Plan) (base : List ℕ) (opened : List NotedMark)
+      (H : List Entry) → IsServeOf words o b p base → IsExamined b p base o.disk opened opened H
       → LeavesJournal words o
 
 -- ---- what a command has printed when it halts, before the text of its halt
@@ -216,6 +284,10 @@ EndsBy halt.Sink status = status ≡ 8
 -- the statuses that there are
 abbrev pub IsStatus : ℕ → Type 0
 IsStatus status = Contains (0 ∷ 2 ∷ 3 ∷ 4 ∷ 5 ∷ 6 ∷ 7 ∷ 8 ∷ 9 ∷ 10 ∷ 11 ∷ 12 ∷ 13 ∷ []) status
+
+-- those of a run that may serve connections
+abbrev pub IsStatusOfRun : ℕ → Type 0
+IsStatusOfRun status = IsStatus status ⊎ (status ≡ 14)
 
 -- those of a run that ends before the journal is opened
 abbrev pub IsStatusBefore : ℕ → Type 0

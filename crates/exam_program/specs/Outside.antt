@@ -1,10 +1,10 @@
 -- What a run finds outside, and what it leaves there.
 use Rattle.std.specs.Prelude.{◌≡◌, ℕ, Bool, IsTrue, List}
-use Rattle.exam_edge.specs.Images.{Account, IsImage, IsWithin, AllImages, settled, latest}
+use Rattle.exam_edge.specs.Images.{Account, IsImage, IsWithin, AllImages, AtEachMoment, settled, latest}
 
 -- the disk of the journal: whether it reports its content, its count of faults before and after,
--- the file that was found and the one that is left, and the accounts of what a crash might leave
--- before, and of what it may leave after
+-- the file that was found and the one that is left, the accounts of what a crash might leave
+-- before, and of what it may leave after, and the accounts at each moment so far, before and after
 pub record DiskSeen : Type 0 where
   pub told : Bool
   pub before : ℕ
@@ -13,6 +13,8 @@ pub record DiskSeen : Type 0 where
   pub left : List ℕ
   pub images_before : Account
   pub images : Account
+  pub moments_before : List Account
+  pub moments : List Account
 
 -- the names that have files, what these hold, and the files' count of faults before and after; and
 -- the disk
@@ -37,13 +39,17 @@ disk_seen tells content accounts faults old new = record {
   left = content new;
   images_before = latest (accounts old);
   images = latest (accounts new);
+  moments_before = accounts old;
+  moments = accounts new;
 }
 
 -- if the disk reports its content, the file is left as it was found, and each file that a crash may
--- leave is one that it might have left before
+-- leave, now or at a moment since, is one that it might have left before
 pub record IsUntouched (disk : DiskSeen) : Type 0 where
   pub left : IsTrue disk.told → disk.left ≡ disk.found
   pub images : IsTrue disk.told → AllImages (IsImage disk.images_before) disk.images
+  pub moments : IsTrue disk.told
+      → AtEachMoment disk.moments_before disk.moments (IsImage disk.images_before)
 
 -- the disk was settled: a crash would have left the file that was found, and nothing else
 abbrev pub WasSettled : DiskSeen → Type 0

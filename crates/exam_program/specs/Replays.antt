@@ -3,7 +3,7 @@
 use Rattle.std.specs.Prelude.{◌≡◌, ℕ, ◌+◌, ◌<◌, ⊤, Bool, IsTrue, List, [], ◌∷◌, ◌++◌, length, Option, Some, None}
 use Rattle.bank_tables.specs.Tables.{Tables}
 use Rattle.exam_edge.specs.Faults.{Rose}
-use Rattle.exam_edge.specs.Images.{Account, AllImages}
+use Rattle.exam_edge.specs.Images.{Account, AllImages, AtEachMoment}
 use Rattle.exam_model.specs.Plan.{Plan}
 use Rattle.history_model.specs.declared.entry.Entry.{Entry}
 use Rattle.history_model.specs.declared.refusal.Refusal.TheVariants.{SessionsFull, JournalFull, Disk as DiskFault, Memory as NoMemory}
@@ -63,8 +63,26 @@ pub record IsGoingOn (b : Tables) (plan : Plan) (base : List ℕ) (script : List
   pub good : AreGood b plan base H G
   pub each : IsTrue told → AllImages (IsFileOf b plan base G rest) images
 
+-- a history on the way of a script from H: its first requests are done, and then the first entries of
+-- the next one: none of them, some, or all
+pub record IsReached (b : Tables) (plan : Plan) (base : List ℕ) (script : List Request)
+    (H K : List Entry) : Type 0 where
+  pub done : List Request
+  pub rest : List Request
+  pub G : List Entry
+  pub replies : List Reply
+  pub whole : script ≡ done ++ rest
+  pub are_done : AreDone b plan H done G replies
+  pub good : AreGood b plan base H G
+  pub begins : MayBegin b plan base G rest K
+
+-- the file represents such a history
+abbrev pub IsFileOnTheWay : Tables → Plan → List ℕ → List Request → List Entry → List ℕ → Type 0
+IsFileOnTheWay b plan base script H file = StandsForOne b plan (IsReached b plan base script H) file
+
 -- a replay over a disk: the file that was found represents H, and the one that is left has what the
--- requests added
+-- requests added. If the disk was settled, then at each moment of the run each file that a crash may
+-- leave represents a history on the way of the script
 pub record IsUnderWay (b : Tables) (plan : Plan) (base : List ℕ) (disk : DiskSeen)
     (script : List Request) (H G : List Entry)
     (rest : List Request) (replies : List Reply) : Type 0 where
@@ -72,6 +90,8 @@ pub record IsUnderWay (b : Tables) (plan : Plan) (base : List ℕ) (disk : DiskS
   pub found : IsTrue disk.told → Stands b plan H disk.found
   pub left : IsTrue disk.told → IsFileOf b plan base G rest disk.left
   pub going_on : IsGoingOn b plan base script disk.told disk.images H G rest replies
+  pub moments : IsTrue disk.told → WasSettled disk
+      → AtEachMoment disk.moments_before disk.moments (IsFileOnTheWay b plan base script H)
 
 -- ---- the limit of the journal
 -- the file represents this history, and has this length
@@ -107,10 +127,13 @@ pub record IsJournalRefused (b : Tables) (plan : Plan) (disk : DiskSeen)
 
 -- ---- a disk that failed while the journal was opened
 -- its count of faults rose; and if it was settled, and its file represented a history, the file that
--- is left represents that history, and so does each file that a crash may leave
+-- is left represents that history, and so does each file that a crash may leave, now or at a moment
+-- since
 pub record IsOpeningFailed (b : Tables) (plan : Plan) (disk : DiskSeen) : Type 0 where
   pub rose : Rose disk.before disk.after
   pub left : IsTrue disk.told → WasSettled disk → (H : List Entry) → Stands b plan H disk.found
       → Stands b plan H disk.left
   pub images : IsTrue disk.told → WasSettled disk → (H : List Entry) → Stands b plan H disk.found
       → AllImages (Stands b plan H) disk.images
+  pub moments : IsTrue disk.told → WasSettled disk → (H : List Entry) → Stands b plan H disk.found
+      → AtEachMoment disk.moments_before disk.moments (Stands b plan H)

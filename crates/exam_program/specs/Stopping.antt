@@ -1,8 +1,8 @@
 -- How the requests of a replay end, step by step.
-use Rattle.std.specs.Prelude.{◌≡◌, ◌⊎◌, ℕ, Bool, List, [], ◌∷◌, Some, None}
+use Rattle.std.specs.Prelude.{◌≡◌, ◌⊎◌, ℕ, Bool, IsTrue, List, [], ◌∷◌, Some, None}
 use Rattle.bank_tables.specs.Tables.{Tables}
 use Rattle.exam_edge.specs.Faults.{Rose}
-use Rattle.exam_edge.specs.Images.{latest}
+use Rattle.exam_edge.specs.Images.{AtEachMoment, latest}
 use Rattle.exam_model.specs.Plan.{Plan}
 use Rattle.history_model.specs.declared.entry.Entry.{Entry}
 use Rattle.history_model.specs.declared.refusal.Refusal.TheVariants.{SessionsFull}
@@ -20,7 +20,7 @@ use Rattle.replay_cli.specs.Replies.{line_of, lines_of}
 use Rattle.exam_program.specs.declared.halt.Halt.{Halt}
 use Rattle.exam_program.specs.declared.halt.Halt.TheVariants as halt
 use Rattle.exam_program.specs.Outside.{DiskSeen, IsUntouched}
-use Rattle.exam_program.specs.Replays.{halt_of, IsGoingOn, IsUnderWay, IsLeftAt, IsFullAt, IsJournalRefused, IsOpeningFailed}
+use Rattle.exam_program.specs.Replays.{halt_of, IsGoingOn, IsFileOnTheWay, IsUnderWay, IsLeftAt, IsFullAt, IsJournalRefused, IsOpeningFailed}
 use Rattle.exam_program.specs.Writing.{IsWritten, WritesPart}
 
 -- why a journal was not opened
@@ -111,11 +111,15 @@ pub record Finishes (Way : List Entry → List Request → List Reply → Type 0
   pub way : Way G [] replies
   pub written : IsWritten told was now (lines_of replies)
 
--- the requests of a script, from one office to another
-abbrev pub GoesOn : {D : Type 0} → Tables → Plan → List ℕ → List Request → Running D → Running D
-    → List Entry → List Request → List Reply → Type 0
-GoesOn b plan base script old new G rest replies =
-    IsGoingOn b plan base script (tells_of old.journal) (latest (accounts_of new.journal)) (history old.marks) G rest replies
+-- the requests of a script, from one office to another, and what a crash may leave at each moment
+pub record GoesOn {D : Type 0} (b : Tables) (plan : Plan) (base : List ℕ) (script : List Request)
+    (old new : Running D) (G : List Entry) (rest : List Request) (replies : List Reply)
+    : Type 0 where
+  pub going : IsGoingOn b plan base script (tells_of old.journal) (latest (accounts_of new.journal))
+      (history old.marks) G rest replies
+  pub moments : IsTrue (tells_of old.journal)
+      → AtEachMoment (accounts_of old.journal) (accounts_of new.journal)
+      (IsFileOnTheWay b plan base script (history old.marks))
 
 -- the office is at this history, with nothing in doubt, and its journal has this length
 pub record IsOfficeAt {D : Type 0} (new : Running D) (K : List Entry) (reached : ℕ) : Type 0 where

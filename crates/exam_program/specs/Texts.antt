@@ -14,10 +14,13 @@ use Rattle.exam_office.specs.declared.fault.OpenFault.{OpenFault}
 use Rattle.exam_office.specs.declared.fault.OpenFault.TheVariants.{Journal, BadRecord, BadTree, Illegal, Disk, Memory}
 
 unfoldable pub usage : List ℕ
-usage = codes "usage: shadowd check BANK PLAN | assemble BANK PLAN | replay BANK PLAN SCRIPT\n"
+usage = codes "usage: shadowd check BANK PLAN | assemble BANK PLAN | replay BANK PLAN SCRIPT | serve BANK PLAN | audit BANK PLAN | drill NUMBER SESSIONS\n"
 
 unfoldable pub disk_failed : List ℕ
 disk_failed = codes "disk failed\n"
+
+unfoldable pub door_failed : List ℕ
+door_failed = codes "door failed\n"
 
 -- what is wrong with the journal's file, with the place of the record's gate
 unfoldable pub journal_text : OpenFault → List ℕ
@@ -76,3 +79,7 @@ objective_line value proved nodes = codes "objective " ++ (decimal value ++ (cod
 unfoldable pub form_text : Problem → List ℕ → Bool → ProofTree → List ℕ
 form_text P form proved T =
     codes "form" ++ (items_text (size P.bank) (has form) ++ (codes "\n" ++ (objective_line (objective P (has form)) proved (length T.nodes) ++ (codes "tree " ++ tree_text T))))
+
+-- the plan of a drill has no base form
+unfoldable pub no_drill_base : List ℕ
+no_drill_base = codes "no base form\n"

@@ -1,6 +1,6 @@
 //! What the definitions imply, for all words and all files.
 
-ghost use Rattle.exam_program.specs.Laws.{PrintedTreeIsReadBack, OneTreeOfText, OnePlanOfText, CheckIsComplete, AssembleIsComplete, ReplayIsComplete, CompleteSessionsMeet};
+ghost use Rattle.exam_program.specs.Laws.{PrintedTreeIsReadBack, OneTreeOfText, OnePlanOfText, CheckIsComplete, AssembleIsComplete, ReplayIsComplete, ServeIsComplete, AuditIsComplete, CompleteSessionsMeet, CompleteServedSessionsMeet};
 
 /// A tree that is printed can be read: its digits give its bytes, and these give the tree.
 pub fn a_printed_tree_is_read_back()
@@ -27,13 +27,27 @@ pub fn assemble_is_complete()
     ensures { AssembleIsComplete }
 {}
 
-/// So does `replay` of a plan with a base, a script in its form and a journal of the plan, if it meets no limit of the plan
-/// and the disk never failed.
+/// `replay` of a plan with a base, a script in its form and a journal of the plan ends so too, if no limit of the plan is met.
 pub fn replay_is_complete()
     ensures { ReplayIsComplete }
+{}
+
+/// `serve` of a plan with a base over a journal of the plan serves connections, or ends with status 10.
+pub fn serve_is_complete()
+    ensures { ServeIsComplete }
+{}
+
+/// `audit` over a journal of the plan ends so too.
+pub fn audit_is_complete()
+    ensures { AuditIsComplete }
 {}
 
 /// The items shown in each complete session of a replay meet the plan.
 pub fn complete_sessions_meet()
     ensures { CompleteSessionsMeet }
+{}
+
+/// And so do those of each complete session that a server leaves.
+pub fn complete_served_sessions_meet()
+    ensures { CompleteServedSessionsMeet }
 {}

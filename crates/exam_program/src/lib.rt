@@ -1,10 +1,11 @@
 //! The program as a library: what the words ask for, the texts of the files, the assembly of a form, the requests of a script
-//! over the journal, the lines and the statuses. Upward it promises, in the contract of the call `run`, what is printed and with which status, for all words
+//! over the journal, the work of a server, the lines and the statuses. Upward it promises, in the contract of the call `run`, what is printed and with which status, for all words
 //! and all files; it opens no file of the host itself. `run_alone` does the work of each command, and waits for nobody.
 #![tactic(auto)]
 
+mod auditing;
 mod base;
-mod command;
+mod drilling;
 mod halt;
 mod item_sets;
 pub mod laws;
@@ -15,6 +16,7 @@ mod program;
 mod reading;
 mod replay;
 mod report;
+mod serving;
 mod tree_texts;
 mod work;
 mod world;

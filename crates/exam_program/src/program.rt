@@ -1,23 +1,30 @@
 //! The program as one call, and the same call of the commands that wait for nobody.
 
-ghost use Rattle.std.specs.Prelude.{◌≡◌, ℕ, ◌≤◌, ◌⊎◌, All, List, false, length, map, None, Some, OnOk, IfErr, IsTrue, string_bytes};
+ghost use Rattle.std.specs.Prelude.{◌≡◌, ℕ, ◌≤◌, ◌⊎◌, All, List, false, map, None, Some, OnOk, IfErr, IsTrue, string_bytes, vec_len};
+ghost use Rattle.std.specs.Option.{option_map};
 ghost use Rattle.exam_edge.specs.Faults.{Rose};
 ghost use Rattle.exam_edge.specs.Lent.{IsLent};
-ghost use Rattle.exam_program.specs.Commands.{IsReplay, IsOfReplay, command_of, said};
+ghost use Rattle.exam_serve.specs.Doors.{AreLent, AreServed, HasFailedDoor};
+ghost use Rattle.command_line.specs.Commands.{HasJournal, IsOfJournal, IsServe, IsOfServe, IsInRange, AreInRange, command_of, said};
 ghost use Rattle.exam_program.specs.Halts.{IsBeforeJournal};
-ghost use Rattle.exam_program.specs.Outcomes.{Ends, Prints, Halts, LeavesJournal, IsStatus, IsStatusBefore};
+ghost use Rattle.exam_program.specs.Outcomes.{Ends, Prints, Halts, LeavesJournal, IsStatus, IsStatusBefore, IsStatusOfRun};
 ghost use Rattle.exam_program.specs.Outside.{outside, disk_seen};
+ghost use Rattle.exam_program.specs.Runs.{RunEnds, RunLeaves};
 
-use crate::command::{Command, command_of};
+use crate::auditing::audit_journal;
+use crate::drilling::drill;
 use crate::halt::Halt;
 use crate::report::{print, report};
-use crate::work::{assemble, check, serve};
+use crate::serving::{Left, serve};
+use crate::work::{assemble, check, replay_script};
 use crate::world::{Finish, Tools, World};
+use command_line::{Command, command_of};
 use exam_edge::{Disk, Door, Files, Gate, Sink};
 use std::alloc::Global;
 use std::sync::Wait;
 use std::thread::Threads;
 
+/// Does the work of a command that waits for nobody.
 #[tactic(auto, using(crate::proofs::OutcomeLaws::as_it_is))]
 fn work<F: Files, O: Sink, D: Disk>(
     alloc: Global,
@@ -26,6 +33,8 @@ fn work<F: Files, O: Sink, D: Disk>(
     out: &mut O,
     disk: D,
 ) -> (D, Result<(), Halt>)
+    requires alone { IsServe (said command) → ⊥ }
+    requires range { IsInRange (said command) }
     ensures ok { OnOk result.1 (IsTrue (F.tells files.old) → (words : List (List ℕ))
         → command_of words ≡ Some (said command.entry)
         → Prints words (outside (F.has files.old) (F.content files.old) (F.faults files.old) (F.faults files.new)
@@ -40,7 +49,7 @@ fn work<F: Files, O: Sink, D: Disk>(
     ensures sink { result.1 ≡ Err Halt.Sink → Rose (O.faults out.old) (O.faults out.new) }
     ensures failed { result.1 ≡ Err Halt.Disk → Rose (D.faults disk) (D.faults result.0) }
     ensures kept { IfErr result.1 (λ halt. IsBeforeJournal halt → result.0 ≡ disk) }
-    ensures unused { (IsReplay (said command.entry) → ⊥) → result.0 ≡ disk }
+    ensures unused { (HasJournal (said command.entry) → ⊥) → result.0 ≡ disk }
     ensures files_grow { F.faults files.old ≤ F.faults files.new }
     ensures sink_grows { O.faults out.old ≤ O.faults out.new }
     ensures files_tell { F.tells files.new ≡ F.tells files.old }
@@ -56,33 +65,40 @@ fn work<F: Files, O: Sink, D: Disk>(
             let done = assemble(alloc, files, out, bank, plan);
             (disk, done)
         }
-        Command::Replay { bank, plan, script } => serve(
+        Command::Replay { bank, plan, script } => replay_script(
             alloc, files, out, disk, bank, plan, script,
         ),
+        Command::Audit { bank, plan } => audit_journal(alloc, files, out, disk, bank, plan),
+        Command::Drill { number, sessions } => {
+            let done = drill(alloc, out, number, sessions);
+            (disk, done)
+        }
+        Command::Serve { .. } => unreachable!(),
     }
 }
 
-/// The status to end with, and the disk.
+/// Does what a command line asks for, if it asks for a command, and gives the status to end with, and the disk.
 fn status_of<F: Files, O: Sink, D: Disk>(
     alloc: Global,
-    words: &[String],
+    command: Option<Command<'_>>,
     files: &mut F,
     out: &mut O,
     disk: D,
 ) -> (D, u8)
-    ensures answers { IsTrue (F.tells files.old)
-        → Ends (map (λ w. string_bytes w) words.now)
-        (outside (F.has files.old) (F.content files.old) (F.faults files.old) (F.faults files.new)
+    requires alone { IsOfServe (option_map said command) → ⊥ }
+    requires range { AreInRange (option_map said command) }
+    ensures answers { IsTrue (F.tells files.old) → (words : List (List ℕ))
+        → option_map said command.entry ≡ command_of words
+        → Ends words (outside (F.has files.old) (F.content files.old) (F.faults files.old) (F.faults files.new)
         (disk_seen D.tells D.content D.accounts D.faults disk result.0))
         (O.tells out.old) (O.written out.old) (O.written out.new) result.1 }
-    ensures faulty { command_of (map (λ w. string_bytes w) words.now) ≡ None
-        → (result.1 ≡ 2) ⊎ (result.1 ≡ 8) }
-    ensures usage { result.1 ≡ 2 → command_of (map (λ w. string_bytes w) words.now) ≡ None }
+    ensures faulty { option_map said command.entry ≡ None → (result.1 ≡ 2) ⊎ (result.1 ≡ 8) }
+    ensures usage { result.1 ≡ 2 → option_map said command.entry ≡ None }
     ensures files { result.1 ≡ 7 → Rose (F.faults files.old) (F.faults files.new) }
     ensures sink { result.1 ≡ 8 → Rose (O.faults out.old) (O.faults out.new) }
     ensures failed { result.1 ≡ 9 → Rose (D.faults disk) (D.faults result.0) }
     ensures kept { IsStatusBefore result.1 → result.0 ≡ disk }
-    ensures unused { (IsOfReplay (command_of (map (λ w. string_bytes w) words.now)) → ⊥) → result.0 ≡ disk }
+    ensures unused { (IsOfJournal (option_map said command.entry) → ⊥) → result.0 ≡ disk }
     ensures status { IsStatus result.1 }
     ensures files_grow { F.faults files.old ≤ F.faults files.new }
     ensures sink_grows { O.faults out.old ≤ O.faults out.new }
@@ -90,10 +106,10 @@ fn status_of<F: Files, O: Sink, D: Disk>(
     ensures sink_tells { O.tells out.new ≡ O.tells out.old }
     ensures disk { IsLent D.tells D.identity D.faults disk result.0 }
 {
-    let Some(command) = command_of(words) else {
+    let Some(command) = command else {
         let status = print(
             out,
-            b"usage: shadowd check BANK PLAN | assemble BANK PLAN | replay BANK PLAN SCRIPT\n",
+            b"usage: shadowd check BANK PLAN | assemble BANK PLAN | replay BANK PLAN SCRIPT | serve BANK PLAN | audit BANK PLAN | drill NUMBER SESSIONS\n",
             2,
         );
         return (disk, status);
@@ -105,7 +121,8 @@ fn status_of<F: Files, O: Sink, D: Disk>(
     }
 }
 
-/// Does what the words ask for, which are those after the program's name, and waits for nobody.
+/// Does what the words ask for, which are those after the program's name, and waits for nobody. The words do not ask for a
+/// server.
 /// It gives the status to end with: 0 the work was done, 2 the words are not in the table,
 /// 3, 4 and 5 the bank, the plan or the script is refused, 6 the journal represents no history of the bank and the plan,
 /// 7, 8 and 9 a call of the files, the sink or the disk failed, 10 out of memory, 11 no set of items is a form, 12 the plan has
@@ -115,6 +132,7 @@ pub fn run_alone<F: Files, O: Sink, D: Disk>(
     words: &[String],
     tools: Tools<F, O, D>,
 ) -> (u8, Tools<F, O, D>)
+    requires alone { IsOfServe (command_of (map (λ w. string_bytes w) words.now)) → ⊥ }
     // If the files report their content: what is printed, and with which status. If the sink reports its content too: that this
     // is written. If the disk reports its content too: what the journal holds, and what a crash may leave of it.
     ensures answers { IsTrue (F.tells tools.files)
@@ -127,15 +145,15 @@ pub fn run_alone<F: Files, O: Sink, D: Disk>(
         → LeavesJournal (map (λ w. string_bytes w) words.now)
         (outside (F.has tools.files) (F.content tools.files) (F.faults tools.files) (F.faults result.1.files)
         (disk_seen D.tells D.content D.accounts D.faults tools.disk result.1.disk)) }
-    // The causes, whether they report their content or not.
+    // The causes, whether they report their content or not. Out of memory is free.
     ensures faulty { command_of (map (λ w. string_bytes w) words.now) ≡ None
-        → (result.0 ≡ 2) ⊎ (result.0 ≡ 8) }
+        → (result.0 ≡ 2) ⊎ ((result.0 ≡ 8) ⊎ (result.0 ≡ 10)) }
     ensures usage { result.0 ≡ 2 → command_of (map (λ w. string_bytes w) words.now) ≡ None }
     ensures files { result.0 ≡ 7 → Rose (F.faults tools.files) (F.faults result.1.files) }
     ensures sink { result.0 ≡ 8 → Rose (O.faults tools.out) (O.faults result.1.out) }
     ensures failed { result.0 ≡ 9 → Rose (D.faults tools.disk) (D.faults result.1.disk) }
     ensures kept { IsStatusBefore result.0 → result.1.disk ≡ tools.disk }
-    ensures unused { (IsOfReplay (command_of (map (λ w. string_bytes w) words.now)) → ⊥)
+    ensures unused { (IsOfJournal (command_of (map (λ w. string_bytes w) words.now)) → ⊥)
         → result.1.disk ≡ tools.disk }
     ensures status { IsStatus result.0 }
 
@@ -150,16 +168,93 @@ pub fn run_alone<F: Files, O: Sink, D: Disk>(
         mut out,
         disk,
     } = tools;
-    let (disk, status) = status_of(alloc, words, &mut files, &mut out, disk);
-    (status, Tools { files, out, disk })
+    match command_of(alloc, words) {
+        Ok(command) => {
+            let (disk, status) = status_of(alloc, command, &mut files, &mut out, disk);
+            (status, Tools { files, out, disk })
+        }
+        Err(_) => {
+            let status = print(&mut out, b"no memory\n", 10);
+            (status, Tools { files, out, disk })
+        }
+    }
+}
+
+/// Does what the words ask for, and gives the status to end with, the disk and the doors.
+#[tactic(auto, using(crate::proofs::RunLaws::none_served))]
+fn left_of<R, F, O, D, L, G>(
+    rt: &R,
+    alloc: Global,
+    words: &[String],
+    files: &mut F,
+    out: &mut O,
+    disk: D,
+    doors: Vec<L>,
+    gate: &G,
+) -> Left<D, L>
+where
+    R: Threads + Wait + Sync,
+    F: Files,
+    O: Sink,
+    D: Disk + Send,
+    L: Door + Send,
+    G: Gate + Sync,
+    requires few { vec_len doors ≤ 65535 }
+    requires home { All (λ door. L.is_out door ≡ false) doors.items }
+    ensures answers { IsTrue (F.tells files.old)
+        → RunEnds (λ opened closed failed. AreServed L.tells L.coming L.returned L.is_out L.faults
+        L.identity L.Link.tells L.Link.left L.Link.written L.Link.faults L.Link.identity
+        opened closed doors.items result.doors.items failed) (result.doors ≡ doors)
+        (map (λ w. string_bytes w) words.now)
+        (outside (F.has files.old) (F.content files.old) (F.faults files.old) (F.faults files.new)
+        (disk_seen D.tells D.content D.accounts D.faults disk result.disk))
+        (O.tells out.old) (O.written out.old) (O.written out.new) result.status }
+    ensures faulty { command_of (map (λ w. string_bytes w) words.now) ≡ None
+        → (result.status ≡ 2) ⊎ ((result.status ≡ 8) ⊎ (result.status ≡ 10)) }
+    ensures usage { result.status ≡ 2 → command_of (map (λ w. string_bytes w) words.now) ≡ None }
+    ensures files { result.status ≡ 7 → Rose (F.faults files.old) (F.faults files.new) }
+    ensures sink { result.status ≡ 8 → Rose (O.faults out.old) (O.faults out.new) }
+    ensures failed { result.status ≡ 9 → Rose (D.faults disk) (D.faults result.disk) }
+    ensures door { result.status ≡ 14 → HasFailedDoor L.faults doors.items result.doors.items }
+    ensures kept { IsStatusBefore result.status → result.disk ≡ disk }
+    ensures unused { (IsOfJournal (command_of (map (λ w. string_bytes w) words.now)) → ⊥)
+        → result.disk ≡ disk }
+    ensures idle { (IsOfServe (command_of (map (λ w. string_bytes w) words.now)) → ⊥)
+        → result.doors ≡ doors }
+    ensures status { IsStatusOfRun result.status }
+    ensures files_grow { F.faults files.old ≤ F.faults files.new }
+    ensures sink_grows { O.faults out.old ≤ O.faults out.new }
+    ensures files_tell { F.tells files.new ≡ F.tells files.old }
+    ensures sink_tells { O.tells out.new ≡ O.tells out.old }
+    ensures disk { IsLent D.tells D.identity D.faults disk result.disk }
+    ensures doors { AreLent L.tells L.identity L.faults L.is_out doors.items result.doors.items }
+{
+    match command_of(alloc, words) {
+        Ok(Some(Command::Serve { bank, plan })) => serve(
+            rt, alloc, files, out, disk, doors, gate, bank, plan,
+        ),
+        Ok(command) => {
+            let (disk, status) = status_of(alloc, command, files, out, disk);
+            Left {
+                disk,
+                doors,
+                status,
+            }
+        }
+        Err(_) => Left {
+            disk,
+            doors,
+            status: print(out, b"no memory\n", 10),
+        },
+    }
 }
 
 /// Does what the words ask for, which are those after the program's name. At most 65,535 doors are given, and no link of
-/// theirs is out. No command uses the doors and the gate yet.
+/// theirs is out. Only a server uses the doors and the gate; it may wait, and ends where each door ends.
 /// It gives the status to end with: 0 the work was done, 2 the words are not in the table,
 /// 3, 4 and 5 the bank, the plan or the script is refused, 6 the journal represents no history of the bank and the plan,
 /// 7, 8 and 9 a call of the files, the sink or the disk failed, 10 out of memory, 11 no set of items is a form, 12 the plan has
-/// no base and none was found within the base budget, 13 a limit of the plan is met.
+/// no base and none was found within the base budget, 13 a limit of the plan is met in a replay, 14 a door failed.
 pub fn run<
     R: Threads + Wait + Sync,
     F: Files,
@@ -167,49 +262,63 @@ pub fn run<
     D: Disk + Send,
     L: Door + Send,
     G: Gate + Sync,
->(_rt: &R, alloc: Global, words: &[String], world: World<F, O, D, L, G>) -> Finish<F, O, D, L>
-    requires few { length world.doors.items ≤ 65535 }
+>(rt: &R, alloc: Global, words: &[String], world: World<F, O, D, L, G>) -> Finish<F, O, D, L>
+    requires few { vec_len world.doors ≤ 65535 }
     requires home { All (λ door. L.is_out door ≡ false) world.doors.items }
-    // If the files report their content: what is printed, and with which status. If the sink reports its content too: that this
-    // is written. If the disk reports its content too: what the journal holds, and what a crash may leave of it.
+    // If the files report their content: what is printed, and with which status; and what became of the doors. If the sink
+    // reports its content too: that this is written. If the disk reports its content too: what the journal holds, and what a
+    // crash may leave of it. Of a door that reports its links: that each was served, and what was written to it.
     ensures answers { IsTrue (F.tells world.files)
-        → Ends (map (λ w. string_bytes w) words.now)
+        → RunEnds (λ opened closed failed. AreServed L.tells L.coming L.returned L.is_out L.faults
+        L.identity L.Link.tells L.Link.left L.Link.written L.Link.faults L.Link.identity
+        opened closed world.doors.items result.doors.items failed) (result.doors ≡ world.doors)
+        (map (λ w. string_bytes w) words.now)
         (outside (F.has world.files) (F.content world.files) (F.faults world.files) (F.faults result.files)
         (disk_seen D.tells D.content D.accounts D.faults world.disk result.disk))
         (O.tells world.out) (O.written world.out) (O.written result.out) result.status }
     // What is left of the journal, whatever the status.
     ensures journal { IsTrue (F.tells world.files)
-        → LeavesJournal (map (λ w. string_bytes w) words.now)
+        → RunLeaves (λ opened closed failed. AreServed L.tells L.coming L.returned L.is_out L.faults
+        L.identity L.Link.tells L.Link.left L.Link.written L.Link.faults L.Link.identity
+        opened closed world.doors.items result.doors.items failed) (result.doors ≡ world.doors)
+        (map (λ w. string_bytes w) words.now)
         (outside (F.has world.files) (F.content world.files) (F.faults world.files) (F.faults result.files)
         (disk_seen D.tells D.content D.accounts D.faults world.disk result.disk)) }
-    // The causes, whether they report their content or not.
+    // The causes, whether they report their content or not. Out of memory is free.
     ensures faulty { command_of (map (λ w. string_bytes w) words.now) ≡ None
-        → (result.status ≡ 2) ⊎ (result.status ≡ 8) }
+        → (result.status ≡ 2) ⊎ ((result.status ≡ 8) ⊎ (result.status ≡ 10)) }
     ensures usage { result.status ≡ 2 → command_of (map (λ w. string_bytes w) words.now) ≡ None }
     ensures files { result.status ≡ 7 → Rose (F.faults world.files) (F.faults result.files) }
     ensures sink { result.status ≡ 8 → Rose (O.faults world.out) (O.faults result.out) }
     ensures failed { result.status ≡ 9 → Rose (D.faults world.disk) (D.faults result.disk) }
+    ensures door { result.status ≡ 14 → HasFailedDoor L.faults world.doors.items result.doors.items }
     ensures kept { IsStatusBefore result.status → result.disk ≡ world.disk }
-    ensures unused { (IsOfReplay (command_of (map (λ w. string_bytes w) words.now)) → ⊥)
+    ensures unused { (IsOfJournal (command_of (map (λ w. string_bytes w) words.now)) → ⊥)
         → result.disk ≡ world.disk }
-    ensures status { IsStatus result.status }
+    ensures idle { (IsOfServe (command_of (map (λ w. string_bytes w) words.now)) → ⊥)
+        → result.doors ≡ world.doors }
+    ensures status { IsStatusOfRun result.status }
 
     ensures files_grow { F.faults world.files ≤ F.faults result.files }
     ensures sink_grows { O.faults world.out ≤ O.faults result.out }
     ensures files_tell { F.tells result.files ≡ F.tells world.files }
     ensures sink_tells { O.tells result.out ≡ O.tells world.out }
     ensures disk { IsLent D.tells D.identity D.faults world.disk result.disk }
-    ensures doors { result.doors ≡ world.doors }
+    ensures doors { AreLent L.tells L.identity L.faults L.is_out world.doors.items result.doors.items }
 {
     let World {
-        files,
-        out,
+        mut files,
+        mut out,
         disk,
         doors,
-        gate: _,
+        gate,
     } = world;
-    let (status, tools) = run_alone(alloc, words, Tools { files, out, disk });
-    let Tools { files, out, disk } = tools;
+    let left = left_of(rt, alloc, words, &mut files, &mut out, disk, doors, &gate);
+    let Left {
+        disk,
+        doors,
+        status,
+    } = left;
     Finish {
         status,
         files,

@@ -2,7 +2,7 @@
 
 ghost use Rattle.std.specs.Prelude.{◌≡◌, ◌≤◌, [], ◌∷◌, IsTrue, IfErr, OnOk};
 ghost use Rattle.exam_edge.specs.Faults.{Rose};
-ghost use Rattle.exam_edge.specs.Images.{AllImages, latest};
+ghost use Rattle.exam_edge.specs.Images.{AtEachMoment};
 ghost use Rattle.exam_edge.specs.Lent.{IsLent};
 ghost use Rattle.bank_tables.specs.Items.{has};
 ghost use Rattle.exam_model.specs.Forms.{Meets};
@@ -78,9 +78,9 @@ fn do_request<'a, O: Sink, D: Disk>(
         alone.old.office alone.new.office (O.tells out.old) (O.written out.old) (O.written out.new)) }
     ensures sink { result ≡ Err Halt.Sink → Rose (O.faults out.old) (O.faults out.new) }
     ensures each { IsTrue (tells_of alone.old.office.journal)
-        → AllImages (IsFileOf alone.old.office.bank alone.old.office.plan alone.old.office.base
-        (history alone.old.office.marks) (request.now ∷ []))
-        (latest (accounts_of alone.new.office.journal)) }
+        → AtEachMoment (accounts_of alone.old.office.journal) (accounts_of alone.new.office.journal)
+        (IsFileOf alone.old.office.bank alone.old.office.plan alone.old.office.base
+        (history alone.old.office.marks) (request.now ∷ [])) }
     ensures same { IsSameOffice alone.old.office alone.new.office }
     ensures disk { IsLent tells_of identity_of faults_of alone.old.office.journal alone.new.office.journal }
     ensures grows { O.faults out.old ≤ O.faults out.new }
@@ -121,7 +121,7 @@ fn do_requests<'a, O: Sink, D: Disk>(
 }
 
 /// Why a journal that was not opened ends a replay.
-fn halt_of_opening(fault: OpenFault) -> Halt
+pub(crate) fn halt_of_opening(fault: OpenFault) -> Halt
     ensures { result ≡ opening_halt fault }
 {
     match fault {

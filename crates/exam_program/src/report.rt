@@ -1,9 +1,11 @@
 //! How a command ends: the text of its halt, and the status.
 
-ghost use Rattle.std.specs.Prelude.{◌≡◌, ℕ, ◌≤◌, ◌⊎◌, List, IfOk, string_bytes};
+ghost use Rattle.std.specs.Prelude.{◌≡◌, ℕ, ◌≤◌, ◌⊎◌, List, IfOk, IfErr, string_bytes};
 ghost use Rattle.exam_edge.specs.Faults.{Rose};
 ghost use Rattle.exam_program.specs.Outcomes.{Ends, Halts, PrintsBefore, PrintsBeforeText, EndsBy};
 ghost use Rattle.exam_program.specs.Outside.{Outside};
+ghost use Rattle.exam_program.specs.Runs.{IsLastWritten};
+ghost use Rattle.exam_text.specs.Texts.{no_memory};
 
 use crate::halt::Halt;
 use crate::lines::{journal_limit, journal_text, sessions_limit};
@@ -16,6 +18,7 @@ pub(crate) fn print<O: Sink>(out: &mut O, text: &[u8], status: u8) -> u8
     ensures answers { (words : List (List ℕ)) (o : Outside) (first : List ℕ)
         → PrintsBefore words o (O.tells out.old) first (O.written out.old) status text.now
         → Ends words o (O.tells out.old) first (O.written out.new) result }
+    ensures printed { IsLastWritten (O.tells out.old) (O.written out.old) (O.written out.new) status text.now result }
     ensures status { (result ≡ status) ⊎ ((result ≡ 8) × Rose (O.faults out.old) (O.faults out.new)) }
     ensures grows { O.faults out.old ≤ O.faults out.new }
     ensures tells { O.tells out.new ≡ O.tells out.old }
@@ -28,11 +31,15 @@ pub(crate) fn print<O: Sink>(out: &mut O, text: &[u8], status: u8) -> u8
 
 /// Prints the last text, if there was memory for it, and gives the status to end with.
 #[tactic(auto, unfolding(exam_text::specs::Texts::no_memory))]
-fn print_text<O: Sink>(out: &mut O, text: Result<String, AllocError>, status: u8) -> u8
+pub(crate) fn print_text<O: Sink>(out: &mut O, text: Result<String, AllocError>, status: u8) -> u8
     ensures answers { (words : List (List ℕ)) (o : Outside) (first line : List ℕ)
         → IfOk text (λ t. string_bytes t ≡ line)
         → PrintsBeforeText words o (O.tells out.old) first (O.written out.old) status line
         → Ends words o (O.tells out.old) first (O.written out.new) result }
+    ensures printed { IfOk text (λ t. IsLastWritten (O.tells out.old) (O.written out.old) (O.written out.new)
+        status (string_bytes t) result) }
+    ensures unprinted { IfErr text (λ _. IsLastWritten (O.tells out.old) (O.written out.old) (O.written out.new)
+        10 no_memory result) }
     ensures status { ((result ≡ status) ⊎ (result ≡ 10)) ⊎ ((result ≡ 8) × Rose (O.faults out.old) (O.faults out.new)) }
     ensures grows { O.faults out.old ≤ O.faults out.new }
     ensures tells { O.tells out.new ≡ O.tells out.old }

@@ -3,7 +3,7 @@
 ghost use Rattle.std.specs.Prelude.{◌≡◌, ℕ, ◌≤◌, ◌++◌, List, Some, OnOk, IsTrue, IfSome, IfErr};
 ghost use Rattle.exam_edge.specs.Faults.{Rose};
 ghost use Rattle.exam_edge.specs.Lent.{IsLent};
-ghost use Rattle.exam_program.specs.Commands.{Check, Assemble, Replay, command_of};
+ghost use Rattle.command_line.specs.Commands.{Check, Assemble, Replay, command_of};
 ghost use Rattle.exam_program.specs.Halts.{IsBeforeJournal, IsOfNoDisk};
 ghost use Rattle.exam_program.specs.Outcomes.{Prints, Halts};
 ghost use Rattle.exam_program.specs.Outside.{DiskSeen, outside, disk_seen, IsUntouched};
@@ -110,7 +110,7 @@ pub(crate) fn assemble<F: Files, O: Sink>(
 }
 
 /// Does the requests of a script over the journal on a disk, and prints the reply to each. It gives the disk back.
-pub(crate) fn serve<F: Files, O: Sink, D: Disk>(
+pub(crate) fn replay_script<F: Files, O: Sink, D: Disk>(
     alloc: Global,
     files: &mut F,
     out: &mut O,

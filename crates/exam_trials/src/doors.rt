@@ -1,18 +1,62 @@
-//! The call that takes doors and a gate.
+//! The program with doors, and the call that waits for nobody.
 
-use crate::outcome::{CALM, REPLAY, tools_of, words_of};
+ghost use Rattle.std.specs.Prelude.{◌≡◌, ◌≤◌, false, vec_len, IfOk};
+ghost use Rattle.std.specs.List.{All};
+ghost use Rattle.exam_edge.specs.MemoryDoor.{out_of};
+
+use crate::outcome::{CALM, Given, REPLAY, SERVE, tools_of, words_of};
 use crate::texts::{LINES_A, SCRIPT_A};
-use exam_edge::{MemoryDoor, OpenGate};
-use exam_program::{Tools, World, run};
+use command_line::{Command, command_of};
+use exam_edge::{MemoryDoor, MemoryLink, OpenGate};
+use exam_program::{Tools, World, run, run_alone};
+use std::alloc::{AllocGlobal, Global};
+use std::process::Abort;
+use std::sync::Wait;
 use std::test::Fail;
+use std::thread::Threads;
 use trial_cases::{BANK_A, PLAN_A};
 
-#[test]
-fn a_session_of_bank_a_with_no_doors(rt: HostRuntime) -> Result<(), Fail> {
+const FIRST: &str = "POST /sessions HTTP/1.1\r\nContent-Length: 14\r\n\r\n{\"booking\":70}";
+
+const SECOND: &str = "POST /sessions HTTP/1.1\r\nContent-Length: 14\r\n\r\n{\"booking\":71}";
+
+const IDLE: &str = "entries 0 sessions 0 finished 0 proved 0 unproved 0 aside 0 nodes 0\n";
+
+/// A door with one link, which gives this text; its calls of these numbers fail.
+fn door(alloc: Global, text: &str, fails: &[u64]) -> Result<MemoryDoor, Fail>
+    ensures { IfOk result (λ d. out_of d ≡ false) }
+{
+    let link = MemoryLink::of(alloc, text.as_bytes().to_vec(alloc)?, Vec::new(alloc));
+    let mut links = Vec::new(alloc);
+    links.push(link)?;
+    Ok(MemoryDoor::of(alloc, links, fails.to_vec(alloc)?)?)
+}
+
+/// A door for each of these texts; the calls of each of these numbers fail.
+fn doors_of(alloc: Global, texts: &[&str; 2], fails: &[u64]) -> Result<Vec<MemoryDoor>, Fail>
+    ensures few { IfOk result (λ doors. vec_len doors ≤ 2) }
+    ensures home { IfOk result (λ doors. All (λ d. out_of d ≡ false) doors.items) }
+{
+    let mut doors = Vec::new(alloc);
+    doors.push(door(alloc, texts[0], fails)?)?;
+    doors.push(door(alloc, texts[1], fails)?)?;
+    Ok(doors)
+}
+
+/// Serving bank A through these doors ends with this status and prints a text that begins so.
+fn serves<R: Abort + AllocGlobal + Threads + Wait + Sync>(
+    rt: &R,
+    doors: Vec<MemoryDoor>,
+    given: &Given<'_>,
+    status: u8,
+    front: &str,
+) -> Result<(), Fail>
+    requires few { vec_len doors ≤ 2 }
+    requires home { All (λ d. out_of d ≡ false) doors.items }
+{
     let alloc = rt.alloc();
-    let words = words_of(alloc, &REPLAY)?;
-    let Tools { files, out, disk } = tools_of(alloc, &[BANK_A, PLAN_A, SCRIPT_A], &CALM)?;
-    let doors: Vec<MemoryDoor> = Vec::new(alloc);
+    let words = words_of(alloc, &SERVE)?;
+    let Tools { files, out, disk } = tools_of(alloc, &[BANK_A, PLAN_A, ""], given)?;
     let world = World {
         files,
         out,
@@ -20,9 +64,53 @@ fn a_session_of_bank_a_with_no_doors(rt: HostRuntime) -> Result<(), Fail> {
         doors,
         gate: OpenGate,
     };
-    let finish = run(&rt, alloc, &words, world);
-    assert_eq!(rt; finish.out.bytes(), LINES_A.as_bytes());
-    assert_eq!(rt; finish.status, 0);
-    assert!(rt; finish.doors.is_empty());
+    let finish = run(rt, alloc, &words, world);
+    assert!(rt; finish.out.bytes().starts_with(front.as_bytes()));
+    assert_eq!(rt; finish.status, status);
+    Ok(())
+}
+
+#[test]
+fn a_server_with_no_doors(rt: HostRuntime) -> Result<(), Fail> {
+    serves(&rt, Vec::new(rt.alloc()), &CALM, 0, IDLE)
+}
+
+#[test]
+fn a_server_with_two_doors(rt: HostRuntime) -> Result<(), Fail> {
+    let doors = doors_of(rt.alloc(), &[FIRST, SECOND], &[])?;
+    let front = "entries 4 sessions 2 finished 0 proved 2 unproved 0 aside 0 nodes ";
+    serves(&rt, doors, &CALM, 0, front)
+}
+
+#[test]
+fn a_door_that_fails(rt: HostRuntime) -> Result<(), Fail> {
+    let doors = doors_of(rt.alloc(), &[FIRST, SECOND], &[0])?;
+    serves(&rt, doors, &CALM, 14, "door failed\n")
+}
+
+#[test]
+fn a_journal_that_cannot_be_opened(rt: HostRuntime) -> Result<(), Fail> {
+    let given = Given {
+        journal: &[],
+        files: &[],
+        sink: &[],
+        disk: &[0],
+    };
+    let doors = doors_of(rt.alloc(), &[FIRST, SECOND], &[])?;
+    serves(&rt, doors, &given, 9, "disk failed\n")
+}
+
+/// The call that waits for nobody takes words that ask for no server.
+#[test]
+fn a_session_of_bank_a_alone(rt: HostRuntime) -> Result<(), Fail> {
+    let alloc = rt.alloc();
+    let words = words_of(alloc, &REPLAY)?;
+    let tools = tools_of(alloc, &[BANK_A, PLAN_A, SCRIPT_A], &CALM)?;
+    if let Some(Command::Serve { .. }) = command_of(alloc, &words)? {
+        return Err(Fail::from("a server"));
+    }
+    let (status, tools) = run_alone(alloc, &words, tools);
+    assert_eq!(rt; tools.out.bytes(), LINES_A.as_bytes());
+    assert_eq!(rt; status, 0);
     Ok(())
 }

@@ -1,16 +1,20 @@
 //! The program over files, a sink and a disk in memory.
 
-use exam_edge::{MemoryDisk, MemoryFiles, MemorySink};
-use exam_program::{Tools, run_alone};
+use exam_edge::{MemoryDisk, MemoryDoor, MemoryFiles, MemorySink, OpenGate};
+use exam_program::{Tools, World, run};
 use std::alloc::{AllocError, AllocGlobal, Global};
 use std::process::Abort;
+use std::sync::Wait;
 use std::test::Fail;
+use std::thread::Threads;
 
 pub const REPLAY: [&str; 4] = ["replay", "bank", "plan", "script"];
 
 pub const CHECK: [&str; 3] = ["check", "bank", "plan"];
 
 pub const ASSEMBLE: [&str; 3] = ["assemble", "bank", "plan"];
+
+pub const SERVE: [&str; 3] = ["serve", "bank", "plan"];
 
 /// The journal that the program finds, and the numbers of the calls that fail.
 #[derive(Clone, Copy, Debug)]
@@ -74,8 +78,8 @@ pub fn tools_of(
     })
 }
 
-/// What the program does on these words and files.
-pub fn outcome<R: AllocGlobal>(
+/// What the program does on these words and files, with no doors.
+pub fn outcome<R: AllocGlobal + Threads + Wait + Sync>(
     rt: &R,
     words: &[&str],
     texts: &[&str; 3],
@@ -83,17 +87,25 @@ pub fn outcome<R: AllocGlobal>(
 ) -> Result<Ran, AllocError> {
     let alloc = rt.alloc();
     let words = words_of(alloc, words)?;
-    let tools = tools_of(alloc, texts, given)?;
-    let (status, tools) = run_alone(alloc, &words, tools);
+    let Tools { files, out, disk } = tools_of(alloc, texts, given)?;
+    let doors: Vec<MemoryDoor> = Vec::new(alloc);
+    let world = World {
+        files,
+        out,
+        disk,
+        doors,
+        gate: OpenGate,
+    };
+    let finish = run(rt, alloc, &words, world);
     Ok(Ran {
-        status,
-        text: tools.out.bytes().to_vec(alloc)?,
-        journal: tools.disk.bytes().to_vec(alloc)?,
+        status: finish.status,
+        text: finish.out.bytes().to_vec(alloc)?,
+        journal: finish.disk.bytes().to_vec(alloc)?,
     })
 }
 
 /// Over an empty journal, and where no call fails, the program ends with this status and prints this text.
-pub fn prints<R: Abort + AllocGlobal>(
+pub fn prints<R: Abort + AllocGlobal + Threads + Wait + Sync>(
     rt: &R,
     words: &[&str],
     texts: &[&str; 3],
@@ -107,7 +119,7 @@ pub fn prints<R: Abort + AllocGlobal>(
 }
 
 /// Over an empty journal, and where no call fails, the program ends with this status and prints a text that begins so.
-pub fn begins<R: Abort + AllocGlobal>(
+pub fn begins<R: Abort + AllocGlobal + Threads + Wait + Sync>(
     rt: &R,
     words: &[&str],
     texts: &[&str; 3],
@@ -121,7 +133,7 @@ pub fn begins<R: Abort + AllocGlobal>(
 }
 
 /// A second run over the journal that the first left prints this.
-pub fn goes_on<R: Abort + AllocGlobal>(
+pub fn goes_on<R: Abort + AllocGlobal + Threads + Wait + Sync>(
     rt: &R,
     first: &[&str; 3],
     second: &[&str; 3],

@@ -35,7 +35,8 @@ fn a_base_budget_that_is_spent(rt: HostRuntime) -> Result<(), Fail> {
 
 #[test]
 fn faulty_words(rt: HostRuntime) -> Result<(), Fail> {
-    let usage = "usage: shadowd check BANK PLAN | assemble BANK PLAN | replay BANK PLAN SCRIPT\n";
+    let usage =
+        "usage: shadowd check BANK PLAN | assemble BANK PLAN | replay BANK PLAN SCRIPT | serve BANK PLAN | audit BANK PLAN | drill NUMBER SESSIONS\n";
     let texts = [BANK_A, PLAN_A, SCRIPT_A];
     prints(&rt, &["replay", "a"], &texts, 2, usage)?;
     for words in [

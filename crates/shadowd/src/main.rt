@@ -1,20 +1,33 @@
-//! The program `shadowd`: it hands the host's files, standard output and the journal's file to `run_alone`, and ends with its status. If
-//! a call of one of them failed, standard error has a line on which, and why.
+//! The program `shadowd`: it hands the host's files, standard output, the journal's file and, to
+//! serve, the doors of a listener to `run`, and ends with its status. Standard error has a line on
+//! the address and the journal before connections are served, and a line on each object of the
+//! host of which a call failed, and why.
 #![tactic(auto)]
 
-ghost use Rattle.std.specs.Prelude.{◌≡◌};
+ghost use Rattle.std.specs.Prelude.{◌≡◌, ◌≤◌, All, false, vec_len, IfOk};
 ghost use Rattle.std.specs.Process.{exit_status};
+ghost use Rattle.host_edge.specs.HostDoor.{out_of};
 
-use exam_program::{Tools, run_alone};
-use host_edge::{HostDisk, HostFiles, HostSink};
+mod settings;
+
+use exam_edge::OpenGate;
+use exam_program::{Finish, World, run};
+use host_edge::{HostDisk, HostDoor, HostFiles, HostSink};
+use settings::Settings;
 use std::alloc::AllocError;
-use std::env::VarError;
 use std::io::ErrorKind;
+use std::net::TcpListener;
 use std::process::ExitCode;
 use std::{env, io};
 
 /// The status of a program that is out of memory.
 const NO_MEMORY: u8 = 10;
+
+/// The outside of the host.
+type HostWorld = World<HostFiles, HostSink, HostDisk, HostDoor, OpenGate>;
+
+/// The outside as the program leaves it.
+type HostFinish = Finish<HostFiles, HostSink, HostDisk, HostDoor>;
 
 /// The words after the program's name. Words that aren't UTF-8 ask for nothing, as no words do.
 fn words_of(rt: &HostRuntime) -> io::Result<Vec<String>> {
@@ -26,58 +39,114 @@ fn words_of(rt: &HostRuntime) -> io::Result<Vec<String>> {
     }
 }
 
-/// The path of the journal's file: the value of SHADOWD_JOURNAL, else `shadowd.journal`. A value that isn't UTF-8 names no file.
-fn journal_path(rt: &HostRuntime) -> Result<String, AllocError> {
-    match env::var(rt, "SHADOWD_JOURNAL") {
-        Ok(path) => Ok(path),
-        Err(VarError::NotPresent) => String::from_str(rt.alloc(), "shadowd.journal"),
-        Err(VarError::NotUnicode) => Ok(String::new(rt.alloc())),
-        Err(VarError::OutOfMemory) => Err(AllocError),
-    }
+/// Whether the words ask for connections.
+fn ask_for_connections(words: &[String]) -> bool {
+    words.first().is_some_and(|word| word.as_str() == "serve")
 }
 
-/// The host's files, standard output and journal.
-fn tools_of(
+/// Writes a line to standard error: where the program listens, or why it can't.
+fn announce(rt: &HostRuntime, settings: &Settings, listener: &io::Result<TcpListener>) {
+    let (listen, journal) = (settings.listen.as_str(), settings.journal.as_str());
+    let _ = match listener {
+        Ok(listener) => match listener.local_addr() {
+            Ok(address) => eprintln!(rt; "shadowd: listening on {address}, journal {journal}"),
+            Err(_) => eprintln!(rt; "shadowd: listening on {listen}, journal {journal}"),
+        },
+        Err(cause) => eprintln!(rt; "shadowd: cannot listen on {listen}: {cause}"),
+    };
+}
+
+/// The doors of the workers, if the words ask for connections. They share one listener, and have
+/// none if the address can't be had.
+fn doors_of(
     rt: &HostRuntime,
-    journal: &str,
-) -> Result<Tools<HostFiles, HostSink, HostDisk>, AllocError> {
-    Ok(Tools {
+    words: &[String],
+    settings: &Settings,
+) -> Result<Vec<HostDoor>, AllocError>
+    ensures few { IfOk result (λ doors. vec_len doors ≤ 255) }
+    ensures home { IfOk result (λ doors. All (λ d. out_of d ≡ false) doors.items) }
+{
+    if !ask_for_connections(words) {
+        return Ok(Vec::new(rt.alloc()));
+    }
+    let listener = TcpListener::bind(rt, settings.listen.as_str());
+    announce(rt, settings, &listener);
+    let listener = listener.ok();
+    HostDoor::several(
+        rt.alloc(),
+        listener.as_ref(),
+        settings.workers,
+        settings.connections,
+    )
+}
+
+/// The outside that the program is run on. Its gate holds nobody.
+fn world_of(
+    rt: &HostRuntime,
+    settings: &Settings,
+    doors: Vec<HostDoor>,
+) -> Result<HostWorld, AllocError>
+    ensures { IfOk result (λ world. world.doors ≡ doors) }
+{
+    Ok(World {
         files: HostFiles::of(rt.clone()?),
         out: HostSink::of(rt.stdout()),
-        disk: HostDisk::of(rt.clone()?, String::from_str(rt.alloc(), journal)?),
+        disk: HostDisk::of(rt.clone()?, settings.journal.clone()?),
+        doors,
+        gate: OpenGate,
     })
 }
 
-/// Writes a line to standard error for each object of the host of which a call failed.
-fn explain(rt: &HostRuntime, journal: &str, tools: &Tools<HostFiles, HostSink, HostDisk>) {
-    if let Some(cause) = tools.files.cause() {
-        let name = tools.files.refused().unwrap_or("a file");
+/// The settings, the words, and the outside that the program is run on.
+fn begin(rt: &HostRuntime) -> io::Result<(Settings, Vec<String>, HostWorld)>
+    ensures few { IfOk result (λ begun. vec_len begun.2.doors ≤ 255) }
+    ensures home { IfOk result (λ begun. All (λ d. out_of d ≡ false) begun.2.doors.items) }
+{
+    let settings = Settings::of(rt)?;
+    let words = words_of(rt)?;
+    let doors = doors_of(rt, &words, &settings)?;
+    let world = world_of(rt, &settings, doors)?;
+    Ok((settings, words, world))
+}
+
+/// Writes a line to standard error for each object of the host of which a call failed, and one for
+/// all doors.
+fn explain(rt: &HostRuntime, settings: &Settings, finish: &HostFinish) {
+    let (listen, journal) = (settings.listen.as_str(), settings.journal.as_str());
+    if let Some(cause) = finish.files.cause() {
+        let name = finish.files.refused().unwrap_or("a file");
         let _ = eprintln!(rt; "shadowd: {name}: {cause}");
     }
-    if let Some(cause) = tools.out.cause() {
+    if let Some(cause) = finish.out.cause() {
         let _ = eprintln!(rt; "shadowd: standard output: {cause}");
     }
-    if let Some(cause) = tools.disk.cause() {
+    if let Some(cause) = finish.disk.cause() {
         let _ = eprintln!(rt; "shadowd: journal {journal}: {cause}");
+    }
+    if let Some(cause) = finish.doors.iter().find_map(|door| door.cause()) {
+        let _ = eprintln!(rt; "shadowd: connections at {listen}: {cause}");
     }
 }
 
 /// The process ends with the status of the program.
-fn exit_code(finish: (u8, Tools<HostFiles, HostSink, HostDisk>)) -> ExitCode
-    ensures { exit_status result ≡ finish.0 }
+fn exit_code(finish: HostFinish) -> ExitCode
+    ensures { exit_status result ≡ finish.status }
 {
-    let (status, _tools) = finish;
+    let Finish {
+        status,
+        files: _,
+        out: _,
+        disk: _,
+        doors: _,
+    } = finish;
     ExitCode::from(status)
 }
 
 fn main(rt: HostRuntime) -> ExitCode {
-    let (Ok(words), Ok(journal)) = (words_of(&rt), journal_path(&rt)) else {
+    let Ok((settings, words, world)) = begin(&rt) else {
         return ExitCode::from(NO_MEMORY);
     };
-    let Ok(tools) = tools_of(&rt, journal.as_str()) else {
-        return ExitCode::from(NO_MEMORY);
-    };
-    let finish = run_alone(rt.alloc(), &words, tools);
-    explain(&rt, journal.as_str(), &finish.1);
+    let finish = run(&rt, rt.alloc(), &words, world);
+    explain(&rt, &settings, &finish);
     exit_code(finish)
 }

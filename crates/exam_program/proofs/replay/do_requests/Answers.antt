@@ -25,7 +25,7 @@ loop-request-preserved g c =
     let cur = c.loop-request.alone.office in
     let new = c.do_request.new.alone.office in
     record {
-      so_far = next_so_far c.args.requests.now c.loop-request.request-index old cur new (g.O.Sink.tells c.args.out.now) (g.O.Sink.written c.args.out.now) (g.O.Sink.written c.loop-request.out) (g.O.Sink.written c.do_request.new.out) inv.so_far _ c.loop-request-test.true inv.same (g.O.Sink.tells c.loop-request.out) inv.tells c.in-Ok.ensures.ok;
+      so_far = next_so_far c.args.requests.now c.loop-request.request-index old cur new (g.O.Sink.tells c.args.out.now) (g.O.Sink.written c.args.out.now) (g.O.Sink.written c.loop-request.out) (g.O.Sink.written c.do_request.new.out) inv.so_far _ c.loop-request-test.true inv.same (g.O.Sink.tells c.loop-request.out) inv.tells c.do_request.ensures.each inv.disk c.in-Ok.ensures.ok;
       same = same_on old cur new inv.same c.do_request.ensures.same;
       disk = lent_on old.journal cur.journal new.journal inv.disk c.do_request.ensures.disk;
       grows = omega (arith, inv.grows, c.do_request.ensures.grows);

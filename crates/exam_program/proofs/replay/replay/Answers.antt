@@ -50,6 +50,8 @@ returns-clause-ok g c =
       found = opened.stands;
       told = opened.tells;
       images = sym (ap latest gone.accounts);
+      moments = sym gone.accounts;
+      opening = opened.settled;
       left = λ t. g.met.D.Disk.is_image c.into_disk.result (still t);
       content = λ t.
           subst (λ (x : Tables). IsMending x plan (history new.marks) new.doubt disk.left) (done.same.bank ∙ opened.bank)
@@ -83,6 +85,8 @@ returns-clause-err g c =
       found = opened.stands;
       told = opened.tells;
       images = sym (ap latest gone.accounts);
+      moments = sym gone.accounts;
+      opening = opened.settled;
       left = λ t. g.met.D.Disk.is_image c.into_disk.result (still t);
       content = λ t.
           subst (λ (x : Tables). IsMending x plan (history new.marks) new.doubt disk.left) (done.same.bank ∙ opened.bank)

@@ -1,6 +1,6 @@
-use Rattle.std.proofs.Common.{ℕ, List, Err, sym, ◌∙◌, ap, subst}
+use Rattle.std.proofs.Common.{ℕ, List, Err, refl, sym, ◌∙◌, ap, subst}
 use Rattle.exam_program.specs.Bases.{TellsForm}
-use Rattle.exam_program.specs.Commands.{Assemble}
+use Rattle.command_line.specs.Commands.{Assemble}
 use Rattle.exam_program.specs.Outside.{outside}
 use Rattle.exam_program.proofs.OutcomeLaws.{halts_at_exam, halts_at_base, prints, prints_part, outcome_assembled}
 use Rattle.exam_program.proofs.work.assemble.Goals as goal
@@ -10,7 +10,7 @@ returns-in-Err-clause-err g c = λ told words disk e untouched.
     let o = outside (g.F.Files.has c.args.files.now) (g.F.Files.content c.args.files.now) (g.F.Files.faults c.args.files.now) (g.F.Files.faults c.exam_in.new.files) disk in
     let told_out = g.O.Sink.tells c.args.out.now in
     let was = g.O.Sink.written c.args.out.now in
-    halts_at_exam words o told_out was (Assemble c.args.bank.now c.args.plan.now) c.in-Err.halt e (λ is. c.exam_in.ensures.failed (c.in-Err.is ∙ ap Err is)) untouched (c.in-Err.ensures.err told)
+    halts_at_exam words o told_out was c.args.bank.now c.args.plan.now c.in-Err.halt (record { command = Assemble c.args.bank.now c.args.plan.now; asked = e; names = refl }) (λ is. c.exam_in.ensures.failed (c.in-Err.is ∙ ap Err is)) untouched (c.in-Err.ensures.err told)
 
 pub returns-in-Err-assembly_text-clause-err : goal.returns-in-Err-assembly_text-clause-err
 returns-in-Err-assembly_text-clause-err g c = λ told words disk e untouched.

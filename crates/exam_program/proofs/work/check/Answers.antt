@@ -1,5 +1,5 @@
-use Rattle.std.proofs.Common.{Err, ◌∙◌, ap}
-use Rattle.exam_program.specs.Commands.{Check}
+use Rattle.std.proofs.Common.{Err, refl, ◌∙◌, ap}
+use Rattle.command_line.specs.Commands.{Check}
 use Rattle.exam_program.specs.Outside.{outside}
 use Rattle.exam_program.proofs.OutcomeLaws.{halts_at_exam, halts_without_memory, prints, prints_part, outcome_checked}
 use Rattle.exam_program.proofs.work.check.Goals as goal
@@ -9,14 +9,14 @@ returns-in-Err-clause-err g c = λ told words disk e untouched.
     let o = outside (g.F.Files.has c.args.files.now) (g.F.Files.content c.args.files.now) (g.F.Files.faults c.args.files.now) (g.F.Files.faults c.exam_in.new.files) disk in
     let told_out = g.O.Sink.tells c.args.out.now in
     let was = g.O.Sink.written c.args.out.now in
-    halts_at_exam words o told_out was (Check c.args.bank.now c.args.plan.now) c.in-Err.halt e (λ is. c.exam_in.ensures.failed (c.in-Err.is ∙ ap Err is)) untouched (c.in-Err.ensures.err told)
+    halts_at_exam words o told_out was c.args.bank.now c.args.plan.now c.in-Err.halt (record { command = Check c.args.bank.now c.args.plan.now; asked = e; names = refl }) (λ is. c.exam_in.ensures.failed (c.in-Err.is ∙ ap Err is)) untouched (c.in-Err.ensures.err told)
 
 pub returns-in_default-clause-err : goal.returns-in_default-clause-err
 returns-in_default-clause-err g c = λ told words disk e untouched.
     let o = outside (g.F.Files.has c.args.files.now) (g.F.Files.content c.args.files.now) (g.F.Files.faults c.args.files.now) (g.F.Files.faults c.exam_in.new.files) disk in
     let told_out = g.O.Sink.tells c.args.out.now in
     let was = g.O.Sink.written c.args.out.now in
-    halts_without_memory words o told_out was (Check c.args.bank.now c.args.plan.now) e untouched
+    halts_without_memory words o told_out was untouched
 
 pub returns-in-Ok-put-clause-ok : goal.returns-in-Ok-put-clause-ok
 returns-in-Ok-put-clause-ok g c = λ told words disk e untouched.

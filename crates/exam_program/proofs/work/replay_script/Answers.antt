@@ -1,15 +1,15 @@
-use Rattle.std.proofs.Common.{◌≡◌, ℕ, Bool, List, true, IsTrue, Some, Err, sym, ◌∙◌, ap, subst}
+use Rattle.std.proofs.Common.{◌≡◌, ℕ, Bool, List, true, IsTrue, Some, Err, refl, sym, ◌∙◌, ap, subst}
 use Rattle.history_model.specs.declared.request.Request.{Request}
 use Rattle.exam_program.specs.declared.halt.Halt.{Halt}
 use Rattle.exam_program.specs.declared.halt.Halt.TheVariants.{Files}
-use Rattle.exam_program.specs.Commands.{Replay, command_of}
+use Rattle.command_line.specs.Commands.{Replay, command_of}
 use Rattle.exam_program.specs.Halts.{HaltsAtScript, IsScriptIn}
 use Rattle.exam_program.specs.Outcomes.{IsReplayOf, Prints, Halts}
 use Rattle.exam_program.specs.Outside.{outside, disk_seen}
 use Rattle.exam_program.specs.Stopping.{Finishes, IsReplayed, Halted}
 use Rattle.exam_program.proofs.OutcomeLaws.{rose_later, as_it_is, halts_at_exam, halts_at_script, halts_at_base, prints_replayed, halts_replayed}
 use Rattle.exam_program.proofs.RequestLaws.{on_ok, if_err}
-use Rattle.exam_program.proofs.work.serve.Goals as goal
+use Rattle.exam_program.proofs.work.replay_script.Goals as goal
 
 pub returns-in-Err-clause-err : goal.returns-in-Err-clause-err
 returns-in-Err-clause-err g c = λ told words e.
@@ -17,7 +17,7 @@ returns-in-Err-clause-err g c = λ told words e.
     let told_out = g.O.Sink.tells c.args.out.now in
     let was = g.O.Sink.written c.args.out.now in
     let asked = Replay c.args.bank.now c.args.plan.now c.args.script.now in
-    halts_at_exam words o told_out was asked c.in-Err.halt e (λ is. c.exam_in.ensures.failed (c.in-Err.is ∙ ap Err is)) (as_it_is g.D.Disk.tells g.D.Disk.content g.D.Disk.accounts g.D.Disk.faults c.args.disk) (c.in-Err.ensures.err told)
+    halts_at_exam words o told_out was c.args.bank.now c.args.plan.now c.in-Err.halt (record { command = asked; asked = e; names = refl }) (λ is. c.exam_in.ensures.failed (c.in-Err.is ∙ ap Err is)) (as_it_is g.D.Disk.tells g.D.Disk.content g.D.Disk.accounts g.D.Disk.faults c.args.disk) (c.in-Err.ensures.err told)
 
 pub returns-in-Err-script_in-clause-err : goal.returns-in-Err-script_in-clause-err
 returns-in-Err-script_in-clause-err g c = λ told words e.

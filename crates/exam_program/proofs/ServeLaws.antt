@@ -1,0 +1,212 @@
+-- A server over a disk, from its office.
+use Rattle.std.proofs.Common.{◌≡◌, ℕ, ◌≤◌, ◌⊎◌, Bool, true, false, List, [], ◌∷◌, ◌++◌, length, inl, inr, map, Option, Some, None, IsTrue, refl, sym, ◌∙◌, ap, subst, arith}
+use Rattle.std.proofs.lemmas.List.{append-nil}
+use Rattle.std.proofs.lemmas.List.Elements.{filter_map-append}
+use Rattle.std.specs.Prelude.{Result, Ok, Err, IfOk, IfErr}
+use Rattle.std.specs.declared.alloc.AllocError.{AllocError}
+use Rattle.bank_tables.specs.Tables.{Tables}
+use Rattle.exam_edge.specs.Images.{AllImages}
+use Rattle.exam_model.specs.Plan.{Plan}
+use Rattle.exam_text.specs.Texts.{no_memory}
+use Rattle.turn_lock.specs.Histories.{StartsWith}
+use Rattle.history_model.specs.declared.entry.Entry.{Entry}
+use Rattle.history_model.specs.declared.summary.Summary.{Summary}
+use Rattle.history_model.specs.Legality.{LegalRun}
+use Rattle.history_model.specs.Summaries.{summary}
+use Rattle.answer_journal.specs.Journal.{tells_of}
+use Rattle.exam_office.specs.declared.fault.OpenFault.{OpenFault}
+use Rattle.exam_office.specs.declared.fault.OpenFault.TheVariants as fault
+use Rattle.exam_office.specs.declared.mark.Mark.{Mark}
+use Rattle.exam_office.specs.declared.mark.Mark.TheVariants.{Old, Opened}
+use Rattle.exam_office.specs.Files.{Stands}
+use Rattle.exam_office.specs.Marks.{entry_of, history, reach, AreMarks, AreCounted}
+use Rattle.exam_office.specs.Noting.{OpenedWith, NotedMark, noted, marks_of, opened_with, IsDoubtOf}
+use Rattle.exam_office.specs.Running.{Running}
+use Rattle.exam_office.specs.Writing.{IsMending}
+use Rattle.exam_serve.specs.declared.serve.End.{End}
+use Rattle.exam_serve.specs.declared.serve.End.TheVariants.{Done, DoorFailed, Memory}
+use Rattle.exam_serve.specs.Doors.{AreServed}
+use Rattle.exam_serve.specs.Results.{IsResult, notes_of}
+use Rattle.exam_serve.proofs.Notes.{marks_noted}
+use Rattle.exam_program.specs.declared.halt.Halt.{Halt}
+use Rattle.exam_program.specs.declared.halt.Halt.TheVariants as halt
+use Rattle.exam_program.specs.Outcomes.{Outcome, without_memory, server_refused, server_without_journal, server_without_memory, PrintsBefore, Halts, EndsBy, Ends, IsStatus, IsStatusOfRun, IsStatusBefore}
+use Rattle.exam_program.specs.Outside.{Outside, DiskSeen, IsUntouched}
+use Rattle.exam_program.specs.Runs.{RunEnds, idle, busy, EndsWith, IsLastOf, IsLastWritten, IsStatusOfServing}
+use Rattle.exam_program.specs.Serves.{IsServeOf, IsExamined, WorkSeen, IsLast, numbers, no_numbers, a_door, IsServedBy}
+use Rattle.exam_program.specs.Texts.{door_failed}
+use Rattle.exam_lines.specs.Texts.{summary_text}
+use Rattle.exam_program.specs.Stopping.{IsUnopened, refused, failed, out_of_memory, opening_halt}
+use Rattle.exam_program.specs.Writing.{IsWritten, WritesPart}
+use Rattle.exam_program.proofs.OutcomeLaws.{also, is_8, ends_by}
+
+-- ---- a journal that was not opened
+pub server_unopened : (words : List (List ℕ)) (o : Outside) (told : Bool) (old new : List ℕ) (b : Tables) (p : Plan) (base : List ℕ)
+    → IsServeOf words o b p base → (h : Halt) → IsWritten told old new [] → IsUnopened b p o.disk h → Halts words o told old new h
+server_unopened words o told old new b p base is _ written (refused fault so) = (
+  record { text = []; written = written; outcome = server_refused b p base fault is so },
+  record { text = []; written = written; outcome = without_memory so.untouched },
+)
+server_unopened words o told old new b p base is _ written (failed so) =
+    record { text = []; written = written; outcome = server_without_journal b p base is so }
+server_unopened words o told old new b p base is _ written (out_of_memory untouched) =
+    record { text = []; written = written; outcome = without_memory untouched }
+
+-- ---- a journal that was opened
+-- what is known of an office when it was opened, and of it and its disk when they are handed back
+pub record IsClosed {D : Type 0} (faults : D → ℕ) (b : Tables) (p : Plan) (base : List ℕ) (disk : DiskSeen) (old new : Running D) : Type 0 where
+  pub bank : old.bank ≡ b
+  pub plan_is : old.plan ≡ p
+  pub base_is : old.base ≡ base
+  pub told : tells_of old.journal ≡ disk.told
+  pub before : faults old.opened ≡ disk.before
+  pub found : IsTrue disk.told → Stands b p (history old.marks) disk.found
+  pub short : IsTrue disk.told → length disk.found ≤ p.journal
+  pub marks : old.marks ≡ map Old (history old.marks) ++ Opened (reach old.marks) ∷ []
+  pub same : opened_with faults new ≡ opened_with faults old
+  pub begins : StartsWith new.marks old.marks
+  pub legal : LegalRun new.bank new.plan (history new.marks)
+  pub doubt : IsDoubtOf new.marks new.doubt
+  pub marks_are : AreMarks new.marks
+  pub counted : AreCounted new.marks (faults old.opened) disk.after
+  pub length_is : IsTrue disk.told → new.doubt ≡ None → length disk.left ≡ reach new.marks
+  pub left : IsTrue disk.told → IsMending new.bank new.plan (history new.marks) new.doubt disk.left
+  pub images : IsTrue disk.told → AllImages (IsMending new.bank new.plan (history new.marks) new.doubt) disk.images
+
+module _ {D : Type 0} (faults : D → ℕ) (b : Tables) (p : Plan) (base : List ℕ) (disk : DiskSeen) (old new : Running D)
+    (k : IsClosed faults b p base disk old new) where
+  same_bank : new.bank ≡ b
+  same_bank = ap (λ (w : OpenedWith). w.bank) k.same ∙ k.bank
+
+  pub same_plan : new.plan ≡ p
+  same_plan = ap (λ (w : OpenedWith). w.plan) k.same ∙ k.plan_is
+
+  -- what holds of the office's bank and plan
+  so : (P : Tables → Plan → Type 0) → P new.bank new.plan → P b p
+  so P h = subst (λ (x : Tables). P x p) same_bank (subst (λ (y : Plan). P new.bank y) same_plan h)
+
+  pub examined_so : IsExamined b p base disk (notes_of faults old) (notes_of faults new) (history new.marks)
+  examined_so =
+      let office = opened_with faults old in
+      let noted_so : marks_of (notes_of faults new) ≡ new.marks = marks_noted (opened_with faults new) new.marks in
+      record {
+        office = office;
+        is_of = record { bank = k.bank; plan_is = k.plan_is; base_is = k.base_is; told = k.told; faults = k.before };
+        found = history old.marks;
+        stands = k.found;
+        short = k.short;
+        opening = record { size = reach old.marks; is = ap (noted office) k.marks };
+        same_office = ap (λ (w : OpenedWith). noted w new.marks) k.same ∙ ap (noted office) (sym noted_so);
+        history_is = ap history (sym noted_so);
+        legal = so (λ (x : Tables) (y : Plan). LegalRun x y (history new.marks)) k.legal;
+        added = history k.begins.0;
+        extends = ap history k.begins.1 ∙ filter_map-append entry_of old.marks k.begins.0;
+        doubt = new.doubt;
+        doubt_is = subst (λ (m : List Mark). IsDoubtOf m new.doubt) (sym noted_so) k.doubt;
+        marks_are = subst AreMarks (sym noted_so) k.marks_are;
+        counted = subst (λ (m : List Mark). AreCounted m (faults old.opened) disk.after) (sym noted_so) k.counted;
+        length_is = λ t sure. k.length_is t sure ∙ ap reach (sym noted_so);
+        left = λ t. so (λ (x : Tables) (y : Plan). IsMending x y (history new.marks) new.doubt disk.left) (k.left t);
+        images = λ t. so (λ (x : Tables) (y : Plan). AllImages (IsMending x y (history new.marks) new.doubt) disk.images) (k.images t);
+      }
+
+-- ---- what is printed in the end
+-- the numbers of a history, as far as there was memory for their text
+pub last_text : {A : Type 0} (bytes : A → List ℕ) (told : Bool) (old new : List ℕ) (result : ℕ) (end : End) (s : Summary) → end ≡ Done
+    → (text : Result A AllocError)
+    → IfOk text (λ t. bytes t ≡ summary_text s)
+    → IfOk text (λ t. IsLastWritten told old new 0 (bytes t) result) → IfErr text (λ _. IsLastWritten told old new 10 no_memory result)
+    → EndsWith (IsLastOf end s) told old new result
+last_text bytes told old new result end s is (Ok t) made whole none = record {
+  status = 0;
+  text = bytes t;
+  is_allowed = subst (λ (e : End). IsLastOf e s 0 (bytes t)) (sym is) (inl (refl, made));
+  written = whole;
+}
+last_text bytes told old new result end s is (Err e) made whole none = record {
+  status = 10;
+  text = no_memory;
+  is_allowed = subst (λ (x : End). IsLastOf x s 10 no_memory) (sym is) (inr (refl, refl));
+  written = none;
+}
+
+-- a part of a text that is printed last
+last_part : (words : List (List ℕ)) (o : Outside) (told : Bool) (old new : List ℕ) (result status : ℕ) (text : List ℕ) → Outcome words o status text
+    → IsLastWritten told old new status text result → Ends words o told old new result
+last_part words o told old new result status text outcome (inl whole) =
+    inl (record { text = text; written = whole.1; outcome = subst (λ (n : ℕ). Outcome words o n text) (sym whole.0) outcome })
+last_part words o told old new result status text outcome (inr cut) = inr (
+  cut.0,
+  record {
+    text = cut.1.part;
+    rest = cut.1.rest;
+    status = status;
+    written = cut.1.written;
+    outcome = subst (λ (t : List ℕ). Outcome words o status t) cut.1.whole outcome;
+    unfinished = cut.1.unfinished;
+  },
+)
+
+module _ {A D K : Type 0} (disk_faults : A → ℕ) (tells : D → Bool) (coming returned : D → List K) (is_out : D → Bool)
+    (faults identity : D → ℕ) (link_tells : K → Bool) (left written : K → List ℕ) (link_faults link_identity : K → ℕ)
+    (words : List (List ℕ)) (o : Outside) (told : Bool) (was now : List ℕ) (result : ℕ) (b : Tables) (p : Plan) (base : List ℕ)
+    (is : IsServeOf words o b p base) (old new : Running A)
+    (examined : IsExamined b p base o.disk (notes_of disk_faults old) (notes_of disk_faults new) (history new.marks))
+    (numbers_of : Summary) (are : numbers_of ≡ summary p (history new.marks)) (doors back : List D) (Unused : Type 0) where
+  abbrev pub Served : List NotedMark → List NotedMark → Bool → Type 0
+  Served opened closed cut =
+      AreServed tells coming returned is_out faults identity link_tells left written link_faults link_identity opened closed doors back cut
+
+  abbrev work_of : Bool → WorkSeen
+  work_of cut = record { opened = notes_of disk_faults old; closed = notes_of disk_faults new; failed = cut }
+
+  by_last : (cut : Bool) (status : ℕ) (text : List ℕ) → IsLast p (history new.marks) cut status text → IsServedBy words o (work_of cut) status text
+  by_last cut status text last = record { b = b; plan = p; base = base; H = history new.marks; is = is; examined = examined; last = last }
+
+  last_of : (status : ℕ) (text : List ℕ) → IsLastOf Done numbers_of status text → IsLast p (history new.marks) false status text
+  last_of status text (inl e) = subst (λ (n : ℕ). IsLast p (history new.marks) false n text) (sym e.0)
+      (subst (λ (t : List ℕ). IsLast p (history new.marks) false 0 t) (ap summary_text (sym are) ∙ sym e.1) numbers)
+  last_of status text (inr e) = subst (λ (n : ℕ). IsLast p (history new.marks) false n text) (sym e.0)
+      (subst (λ (t : List ℕ). IsLast p (history new.marks) false 10 t) (sym e.1) no_numbers)
+
+  cut_of : (status : ℕ) (text : List ℕ) → IsLastOf DoorFailed numbers_of status text → IsLast p (history new.marks) true status text
+  cut_of status text e = subst (λ (n : ℕ). IsLast p (history new.marks) true n text) (sym e.0)
+      (subst (λ (t : List ℕ). IsLast p (history new.marks) true 14 t) (sym e.1) a_door)
+
+  pub ends_serving : (end : End)
+      → IsResult disk_faults tells coming returned is_out faults identity link_tells left written link_faults link_identity old doors new back end
+      → (end ≡ Memory → new ≡ old) → (end ≡ Memory → Unused) → EndsWith (IsLastOf end numbers_of) told was now result
+      → RunEnds Served Unused words o told was now result
+  ends_serving Done served none unused ends = busy (work_of false) served record {
+    status = ends.status;
+    text = ends.text;
+    is_allowed = by_last false ends.status ends.text (last_of ends.status ends.text ends.is_allowed);
+    written = ends.written;
+  }
+  ends_serving DoorFailed served none unused ends = busy (work_of true) served record {
+    status = ends.status;
+    text = ends.text;
+    is_allowed = by_last true ends.status ends.text (cut_of ends.status ends.text ends.is_allowed);
+    written = ends.written;
+  }
+  ends_serving Memory served none unused ends =
+      let opened : IsExamined b p base o.disk (notes_of disk_faults old) (notes_of disk_faults old) (history old.marks) =
+      subst (λ (w : Running A). IsExamined b p base o.disk (notes_of disk_faults old) (notes_of disk_faults w) (history w.marks)) (none refl) examined in
+      let outcome : Outcome words o ends.status ends.text =
+      subst (λ (n : ℕ). Outcome words o n ends.text) (sym ends.is_allowed.0) (subst (λ (t : List ℕ). Outcome words o 10 t) (sym ends.is_allowed.1)
+      (server_without_memory b p base (notes_of disk_faults old) (history old.marks) is opened)) in
+      idle (unused refl) (last_part words o told was now result ends.status ends.text outcome ends.written)
+
+-- ---- the statuses
+-- the status of a halt, or that of a sink that failed, is one of a run
+pub halt_status : {R : Type 0} (h : Halt) (status : ℕ) → (EndsBy h status) ⊎ ((status ≡ 8) × R) → IsStatusOfRun status
+halt_status h status (inl e) = inl (ends_by h status e)
+halt_status h status (inr e) = inl (also 8 status e.0 is_8)
+
+-- the status of work at doors, or that of a sink that failed
+pub serving_status : {R : Type 0} (end : End) (status : ℕ) → (IsStatusOfServing end status) ⊎ ((status ≡ 8) × R) → IsStatusOfRun status
+serving_status end status (inr e) = inl (also 8 status e.0 is_8)
+serving_status Done status (inl (inl e)) = inl (also 0 status e (0, omega arith, refl))
+serving_status Done status (inl (inr e)) = inl (also 10 status e (9, omega arith, refl))
+serving_status DoorFailed status (inl e) = inr e
+serving_status Memory status (inl e) = inl (also 10 status e (9, omega arith, refl))

@@ -1,0 +1,107 @@
+use Rattle.std.proofs.Common.{◌≡◌, ◌∙◌, ℕ, true, refl, sym, ap, subst, arith}
+use Rattle.exam_model.specs.Plan.{Plan}
+use Rattle.history_model.specs.Summaries.{summary}
+use Rattle.exam_office.specs.declared.fault.OpenFault.TheVariants.{Disk as FailedDisk}
+use Rattle.exam_office.specs.Marks.{history, AreCounted}
+use Rattle.answer_journal.specs.Journal.{faults_of}
+use Rattle.exam_office.specs.Noting.{OpenedWith}
+use Rattle.exam_serve.specs.Results.{notes_of}
+use Rattle.exam_serve.proofs.Left.{still_lent}
+use Rattle.exam_program.specs.declared.halt.Halt.{Halt}
+use Rattle.exam_program.specs.Outcomes.{Halts}
+use Rattle.exam_program.specs.Outside.{DiskSeen, disk_seen}
+use Rattle.exam_program.specs.Runs.{idle}
+use Rattle.exam_program.specs.Serves.{IsExamined}
+use Rattle.exam_program.specs.Stopping.{IsUnopened, opening_halt}
+use Rattle.exam_program.proofs.ReplayLaws.{failing_so, unwritten_so, unopened_so}
+use Rattle.exam_program.proofs.RequestLaws.{nothing_written}
+use Rattle.exam_program.proofs.ServeLaws.{server_unopened, IsClosed, same_plan, examined_so, ends_serving, halt_status, serving_status}
+use Rattle.exam_program.proofs.serving.serve_over.Goals as goal
+
+-- ---- the journal was not opened
+pub returns-in-Err-clause-answers : goal.returns-in-Err-clause-answers
+returns-in-Err-clause-answers g c = λ words o is same.
+    let b = c.args.bank.now in
+    let plan = c.args.spec.now in
+    let base = c.args.base.now in
+    let told = g.O.Sink.tells c.args.out.now in
+    let was = g.O.Sink.written c.args.out.now in
+    let disk = disk_seen g.D.Disk.tells g.D.Disk.content g.D.Disk.accounts g.D.Disk.faults c.args.disk c.in-Err.disk in
+    let opened = c.in-Err.ensures in
+    let why = opening_halt c.in-Err.fault in
+    -- the laws of the disk, which may go to another thread, where this call runs
+    let met = g.met.D.Disk g.world.𝓛 g.world.𝓜 g.world.𝓡 ((λ s x. x), (λ x. x), (λ x. x), (λ x. x)) in
+    let image = λ (t : disk.told ≡ true). met.is_image c.in-Err.disk (opened.frame_err.tells ∙ t) in
+    let failed = λ (e : c.in-Err.fault ≡ FailedDisk). failing_so g.D.Disk.tells g.D.Disk.content g.D.Disk.accounts g.D.Disk.faults c.args.disk c.in-Err.disk b plan (opened.cause e) image opened.settled_err in
+    let untouched = λ (e : c.in-Err.fault ≡ FailedDisk → ⊥). unwritten_so g.D.Disk.tells g.D.Disk.content g.D.Disk.accounts g.D.Disk.faults c.args.disk c.in-Err.disk (opened.untouched e) (opened.unwritten e) in
+    let unopened = subst (λ (d : DiskSeen). IsUnopened b plan d why) (sym same) (unopened_so b plan disk c.in-Err.fault opened.why failed untouched) in
+    let halts = subst (λ (h : Halt). Halts words o told was was h) (sym c.halt_of_opening.ensures)
+    (server_unopened words o told was was b plan base is why (nothing_written told was) unopened) in
+    idle refl (c.report-status.ensures.answers words o was halts)
+
+pub returns-in-Err-clause-status : goal.returns-in-Err-clause-status
+returns-in-Err-clause-status g c = halt_status c.halt_of_opening.result c.report-status.result c.report-status.ensures.status
+
+pub returns-in-Err-clause-doors : goal.returns-in-Err-clause-doors
+returns-in-Err-clause-doors g c = still_lent g.L.Door.tells g.L.Door.is_out g.L.Door.faults g.L.Door.identity c.args.doors.items c.requires.home
+
+-- ---- it was opened
+pub returns-clause-answers : goal.returns-clause-answers
+returns-clause-answers g c = λ words o is same.
+    let b = c.args.bank.now in
+    let plan = c.args.spec.now in
+    let base = c.args.base.now in
+    let told = g.O.Sink.tells c.args.out.now in
+    let was = g.O.Sink.written c.args.out.now in
+    let faults = g.D.Disk.faults in
+    let old = c.in-Ok.office in
+    let new = c.serve_doors-office.result.office in
+    let end = c.serve_doors-office.result.end in
+    let back = c.serve_doors-office.result.doors in
+    let disk = disk_seen g.D.Disk.tells g.D.Disk.content g.D.Disk.accounts faults c.args.disk c.into_disk-disk.result in
+    let opened = c.in-Ok.ensures in
+    let done = c.serve_doors-office.ensures in
+    let gone = c.into_disk-disk.ensures in
+    let still = λ (t : disk.told ≡ true). gone.tells ∙ (ap (λ (w : OpenedWith). w.tells) done.same ∙ (opened.tells ∙ t)) in
+    let closed : IsClosed faults b plan base disk old new = record {
+      bank = opened.bank;
+      plan_is = opened.plan;
+      base_is = opened.base;
+      told = opened.tells;
+      before = ap faults opened.opened;
+      found = opened.stands;
+      short = opened.short;
+      marks = opened.marks;
+      same = done.same;
+      begins = done.begins;
+      legal = c.keeps.ensures.run;
+      doubt = c.keeps.ensures.doubt;
+      marks_are = c.keeps.ensures.marks;
+      counted = subst (λ (n : ℕ). AreCounted new.marks (faults old.opened) n) (sym gone.faults) (subst (λ (n : ℕ). AreCounted new.marks n (faults_of new.journal)) (ap (λ (w : OpenedWith). w.faults) done.same) c.keeps.ensures.counted);
+      length_is = λ t. gone.length (still t);
+      left = λ t. gone.content (still t);
+      images = λ t. gone.images (still t);
+    } in
+    let examined = subst (λ (d : DiskSeen). IsExamined b plan base d (notes_of faults old) (notes_of faults new) (history new.marks)) (sym same)
+    (examined_so faults b plan base disk old new closed) in
+    let are = c.summary-summary.ensures ∙ ap (λ (p : Plan). summary p (history new.marks)) (same_plan faults b plan base disk old new closed) in
+    ends_serving faults g.L.Door.tells g.L.Door.coming g.L.Door.returned g.L.Door.is_out g.L.Door.faults g.L.Door.identity
+    g.L.Link.Link.tells g.L.Link.Link.left g.L.Link.Link.written g.L.Link.Link.faults g.L.Link.Link.identity
+    words o told was (g.O.Sink.written c.end_with.new.out) c.end_with.result b plan base is old new examined c.summary-summary.result are
+    c.args.doors.items back.items (back ≡ c.args.doors) end done.result (λ e. (done.unused e).0) (λ e. (done.unused e).1) c.end_with.ensures.printed
+
+pub returns-clause-status : goal.returns-clause-status
+returns-clause-status g c = serving_status c.serve_doors-office.result.end c.end_with.result c.end_with.ensures.status
+
+pub returns-clause-disk : goal.returns-clause-disk
+returns-clause-disk g c =
+    let opened = c.in-Ok.ensures in
+    let done = c.serve_doors-office.ensures in
+    let gone = c.into_disk-disk.ensures in
+    let before : g.D.Disk.faults c.serve_doors-office.result.office.opened ≡ g.D.Disk.faults c.args.disk =
+    ap (λ (w : OpenedWith). w.faults) done.same ∙ ap g.D.Disk.faults opened.opened in
+    record {
+      grows = omega (arith, c.keeps.ensures.grows, before, gone.faults);
+      tells = gone.tells ∙ (ap (λ (w : OpenedWith). w.tells) done.same ∙ opened.tells);
+      identity = gone.identity ∙ (ap (λ (w : OpenedWith). w.identity) done.same ∙ opened.identity);
+    }

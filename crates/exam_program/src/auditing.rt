@@ -1,0 +1,84 @@
+//! The command `audit`: what the journal has.
+
+ghost use Rattle.std.specs.Prelude.{◌≡◌, ℕ, ◌≤◌, ◌++◌, List, Some, OnOk, IsTrue, IfErr, IfSome};
+ghost use Rattle.exam_edge.specs.Faults.{Rose};
+ghost use Rattle.exam_edge.specs.Lent.{IsLent};
+ghost use Rattle.history_model.specs.declared.request.Reply.TheVariants.{Exposure as Exposed};
+ghost use Rattle.command_line.specs.Commands.{Audit, command_of};
+ghost use Rattle.exam_lines.specs.Texts.{summary_text};
+ghost use Rattle.replay_cli.specs.Replies.{line_of};
+ghost use Rattle.exam_program.specs.Halts.{IsBeforeJournal};
+ghost use Rattle.exam_program.specs.Outcomes.{Prints, Halts};
+ghost use Rattle.exam_program.specs.Outside.{outside, disk_seen};
+
+use crate::halt::Halt;
+use crate::output::put;
+use crate::reading::exam_in;
+use crate::replay::halt_of_opening;
+use exam_edge::{Disk, Files, Sink};
+use exam_lines::summary_line;
+use exam_office::Reply;
+use history_model::{Exposure, Summary};
+use journal_audit::audit_disk;
+use replay_cli::reply_line;
+use std::alloc::Global;
+
+/// The lines of an audit: the numbers of the history, and its exposure counts.
+fn audit_text(alloc: Global, summary: &Summary, exposure: Exposure) -> Option<Vec<u8>>
+    ensures { IfSome result (λ text. text.items ≡ summary_text summary.now ++ line_of (Exposed exposure)) }
+{
+    let line = summary_line(alloc, summary).ok()?;
+    let counts = reply_line(alloc, &Reply::Exposure(exposure)).ok()?;
+    let mut text = Vec::new(alloc);
+    text.extend_from_slice(line.as_bytes()).ok()?;
+    text.extend_from_slice(&counts).ok()?;
+    Some(text)
+}
+
+/// Judges every record of the journal on a disk, and prints the numbers of its history and its exposure counts. It gives the
+/// disk back.
+pub(crate) fn audit_journal<F: Files, O: Sink, D: Disk>(
+    alloc: Global,
+    files: &mut F,
+    out: &mut O,
+    disk: D,
+    bank: &str,
+    plan: &str,
+) -> (D, Result<(), Halt>)
+    ensures ok { OnOk result.1 (IsTrue (F.tells files.old) → (words : List (List ℕ))
+        → command_of words ≡ Some (Audit bank.now plan.now)
+        → Prints words (outside (F.has files.old) (F.content files.old) (F.faults files.old) (F.faults files.new)
+        (disk_seen D.tells D.content D.accounts D.faults disk result.0))
+        (O.tells out.old) (O.written out.old) (O.written out.new) 0) }
+    ensures err { IfErr result.1 (λ halt. IsTrue (F.tells files.old) → (words : List (List ℕ))
+        → command_of words ≡ Some (Audit bank.now plan.now)
+        → Halts words (outside (F.has files.old) (F.content files.old) (F.faults files.old) (F.faults files.new)
+        (disk_seen D.tells D.content D.accounts D.faults disk result.0))
+        (O.tells out.old) (O.written out.old) (O.written out.new) halt) }
+    ensures files { result.1 ≡ Err Halt.Files → Rose (F.faults files.old) (F.faults files.new) }
+    ensures sink { result.1 ≡ Err Halt.Sink → Rose (O.faults out.old) (O.faults out.new) }
+    ensures failed { result.1 ≡ Err Halt.Disk → Rose (D.faults disk) (D.faults result.0) }
+    ensures kept { IfErr result.1 (λ halt. IsBeforeJournal halt → result.0 ≡ disk) }
+    ensures files_grow { F.faults files.old ≤ F.faults files.new }
+    ensures sink_grows { O.faults out.old ≤ O.faults out.new }
+    ensures files_tell { F.tells files.new ≡ F.tells files.old }
+    ensures sink_tells { O.tells out.new ≡ O.tells out.old }
+    ensures disk { IsLent D.tells D.identity D.faults disk result.0 }
+{
+    let exam = match exam_in(alloc, files, bank, plan) {
+        Ok(exam) => exam,
+        Err(halt) => return (disk, Err(halt)),
+    };
+    let (disk, found) = audit_disk(alloc, &exam.bank, &exam.spec, disk);
+    let (summary, exposure) = match found {
+        Ok(found) => found,
+        Err(fault) => return (disk, Err(halt_of_opening(fault))),
+    };
+    let Some(text) = audit_text(alloc, &summary, exposure) else {
+        return (disk, Err(Halt::Memory));
+    };
+    match put(out, &text) {
+        Ok(()) => (disk, Ok(())),
+        Err(_) => (disk, Err(Halt::Sink)),
+    }
+}

@@ -1,0 +1,188 @@
+//! The command `serve`: connections over the journal.
+
+ghost use Rattle.std.specs.Prelude.{◌≡◌, ℕ, ◌≤◌, ◌⊎◌, List, All, Some, None, false, IsTrue, IfErr, IfOk, length, vec_len};
+ghost use Rattle.bank_tables.specs.Items.{has};
+ghost use Rattle.exam_edge.specs.Faults.{Rose};
+ghost use Rattle.exam_edge.specs.Lent.{IsLent};
+ghost use Rattle.exam_model.specs.Forms.{Meets};
+ghost use Rattle.exam_model.specs.Validity.{IsPlanFor};
+ghost use Rattle.exam_serve.specs.Doors.{AreLent, AreServed, HasFailedDoor};
+ghost use Rattle.command_line.specs.Commands.{Serve, command_of};
+ghost use Rattle.exam_program.specs.Outcomes.{IsStatusBefore, IsStatusOfRun};
+ghost use Rattle.exam_program.specs.Outside.{Outside, outside, disk_seen};
+ghost use Rattle.exam_program.specs.Runs.{RunEnds, EndsWith, IsLastOf, IsStatusOfServing};
+ghost use Rattle.exam_program.specs.Serves.{IsServeOf};
+
+use crate::base::base_form;
+use crate::reading::exam_in;
+use crate::replay::halt_of_opening;
+use crate::report::{print, print_text, report};
+use bank_tables::{Bank, ItemSet};
+use constraint_model::Spec;
+use exam_edge::{Disk, Door, Files, Gate, Sink};
+use exam_lines::summary_line;
+use exam_office::Office;
+use exam_serve::{End, Served, serve_doors};
+use history_model::Summary;
+use std::alloc::Global;
+use std::sync::Wait;
+use std::thread::Threads;
+
+/// What a server leaves: the disk, the doors in their order, and the status to end with.
+pub(crate) struct Left<D, L> {
+    pub disk: D,
+    pub doors: Vec<L>,
+    pub status: u8,
+}
+
+/// Prints how the work at the doors ended, and gives the status to end with: the numbers of the
+/// history, or that a door failed, or that memory ran out before any link was accepted.
+#[tactic(auto, unfolding(crate::specs::Texts::door_failed, exam_text::specs::Texts::no_memory))]
+fn end_with<O: Sink>(alloc: Global, out: &mut O, end: End, summary: &Summary) -> u8
+    ensures printed { EndsWith (IsLastOf end summary.now) (O.tells out.old) (O.written out.old)
+        (O.written out.new) result }
+    ensures status { IsStatusOfServing end result
+        ⊎ ((result ≡ 8) × Rose (O.faults out.old) (O.faults out.new)) }
+    ensures grows { O.faults out.old ≤ O.faults out.new }
+    ensures tells { O.tells out.new ≡ O.tells out.old }
+{
+    match end {
+        End::Done => print_text(out, summary_line(alloc, summary), 0),
+        End::DoorFailed => print(out, b"door failed\n", 14),
+        End::Memory => print(out, b"no memory\n", 10),
+    }
+}
+
+/// Opens the journal on a disk, serves the connections of the doors over it, and prints how that
+/// ended. The base form, which meets the plan, is the hint of each assembly.
+fn serve_over<'a, R, O, D, L, G>(
+    rt: &R,
+    alloc: Global,
+    bank: &'a Bank,
+    spec: &'a Spec,
+    base: &ItemSet,
+    out: &mut O,
+    disk: D,
+    doors: Vec<L>,
+    gate: &G,
+) -> Left<D, L>
+where
+    R: Threads + Wait + Sync,
+    O: Sink,
+    D: Disk + Send,
+    L: Door + Send,
+    G: Gate + Sync,
+    requires plan { IsPlanFor bank.now spec.now }
+    requires base { Meets bank.now spec.now (has base.now) }
+    requires few { vec_len doors ≤ 65535 }
+    requires home { All (λ d. L.is_out d ≡ false) doors.items }
+    ensures answers { (words : List (List ℕ)) (o : Outside)
+        → IsServeOf words o bank.now spec.now base.now
+        → o.disk ≡ disk_seen D.tells D.content D.accounts D.faults disk result.disk
+        → RunEnds (λ opened closed failed. AreServed L.tells L.coming L.returned L.is_out L.faults
+        L.identity L.Link.tells L.Link.left L.Link.written L.Link.faults L.Link.identity
+        opened closed doors.items result.doors.items failed) (result.doors ≡ doors)
+        words o (O.tells out.old) (O.written out.old) (O.written out.new) result.status }
+    ensures door { result.status ≡ 14 → HasFailedDoor L.faults doors.items result.doors.items }
+    ensures sink { result.status ≡ 8 → Rose (O.faults out.old) (O.faults out.new) }
+    ensures failed { result.status ≡ 9 → Rose (D.faults disk) (D.faults result.disk) }
+    ensures opened { IsStatusBefore result.status → ⊥ }
+    ensures status { IsStatusOfRun result.status }
+    ensures grows { O.faults out.old ≤ O.faults out.new }
+    ensures tells { O.tells out.new ≡ O.tells out.old }
+    ensures disk { IsLent D.tells D.identity D.faults disk result.disk }
+    ensures doors { AreLent L.tells L.identity L.faults L.is_out doors.items result.doors.items }
+{
+    let office = match Office::open(alloc, bank, spec, *base, disk) {
+        Ok(office) => office,
+        Err((disk, fault)) => {
+            let status = report(alloc, out, halt_of_opening(fault));
+            return Left {
+                disk,
+                doors,
+                status,
+            };
+        }
+    };
+    let Served { office, doors, end } = serve_doors(rt, alloc, office, gate, doors);
+    // What the type of an office keeps of its marks.
+    office.keeps();
+    let summary = office.summary();
+    let disk = office.into_disk();
+    Left {
+        disk,
+        doors,
+        status: end_with(alloc, out, end, &summary),
+    }
+}
+
+/// Serves the connections of the doors over the journal on a disk, and prints how that ended. It
+/// gives the disk and the doors back.
+pub(crate) fn serve<R, F, O, D, L, G>(
+    rt: &R,
+    alloc: Global,
+    files: &mut F,
+    out: &mut O,
+    disk: D,
+    doors: Vec<L>,
+    gate: &G,
+    bank: &str,
+    plan: &str,
+) -> Left<D, L>
+where
+    R: Threads + Wait + Sync,
+    F: Files,
+    O: Sink,
+    D: Disk + Send,
+    L: Door + Send,
+    G: Gate + Sync,
+    requires few { vec_len doors ≤ 65535 }
+    requires home { All (λ d. L.is_out d ≡ false) doors.items }
+    ensures answers { IsTrue (F.tells files.old) → (words : List (List ℕ))
+        → command_of words ≡ Some (Serve bank.now plan.now)
+        → RunEnds (λ opened closed failed. AreServed L.tells L.coming L.returned L.is_out L.faults
+        L.identity L.Link.tells L.Link.left L.Link.written L.Link.faults L.Link.identity
+        opened closed doors.items result.doors.items failed) (result.doors ≡ doors)
+        words (outside (F.has files.old) (F.content files.old) (F.faults files.old) (F.faults files.new)
+        (disk_seen D.tells D.content D.accounts D.faults disk result.disk))
+        (O.tells out.old) (O.written out.old) (O.written out.new) result.status }
+    ensures door { result.status ≡ 14 → HasFailedDoor L.faults doors.items result.doors.items }
+    ensures files { result.status ≡ 7 → Rose (F.faults files.old) (F.faults files.new) }
+    ensures sink { result.status ≡ 8 → Rose (O.faults out.old) (O.faults out.new) }
+    ensures failed { result.status ≡ 9 → Rose (D.faults disk) (D.faults result.disk) }
+    ensures kept { IsStatusBefore result.status → result.disk ≡ disk }
+    ensures usage { result.status ≡ 2 → ⊥ }
+    ensures status { IsStatusOfRun result.status }
+    ensures files_grow { F.faults files.old ≤ F.faults files.new }
+    ensures sink_grows { O.faults out.old ≤ O.faults out.new }
+    ensures files_tell { F.tells files.new ≡ F.tells files.old }
+    ensures sink_tells { O.tells out.new ≡ O.tells out.old }
+    ensures disk { IsLent D.tells D.identity D.faults disk result.disk }
+    ensures doors { AreLent L.tells L.identity L.faults L.is_out doors.items result.doors.items }
+{
+    let exam = match exam_in(alloc, files, bank, plan) {
+        Ok(exam) => exam,
+        Err(halt) => {
+            let status = report(alloc, out, halt);
+            return Left {
+                disk,
+                doors,
+                status,
+            };
+        }
+    };
+    let base = match base_form(alloc, &exam.bank, &exam.spec) {
+        Ok(base) => base,
+        Err(halt) => {
+            let status = report(alloc, out, halt);
+            return Left {
+                disk,
+                doors,
+                status,
+            };
+        }
+    };
+    serve_over(
+        rt, alloc, &exam.bank, &exam.spec, &base, out, disk, doors, gate,
+    )
+}
