@@ -7,7 +7,7 @@ ghost use Rattle.exam_model.specs.Validity.{IsPlanFor};
 
 use bank_tables::Bank;
 use constraint_model::{Draft, Spec};
-use exam_edge::{Gate, MemoryDisk, MemoryDoor, MemoryLink};
+use exam_edge::{Door, Gate, MemoryDisk, MemoryDoor, MemoryLink};
 use exam_office::{Alone, Office, Reply, Request, Summary};
 use exam_serve::{End, Served, serve_doors};
 use std::alloc::Global;
@@ -18,11 +18,10 @@ use trial_cases::{bank_a, draft_a, set_of};
 
 /// What came of the work.
 #[derive(Drop)]
-pub(crate) struct Told {
+pub(crate) struct Told<L> {
     pub(crate) end: End,
     pub(crate) summary: Summary,
-    /// What the first link of each door got.
-    pub(crate) texts: Vec<Vec<u8>>,
+    pub(crate) doors: Vec<L>,
     /// The sessions that bookings 70 and 71 have in the journal, if they have any.
     pub(crate) sessions: (Option<u32>, Option<u32>),
 }
@@ -37,8 +36,8 @@ fn door(alloc: Global, text: &str) -> Result<MemoryDoor, Fail>
     Ok(MemoryDoor::of(alloc, links, Vec::new(alloc))?)
 }
 
-// No doors, or a door for each of two texts.
-fn doors(alloc: Global, texts: Option<(&str, &str)>) -> Result<Vec<MemoryDoor>, Fail>
+/// No doors, or a door for each of two texts.
+pub(crate) fn doors(alloc: Global, texts: Option<(&str, &str)>) -> Result<Vec<MemoryDoor>, Fail>
     ensures few { IfOk result (λ doors. vec_len doors ≤ 2) }
     ensures home { IfOk result (λ doors. All (λ d. out_of d ≡ false) doors.items) }
 {
@@ -50,8 +49,8 @@ fn doors(alloc: Global, texts: Option<(&str, &str)>) -> Result<Vec<MemoryDoor>, 
     Ok(doors)
 }
 
-// What the first link of each door got; nothing where none came back.
-fn texts_of(alloc: Global, doors: &[MemoryDoor]) -> Result<Vec<Vec<u8>>, Fail> {
+/// What the first link of each door got; nothing where none came back.
+pub(crate) fn texts_of(alloc: Global, doors: &[MemoryDoor]) -> Result<Vec<Vec<u8>>, Fail> {
     let mut texts = Vec::new(alloc);
     for door in doors {
         let text = match door.returned().first() {
@@ -92,17 +91,18 @@ fn session_of(alloc: Global, alone: &mut Alone<MemoryDisk>, booking: u64) -> Opt
     }
 }
 
-fn serve<'a, G: Gate + Sync, R: Threads + Wait + Sync>(
+fn serve<'a, L: Door + Send + Drop, G: Gate + Sync, R: Threads + Wait + Sync>(
     rt: &R,
     alloc: Global,
     bank: &'a Bank,
     spec: &'a Spec,
-    texts: Option<(&str, &str)>,
+    doors: Vec<L>,
     gate: &G,
-) -> Result<Told, Fail>
-    requires { IsPlanFor bank.now spec.now }
+) -> Result<Told<L>, Fail>
+    requires plan { IsPlanFor bank.now spec.now }
+    requires few { vec_len doors ≤ 65535 }
+    requires home { All (λ d. L.is_out d ≡ false) doors.items }
 {
-    let doors = doors(alloc, texts)?;
     let empty = MemoryDisk::of(alloc, Vec::new(alloc), Vec::new(alloc));
     let office = open(alloc, bank, spec, empty)?;
     let Served { office, doors, end } = serve_doors(rt, alloc, office, gate, doors);
@@ -118,23 +118,26 @@ fn serve<'a, G: Gate + Sync, R: Threads + Wait + Sync>(
     Ok(Told {
         end,
         summary,
-        texts: texts_of(alloc, &doors)?,
+        doors,
         sessions,
     })
 }
 
-/// What comes of the work on bank A with no doors, or with a door for each of two texts.
-pub(crate) fn serve_bank_a<G: Gate + Sync, R: Threads + Wait + Sync>(
+/// What comes of the work on bank A with these doors.
+pub(crate) fn serve_bank_a<L: Door + Send + Drop, G: Gate + Sync, R: Threads + Wait + Sync>(
     rt: &R,
     alloc: Global,
-    texts: Option<(&str, &str)>,
+    doors: Vec<L>,
     gate: &G,
-) -> Result<Told, Fail> {
+) -> Result<Told<L>, Fail>
+    requires few { vec_len doors ≤ 65535 }
+    requires home { All (λ d. L.is_out d ≡ false) doors.items }
+{
     let bank = bank_a(alloc)?;
     let draft = Draft {
         base: Some(set_of(&[1, 2, 3])),
         ..draft_a(alloc)?
     };
     let spec = Spec::of(alloc, &bank, draft)?;
-    serve(rt, alloc, &bank, &spec, texts, gate)
+    serve(rt, alloc, &bank, &spec, doors, gate)
 }
