@@ -4,9 +4,10 @@
 use crate::files::{
     ANSWERED, CLOSED, empty_journal, served_journal, started, started_journal, third_journal,
 };
-use crate::outcome::{Call, Reply, WORKED, asked, begun, waiting};
+use crate::outcome::{Call, Reply, begun, gives, waiting};
 use exam_office::{Place, Refusal};
 use std::alloc::Global;
+use std::process::Abort;
 use std::test::Fail;
 
 /// How many entries a history has, and where session 0 is.
@@ -95,16 +96,22 @@ fn close_case(alloc: Global) -> Result<Case, Fail> {
     })
 }
 
-/// What is found in a file: it is opened, and the session is looked at.
-pub(crate) fn opened(alloc: Global, bytes: &[u8]) -> Result<State, Fail> {
-    let (found, _, _) = asked(alloc, &WORKED, bytes, &[], &[Call::Look(0)])?;
-    let Some(place) = found.replies.get(0) else {
-        return Err(Fail::from("no reply"));
-    };
-    Ok(State {
-        entries: found.summary.entries,
-        place: *place,
-    })
+/// The file is opened, the session is looked at, and this is found.
+pub(crate) fn opens<R: Abort>(
+    rt: &R,
+    alloc: Global,
+    bytes: &[u8],
+    state: State,
+) -> Result<(), Fail> {
+    gives(
+        rt,
+        alloc,
+        (bytes, &[]),
+        &[Call::Look(0)],
+        &[state.place],
+        state.entries,
+    )?;
+    Ok(())
 }
 
 /// One of each kind.

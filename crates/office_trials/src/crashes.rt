@@ -4,9 +4,10 @@
 //! any bytes. After its gate was written it leaves the whole record, and at the gate any value.
 //! After each sync, and before the first call, it leaves what a read gives.
 
-use crate::cases::{Case, cases, opened};
+use crate::cases::{Case, cases, opens};
+use crate::expected::leaves;
 use crate::files::{ANSWERED, served_journal, third_journal};
-use crate::outcome::{Call, Reply, WORKED, asked, run, waiting};
+use crate::outcome::{Call, Reply, WORKED, gives, run, waiting};
 use exam_office::Place;
 use std::alloc::Global;
 use std::process::Abort;
@@ -18,66 +19,93 @@ fn stopped(alloc: Global, case: &Case, fail: u64) -> Result<Vec<u8>, Fail> {
     Ok(outcome.bytes)
 }
 
-/// Of a record that was written the bytes up to a length, as they are or each of one value.
-fn opens_torn<R: Abort>(rt: &R, alloc: Global, case: &Case, staged: &[u8]) -> Result<(), Fail> {
-    let whole = case.bytes.len();
-    for length in whole..staged.len() {
-        let mut torn = staged.to_vec(alloc)?;
-        torn.truncate(length + 1);
-        assert_eq!(rt; opened(alloc, &torn)?, case.before, "after {length}");
-        for value in [0u8, 1, 255] {
-            for byte in torn.iter_mut().skip(whole) {
-                *byte = value;
-            }
-            assert_eq!(rt;
-                opened(alloc, &torn)?,
-                case.before,
-                "after {length}, {value}"
-            );
-        }
+/// Each byte from this place on gets this value.
+fn fill(bytes: &mut [u8], from: usize, value: u8) {
+    for byte in bytes.iter_mut().skip(from) {
+        *byte = value;
+    }
+}
+
+/// A file whose bytes after the old ones are each of one value.
+fn opens_filled<R: Abort>(rt: &R, alloc: Global, case: &Case, torn: &[u8]) -> Result<(), Fail> {
+    for value in [0u8, 1, 255] {
+        let mut filled = torn.to_vec(alloc)?;
+        fill(&mut filled, case.bytes.len(), value);
+        opens(rt, alloc, &filled, case.before)?;
     }
     Ok(())
 }
 
-/// The whole record, and each value at its gate. Only 1 is open.
-fn opens_gated<R: Abort>(rt: &R, alloc: Global, case: &Case, longer: &[u8]) -> Result<(), Fail> {
-    let gate = case.bytes.len().saturating_sub(1);
-    for value in 0..256u16 {
-        let mut bytes = longer.to_vec(alloc)?;
-        if gate < bytes.len() {
-            bytes[gate] = value as u8;
-        }
-        let expected = if value == 1 { case.after } else { case.before };
-        assert_eq!(rt; opened(alloc, &bytes)?, expected, "gate {value}");
+/// Of a record that was written the bytes up to a length, as they are or each of one value.
+fn opens_torn<R: Abort>(rt: &R, alloc: Global, case: &Case, staged: &[u8]) -> Result<(), Fail> {
+    for length in case.bytes.len()..staged.len() {
+        let mut torn = staged.to_vec(alloc)?;
+        torn.truncate(length + 1);
+        opens(rt, alloc, &torn, case.before)?;
+        opens_filled(rt, alloc, case, &torn)?;
     }
     Ok(())
+}
+
+/// The whole record with this value at its gate.
+fn opens_gate<R: Abort>(
+    rt: &R,
+    alloc: Global,
+    case: &Case,
+    longer: &[u8],
+    value: u8,
+) -> Result<(), Fail> {
+    let gate = case.bytes.len().saturating_sub(1);
+    let mut bytes = longer.to_vec(alloc)?;
+    if gate < bytes.len() {
+        bytes[gate] = value;
+    }
+    let expected = if value == 1 { case.after } else { case.before };
+    opens(rt, alloc, &bytes, expected)
+}
+
+/// The whole record, and each value at its gate. Only 1 is open.
+fn opens_gated<R: Abort>(rt: &R, alloc: Global, case: &Case, longer: &[u8]) -> Result<(), Fail> {
+    for value in 0..256u16 {
+        opens_gate(rt, alloc, case, longer, value as u8)?;
+    }
+    Ok(())
+}
+
+/// The file is longer than the one before.
+fn is_longer<R: Abort>(rt: &R, file: &[u8], before: &[u8]) {
+    assert!(rt; file.len() > before.len());
+}
+
+/// The file begins with the one before.
+fn goes_on<R: Abort>(rt: &R, file: &[u8], before: &[u8]) {
+    assert!(rt; file.starts_with(before));
 }
 
 /// Before the write, after it, and after its sync.
 fn opens_before_the_gate<R: Abort>(rt: &R, alloc: Global, case: &Case) -> Result<(), Fail> {
     let none = stopped(alloc, case, 4)?;
-    assert_eq!(rt; none.as_slice(), case.bytes.as_slice());
-    assert_eq!(rt; opened(alloc, &none)?, case.before);
+    leaves(rt, &none, &case.bytes);
+    opens(rt, alloc, &none, case.before)?;
     let staged = stopped(alloc, case, 5)?;
-    assert!(rt; staged.len() > case.bytes.len());
-    assert!(rt; staged.starts_with(case.bytes.as_slice()));
+    is_longer(rt, &staged, &case.bytes);
+    goes_on(rt, &staged, &case.bytes);
     opens_torn(rt, alloc, case, &staged)?;
     let synced = stopped(alloc, case, 6)?;
-    assert_eq!(rt; synced.as_slice(), staged.as_slice());
-    assert_eq!(rt; opened(alloc, &synced)?, case.before);
-    Ok(())
+    leaves(rt, &synced, &staged);
+    opens(rt, alloc, &synced, case.before)
 }
 
 /// After the gate was written, and after its sync.
 fn opens_after_the_gate<R: Abort>(rt: &R, alloc: Global, case: &Case) -> Result<(), Fail> {
     let gated = stopped(alloc, case, 7)?;
-    assert!(rt; gated.len() > case.bytes.len());
+    is_longer(rt, &gated, &case.bytes);
     opens_gated(rt, alloc, case, &gated)?;
     let whole = stopped(alloc, case, 8)?;
-    assert_eq!(rt; whole.as_slice(), gated.as_slice());
-    assert_eq!(rt; opened(alloc, &whole)?, case.after);
+    leaves(rt, &whole, &gated);
+    opens(rt, alloc, &whole, case.after)?;
     if let Some(bytes) = &case.longer {
-        assert_eq!(rt; whole.as_slice(), bytes.as_slice());
+        leaves(rt, &whole, bytes);
     }
     Ok(())
 }
@@ -100,17 +128,12 @@ fn a_session_goes_on_after_a_crash(rt: HostRuntime) -> Result<(), Fail> {
     let before = served_journal(alloc)?;
     let mut staged = before.to_vec(alloc)?;
     staged.extend_from_slice(&[0, 0, 0, 8, 4, 0])?;
-    let calls = [Call::Look(0)];
-    let (found, bytes, _) = asked(alloc, &WORKED, &staged, &[], &calls)?;
-    assert_eq!(rt;
-        found.replies.as_slice(),
-        [Reply::At(waiting(0, 2))].as_slice()
-    );
-    assert_eq!(rt; bytes.as_slice(), before.as_slice());
+    let replies = [Reply::At(waiting(0, 2))];
+    let found = gives(&rt, alloc, (&staged, &[]), &[Call::Look(0)], &replies, 2)?;
+    leaves(&rt, &found.bytes, &before);
     let after = third_journal(alloc, &ANSWERED)?;
     let calls = [Call::Look(0), Call::Serve(0)];
-    let (found, _, _) = asked(alloc, &WORKED, &after, &[], &calls)?;
     let replies = [Reply::At(Place::Pending(1)), Reply::At(waiting(1, 4))];
-    assert_eq!(rt; found.replies.as_slice(), replies.as_slice());
+    gives(&rt, alloc, (&after, &[]), &calls, &replies, 4)?;
     Ok(())
 }

@@ -1,9 +1,9 @@
 //! What an office does after a call of the disk has failed.
 
-use crate::cases::{Case, cases, opened};
-use crate::counted_disk::Count;
+use crate::cases::{Case, cases, opens};
+use crate::expected::{counts, ends, fails, leaves};
 use crate::files::{ANSWERED, served_journal, third_journal};
-use crate::outcome::{Call, Reply, WORKED, asked, run};
+use crate::outcome::{Call, Reply, WORKED, gives, run};
 use exam_office::{OpenFault, Place, Refusal};
 use std::alloc::Global;
 use std::process::Abort;
@@ -15,6 +15,13 @@ const ANSWER: Call = Call::Answer(0, 0, 1);
 
 const ANSWERED_REPLY: Reply = Reply::At(Place::Pending(1));
 
+/// The journal of the served session with the record of its answer, after a closed gate.
+fn staged_journal(alloc: Global) -> Result<Vec<u8>, Fail> {
+    let mut staged = served_journal(alloc)?;
+    staged.extend_from_slice(&[0, 0, 0, 8, 4, 0, 0, 0, 0, 0, 0, 1, 0])?;
+    Ok(staged)
+}
+
 /// The first sync of the answer fails: call 5. The record is on the disk after a closed gate, and
 /// the history lacks it. The next answer drops it by four calls (sync, read, cut, sync) and adds it
 /// by four.
@@ -22,36 +29,13 @@ const ANSWERED_REPLY: Reply = Reply::At(Place::Pending(1));
 fn a_record_that_is_dropped(rt: HostRuntime) -> Result<(), Fail> {
     let alloc = rt.alloc();
     let before = served_journal(alloc)?;
-    let (found, bytes, count) = asked(alloc, &WORKED, &before, &[5], &[ANSWER])?;
-    assert_eq!(rt; found.replies.as_slice(), [FAILED].as_slice());
-    assert_eq!(rt; found.summary.entries, 2);
-    assert_eq!(rt;
-        count,
-        Count {
-            calls: 6,
-            faults: 1
-        }
-    );
-    let mut staged = before.to_vec(alloc)?;
-    staged.extend_from_slice(&[0, 0, 0, 8, 4, 0, 0, 0, 0, 0, 0, 1, 0])?;
-    assert_eq!(rt; bytes.as_slice(), staged.as_slice());
-    let (found, bytes, count) = asked(alloc, &WORKED, &before, &[5], &[ANSWER, ANSWER])?;
-    assert_eq!(rt;
-        found.replies.as_slice(),
-        [FAILED, ANSWERED_REPLY].as_slice()
-    );
-    assert_eq!(rt; found.summary.entries, 3);
-    assert_eq!(rt;
-        count,
-        Count {
-            calls: 14,
-            faults: 1
-        }
-    );
-    assert_eq!(rt;
-        bytes.as_slice(),
-        third_journal(alloc, &ANSWERED)?.as_slice()
-    );
+    let once = gives(&rt, alloc, (&before, &[5]), &[ANSWER], &[FAILED], 2)?;
+    counts(&rt, once.count, 6, 1);
+    leaves(&rt, &once.bytes, &staged_journal(alloc)?);
+    let replies = [FAILED, ANSWERED_REPLY];
+    let twice = gives(&rt, alloc, (&before, &[5]), &[ANSWER, ANSWER], &replies, 3)?;
+    counts(&rt, twice.count, 14, 1);
+    leaves(&rt, &twice.bytes, &third_journal(alloc, &ANSWERED)?);
     Ok(())
 }
 
@@ -62,68 +46,58 @@ fn a_record_that_is_kept(rt: HostRuntime) -> Result<(), Fail> {
     let alloc = rt.alloc();
     let before = served_journal(alloc)?;
     let after = third_journal(alloc, &ANSWERED)?;
-    let (found, bytes, count) = asked(alloc, &WORKED, &before, &[7], &[ANSWER])?;
-    assert_eq!(rt; found.replies.as_slice(), [FAILED].as_slice());
-    assert_eq!(rt; found.summary.entries, 2);
-    assert_eq!(rt;
-        count,
-        Count {
-            calls: 8,
-            faults: 1
-        }
-    );
-    assert_eq!(rt; bytes.as_slice(), after.as_slice());
-    let (found, bytes, count) = asked(alloc, &WORKED, &before, &[7], &[ANSWER, ANSWER])?;
-    assert_eq!(rt;
-        found.replies.as_slice(),
-        [FAILED, ANSWERED_REPLY].as_slice()
-    );
-    assert_eq!(rt; found.summary.entries, 3);
-    assert_eq!(rt;
-        count,
-        Count {
-            calls: 10,
-            faults: 1
-        }
-    );
-    assert_eq!(rt; bytes.as_slice(), after.as_slice());
+    let once = gives(&rt, alloc, (&before, &[7]), &[ANSWER], &[FAILED], 2)?;
+    counts(&rt, once.count, 8, 1);
+    leaves(&rt, &once.bytes, &after);
+    let replies = [FAILED, ANSWERED_REPLY];
+    let twice = gives(&rt, alloc, (&before, &[7]), &[ANSWER, ANSWER], &replies, 3)?;
+    counts(&rt, twice.count, 10, 1);
+    leaves(&rt, &twice.bytes, &after);
     Ok(())
 }
 
 /// A call whose disk call of this number fails; 8 is none of its calls.
 fn fail_one<R: Abort>(rt: &R, alloc: Global, case: &Case, fail: u64) -> Result<(), Fail> {
-    let (found, bytes, count) = asked(alloc, &WORKED, &case.bytes, &[fail], &[case.call])?;
-    let calls = fail.min(7) + 1;
-    if fail < 8 {
-        assert_eq!(rt; found.replies.as_slice(), [FAILED].as_slice(), "{fail}");
-        assert_eq!(rt; found.summary.entries, case.before.entries, "{fail}");
-        assert_eq!(rt; count, Count { calls, faults: 1 }, "{fail}");
+    let (reply, entries, faults) = if fail < 8 {
+        (FAILED, case.before.entries, 1)
     } else {
-        assert_eq!(rt; found.replies.as_slice(), [case.reply].as_slice());
-        assert_eq!(rt; found.summary.entries, case.after.entries);
-        assert_eq!(rt; count, Count { calls, faults: 0 });
-    }
+        (case.reply, case.after.entries, 0)
+    };
+    let left = gives(
+        rt,
+        alloc,
+        (&case.bytes, &[fail]),
+        &[case.call],
+        &[reply],
+        entries,
+    )?;
+    counts(rt, left.count, fail.min(7) + 1, faults);
     let state = if fail < 7 { case.before } else { case.after };
-    assert_eq!(rt; opened(alloc, &bytes)?, state, "opened after {fail}");
-    Ok(())
+    opens(rt, alloc, &left.bytes, state)
 }
 
 /// The same call again drops the record and adds it, or where the last sync failed keeps it.
 fn fail_and_repeat<R: Abort>(rt: &R, alloc: Global, case: &Case, fail: u64) -> Result<(), Fail> {
-    let calls = [case.call, case.call];
-    let (found, bytes, count) = asked(alloc, &WORKED, &case.bytes, &[fail], &calls)?;
     let reply = if fail == 7 { case.again } else { case.reply };
-    assert_eq!(rt;
-        found.replies.as_slice(),
-        [FAILED, reply].as_slice(),
-        "{fail}"
-    );
-    assert_eq!(rt; found.summary.entries, case.after.entries, "{fail}");
-    assert_eq!(rt; count.faults, 1);
+    let entries = case.after.entries;
+    let calls = [case.call, case.call];
+    let replies = [FAILED, reply];
+    let left = gives(rt, alloc, (&case.bytes, &[fail]), &calls, &replies, entries)?;
+    fails(rt, left.count, 1);
     if let Some(longer) = &case.longer {
-        assert_eq!(rt; bytes.as_slice(), longer.as_slice(), "{fail}");
+        leaves(rt, &left.bytes, longer);
     }
-    assert_eq!(rt; opened(alloc, &bytes)?, case.after, "opened after {fail}");
+    opens(rt, alloc, &left.bytes, case.after)
+}
+
+/// Each call of the disk that a call of the office makes.
+fn fail_each<R: Abort>(rt: &R, alloc: Global, case: &Case) -> Result<(), Fail> {
+    for fail in 4..9u64 {
+        fail_one(rt, alloc, case, fail)?;
+    }
+    for fail in 4..8u64 {
+        fail_and_repeat(rt, alloc, case, fail)?;
+    }
     Ok(())
 }
 
@@ -132,87 +106,72 @@ fn each_call_of_the_disk_fails(rt: HostRuntime) -> Result<(), Fail> {
     let alloc = rt.alloc();
     let cases = cases(alloc)?;
     for case in &cases {
-        for fail in 4..9u64 {
-            fail_one(&rt, alloc, case, fail)?;
-        }
-        for fail in 4..8u64 {
-            fail_and_repeat(&rt, alloc, case, fail)?;
-        }
+        fail_each(&rt, alloc, case)?;
     }
     Ok(())
 }
 
-/// After the first sync of the answer failed, mending is calls 6 to 9: sync, read, cut, sync. After
-/// the last one failed, it is calls 8 and 9: sync, read. Where it fails, the third answer keeps or
+/// A call of the disk fails in the first answer, and one in the second. The third answer keeps or
 /// drops the record.
+fn fail_twice<R: Abort>(rt: &R, alloc: Global, two: &[u64]) -> Result<(), Fail> {
+    let before = served_journal(alloc)?;
+    let calls = [ANSWER, ANSWER, ANSWER];
+    let replies = [FAILED, FAILED, ANSWERED_REPLY];
+    let left = gives(rt, alloc, (&before, two), &calls, &replies, 3)?;
+    fails(rt, left.count, 2);
+    leaves(rt, &left.bytes, &third_journal(alloc, &ANSWERED)?);
+    Ok(())
+}
+
+/// After the first sync of the answer failed, mending is calls 6 to 9: sync, read, cut, sync. After
+/// the last one failed, it is calls 8 and 9: sync, read.
 #[test]
 fn each_call_of_mending_fails(rt: HostRuntime) -> Result<(), Fail> {
-    let alloc = rt.alloc();
-    let before = served_journal(alloc)?;
-    for (first, second) in [(5u64, 6u64), (5, 7), (5, 8), (5, 9), (7, 8), (7, 9)] {
-        let fails = [first, second];
-        let calls = [ANSWER, ANSWER, ANSWER];
-        let (found, bytes, count) = asked(alloc, &WORKED, &before, &fails, &calls)?;
-        let replies = [FAILED, FAILED, ANSWERED_REPLY];
-        assert_eq!(rt;
-            found.replies.as_slice(),
-            replies.as_slice(),
-            "{first} {second}"
-        );
-        assert_eq!(rt; found.summary.entries, 3, "{first} {second}");
-        assert_eq!(rt; count.faults, 2, "{first} {second}");
-        let after = third_journal(alloc, &ANSWERED)?;
-        assert_eq!(rt; bytes.as_slice(), after.as_slice(), "{first} {second}");
+    for two in [[5u64, 6], [5, 7], [5, 8], [5, 9], [7, 8], [7, 9]] {
+        fail_twice(&rt, rt.alloc(), &two)?;
     }
     Ok(())
 }
 
 /// A journal with two bytes after its last gate is opened by five calls: sync, length, read, cut,
-/// sync.
-#[test]
-fn each_call_of_opening_fails(rt: HostRuntime) -> Result<(), Fail> {
-    let alloc = rt.alloc();
+/// sync. The one of this number fails; 5 is none of them.
+fn fail_opening<R: Abort>(rt: &R, alloc: Global, fail: u64) -> Result<(), Fail> {
     let whole = served_journal(alloc)?;
     let mut longer = whole.to_vec(alloc)?;
     longer.extend_from_slice(&[1, 1])?;
+    let outcome = run(alloc, &WORKED, &longer, &[fail], &[])?;
+    let (fault, faults) = if fail < 5 {
+        (Some(OpenFault::Disk), 1)
+    } else {
+        (None, 0)
+    };
+    let left = if fail < 4 { &longer } else { &whole };
+    ends(rt, &outcome, fault, left);
+    counts(rt, outcome.count, fail.min(4) + 1, faults);
+    Ok(())
+}
+
+#[test]
+fn each_call_of_opening_fails(rt: HostRuntime) -> Result<(), Fail> {
     for fail in 0..6u64 {
-        let outcome = run(alloc, &WORKED, &longer, &[fail], &[])?;
-        let fault = if fail < 5 {
-            Some(OpenFault::Disk)
-        } else {
-            None
-        };
-        assert_eq!(rt; outcome.found.err(), fault, "{fail}");
-        assert_eq!(rt; outcome.count.calls, fail.min(4) + 1, "{fail}");
-        let left = if fail < 4 { &longer } else { &whole };
-        assert_eq!(rt; outcome.bytes.as_slice(), left.as_slice(), "{fail}");
+        fail_opening(&rt, rt.alloc(), fail)?;
     }
     Ok(())
 }
 
-/// The entry in doubt was kept, and the call in hand is refused by the history with it.
+/// The entry in doubt was kept, and the call in hand is refused by the history with it; or it was
+/// dropped, and the call in hand is added.
 #[test]
 fn a_refused_call_keeps_the_entry_in_doubt(rt: HostRuntime) -> Result<(), Fail> {
     let alloc = rt.alloc();
     let before = served_journal(alloc)?;
     let calls = [ANSWER, Call::Answer(0, 0, 0)];
-    let (found, bytes, _) = asked(alloc, &WORKED, &before, &[7], &calls)?;
-    let refused = Reply::Refused(Refusal::Other(1));
-    assert_eq!(rt; found.replies.as_slice(), [FAILED, refused].as_slice());
-    assert_eq!(rt; found.summary.entries, 3);
-    assert_eq!(rt;
-        bytes.as_slice(),
-        third_journal(alloc, &ANSWERED)?.as_slice()
-    );
-    let (found, bytes, _) = asked(alloc, &WORKED, &before, &[5], &calls)?;
-    assert_eq!(rt;
-        found.replies.as_slice(),
-        [FAILED, ANSWERED_REPLY].as_slice()
-    );
-    assert_eq!(rt; found.summary.entries, 3);
-    assert_eq!(rt;
-        bytes.as_slice(),
-        third_journal(alloc, &[4, 0, 0, 0, 0, 0, 0, 0])?.as_slice()
-    );
+    let replies = [FAILED, Reply::Refused(Refusal::Other(1))];
+    let kept = gives(&rt, alloc, (&before, &[7]), &calls, &replies, 3)?;
+    leaves(&rt, &kept.bytes, &third_journal(alloc, &ANSWERED)?);
+    let replies = [FAILED, ANSWERED_REPLY];
+    let dropped = gives(&rt, alloc, (&before, &[5]), &calls, &replies, 3)?;
+    let other = third_journal(alloc, &[4, 0, 0, 0, 0, 0, 0, 0])?;
+    leaves(&rt, &dropped.bytes, &other);
     Ok(())
 }

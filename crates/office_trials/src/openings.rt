@@ -1,32 +1,41 @@
 //! Files that an office opens, and each fault of one.
 
+use crate::expected::{counts, ends, leaves};
 use crate::files::{
     BEST, TOO_HIGH, empty_journal, journal, second_journal, served, served_journal, started,
 };
-use crate::outcome::{Call, Numbers, Reply, WORKED, asked, run, waiting};
+use crate::outcome::{Call, Numbers, Reply, WORKED, gives, run, waiting};
 use answer_journal::OpenFault as JournalFault;
-use exam_office::{OpenFault, Refusal};
+use exam_office::{OpenFault, Refusal, Summary};
 use exam_records::RecordFault;
 use history_model::Illegal;
 use std::alloc::Global;
 use std::process::Abort;
 use std::test::Fail;
 
+/// One item was served from a form that a tree of one node proves best.
+fn is_proved_by_one_node<R: Abort>(rt: &R, summary: &Summary) {
+    assert_eq!(rt; (summary.proved, summary.nodes), (1, 1));
+}
+
 /// The tree shows a bound of 6,143, and 256 * 23 + 255 is 6,143. So the mark is believed.
 #[test]
 fn a_served_item_with_its_tree(rt: HostRuntime) -> Result<(), Fail> {
     let alloc = rt.alloc();
     let bytes = served_journal(alloc)?;
-    let (found, left, count) = asked(alloc, &WORKED, &bytes, &[], &[Call::Look(0)])?;
-    assert_eq!(rt;
-        found.replies.as_slice(),
-        [Reply::At(waiting(0, 2))].as_slice()
-    );
-    assert_eq!(rt; found.summary.entries, 2);
-    assert_eq!(rt; found.summary.proved, 1);
-    assert_eq!(rt; found.summary.nodes, 1);
-    assert_eq!(rt; left.as_slice(), bytes.as_slice());
-    assert_eq!(rt; count.calls, 4);
+    let replies = [Reply::At(waiting(0, 2))];
+    let found = gives(&rt, alloc, (&bytes, &[]), &[Call::Look(0)], &replies, 2)?;
+    is_proved_by_one_node(&rt, &found.found.summary);
+    leaves(&rt, &found.bytes, &bytes);
+    counts(&rt, found.count, 4, 0);
+    Ok(())
+}
+
+/// The file becomes the empty journal of nine bytes.
+fn opens_as_empty<R: Abort>(rt: &R, alloc: Global, bytes: &[u8]) -> Result<(), Fail> {
+    let replies = [Reply::Refused(Refusal::NoSession(0))];
+    let found = gives(rt, alloc, (bytes, &[]), &[Call::Look(0)], &replies, 0)?;
+    leaves(rt, &found.bytes, &empty_journal(alloc)?);
     Ok(())
 }
 
@@ -35,14 +44,9 @@ fn files_of_no_record(rt: HostRuntime) -> Result<(), Fail> {
     let alloc = rt.alloc();
     let empty = empty_journal(alloc)?;
     assert_eq!(rt; empty.len(), 9);
-    for bytes in [&[] as &[u8], &[1, 2, 3, 4, 5, 6, 7, 8, 9], &empty] {
-        let (found, left, _) = asked(alloc, &WORKED, bytes, &[], &[Call::Look(0)])?;
-        let replies = [Reply::Refused(Refusal::NoSession(0))];
-        assert_eq!(rt; found.replies.as_slice(), replies.as_slice());
-        assert_eq!(rt; found.summary.entries, 0);
-        assert_eq!(rt; left.as_slice(), empty.as_slice());
-    }
-    Ok(())
+    opens_as_empty(&rt, alloc, &[])?;
+    opens_as_empty(&rt, alloc, &[1, 2, 3, 4, 5, 6, 7, 8, 9])?;
+    opens_as_empty(&rt, alloc, &empty)
 }
 
 /// A file that is no history, and its fault.
@@ -160,8 +164,7 @@ fn first_faults(alloc: Global) -> Result<Vec<Refused>, Fail> {
 fn refuses<R: Abort>(rt: &R, alloc: Global, group: &[Refused]) -> Result<(), Fail> {
     for refused in group {
         let outcome = run(alloc, &WORKED, &refused.bytes, &[], &[])?;
-        assert_eq!(rt; outcome.found.err(), Some(refused.fault));
-        assert_eq!(rt; outcome.bytes.as_slice(), refused.bytes.as_slice());
+        ends(rt, &outcome, Some(refused.fault), &refused.bytes);
     }
     Ok(())
 }
@@ -175,18 +178,38 @@ fn each_fault_of_a_file(rt: HostRuntime) -> Result<(), Fail> {
     refuses(&rt, alloc, &first_faults(alloc)?)
 }
 
+/// The file with two bytes more is refused with the same fault, and left as it was.
+fn refuses_longer<R: Abort>(rt: &R, alloc: Global, refused: &Refused) -> Result<(), Fail> {
+    let mut longer = refused.bytes.to_vec(alloc)?;
+    longer.extend_from_slice(&[1, 1])?;
+    let outcome = run(alloc, &WORKED, &longer, &[], &[])?;
+    ends(rt, &outcome, Some(refused.fault), &longer);
+    Ok(())
+}
+
 /// What is after the last gate is cut once each record was taken, and not before.
 #[test]
 fn a_refused_file_is_not_cut(rt: HostRuntime) -> Result<(), Fail> {
     let alloc = rt.alloc();
     let group = bad_records(alloc)?;
     for refused in &group {
-        let mut longer = refused.bytes.to_vec(alloc)?;
-        longer.extend_from_slice(&[1, 1])?;
-        let outcome = run(alloc, &WORKED, &longer, &[], &[])?;
-        assert_eq!(rt; outcome.found.err(), Some(refused.fault));
-        assert_eq!(rt; outcome.bytes.as_slice(), longer.as_slice());
+        refuses_longer(&rt, alloc, refused)?;
     }
+    Ok(())
+}
+
+/// With this limit of the journal the file has this fault, and none where it is opened. Either way
+/// it is left as it was.
+fn opens_within<R: Abort>(
+    rt: &R,
+    alloc: Global,
+    journal: u64,
+    bytes: &[u8],
+    fault: Option<OpenFault>,
+) -> Result<(), Fail> {
+    let numbers = Numbers { journal, ..WORKED };
+    let outcome = run(alloc, &numbers, bytes, &[], &[])?;
+    ends(rt, &outcome, fault, bytes);
     Ok(())
 }
 
@@ -196,24 +219,10 @@ fn a_file_above_the_limit(rt: HostRuntime) -> Result<(), Fail> {
     let alloc = rt.alloc();
     let whole = served_journal(alloc)?;
     let broken = changed(alloc, &whole, 0, 0)?;
-    let low = Numbers {
-        journal: 182,
-        ..WORKED
-    };
-    for bytes in [&whole, &broken] {
-        let outcome = run(alloc, &low, bytes, &[], &[])?;
-        let fault = OpenFault::Journal(JournalFault::TooLong(183));
-        assert_eq!(rt; outcome.found.err(), Some(fault));
-        assert_eq!(rt; outcome.bytes.as_slice(), bytes.as_slice());
-    }
-    let even = Numbers {
-        journal: 183,
-        ..WORKED
-    };
-    let outcome = run(alloc, &even, &whole, &[], &[])?;
-    assert_eq!(rt; outcome.found.err(), None);
-    let outcome = run(alloc, &even, &broken, &[], &[])?;
-    let fault = OpenFault::Journal(JournalFault::Header);
-    assert_eq!(rt; outcome.found.err(), Some(fault));
-    Ok(())
+    let long = Some(OpenFault::Journal(JournalFault::TooLong(183)));
+    opens_within(&rt, alloc, 182, &whole, long)?;
+    opens_within(&rt, alloc, 182, &broken, long)?;
+    opens_within(&rt, alloc, 183, &whole, None)?;
+    let header = Some(OpenFault::Journal(JournalFault::Header));
+    opens_within(&rt, alloc, 183, &broken, header)
 }

@@ -3,6 +3,7 @@
 ghost use Rattle.exam_model.specs.Validity.{IsPlanFor};
 
 use crate::counted_disk::{Count, CountedDisk};
+use crate::expected::shows;
 use crate::serving::{serve, serve_again, serve_late};
 use bank_tables::Bank;
 use constraint_model::Spec;
@@ -10,6 +11,7 @@ use exam_edge::{Disk, MemoryDisk};
 use exam_model::{Draft, Rate};
 use exam_office::{Begun, Office, OpenFault, Place, Refusal, Summary};
 use std::alloc::{AllocError, Global};
+use std::process::Abort;
 use std::test::Fail;
 use trial_cases::{bank_a, draft_a, set_of};
 
@@ -178,13 +180,12 @@ fn run_over<'a>(
 }
 
 fn draft(alloc: Global, numbers: &Numbers) -> Result<Draft, AllocError> {
-    Ok(Draft {
-        rate: numbers.rate,
-        sessions: numbers.sessions,
-        journal: numbers.journal,
-        base: Some(set_of(&[1, 2, 3])),
-        ..draft_a(alloc)?
-    })
+    let mut draft = draft_a(alloc)?;
+    draft.rate = numbers.rate;
+    draft.sessions = numbers.sessions;
+    draft.journal = numbers.journal;
+    draft.base = Some(set_of(&[1, 2, 3]));
+    Ok(draft)
 }
 
 /// An office is opened over a file of these bytes, under the worked plan with these numbers, and
@@ -206,6 +207,15 @@ pub(crate) fn run(
     run_over(alloc, &bank, &spec, CountedDisk::of(disk), calls)
 }
 
+/// What calls gave over a file that was opened, the bytes of the disk in the end, and the count of
+/// its calls.
+#[derive(Debug, Drop)]
+pub(crate) struct After {
+    pub found: Found,
+    pub bytes: Vec<u8>,
+    pub count: Count,
+}
+
 /// The same where the office has to be opened.
 pub(crate) fn asked(
     alloc: Global,
@@ -213,14 +223,33 @@ pub(crate) fn asked(
     bytes: &[u8],
     fails: &[u64],
     calls: &[Call],
-) -> Result<(Found, Vec<u8>, Count), Fail> {
+) -> Result<After, Fail> {
     let Outcome {
         found,
         bytes: left,
         count,
     } = run(alloc, numbers, bytes, fails, calls)?;
     match found {
-        Ok(found) => Ok((found, left, count)),
+        Ok(found) => Ok(After {
+            found,
+            bytes: left,
+            count,
+        }),
         Err(_) => Err(Fail::from("not opened")),
     }
+}
+
+/// The same under the worked plan, where the calls have to give these replies, and the history has
+/// to have so many entries after them.
+pub(crate) fn gives<R: Abort>(
+    rt: &R,
+    alloc: Global,
+    (bytes, fails): (&[u8], &[u64]),
+    calls: &[Call],
+    replies: &[Reply],
+    entries: u64,
+) -> Result<After, Fail> {
+    let asked = asked(alloc, &WORKED, bytes, fails, calls)?;
+    shows(rt, &asked.found, replies, entries);
+    Ok(asked)
 }

@@ -1,9 +1,12 @@
 //! Each refusal of a call with its value. A refused call adds no entry, and makes no call of the
 //! disk.
 
+use crate::expected::{counts, is_same, leaves, replies_at, shows};
 use crate::files::{ANSWERED, empty_journal, served_journal, started_journal, third_journal};
-use crate::outcome::{Call, Numbers, Reply, WORKED, asked, begun, waiting};
+use crate::outcome::{After, Call, Found, Numbers, Reply, WORKED, asked, begun, gives, waiting};
 use exam_office::{Place, Refusal};
+use std::alloc::Global;
+use std::process::Abort;
 use std::test::Fail;
 
 /// Two sessions: the first waits for its second answer, and the second is closed.
@@ -41,10 +44,25 @@ fn calls_after() -> [(Call, Reply); 13] {
     ]
 }
 
+/// One call more gives this reply, and leaves the history, the file and the count of the disk's
+/// calls as they were.
+fn adds_nothing<R: Abort>(
+    rt: &R,
+    alloc: Global,
+    was: &After,
+    (call, reply): (Call, Reply),
+) -> Result<(), Fail> {
+    let mut calls = TWO_SESSIONS.to_vec(alloc)?;
+    calls.push(call)?;
+    let now = asked(alloc, &WORKED, &[], &[], &calls)?;
+    replies_at(rt, &now.found, 7, reply);
+    is_same(rt, &now, was);
+    Ok(())
+}
+
 #[test]
 fn calls_that_add_nothing(rt: HostRuntime) -> Result<(), Fail> {
     let alloc = rt.alloc();
-    let (found, bytes, count) = asked(alloc, &WORKED, &[], &[], &TWO_SESSIONS)?;
     let replies = [
         begun(0, true),
         Reply::At(waiting(0, 2)),
@@ -54,16 +72,9 @@ fn calls_that_add_nothing(rt: HostRuntime) -> Result<(), Fail> {
         Reply::At(waiting(1, 4)),
         Reply::At(Place::Closed),
     ];
-    assert_eq!(rt; found.replies.as_slice(), replies.as_slice());
-    assert_eq!(rt; found.summary.entries, 7);
-    for (call, reply) in calls_after() {
-        let mut calls = TWO_SESSIONS.to_vec(alloc)?;
-        calls.push(call)?;
-        let (more, left, counted) = asked(alloc, &WORKED, &[], &[], &calls)?;
-        assert_eq!(rt; more.replies.get(7), Some(&reply), "{call:?}");
-        assert_eq!(rt; more.summary, found.summary, "{call:?}");
-        assert_eq!(rt; left.as_slice(), bytes.as_slice(), "{call:?}");
-        assert_eq!(rt; counted, count, "{call:?}");
+    let was = gives(&rt, alloc, (&[], &[]), &TWO_SESSIONS, &replies, 7)?;
+    for pair in calls_after() {
+        adds_nothing(&rt, alloc, &was, pair)?;
     }
     Ok(())
 }
@@ -85,7 +96,6 @@ fn places_without_an_answer(rt: HostRuntime) -> Result<(), Fail> {
         Call::Answer(0, 3, 0),
         Call::Close(0),
     ];
-    let (found, _, _) = asked(alloc, &WORKED, &[], &[], &calls)?;
     let complete = Reply::Refused(Refusal::IsClosed(Place::Complete));
     let replies = [
         begun(0, true),
@@ -100,8 +110,7 @@ fn places_without_an_answer(rt: HostRuntime) -> Result<(), Fail> {
         complete,
         complete,
     ];
-    assert_eq!(rt; found.replies.as_slice(), replies.as_slice());
-    assert_eq!(rt; found.summary.entries, 7);
+    gives(&rt, alloc, (&[], &[]), &calls, &replies, 7)?;
     Ok(())
 }
 
@@ -110,17 +119,26 @@ fn places_without_an_answer(rt: HostRuntime) -> Result<(), Fail> {
 fn a_place_that_moved_on(rt: HostRuntime) -> Result<(), Fail> {
     let alloc = rt.alloc();
     let started = started_journal(alloc)?;
-    let again = Call::ServeAgain(0);
-    let (found, bytes, _) = asked(alloc, &WORKED, &started, &[], &[again])?;
     let stale = Reply::Refused(Refusal::Stale(waiting(0, 2), false));
-    assert_eq!(rt; found.replies.as_slice(), [stale].as_slice());
-    assert_eq!(rt; found.summary.entries, 2);
-    let (_, served, _) = asked(alloc, &WORKED, &started, &[], &[Call::Serve(0)])?;
-    assert_eq!(rt; bytes.as_slice(), served.as_slice());
-    let (found, _, _) = asked(alloc, &WORKED, &started, &[], &[Call::ServeLate(0)])?;
+    let again = gives(
+        &rt,
+        alloc,
+        (&started, &[]),
+        &[Call::ServeAgain(0)],
+        &[stale],
+        2,
+    )?;
+    let served = asked(alloc, &WORKED, &started, &[], &[Call::Serve(0)])?;
+    leaves(&rt, &again.bytes, &served.bytes);
     let stale = Reply::Refused(Refusal::Stale(Place::Closed, false));
-    assert_eq!(rt; found.replies.as_slice(), [stale].as_slice());
-    assert_eq!(rt; found.summary.entries, 2);
+    gives(
+        &rt,
+        alloc,
+        (&started, &[]),
+        &[Call::ServeLate(0)],
+        &[stale],
+        2,
+    )?;
     Ok(())
 }
 
@@ -133,15 +151,14 @@ fn no_more_sessions(rt: HostRuntime) -> Result<(), Fail> {
         ..WORKED
     };
     let calls = [Call::Begin(70), Call::Begin(71), Call::Begin(70)];
-    let (found, bytes, _) = asked(alloc, &one, &[], &[], &calls)?;
+    let asked = asked(alloc, &one, &[], &[], &calls)?;
     let replies = [
         begun(0, true),
         Reply::Refused(Refusal::SessionsFull(1)),
         begun(0, false),
     ];
-    assert_eq!(rt; found.replies.as_slice(), replies.as_slice());
-    assert_eq!(rt; found.summary.entries, 1);
-    assert_eq!(rt; bytes.as_slice(), started_journal(alloc)?.as_slice());
+    shows(&rt, &asked.found, &replies, 1);
+    leaves(&rt, &asked.bytes, &started_journal(alloc)?);
     Ok(())
 }
 
@@ -150,46 +167,56 @@ fn limited(journal: u64) -> Numbers {
     Numbers { journal, ..WORKED }
 }
 
+/// A call that would make the journal this long is refused where one byte less is allowed, and so
+/// it is once more. The history has so many entries then.
+fn is_full<R: Abort>(
+    rt: &R,
+    alloc: Global,
+    before: &[u8],
+    call: Call,
+    (full, entries): (u64, u64),
+) -> Result<(), Fail> {
+    let low = limited(full.saturating_sub(1));
+    let asked = asked(alloc, &low, before, &[], &[call, call])?;
+    let refused = Reply::Refused(Refusal::JournalFull(full));
+    shows(rt, &asked.found, &[refused, refused], entries);
+    leaves(rt, &asked.bytes, before);
+    counts(rt, asked.count, 4, 0);
+    Ok(())
+}
+
 /// A start makes the journal 91 bytes long, and the first answer 196. One byte less is too few.
 #[test]
 fn a_full_journal(rt: HostRuntime) -> Result<(), Fail> {
     let alloc = rt.alloc();
-    let empty = empty_journal(alloc)?;
-    let served = served_journal(alloc)?;
-    for (before, call, limit, full) in [
-        (&empty, Call::Begin(70), 90u64, 91u64),
-        (&served, Call::Answer(0, 0, 1), 195, 196),
-    ] {
-        let low = limited(limit);
-        let (found, bytes, count) = asked(alloc, &low, before, &[], &[call, call])?;
-        let refused = Reply::Refused(Refusal::JournalFull(full));
-        assert_eq!(rt; found.replies.as_slice(), [refused, refused].as_slice());
-        assert_eq!(rt; bytes.as_slice(), before.as_slice());
-        assert_eq!(rt; count.calls, 4);
-    }
-    Ok(())
+    is_full(&rt, alloc, &empty_journal(alloc)?, Call::Begin(70), (91, 0))?;
+    let answer = Call::Answer(0, 0, 1);
+    is_full(&rt, alloc, &served_journal(alloc)?, answer, (196, 2))
 }
 
-/// With that length as the limit the entry is added. A served item makes the journal of a start at
-/// least 173 bytes long: 5 bytes, 76 of the entry, and those of the tree.
-#[test]
-fn a_journal_that_is_just_long_enough(rt: HostRuntime) -> Result<(), Fail> {
-    let alloc = rt.alloc();
-    let calls = [Call::Begin(70), Call::Serve(0)];
-    let (found, bytes, _) = asked(alloc, &limited(91), &[], &[], &calls)?;
-    assert_eq!(rt; found.replies.get(0), Some(&begun(0, true)));
+/// The session is started, and a served item makes the journal at least 173 bytes long: 91, then 5,
+/// 76 of the entry, and those of the tree.
+fn has_no_room_for_an_item<R: Abort>(rt: &R, found: &Found) -> Result<(), Fail> {
+    replies_at(rt, found, 0, begun(0, true));
     let Some(Reply::Refused(Refusal::JournalFull(length))) = found.replies.get(1) else {
         return Err(Fail::from("room for a served item"));
     };
     assert!(rt; *length >= 173);
-    assert_eq!(rt; found.summary.entries, 1);
-    assert_eq!(rt; bytes.as_slice(), started_journal(alloc)?.as_slice());
+    Ok(())
+}
+
+/// With the length after the entry as the limit it is added.
+#[test]
+fn a_journal_that_is_just_long_enough(rt: HostRuntime) -> Result<(), Fail> {
+    let alloc = rt.alloc();
+    let calls = [Call::Begin(70), Call::Serve(0)];
+    let begun = asked(alloc, &limited(91), &[], &[], &calls)?;
+    has_no_room_for_an_item(&rt, &begun.found)?;
+    leaves(&rt, &begun.bytes, &started_journal(alloc)?);
     let served = served_journal(alloc)?;
-    let calls = [Call::Answer(0, 0, 1)];
-    let (found, bytes, _) = asked(alloc, &limited(196), &served, &[], &calls)?;
-    let replies = [Reply::At(Place::Pending(1))];
-    assert_eq!(rt; found.replies.as_slice(), replies.as_slice());
-    let answered = third_journal(alloc, &ANSWERED)?;
-    assert_eq!(rt; bytes.as_slice(), answered.as_slice());
+    let answer = [Call::Answer(0, 0, 1)];
+    let answered = asked(alloc, &limited(196), &served, &[], &answer)?;
+    shows(&rt, &answered.found, &[Reply::At(Place::Pending(1))], 3);
+    leaves(&rt, &answered.bytes, &third_journal(alloc, &ANSWERED)?);
     Ok(())
 }

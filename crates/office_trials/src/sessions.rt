@@ -1,8 +1,11 @@
 //! Whole sessions, and the exposure counts after them.
 
-use crate::outcome::{Call, Numbers, Reply, WORKED, asked, begun, waiting};
+use crate::expected::{counts, exposes, leaves, sums_up};
+use crate::outcome::{Call, Found, Numbers, Reply, WORKED, asked, begun, gives, waiting};
 use exam_model::Rate;
 use exam_office::{Place, Refusal, Summary};
+use std::alloc::Global;
+use std::process::Abort;
 use std::test::Fail;
 
 /// The worked session.
@@ -24,12 +27,9 @@ fn without_nodes(summary: &Summary) -> Summary {
     }
 }
 
-/// Items 2, 4 and 1 are served, and each item was eligible. The file opens as the same history.
-#[test]
-fn a_whole_session(rt: HostRuntime) -> Result<(), Fail> {
-    let alloc = rt.alloc();
-    let (found, bytes, count) = asked(alloc, &WORKED, &[], &[], &SESSION)?;
-    let replies = [
+/// What the worked session gives.
+fn replies_of_session() -> [Reply; 7] {
+    [
         begun(0, true),
         Reply::At(waiting(0, 2)),
         Reply::At(Place::Pending(1)),
@@ -37,10 +37,26 @@ fn a_whole_session(rt: HostRuntime) -> Result<(), Fail> {
         Reply::At(Place::Pending(2)),
         Reply::At(waiting(2, 1)),
         Reply::At(Place::Complete),
-    ];
-    assert_eq!(rt; found.replies.as_slice(), replies.as_slice());
-    // Opening is four calls of the disk, and so is each entry.
-    assert_eq!(rt; count.calls, 32);
+    ]
+}
+
+/// The history has this summary but for the nodes, and these exposure counts.
+fn ends_with<R: Abort>(rt: &R, found: &Found, summary: &Summary, shown: &[u32], eligible: &[u32]) {
+    sums_up(rt, &without_nodes(&found.summary), summary);
+    exposes(rt, found, shown, eligible);
+}
+
+/// The histories have the same summary and exposure counts.
+fn is_same_history<R: Abort>(rt: &R, now: &Found, was: &Found) {
+    sums_up(rt, &now.summary, &was.summary);
+    exposes(rt, now, &was.shown, &was.eligible);
+}
+
+/// Items 2, 4 and 1 are served, and each item was eligible. The file opens as the same history.
+/// Opening is four calls of the disk, and so is each entry.
+#[test]
+fn a_whole_session(rt: HostRuntime) -> Result<(), Fail> {
+    let alloc = rt.alloc();
     let summary = Summary {
         entries: 7,
         sessions: 1,
@@ -50,18 +66,44 @@ fn a_whole_session(rt: HostRuntime) -> Result<(), Fail> {
         aside: 0,
         nodes: 0,
     };
-    assert_eq!(rt; without_nodes(&found.summary), summary);
-    assert_eq!(rt; found.shown.as_slice(), [0, 1, 1, 0, 1, 0].as_slice());
-    assert_eq!(rt; found.eligible.as_slice(), [1, 1, 1, 1, 1, 1].as_slice());
-    let (opened, left, _) = asked(alloc, &WORKED, &bytes, &[], &[Call::Look(0)])?;
-    assert_eq!(rt;
-        opened.replies.as_slice(),
-        [Reply::At(Place::Complete)].as_slice()
-    );
-    assert_eq!(rt; opened.summary, found.summary);
-    assert_eq!(rt; opened.shown.as_slice(), found.shown.as_slice());
-    assert_eq!(rt; opened.eligible.as_slice(), found.eligible.as_slice());
-    assert_eq!(rt; left.as_slice(), bytes.as_slice());
+    let whole = gives(&rt, alloc, (&[], &[]), &SESSION, &replies_of_session(), 7)?;
+    counts(&rt, whole.count, 32, 0);
+    ends_with(&rt, &whole.found, &summary, &[0, 1, 1, 0, 1, 0], &[1; 6]);
+    let looked = [Reply::At(Place::Complete)];
+    let opened = gives(
+        &rt,
+        alloc,
+        (&whole.bytes, &[]),
+        &[Call::Look(0)],
+        &looked,
+        7,
+    )?;
+    is_same_history(&rt, &opened.found, &whole.found);
+    leaves(&rt, &opened.bytes, &whole.bytes);
+    Ok(())
+}
+
+/// Two sessions, of which the second is served its first item.
+const TWO_SERVED: [Call; 6] = [
+    Call::Begin(1),
+    Call::Serve(0),
+    Call::Begin(2),
+    Call::Serve(1),
+    Call::Answer(0, 0, 1),
+    Call::Serve(0),
+];
+
+/// After these calls so many sessions are finished, with these exposure counts.
+fn finishes<R: Abort>(
+    rt: &R,
+    alloc: Global,
+    calls: &[Call],
+    finished: u32,
+    (shown, eligible): (&[u32], &[u32]),
+) -> Result<(), Fail> {
+    let asked = asked(alloc, &WORKED, &[], &[], calls)?;
+    exposes(rt, &asked.found, shown, eligible);
+    assert_eq!(rt; asked.found.summary.finished, finished);
     Ok(())
 }
 
@@ -69,25 +111,10 @@ fn a_whole_session(rt: HostRuntime) -> Result<(), Fail> {
 #[test]
 fn a_closed_session_counts(rt: HostRuntime) -> Result<(), Fail> {
     let alloc = rt.alloc();
-    let mut calls = [
-        Call::Begin(1),
-        Call::Serve(0),
-        Call::Begin(2),
-        Call::Serve(1),
-        Call::Answer(0, 0, 1),
-        Call::Serve(0),
-    ]
-    .to_vec(alloc)?;
-    let (found, _, _) = asked(alloc, &WORKED, &[], &[], &calls)?;
-    assert_eq!(rt; found.summary.finished, 0);
-    assert_eq!(rt; found.shown.as_slice(), [0; 6].as_slice());
-    assert_eq!(rt; found.eligible.as_slice(), [0; 6].as_slice());
+    finishes(&rt, alloc, &TWO_SERVED, 0, (&[0; 6], &[0; 6]))?;
+    let mut calls = TWO_SERVED.to_vec(alloc)?;
     calls.push(Call::Close(1))?;
-    let (found, _, _) = asked(alloc, &WORKED, &[], &[], &calls)?;
-    assert_eq!(rt; found.summary.finished, 1);
-    assert_eq!(rt; found.shown.as_slice(), [0, 0, 1, 0, 0, 0].as_slice());
-    assert_eq!(rt; found.eligible.as_slice(), [1; 6].as_slice());
-    Ok(())
+    finishes(&rt, alloc, &calls, 1, (&[0, 0, 1, 0, 0, 0], &[1; 6]))
 }
 
 /// A second and a third session. Eligibility is set aside in the third.
@@ -124,6 +151,24 @@ fn replies_of_two_more() -> [Reply; 11] {
     ]
 }
 
+/// Each call gave its reply, from the call of this number on.
+fn replies_from<R: Abort>(rt: &R, found: &Found, first: usize, replies: &[Reply]) {
+    assert_eq!(rt; found.replies.get(first..), Some(replies));
+}
+
+/// The file opens as this history.
+fn opens_as<R: Abort>(
+    rt: &R,
+    alloc: Global,
+    numbers: &Numbers,
+    bytes: &[u8],
+    summary: &Summary,
+) -> Result<(), Fail> {
+    let opened = asked(alloc, numbers, bytes, &[], &[])?;
+    sums_up(rt, &opened.found.summary, summary);
+    Ok(())
+}
+
 /// At the rate 1/65,535 the items of the first session are ineligible in the second, and in the
 /// third too few are eligible.
 #[test]
@@ -136,11 +181,6 @@ fn eligibility_is_set_aside(rt: HostRuntime) -> Result<(), Fail> {
         },
         ..WORKED
     };
-    let mut calls = SESSION.to_vec(alloc)?;
-    calls.extend_from_slice(&two_more())?;
-    let (found, bytes, _) = asked(alloc, &rare, &[], &[], &calls)?;
-    let replies = replies_of_two_more();
-    assert_eq!(rt; found.replies.get(7..), Some(replies.as_slice()));
     let summary = Summary {
         entries: 18,
         sessions: 3,
@@ -150,10 +190,11 @@ fn eligibility_is_set_aside(rt: HostRuntime) -> Result<(), Fail> {
         aside: 1,
         nodes: 0,
     };
-    assert_eq!(rt; without_nodes(&found.summary), summary);
-    assert_eq!(rt; found.shown.as_slice(), [1, 1, 2, 1, 1, 1].as_slice());
-    assert_eq!(rt; found.eligible.as_slice(), [3, 2, 2, 3, 2, 3].as_slice());
-    let (opened, _, _) = asked(alloc, &rare, &bytes, &[], &[])?;
-    assert_eq!(rt; opened.summary, found.summary);
-    Ok(())
+    let mut calls = SESSION.to_vec(alloc)?;
+    calls.extend_from_slice(&two_more())?;
+    let whole = asked(alloc, &rare, &[], &[], &calls)?;
+    replies_from(&rt, &whole.found, 7, &replies_of_two_more());
+    let (shown, eligible) = ([1, 1, 2, 1, 1, 1], [3, 2, 2, 3, 2, 3]);
+    ends_with(&rt, &whole.found, &summary, &shown, &eligible);
+    opens_as(&rt, alloc, &rare, &whole.bytes, &whole.found.summary)
 }
