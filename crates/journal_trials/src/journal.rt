@@ -4,7 +4,7 @@
 
 #[cfg(test)]
 mod tests {
-    use answer_journal::{Adopted, AppendFault, Frame, Journal, OpenFault};
+    use answer_journal::{Adopted, AppendFault, Frame, Journal, OpenFault, Payload};
     use exam_edge::MemoryDisk;
     use std::alloc::Global;
     use std::process::Abort;
@@ -74,27 +74,50 @@ mod tests {
         }
     }
 
+    // A file has these bytes. Each comparison is a function of its own, since a test with many of them is dear to prove.
+    fn holds<R: Abort>(rt: &R, found: &[u8], bytes: &[u8]) {
+        assert_eq!(rt; found, bytes);
+    }
+
+    // In a file of these bytes so many records are found, and it is so long then; or this fault is.
+    fn finds<R: Abort>(
+        rt: &R,
+        alloc: Global,
+        bytes: &[u8],
+        expected: Result<(usize, u64), OpenFault>,
+    ) {
+        assert_eq!(rt; found(alloc, bytes), expected);
+    }
+
+    // The disk failed, or no fault was given.
+    fn fails<R: Abort>(rt: &R, fault: Option<OpenFault>, failed: bool) {
+        let expected = if failed { Some(OpenFault::Disk) } else { None };
+        assert_eq!(rt; fault, expected);
+    }
+
+    // A file is opened with this call failing, which is one of the opening's calls or the next. The disk has these bytes
+    // then, in which so many records are found.
+    fn opens<R: Abort>(
+        rt: &R,
+        alloc: Global,
+        file: &[u8],
+        (call, calls): (u64, u64),
+        bytes: &[u8],
+        records: (usize, u64),
+    ) -> Result<(), Fail> {
+        let (left, fault) = opened(alloc, file, call)?;
+        holds(rt, &left, bytes);
+        fails(rt, fault, call < calls);
+        finds(rt, alloc, &left, Ok(records));
+        Ok(())
+    }
+
     // A file of at most nine bytes is opened by four calls: sync, length, write, sync.
     #[test]
     fn each_call_of_opening_an_empty_file_fails(rt: HostRuntime) -> Result<(), Fail> {
-        let alloc = rt.alloc();
         for call in 0..5u64 {
-            let (bytes, fault) = opened(alloc, &[], call)?;
-            if call < 3 {
-                assert_eq!(rt; bytes.len(), 0, "call {call}");
-            } else {
-                assert_eq!(rt; bytes.as_slice(), EMPTY.as_slice(), "call {call}");
-            }
-            assert_eq!(rt;
-                fault,
-                if call < 4 {
-                    Some(OpenFault::Disk)
-                } else {
-                    None
-                },
-                "call {call}"
-            );
-            assert_eq!(rt; found(alloc, &bytes), Ok((0, 9)), "call {call}");
+            let bytes: &[u8] = if call < 3 { &[] } else { &EMPTY };
+            opens(&rt, rt.alloc(), &[], (call, 4), bytes, (0, 9))?;
         }
         Ok(())
     }
@@ -103,24 +126,9 @@ mod tests {
     // sync.
     #[test]
     fn each_call_of_opening_a_journal_fails(rt: HostRuntime) -> Result<(), Fail> {
-        let alloc = rt.alloc();
         for call in 0..6u64 {
-            let (bytes, fault) = opened(alloc, &TRAILED, call)?;
-            if call < 4 {
-                assert_eq!(rt; bytes.as_slice(), TRAILED.as_slice(), "call {call}");
-            } else {
-                assert_eq!(rt; bytes.as_slice(), THREE.as_slice(), "call {call}");
-            }
-            assert_eq!(rt;
-                fault,
-                if call < 5 {
-                    Some(OpenFault::Disk)
-                } else {
-                    None
-                },
-                "call {call}"
-            );
-            assert_eq!(rt; found(alloc, &bytes), Ok((3, 30)), "call {call}");
+            let bytes: &[u8] = if call < 4 { &TRAILED } else { &THREE };
+            opens(&rt, rt.alloc(), &TRAILED, (call, 5), bytes, (3, 30))?;
         }
         Ok(())
     }
@@ -128,19 +136,8 @@ mod tests {
     // A longer file without such bytes is opened by four: sync, length, read, sync.
     #[test]
     fn a_whole_journal_is_not_cut(rt: HostRuntime) -> Result<(), Fail> {
-        let alloc = rt.alloc();
         for call in 0..5u64 {
-            let (bytes, fault) = opened(alloc, &THREE, call)?;
-            assert_eq!(rt; bytes.as_slice(), THREE.as_slice(), "call {call}");
-            assert_eq!(rt;
-                fault,
-                if call < 4 {
-                    Some(OpenFault::Disk)
-                } else {
-                    None
-                },
-                "call {call}"
-            );
+            opens(&rt, rt.alloc(), &THREE, (call, 4), &THREE, (3, 30))?;
         }
         Ok(())
     }
@@ -201,34 +198,60 @@ mod tests {
         }
     }
 
+    // How adding the record failed, and what mending gave then and once more.
+    fn is_mended<R: Abort>(
+        rt: &R,
+        outcome: &Outcome,
+        fault: Option<AppendFault>,
+        mended: Option<Adopted>,
+        again: Option<Adopted>,
+    ) {
+        assert_eq!(rt; outcome.fault, fault);
+        assert_eq!(rt; outcome.mended, mended);
+        assert_eq!(rt; outcome.again, again);
+    }
+
+    // The journal's length, and the bytes on the disk.
+    fn ends<R: Abort>(rt: &R, outcome: &Outcome, length: u64, bytes: &[u8]) {
+        assert_eq!(rt; outcome.length, length);
+        holds(rt, &outcome.bytes, bytes);
+    }
+
+    // The record was dropped and is found nowhere, or it is in the journal.
+    fn is_dropped<R: Abort>(rt: &R, alloc: Global, outcome: &Outcome) {
+        ends(rt, outcome, 9, &EMPTY);
+        finds(rt, alloc, &outcome.bytes, Ok((0, 9)));
+    }
+
+    fn is_kept<R: Abort>(rt: &R, alloc: Global, outcome: &Outcome) {
+        ends(rt, outcome, 22, &ADDED);
+        finds(rt, alloc, &outcome.bytes, Ok((1, 22)));
+    }
+
     // Adding is calls 4 to 7: write, sync, open the gate, sync. The gate is open after a failure
     // only if the last call failed.
     #[test]
     fn each_call_of_adding_fails(rt: HostRuntime) -> Result<(), Fail> {
         let alloc = rt.alloc();
-        for call in 4..9u64 {
+        let failed = Some(AppendFault::Disk);
+        for call in 4..7u64 {
             let outcome = added(&rt, alloc, vec![in alloc; call]?)?;
-            let kept = call > 6;
-            let fault = if call < 8 {
-                Some(AppendFault::Disk)
-            } else {
-                None
-            };
-            let mended = if call < 7 {
-                Some(Adopted::Dropped)
-            } else if call < 8 {
-                Some(Adopted::Kept)
-            } else {
-                None
-            };
-            assert_eq!(rt; outcome.fault, fault, "call {call}");
-            assert_eq!(rt; outcome.mended, mended, "call {call}");
-            assert_eq!(rt; outcome.length, if kept { 22 } else { 9 }, "call {call}");
-            let bytes: &[u8] = if kept { &ADDED } else { &EMPTY };
-            assert_eq!(rt; outcome.bytes.as_slice(), bytes, "call {call}");
-            let records = if kept { (1, 22) } else { (0, 9) };
-            assert_eq!(rt; found(alloc, &outcome.bytes), Ok(records), "call {call}");
+            is_mended(&rt, &outcome, failed, Some(Adopted::Dropped), None);
+            is_dropped(&rt, alloc, &outcome);
         }
+        let last = added(&rt, alloc, vec![in alloc; 7]?)?;
+        is_mended(&rt, &last, failed, Some(Adopted::Kept), None);
+        is_kept(&rt, alloc, &last);
+        Ok(())
+    }
+
+    // Call 8 is none of them.
+    #[test]
+    fn no_call_of_adding_fails(rt: HostRuntime) -> Result<(), Fail> {
+        let alloc = rt.alloc();
+        let outcome = added(&rt, alloc, vec![in alloc; 8]?)?;
+        is_mended(&rt, &outcome, None, None, None);
+        is_kept(&rt, alloc, &outcome);
         Ok(())
     }
 
@@ -237,40 +260,48 @@ mod tests {
     #[test]
     fn each_call_of_mending_fails(rt: HostRuntime) -> Result<(), Fail> {
         let alloc = rt.alloc();
+        let failed = Some(AppendFault::Disk);
         for call in 6..10u64 {
             let outcome = added(&rt, alloc, vec![in alloc; 5, call]?)?;
-            assert_eq!(rt; outcome.mended, None, "call {call}");
-            assert_eq!(rt; outcome.again, Some(Adopted::Dropped), "call {call}");
-            assert_eq!(rt; outcome.length, 9, "call {call}");
-            assert_eq!(rt; outcome.bytes.as_slice(), EMPTY.as_slice(), "call {call}");
+            is_mended(&rt, &outcome, failed, None, Some(Adopted::Dropped));
+            ends(&rt, &outcome, 9, &EMPTY);
         }
         Ok(())
     }
 
-    // Adding stopped after none, one, two, three and four of its calls: what a read gives then.
+    // What a read gives once adding has stopped at this call.
+    fn stops<R: Abort>(rt: &R, alloc: Global, call: u64, bytes: &[u8]) -> Result<(), Fail> {
+        holds(rt, &stopped(rt, alloc, call)?, bytes);
+        Ok(())
+    }
+
+    // Adding stopped after none, one, two, three and four of its calls.
     #[test]
     fn a_record_stopped_after_each_call(rt: HostRuntime) -> Result<(), Fail> {
         let alloc = rt.alloc();
-        assert_eq!(rt; stopped(&rt, alloc, 4)?.as_slice(), EMPTY.as_slice());
-        assert_eq!(rt; stopped(&rt, alloc, 5)?.as_slice(), STAGED.as_slice());
-        assert_eq!(rt; stopped(&rt, alloc, 6)?.as_slice(), STAGED.as_slice());
-        assert_eq!(rt; stopped(&rt, alloc, 7)?.as_slice(), ADDED.as_slice());
-        assert_eq!(rt; stopped(&rt, alloc, 8)?.as_slice(), ADDED.as_slice());
+        stops(&rt, alloc, 4, &EMPTY)?;
+        stops(&rt, alloc, 5, &STAGED)?;
+        stops(&rt, alloc, 6, &STAGED)?;
+        stops(&rt, alloc, 7, &ADDED)?;
+        stops(&rt, alloc, 8, &ADDED)
+    }
+
+    // A part of the file, and the same where each byte after the ninth is 1.
+    fn finds_none<R: Abort>(rt: &R, alloc: Global, part: &[u8]) -> Result<(), Fail> {
+        finds(rt, alloc, part, Ok((0, 9)));
+        let mut torn = part.to_vec(alloc)?;
+        for byte in torn.iter_mut().skip(9) {
+            *byte = 1;
+        }
+        finds(rt, alloc, &torn, Ok((0, 9)));
         Ok(())
     }
 
     // After the write a crash leaves the nine bytes from before, and of the record's range any length and any bytes.
     #[test]
     fn a_crash_before_the_first_sync(rt: HostRuntime) -> Result<(), Fail> {
-        let alloc = rt.alloc();
         for length in 9..23usize {
-            let part = &STAGED[..length];
-            assert_eq!(rt; found(alloc, part), Ok((0, 9)), "length {length}");
-            let mut torn = part.to_vec(alloc)?;
-            for byte in torn.iter_mut().skip(9) {
-                *byte = 1;
-            }
-            assert_eq!(rt; found(alloc, &torn), Ok((0, 9)), "torn, length {length}");
+            finds_none(&rt, rt.alloc(), &STAGED[..length])?;
         }
         Ok(())
     }
@@ -279,80 +310,114 @@ mod tests {
     // is open.
     #[test]
     fn a_crash_before_the_last_sync(rt: HostRuntime) -> Result<(), Fail> {
-        let alloc = rt.alloc();
         for gate in 0..256u16 {
             let mut bytes = STAGED;
             bytes[8] = gate as u8;
             let records = if gate == 1 { (1, 22) } else { (0, 9) };
-            assert_eq!(rt; found(alloc, &bytes), Ok(records), "gate {gate}");
+            finds(&rt, rt.alloc(), &bytes, Ok(records));
         }
         Ok(())
+    }
+
+    // What is found of three records in the front of this length.
+    fn found_in_front(length: usize) -> Result<(usize, u64), OpenFault> {
+        if length < 10 {
+            Ok((0, 9))
+        } else if length < 15 {
+            Err(OpenFault::Cut(8))
+        } else if length < 22 {
+            Err(OpenFault::Cut(14))
+        } else if length < 30 {
+            Err(OpenFault::Cut(21))
+        } else {
+            Ok((3, 30))
+        }
     }
 
     // A file of at most nine bytes is an empty journal, and a longer one needs its whole records
     // and a gate after them.
     #[test]
     fn three_records_cut_to_each_length(rt: HostRuntime) -> Result<(), Fail> {
-        let alloc = rt.alloc();
         for length in 0..31usize {
-            let want = if length < 10 {
-                Ok((0, 9))
-            } else if length < 15 {
-                Err(OpenFault::Cut(8))
-            } else if length < 22 {
-                Err(OpenFault::Cut(14))
-            } else if length < 30 {
-                Err(OpenFault::Cut(21))
-            } else {
-                Ok((3, 30))
-            };
-            assert_eq!(rt; found(alloc, &THREE[..length]), want, "length {length}");
+            let expected = found_in_front(length);
+            finds(&rt, rt.alloc(), &THREE[..length], expected);
         }
         Ok(())
     }
 
-    // A closed gate ends the journal, whatever value it has. An open one at the end has no record
-    // after it.
+    // The gates of the three records and the last one, and how many records end there.
+    const GATES: [(usize, (usize, u64)); 4] = [
+        (8, (0, 9)),
+        (14, (1, 15)),
+        (21, (2, 22)),
+        (29, (3, 30)),
+    ];
+
+    // A closed gate ends the journal, whatever value it has.
     #[test]
     fn a_byte_of_each_gate_altered(rt: HostRuntime) -> Result<(), Fail> {
-        let alloc = rt.alloc();
         for gate in [0u8, 2, 3, 129, 255] {
-            for (at, records) in [
-                (8usize, (0usize, 9u64)),
-                (14, (1, 15)),
-                (21, (2, 22)),
-                (29, (3, 30)),
-            ] {
+            for (at, records) in GATES {
                 let mut bytes = THREE;
-                bytes[at] = gate;
-                assert_eq!(rt; found(alloc, &bytes), Ok(records), "gate {gate} at {at}");
+                if at < 30 {
+                    bytes[at] = gate;
+                }
+                finds(&rt, rt.alloc(), &bytes, Ok(records));
             }
         }
+        Ok(())
+    }
+
+    // An open gate at the end has no record after it.
+    #[test]
+    fn an_open_gate_at_the_end(rt: HostRuntime) {
         let mut bytes = THREE;
         bytes[29] = 1;
-        assert_eq!(rt; found(alloc, &bytes), Err(OpenFault::Cut(29)));
-        Ok(())
+        finds(&rt, rt.alloc(), &bytes, Err(OpenFault::Cut(29)));
     }
 
     // The faults of opening, the first that holds: the limit, the header, then frame by frame the length and the cut.
     #[test]
     fn the_first_fault_is_given(rt: HostRuntime) -> Result<(), Fail> {
         let alloc = rt.alloc();
-        assert_eq!(rt; found(alloc, &[0u8; 101]), Err(OpenFault::TooLong(101)));
-        assert_eq!(rt; found(alloc, &[1u8; 100]), Err(OpenFault::Header));
+        finds(&rt, alloc, &[0u8; 101], Err(OpenFault::TooLong(101)));
+        finds(&rt, alloc, &[1u8; 100], Err(OpenFault::Header));
         let mut bytes = THREE;
         bytes[18] = 0;
-        assert_eq!(rt; found(alloc, &bytes), Err(OpenFault::Length(14)));
+        finds(&rt, alloc, &bytes, Err(OpenFault::Length(14)));
         bytes[16] = 2;
-        assert_eq!(rt; found(alloc, &bytes), Err(OpenFault::Cut(14)));
+        finds(&rt, alloc, &bytes, Err(OpenFault::Cut(14)));
         bytes[18] = 1;
-        assert_eq!(rt; found(alloc, &bytes), Err(OpenFault::Length(14)));
+        finds(&rt, alloc, &bytes, Err(OpenFault::Length(14)));
         bytes[12] = 200;
-        assert_eq!(rt; found(alloc, &bytes), Err(OpenFault::Cut(8)));
+        finds(&rt, alloc, &bytes, Err(OpenFault::Cut(8)));
         Ok(())
     }
 
-    // Payloads come in order, each with the place of its gate.
+    // The payload of this number, and the place of its gate.
+    fn has_payload<R: Abort>(
+        rt: &R,
+        payloads: &[Payload],
+        which: usize,
+        (at, bytes): (u64, &[u8]),
+    ) {
+        match payloads.get(which) {
+            Some(payload) => {
+                assert_eq!(rt; payload.at, at);
+                assert_eq!(rt; payload.bytes.as_slice(), bytes);
+            }
+            None => panic!(rt; "no such payload"),
+        }
+    }
+
+    // The three payloads in order, each with the place of its gate.
+    fn has_three<R: Abort>(rt: &R, payloads: &[Payload]) {
+        assert_eq!(rt; payloads.len(), 3);
+        has_payload(rt, payloads, 0, (8, &[5]));
+        has_payload(rt, payloads, 1, (14, &[6, 7]));
+        has_payload(rt, payloads, 2, (21, &[8, 9, 10]));
+    }
+
     #[test]
     fn payloads_and_places(rt: HostRuntime) -> Result<(), Fail> {
         let alloc = rt.alloc();
@@ -361,13 +426,7 @@ mod tests {
             Err(_) => panic!(rt; "the journal was not opened"),
             Ok((journal, payloads)) => {
                 let _disk = journal.into_disk();
-                assert_eq!(rt; payloads.len(), 3);
-                assert_eq!(rt; payloads[0].at, 8);
-                assert_eq!(rt; payloads[0].bytes.as_slice(), [5].as_slice());
-                assert_eq!(rt; payloads[1].at, 14);
-                assert_eq!(rt; payloads[1].bytes.as_slice(), [6, 7].as_slice());
-                assert_eq!(rt; payloads[2].at, 21);
-                assert_eq!(rt; payloads[2].bytes.as_slice(), [8, 9, 10].as_slice());
+                has_three(&rt, &payloads);
             }
         }
         Ok(())
@@ -381,10 +440,9 @@ mod tests {
         match Journal::read(alloc, disk, LIMIT) {
             Err(_) => panic!(rt; "the file was not read"),
             Ok((opening, payloads)) => {
-                assert_eq!(rt; payloads.len(), 3);
+                has_three(&rt, &payloads);
                 assert_eq!(rt; opening.length(), 30);
-                let disk = opening.stop();
-                assert_eq!(rt; disk.bytes(), TRAILED.as_slice());
+                holds(&rt, opening.stop().bytes(), &TRAILED);
             }
         }
         Ok(())
