@@ -3,6 +3,7 @@
 use bank_tables::List;
 use proof_tree::{Node, Tree, TreeFault, Vector, decode, encode};
 use std::alloc::{AllocError, Global};
+use std::process::Abort;
 use std::test::Fail;
 
 /// The fault of these bytes.
@@ -51,11 +52,42 @@ const NO_TREES: [(&[u8], TreeFault); 24] = [
     (&[0, 2, 1, 6, 3], TreeFault::Short),
 ];
 
+/// These bytes have this fault. Each comparison is a function of its own, since a test with many of them is dear to prove.
+fn has_fault<R: Abort>(rt: &R, alloc: Global, bytes: &[u8], fault: TreeFault) {
+    assert_eq!(rt; fault_of(alloc, bytes), Some(fault));
+}
+
 #[test]
 fn faults(rt: HostRuntime) {
     for (bytes, fault) in NO_TREES {
-        assert_eq!(rt; fault_of(rt.alloc(), bytes), Some(fault));
+        has_fault(&rt, rt.alloc(), bytes, fault);
     }
+}
+
+/// So many bytes were read.
+fn is_used<R: Abort>(rt: &R, used: usize, expected: usize) {
+    assert_eq!(rt; used, expected);
+}
+
+/// The bytes begin with a tree of so many vectors, which takes so many bytes.
+fn reads<R: Abort>(
+    rt: &R,
+    alloc: Global,
+    bytes: &[u8],
+    expected: usize,
+    vectors: usize,
+) -> Result<(), Fail> {
+    let (tree, used) = decode(alloc, bytes).ok().ok_or("a tree")?;
+    is_used(rt, used, expected);
+    assert_eq!(rt; tree.vectors().len(), vectors);
+    Ok(())
+}
+
+/// The tree is spelled with these bytes.
+fn is_spelled<R: Abort>(rt: &R, alloc: Global, tree: &Tree, bytes: &[u8]) -> Result<(), Fail> {
+    let found = encode(alloc, tree).ok().ok_or("memory")?;
+    assert_eq!(rt; found.as_slice(), bytes);
+    Ok(())
 }
 
 /// 33 vectors: 32 of 384 pairs, which are all that a tree may have, and the number of pairs of one more.
@@ -77,62 +109,62 @@ fn most_pairs(rt: HostRuntime) -> Result<(), Fail> {
     let alloc = rt.alloc();
     let mut bytes = many_pairs(alloc, 0)?;
     bytes.push(7)?;
-    let (tree, used) = decode(alloc, &bytes).ok().ok_or("a tree")?;
-    assert_eq!(rt; used, 73_796);
-    assert_eq!(rt; tree.vectors().len(), 33);
+    reads(&rt, alloc, &bytes, 73_796, 33)?;
     // The 12,289th pair.
     let over = many_pairs(alloc, 1)?;
-    assert_eq!(rt; fault_of(alloc, &over), Some(TreeFault::BadVector(73_793)));
+    has_fault(&rt, alloc, &over, TreeFault::BadVector(73_793));
     Ok(())
+}
+
+/// A byte, and so many times two bytes.
+fn repeated(alloc: Global, first: u8, times: u16, two: [u8; 2]) -> Result<Vec<u8>, AllocError> {
+    let mut bytes = vec![in alloc; first]?;
+    for _ in 0..times {
+        bytes.extend_from_slice(&two)?;
+    }
+    Ok(bytes)
 }
 
 #[test]
 fn most_vectors(rt: HostRuntime) -> Result<(), Fail> {
     let alloc = rt.alloc();
-    let mut bytes = vec![in alloc; 255]?;
-    for _ in 0..255 {
-        bytes.extend_from_slice(&[0, 0])?;
-    }
+    let mut bytes = repeated(alloc, 255, 255, [0, 0])?;
     bytes.push(7)?;
-    let (tree, used) = decode(alloc, &bytes).ok().ok_or("a tree")?;
-    assert_eq!(rt; used, 512);
-    assert_eq!(rt; tree.vectors().len(), 255);
-    Ok(())
+    reads(&rt, alloc, &bytes, 512, 255)
 }
 
 #[test]
 fn most_nodes(rt: HostRuntime) -> Result<(), Fail> {
     let alloc = rt.alloc();
-    let mut bytes = vec![in alloc; 0]?;
-    for _ in 0..4095 {
-        bytes.extend_from_slice(&[2, 1])?;
-    }
-    assert_eq!(rt; fault_of(alloc, &bytes), Some(TreeFault::Unfinished(8191)));
+    let mut bytes = repeated(alloc, 0, 4095, [2, 1])?;
+    has_fault(&rt, alloc, &bytes, TreeFault::Unfinished(8191));
     bytes.push(7)?;
-    assert_eq!(rt; fault_of(alloc, &bytes), Some(TreeFault::TooLong(8191)));
+    has_fault(&rt, alloc, &bytes, TreeFault::TooLong(8191));
     Ok(())
 }
 
 /// One vector of one pair, side 1 with multiplier 1, and one node, a ray of it.
 const RAY: [u8; 11] = [1, 0, 1, 0, 1, 0, 0, 0, 1, 4, 0];
 
-#[test]
-fn eleven_bytes(rt: HostRuntime) -> Result<(), Fail> {
-    let alloc = rt.alloc();
-    assert_eq!(rt; fault_of(alloc, &RAY[..10]), Some(TreeFault::Short));
-    let (tree, used) = decode(alloc, &RAY).ok().ok_or("a tree")?;
-    assert_eq!(rt; used, 11);
+/// The tree is that of `RAY`.
+fn is_ray<R: Abort>(rt: &R, tree: &Tree) {
     assert_eq!(rt; tree.vectors().len(), 1);
     assert_eq!(rt; tree.vectors()[0].pairs(), [(1, 1)].as_slice());
     assert_eq!(rt; tree.nodes(), [Node::Ray(0)].as_slice());
-    let bytes = encode(alloc, &tree).ok().ok_or("memory")?;
-    assert_eq!(rt; bytes.as_slice(), RAY.as_slice());
-    Ok(())
 }
 
 #[test]
-fn made_and_read_again(rt: HostRuntime) -> Result<(), Fail> {
+fn eleven_bytes(rt: HostRuntime) -> Result<(), Fail> {
     let alloc = rt.alloc();
+    has_fault(&rt, alloc, &RAY[..10], TreeFault::Short);
+    let (tree, used) = decode(alloc, &RAY).ok().ok_or("a tree")?;
+    is_used(&rt, used, 11);
+    is_ray(&rt, &tree);
+    is_spelled(&rt, alloc, &tree, &RAY)
+}
+
+/// A tree of one vector, with a node of each kind but two.
+fn made(alloc: Global) -> Result<Tree, Fail> {
     let pairs = vec![in alloc; (0, 1), (385, 16_777_216)]?;
     let vector = Vector::of(List::of(pairs)).ok_or("a vector")?;
     let nodes = vec![in alloc;
@@ -142,28 +174,58 @@ fn made_and_read_again(rt: HostRuntime) -> Result<(), Fail> {
         Node::Count(192),
         Node::Open,
     ]?;
-    let tree = Tree::of(List::of(vec![in alloc; vector]?), List::of(nodes)).ok_or("a tree")?;
-    let mut bytes = encode(alloc, &tree).ok().ok_or("memory")?;
-    let spelled = [
-        1, 0, 2, 0, 0, 0, 0, 0, 1, 1, 0x81, 1, 0, 0, 0, 1, 1, 0xff, 2, 64, 3, 255, 5, 192, 7,
-    ];
-    assert_eq!(rt; bytes.as_slice(), spelled.as_slice());
-    // What follows isn't read.
-    bytes.extend_from_slice(&[9, 9])?;
-    let (again, used) = decode(alloc, &bytes).ok().ok_or("the same tree")?;
-    assert_eq!(rt; used, 25);
+    let vectors = List::of(vec![in alloc; vector]?);
+    Ok(Tree::of(vectors, List::of(nodes)).ok_or("a tree")?)
+}
+
+/// Its bytes.
+const MADE: [u8; 25] = [
+    1, 0, 2, 0, 0, 0, 0, 0, 1, 1, 0x81, 1, 0, 0, 0, 1, 1, 0xff, 2, 64, 3, 255, 5, 192, 7,
+];
+
+/// The bytes begin with a tree of the same nodes, which takes so many bytes.
+fn reads_again<R: Abort>(
+    rt: &R,
+    alloc: Global,
+    bytes: &[u8],
+    expected: usize,
+    tree: &Tree,
+) -> Result<(), Fail> {
+    let (again, used) = decode(alloc, bytes).ok().ok_or("the same tree")?;
+    is_used(rt, used, expected);
     assert_eq!(rt; again.nodes(), tree.nodes());
+    Ok(())
+}
+
+#[test]
+fn made_and_read_again(rt: HostRuntime) -> Result<(), Fail> {
+    let alloc = rt.alloc();
+    let tree = made(alloc)?;
+    is_spelled(&rt, alloc, &tree, &MADE)?;
+    // What follows isn't read.
+    let mut bytes = MADE.to_vec(alloc)?;
+    bytes.extend_from_slice(&[9, 9])?;
+    reads_again(&rt, alloc, &bytes, 25, &tree)
+}
+
+/// These pairs are no vector.
+fn is_no_vector<R: Abort>(rt: &R, alloc: Global, pairs: &[(u16, u32)]) -> Result<(), Fail> {
+    let pairs = pairs.to_vec(alloc)?;
+    assert!(rt; Vector::of(List::of(pairs)).is_none());
+    Ok(())
+}
+
+/// These nodes are no tree.
+fn is_no_tree<R: Abort>(rt: &R, alloc: Global, nodes: &[Node]) -> Result<(), Fail> {
+    let nodes = nodes.to_vec(alloc)?;
+    assert!(rt; Tree::of(List::of(Vec::new(alloc)), List::of(nodes)).is_none());
     Ok(())
 }
 
 #[test]
 fn no_tree(rt: HostRuntime) -> Result<(), Fail> {
     let alloc = rt.alloc();
-    let descending = vec![in alloc; (3, 1), (3, 1)]?;
-    assert!(rt; Vector::of(List::of(descending)).is_none());
-    let two = vec![in alloc; Node::Open, Node::Open]?;
-    assert!(rt; Tree::of(List::of(Vec::new(alloc)), List::of(two)).is_none());
-    let half = vec![in alloc; Node::BranchItem(0), Node::Open]?;
-    assert!(rt; Tree::of(List::of(Vec::new(alloc)), List::of(half)).is_none());
-    Ok(())
+    is_no_vector(&rt, alloc, &[(3, 1), (3, 1)])?;
+    is_no_tree(&rt, alloc, &[Node::Open, Node::Open])?;
+    is_no_tree(&rt, alloc, &[Node::BranchItem(0), Node::Open])
 }
