@@ -1,4 +1,5 @@
-use Rattle.std.proofs.Common.{◌≡◌, Some, subst}
+use Rattle.std.proofs.Common.{◌≡◌, Option, Some, ap, subst}
+use Rattle.std.specs.Prelude.{unwrap_or}
 use Rattle.bank_tables.specs.Items.{Set, has}
 use Rattle.bank_tables.specs.Validity.{HoldsItems}
 use Rattle.assembly_bench.proofs.checking.with_start.Goals as goal
@@ -8,7 +9,7 @@ returns c =
     let made = c.requires.well_made in
     let start : (X : Set) → Some (has c.args.form.now) ≡ Some X → HoldsItems c.args.problem.now.bank.now X =
     λ X e.
-    let same : has c.args.form.now ≡ X = cc in
+    let same : has c.args.form.now ≡ X = ap (λ (o : Option Set). unwrap_or o (has c.args.form.now)) e in
     subst (λ (Y : Set). HoldsItems c.args.problem.now.bank.now Y) same c.requires.items in
     record {
       bank = made.bank;
