@@ -6,7 +6,7 @@ use bank_tables::Bank;
 use constraint_model::{Draft, Rate, Spec};
 use exam_edge::MemoryDisk;
 use exam_office::{Alone, Office, Place, Refusal, Reply, Request};
-use std::alloc::Global;
+use std::alloc::{AllocError, Global};
 use std::test::Fail;
 use trial_cases::{bank_a, draft_a, set_of};
 
@@ -82,6 +82,15 @@ fn ask_over<'a>(
     }
 }
 
+// The worked plan with this rate and this limit of the journal.
+fn draft(alloc: Global, rate: Rate, journal: u64) -> Result<Draft, AllocError> {
+    let mut draft = draft_a(alloc)?;
+    draft.rate = rate;
+    draft.journal = journal;
+    draft.base = Some(set_of(&[1, 2, 3]));
+    Ok(draft)
+}
+
 // The answers on bank A at this rate and this limit of the journal. These calls of the disk fail.
 pub(crate) fn answers(
     alloc: Global,
@@ -91,13 +100,7 @@ pub(crate) fn answers(
     requests: &[Request],
 ) -> Result<Answered, Fail> {
     let bank = bank_a(alloc)?;
-    let draft = Draft {
-        rate,
-        journal,
-        base: Some(set_of(&[1, 2, 3])),
-        ..draft_a(alloc)?
-    };
-    let spec = Spec::of(alloc, &bank, draft)?;
+    let spec = Spec::of(alloc, &bank, draft(alloc, rate, journal)?)?;
     let disk = MemoryDisk::of(alloc, Vec::new(alloc), fails.to_vec(alloc)?);
     ask_over(alloc, &bank, &spec, disk, requests)
 }

@@ -3,6 +3,8 @@
 use crate::answers::{Answered, Told, answers};
 use constraint_model::Rate;
 use exam_office::{Place, Refusal, Request};
+use std::alloc::Global;
+use std::process::Abort;
 use std::test::Fail;
 
 const START: Request = Request::Begin(70);
@@ -28,10 +30,30 @@ const LIMIT: u64 = 67_108_864;
 
 const EVEN: Rate = Rate { num: 1, den: 1 };
 
+// The replies from the one of this number on. Each comparison is a function of its own, since a test with many of them
+// is dear to prove.
+fn tells<R: Abort>(rt: &R, answered: &Answered, first: usize, told: &[Told]) {
+    assert_eq!(rt; answered.replies.get(first..), Some(told));
+}
+
+// The reply of this number.
+fn replies<R: Abort>(rt: &R, answered: &Answered, at: usize, told: Told) {
+    assert_eq!(rt; answered.replies.get(at), Some(&told));
+}
+
+// The exposure counts that were asked for.
+fn counts<R: Abort>(rt: &R, answered: &Answered, expected: &[(u32, u32)]) {
+    assert_eq!(rt; answered.counts.as_slice(), expected);
+}
+
+// The length of the journal.
+fn is_long<R: Abort>(rt: &R, answered: &Answered, length: usize) {
+    assert_eq!(rt; answered.length, length);
+}
+
 // One session to its end. The same answer again, and the same booking again, add nothing.
 #[test]
 fn a_session_to_its_end(rt: HostRuntime) -> Result<(), Fail> {
-    let alloc = rt.alloc();
     let requests = [
         START,
         answer(0, 0, 1),
@@ -42,21 +64,20 @@ fn a_session_to_its_end(rt: HostRuntime) -> Result<(), Fail> {
         answer(0, 2, 1),
         Request::Exposure,
     ];
-    let Answered {
-        replies,
-        counts,
-        ..
-    } = answers(alloc, EVEN, LIMIT, &[], &requests)?;
-    assert_eq!(rt; replies.get(0), Some(&waiting(0, 0, 2, true)));
-    assert_eq!(rt; replies.get(1), Some(&waiting(0, 1, 4, false)));
-    assert_eq!(rt; replies.get(2), Some(&waiting(0, 1, 4, false)));
-    assert_eq!(rt; replies.get(3), Some(&waiting(0, 2, 1, false)));
-    assert_eq!(rt; replies.get(4), Some(&waiting(0, 2, 1, false)));
-    assert_eq!(rt; replies.get(5), Some(&waiting(0, 2, 1, false)));
-    assert_eq!(rt; replies.get(6), Some(&Ok((0, Place::Complete, false))));
-    assert_eq!(rt; replies.get(7), Some(&Ok((1, Place::Complete, false))));
+    let told = [
+        waiting(0, 0, 2, true),
+        waiting(0, 1, 4, false),
+        waiting(0, 1, 4, false),
+        waiting(0, 2, 1, false),
+        waiting(0, 2, 1, false),
+        waiting(0, 2, 1, false),
+        Ok((0, Place::Complete, false)),
+        Ok((1, Place::Complete, false)),
+    ];
     let expected = [(0, 1), (1, 1), (1, 1), (0, 1), (1, 1), (0, 1)];
-    assert_eq!(rt; counts.as_slice(), expected.as_slice());
+    let answered = answers(rt.alloc(), EVEN, LIMIT, &[], &requests)?;
+    tells(&rt, &answered, 0, &told);
+    counts(&rt, &answered, &expected);
     Ok(())
 }
 
@@ -64,7 +85,6 @@ fn a_session_to_its_end(rt: HostRuntime) -> Result<(), Fail> {
 // set aside.
 #[test]
 fn eligibility_is_set_aside(rt: HostRuntime) -> Result<(), Fail> {
-    let alloc = rt.alloc();
     let rate = Rate {
         num: 1,
         den: 65_535,
@@ -82,28 +102,42 @@ fn eligibility_is_set_aside(rt: HostRuntime) -> Result<(), Fail> {
         Request::Close(2),
         Request::Exposure,
     ];
-    let Answered {
-        replies,
-        counts,
-        ..
-    } = answers(alloc, rate, LIMIT, &[], &requests)?;
-    assert_eq!(rt; replies.get(3), Some(&Ok((0, Place::Complete, false))));
-    assert_eq!(rt; replies.get(4), Some(&waiting(1, 0, 5, true)));
-    assert_eq!(rt; replies.get(5), Some(&waiting(1, 1, 3, false)));
-    assert_eq!(rt; replies.get(6), Some(&waiting(1, 2, 0, false)));
-    assert_eq!(rt; replies.get(7), Some(&Ok((1, Place::Complete, false))));
-    assert_eq!(rt; replies.get(8), Some(&waiting(2, 0, 2, true)));
-    assert_eq!(rt; replies.get(9), Some(&Ok((2, Place::Closed, false))));
-    assert_eq!(rt; replies.get(10), Some(&Ok((3, Place::Complete, false))));
+    let told = [
+        Ok((0, Place::Complete, false)),
+        waiting(1, 0, 5, true),
+        waiting(1, 1, 3, false),
+        waiting(1, 2, 0, false),
+        Ok((1, Place::Complete, false)),
+        waiting(2, 0, 2, true),
+        Ok((2, Place::Closed, false)),
+        Ok((3, Place::Complete, false)),
+    ];
     let expected = [(1, 3), (1, 2), (2, 2), (1, 3), (1, 2), (1, 3)];
-    assert_eq!(rt; counts.as_slice(), expected.as_slice());
+    let answered = answers(rt.alloc(), rate, LIMIT, &[], &requests)?;
+    tells(&rt, &answered, 3, &told);
+    counts(&rt, &answered, &expected);
     Ok(())
 }
+
+// The exposure counts before session 1 was closed, and after it.
+const TWO_EXPOSURES: [(u32, u32); 12] = [
+    (0, 0),
+    (0, 0),
+    (0, 0),
+    (0, 0),
+    (0, 0),
+    (0, 0),
+    (0, 1),
+    (0, 1),
+    (1, 1),
+    (0, 1),
+    (0, 1),
+    (0, 1),
+];
 
 // Two sessions, one of which is closed, and what is refused.
 #[test]
 fn two_sessions_and_refusals(rt: HostRuntime) -> Result<(), Fail> {
-    let alloc = rt.alloc();
     let requests = [
         Request::Begin(1),
         Request::Begin(2),
@@ -121,75 +155,53 @@ fn two_sessions_and_refusals(rt: HostRuntime) -> Result<(), Fail> {
         Request::Close(1),
         Request::Look(9),
     ];
-    let Answered {
-        replies,
-        counts,
-        ..
-    } = answers(alloc, EVEN, LIMIT, &[], &requests)?;
-    assert_eq!(rt; replies.get(3), Some(&Ok((0, Place::Complete, false))));
-    assert_eq!(rt; replies.get(4), Some(&Ok((1, Place::Closed, false))));
-    assert_eq!(rt; replies.get(5), Some(&Ok((1, Place::Complete, false))));
-    let expected = [
-        (0, 0),
-        (0, 0),
-        (0, 0),
-        (0, 0),
-        (0, 0),
-        (0, 0),
-        (0, 1),
-        (0, 1),
-        (1, 1),
-        (0, 1),
-        (0, 1),
-        (0, 1),
+    let told = [
+        Ok((0, Place::Complete, false)),
+        Ok((1, Place::Closed, false)),
+        Ok((1, Place::Complete, false)),
+        waiting(0, 1, 4, false),
+        Err(Refusal::Other(1)),
+        Err(Refusal::WrongStep(1)),
+        Err(Refusal::BadResponse(2)),
+        waiting(0, 1, 4, false),
+        Err(Refusal::NoSession(2)),
+        Err(Refusal::IsClosed(Place::Closed)),
+        Err(Refusal::IsClosed(Place::Closed)),
+        Err(Refusal::NoSession(2)),
     ];
-    assert_eq!(rt; counts.as_slice(), expected.as_slice());
-    assert_eq!(rt; replies.get(6), Some(&waiting(0, 1, 4, false)));
-    assert_eq!(rt; replies.get(7), Some(&Err(Refusal::Other(1))));
-    assert_eq!(rt; replies.get(8), Some(&Err(Refusal::WrongStep(1))));
-    assert_eq!(rt; replies.get(9), Some(&Err(Refusal::BadResponse(2))));
-    assert_eq!(rt; replies.get(10), Some(&waiting(0, 1, 4, false)));
-    assert_eq!(rt; replies.get(11), Some(&Err(Refusal::NoSession(2))));
-    assert_eq!(rt;
-        replies.get(12),
-        Some(&Err(Refusal::IsClosed(Place::Closed)))
-    );
-    assert_eq!(rt;
-        replies.get(13),
-        Some(&Err(Refusal::IsClosed(Place::Closed)))
-    );
-    assert_eq!(rt; replies.get(14), Some(&Err(Refusal::NoSession(2))));
+    let answered = answers(rt.alloc(), EVEN, LIMIT, &[], &requests)?;
+    tells(&rt, &answered, 3, &told);
+    counts(&rt, &answered, &TWO_EXPOSURES);
     Ok(())
 }
 
-// Each call of the disk fails once. The next request finds the entry, or adds it anew, and in the end all is as without
-// a fault.
-#[test]
-fn a_halted_request_is_asked_again(rt: HostRuntime) -> Result<(), Fail> {
-    let alloc = rt.alloc();
-    let requests = [
+// Each request is made twice.
+fn twice() -> [Request; 5] {
+    [
         START,
         START,
         answer(0, 0, 1),
         answer(0, 0, 1),
         Request::Look(0),
-    ];
-    let whole = answers(alloc, EVEN, LIMIT, &[], &requests)?;
+    ]
+}
+
+// Where this call of the disk fails, its request is refused, and in the end all is as without a fault.
+fn halts<R: Abort>(rt: &R, alloc: Global, call: u64, length: usize) -> Result<(), Fail> {
+    let found = answers(alloc, EVEN, LIMIT, &[call], &twice())?;
+    let failed = if call < 12 { 0 } else { 2 };
+    replies(rt, &found, failed, Err(Refusal::Disk));
+    replies(rt, &found, 4, waiting(0, 1, 4, false));
+    is_long(rt, &found, length);
+    Ok(())
+}
+
+// Each call of the disk fails once. The next request finds the entry, or adds it anew.
+#[test]
+fn a_halted_request_is_asked_again(rt: HostRuntime) -> Result<(), Fail> {
+    let whole = answers(rt.alloc(), EVEN, LIMIT, &[], &twice())?;
     for call in 4..20u64 {
-        let found = answers(alloc, EVEN, LIMIT, &[call], &requests)?;
-        let replies = &found.replies;
-        let failed = if call < 12 { 0 } else { 2 };
-        assert_eq!(rt;
-            replies.get(failed),
-            Some(&Err(Refusal::Disk)),
-            "call {call}"
-        );
-        assert_eq!(rt;
-            replies.get(4),
-            Some(&waiting(0, 1, 4, false)),
-            "call {call}"
-        );
-        assert_eq!(rt; found.length, whole.length, "call {call}");
+        halts(&rt, rt.alloc(), call, whole.length)?;
     }
     Ok(())
 }
@@ -197,41 +209,41 @@ fn a_halted_request_is_asked_again(rt: HostRuntime) -> Result<(), Fail> {
 // The disk fails in the last of the four calls of a closing, so its record is there. Asking for the exposure adopts it.
 #[test]
 fn a_closing_in_doubt_counts_in_the_exposure(rt: HostRuntime) -> Result<(), Fail> {
-    let alloc = rt.alloc();
     let requests = [START, Request::Close(0), Request::Exposure];
-    let Answered {
-        replies,
-        counts,
-        ..
-    } = answers(alloc, EVEN, LIMIT, &[15], &requests)?;
-    assert_eq!(rt; replies.get(1), Some(&Err(Refusal::Disk)));
-    assert_eq!(rt; replies.get(2), Some(&Ok((1, Place::Complete, false))));
+    let told = [Err(Refusal::Disk), Ok((1, Place::Complete, false))];
     let expected = [(0, 1), (0, 1), (1, 1), (0, 1), (0, 1), (0, 1)];
-    assert_eq!(rt; counts.as_slice(), expected.as_slice());
+    let answered = answers(rt.alloc(), EVEN, LIMIT, &[15], &requests)?;
+    tells(&rt, &answered, 1, &told);
+    counts(&rt, &answered, &expected);
     Ok(())
 }
 
-// The first record needs 91 bytes. At a limit of 90 nothing is added, at 91 the session is started and not served.
+const FILLING: [Request; 3] = [START, START, Request::Look(0)];
+
+// The first record needs 91 bytes. At a limit of 90 nothing is added.
 #[test]
 fn the_journal_is_full(rt: HostRuntime) -> Result<(), Fail> {
-    let alloc = rt.alloc();
-    let requests = [START, START, Request::Look(0)];
-    for limit in 90..92u64 {
-        let Answered {
-            replies,
-            length,
-            ..
-        } = answers(alloc, EVEN, limit, &[], &requests)?;
-        if limit == 90 {
-            assert_eq!(rt; length, 9);
-            assert_eq!(rt; replies.get(1), Some(&Err(Refusal::JournalFull(91))));
-            assert_eq!(rt; replies.get(2), Some(&Err(Refusal::NoSession(0))));
-        } else {
-            assert_eq!(rt; length, 91);
-            assert!(rt; matches!(replies.get(1), Some(Err(Refusal::JournalFull(_)))));
-            assert_eq!(rt; replies.get(2), replies.get(1));
-        }
-        assert_eq!(rt; replies.get(0), replies.get(1));
-    }
+    let full = Err(Refusal::JournalFull(91));
+    let told = [full, full, Err(Refusal::NoSession(0))];
+    let answered = answers(rt.alloc(), EVEN, 90, &[], &FILLING)?;
+    tells(&rt, &answered, 0, &told);
+    is_long(&rt, &answered, 9);
+    Ok(())
+}
+
+// Each reply is that a longer journal is needed, and of one length.
+fn lacks_room<R: Abort>(rt: &R, answered: &Answered) {
+    let first = answered.replies.get(0);
+    assert!(rt; matches!(first, Some(Err(Refusal::JournalFull(_)))));
+    assert_eq!(rt; answered.replies.get(1), first);
+    assert_eq!(rt; answered.replies.get(2), first);
+}
+
+// At a limit of 91 bytes the session is started and not served.
+#[test]
+fn the_journal_is_full_once_the_session_is_started(rt: HostRuntime) -> Result<(), Fail> {
+    let answered = answers(rt.alloc(), EVEN, 91, &[], &FILLING)?;
+    lacks_room(&rt, &answered);
+    is_long(&rt, &answered, 91);
     Ok(())
 }
