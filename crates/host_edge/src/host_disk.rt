@@ -8,12 +8,14 @@ ghost use Rattle.host_edge.specs.HostDisk.{faults_of};
 use crate::again::read_at_again;
 use crate::fault_count::FaultCount;
 use exam_edge::{Disk, Failed};
-use std::fs::{File, OpenOptions};
+use std::fs::{File, OpenOptions, TryLockError};
 use std::io;
+use std::io::ErrorKind;
 use std::os::unix::fs::FileExt;
 
-/// A file by its path, which is opened at the first call, and made there if there is none. It is opened once. It does
-/// not report its content.
+/// A file by its path, which is opened at the first call, and made there if there is none. It is
+/// opened once, and no other `HostDisk` opens it meanwhile, of this process or another. It does not
+/// report its content.
 #[derive(Drop)]
 pub struct HostDisk {
     rt: HostRuntime,
@@ -31,14 +33,28 @@ fn folder_of(path: &str) -> &str {
     }
 }
 
-// Opens the file of this path, and makes it if there is none. Its folder is synced, so that a file that was made is
-// found after a crash.
+// Locks a file until it is closed. The lock is one that processes agree on: it keeps out those that
+// ask for it too.
+fn lock(file: &File) -> io::Result<()> {
+    match file.try_lock() {
+        Ok(()) => Ok(()),
+        Err(TryLockError::WouldBlock) => Err(io::Error::new(
+            ErrorKind::WouldBlock,
+            "another process has it open",
+        )),
+        Err(TryLockError::Error(cause)) => Err(cause),
+    }
+}
+
+// Opens and locks the file of this path, and makes it if there is none. Its folder is synced, so
+// that a file that was made is found after a crash.
 fn file_at(rt: &HostRuntime, path: &str) -> io::Result<File> {
     let file = OpenOptions::new()
         .read(true)
         .write(true)
         .create(true)
         .open(rt, path)?;
+    lock(&file)?;
     File::open(rt, folder_of(path))?.sync_all()?;
     Ok(file)
 }

@@ -29,6 +29,13 @@ fn files_keep_what_was_written(rt: HostRuntime) -> Result<(), Fail> {
     assert!(rt;
         buffer == *b"dxy\0" && disk.read(6, &mut buffer) == Ok(0) && disk.cause().is_none()
     );
+    let mut second = HostDisk::of(rt.clone()?, path.clone()?);
+    assert!(rt; second.len().is_err());
+    assert!(rt;
+        second
+            .cause()
+            .is_some_and(|e| e.kind() == ErrorKind::WouldBlock)
+    );
     let mut files = HostFiles::of(rt.clone()?);
     assert!(rt; files.read(path.as_str(), 0, &mut buffer) == Ok(4) && buffer == *b"abcd");
     fs::remove_file(&rt, path.as_str())?;
