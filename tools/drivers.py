@@ -15,6 +15,7 @@ import time
 
 WAITING = re.compile(r"session (\d+) step (\d+) item (\d+) (?:proved|unproved)")
 COMPLETE = re.compile(r"session (\d+) complete")
+LISTENING = re.compile(r"listening on ([0-9.]+):(\d+)")
 
 
 class Stopped(Exception):
@@ -110,40 +111,40 @@ def replay_exposure(replay, items):
 
 # ---------------------------------------------------------------- HTTP
 
-def free_port():
-    with socket.socket() as one:
-        one.bind(("127.0.0.1", 0))
-        return one.getsockname()[1]
+class Lost(Stopped):
+    """A connection that ended before its response was whole."""
 
 
 class Server:
     """`shadowd serve`, started here: as many workers as clients, each of which takes one connection and then ends."""
 
     def __init__(self, program, bank, plan, journal, workers):
-        self.port = free_port()
-        environment = dict(os.environ, SHADOWD_JOURNAL=journal, SHADOWD_LISTEN=f"127.0.0.1:{self.port}",
+        environment = dict(os.environ, SHADOWD_JOURNAL=journal, SHADOWD_LISTEN="127.0.0.1:0",
                            SHADOWD_WORKERS=str(workers), SHADOWD_CONNECTIONS="1")
         self.process = subprocess.Popen([program, "serve", bank, plan], env=environment, stdin=subprocess.DEVNULL,
                                         stdout=subprocess.PIPE, stderr=subprocess.PIPE, text=True)
+        line = self.process.stderr.readline()
+        found = LISTENING.search(line)
+        if not found:
+            raise self.stopped(f"it names no address: {line.strip()!r}")
+        self.address = found.group(1), int(found.group(2))
 
-    def connection(self, patience=60.0):
-        """A connection, as soon as the server takes one."""
-        until = time.monotonic() + patience
-        while True:
-            try:
-                made = http.client.HTTPConnection("127.0.0.1", self.port, timeout=120)
-                made.connect()
-                made.sock.setsockopt(socket.IPPROTO_TCP, socket.TCP_NODELAY, 1)
-                return made
-            except OSError as error:
-                if self.process.poll() is not None:
-                    raise Stopped(f"serve ended with status {self.process.returncode}: {self.said()}")
-                if time.monotonic() > until:
-                    raise Stopped(f"serve takes no connection at port {self.port}: {error}")
-                time.sleep(0.02)
+    def connection(self):
+        try:
+            made = http.client.HTTPConnection(*self.address, timeout=600)
+            made.connect()
+            made.sock.setsockopt(socket.IPPROTO_TCP, socket.TCP_NODELAY, 1)
+            return made
+        except OSError as error:
+            raise self.stopped(error)
 
-    def said(self):
-        return " ".join(self.process.communicate()[0].split())[:200]
+    def stopped(self, why, patience=5.0):
+        """What to tell where no response came: how the server ended, if it did."""
+        try:
+            said, _ = self.process.communicate(timeout=patience)
+        except subprocess.TimeoutExpired:
+            return Stopped(f"serve goes on, but {why}")
+        return Stopped(f"serve ended with status {self.process.returncode}: {' '.join(said.split())[:200]}; {why}")
 
     def end(self, patience=20.0):
         """Waits for the end, and stops a server that does not end; the last line that it printed."""
@@ -169,7 +170,7 @@ class Client:
             response = self.connection.getresponse()
             text = response.read()
         except (OSError, http.client.HTTPException) as error:
-            raise Stopped(f"{method} {path}: {error!r}")
+            raise Lost(f"{method} {path}: {error!r}")
         self.seconds.append(time.perf_counter() - begun)
         if response.status not in (200, 201):
             raise Stopped(f"{method} {path}: status {response.status}: {text.decode()[:80]}")
@@ -212,7 +213,7 @@ def by_http(server, responses, clients, progress):
         progress.note(sum(client.answers for client in made))
     try:
         if faults:
-            raise faults[0]
+            raise server.stopped(faults[0]) if isinstance(faults[0], Lost) else faults[0]
         counts = made[0].asked("GET", "/exposure")
     finally:
         for client in made:

@@ -54,6 +54,8 @@ class Connection:
             self.socket = socket.create_connection(address, timeout)
         except OSError as fault:
             raise Lost from fault
+        if self.socket.getsockname() == self.socket.getpeername():
+            raise Lost  # nobody listens there, and the connection is to itself
         self.socket.setsockopt(socket.IPPROTO_TCP, socket.TCP_NODELAY, 1)
 
     def ask(self, message):

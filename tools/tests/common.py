@@ -4,7 +4,6 @@ import importlib
 import importlib.util
 import io
 import os
-import subprocess
 import tempfile
 import unittest
 
@@ -21,16 +20,6 @@ def has(module):
 needs_numpy = unittest.skipUnless(has("numpy"), "needs python3-numpy")
 needs_matplotlib = unittest.skipUnless(has("numpy") and has("matplotlib"), "needs python3-numpy and python3-matplotlib")
 needs_program = unittest.skipUnless(os.path.exists(PROGRAM), "needs the built program")
-
-
-def serves():
-    """Whether the program has the command `serve`."""
-    if not os.path.exists(PROGRAM):
-        return False
-    return "serve BANK PLAN" in subprocess.run([PROGRAM], stdin=subprocess.DEVNULL, capture_output=True, text=True).stdout
-
-
-needs_serve = unittest.skipUnless(serves(), "needs a built program with the command serve")
 
 
 class Folder(unittest.TestCase):

@@ -4,7 +4,7 @@
 usage: fake_shadowd.py check BANK PLAN | assemble BANK PLAN | replay BANK PLAN SCRIPT | serve BANK PLAN
 
 Environment: SHADOWD_JOURNAL, SHADOWD_LISTEN and SHADOWD_CONNECTIONS as shadowd has them; FAKE makes it faulty:
-`rules` leaves the plan's rules out, `refuse` refuses the answer of step 1, `status` ends with 9, `count` counts an
+`rules` leaves the plan's rules out, `refuse` refuses the answer of step 1, `status` ends with 9, `end` the same after it has an address, `count` counts an
 exposure wrong, `answer` records another response, `garbled` serves an item that the bank does not have.
 """
 import json
@@ -179,7 +179,11 @@ def main(words):
     from http.server import ThreadingHTTPServer  # not at the top, since it is slow to import
 
     host, port = os.environ["SHADOWD_LISTEN"].split(":")
-    ThreadingHTTPServer((host, int(port)), handler(office)).serve_forever()
+    server = ThreadingHTTPServer((host, int(port)), handler(office))
+    print("shadowd: listening on %s:%d, journal %s" % (*server.server_address, PATH), file=sys.stderr, flush=True)
+    if FAULT == "end":
+        return 9
+    server.serve_forever()
     return 0
 
 

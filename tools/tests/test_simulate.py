@@ -6,7 +6,7 @@ import re
 import sys
 import unittest
 
-from common import PROGRAM, Folder, needs_matplotlib, needs_numpy, needs_program, needs_serve
+from common import PROGRAM, Folder, needs_matplotlib, needs_numpy, needs_program
 
 try:
     import numpy as np
@@ -127,7 +127,8 @@ class Simulations(Examination):
     def test_faults_over_http(self):
         for fake, words in (("rules", "rules are broken"), ("refuse", 'answers: status 422: {"error": "bad-response"'),
                             ("garbled", "is none of docs/HTTP.md"),
-                            ("status", "serve ended with status 9: disk failed"), ("count", "item 0: shown ")):
+                            ("status", "serve ended with status 9: disk failed"), ("end", "serve ended with status 9: "),
+                            ("count", "item 0: shown ")):
             with self.subTest(fake):
                 status, _, errors = self.simulate("--through", "serve", "--clients", "2", fake=fake)
                 self.assertEqual(status, 1)
@@ -149,7 +150,7 @@ class Simulations(Examination):
         self.assertEqual(status, 0, errors)
         self.assertEqual([len(items) for _, items, _ in self.sessions()], [4] * 4)
 
-    @needs_serve
+    @needs_program
     def test_the_program_over_http(self):
         """The same sessions through serve, by one client and by three, as through replay."""
         status, _, errors = self.simulate(program=PROGRAM)

@@ -1,0 +1,121 @@
+"""The built server on a socket: one whole session, refusals, its end, and its journal read back by `replay`."""
+import http.client
+import json
+import os
+import re
+import socket
+import subprocess
+import threading
+import unittest
+
+from common import PROGRAM, ROOT, Folder, needs_program
+
+DATA = os.path.join(ROOT, "crates", "shadowd", "data")
+FILES = [os.path.join(DATA, name) for name in ("bank.csv", "plan.txt")]
+LIMIT = 60  # seconds for each wait
+
+
+class Serving(Folder):
+    """One run of `serve` on a free port of the loopback address, of which each worker takes a stated number of connections."""
+
+    def start(self, listen="127.0.0.1:0", workers=1, connections=1):
+        environment = dict(os.environ, SHADOWD_JOURNAL=self.path("journal"), SHADOWD_LISTEN=listen,
+                           SHADOWD_WORKERS=str(workers), SHADOWD_CONNECTIONS=str(connections))
+        self.server = subprocess.Popen([PROGRAM, "serve", *FILES], env=environment, stdin=subprocess.DEVNULL,
+                                       stdout=subprocess.PIPE, stderr=subprocess.PIPE, text=True)
+        watch = threading.Timer(LIMIT, self.server.kill)
+        watch.start()
+        self.addCleanup(watch.cancel)
+        self.addCleanup(self.server.kill)
+        return self.server.stderr.readline()
+
+    def port(self, line):
+        found = re.fullmatch(r"shadowd: listening on 127\.0\.0\.1:(\d+), journal (.*)\n", line)
+        self.assertIsNotNone(found, line)
+        self.assertEqual(found.group(2), self.path("journal"))
+        return int(found.group(1))
+
+    def end(self):
+        """Status, standard output, and what standard error has after its first line."""
+        said, errors = self.server.communicate(timeout=LIMIT)
+        return self.server.returncode, said, errors
+
+    def replay(self, *requests):
+        script = self.write("script", "".join(request + "\n" for request in requests))
+        done = subprocess.run([PROGRAM, "replay", *FILES, script], env=dict(os.environ, SHADOWD_JOURNAL=self.path("journal")),
+                              stdin=subprocess.DEVNULL, capture_output=True, text=True, timeout=LIMIT)
+        self.assertEqual(done.returncode, 0, done.stdout)
+        return done.stdout.splitlines()
+
+    def journal(self):
+        with open(self.path("journal"), "rb") as file:
+            return file.read()
+
+
+@needs_program
+class Session(Serving):
+    """The worked session of the example's bank: items 2, 4 and 1 for the responses 1, 0 and 1."""
+
+    def asked(self, method, path, body=None):
+        self.connection.request(method, path, None if body is None else json.dumps(body))
+        response = self.connection.getresponse()
+        return response.status, json.loads(response.read())
+
+    def waiting(self, step, item):
+        return {"item": item, "proved": True, "session": 0, "state": "waiting", "step": step}
+
+    def test_a_whole_session(self):
+        port = self.port(self.start())
+        self.connection = http.client.HTTPConnection("127.0.0.1", port, timeout=LIMIT)
+        self.addCleanup(self.connection.close)
+        self.assertEqual(self.asked("POST", "/sessions", {"booking": 70}), (201, self.waiting(0, 2)))
+        self.assertEqual(self.asked("POST", "/sessions", {"booking": 70}), (200, self.waiting(0, 2)))
+        answers = "/sessions/0/answers"
+        self.assertEqual(self.asked("POST", answers, {"step": 0, "response": 2}), (422, {"error": "bad-response", "value": 2}))
+        self.assertEqual(self.asked("POST", answers, {"step": 0, "response": 1}), (200, self.waiting(1, 4)))
+        self.assertEqual(self.asked("POST", answers, {"step": 1, "response": 0}), (200, self.waiting(2, 1)))
+        self.assertEqual(self.asked("GET", "/sessions/0"), (200, self.waiting(2, 1)))
+        self.assertEqual(self.asked("POST", answers, {"step": 2, "response": 1}), (200, {"session": 0, "state": "complete"}))
+        counts = {"finished": 1, "rows": [[0, 1], [1, 1], [1, 1], [0, 1], [1, 1], [0, 1]]}
+        self.assertEqual(self.asked("GET", "/exposure"), (200, counts))
+        self.connection.close()
+        status, said, errors = self.end()
+        self.assertRegex(said, r"\Aentries 7 sessions 1 finished 1 proved 3 unproved 0 aside 0 nodes \d+\n\Z")
+        self.assertEqual((status, errors), (0, ""))
+        kept = self.journal()
+        self.assertEqual(self.replay("begin 70", "answer 0 0 0", "answer 0 1 1", "answer 0 2 0", "exposure")[:5],
+                         ["session 0 complete", "refused other 1", "refused other 0", "refused other 1", "exposure finished 1"])
+        self.assertEqual(self.journal(), kept)
+
+    def test_a_message_that_is_none_ends_its_connection_alone(self):
+        port = self.port(self.start(workers=2))
+        self.connection = http.client.HTTPConnection("127.0.0.1", port, timeout=LIMIT)
+        self.addCleanup(self.connection.close)
+        self.assertEqual(self.asked("POST", "/sessions", {"booking": 70})[0], 201)
+        with socket.create_connection(("127.0.0.1", port), LIMIT) as other:
+            other.sendall(b"nonsense\r\n\r\n")
+            said = b"".join(iter(lambda: other.recv(4096), b""))
+        self.assertTrue(said.startswith(b"HTTP/1.1 400 Bad Request\r\n"), said)
+        self.assertTrue(said.endswith(b'{"error":"bad-head"}'), said)
+        self.assertEqual(self.asked("GET", "/sessions/0"), (200, self.waiting(0, 2)))
+        self.connection.close()
+        self.assertEqual(self.end()[0], 0)
+
+
+@needs_program
+class Ends(Serving):
+    def test_an_address_that_is_taken(self):
+        with socket.create_server(("127.0.0.1", 0)) as taken:
+            address = "127.0.0.1:%d" % taken.getsockname()[1]
+            line = self.start(listen=address)
+            self.assertTrue(line.startswith(f"shadowd: cannot listen on {address}: "), line)
+            status, said, _ = self.end()
+        self.assertEqual((status, said), (14, "door failed\n"))
+
+    def test_no_connections_give_the_summary(self):
+        self.port(self.start(connections=0))
+        self.assertEqual(self.end(), (0, "entries 0 sessions 0 finished 0 proved 0 unproved 0 aside 0 nodes 0\n", ""))
+
+
+if __name__ == "__main__":
+    unittest.main()
