@@ -142,11 +142,12 @@ def speed(program, folder, asked):
     problem = drill(7, 200)
     plan = "".join(line for line in problem.plan.splitlines(True) if not line.startswith("sessions ")) + "sessions 65536\n"
     texts = texts_in(folder, problem.bank, plan)
-    print(f"{asked.sessions} sessions of the drill's bank, {WORKERS} workers")
+    print(f"{asked.sessions} sessions of the drill's bank, {WORKERS} workers, {os.cpu_count()} processors, load {os.getloadavg()[0]:.1f} before")
     print("| Connections | Requests a second | Items answered a second | Median ms | 95 % ms | 99 % ms | The disk's syncs allow | Part of it |")
     print("|---|---|---|---|---|---|---|---|")
     for connections in asked.connections:
         measure(program, texts, folder, connections, asked.sessions)
+    print(f"load {os.getloadavg()[0]:.1f} after")
 
 
 def texts_in(folder, bank, plan):
