@@ -103,6 +103,38 @@ class Session(Serving):
 
 
 @needs_program
+class Pages(Serving):
+    """The requests by curl and the responses beside them that the pages have."""
+
+    def response(self, port, method, path, body):
+        """The bytes of a response, of which curl shows all, or the body alone."""
+        with socket.create_connection(("127.0.0.1", port), LIMIT) as connection:
+            head = f"{method} {path} HTTP/1.1\r\nHost: localhost\r\nContent-Length: {len(body)}\r\n\r\n"
+            connection.sendall((head + body).encode("ascii"))
+            connection.shutdown(socket.SHUT_WR)
+            return b"".join(iter(lambda: connection.recv(4096), b"")).decode("ascii")
+
+    def test_the_session_of_the_readme(self):
+        with open(os.path.join(ROOT, "README.md"), encoding="utf-8") as page:
+            found = re.findall(r"^    curl localhost:4710(\S+) -d '(.*)'\n    (.*)$", page.read(), re.M)
+        self.assertEqual(len(found), 4)
+        port = self.port(self.start(connections=4))
+        for path, body, wanted in found:
+            self.assertEqual(self.response(port, "POST", path, body).partition("\r\n\r\n")[2], wanted)
+        self.assertEqual(json.loads(found[-1][2])["state"], "complete")
+        self.assertEqual(self.end()[0], 0)
+
+    def test_the_responses_of_the_page_on_messages(self):
+        with open(os.path.join(ROOT, "docs", "HTTP.md"), encoding="utf-8") as page:
+            found = re.findall(r"^curl -i (?:-X (\w+) )?localhost:4710(\S+)(?: -d '(.*)')?\n(HTTP/1\.1 [^`]*)\n```", page.read(), re.M)
+        self.assertEqual([wanted.splitlines()[0] for *_, wanted in found], ["HTTP/1.1 201 Created", "HTTP/1.1 404 Not Found"])
+        port = self.port(self.start(connections=2))
+        for method, path, body, wanted in found:
+            self.assertEqual(self.response(port, method or "GET", path, body), wanted.replace("\n", "\r\n"))
+        self.assertEqual(self.end()[0], 0)
+
+
+@needs_program
 class Ends(Serving):
     def test_an_address_that_is_taken(self):
         with socket.create_server(("127.0.0.1", 0)) as taken:
