@@ -87,6 +87,22 @@ class Session(Serving):
                          ["session 0 complete", "refused other 1", "refused other 0", "refused other 1", "exposure finished 1"])
         self.assertEqual(self.journal(), kept)
 
+    def test_two_messages_in_one_piece_from_a_client_that_waits(self):
+        """A server that reads on before it looks at what it has kept would wait for ever."""
+        port = self.port(self.start())
+        message = b"GET /sessions/9 HTTP/1.1\r\nHost: localhost\r\nContent-Length: 0\r\n\r\n"
+        with socket.create_connection(("127.0.0.1", port), LIMIT) as client:
+            client.settimeout(LIMIT / 2)
+            client.sendall(message + message)
+            said = b""
+            while said.count(b"HTTP/1.1 404 Not Found\r\n") < 2 or not said.endswith(b"}"):
+                piece = client.recv(4096)
+                self.assertNotEqual(piece, b"", said)
+                said += piece
+            half = len(said) // 2
+            self.assertEqual(said[:half], said[half:])
+        self.assertEqual(self.end()[0], 0)
+
     def test_a_message_that_is_none_ends_its_connection_alone(self):
         port = self.port(self.start(workers=2))
         self.connection = http.client.HTTPConnection("127.0.0.1", port, timeout=LIMIT)
