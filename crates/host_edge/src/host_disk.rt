@@ -13,13 +13,14 @@ use std::io;
 use std::io::ErrorKind;
 use std::os::unix::fs::FileExt;
 
-/// A file by its path, which is opened at the first call, and made there if there is none. It is
-/// opened once, and no other `HostDisk` opens it meanwhile, of this process or another. It does not
-/// report its content.
+/// A file by its path, which is opened at the first call. It is opened once, and no other `HostDisk`
+/// opens it meanwhile, of this process or another. It does not report its content.
 #[derive(Drop)]
 pub struct HostDisk {
     rt: HostRuntime,
     path: String,
+    /// Whether the file is only read. Else it is written too, and made if there is none.
+    is_only_read: bool,
     file: Option<File>,
     faults: FaultCount,
 }
@@ -46,9 +47,9 @@ fn lock(file: &File) -> io::Result<()> {
     }
 }
 
-// Opens and locks the file of this path, and makes it if there is none. Its folder is synced, so
-// that a file that was made is found after a crash.
-fn file_at(rt: &HostRuntime, path: &str) -> io::Result<File> {
+// Opens and locks the file of this path to be read and written, and makes it if there is none. Its
+// folder is synced, so that a file that was made is found after a crash.
+fn file_to_write(rt: &HostRuntime, path: &str) -> io::Result<File> {
     let file = OpenOptions::new()
         .read(true)
         .write(true)
@@ -59,11 +60,24 @@ fn file_at(rt: &HostRuntime, path: &str) -> io::Result<File> {
     Ok(file)
 }
 
+// Opens and locks the file of this path to be read.
+fn file_to_read(rt: &HostRuntime, path: &str) -> io::Result<File> {
+    let file = File::open(rt, path)?;
+    lock(&file)?;
+    Ok(file)
+}
+
 // The file, which is opened unless it is open.
-fn opened<'f>(rt: &HostRuntime, path: &str, file: &'f mut Option<File>) -> io::Result<&'f File> {
+fn opened<'f>(
+    rt: &HostRuntime,
+    path: &str,
+    is_only_read: bool,
+    file: &'f mut Option<File>,
+) -> io::Result<&'f File> {
     let kept = match file.take() {
         Some(kept) => kept,
-        None => file_at(rt, path)?,
+        None if is_only_read => file_to_read(rt, path)?,
+        None => file_to_write(rt, path)?,
     };
     Ok(file.insert(kept))
 }
@@ -77,7 +91,7 @@ fn read_of(file: io::Result<&File>, at: u64, buffer: &mut [u8]) -> io::Result<us
 }
 
 impl HostDisk {
-    /// The file of this path; no call has failed yet.
+    /// The file of this path, which is made if there is none; no call has failed yet.
     pub fn of(rt: HostRuntime, path: String) -> HostDisk
         ensures count { count_of (faults_of result) ≡ 0 }
         ensures cause { cause_of (faults_of result) ≡ None }
@@ -85,6 +99,22 @@ impl HostDisk {
         HostDisk {
             rt,
             path,
+            is_only_read: false,
+            file: None,
+            faults: FaultCount::none(),
+        }
+    }
+
+    /// The file of this path, to be read alone. Each call fails if there is none, and so does each
+    /// write or cut; no call has failed yet.
+    pub fn to_read(rt: HostRuntime, path: String) -> HostDisk
+        ensures count { count_of (faults_of result) ≡ 0 }
+        ensures cause { cause_of (faults_of result) ≡ None }
+    {
+        HostDisk {
+            rt,
+            path,
+            is_only_read: true,
             file: None,
             faults: FaultCount::none(),
         }
@@ -116,7 +146,8 @@ impl Disk for HostDisk {
         ensures grows { count_of (faults_of self.old) ≤ count_of (faults_of self.new) }
         ensures failed { OnErr result (Rose (count_of (faults_of self.old)) (count_of (faults_of self.new))) }
     {
-        let file = opened(&self.rt, self.path.as_str(), &mut self.file);
+        let path = self.path.as_str();
+        let file = opened(&self.rt, path, self.is_only_read, &mut self.file);
         let given = len_of(file);
         self.faults.answer(given)
     }
@@ -128,7 +159,8 @@ impl Disk for HostDisk {
         ensures failed { OnErr result (Rose (count_of (faults_of self.old)) (count_of (faults_of self.new))) }
     {
         let most = buffer.len();
-        let file = opened(&self.rt, self.path.as_str(), &mut self.file);
+        let path = self.path.as_str();
+        let file = opened(&self.rt, path, self.is_only_read, &mut self.file);
         let given = read_of(file, at, buffer);
         self.faults.answer_count(given, 0, most)
     }
@@ -138,7 +170,8 @@ impl Disk for HostDisk {
         ensures grows { count_of (faults_of self.old) ≤ count_of (faults_of self.new) }
         ensures failed { OnErr result (Rose (count_of (faults_of self.old)) (count_of (faults_of self.new))) }
     {
-        let file = opened(&self.rt, self.path.as_str(), &mut self.file);
+        let path = self.path.as_str();
+        let file = opened(&self.rt, path, self.is_only_read, &mut self.file);
         let given = file.and_then(|file| file.write_all_at(bytes, at));
         self.faults.answer(given)
     }
@@ -148,7 +181,8 @@ impl Disk for HostDisk {
         ensures grows { count_of (faults_of self.old) ≤ count_of (faults_of self.new) }
         ensures failed { OnErr result (Rose (count_of (faults_of self.old)) (count_of (faults_of self.new))) }
     {
-        let file = opened(&self.rt, self.path.as_str(), &mut self.file);
+        let path = self.path.as_str();
+        let file = opened(&self.rt, path, self.is_only_read, &mut self.file);
         let given = file.and_then(|file| file.set_len(length));
         self.faults.answer(given)
     }
@@ -158,7 +192,8 @@ impl Disk for HostDisk {
         ensures grows { count_of (faults_of self.old) ≤ count_of (faults_of self.new) }
         ensures failed { OnErr result (Rose (count_of (faults_of self.old)) (count_of (faults_of self.new))) }
     {
-        let file = opened(&self.rt, self.path.as_str(), &mut self.file);
+        let path = self.path.as_str();
+        let file = opened(&self.rt, path, self.is_only_read, &mut self.file);
         let given = file.and_then(|file| file.sync_all());
         self.faults.answer(given)
     }

@@ -60,6 +60,31 @@ fn files_keep_what_was_written(rt: HostRuntime) -> Result<(), Fail> {
 }
 
 #[test]
+fn a_file_to_read_is_neither_made_nor_changed(rt: HostRuntime) -> Result<(), Fail> {
+    let alloc = rt.alloc();
+    let temporary = env::temp_dir(&rt)?;
+    let place = temporary.as_path().as_str();
+    let number = process::id(rt.process());
+    let path = format!(in alloc; "{place}/host_edge_read_{number}")?;
+    let mut absent = HostDisk::to_read(rt.clone()?, path.clone()?);
+    assert!(rt; absent.sync().is_err() && absent.len().is_err());
+    assert!(rt;
+        absent
+            .cause()
+            .is_some_and(|e| e.kind() == ErrorKind::NotFound)
+    );
+    fs::write(&rt, path.as_str(), b"abc")?;
+    let mut there = HostDisk::to_read(rt.clone()?, path.clone()?);
+    let mut buffer = [0u8; 4];
+    assert!(rt;
+        there.sync().is_ok() && there.read(1, &mut buffer) == Ok(2) && buffer == *b"bc\0\0"
+    );
+    assert!(rt; there.write_at(0, b"x").is_err() && there.cut(1).is_err() && there.len() == Ok(3));
+    fs::remove_file(&rt, path.as_str())?;
+    Ok(())
+}
+
+#[test]
 fn a_door_gives_its_links(rt: HostRuntime) -> Result<(), Fail> {
     let listener = TcpListener::bind(&rt, "127.0.0.1:0")?;
     let address = listener.local_addr()?;

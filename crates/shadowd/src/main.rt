@@ -44,6 +44,25 @@ fn ask_for_connections(words: &[String]) -> bool {
     words.first().is_some_and(|word| word.as_str() == "serve")
 }
 
+/// Whether the words ask for an audit.
+fn ask_for_audit(words: &[String]) -> bool {
+    words.first().is_some_and(|word| word.as_str() == "audit")
+}
+
+/// The journal's file. An audit only reads it.
+fn disk_of(
+    rt: &HostRuntime,
+    words: &[String],
+    settings: &Settings,
+) -> Result<HostDisk, AllocError> {
+    let path = settings.journal.clone()?;
+    if ask_for_audit(words) {
+        Ok(HostDisk::to_read(rt.clone()?, path))
+    } else {
+        Ok(HostDisk::of(rt.clone()?, path))
+    }
+}
+
 /// Writes a line to standard error: where the program listens, or why it can't.
 fn announce(rt: &HostRuntime, settings: &Settings, listener: &io::Result<TcpListener>) {
     let (listen, journal) = (settings.listen.as_str(), settings.journal.as_str());
@@ -83,6 +102,7 @@ fn doors_of(
 /// The outside that the program is run on. Its gate holds nobody.
 fn world_of(
     rt: &HostRuntime,
+    words: &[String],
     settings: &Settings,
     doors: Vec<HostDoor>,
 ) -> Result<HostWorld, AllocError>
@@ -91,7 +111,7 @@ fn world_of(
     Ok(World {
         files: HostFiles::of(rt.clone()?),
         out: HostSink::of(rt.stdout()),
-        disk: HostDisk::of(rt.clone()?, settings.journal.clone()?),
+        disk: disk_of(rt, words, settings)?,
         doors,
         gate: OpenGate,
     })
@@ -105,7 +125,7 @@ fn begin(rt: &HostRuntime) -> io::Result<(Settings, Vec<String>, HostWorld)>
     let settings = Settings::of(rt)?;
     let words = words_of(rt)?;
     let doors = doors_of(rt, &words, &settings)?;
-    let world = world_of(rt, &settings, doors)?;
+    let world = world_of(rt, &words, &settings, doors)?;
     Ok((settings, words, world))
 }
 
