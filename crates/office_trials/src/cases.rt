@@ -1,10 +1,10 @@
-//! One call of each kind that adds an entry, over a journal of no byte after its last gate: opening
-//! is calls 0 to 3 of the disk, and adding is calls 4 to 7: write, sync, open the gate, sync.
+//! Calls that add an entry, over a journal of no byte after its last gate: opening is calls 0 to 3
+//! of the disk, and adding is calls 4 to 7: write, sync, open the gate, sync.
 
 use crate::files::{
     ANSWERED, CLOSED, empty_journal, served_journal, started, started_journal, third_journal,
 };
-use crate::outcome::{Call, Reply, begun, gives, waiting};
+use crate::outcome::{Call, Reply, WORKED, begun, gives, run, waiting};
 use exam_office::{Place, Refusal};
 use std::alloc::Global;
 use std::process::Abort;
@@ -114,12 +114,56 @@ pub(crate) fn opens<R: Abort>(
     Ok(())
 }
 
-/// One of each kind.
+/// The calls of the worked session, each of which adds an entry.
+const SESSION: [Call; 7] = [
+    Call::Begin(70),
+    Call::Serve(0),
+    Call::Answer(0, 0, 1),
+    Call::Serve(0),
+    Call::Answer(0, 1, 0),
+    Call::Serve(0),
+    Call::Answer(0, 2, 1),
+];
+
+/// Where the session is after so many of them, three at least.
+fn place_after(entries: u64) -> Place {
+    match entries {
+        3 => Place::Pending(1),
+        4 => waiting(1, 4),
+        5 => Place::Pending(2),
+        6 => waiting(2, 1),
+        _ => Place::Complete,
+    }
+}
+
+/// The call of the worked session after so many, from the fourth on.
+fn later_case(alloc: Global, call: Call, earlier: &[Call]) -> Result<Case, Fail> {
+    let entries = earlier.len() as u64;
+    let place = place_after(entries.saturating_add(1));
+    let again = match call {
+        Call::Serve(_) => Reply::Refused(Refusal::Stale(place, false)),
+        _ => Reply::At(place),
+    };
+    Ok(Case {
+        call,
+        bytes: run(alloc, &WORKED, &[], &[], earlier)?.bytes,
+        longer: None,
+        before: state_at(entries, place_after(entries)),
+        after: state_at(entries.saturating_add(1), place),
+        reply: Reply::At(place),
+        again,
+    })
+}
+
+/// Each call of the worked session, and one that closes it.
 pub(crate) fn cases(alloc: Global) -> Result<Vec<Case>, Fail> {
     let mut cases = Vec::new(alloc);
     cases.push(begin_case(alloc)?)?;
     cases.push(serve_case(alloc)?)?;
     cases.push(answer_case(alloc)?)?;
     cases.push(close_case(alloc)?)?;
+    for entries in 3..7usize {
+        cases.push(later_case(alloc, SESSION[entries], &SESSION[..entries])?)?;
+    }
     Ok(cases)
 }
