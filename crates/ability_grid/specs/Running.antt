@@ -18,7 +18,7 @@ sum_at running point = get_or running.values point (pos 0)
 pub record IsRunning (running : Running) : Type 0 where
   pub some_points : 0 < running.grid
   pub few_points : running.grid ≤ 61
-  pub room : length running.values ≡ 61
+  pub room : running.grid ≤ length running.values
   pub few_additions : running.additions ≤ 512
   pub low : (point : ℕ) → point < running.grid → negsuc (2147483647 + running.additions * 10000000) ≤ℤ sum_at running point
   pub high : (point : ℕ) → point < running.grid → sum_at running point ≤ℤ pos 2147483647

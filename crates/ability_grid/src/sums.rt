@@ -9,16 +9,16 @@ use bank_tables::Bank;
 use std::marker::Model;
 
 /// The grid has at most so many points.
-const MOST_POINTS: usize = 61;
+pub(crate) const MOST_POINTS: usize = 61;
 
 /// The logarithm of the posterior at each point of the ability grid, up to a constant: that of the prior, plus the
 /// log-likelihood of each answer added (the posterior over a grid of abilities; Bock and Mislevy, Adaptive EAP
 /// Estimation of Ability in a Microcomputer Environment, 1982).
 #[derive(Clone, Copy, Debug, PartialEq, Eq)]
 pub struct Sums {
-    grid: u8,
-    additions: u16,
-    values: [i64; MOST_POINTS],
+    pub(crate) grid: u8,
+    pub(crate) additions: u16,
+    pub(crate) values: [i64; MOST_POINTS],
 }
 
 impl Model for Sums {
@@ -87,7 +87,7 @@ impl Sums {
 }
 
 /// Adds the log-likelihood of an answer at each grid point.
-fn add_answer(values: &mut [i64], grid: u8, bank: &Bank, item: u16, response: u8)
+pub(crate) fn add_answer(values: &mut [i64], grid: u8, bank: &Bank, item: u16, response: u8)
     requires grid { grid ≡ bank.now.grid }
     requires room { grid ≤ length values.old }
     requires item { item < size bank.now }

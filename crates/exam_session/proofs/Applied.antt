@@ -1,20 +1,23 @@
 -- What a book needs for an entry that is legal after its own.
-use Rattle.std.proofs.Common.{◌≡◌, ℕ, ◌+◌, ◌-◌, ◌≤◌, ◌<◌, Bool, true, false, cond, List, length, map, slice_get, Option, Some, None, refl, sym, ap, ◌∙◌, arith}
+use Rattle.std.proofs.Common.{◌≡◌, ℕ, ◌+◌, ◌-◌, ◌≤◌, ◌<◌, inl, inr, Bool, true, false, cond, List, length, map, slice_get, Option, Some, None, refl, sym, ap, ◌∙◌, arith}
 use Rattle.std.specs.Prelude.{min}
 use Rattle.bank_tables.specs.Tables.{Tables}
+use Rattle.bank_tables.specs.Validity.{IsBank}
 use Rattle.exam_model.specs.declared.seat.Seat.{Seat}
 use Rattle.exam_model.specs.Plan.{Plan}
+use Rattle.exam_model.specs.Validity.{IsPlanFor}
 use Rattle.history_model.specs.declared.entry.Entry.{Entry}
 use Rattle.history_model.specs.declared.entry.Entry.TheVariants.{Started, SetAside, Served, Answered, Closed}
 use Rattle.history_model.specs.Entries.{session_of, starts, sessions, is_started, seat_of}
 use Rattle.history_model.specs.Legality.{Legal, LegalRun}
 use Rattle.history_model.proofs.Standing.{there, waiting}
-use Rattle.history_model.proofs.Running.{pending_is_of_seat, responses_number}
+use Rattle.history_model.proofs.Running.{pending_is_of_seat, responses_number, seat_is_seat}
 use Rattle.std.specs.Option.{option_map}
 use Rattle.std.proofs.lemmas.Option.{slice_get-map}
+use Rattle.std.proofs.lemmas.Slice.Zip.{length-zip}
 use Rattle.exam_session.specs.declared.kept_seat.KeptSeat.{KeptSeat}
-use Rattle.exam_session.specs.KeptSeats.{seat_kept, HasRoom, HasRoomFor, IsSeated, AreKept}
-use Rattle.exam_session.proofs.BookLaws.{found_seat}
+use Rattle.exam_session.specs.KeptSeats.{seat_kept, HasRoom, HasRoomFor, TakesAnswer, IsSeated, AreKept, HasSums, HaveSums}
+use Rattle.exam_session.proofs.BookLaws.{found_seat, waiting_shown, waiting_item}
 use Rattle.exam_session.proofs.KeptLaws.{is_of}
 
 session_there : (b : Tables) (plan : Plan) (H : List Entry) (e : Entry) → starts e ≡ false → Legal b plan H e → is_started H (session_of e) ≡ true
@@ -44,8 +47,43 @@ has_room b plan H (Answered session step response) kept run legal is room =
     omega arith
 has_room b plan H (Closed session) kept run legal is room = tt
 
-pub is_seated : (b : Tables) (plan : Plan) (H : List Entry) (seats : List KeptSeat) (e : Entry) → starts e ≡ false → LegalRun b plan H → Legal b plan H e → AreKept plan H seats → IsSeated seats e
-is_seated b plan H seats e no_start run legal are = by (slice_get seats (session_of e)) refl
+-- the sums of a seat that waits for a response have room for it
+few_answers : (b : Tables) (plan : Plan) (kept : KeptSeat) → length kept.responses.items < 512 → HasSums b plan kept → kept.sums.additions < 512
+few_answers b plan kept few sums =
+    let number = sums.number in
+    let pairs = length-zip kept.shown.items kept.responses.items in
+    omega arith
+
+takes_answer : (b : Tables) (plan : Plan) (H : List Entry) (e : Entry) (kept : KeptSeat) → IsBank b → IsPlanFor b plan → LegalRun b plan H → Legal b plan H e → seat_kept kept ≡ seat_of H (session_of e) → HasSums b plan kept → TakesAnswer b e kept
+takes_answer b plan H (Started session booking eligible) kept bank valid run legal is sums = tt
+takes_answer b plan H (SetAside session cause nodes) kept bank valid run legal is sums = tt
+takes_answer b plan H (Served session step item form proved nodes) kept bank valid run legal is sums = tt
+takes_answer b plan H (Answered session step response) kept bank valid run legal is sums =
+    let more = (waiting plan H session step legal.item legal.proved legal.waiting).not_full in
+    let answered = responses_number H session in
+    let responses : length kept.responses.items ≡ length (seat_of H session).responses = ap (λ (x : Seat). length x.responses) is in
+    let few = valid.few_items in
+    let small = bank.few in
+    record {
+      item = legal.item;
+      waits = ap (λ (x : Seat). slice_get x.shown (length x.responses)) is ∙ waiting_shown b plan H session step legal.item legal.proved run legal.waiting;
+      of_bank = waiting_item b plan H session step legal.item legal.proved run legal.waiting;
+      in_range = legal.in_range;
+      same_grid = sums.same_grid;
+      few = few_answers b plan kept (omega arith) sums;
+    }
+takes_answer b plan H (Closed session) kept bank valid run legal is sums = tt
+
+-- each response is of an item shown
+answered_shown : (b : Tables) (plan : Plan) (H : List Entry) (s : ℕ) (kept : KeptSeat) → LegalRun b plan H → seat_kept kept ≡ seat_of H s → length kept.responses.items ≤ length kept.shown.items
+answered_shown b plan H s kept run is =
+    let seat = seat_is_seat b plan H s run in
+    let shown : length kept.shown.items ≡ length (seat_of H s).shown = ap (λ (x : Seat). length x.shown) is in
+    let responses : length kept.responses.items ≡ length (seat_of H s).responses = ap (λ (x : Seat). length x.responses) is in
+    elim seat.responses [ inl same ↦ omega arith | inr more ↦ omega arith ]
+
+pub is_seated : (b : Tables) (plan : Plan) (H : List Entry) (seats : List KeptSeat) (e : Entry) → IsBank b → IsPlanFor b plan → starts e ≡ false → LegalRun b plan H → Legal b plan H e → AreKept plan H seats → HaveSums b plan seats → IsSeated b seats e
+is_seated b plan H seats e bank valid no_start run legal are have = by (slice_get seats (session_of e)) refl
   where
     found : slice_get (map seat_kept seats) (session_of e) ≡ Some (seat_of H (session_of e))
     found = found_seat b plan H (map seat_kept seats) (session_of e) run are.are ∙ ap (λ (t : Bool). cond t (Some (seat_of H (session_of e))) None) (session_there b plan H e no_start legal)
@@ -53,9 +91,17 @@ is_seated b plan H seats e no_start run legal are = by (slice_get seats (session
     differ : (x : Seat) → None ≡ Some x → ⊥
     differ x e = cc
 
-    by : (o : Option KeptSeat) → slice_get seats (session_of e) ≡ o → IsSeated seats e
+    by : (o : Option KeptSeat) → slice_get seats (session_of e) ≡ o → IsSeated b seats e
     by None at = absurd (differ _ (sym (slice_get-map seat_kept seats (session_of e) ∙ ap (option_map seat_kept) at) ∙ found))
-    by (Some kept) at = record { kept = kept; there = at; room = has_room b plan H e kept run legal (is_of plan H seats (session_of e) kept are at) (are.room (session_of e) kept at) }
+    by (Some kept) at =
+        let is = is_of plan H seats (session_of e) kept are at in
+        record {
+          kept = kept;
+          there = at;
+          room = has_room b plan H e kept run legal is (are.room (session_of e) kept at);
+          answered = answered_shown b plan H (session_of e) kept run is;
+          answer = takes_answer b plan H e kept bank valid run legal is (have (session_of e) kept at);
+        }
 
 -- the room that is left where at most one element was added
 pub room_left : (len cap room new_len new_cap added : ℕ) → len + room ≤ cap → 0 < room → new_len ≡ len + added → new_cap ≡ cap → added ≤ 1 → new_len + (room - 1) ≤ new_cap

@@ -124,13 +124,17 @@ waiting_seat plan seat k item proved e = by seat.closed (nat_le plan.length (len
     by false false None e = absurd (cc)
     by false false (Some x) e = cc
 
+-- the item that waits is shown at the step of its response
+pub waiting_shown : (b : Tables) (plan : Plan) (H : List Entry) (s k item : ℕ) (proved : Bool) → LegalRun b plan H → place plan H s ≡ Some (Waiting k item proved) → slice_get (seat_of H s).shown (length (seat_of H s).responses) ≡ Some item
+waiting_shown b plan H s k item proved run e =
+    let is = there plan H s (Waiting k item proved) e in
+    let at : seat_place plan (seat_of H s) ≡ Waiting k item proved = let f : Some (seat_place plan (seat_of H s)) ≡ Some (Waiting k item proved) = sym (place_is_of_seat b plan H s run is) ∙ e in cc in
+    waiting_seat plan (seat_of H s) k item proved at
+
 pub waiting_item : (b : Tables) (plan : Plan) (H : List Entry) (s k item : ℕ) (proved : Bool) → LegalRun b plan H → place plan H s ≡ Some (Waiting k item proved) → item < size b
 waiting_item b plan H s k item proved run e =
-    let is = there plan H s (Waiting k item proved) e in
     let seat = seat_of H s in
-    let at : seat_place plan seat ≡ Waiting k item proved = let f : Some (seat_place plan seat) ≡ Some (Waiting k item proved) = sym (place_is_of_seat b plan H s run is) ∙ e in cc in
-    let found = waiting_seat plan seat k item proved at in
-    (seat_is_seat b plan H s run).items item (shown_at seat.shown (length seat.responses) item found)
+    (seat_is_seat b plan H s run).items item (shown_at seat.shown (length seat.responses) item (waiting_shown b plan H s k item proved run e))
 
 pub problem_given : (b : Tables) (plan : Plan) (H : List Entry) (s : ℕ) (seat : Seat) (r : Option Given) → LegalRun b plan H → Some seat ≡ seat_if_started H s → (IsSome r ↔ IsPending plan seat) → IfSome r (λ p. IsSeatProblem b plan s seat (problem_of p)) → IfSome r (λ p. IsProblemOf b plan H s p.step (problem_of p))
 problem_given b plan H s seat None run found pending of_seat = tt

@@ -5,7 +5,7 @@ use Rattle.exam_model.specs.Plan.{Plan}
 use Rattle.history_model.specs.declared.counts.Counts.{Counts}
 use Rattle.exposure_counters.specs.Tallies.{Tally, counts_at, IsTallyOf}
 use Rattle.exam_session.specs.Kept.{AreSeats, AreCounts}
-use Rattle.exam_session.specs.KeptSeats.{AreKept}
+use Rattle.exam_session.specs.KeptSeats.{AreKept, HaveSums}
 use Rattle.exam_session.specs.Bookings.{AreBookings}
 
 no_seats : AreSeats [] []
@@ -13,6 +13,9 @@ no_seats = record { number = refl; each = λ s seat e. absurd (cc) }
 
 pub no_kept : (plan : Plan) → AreKept plan [] []
 no_kept plan = record { are = no_seats; room = λ s kept e. absurd (cc) }
+
+pub no_sums : (b : Tables) (plan : Plan) → HaveSums b plan []
+no_sums b plan = λ s kept e. absurd (cc)
 
 pub no_bookings : AreBookings [] []
 no_bookings = record { number = refl; rising = λ i j below within. absurd (omega arith); each = λ booking. refl }

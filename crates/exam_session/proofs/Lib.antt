@@ -2,6 +2,7 @@ pub mod Lists
 pub mod BookLaws
 pub mod KeptLaws
 pub mod SeatNotes
+pub mod SumNotes
 pub mod KeptNotes
 pub mod BookingLaws
 pub mod BookingNotes

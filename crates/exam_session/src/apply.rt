@@ -57,7 +57,7 @@ impl<'a> Book<'a> {
             &mut self.counters,
             &entry,
         );
-        note_seat(&mut self.seats, &mut self.spare, &entry);
+        note_seat(self.bank, &mut self.seats, &mut self.spare, &entry);
         note_booking(&mut self.bookings, &entry);
         self.totals = totals_with(self.totals, &entry);
         self.entries.push(&entry);

@@ -30,7 +30,7 @@ use exam_model::Seat;
 use exposure_counters::{Counters, Memory};
 use history_log::Counted;
 use history_model::{Entry, Place, Summary};
-use shadow_select::next_problem;
+use shadow_select::next_problem_from;
 use std::alloc::Global;
 use std::marker::Model;
 
@@ -58,7 +58,7 @@ impl<'a> Model for Book<'a> {
     ghost use Rattle.std.specs.Vec.{vec_len, vec_capacity};
     ghost use Rattle.exam_session.specs.Ledgers.{Ledger, IsExamination};
     ghost use Rattle.exam_session.specs.Kept.{AreCounts};
-    ghost use Rattle.exam_session.specs.KeptSeats.{IsSpare, AreKept};
+    ghost use Rattle.exam_session.specs.KeptSeats.{IsSpare, AreKeptWithSums};
     ghost use Rattle.exam_session.specs.Bookings.{AreBookings};
     ghost use Rattle.exam_session.specs.Totals.{AreTotals};
 
@@ -68,7 +68,7 @@ impl<'a> Model for Book<'a> {
 
     ghost invariant = { λ b.
         IsExamination (record { bank = b.bank.now; plan = b.spec.now; entries = b.entries; room = b.room })
-        × AreKept b.spec.now b.entries b.seats.items
+        × AreKeptWithSums b.bank.now b.spec.now b.entries b.seats.items
         × AreBookings b.entries b.bookings.items
         × AreCounts b.bank.now b.spec.now b.entries b.counters
         × AreTotals b.entries b.totals
@@ -232,8 +232,12 @@ impl<'a> Book<'a> {
         ensures free { IfSome result (λ p. (X : Set) → Form (problem_of p) X → HasFreeItem (problem_of p) X) }
         ensures none { IfNone result ((step : ℕ) → place self.now.plan self.now.entries session ≡ Some (Pending step) → ⊥) }
     {
-        match self.seat(session) {
-            Some(seat) => next_problem(self.bank, self.spec, session, &seat),
+        match self.seats.get(session as usize) {
+            Some(kept) => {
+                let seat = kept.seat();
+                let sums = kept.sums();
+                next_problem_from(self.bank, self.spec, session, &seat, &sums)
+            }
             None => None,
         }
     }

@@ -1,16 +1,16 @@
 //! What an entry changes in the seats of a book.
 
-ghost use Rattle.std.specs.Prelude.{◌≡◌, ◌+◌, ◌<◌, [], ◌∷◌, ◌++◌, List, IsTrue, IsFalse, IsSome, IfSome, OnOk, None, if◌then◌else◌};
+ghost use Rattle.std.specs.Prelude.{◌≡◌, ◌+◌, ◌<◌, ◌≤◌, [], ◌∷◌, ◌++◌, List, length, IsTrue, IsFalse, IsSome, IfSome, OnOk, None, if◌then◌else◌};
 ghost use Rattle.std.specs.Vec.{vec_len, vec_capacity};
 ghost use Rattle.bank_tables.specs.Tables.{Tables};
 ghost use Rattle.exam_model.specs.Plan.{Plan};
 ghost use Rattle.history_model.specs.declared.entry.Entry.{Entry};
 ghost use Rattle.history_model.specs.Entries.{session_of, starts};
 ghost use Rattle.history_model.specs.Legality.{Legal, LegalRun};
-ghost use Rattle.exam_session.specs.KeptSeats.{HasRoom, IsSpare, IsSeated, AreKept, StartsSeat};
+ghost use Rattle.exam_session.specs.KeptSeats.{IsSpare, IsSeated, AreKept, HaveSums, StartsSeat};
 
 use crate::kept_seat::KeptSeat;
-use bank_tables::ItemSet;
+use bank_tables::{Bank, ItemSet};
 use constraint_model::Spec;
 use exposure_counters::Memory;
 use history_model::Entry;
@@ -35,12 +35,14 @@ pub(crate) fn make_spare(
     alloc: Global,
     spec: &Spec,
 ) -> Result<(), Memory>
-    requires { IfSome spare.old (IsSpare spec.now) }
+    requires some { 0 < length spec.now.prior }
+    requires few { length spec.now.prior ≤ 61 }
+    requires spare { IfSome spare.old (IsSpare spec.now) }
     ensures spare { IfSome spare.new (IsSpare spec.now) }
     ensures there { OnOk result (IsSome spare.new) }
 {
     if spare.is_none() {
-        *spare = Some(KeptSeat::new(alloc, spec.length() as usize)?);
+        *spare = Some(KeptSeat::new(alloc, spec)?);
     }
     Ok(())
 }
@@ -65,24 +67,34 @@ fn start_seat(seats: &mut Vec<KeptSeat>, spare: &mut Option<KeptSeat>, eligible:
 }
 
 /// Changes the seat of an entry's session.
-fn change_seat(seats: &mut [KeptSeat], entry: &Entry)
-    requires { IsSeated seats.old entry.now }
-    ensures { (b : Tables) (plan : Plan) (H : List Entry) → IsFalse (starts entry.now)
+fn change_seat(bank: &Bank, seats: &mut [KeptSeat], entry: &Entry)
+    requires { IsSeated bank.now seats.old entry.now }
+    ensures seats { (b : Tables) (plan : Plan) (H : List Entry) → IsFalse (starts entry.now)
         → LegalRun b plan H → Legal b plan H entry.now → AreKept plan H seats.old
         → AreKept plan (H ++ entry.now ∷ []) seats.new }
+    ensures sums { (plan : Plan) → HaveSums bank.now plan seats.old
+        → HaveSums bank.now plan seats.new }
 {
     let session = session_of(entry) as usize;
-    seats[session].note(entry);
+    seats[session].note(bank, entry);
 }
 
 /// Notes an entry in the seats: a start adds the spare one, any other entry changes that of its session.
-pub(crate) fn note_seat(seats: &mut Vec<KeptSeat>, spare: &mut Option<KeptSeat>, entry: &Entry)
+pub(crate) fn note_seat(
+    bank: &Bank,
+    seats: &mut Vec<KeptSeat>,
+    spare: &mut Option<KeptSeat>,
+    entry: &Entry,
+)
     requires room { IsTrue (starts entry.now) → vec_len seats.old < vec_capacity seats.old }
     requires spare { IsTrue (starts entry.now) → IsSome spare.old }
-    requires seated { IsFalse (starts entry.now) → IsSeated seats.old.items entry.now }
+    requires seated { IsFalse (starts entry.now) → IsSeated bank.now seats.old.items entry.now }
     ensures seats { (b : Tables) (plan : Plan) (H : List Entry) → LegalRun b plan H
         → Legal b plan H entry.now → IfSome spare.old (IsSpare plan)
         → AreKept plan H seats.old.items → AreKept plan (H ++ entry.now ∷ []) seats.new.items }
+    ensures sums { (plan : Plan) → bank.now.grid ≡ length plan.prior
+        → IfSome spare.old (IsSpare plan) → HaveSums bank.now plan seats.old.items
+        → HaveSums bank.now plan seats.new.items }
     ensures spare { (plan : Plan) → IfSome spare.old (IsSpare plan)
         → IfSome spare.new (IsSpare plan) }
     ensures number { vec_len seats.new ≡ vec_len seats.old + (if starts entry.now then 1 else 0) }
@@ -90,6 +102,6 @@ pub(crate) fn note_seat(seats: &mut Vec<KeptSeat>, spare: &mut Option<KeptSeat>,
 {
     match *entry {
         Entry::Started { eligible, .. } => start_seat(seats, spare, eligible),
-        _ => change_seat(seats.as_mut_slice(), entry),
+        _ => change_seat(bank, seats.as_mut_slice(), entry),
     }
 }

@@ -16,7 +16,7 @@ note_seat-requires-clause-seated c = λ no_start.
     let plan = c.self.inside.spec.now in
     let H = c.self.inside.entries in
     let legal : Legal b plan H c.args.entry = subst (λ (book : Ledger). Legal book.bank book.plan book.entries c.args.entry) (sym c.self.view_is) c.requires.legal in
-    is_seated b plan H c.self.inside.seats.items c.args.entry no_start kept.0.legal legal kept.1
+    is_seated b plan H c.self.inside.seats.items c.args.entry kept.0.bank kept.0.plan no_start kept.0.legal legal kept.1.kept kept.1.sums
 
 pub invariant_of-self : goal.invariant_of-self
 invariant_of-self c =
@@ -27,10 +27,10 @@ invariant_of-self c =
     let e = c.args.entry in
     let legal : Legal b plan H e = subst (λ (book : Ledger). Legal book.bank book.plan book.entries e) (sym c.self.view_is) c.requires.legal in
     let some : 0 < c.self.inside.room = subst (λ (book : Ledger). 0 < book.room) (sym c.self.view_is) c.requires.room in
-    let seats : AreKept plan H c.as_slice.result.now = subst (λ (xs : List KeptSeat). AreKept plan H xs) (sym c.as_slice.ensures.value) kept.1 in
+    let seats : AreKept plan H c.as_slice.result.now = subst (λ (xs : List KeptSeat). AreKept plan H xs) (sym c.as_slice.ensures.value) kept.1.kept in
     rw c.push.ensures (
       record { bank = kept.0.bank; plan = kept.0.plan; legal = more H e kept.0.legal legal },
-      c.note_seat.ensures.seats b plan H kept.0.legal legal kept.7 kept.1,
+      record { kept = c.note_seat.ensures.seats b plan H kept.0.legal legal kept.7 kept.1.kept; sums = c.note_seat.ensures.sums plan (sym kept.0.plan.prior_number) kept.7 kept.1.sums },
       c.note_booking.ensures.bookings b plan H kept.0.legal legal kept.2,
       c.count_entry.ensures H kept.0.legal legal seats kept.3,
       totals_pushed H e c.self.inside.totals c.totals_with-self-inside.result kept.4 c.totals_with-self-inside.ensures.small c.totals_with-self-inside.ensures.totals,
@@ -38,7 +38,7 @@ invariant_of-self c =
       omega (arith, kept.6),
       c.note_seat.ensures.spare plan kept.7,
       (λ more below. absurd (omega (arith, kept.6, more))),
-      seats_left plan.sessions (sessions H) _ _ c.self.inside.room _ _ (starts e) kept.9 some (c.self.inside.seats.ok.0 ∙ (sym (length-map c.self.inside.seats.items seat_kept) ∙ kept.1.are.number)) (is_below b plan H e legal) c.note_seat.ensures.number c.note_seat.ensures.capacity,
+      seats_left plan.sessions (sessions H) _ _ c.self.inside.room _ _ (starts e) kept.9 some (c.self.inside.seats.ok.0 ∙ (sym (length-map c.self.inside.seats.items seat_kept) ∙ kept.1.kept.are.number)) (is_below b plan H e legal) c.note_seat.ensures.number c.note_seat.ensures.capacity,
       seats_left plan.sessions (sessions H) _ _ c.self.inside.room _ _ (starts e) kept.10 some (c.self.inside.bookings.ok.0 ∙ kept.2.number) (is_below b plan H e legal) c.note_booking.ensures.number c.note_booking.ensures.capacity,
     )
 
@@ -51,7 +51,7 @@ note_seat-requires-clause-room c = λ start.
     let e = c.args.entry in
     let legal : Legal b plan H e = subst (λ (book : Ledger). Legal book.bank book.plan book.entries e) (sym c.self.view_is) c.requires.legal in
     let some : 0 < c.self.inside.room = subst (λ (book : Ledger). 0 < book.room) (sym c.self.view_is) c.requires.room in
-    seat_free plan.sessions (sessions H) _ _ c.self.inside.room kept.9 some (c.self.inside.seats.ok.0 ∙ (sym (length-map c.self.inside.seats.items seat_kept) ∙ kept.1.are.number)) (is_below b plan H e legal start)
+    seat_free plan.sessions (sessions H) _ _ c.self.inside.room kept.9 some (c.self.inside.seats.ok.0 ∙ (sym (length-map c.self.inside.seats.items seat_kept) ∙ kept.1.kept.are.number)) (is_below b plan H e legal start)
 
 pub note_seat-requires-clause-spare : goal.note_seat-requires-clause-spare
 note_seat-requires-clause-spare c = λ start.
@@ -62,7 +62,7 @@ note_seat-requires-clause-spare c = λ start.
     let e = c.args.entry in
     let legal : Legal b plan H e = subst (λ (book : Ledger). Legal book.bank book.plan book.entries e) (sym c.self.view_is) c.requires.legal in
     let some : 0 < c.self.inside.room = subst (λ (book : Ledger). 0 < book.room) (sym c.self.view_is) c.requires.room in
-    let number = c.self.inside.seats.ok.0 ∙ (sym (length-map c.self.inside.seats.items seat_kept) ∙ kept.1.are.number) in
+    let number = c.self.inside.seats.ok.0 ∙ (sym (length-map c.self.inside.seats.items seat_kept) ∙ kept.1.kept.are.number) in
     let below = is_below b plan H e legal start in
     kept.8 some (omega (arith, number, below))
 

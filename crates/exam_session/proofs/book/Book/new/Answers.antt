@@ -1,6 +1,6 @@
 use Rattle.std.proofs.Common.{◌∙◌, arith}
 use Rattle.history_model.specs.Legality.{empty}
-use Rattle.exam_session.proofs.EmptyBook.{no_kept, no_bookings, no_counts}
+use Rattle.exam_session.proofs.EmptyBook.{no_kept, no_bookings, no_counts, no_sums}
 use Rattle.exam_session.proofs.TotalLaws.{no_totals}
 use Rattle.exam_session.proofs.book.Book.new.Goals as goal
 
@@ -11,7 +11,7 @@ invariant_of-result c =
     let bookings = c.new-4.ensures.items in
     rw (none, seats, bookings) (
       record { bank = c.items.ensures.bank; plan = c.requires; legal = empty },
-      no_kept c.args.spec.now,
+      record { kept = no_kept c.args.spec.now; sums = no_sums c.args.bank.now c.args.spec.now },
       no_bookings,
       no_counts c.args.bank.now c.args.spec.now c.in_ok-counters.counters (c.in_ok-counters.ensures.items ∙ c.items.ensures.items) c.in_ok-counters.ensures.none,
       no_totals,

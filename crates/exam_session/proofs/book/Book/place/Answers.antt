@@ -14,7 +14,7 @@ use Rattle.exam_session.proofs.book.Book.place.Goals as goal
 pub place-requires : goal.place-requires
 place-requires c =
     let held = c.self.invariant in
-    is_short c.self.inside.bank.now c.self.inside.spec.now c.self.inside.entries c.self.inside.seats.items c.args.session c.in-Some.kept.now held.0.bank held.0.plan held.0.legal held.1
+    is_short c.self.inside.bank.now c.self.inside.spec.now c.self.inside.entries c.self.inside.seats.items c.args.session c.in-Some.kept.now held.0.bank held.0.plan held.0.legal held.1.kept
     (kept_there c.self.inside.seats.items c.deref.result.now c.args.session c.get.result c.in-Some.kept c.deref.ensures.value c.get.ensures.lookup c.in-Some.is)
 
 pub returns-in-Some-clause-place : goal.returns-in-Some-clause-place
@@ -26,7 +26,7 @@ returns-in-Some-clause-place c =
     let run = held.0.legal in
     let found : Some (seat_kept c.in-Some.kept.now) ≡ seat_if_started H c.args.session =
     sym (ap (λ (o : Option (Bor KeptSeat)). option_map seat_kept (option_copied o)) c.in-Some.is)
-    ∙ found_kept b plan H c.self.inside.seats.items c.deref.result.now c.args.session c.get.result run held.1 c.deref.ensures.value c.get.ensures.lookup in
+    ∙ found_kept b plan H c.self.inside.seats.items c.deref.result.now c.args.session c.get.result run held.1.kept c.deref.ensures.value c.get.ensures.lookup in
     ap (λ (p : Place). Some p) c.place.ensures ∙ rw (← c.self.view_is) (placed b plan H c.args.session (seat_kept c.in-Some.kept.now) run found)
 
 pub returns-in-Some-clause-item : goal.returns-in-Some-clause-item
@@ -38,7 +38,7 @@ returns-in-Some-clause-item c =
     let run = held.0.legal in
     let found : Some (seat_kept c.in-Some.kept.now) ≡ seat_if_started H c.args.session =
     sym (ap (λ (o : Option (Bor KeptSeat)). option_map seat_kept (option_copied o)) c.in-Some.is)
-    ∙ found_kept b plan H c.self.inside.seats.items c.deref.result.now c.args.session c.get.result run held.1 c.deref.ensures.value c.get.ensures.lookup in
+    ∙ found_kept b plan H c.self.inside.seats.items c.deref.result.now c.args.session c.get.result run held.1.kept c.deref.ensures.value c.get.ensures.lookup in
     let at : Some (seat_place plan (seat_kept c.in-Some.kept.now)) ≡ place plan H c.args.session = placed b plan H c.args.session (seat_kept c.in-Some.kept.now) run found in
     let same : Some c.place.result ≡ Some (seat_place plan (seat_kept c.in-Some.kept.now)) = ap (λ (p : Place). Some p) c.place.ensures in
     λ step item proved e.
@@ -54,5 +54,5 @@ returns-in-None-clause-place c =
     let run = held.0.legal in
     let none : None ≡ seat_if_started H c.args.session =
     sym (ap (λ (o : Option (Bor KeptSeat)). option_map seat_kept (option_copied o)) c.in-None.is)
-    ∙ found_kept b plan H c.self.inside.seats.items c.deref.result.now c.args.session c.get.result run held.1 c.deref.ensures.value c.get.ensures.lookup in
+    ∙ found_kept b plan H c.self.inside.seats.items c.deref.result.now c.args.session c.get.result run held.1.kept c.deref.ensures.value c.get.ensures.lookup in
     rw (← c.self.view_is) (not_placed plan H c.args.session none)

@@ -16,7 +16,7 @@ returns-in-Some c =
     let run = held.0.legal in
     let found : Some (seat_kept c.in-Some.kept.now) ≡ seat_if_started H c.args.session =
     sym (ap (λ (o : Option (Bor KeptSeat)). option_map seat_kept (option_copied o)) c.in-Some.is)
-    ∙ found_kept b plan H c.self.inside.seats.items c.deref.result.now c.args.session c.get.result run held.1 c.deref.ensures.value c.get.ensures.lookup in
+    ∙ found_kept b plan H c.self.inside.seats.items c.deref.result.now c.args.session c.get.result run held.1.kept c.deref.ensures.value c.get.ensures.lookup in
     rw (← c.self.view_is) (c.response.ensures ∙ recorded_in H c.args.session c.args.step (seat_kept c.in-Some.kept.now) found)
 
 pub returns-in-None : goal.returns-in-None
@@ -28,5 +28,5 @@ returns-in-None c =
     let run = held.0.legal in
     let none : None ≡ seat_if_started H c.args.session =
     sym (ap (λ (o : Option (Bor KeptSeat)). option_map seat_kept (option_copied o)) c.in-None.is)
-    ∙ found_kept b plan H c.self.inside.seats.items c.deref.result.now c.args.session c.get.result run held.1 c.deref.ensures.value c.get.ensures.lookup in
+    ∙ found_kept b plan H c.self.inside.seats.items c.deref.result.now c.args.session c.get.result run held.1.kept c.deref.ensures.value c.get.ensures.lookup in
     rw (← c.self.view_is) (sym (none_recorded b plan H c.args.session c.args.step run none))

@@ -9,7 +9,7 @@ overflow_cast-result c =
     let kept = c.self.invariant in
     let few = sessions_are_few c.self.inside.bank.now c.self.inside.spec.now c.self.inside.entries kept.0.legal in
     let high = kept.0.plan.few_sessions in
-    let number = kept.1.are.number in
+    let number = kept.1.kept.are.number in
     let same = length-map c.self.inside.seats.items seat_kept in
     let len = c.len.ensures in
     omega arith
@@ -18,7 +18,7 @@ pub returns-clause-few : goal.returns-clause-few
 returns-clause-few c =
     let kept = c.self.invariant in
     let few = sessions_are_few c.self.inside.bank.now c.self.inside.spec.now c.self.inside.entries kept.0.legal in
-    let number = kept.1.are.number in
+    let number = kept.1.kept.are.number in
     let same = length-map c.self.inside.seats.items seat_kept in
     let len = c.len.ensures in
     rw (← c.self.view_is) (omega arith)

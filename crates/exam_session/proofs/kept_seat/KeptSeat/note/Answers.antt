@@ -1,0 +1,28 @@
+use Rattle.std.proofs.Common.{◌≡◌, ◌∙◌, ℕ, List, length, get_or, slice_get, Some, sym, ap, subst}
+use Rattle.std.specs.List.{zip}
+use Rattle.std.proofs.lemmas.Option.{get_or_from_slice_get}
+use Rattle.exam_model.specs.Ability.{AnswerList}
+use Rattle.exam_model.specs.Seats.{answers}
+use Rattle.history_model.specs.declared.entry.Entry.{Entry}
+use Rattle.ability_grid.specs.Running.{IsSumsOf}
+use Rattle.exam_session.specs.KeptSeats.{seat_kept, TakesResponse, TakesAnswer}
+use Rattle.exam_session.proofs.SumNotes.{answer_more, item_more}
+use Rattle.exam_session.proofs.kept_seat.KeptSeat.note.Goals as goal
+
+pub returns-in-Served-clause-sums : goal.returns-in-Served-clause-sums
+returns-in-Served-clause-sums c = λ plan sums.
+    let kept = c.args.self.now in
+    let more = ap (λ (xs : List ℕ). zip xs kept.responses.items) c.push_reserved.ensures.items ∙ item_more kept.shown.items kept.responses.items c.in-Served.item c.requires.answered in
+    subst (λ (list : AnswerList). IsSumsOf c.args.bank.now plan.prior list kept.sums) (sym more) sums
+
+pub returns-in-Answered-clause-sums : goal.returns-in-Answered-clause-sums
+returns-in-Answered-clause-sums c = λ plan sums.
+    let kept = c.args.self.now in
+    let b = c.args.bank.now in
+    let takes : TakesResponse b c.in-Answered.response kept = subst (λ (e : Entry). TakesAnswer b e kept) c.in-Answered.is c.requires.answer in
+    let item = c.index-item.result.now in
+    let at : c.len.result ≡ length kept.responses.items = c.len.ensures ∙ kept.responses.ok.0 in
+    let same : item ≡ takes.item = c.index-item.ensures ∙ ap (λ (k : ℕ). get_or kept.shown.items k item) at ∙ get_or_from_slice_get kept.shown.items (length kept.responses.items) takes.item item takes.waits in
+    let waits : slice_get kept.shown.items (length kept.responses.items) ≡ Some item = takes.waits ∙ ap (λ (k : ℕ). Some k) (sym same) in
+    let more = ap (zip kept.shown.items) c.push_reserved-in-Answered.ensures.items ∙ answer_more kept.shown.items kept.responses.items item c.in-Answered.response waits in
+    subst (λ (list : AnswerList). IsSumsOf b plan.prior list c.add.new.self) (sym more) (c.add.ensures.sums plan.prior (answers (seat_kept kept)) sums)
