@@ -17,8 +17,8 @@ no_kept plan = record { are = no_seats; room = λ s kept e. absurd (cc) }
 pub no_sums : (b : Tables) (plan : Plan) → HaveSums b plan []
 no_sums b plan = λ s kept e. absurd (cc)
 
-pub no_bookings : AreBookings [] []
-no_bookings = record { number = refl; rising = λ i j below within. absurd (omega arith); each = λ booking. refl }
+pub no_bookings : AreBookings [] [] []
+no_bookings = record { number = refl; ordered = refl; known = λ k within. absurd (omega arith); rising = λ i j below within. absurd (omega arith); each = λ booking. refl }
 
 both_zero : (a e : ℕ) → a ≡ 0 → e ≡ 0 → (let x : Counts = record { alpha = a; eps = e } in let z : Counts = record { alpha = 0; eps = 0 } in x ≡ z)
 both_zero a e f g = cc

@@ -33,7 +33,7 @@ impl<'a> Book<'a> {
         }
         if self.seats.len() < self.spec.sessions() as usize {
             self.seats.reserve(1)?;
-            self.bookings.reserve(1)?;
+            self.bookings.reserve()?;
             make_spare(&mut self.spare, alloc, self.spec)?;
         }
         self.room = 1;

@@ -20,7 +20,7 @@ ghost use Rattle.history_model.specs.SessionProblems.{IsProblemOf};
 ghost use Rattle.exam_session.specs.Ledgers.{IsExamination};
 ghost use Rattle.exam_session.specs.Kept.{AreCounts};
 
-use crate::bookings::{Booked, session_with};
+use crate::bookings::{Bookings, session_with};
 use crate::kept_seat::KeptSeat;
 use crate::totals::Totals;
 use bank_tables::{Bank, ItemSet};
@@ -45,8 +45,7 @@ pub struct Book<'a> {
     pub(crate) seats: Vec<KeptSeat>,
     /// The seat for the next session, where there is room for it.
     pub(crate) spare: Option<KeptSeat>,
-    /// The bookings in ascending order, each with its session.
-    pub(crate) bookings: Vec<Booked>,
+    pub(crate) bookings: Bookings,
     pub(crate) counters: Counters,
     pub(crate) totals: Totals,
     /// For how many entries more there is room, one or none: in the seats and the bookings up to the plan's limit of sessions.
@@ -59,7 +58,7 @@ impl<'a> Model for Book<'a> {
     ghost use Rattle.exam_session.specs.Ledgers.{Ledger, IsExamination};
     ghost use Rattle.exam_session.specs.Kept.{AreCounts};
     ghost use Rattle.exam_session.specs.KeptSeats.{IsSpare, AreKeptWithSums};
-    ghost use Rattle.exam_session.specs.Bookings.{AreBookings};
+    ghost use Rattle.exam_session.specs.Bookings.{AreBookings, places};
     ghost use Rattle.exam_session.specs.Totals.{AreTotals};
 
     ghost Value = { Ledger };
@@ -69,7 +68,7 @@ impl<'a> Model for Book<'a> {
     ghost invariant = { λ b.
         IsExamination (record { bank = b.bank.now; plan = b.spec.now; entries = b.entries; room = b.room })
         × AreKeptWithSums b.bank.now b.spec.now b.entries b.seats.items
-        × AreBookings b.entries b.bookings.items
+        × AreBookings b.entries b.bookings.each.items b.bookings.order.items
         × AreCounts b.bank.now b.spec.now b.entries b.counters
         × AreTotals b.entries b.totals
         × (length b.entries + b.room ≤ 2 ^ 47)
@@ -77,7 +76,7 @@ impl<'a> Model for Book<'a> {
         × IfSome b.spare (IsSpare b.spec.now)
         × (0 < b.room → vec_len b.seats < b.spec.now.sessions → IsSome b.spare)
         × (min b.spec.now.sessions (vec_len b.seats + b.room) ≤ vec_capacity b.seats)
-        × (min b.spec.now.sessions (vec_len b.bookings + b.room) ≤ vec_capacity b.bookings) };
+        × (min b.spec.now.sessions (vec_len b.bookings.each + b.room) ≤ places b.bookings) };
 }
 
 /// A book may be moved to another thread.
@@ -103,7 +102,7 @@ impl<'a> Book<'a> {
             entries: Counted::new(),
             seats: Vec::new(alloc),
             spare: None,
-            bookings: Vec::new(alloc),
+            bookings: Bookings::new(alloc),
             counters,
             totals: Totals {
                 proved: 0,
@@ -206,7 +205,11 @@ impl<'a> Book<'a> {
     pub fn booked(&self, booking: u64) -> Option<u32>
         ensures { result ≡ holder self.now.entries booking }
     {
-        session_with(self.bookings.as_slice(), booking)
+        session_with(
+            self.bookings.each.as_slice(),
+            self.bookings.order.as_slice(),
+            booking,
+        )
     }
 
     /// The entries in numbers.

@@ -39,7 +39,7 @@ invariant_of-self c =
       c.note_seat.ensures.spare plan kept.7,
       (λ more below. absurd (omega (arith, kept.6, more))),
       seats_left plan.sessions (sessions H) _ _ c.self.inside.room _ _ (starts e) kept.9 some (c.self.inside.seats.ok.0 ∙ (sym (length-map c.self.inside.seats.items seat_kept) ∙ kept.1.kept.are.number)) (is_below b plan H e legal) c.note_seat.ensures.number c.note_seat.ensures.capacity,
-      seats_left plan.sessions (sessions H) _ _ c.self.inside.room _ _ (starts e) kept.10 some (c.self.inside.bookings.ok.0 ∙ kept.2.number) (is_below b plan H e legal) c.note_booking.ensures.number c.note_booking.ensures.capacity,
+      seats_left plan.sessions (sessions H) _ _ c.self.inside.room _ _ (starts e) kept.10 some (c.self.inside.bookings.each.ok.0 ∙ kept.2.number) (is_below b plan H e legal) c.note_booking.ensures.number c.note_booking.ensures.capacity,
     )
 
 pub note_seat-requires-clause-room : goal.note_seat-requires-clause-room
@@ -75,7 +75,7 @@ note_booking-requires c =
     let e = c.args.entry in
     let legal : Legal b plan H e = subst (λ (book : Ledger). Legal book.bank book.plan book.entries e) (sym c.self.view_is) c.requires.legal in
     let some : 0 < c.self.inside.room = subst (λ (book : Ledger). 0 < book.room) (sym c.self.view_is) c.requires.room in
-    record { rising = kept.2.rising; room = λ start. seat_free plan.sessions (sessions H) _ _ c.self.inside.room kept.10 some (c.self.inside.bookings.ok.0 ∙ kept.2.number) (is_below b plan H e legal start) }
+    record { rising = kept.2.rising; same = c.self.inside.bookings.order.ok.0 ∙ (kept.2.ordered ∙ sym (c.self.inside.bookings.each.ok.0 ∙ kept.2.number)); room = λ start. seat_free plan.sessions (sessions H) _ _ c.self.inside.room kept.10 some (c.self.inside.bookings.each.ok.0 ∙ kept.2.number) (is_below b plan H e legal start) }
 
 pub totals_with-self-inside-requires : goal.totals_with-self-inside-requires
 totals_with-self-inside-requires c =

@@ -8,8 +8,9 @@ pub invariant_of-result : goal.invariant_of-result
 invariant_of-result c =
     let none = c.new-2.ensures in
     let seats = c.new-3.ensures.items in
-    let bookings = c.new-4.ensures.items in
-    rw (none, seats, bookings) (
+    let bookings = c.new-4.ensures.each in
+    let order = c.new-4.ensures.order in
+    rw (none, seats, bookings, order) (
       record { bank = c.items.ensures.bank; plan = c.requires; legal = empty },
       record { kept = no_kept c.args.spec.now; sums = no_sums c.args.bank.now c.args.spec.now },
       no_bookings,
