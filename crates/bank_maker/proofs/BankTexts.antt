@@ -18,7 +18,7 @@ use Rattle.bank_maker.specs.Banks.{record_text, row_fields, item_text, no_item, 
 use Rattle.bank_maker.proofs.ReadableBanks.{IsField, IsDrawn, stimulus_low, points_below, plain_number, fields_plain, fields_at, columns, name_plain, names_plain, at, rows_of_text, no_mark, all_read}
 
 -- ---- lists
-each_value : {X : Type 0} (P : X → Type 0) (xs : List X) (d : X) → AllByRecursion P xs → P d → (k : ℕ) → P (get_or xs k d)
+pub each_value : {X : Type 0} (P : X → Type 0) (xs : List X) (d : X) → AllByRecursion P xs → P d → (k : ℕ) → P (get_or xs k d)
 each_value P [] d h p k = p
 each_value P (x ∷ xs) d h p zero = h.0
 each_value P (x ∷ xs) d h p (suc k) = each_value P xs d h.1 p k

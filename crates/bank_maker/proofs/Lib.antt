@@ -5,3 +5,5 @@ mod ScriptLaws
 mod ReadableScripts
 mod ReadableBanks
 mod BankTexts
+mod BaseForms
+mod ReadPlans

@@ -4,3 +4,4 @@ pub mod Banks
 pub mod Plans
 pub mod Scripts
 pub mod Drills
+pub mod Exams

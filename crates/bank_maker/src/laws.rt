@@ -7,9 +7,13 @@ ghost use Rattle.replay_cli.specs.Scripts.{IsScript};
 ghost use Rattle.replay_cli.specs.Reading.{most_bytes};
 ghost use Rattle.bank_maker.specs.Draws.{draw, state_after};
 ghost use Rattle.bank_maker.specs.Items.{drawn, items, draws_of_items};
-ghost use Rattle.bank_maker.specs.Drills.{bank_of_drill, tables_of_drill, script_of_drill, requests_of_drill};
-ghost use Rattle.bank_maker.specs.Plans.{base_quantity};
+ghost use Rattle.bank_maker.specs.Drills.{bank_of_drill, tables_of_drill, plan_of_drill, script_of_drill, requests_of_drill};
+ghost use Rattle.bank_maker.specs.Plans.{base_quantity, plan};
 ghost use Rattle.bank_maker.specs.Scripts.{turns, requests_from};
+ghost use Rattle.bank_maker.specs.Exams.{IsPlanOfDrill};
+ghost use Rattle.exam_model.specs.Plan.{Plan};
+ghost use Rattle.spec_reader.specs.Plans.{plan_said};
+ghost use Rattle.spec_reader.specs.Reading.{IsPlanText, most_bytes as most_of_plan};
 
 /// Worked values of the drill of number 7, which `tools/drill_texts.py` computes from the rules alone.
 pub fn drill_of_seven()
@@ -33,4 +37,16 @@ pub fn a_script_is_read()
 /// The bank text of a drill is the text of its bank, by the grammar of bank texts.
 pub fn a_bank_is_read()
     ensures { (number : ℕ) → IsBankText (bank_of_drill number) (tables_of_drill number) }
+{}
+
+/// The plan text of a drill is a text of a plan that is valid for the drill's bank, and is short enough
+/// to be read. Each plan that it is a text of has the stated numbers, sets and base form.
+pub fn a_plan_is_read()
+    ensures plan { (number sessions : ℕ) → 1 ≤ sessions → sessions ≤ 200
+        → (p : Plan) × IsPlanOfDrill number sessions p }
+    ensures short { (number sessions : ℕ) → 1 ≤ sessions → sessions ≤ 200
+        → length (plan_of_drill number sessions) ≤ most_of_plan }
+    ensures one { (number sessions : ℕ) (p : Plan) → 1 ≤ sessions → sessions ≤ 200
+        → IsPlanText (tables_of_drill number) (plan_of_drill number sessions) p
+        → plan_said p ≡ plan number sessions (items number) }
 {}
