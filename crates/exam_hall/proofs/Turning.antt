@@ -22,7 +22,7 @@ use Rattle.exam_office.specs.Commits.{MayBeCommitted}
 use Rattle.exam_office.specs.declared.mark.Mark.{Mark}
 use Rattle.exam_office.specs.Marks.{history}
 use Rattle.exam_office.specs.Noting.{OpenedWith, noted, marks_of, opened_with}
-use Rattle.exam_office.specs.Running.{Running}
+use Rattle.exam_office.specs.Running.{HandedDisk, Running}
 use Rattle.exam_hall.specs.declared.asking.Begun.{Begun}
 use Rattle.exam_hall.specs.declared.asking.Begun.TheVariants.{Done, Waits}
 use Rattle.exam_hall.specs.declared.committing.Round.{Round}
@@ -32,25 +32,25 @@ use Rattle.exam_hall.specs.Turns.{Adds, Led, Ended, IsBegunAt, IsPlacedReply}
 use Rattle.exam_hall.proofs.Leading.{legal_before}
 use Rattle.exam_hall.proofs.Passes.{marks_noted, noted_number, noted_with}
 
-abbrev setting : Tables → Plan → List ℕ → Bool → ℕ → ℕ → OpenedWith
-setting b plan base tells identity faults = record { bank = b; plan = plan; base = base; tells = tells; identity = identity; faults = faults }
+abbrev setting : Tables → Plan → List ℕ → Bool → ℕ → HandedDisk → OpenedWith
+setting b plan base tells identity disk = record { bank = b; plan = plan; base = base; tells = tells; identity = identity; disk = disk }
 
-module _ {D : Type 0} (faults : D → ℕ) (old new : Running D) (a : Adds old new) where
+module _ {D : Type 0} (old new : Running D) (a : Adds old new) where
   abbrev was : OpenedWith
-  was = opened_with faults old
+  was = opened_with old
 
   abbrev now : OpenedWith
-  now = opened_with faults new
+  now = opened_with new
 
   -- no call changes what the office was opened with
   same_opening : now ≡ was
   same_opening =
-      ap (λ x. setting x new.plan new.base now.tells now.identity now.faults) a.same.bank
-      ∙ (ap (λ x. setting old.bank x new.base now.tells now.identity now.faults) a.same.plan
-      ∙ (ap (λ x. setting old.bank old.plan x now.tells now.identity now.faults) a.same.base
-      ∙ (ap (λ x. setting old.bank old.plan old.base x now.identity now.faults) a.frame.tells
-      ∙ (ap (λ x. setting old.bank old.plan old.base was.tells x now.faults) a.frame.identity
-      ∙ ap (λ (x : D). setting old.bank old.plan old.base was.tells was.identity (faults x)) a.same.opened))))
+      ap (λ x. setting x new.plan new.base now.tells now.identity now.disk) a.same.bank
+      ∙ (ap (λ x. setting old.bank x new.base now.tells now.identity now.disk) a.same.plan
+      ∙ (ap (λ x. setting old.bank old.plan x now.tells now.identity now.disk) a.same.base
+      ∙ (ap (λ x. setting old.bank old.plan old.base x now.identity now.disk) a.frame.tells
+      ∙ (ap (λ x. setting old.bank old.plan old.base was.tells x now.disk) a.frame.identity
+      ∙ ap (λ x. setting old.bank old.plan old.base was.tells was.identity x) a.same.opened))))
 
   pub grows_by : Grows (noted was old.marks) (noted now new.marks)
   grows_by = (
@@ -87,29 +87,29 @@ begun_so b plan q S T (Waits started P) (reply.At session at fresh) leads h =
 begun_so b plan q S T (Waits started P) (reply.Exposure exposure) leads h = absurd h
 begun_so b plan q S T (Waits started P) (reply.Refused r) leads h = absurd h
 
-pub first_made : {D : Type 0} (faults : D → ℕ) (old new : Running D) (q : Request) (answer : Reply) (begun : Begun) → Led q old new answer → LegalRun new.bank new.plan (history new.marks)
-    → IsBegunAt new.bank new.plan (history new.marks) answer begun → BeginsRequest q (noted (opened_with faults old) old.marks) (noted (opened_with faults new) new.marks) begun
-first_made faults old new q answer begun led run h =
+pub first_made : {D : Type 0} (old new : Running D) (q : Request) (answer : Reply) (begun : Begun) → Led q old new answer → LegalRun new.bank new.plan (history new.marks)
+    → IsBegunAt new.bank new.plan (history new.marks) answer begun → BeginsRequest q (noted (opened_with old) old.marks) (noted (opened_with new) new.marks) begun
+first_made old new q answer begun led run h =
     let there : IsBegunAt old.bank old.plan (history new.marks) answer begun =
     subst (λ (p : Plan). IsBegunAt old.bank p (history new.marks) answer begun) led.adds.same.plan (subst (λ (b : Tables). IsBegunAt b new.plan (history new.marks) answer begun) led.adds.same.bank h) in
-    goes_on faults old new led.adds (λ office S T. IsBegun office.bank office.plan q S T begun) run (begun_so old.bank old.plan q new.marks led.adds.added begun answer led.leads there)
+    goes_on old new led.adds (λ office S T. IsBegun office.bank office.plan q S T begun) run (begun_so old.bank old.plan q new.marks led.adds.added begun answer led.leads there)
 
 -- ---- the turn of a commit
-pub committable_now : {D : Type 0} (faults : D → ℕ) (office : Running D) (made : Assembly) → IsCommittable (noted (opened_with faults office) office.marks) made → MayBeCommitted office.bank office.plan office.base (history office.marks) made
-committable_now faults office made h =
-    let o = opened_with faults office in
+pub committable_now : {D : Type 0} (office : Running D) (made : Assembly) → IsCommittable (noted (opened_with office) office.marks) made → MayBeCommitted office.bank office.plan office.base (history office.marks) made
+committable_now office made h =
+    let o = opened_with office in
     let same : h.one.office ≡ o = noted_with o office.marks h.one h.there in
     subst (λ M. MayBeCommitted office.bank office.plan office.base (history M) made) (marks_noted o office.marks)
     (subst (λ (x : OpenedWith). MayBeCommitted x.bank x.plan x.base (history (marks_of (noted o office.marks))) made) same h.may)
 
-pub good_now : {D : Type 0} (faults : D → ℕ) (office : Running D) (made : Assembly) → IsCommittable (noted (opened_with faults office) office.marks) made → IsGoodFor office.base made
-good_now faults office made h =
-    let o = opened_with faults office in
+pub good_now : {D : Type 0} (office : Running D) (made : Assembly) → IsCommittable (noted (opened_with office) office.marks) made → IsGoodFor office.base made
+good_now office made h =
+    let o = opened_with office in
     subst (λ (x : OpenedWith). IsGoodFor x.base made) (noted_with o office.marks h.one h.there) h.good
 
-pub commit_made : {D : Type 0} (faults : D → ℕ) (old new : Running D) (made : Assembly) (round : Round) → Ended made.problem old new round → LegalRun new.bank new.plan (history new.marks)
-    → Commits made (noted (opened_with faults old) old.marks) (noted (opened_with faults new) new.marks) round
-commit_made faults old new made round e run = goes_on faults old new e.adds (λ office S T. EndsRound office.bank office.plan made.problem S T round × EndsGood office.bank office.plan office.base S T) run (e.ends, e.good)
+pub commit_made : {D : Type 0} (old new : Running D) (made : Assembly) (round : Round) → Ended made.problem old new round → LegalRun new.bank new.plan (history new.marks)
+    → Commits made (noted (opened_with old) old.marks) (noted (opened_with new) new.marks) round
+commit_made old new made round e run = goes_on old new e.adds (λ office S T. EndsRound office.bank office.plan made.problem S T round × EndsGood office.bank office.plan office.base S T) run (e.ends, e.good)
 
 -- ---- where the session is
 pub placed_reply : {D : Type 0} (old new : Running D) (q : Request) (answer : Reply) → Led q old new answer → IsPlacedReply new.plan (history new.marks) answer

@@ -66,8 +66,8 @@ impl<'a, D: Disk> Hall<'a, D> {
     ) -> Result<(Hall<'a, D>, Pass<Office<'a, D>>), Office<'a, D>>
         ensures pass { IfOk result (λ r. r.1
             ≡ new_pass r.0.lock 0
-            (noted (opened_with D.faults office.entry) office.entry.marks)) }
-        ensures office { IfOk result (λ r. IsOfficeOf (opened_with D.faults office.entry) r.0) }
+            (noted (opened_with office.entry) office.entry.marks)) }
+        ensures office { IfOk result (λ r. IsOfficeOf (opened_with office.entry) r.0) }
         ensures of { IfOk result (λ r. IsOf r.1 r.0) }
         ensures same { IfErr result (λ o. o ≡ office.entry) }
     {
@@ -117,7 +117,7 @@ impl<'a, D: Disk> Hall<'a, D> {
     /// Nothing is promised of marks that only other passes have seen: join every pass first.
     pub fn close<R: Wait>(self, rt: &R, pass: Pass<Office<'a, D>>) -> Office<'a, D>
         requires of { IsOf pass self }
-        ensures begins { StartsWith (noted (opened_with D.faults result) result.marks)
+        ensures begins { StartsWith (noted (opened_with result) result.marks)
             pass.entry.seen }
     {
         let Hall {

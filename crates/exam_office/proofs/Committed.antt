@@ -24,6 +24,7 @@ use Rattle.answer_journal.specs.Journal.{JournalState}
 use Rattle.exam_office.specs.declared.mark.Mark.{Mark}
 use Rattle.exam_office.specs.Marks.{history}
 use Rattle.exam_office.specs.Keeping.{IsKept}
+use Rattle.exam_office.specs.Running.{HandedDisk}
 use Rattle.exam_office.specs.Writing.{IsMended, sure, dropped, kept}
 use Rattle.exam_office.proofs.Marking.{history-adopted}
 use Rattle.history_model.specs.Places.{place}
@@ -111,7 +112,7 @@ mended_may b plan base M N doubt a (dropped entry) m = m
 mended_may b plan base M N doubt a (kept entry size) m = subst (λ (H : List Entry). MayBeCommitted b plan base H a) (sym (history-adopted M entry size)) (still_may b plan base (history M) (entry ∷ []) a m)
 
 -- the book that is asked is of the office's bank, plan and history
-module _ {D : Type 0} (b : Tables) (plan : Plan) (base : List ℕ) (book : Ledger) (j : JournalState D) (M : List Mark) (doubt : Option Entry) (count : ℕ) (all : IsKept b plan base book j M doubt count) where
+module _ {D : Type 0} (b : Tables) (plan : Plan) (base : List ℕ) (book : Ledger) (j : JournalState D) (M : List Mark) (doubt : Option Entry) (was : HandedDisk) (all : IsKept b plan base book j M doubt was) where
   pub run_of : IsExamination book → LegalRun b plan (history M)
   run_of exam = subst (λ (H : List Entry). LegalRun b plan H) all.entries (subst (λ (p : Plan). LegalRun b p book.entries) all.plan_is (subst (λ (t : Tables). LegalRun t book.plan book.entries) all.bank exam.legal))
 

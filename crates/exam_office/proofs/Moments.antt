@@ -41,6 +41,13 @@ module _ {D : Type 0} (b : Tables) (plan : Plan) (j : JournalState D) where
   pub mending_moments : (M : List Mark) (entry : Entry) (room : ℕ) (u : IsUnsure b plan M entry room j) (later : List Account) → AtEachMoment (accounts_of j) later (IsBeforeOrWith shadowj1 (map payload_of u.records) (payload_of u.last)) → AtEachMoment (accounts_of j) later (IsMending b plan (history M) (Some entry))
   mending_moments M entry room u later moments = weaker (IsBeforeOrWith shadowj1 (map payload_of u.records) (payload_of u.last)) (IsMending b plan (history M) (Some entry)) (mending_so M entry room u) (accounts_of j) later moments
 
+  -- the same, by the entry alone
+  pub in_hand_moments : (M : List Mark) (entry : Entry) (room : ℕ) (u : IsUnsure b plan M entry room j) (later : List Account) → AtEachMoment (accounts_of j) later (IsBeforeOrWith shadowj1 (map payload_of u.records) (payload_of u.last)) → AtEachMoment (accounts_of j) later (IsWriting b plan (history M) entry)
+  in_hand_moments M entry room u later moments =
+      weaker (IsBeforeOrWith shadowj1 (map payload_of u.records) (payload_of u.last)) (IsWriting b plan (history M) entry)
+      (λ file either. subst (λ (last : Entry). IsWriting b plan (history M) last file) u.is_entry (writes b plan (history M) u.records u.are u.last u.spells u.may file either))
+      (accounts_of j) later moments
+
   pub writing_moments : (H : List Entry) (s : IsSure b plan H j) (r : Record) → IsRecord r → MayFollow b plan H r.entry r.tree → (later : List Account) → IsTrue (tells_of j) → AtEachMoment (accounts_of j) later (IsBeforeOrWith shadowj1 (payloads_of j) (payload_of r)) → AtEachMoment (accounts_of j) later (IsWriting b plan H r.entry)
   writing_moments H s r spells may later told moments = weaker (IsBeforeOrWith shadowj1 (payloads_of j) (payload_of r)) (IsWriting b plan H r.entry) (λ file either. writes b plan H s.records s.are r spells may file (subst (λ (ps : List (List ℕ)). IsBeforeOrWith shadowj1 ps (payload_of r) file) (s.holds told) either)) (accounts_of j) later moments
 

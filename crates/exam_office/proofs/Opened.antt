@@ -8,13 +8,13 @@ use Rattle.bank_tables.specs.Items.{has}
 use Rattle.bank_tables.specs.Tables.{Tables}
 use Rattle.exam_model.specs.Plan.{Plan}
 use Rattle.exam_model.specs.Forms.{Meets}
-use Rattle.exam_edge.specs.Images.{Account, latest, AllImages, AtEachMoment}
+use Rattle.exam_edge.specs.Images.{Account, latest, AllImages, AtEachMoment, IsSettled}
 use Rattle.exam_edge.specs.ImageLaws.{joined, weaker}
 use Rattle.history_model.specs.declared.entry.Entry.{Entry}
 use Rattle.history_model.specs.Judging.{Record, Backed, empty}
 use Rattle.exam_session.specs.Ledgers.{Ledger}
 use Rattle.answer_journal.specs.declared.payload.Payload.{Payload}
-use Rattle.answer_journal.specs.Journal.{JournalState, length_of, limit_of, tells_of, payloads_of, IsReady, faults_of}
+use Rattle.answer_journal.specs.Journal.{JournalState, length_of, limit_of, tells_of, accounts_of, payloads_of, IsReady, faults_of}
 use Rattle.answer_journal.specs.Frames.{payloads, shadowj1}
 use Rattle.answer_journal.specs.OpenFault.{first_fault}
 use Rattle.answer_journal.specs.declared.open_fault.OpenFault.TheVariants.{TooLong}
@@ -29,6 +29,8 @@ use Rattle.exam_office.specs.declared.fault.OpenFault.TheVariants.{Journal as Of
 use Rattle.exam_office.specs.Files.{AreRecordsOf, Stands}
 use Rattle.exam_office.specs.Marks.{entry_of, history, size_after, reach, is_fault, AreMarks, opened, AreCounted}
 use Rattle.exam_office.specs.Keeping.{IsSure, IsKept}
+use Rattle.exam_office.specs.Moments.{AreMoments, opening}
+use Rattle.exam_office.specs.Running.{HandedDisk}
 use Rattle.exam_office.specs.Opening.{IsTaken, AreTaken, IsNotTaken, IsFirstRefused, IsRefusedFile, IsOpenAnswer}
 use Rattle.exam_office.proofs.Records.{are_more, stands_so}
 use Rattle.exam_office.proofs.Marking.{reach-push, faults-push}
@@ -89,7 +91,7 @@ no_faults-old (e ∷ H) = omega (arith, no_faults-old H)
 no_faults-opened : (H : List Entry) (size : ℕ) → count_by is_fault (map Old H ++ Opened size ∷ []) ≡ 0
 no_faults-opened H size = omega (arith, faults-push (map Old H) (Opened size), no_faults-old H)
 
-module _ {D : Type 0} (b : Tables) (plan : Plan) (base : List ℕ) (count : ℕ) (book : Ledger) (j : JournalState D) (read : List Payload) (marks : List Mark) (taken : AreTaken b plan read book.entries marks) where
+module _ {D : Type 0} (b : Tables) (plan : Plan) (base : List ℕ) (was : HandedDisk) (book : Ledger) (j : JournalState D) (read : List Payload) (marks : List Mark) (taken : AreTaken b plan read book.entries marks) where
   marks_are : (size : ℕ) → marks ++ Opened size ∷ [] ≡ map Old book.entries ++ Opened size ∷ []
   marks_are size = ap (λ (ms : List Mark). ms ++ Opened size ∷ []) taken.noted
 
@@ -99,9 +101,10 @@ module _ {D : Type 0} (b : Tables) (plan : Plan) (base : List ℕ) (count : ℕ)
   pub marks_told : (size : ℕ) → marks ++ Opened size ∷ [] ≡ map Old (history (marks ++ Opened size ∷ [])) ++ Opened (reach (marks ++ Opened size ∷ [])) ∷ []
   marks_told size = rw (history_is size, reach-push marks (Opened size)) (marks_are size)
 
-  pub kept_open : book.bank ≡ b → book.plan ≡ plan → IsReady j → limit_of j ≡ plan.journal → (IsTrue (tells_of j) → payloads_of j ≡ map payload_bytes read) → count ≤ faults_of j → Meets b plan (has base)
-      → IsKept b plan base book j (marks ++ Opened (length_of j) ∷ []) None count
-  kept_open bank plan_is ready limit keeps grows base_is =
+  pub kept_open : book.bank ≡ b → book.plan ≡ plan → IsReady j → limit_of j ≡ plan.journal → (IsTrue (tells_of j) → payloads_of j ≡ map payload_bytes read) → was.faults ≤ faults_of j → Meets b plan (has base)
+      → (IsTrue (tells_of j) → IsSettled was.content was.accounts → AtEachMoment was.accounts (accounts_of j) (Stands b plan book.entries))
+      → IsKept b plan base book j (marks ++ Opened (length_of j) ∷ []) None was
+  kept_open bank plan_is ready limit keeps grows base_is stands =
       let size = length_of j in
       record {
         bank = bank;
@@ -114,6 +117,7 @@ module _ {D : Type 0} (b : Tables) (plan : Plan) (base : List ℕ) (count : ℕ)
         grows = grows;
         backed = subst (λ (H : List Entry). IsSure b plan H j) (sym (history_is size)) (record { records = taken.records; are = taken.are; ready = ready; holds = λ told. keeps told ∙ sym taken.bytes });
         base_is = base_is;
+        moments = λ told settled. subst (λ (ms : List Mark). AreMoments b plan was.accounts ms (accounts_of j)) (sym (marks_are size)) (opening book.entries size (accounts_of j) (stands told settled));
       }
 
 -- ---- the file

@@ -16,29 +16,29 @@ use Rattle.exam_office.specs.declared.mark.Mark.{Mark}
 use Rattle.exam_office.specs.declared.mark.Mark.TheVariants.{Adopted, Fault}
 use Rattle.exam_office.specs.Files.{Stands}
 use Rattle.exam_office.specs.Marks.{history}
-use Rattle.exam_office.specs.Running.{Running}
+use Rattle.exam_office.specs.Running.{HandedDisk, Running}
 use Rattle.exam_office.specs.Keeping.{IsSure, IsUnsure, IsKept}
-use Rattle.exam_office.specs.Writing.{IsMending, IsMended, IsFaulted, sure, dropped, kept}
+use Rattle.exam_office.specs.Writing.{IsMending, IsWriting, IsMended, IsFaulted, sure, dropped, kept}
 use Rattle.exam_office.proofs.Kept.{kept_adopted, kept_dropped, kept_unmended}
-use Rattle.exam_office.proofs.Moments.{sure_images, still_sure, still_mending, mending_moments}
+use Rattle.exam_office.proofs.Moments.{sure_images, still_sure, still_mending, mending_moments, in_hand_moments}
 
-module _ {D : Type 0} (b : Tables) (plan : Plan) (base : List ℕ) (book : Ledger) (j : JournalState D) (M : List Mark) (doubt : Option Entry) (opened : D) (count : ℕ) (all : IsKept b plan base book j M doubt count)
-    (now : Running D) (view : record { bank = b; plan = plan; base = base; marks = M; doubt = doubt; journal = j; opened = opened } ≡ now) where
+module _ {D : Type 0} (b : Tables) (plan : Plan) (base : List ℕ) (book : Ledger) (j : JournalState D) (M : List Mark) (doubt : Option Entry) (was : HandedDisk) (all : IsKept b plan base book j M doubt was)
+    (now : Running D) (view : record { bank = b; plan = plan; base = base; marks = M; doubt = doubt; journal = j; opened = was } ≡ now) where
   told_here : IsTrue (tells_of now.journal) → IsTrue (tells_of j)
   told_here told = subst (λ (o : Running D). IsTrue (tells_of o.journal)) (sym view) told
 
   seen : (later : List Account) → AtEachMoment (accounts_of j) later (IsMending b plan (history M) doubt) → AtEachMoment (accounts_of now.journal) later (IsMending now.bank now.plan (history now.marks) now.doubt)
   seen later moments = subst (λ (o : Running D). AtEachMoment (accounts_of o.journal) later (IsMending o.bank o.plan (history o.marks) o.doubt)) view moments
 
-  pub images_settled : (j1 : JournalState D) (M1 : List Mark) (book1 : Ledger) → IsKept b plan base book1 j1 M1 None count → tells_of j1 ≡ tells_of j → IsTrue (tells_of now.journal) → AllImages (Stands now.bank now.plan (history M1)) (latest (accounts_of j1))
+  pub images_settled : (j1 : JournalState D) (M1 : List Mark) (book1 : Ledger) → IsKept b plan base book1 j1 M1 None was → tells_of j1 ≡ tells_of j → IsTrue (tells_of now.journal) → AllImages (Stands now.bank now.plan (history M1)) (latest (accounts_of j1))
   images_settled j1 M1 book1 kept1 tells told =
       subst (λ (o : Running D). AllImages (Stands o.bank o.plan (history M1)) (latest (accounts_of j1))) view
       (sure_images b plan j1 (history M1) kept1.backed (subst IsTrue (sym tells) (told_here told)))
 
   -- ---- nothing is in doubt
   module _ (none : doubt ≡ None) where
-    kept_none : IsKept b plan base book j M None count
-    kept_none = subst (λ (d : Option Entry). IsKept b plan base book j M d count) none all
+    kept_none : IsKept b plan base book j M None was
+    kept_none = subst (λ (d : Option Entry). IsKept b plan base book j M d was) none all
 
     pub mended_none : IsMended now.marks now.doubt now.marks
     mended_none = subst (λ (o : Running D). IsMended o.marks o.doubt o.marks) view (subst (λ (d : Option Entry). IsMended M d M) (sym none) sure)
@@ -54,8 +54,8 @@ module _ {D : Type 0} (b : Tables) (plan : Plan) (base : List ℕ) (book : Ledge
 
   -- ---- an entry is
   module _ (entry : Entry) (is : doubt ≡ Some entry) where
-    kept_some : IsKept b plan base book j M (Some entry) count
-    kept_some = subst (λ (d : Option Entry). IsKept b plan base book j M d count) is all
+    kept_some : IsKept b plan base book j M (Some entry) was
+    kept_some = subst (λ (d : Option Entry). IsKept b plan base book j M d was) is all
 
     unsure : IsUnsure b plan M entry book.room j
     unsure = kept_some.backed
@@ -89,23 +89,33 @@ module _ {D : Type 0} (b : Tables) (plan : Plan) (base : List ℕ) (book : Ledge
     pub mended_dropped : IsMended now.marks now.doubt M
     mended_dropped = subst (λ (o : Running D). IsMended o.marks o.doubt M) view (subst (λ (d : Option Entry). IsMended M d M) (sym is) (dropped entry))
 
+    in_hand : (j1 : JournalState D) → (IsTrue (tells_of j) → (ps : List (List ℕ)) (payload : List ℕ) → IsDoubtful ps payload j → AtEachMoment (accounts_of j) (accounts_of j1) (IsBeforeOrWith shadowj1 ps payload))
+        → IsTrue (tells_of j) → AtEachMoment (accounts_of j) (accounts_of j1) (IsWriting b plan (history M) entry)
+    in_hand j1 moments told =
+        in_hand_moments b plan j M entry book.room unsure (accounts_of j1) (moments told (map payload_of unsure.records) (payload_of unsure.last) unsure.doubtful)
+
     module _ (book1 : Ledger) (j1 : JournalState D) where
       pub kept_so : book1.bank ≡ book.bank → book1.plan ≡ book.plan → book1.entries ≡ book.entries ++ entry ∷ []
           → IsReady j1 → limit_of j1 ≡ limit_of j → faults_of j ≤ faults_of j1 → tells_of j1 ≡ tells_of j
           → (IsTrue (tells_of j) → (ps : List (List ℕ)) (payload : List ℕ) → IsDoubtful ps payload j → payloads_of j1 ≡ ps ++ payload ∷ [])
-          → IsKept b plan base book1 j1 (M ++ Adopted entry (length_of j1) ∷ []) None count
-      kept_so = kept_adopted b plan base count book book1 j j1 M entry kept_some
+          → (IsTrue (tells_of j) → (ps : List (List ℕ)) (payload : List ℕ) → IsDoubtful ps payload j → AtEachMoment (accounts_of j) (accounts_of j1) (IsBeforeOrWith shadowj1 ps payload))
+          → IsKept b plan base book1 j1 (M ++ Adopted entry (length_of j1) ∷ []) None was
+      kept_so bank plan_is entries ready limit grows tells mended moments =
+          kept_adopted b plan base was book book1 j j1 M entry kept_some bank plan_is entries ready limit grows tells mended (in_hand j1 moments)
 
       pub dropped_so : book1.bank ≡ book.bank → book1.plan ≡ book.plan → book1.entries ≡ book.entries
           → IsReady j1 → length_of j1 ≡ length_of j → limit_of j1 ≡ limit_of j → faults_of j ≤ faults_of j1 → tells_of j1 ≡ tells_of j
           → (IsTrue (tells_of j) → (ps : List (List ℕ)) (payload : List ℕ) → IsDoubtful ps payload j → payloads_of j1 ≡ ps)
-          → IsKept b plan base book1 j1 M None count
-      dropped_so = kept_dropped b plan base count book book1 j j1 M entry kept_some
+          → (IsTrue (tells_of j) → (ps : List (List ℕ)) (payload : List ℕ) → IsDoubtful ps payload j → AtEachMoment (accounts_of j) (accounts_of j1) (IsBeforeOrWith shadowj1 ps payload))
+          → IsKept b plan base book1 j1 M None was
+      dropped_so bank plan_is entries ready size limit grows tells mended moments =
+          kept_dropped b plan base was book book1 j j1 M entry kept_some bank plan_is entries ready size limit grows tells mended (in_hand j1 moments)
 
       pub still_so : book1.bank ≡ book.bank → book1.plan ≡ book.plan → book1.entries ≡ book.entries → book1.room ≡ book.room
-          → length_of j1 ≡ length_of j → limit_of j1 ≡ limit_of j → Rose (faults_of j) (faults_of j1) → faults_of j ≤ faults_of j1
+          → length_of j1 ≡ length_of j → limit_of j1 ≡ limit_of j → Rose (faults_of j) (faults_of j1) → faults_of j ≤ faults_of j1 → tells_of j1 ≡ tells_of j
           → ((ps : List (List ℕ)) (payload : List ℕ) → IsDoubtful ps payload j → IsDoubtful ps payload j1)
-          → IsKept b plan base book1 j1 (M ++ Fault entry ∷ []) doubt count
-      still_so bank plan_is entries room size limit rose grows still =
-          subst (λ (d : Option Entry). IsKept b plan base book1 j1 (M ++ Fault entry ∷ []) d count) (sym is)
-          (kept_unmended b plan base count book book1 j j1 M entry kept_some bank plan_is entries room size limit rose grows still)
+          → (IsTrue (tells_of j) → (ps : List (List ℕ)) (payload : List ℕ) → IsDoubtful ps payload j → AtEachMoment (accounts_of j) (accounts_of j1) (IsBeforeOrWith shadowj1 ps payload))
+          → IsKept b plan base book1 j1 (M ++ Fault entry ∷ []) doubt was
+      still_so bank plan_is entries room size limit rose grows tells still moments =
+          subst (λ (d : Option Entry). IsKept b plan base book1 j1 (M ++ Fault entry ∷ []) d was) (sym is)
+          (kept_unmended b plan base was book book1 j j1 M entry kept_some bank plan_is entries room size limit rose grows tells still (in_hand j1 moments))

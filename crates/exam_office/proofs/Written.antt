@@ -16,20 +16,20 @@ use Rattle.exam_office.specs.declared.mark.Mark.{Mark}
 use Rattle.exam_office.specs.declared.mark.Mark.TheVariants.{Own, Fault}
 use Rattle.exam_office.specs.Files.{Stands}
 use Rattle.exam_office.specs.Marks.{history}
-use Rattle.exam_office.specs.Running.{Running}
+use Rattle.exam_office.specs.Running.{HandedDisk, Running}
 use Rattle.exam_office.specs.Keeping.{IsSure, IsKept}
 use Rattle.exam_office.specs.Writing.{IsWriting}
 use Rattle.exam_office.proofs.Kept.{kept_own, kept_fault}
 use Rattle.exam_office.proofs.Moments.{sure_images, writing_moments, still_writing}
 
-module _ {D : Type 0} (b : Tables) (plan : Plan) (base : List ℕ) (book : Ledger) (j : JournalState D) (M : List Mark) (doubt : Option Entry) (opened : D) (count : ℕ) (kept : IsKept b plan base book j M doubt count)
-    (now : Running D) (view : record { bank = b; plan = plan; base = base; marks = M; doubt = doubt; journal = j; opened = opened } ≡ now)
+module _ {D : Type 0} (b : Tables) (plan : Plan) (base : List ℕ) (book : Ledger) (j : JournalState D) (M : List Mark) (doubt : Option Entry) (was : HandedDisk) (kept : IsKept b plan base book j M doubt was)
+    (now : Running D) (view : record { bank = b; plan = plan; base = base; marks = M; doubt = doubt; journal = j; opened = was } ≡ now)
     (sure : now.doubt ≡ None) (r : Record) (may : MayFollow now.bank now.plan (history now.marks) r.entry r.tree) where
   none : doubt ≡ None
   none = ap (λ (o : Running D). o.doubt) view ∙ sure
 
-  kept_sure : IsKept b plan base book j M None count
-  kept_sure = subst (λ (d : Option Entry). IsKept b plan base book j M d count) none kept
+  kept_sure : IsKept b plan base book j M None was
+  kept_sure = subst (λ (d : Option Entry). IsKept b plan base book j M d was) none kept
 
   may_here : MayFollow b plan (history M) r.entry r.tree
   may_here = subst (λ (o : Running D). MayFollow o.bank o.plan (history o.marks) r.entry r.tree) (sym view) may
@@ -48,23 +48,28 @@ module _ {D : Type 0} (b : Tables) (plan : Plan) (base : List ℕ) (book : Ledge
   moments_still told = subst (λ (o : Running D). AtEachMoment (accounts_of o.journal) (accounts_of o.journal) (IsWriting o.bank o.plan (history o.marks) r.entry)) view (still_writing b plan j (history M) r.entry kept_sure.backed (told_here told))
 
   -- while it is written
+  in_hand : (later : List Account) (payload : List ℕ) → payload ≡ payload_of r → IsRecord r → (IsTrue (tells_of j) → AtEachMoment (accounts_of j) later (IsBeforeOrWith shadowj1 (payloads_of j) payload)) → IsTrue (tells_of j) → AtEachMoment (accounts_of j) later (IsWriting b plan (history M) r.entry)
+  in_hand later payload is spells moments told =
+      writing_moments b plan j (history M) kept_sure.backed r spells may_here later told (subst (λ (p : List ℕ). AtEachMoment (accounts_of j) later (IsBeforeOrWith shadowj1 (payloads_of j) p)) is (moments told))
+
   pub moments_of : (later : List Account) (payload : List ℕ) → payload ≡ payload_of r → IsRecord r → (IsTrue (tells_of j) → AtEachMoment (accounts_of j) later (IsBeforeOrWith shadowj1 (payloads_of j) payload)) → IsTrue (tells_of now.journal) → AtEachMoment (accounts_of now.journal) later (IsWriting now.bank now.plan (history now.marks) r.entry)
-  moments_of later payload is spells moments told =
-      seen later (writing_moments b plan j (history M) kept_sure.backed r spells may_here later (told_here told) (subst (λ (p : List ℕ). AtEachMoment (accounts_of j) later (IsBeforeOrWith shadowj1 (payloads_of j) p)) is (moments (told_here told))))
+  moments_of later payload is spells moments told = seen later (in_hand later payload is spells moments (told_here told))
 
   -- it was written
   pub kept_written : (book1 : Ledger) (j1 : JournalState D) (payload : List ℕ) → payload ≡ payload_of r → IsRecord r
       → book1.bank ≡ book.bank → book1.plan ≡ book.plan → book1.entries ≡ book.entries ++ r.entry ∷ []
       → IsReady j1 → limit_of j1 ≡ limit_of j → faults_of j ≤ faults_of j1 → tells_of j1 ≡ tells_of j
       → (IsTrue (tells_of j) → payloads_of j1 ≡ payloads_of j ++ payload ∷ [])
-      → IsKept b plan base book1 j1 (M ++ Own r.entry (length_of j1) ∷ []) doubt count
-  kept_written book1 j1 payload is spells bank plan_is entries ready limit grows tells added =
-      subst (λ (d : Option Entry). IsKept b plan base book1 j1 (M ++ Own r.entry (length_of j1) ∷ []) d count) (sym none)
-      (kept_own b plan base count book book1 j j1 M kept_sure r spells may_here bank plan_is entries ready limit grows tells (λ told. added told ∙ ap (λ (p : List ℕ). payloads_of j ++ p ∷ []) is))
+      → (IsTrue (tells_of j) → AtEachMoment (accounts_of j) (accounts_of j1) (IsBeforeOrWith shadowj1 (payloads_of j) payload))
+      → IsKept b plan base book1 j1 (M ++ Own r.entry (length_of j1) ∷ []) doubt was
+  kept_written book1 j1 payload is spells bank plan_is entries ready limit grows tells added moments =
+      subst (λ (d : Option Entry). IsKept b plan base book1 j1 (M ++ Own r.entry (length_of j1) ∷ []) d was) (sym none)
+      (kept_own b plan base was book book1 j j1 M kept_sure r spells may_here bank plan_is entries ready limit grows tells (λ told. added told ∙ ap (λ (p : List ℕ). payloads_of j ++ p ∷ []) is)
+      (in_hand (accounts_of j1) payload is spells moments))
 
-  pub images_written : (j1 : JournalState D) (M1 : List Mark) (book1 : Ledger) → IsKept b plan base book1 j1 M1 doubt count → tells_of j1 ≡ tells_of j → IsTrue (tells_of now.journal) → AllImages (Stands now.bank now.plan (history M1)) (latest (accounts_of j1))
+  pub images_written : (j1 : JournalState D) (M1 : List Mark) (book1 : Ledger) → IsKept b plan base book1 j1 M1 doubt was → tells_of j1 ≡ tells_of j → IsTrue (tells_of now.journal) → AllImages (Stands now.bank now.plan (history M1)) (latest (accounts_of j1))
   images_written j1 M1 book1 kept1 tells told =
-      let k : IsKept b plan base book1 j1 M1 None count = subst (λ (d : Option Entry). IsKept b plan base book1 j1 M1 d count) none kept1 in
+      let k : IsKept b plan base book1 j1 M1 None was = subst (λ (d : Option Entry). IsKept b plan base book1 j1 M1 d was) none kept1 in
       subst (λ (o : Running D). AllImages (Stands o.bank o.plan (history M1)) (latest (accounts_of j1))) view
       (sure_images b plan j1 (history M1) k.backed (subst IsTrue (sym tells) (told_here told)))
 
@@ -72,6 +77,8 @@ module _ {D : Type 0} (b : Tables) (plan : Plan) (base : List ℕ) (book : Ledge
   pub kept_faulted : (book1 : Ledger) (j1 : JournalState D) (payload : List ℕ) → payload ≡ payload_of r → IsRecord r
       → book1.bank ≡ book.bank → book1.plan ≡ book.plan → book1.entries ≡ book.entries → 0 < book1.room
       → IsDoubtful (payloads_of j) payload j1 → length_of j1 ≡ length_of j → limit_of j1 ≡ limit_of j → Rose (faults_of j) (faults_of j1) → faults_of j ≤ faults_of j1 → tells_of j1 ≡ tells_of j
-      → IsKept b plan base book1 j1 (M ++ Fault r.entry ∷ []) (Some r.entry) count
-  kept_faulted book1 j1 payload is spells bank plan_is entries room doubtful size limit rose grows tells =
-      kept_fault b plan base count book book1 j j1 M kept_sure r spells may_here bank plan_is entries room (subst (λ (p : List ℕ). IsDoubtful (payloads_of j) p j1) is doubtful) size limit rose grows tells
+      → (IsTrue (tells_of j) → AtEachMoment (accounts_of j) (accounts_of j1) (IsBeforeOrWith shadowj1 (payloads_of j) payload))
+      → IsKept b plan base book1 j1 (M ++ Fault r.entry ∷ []) (Some r.entry) was
+  kept_faulted book1 j1 payload is spells bank plan_is entries room doubtful size limit rose grows tells moments =
+      kept_fault b plan base was book book1 j j1 M kept_sure r spells may_here bank plan_is entries room (subst (λ (p : List ℕ). IsDoubtful (payloads_of j) p j1) is doubtful) size limit rose grows tells
+      (in_hand (accounts_of j1) payload is spells moments)

@@ -2,18 +2,21 @@
 use Rattle.std.specs.Prelude.{◌≡◌, ℕ, ◌<◌, ◌≤◌, List, [], ◌∷◌, ◌++◌, map, Option, Some, None, IsTrue}
 use Rattle.bank_tables.specs.Items.{has}
 use Rattle.bank_tables.specs.Tables.{Tables}
+use Rattle.exam_edge.specs.Images.{IsSettled}
 use Rattle.exam_model.specs.Plan.{Plan}
 use Rattle.exam_model.specs.Forms.{Meets}
 use Rattle.history_model.specs.declared.entry.Entry.{Entry}
 use Rattle.history_model.specs.Judging.{Record, MayFollow}
 use Rattle.exam_session.specs.Ledgers.{Ledger}
-use Rattle.answer_journal.specs.Journal.{JournalState, length_of, limit_of, tells_of, payloads_of, IsReady, IsDoubtful, faults_of}
+use Rattle.answer_journal.specs.Journal.{JournalState, length_of, limit_of, tells_of, payloads_of, IsReady, IsDoubtful, accounts_of, faults_of}
 use Rattle.exam_records.specs.Spelling.{payload_of}
 use Rattle.exam_records.specs.Shape.{IsRecord}
 use Rattle.exam_office.specs.declared.mark.Mark.{Mark}
 use Rattle.exam_office.specs.declared.mark.Mark.TheVariants.{Fault}
 use Rattle.exam_office.specs.Files.{AreRecordsOf}
 use Rattle.exam_office.specs.Marks.{history, reach, AreMarks, AreCounted}
+use Rattle.exam_office.specs.Moments.{AreMoments}
+use Rattle.exam_office.specs.Running.{HandedDisk}
 
 -- nothing is in doubt: the journal holds records of the history
 pub record IsSure {D : Type 0} (b : Tables) (plan : Plan) (H : List Entry) (journal : JournalState D) : Type 0 where
@@ -40,16 +43,18 @@ abbrev pub IsBacked : {D : Type 0} → Tables → Plan → List Mark → ℕ →
 IsBacked b plan marks room journal None = IsSure b plan (history marks) journal
 IsBacked b plan marks room journal (Some entry) = IsUnsure b plan marks entry room journal
 
--- what its type keeps, with the disk's count of faults as it was at opening
+-- what its type keeps, with the disk as it was handed in
 pub record IsKept {D : Type 0} (b : Tables) (plan : Plan) (base : List ℕ) (book : Ledger) (journal : JournalState D) (marks : List Mark)
-    (doubt : Option Entry) (count : ℕ) : Type 0 where
+    (doubt : Option Entry) (opened : HandedDisk) : Type 0 where
   pub bank : book.bank ≡ b
   pub plan_is : book.plan ≡ plan
   pub entries : book.entries ≡ history marks
   pub size : length_of journal ≡ reach marks
   pub limit : limit_of journal ≡ plan.journal
   pub marks_are : AreMarks marks
-  pub counted : AreCounted marks count (faults_of journal)
-  pub grows : count ≤ faults_of journal
+  pub counted : AreCounted marks opened.faults (faults_of journal)
+  pub grows : opened.faults ≤ faults_of journal
   pub backed : IsBacked b plan marks book.room journal doubt
   pub base_is : Meets b plan (has base)
+  pub moments : IsTrue (tells_of journal) → IsSettled opened.content opened.accounts
+      → AreMoments b plan opened.accounts marks (accounts_of journal)

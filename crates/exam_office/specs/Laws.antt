@@ -8,6 +8,7 @@ use Rattle.constraint_model.specs.Views.{problem_of}
 use Rattle.history_model.specs.SessionProblems.{IsProblemOf}
 use Rattle.branch_bound.specs.Assembled.{Assembly}
 use Rattle.exam_edge.specs.Faults.{Rose}
+use Rattle.exam_edge.specs.Images.{Account, AtEachMoment}
 use Rattle.history_model.specs.declared.refusal.Refusal.{Refusal}
 use Rattle.history_model.specs.declared.refusal.Refusal.TheVariants.{Memory as OutOfMemory}
 use Rattle.history_model.specs.declared.request.Request.{Request}
@@ -20,8 +21,10 @@ use Rattle.exam_office.specs.Asking.{IsTooLongWith, IsSettled, IsAsked}
 use Rattle.exam_office.specs.Commits.{IsOfStart, MayBeCommitted}
 use Rattle.exam_office.specs.declared.fault.OpenFault.{OpenFault}
 use Rattle.exam_office.specs.declared.fault.OpenFault.TheVariants.{Disk, Memory}
+use Rattle.exam_office.specs.declared.mark.Mark.{Mark}
 use Rattle.exam_office.specs.Files.{Stands}
 use Rattle.exam_office.specs.Marks.{history}
+use Rattle.exam_office.specs.Moments.{AreMoments, IsLeftOnTheWay}
 use Rattle.exam_office.specs.Opening.{IsOpenAnswer}
 use Rattle.exam_office.specs.Running.{Running}
 
@@ -37,6 +40,12 @@ StandsForLegalRun = (b : Tables) (plan : Plan) (H : List Entry) (file : List ℕ
 abbrev pub StandingIsOpened : Type 0
 StandingIsOpened = (b : Tables) (plan : Plan) (H : List Entry) (file : List ℕ) (fault : OpenFault) → Stands b plan H file
     → length file ≤ plan.journal → IsOpenAnswer b plan file fault → (fault ≡ Disk) ⊎ (fault ≡ Memory)
+
+-- at each moment since the disk was handed in, each file that a crash may leave represents the history of the office's marks
+-- at some moment, or that with the one entry in doubt then
+abbrev pub EachMomentStands : Type 0
+EachMomentStands = (b : Tables) (plan : Plan) (before : List Account) (marks : List Mark) (now : List Account)
+    → AreMoments b plan before marks now → AtEachMoment before now (IsLeftOnTheWay b plan marks)
 
 -- what was assembled within the plan's budget for a session that waits for its item may be committed
 abbrev pub MayBeCommittedNow : Type 0

@@ -1,5 +1,6 @@
 pub mod Files
 pub mod Marks
+pub mod Moments
 pub mod Running
 pub mod Keeping
 pub mod Writing

@@ -6,17 +6,17 @@ use Rattle.answer_journal.specs.Journal.{tells_of, identity_of}
 use Rattle.history_model.specs.declared.entry.Entry.{Entry}
 use Rattle.exam_office.specs.declared.mark.Mark.{Mark}
 use Rattle.exam_office.specs.declared.mark.Mark.TheVariants.{Fault}
-use Rattle.exam_office.specs.Running.{Running}
+use Rattle.exam_office.specs.Running.{HandedDisk, Running}
 
 -- what no call of an office changes: the bank, the plan and the base form; whether its disk reports its content, which
--- object it is, and its count of faults when it was handed in
+-- object it is, and the disk as it was handed in
 pub record OpenedWith : Type 0 where
   pub bank : Tables
   pub plan : Plan
   pub base : List ℕ
   pub tells : Bool
   pub identity : ℕ
-  pub faults : ℕ
+  pub disk : HandedDisk
 
 -- a mark, and what its office was opened with
 pub record NotedMark : Type 0 where
@@ -29,16 +29,16 @@ noted office marks = map (λ (m : Mark). record { mark = m; office = office }) m
 abbrev pub marks_of : List NotedMark → List Mark
 marks_of seen = map (λ (n : NotedMark). n.mark) seen
 
--- what an office was opened with, by the faults that its disk counts
-abbrev pub opened_with : {D : Type 0} → (D → ℕ) → Running D → OpenedWith
-opened_with faults office =
+-- what an office was opened with
+abbrev pub opened_with : {D : Type 0} → Running D → OpenedWith
+opened_with office =
     record {
       bank = office.bank;
       plan = office.plan;
       base = office.base;
       tells = tells_of office.journal;
       identity = identity_of office.journal;
-      faults = faults office.opened;
+      disk = office.opened;
     }
 
 -- the last mark is a fault of the entry

@@ -1,6 +1,6 @@
 //! What the definitions imply, for every file, bank and plan.
 
-ghost use Rattle.exam_office.specs.Laws.{OneHistory, StandsForLegalRun, StandingIsOpened, MayBeCommittedNow, AskedIsAnswered};
+ghost use Rattle.exam_office.specs.Laws.{OneHistory, StandsForLegalRun, StandingIsOpened, EachMomentStands, MayBeCommittedNow, AskedIsAnswered};
 
 use exam_edge::Disk;
 
@@ -18,6 +18,12 @@ pub fn stands_for_legal_run()
 /// fault of the disk.
 pub fn standing_is_opened()
     ensures { StandingIsOpened }
+{}
+
+/// At each moment since the disk was handed in, each file that a crash may leave represents the
+/// history of the office's marks at some moment, or that with the one entry in doubt then.
+pub fn each_moment_stands()
+    ensures { EachMomentStands }
 {}
 
 /// What was assembled within the plan's budget for a session that waits for its item may be

@@ -20,6 +20,7 @@ pub struct Noted<'a, D: Disk> {
 
 impl<'a, D: Disk> Model for Noted<'a, D> {
     ghost use Rattle.exam_office.specs.Noting.{NotedMark};
+    ghost use Rattle.exam_office.specs.Running.{handed};
 
     ghost Value = { NotedMark };
 
@@ -31,7 +32,7 @@ impl<'a, D: Disk> Model for Noted<'a, D> {
         base = n.base;
         tells = D.tells n.opened.value;
         identity = D.identity n.opened.value;
-        faults = D.faults n.opened.value;
+        disk = handed D.content D.accounts D.faults n.opened.value;
       };
     } };
 }

@@ -28,13 +28,13 @@ pub struct Office<'a, D: Disk> {
 }
 
 impl<'a, D: Disk> Model for Office<'a, D> {
-    ghost use Rattle.exam_office.specs.Running.{Running};
+    ghost use Rattle.exam_office.specs.Running.{Running, handed};
     ghost use Rattle.exam_office.specs.Keeping.{IsKept};
 
     ghost Value = { Running D };
 
-    ghost view = { λ o. record { bank = o.bank.now; plan = o.spec.now; base = o.base; marks = o.marks; doubt = o.doubt; journal = o.journal; opened = o.opened.value } };
+    ghost view = { λ o. record { bank = o.bank.now; plan = o.spec.now; base = o.base; marks = o.marks; doubt = o.doubt; journal = o.journal; opened = handed D.content D.accounts D.faults o.opened.value } };
 
     ghost invariant = { λ o. IsKept o.bank.now o.spec.now o.base o.book o.journal o.marks o.doubt
-        (D.faults o.opened.value) };
+        (handed D.content D.accounts D.faults o.opened.value) };
 }

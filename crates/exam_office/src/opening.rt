@@ -16,6 +16,7 @@ ghost use Rattle.answer_journal.specs.Journal.{disk_of, tells_of, accounts_of, f
 ghost use Rattle.exam_office.specs.Writing.{IsMending};
 ghost use Rattle.exam_office.specs.Files.{Stands};
 ghost use Rattle.exam_office.specs.Marks.{history, reach};
+ghost use Rattle.exam_office.specs.Running.{handed};
 ghost use Rattle.exam_office.specs.Opening.{IsTaken, IsNotFollowing, AreTaken, IsNotTaken, IsFirstRefused, IsOpenAnswer};
 
 use crate::fault::OpenFault;
@@ -141,7 +142,8 @@ impl<'a, D: Disk> Office<'a, D> {
         ensures bank { IfOk result (λ office. office.bank ≡ bank.now) }
         ensures plan { IfOk result (λ office. office.plan ≡ spec.now) }
         ensures base { IfOk result (λ office. office.base ≡ base) }
-        ensures opened { IfOk result (λ office. office.opened ≡ disk) }
+        ensures opened { IfOk result (λ office. office.opened
+            ≡ handed D.content D.accounts D.faults disk) }
         ensures sure { IfOk result (λ office. office.doubt ≡ None) }
         ensures legal { IfOk result (λ office. LegalRun bank.now spec.now (history office.marks)) }
         ensures marks { IfOk result (λ office. office.marks ≡ map Old

@@ -1,6 +1,6 @@
 //! What an office reports, and what it was opened with.
 
-ghost use Rattle.std.specs.Prelude.{◌≡◌, ℕ, ◌≤◌, Some, IfOk, IfErr, IfSome, IfNone};
+ghost use Rattle.std.specs.Prelude.{◌≡◌, ℕ, ◌≤◌, Some, IsTrue, IfOk, IfErr, IfSome, IfNone};
 ghost use Rattle.exam_model.specs.Validity.{IsWellMade};
 ghost use Rattle.constraint_model.specs.Views.{problem_of};
 ghost use Rattle.history_model.specs.declared.place.Place.TheVariants.{Pending};
@@ -14,7 +14,9 @@ ghost use Rattle.exam_office.specs.Noting.{IsDoubtOf};
 ghost use Rattle.exam_model.specs.Forms.{Meets};
 ghost use Rattle.bank_tables.specs.Items.{has};
 ghost use Rattle.history_model.specs.Legality.{LegalRun};
-ghost use Rattle.answer_journal.specs.Journal.{faults_of};
+ghost use Rattle.exam_edge.specs.Images.{IsSettled};
+ghost use Rattle.exam_office.specs.Moments.{AreMoments};
+ghost use Rattle.answer_journal.specs.Journal.{tells_of, accounts_of, faults_of};
 
 use crate::office::Office;
 use bank_tables::{Bank, ItemSet, List};
@@ -96,15 +98,21 @@ impl<'a, D: Disk> Office<'a, D> {
 
     /// What the type keeps of the marks, as a law: the history is a legal run; the marks are in order; there are no more
     /// faults among them than the disk's count rose since it was handed in, and that count is no lower; an entry in doubt
-    /// is that of the last mark, a fault. The base is a form of the plan alone.
+    /// is that of the last mark, a fault. The base is a form of the plan alone. If the disk was settled when it was handed
+    /// in, then at each moment since, each file that a crash may leave represents the history of the marks so far, or that
+    /// with the one entry in hand.
     pub fn keeps(&self)
         ensures run { LegalRun self.now.bank self.now.plan (history self.now.marks) }
         ensures marks { AreMarks self.now.marks }
-        ensures counted { AreCounted self.now.marks (D.faults self.now.opened)
+        ensures counted { AreCounted self.now.marks self.now.opened.faults
             (faults_of self.now.journal) }
-        ensures grows { D.faults self.now.opened ≤ faults_of self.now.journal }
+        ensures grows { self.now.opened.faults ≤ faults_of self.now.journal }
         ensures doubt { IsDoubtOf self.now.marks self.now.doubt }
         ensures base { Meets self.now.bank self.now.plan (has self.now.base) }
+        ensures moments { IsTrue (tells_of self.now.journal)
+            → IsSettled self.now.opened.content self.now.opened.accounts
+            → AreMoments self.now.bank self.now.plan self.now.opened.accounts self.now.marks
+            (accounts_of self.now.journal) }
     {
         let _ = self.book.entries();
     }

@@ -14,7 +14,7 @@ impl<'a, D: Disk> Kept for Office<'a, D> {
 
     type Entry = Noted<'a, D>;
 
-    ghost history = { λ office. noted (opened_with D.faults office) office.marks };
+    ghost history = { λ office. noted (opened_with office) office.marks };
 
     fn history_len(&self) -> u64 {
         self.marks.count()

@@ -20,6 +20,7 @@ use Rattle.exam_office.specs.declared.mark.Mark.{Mark}
 use Rattle.exam_office.specs.declared.mark.Mark.TheVariants.{Old, Opened}
 use Rattle.exam_office.specs.Files.{Stands}
 use Rattle.exam_office.specs.Marks.{entry_of, history, reach, AreMarks, AreCounted}
+use Rattle.exam_office.specs.Moments.{AreMoments}
 use Rattle.exam_office.specs.Noting.{OpenedWith, NotedMark, noted, marks_of, opened_with, IsDoubtOf}
 use Rattle.exam_office.specs.Running.{Running}
 use Rattle.exam_office.specs.Writing.{IsMending}
@@ -31,7 +32,7 @@ use Rattle.exam_serve.proofs.Notes.{marks_noted}
 use Rattle.exam_program.specs.declared.halt.Halt.{Halt}
 use Rattle.exam_program.specs.declared.halt.Halt.TheVariants as halt
 use Rattle.exam_program.specs.Outcomes.{Outcome, without_memory, server_refused, server_without_journal, server_without_memory, PrintsBefore, Halts, EndsBy, Ends, IsStatus, IsStatusOfRun, IsStatusBefore}
-use Rattle.exam_program.specs.Outside.{Outside, DiskSeen, IsUntouched}
+use Rattle.exam_program.specs.Outside.{Outside, DiskSeen, IsUntouched, WasSettled}
 use Rattle.exam_program.specs.Runs.{RunEnds, idle, busy, EndsWith, IsLastOf, IsLastWritten, IsStatusOfServing}
 use Rattle.exam_program.specs.Serves.{IsServeOf, IsExamined, WorkSeen, IsLast, numbers, no_numbers, a_door, IsServedBy}
 use Rattle.exam_program.specs.Texts.{door_failed}
@@ -54,27 +55,28 @@ server_unopened words o told old new b p base is _ written (out_of_memory untouc
 
 -- ---- a journal that was opened
 -- what is known of an office when it was opened, and of it and its disk when they are handed back
-pub record IsClosed {D : Type 0} (faults : D → ℕ) (b : Tables) (p : Plan) (base : List ℕ) (disk : DiskSeen) (old new : Running D) : Type 0 where
+pub record IsClosed {D : Type 0} (b : Tables) (p : Plan) (base : List ℕ) (disk : DiskSeen) (old new : Running D) : Type 0 where
   pub bank : old.bank ≡ b
   pub plan_is : old.plan ≡ p
   pub base_is : old.base ≡ base
   pub told : tells_of old.journal ≡ disk.told
-  pub before : faults old.opened ≡ disk.before
+  pub handed : old.opened ≡ record { content = disk.found; accounts = disk.moments_before; faults = disk.before }
   pub found : IsTrue disk.told → Stands b p (history old.marks) disk.found
   pub short : IsTrue disk.told → length disk.found ≤ p.journal
   pub marks : old.marks ≡ map Old (history old.marks) ++ Opened (reach old.marks) ∷ []
-  pub same : opened_with faults new ≡ opened_with faults old
+  pub same : opened_with new ≡ opened_with old
   pub begins : StartsWith new.marks old.marks
   pub legal : LegalRun new.bank new.plan (history new.marks)
   pub doubt : IsDoubtOf new.marks new.doubt
   pub marks_are : AreMarks new.marks
-  pub counted : AreCounted new.marks (faults old.opened) disk.after
+  pub counted : AreCounted new.marks disk.before disk.after
   pub length_is : IsTrue disk.told → new.doubt ≡ None → length disk.left ≡ reach new.marks
   pub left : IsTrue disk.told → IsMending new.bank new.plan (history new.marks) new.doubt disk.left
   pub images : IsTrue disk.told → AllImages (IsMending new.bank new.plan (history new.marks) new.doubt) disk.images
+  pub moments : IsTrue disk.told → WasSettled disk → AreMoments new.bank new.plan disk.moments_before new.marks disk.moments
 
-module _ {D : Type 0} (faults : D → ℕ) (b : Tables) (p : Plan) (base : List ℕ) (disk : DiskSeen) (old new : Running D)
-    (k : IsClosed faults b p base disk old new) where
+module _ {D : Type 0} (b : Tables) (p : Plan) (base : List ℕ) (disk : DiskSeen) (old new : Running D)
+    (k : IsClosed b p base disk old new) where
   same_bank : new.bank ≡ b
   same_bank = ap (λ (w : OpenedWith). w.bank) k.same ∙ k.bank
 
@@ -85,13 +87,13 @@ module _ {D : Type 0} (faults : D → ℕ) (b : Tables) (p : Plan) (base : List 
   so : (P : Tables → Plan → Type 0) → P new.bank new.plan → P b p
   so P h = subst (λ (x : Tables). P x p) same_bank (subst (λ (y : Plan). P new.bank y) same_plan h)
 
-  pub examined_so : IsExamined b p base disk (notes_of faults old) (notes_of faults new) (history new.marks)
+  pub examined_so : IsExamined b p base disk (notes_of old) (notes_of new) (history new.marks)
   examined_so =
-      let office = opened_with faults old in
-      let noted_so : marks_of (notes_of faults new) ≡ new.marks = marks_noted (opened_with faults new) new.marks in
+      let office = opened_with old in
+      let noted_so : marks_of (notes_of new) ≡ new.marks = marks_noted (opened_with new) new.marks in
       record {
         office = office;
-        is_of = record { bank = k.bank; plan_is = k.plan_is; base_is = k.base_is; told = k.told; faults = k.before };
+        is_of = record { bank = k.bank; plan_is = k.plan_is; base_is = k.base_is; told = k.told; handed = k.handed };
         found = history old.marks;
         stands = k.found;
         short = k.short;
@@ -104,10 +106,13 @@ module _ {D : Type 0} (faults : D → ℕ) (b : Tables) (p : Plan) (base : List 
         doubt = new.doubt;
         doubt_is = subst (λ (m : List Mark). IsDoubtOf m new.doubt) (sym noted_so) k.doubt;
         marks_are = subst AreMarks (sym noted_so) k.marks_are;
-        counted = subst (λ (m : List Mark). AreCounted m (faults old.opened) disk.after) (sym noted_so) k.counted;
+        counted = subst (λ (m : List Mark). AreCounted m disk.before disk.after) (sym noted_so) k.counted;
         length_is = λ t sure. k.length_is t sure ∙ ap reach (sym noted_so);
         left = λ t. so (λ (x : Tables) (y : Plan). IsMending x y (history new.marks) new.doubt disk.left) (k.left t);
         images = λ t. so (λ (x : Tables) (y : Plan). AllImages (IsMending x y (history new.marks) new.doubt) disk.images) (k.images t);
+        moments = λ t settled.
+            so (λ (x : Tables) (y : Plan). AreMoments x y disk.moments_before (marks_of (notes_of new)) disk.moments)
+            (subst (λ (m : List Mark). AreMoments new.bank new.plan disk.moments_before m disk.moments) (sym noted_so) (k.moments t settled));
       }
 
 -- ---- what is printed in the end
@@ -147,18 +152,18 @@ last_part words o told old new result status text outcome (inr cut) = inr (
   },
 )
 
-module _ {A D K : Type 0} (disk_faults : A → ℕ) (tells : D → Bool) (coming returned : D → List K) (is_out : D → Bool)
+module _ {A D K : Type 0} (tells : D → Bool) (coming returned : D → List K) (is_out : D → Bool)
     (faults identity : D → ℕ) (link_tells : K → Bool) (left written : K → List ℕ) (link_faults link_identity : K → ℕ)
     (words : List (List ℕ)) (o : Outside) (told : Bool) (was now : List ℕ) (result : ℕ) (b : Tables) (p : Plan) (base : List ℕ)
     (is : IsServeOf words o b p base) (old new : Running A)
-    (examined : IsExamined b p base o.disk (notes_of disk_faults old) (notes_of disk_faults new) (history new.marks))
+    (examined : IsExamined b p base o.disk (notes_of old) (notes_of new) (history new.marks))
     (numbers_of : Summary) (are : numbers_of ≡ summary p (history new.marks)) (doors back : List D) (Unused : Type 0) where
   abbrev pub Served : List NotedMark → List NotedMark → Bool → Type 0
   Served opened closed cut =
       AreServed tells coming returned is_out faults identity link_tells left written link_faults link_identity opened closed doors back cut
 
   abbrev work_of : Bool → WorkSeen
-  work_of cut = record { opened = notes_of disk_faults old; closed = notes_of disk_faults new; failed = cut }
+  work_of cut = record { opened = notes_of old; closed = notes_of new; failed = cut }
 
   by_last : (cut : Bool) (status : ℕ) (text : List ℕ) → IsLast p (history new.marks) cut status text → IsServedBy words o (work_of cut) status text
   by_last cut status text last = record { b = b; plan = p; base = base; H = history new.marks; is = is; examined = examined; last = last }
@@ -174,7 +179,7 @@ module _ {A D K : Type 0} (disk_faults : A → ℕ) (tells : D → Bool) (coming
       (subst (λ (t : List ℕ). IsLast p (history new.marks) true 14 t) (sym e.1) a_door)
 
   pub ends_serving : (end : End)
-      → IsResult disk_faults tells coming returned is_out faults identity link_tells left written link_faults link_identity old doors new back end
+      → IsResult tells coming returned is_out faults identity link_tells left written link_faults link_identity old doors new back end
       → (end ≡ Memory → new ≡ old) → (end ≡ Memory → Unused) → EndsWith (IsLastOf end numbers_of) told was now result
       → RunEnds Served Unused words o told was now result
   ends_serving Done served none unused ends = busy (work_of false) served record {
@@ -190,11 +195,11 @@ module _ {A D K : Type 0} (disk_faults : A → ℕ) (tells : D → Bool) (coming
     written = ends.written;
   }
   ends_serving Memory served none unused ends =
-      let opened : IsExamined b p base o.disk (notes_of disk_faults old) (notes_of disk_faults old) (history old.marks) =
-      subst (λ (w : Running A). IsExamined b p base o.disk (notes_of disk_faults old) (notes_of disk_faults w) (history w.marks)) (none refl) examined in
+      let opened : IsExamined b p base o.disk (notes_of old) (notes_of old) (history old.marks) =
+      subst (λ (w : Running A). IsExamined b p base o.disk (notes_of old) (notes_of w) (history w.marks)) (none refl) examined in
       let outcome : Outcome words o ends.status ends.text =
       subst (λ (n : ℕ). Outcome words o n ends.text) (sym ends.is_allowed.0) (subst (λ (t : List ℕ). Outcome words o 10 t) (sym ends.is_allowed.1)
-      (server_without_memory b p base (notes_of disk_faults old) (history old.marks) is opened)) in
+      (server_without_memory b p base (notes_of old) (history old.marks) is opened)) in
       idle (unused refl) (last_part words o told was now result ends.status ends.text outcome ends.written)
 
 -- ---- the statuses

@@ -8,12 +8,13 @@ use Rattle.history_model.specs.Legality.{LegalRun}
 use Rattle.exam_office.specs.declared.mark.Mark.TheVariants.{Old, Opened}
 use Rattle.exam_office.specs.Files.{Stands}
 use Rattle.exam_office.specs.Marks.{history, reach, AreMarks, AreCounted}
+use Rattle.exam_office.specs.Moments.{AreMoments}
 use Rattle.exam_office.specs.Noting.{OpenedWith, NotedMark, noted, marks_of, IsDoubtOf}
 use Rattle.exam_office.specs.Writing.{IsMending}
 use Rattle.exam_program.specs.Bases.{IsBaseForm}
 use Rattle.command_line.specs.Commands.{Serve, command_of}
 use Rattle.exam_program.specs.Halts.{Reads}
-use Rattle.exam_program.specs.Outside.{Outside, DiskSeen}
+use Rattle.exam_program.specs.Outside.{Outside, DiskSeen, WasSettled}
 use Rattle.exam_program.specs.Texts.{door_failed}
 use Rattle.exam_lines.specs.Texts.{summary_text}
 use Rattle.exam_text.specs.Texts.{no_memory}
@@ -35,7 +36,7 @@ pub record IsOpenedOn (office : OpenedWith) (b : Tables) (plan : Plan) (base : L
   pub plan_is : office.plan ≡ plan
   pub base_is : office.base ≡ base
   pub told : office.tells ≡ disk.told
-  pub faults : office.faults ≡ disk.before
+  pub handed : office.disk ≡ record { content = disk.found; accounts = disk.moments_before; faults = disk.before }
 
 -- the marks of an office that was opened with a history, each with what the office was opened with
 pub record AreOpening (office : OpenedWith) (found : List Entry) (opened : List NotedMark)
@@ -47,7 +48,9 @@ pub record AreOpening (office : OpenedWith) (found : List Entry) (opened : List 
 -- office was opened. The office's marks at the close have the history H, a legal run that begins with
 -- the one that was found; they keep the rules of marks, and have no more faults than the disk counted.
 -- The file that is left, and each that a crash may leave, represents H, or H with the one entry in
--- doubt; with none in doubt its length is that of the last mark that has one
+-- doubt; with none in doubt its length is that of the last mark that has one. If the disk was settled,
+-- then at each moment of the run each file that a crash may leave represents the history of the marks
+-- so far, or that with the one entry in hand
 pub record IsExamined (b : Tables) (plan : Plan) (base : List ℕ) (disk : DiskSeen)
     (opened closed : List NotedMark) (H : List Entry) : Type 0 where
   pub office : OpenedWith
@@ -64,10 +67,12 @@ pub record IsExamined (b : Tables) (plan : Plan) (base : List ℕ) (disk : DiskS
   pub doubt : Option Entry
   pub doubt_is : IsDoubtOf (marks_of closed) doubt
   pub marks_are : AreMarks (marks_of closed)
-  pub counted : AreCounted (marks_of closed) office.faults disk.after
+  pub counted : AreCounted (marks_of closed) disk.before disk.after
   pub length_is : IsTrue disk.told → doubt ≡ None → length disk.left ≡ reach (marks_of closed)
   pub left : IsTrue disk.told → IsMending b plan H doubt disk.left
   pub images : IsTrue disk.told → AllImages (IsMending b plan H doubt) disk.images
+  pub moments : IsTrue disk.told → WasSettled disk
+      → AreMoments b plan disk.moments_before (marks_of closed) disk.moments
 
 -- the work at the doors: the marks of the office when the journal was opened, and at the close, each
 -- with what the office was opened with; and whether a door failed

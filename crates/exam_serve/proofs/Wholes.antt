@@ -76,21 +76,21 @@ module _ {D K : Type 0} (tells : D → Bool) (coming returned : D → List K) (i
   }
 
   -- the same as the result by how the work ended
-  result_at : {A : Type 0} (disk_faults : A → ℕ) (office closed : Running A) (doors back : List D) (failed : Bool)
-      → Served (notes_of disk_faults office) (notes_of disk_faults closed) doors back failed
-      → IsResult disk_faults tells coming returned is_out faults identity link_tells left written link_faults link_identity
+  result_at : {A : Type 0} (office closed : Running A) (doors back : List D) (failed : Bool)
+      → Served (notes_of office) (notes_of closed) doors back failed
+      → IsResult tells coming returned is_out faults identity link_tells left written link_faults link_identity
       office doors closed back (end_of failed)
-  result_at disk_faults office closed doors back true s = s
-  result_at disk_faults office closed doors back false s = s
+  result_at office closed doors back true s = s
+  result_at office closed doors back false s = s
 
-  pub result_of : {A : Type 0} (disk_faults : A → ℕ) (office closed : Running A) (doors back : List D) (failed : Bool) (end : End)
-      (pass : Known NotedMark) (first : List NotedMark) → end ≡ end_of failed → first ≡ notes_of disk_faults office
-      → StartsWith (notes_of disk_faults closed) pass.seen → Served first pass.seen doors back failed
-      → IsResult disk_faults tells coming returned is_out faults identity link_tells left written link_faults link_identity
+  pub result_of : {A : Type 0} (office closed : Running A) (doors back : List D) (failed : Bool) (end : End)
+      (pass : Known NotedMark) (first : List NotedMark) → end ≡ end_of failed → first ≡ notes_of office
+      → StartsWith (notes_of closed) pass.seen → Served first pass.seen doors back failed
+      → IsResult tells coming returned is_out faults identity link_tells left written link_faults link_identity
       office doors closed back end
-  result_of disk_faults office closed doors back failed end pass first e f more s =
-      subst (λ x. IsResult disk_faults tells coming returned is_out faults identity link_tells left written link_faults link_identity
+  result_of office closed doors back failed end pass first e f more s =
+      subst (λ x. IsResult tells coming returned is_out faults identity link_tells left written link_faults link_identity
       office doors closed back x) (sym e)
-      (result_at disk_faults office closed doors back failed
-      (subst (λ l. Served l (notes_of disk_faults closed) doors back failed) f
-      (served_closed first pass.seen (notes_of disk_faults closed) doors back failed more s)))
+      (result_at office closed doors back failed
+      (subst (λ l. Served l (notes_of closed) doors back failed) f
+      (served_closed first pass.seen (notes_of closed) doors back failed more s)))

@@ -102,11 +102,11 @@ where
     G: Gate + Sync,
     requires few { vec_len doors ≤ 65535 }
     requires home { All (λ d. L.is_out d ≡ false) doors.items }
-    // What no call changes: the bank, the plan and the base form, and which disk it is.
-    ensures same { opened_with D.faults result.office ≡ opened_with D.faults office.entry }
+    // What no call changes: the bank, the plan and the base form, which disk it is, and how that was handed in.
+    ensures same { opened_with result.office ≡ opened_with office.entry }
     // The office's marks at the close begin with those that it had at first.
     ensures begins { StartsWith result.office.marks office.entry.marks }
-    ensures result { IsResult D.faults L.tells L.coming L.returned L.is_out L.faults L.identity
+    ensures result { IsResult L.tells L.coming L.returned L.is_out L.faults L.identity
         L.Link.tells L.Link.left L.Link.written L.Link.faults L.Link.identity
         office.entry doors.items result.office result.doors.items result.end }
     // However it ended: each door is the same object, with no fewer faults, and no link of it is out.

@@ -1,10 +1,13 @@
-use Rattle.std.proofs.Common.{◌≡◌, ◌∙◌, ℕ, true, refl, sym, ap, subst, arith}
+use Rattle.std.proofs.Common.{◌≡◌, ◌∙◌, ℕ, List, true, refl, sym, ap, subst, arith}
+use Rattle.exam_edge.specs.Images.{Account, IsSettled}
 use Rattle.exam_model.specs.Plan.{Plan}
 use Rattle.history_model.specs.Summaries.{summary}
 use Rattle.exam_office.specs.declared.fault.OpenFault.TheVariants.{Disk as FailedDisk}
 use Rattle.exam_office.specs.Marks.{history, AreCounted}
-use Rattle.answer_journal.specs.Journal.{faults_of}
+use Rattle.answer_journal.specs.Journal.{accounts_of, faults_of}
+use Rattle.exam_office.specs.Moments.{AreMoments}
 use Rattle.exam_office.specs.Noting.{OpenedWith}
+use Rattle.exam_office.specs.Running.{HandedDisk, handed}
 use Rattle.exam_serve.specs.Results.{notes_of}
 use Rattle.exam_serve.proofs.Left.{still_lent}
 use Rattle.exam_program.specs.declared.halt.Halt.{Halt}
@@ -63,12 +66,13 @@ returns-clause-answers g c = λ words o is same.
     let done = c.serve_doors-office.ensures in
     let gone = c.into_disk-disk.ensures in
     let still = λ (t : disk.told ≡ true). gone.tells ∙ (ap (λ (w : OpenedWith). w.tells) done.same ∙ (opened.tells ∙ t)) in
-    let closed : IsClosed faults b plan base disk old new = record {
+    let handed_so : new.opened ≡ handed g.D.Disk.content g.D.Disk.accounts faults c.args.disk = ap (λ (w : OpenedWith). w.disk) done.same ∙ opened.opened in
+    let closed : IsClosed b plan base disk old new = record {
       bank = opened.bank;
       plan_is = opened.plan;
       base_is = opened.base;
       told = opened.tells;
-      before = ap faults opened.opened;
+      handed = opened.opened;
       found = opened.stands;
       short = opened.short;
       marks = opened.marks;
@@ -77,15 +81,19 @@ returns-clause-answers g c = λ words o is same.
       legal = c.keeps.ensures.run;
       doubt = c.keeps.ensures.doubt;
       marks_are = c.keeps.ensures.marks;
-      counted = subst (λ (n : ℕ). AreCounted new.marks (faults old.opened) n) (sym gone.faults) (subst (λ (n : ℕ). AreCounted new.marks n (faults_of new.journal)) (ap (λ (w : OpenedWith). w.faults) done.same) c.keeps.ensures.counted);
+      counted = subst (λ (n : ℕ). AreCounted new.marks (faults c.args.disk) n) (sym gone.faults) (subst (λ (d : HandedDisk). AreCounted new.marks d.faults (faults_of new.journal)) handed_so c.keeps.ensures.counted);
       length_is = λ t. gone.length (still t);
       left = λ t. gone.content (still t);
       images = λ t. gone.images (still t);
+      moments = λ t settled.
+          subst (λ (accounts : List Account). AreMoments new.bank new.plan disk.moments_before new.marks accounts) (sym gone.accounts)
+          (subst (λ (d : HandedDisk). IsSettled d.content d.accounts → AreMoments new.bank new.plan d.accounts new.marks (accounts_of new.journal)) handed_so
+          (c.keeps.ensures.moments (sym gone.tells ∙ still t)) settled);
     } in
-    let examined = subst (λ (d : DiskSeen). IsExamined b plan base d (notes_of faults old) (notes_of faults new) (history new.marks)) (sym same)
-    (examined_so faults b plan base disk old new closed) in
-    let are = c.summary-summary.ensures ∙ ap (λ (p : Plan). summary p (history new.marks)) (same_plan faults b plan base disk old new closed) in
-    ends_serving faults g.L.Door.tells g.L.Door.coming g.L.Door.returned g.L.Door.is_out g.L.Door.faults g.L.Door.identity
+    let examined = subst (λ (d : DiskSeen). IsExamined b plan base d (notes_of old) (notes_of new) (history new.marks)) (sym same)
+    (examined_so b plan base disk old new closed) in
+    let are = c.summary-summary.ensures ∙ ap (λ (p : Plan). summary p (history new.marks)) (same_plan b plan base disk old new closed) in
+    ends_serving g.L.Door.tells g.L.Door.coming g.L.Door.returned g.L.Door.is_out g.L.Door.faults g.L.Door.identity
     g.L.Link.Link.tells g.L.Link.Link.left g.L.Link.Link.written g.L.Link.Link.faults g.L.Link.Link.identity
     words o told was (g.O.Sink.written c.end_with.new.out) c.end_with.result b plan base is old new examined c.summary-summary.result are
     c.args.doors.items back.items (back ≡ c.args.doors) end done.result (λ e. (done.unused e).0) (λ e. (done.unused e).1) c.end_with.ensures.printed
@@ -98,8 +106,8 @@ returns-clause-disk g c =
     let opened = c.in-Ok.ensures in
     let done = c.serve_doors-office.ensures in
     let gone = c.into_disk-disk.ensures in
-    let before : g.D.Disk.faults c.serve_doors-office.result.office.opened ≡ g.D.Disk.faults c.args.disk =
-    ap (λ (w : OpenedWith). w.faults) done.same ∙ ap g.D.Disk.faults opened.opened in
+    let before : c.serve_doors-office.result.office.opened.faults ≡ g.D.Disk.faults c.args.disk =
+    ap (λ (w : OpenedWith). w.disk.faults) done.same ∙ ap (λ (d : HandedDisk). d.faults) opened.opened in
     record {
       grows = omega (arith, c.keeps.ensures.grows, before, gone.faults);
       tells = gone.tells ∙ (ap (λ (w : OpenedWith). w.tells) done.same ∙ opened.tells);

@@ -15,8 +15,8 @@ pub returns-clause-same : goal.returns-clause-same
 returns-clause-same g c =
     let first = c.in-Ok-new.made.1 in
     let last = c.serve_at-failed.new.pass in
-    let begun : first.seen ≡ notes_of g.D.Disk.faults c.args.office = ap (λ p. p.seen) c.in-Ok-new.ensures.pass in
-    same_office (opened_with g.D.Disk.faults c.args.office) (opened_with g.D.Disk.faults c.close-office.result)
+    let begun : first.seen ≡ notes_of c.args.office = ap (λ p. p.seen) c.in-Ok-new.ensures.pass in
+    same_office (opened_with c.args.office) (opened_with c.close-office.result)
     c.args.office.marks c.close-office.result.marks first.seen begun c.in-Ok-new.ensures.of.opening.noted
     (starts_through _ last.seen _ c.close-office.ensures.begins
     (subst (λ l. StartsWith last.seen l) begun c.serve_at-failed.ensures.served.grows))
@@ -25,8 +25,8 @@ pub returns-clause-begins : goal.returns-clause-begins
 returns-clause-begins g c =
     let first = c.in-Ok-new.made.1 in
     let last = c.serve_at-failed.new.pass in
-    let begun : first.seen ≡ notes_of g.D.Disk.faults c.args.office = ap (λ p. p.seen) c.in-Ok-new.ensures.pass in
-    begins_marks (opened_with g.D.Disk.faults c.args.office) (opened_with g.D.Disk.faults c.close-office.result)
+    let begun : first.seen ≡ notes_of c.args.office = ap (λ p. p.seen) c.in-Ok-new.ensures.pass in
+    begins_marks (opened_with c.args.office) (opened_with c.close-office.result)
     c.args.office.marks c.close-office.result.marks
     (starts_through _ last.seen _ c.close-office.ensures.begins
     (subst (λ l. StartsWith last.seen l) begun c.serve_at-failed.ensures.served.grows))
@@ -35,10 +35,10 @@ pub returns-clause-result : goal.returns-clause-result
 returns-clause-result g c =
     let first = c.in-Ok-new.made.1 in
     let last = c.serve_at-failed.new.pass in
-    let begun : first.seen ≡ notes_of g.D.Disk.faults c.args.office = ap (λ p. p.seen) c.in-Ok-new.ensures.pass in
+    let begun : first.seen ≡ notes_of c.args.office = ap (λ p. p.seen) c.in-Ok-new.ensures.pass in
     result_of g.L.Door.tells g.L.Door.coming g.L.Door.returned g.L.Door.is_out g.L.Door.faults g.L.Door.identity
     g.L.Link.Link.tells g.L.Link.Link.left g.L.Link.Link.written g.L.Link.Link.faults g.L.Link.Link.identity
-    g.D.Disk.faults c.args.office c.close-office.result c.args.doors.items c.serve_at-failed.new.doors.items
+    c.args.office c.close-office.result c.args.doors.items c.serve_at-failed.new.doors.items
     c.serve_at-failed.result c.end_of.result last first.seen c.end_of.ensures begun c.close-office.ensures.begins
     c.serve_at-failed.ensures.served
 

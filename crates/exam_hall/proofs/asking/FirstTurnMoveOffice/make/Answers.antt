@@ -2,10 +2,10 @@ use Rattle.exam_hall.proofs.Turning.{grows_by, first_made, placed_reply}
 use Rattle.exam_hall.proofs.asking.FirstTurnMoveOffice.make.Goals as goal
 
 pub returns-clause-grows : goal.returns-clause-grows
-returns-clause-grows g c = grows_by g.D.Disk.faults c.args.value.now c.lead-reply.new.office c.lead-reply.ensures.adds
+returns-clause-grows g c = grows_by c.args.value.now c.lead-reply.new.office c.lead-reply.ensures.adds
 
 pub returns-clause-makes : goal.returns-clause-makes
-returns-clause-makes g c = first_made g.D.Disk.faults c.args.value.now c.lead-reply.new.office c.args.self.now.request c.lead-reply.result c.begun_by.result c.lead-reply.ensures c.keeps.ensures.run c.begun_by.ensures
+returns-clause-makes g c = first_made c.args.value.now c.lead-reply.new.office c.args.self.now.request c.lead-reply.result c.begun_by.result c.lead-reply.ensures c.keeps.ensures.run c.begun_by.ensures
 
 pub begun_by-requires : goal.begun_by-requires
 begun_by-requires g c = placed_reply c.args.value.now c.lead-reply.new.office c.args.self.now.request c.lead-reply.result c.lead-reply.ensures

@@ -6,7 +6,7 @@ use Rattle.branch_bound.specs.Assemblies.{IsAssembly}
 use Rattle.history_model.specs.Legality.{LegalRun}
 use Rattle.history_model.specs.SessionProblems.{IsProblemOf}
 use Rattle.exam_office.specs.Marks.{history}
-use Rattle.exam_office.specs.Running.{Running}
+use Rattle.exam_office.specs.Running.{Running, handed}
 use Rattle.exam_office.specs.Serving.{IsAssembledFor}
 use Rattle.exam_office.proofs.Committed.{run_of, problem_in}
 use Rattle.exam_office.proofs.Assembling.{assembled_so}
@@ -19,11 +19,11 @@ returns-in-Ok-clause-assembled g c =
     let plan = o.spec.now in
     let H = history o.marks in
     let s = c.args.session in
-    let count = g.D.Disk.faults o.opened.value in
-    let run : LegalRun b plan H = run_of b plan o.base o.book o.journal o.marks o.doubt count c.self.invariant c.entries.ensures.examination in
+    let was = handed g.D.Disk.content g.D.Disk.accounts g.D.Disk.faults o.opened.value in
+    let run : LegalRun b plan H = run_of b plan o.base o.book o.journal o.marks o.doubt was c.self.invariant c.entries.ensures.examination in
     let p = c.in-Some.problem in
     let a = c.in-Ok.assembled in
-    let found : IsProblemOf b plan H s p.step (problem_of p) = problem_in b plan o.base o.book o.journal o.marks o.doubt count c.self.invariant s p.step (problem_of p) c.in-Some.ensures.problem in
+    let found : IsProblemOf b plan H s p.step (problem_of p) = problem_in b plan o.base o.book o.journal o.marks o.doubt was c.self.invariant s p.step (problem_of p) c.in-Some.ensures.problem in
     let asked : IsProblemOf b plan H s a.problem.step (problem_of a.problem) = subst (λ (q : Given). IsProblemOf b plan H s q.step (problem_of q)) (sym c.in-Ok.ensures.problem) found in
     let shown : IsAssembly (problem_of a.problem) (Some (has o.base)) c.budget.result a.tree a.outcome =
     subst (λ (q : Given). IsAssembly (problem_of q) (Some (has o.base)) c.budget.result a.tree a.outcome) (sym c.in-Ok.ensures.problem) c.in-Ok.ensures.assembly in

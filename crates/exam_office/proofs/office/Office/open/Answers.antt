@@ -4,7 +4,7 @@ use Rattle.answer_journal.specs.Frames.{payloads, shadowj1}
 use Rattle.answer_journal.specs.Payload.{bytes_of as payload_bytes}
 use Rattle.bank_tables.specs.Tables.{Tables}
 use Rattle.exam_model.specs.Plan.{Plan}
-use Rattle.exam_edge.specs.Images.{Account, AtEachMoment}
+use Rattle.exam_edge.specs.Images.{Account, AtEachMoment, IsSettled}
 use Rattle.history_model.specs.declared.entry.Entry.{Entry}
 use Rattle.answer_journal.specs.declared.payload.Payload.{Payload}
 use Rattle.history_model.specs.Legality.{LegalRun}
@@ -16,6 +16,7 @@ use Rattle.exam_office.specs.Marks.{history, reach}
 use Rattle.exam_office.specs.Keeping.{IsKept}
 use Rattle.exam_office.specs.Opening.{AreTaken}
 use Rattle.exam_office.proofs.Opened.{history_is, marks_told, kept_open, same_payloads, stood, stands_while_read, stands_while_opened, short_so}
+use Rattle.exam_office.specs.Running.{handed}
 use Rattle.exam_office.proofs.office.Office.open.Goals as goal
 
 -- a record is refused
@@ -50,20 +51,26 @@ invariant_of-result g c =
     let book = c.take_all.new.book in
     let marks = c.take_all.new.marks in
     let size = j.size in
-    let count = g.D.Disk.faults c.of-opened.result.value in
+    let was = handed g.D.Disk.content g.D.Disk.accounts g.D.Disk.faults c.of-opened.result.value in
     let taken : AreTaken b plan read book.entries marks =
     subst (λ (ps : List Payload). AreTaken b plan ps book.entries marks) c.deref.ensures.value
     (subst (λ (p : Plan). AreTaken b p c.deref.result.now book.entries marks) c.in-Ok-new.ensures.plan
     (subst (λ (t : Tables). AreTaken t c.in-Ok-new.book.plan c.deref.result.now book.entries marks) c.in-Ok-new.ensures.bank c.in-Ok-take_all.ensures.taken)) in
     let noted : c.note.new.marks ≡ marks ++ Opened size ∷ [] = c.in-Ok-note.ensures.noted ∙ ap (λ (n : ℕ). marks ++ Opened n ∷ []) (c.length.ensures ∙ sym c.in-Ok-finish.ensures.length) in
-    subst (λ (ms : List Mark). IsKept b plan c.args.base book j ms None count) (sym noted)
-    (kept_open b plan c.args.base count book j read marks taken (c.take_all.ensures.bank ∙ c.in-Ok-new.ensures.bank) (c.take_all.ensures.plan ∙ c.in-Ok-new.ensures.plan) c.in-Ok-finish.ensures.ready (c.in-Ok-finish.ensures.limit ∙ c.in-Ok.ensures.limit ∙ c.journal.ensures)
+    subst (λ (ms : List Mark). IsKept b plan c.args.base book j ms None was) (sym noted)
+    (kept_open b plan c.args.base was book j read marks taken (c.take_all.ensures.bank ∙ c.in-Ok-new.ensures.bank) (c.take_all.ensures.plan ∙ c.in-Ok-new.ensures.plan) c.in-Ok-finish.ensures.ready (c.in-Ok-finish.ensures.limit ∙ c.in-Ok.ensures.limit ∙ c.journal.ensures)
     (λ told_now.
     let told_then : IsTrue (g.D.Disk.tells opening.disk) = subst IsTrue c.in-Ok-finish.ensures.tells told_now in
     let told : IsTrue (g.D.Disk.tells c.args.disk) = subst IsTrue c.in-Ok.ensures.frame.tells told_then in
     same_payloads (g.D.Disk.content c.args.disk) (g.D.Disk.content opening.disk) _ (map payload_bytes read) (c.in-Ok.ensures.gives told) (c.in-Ok.ensures.untouched told) (c.in-Ok-finish.ensures.keeps told_then))
     (subst (λ (d : g.row.D.Denot). g.D.Disk.faults d ≤ faults_of j) (sym c.of-opened.ensures) (omega (arith, c.in-Ok.ensures.frame.grows, c.in-Ok-finish.ensures.grows)))
-    c.requires.base)
+    c.requires.base
+    (λ told_now.
+    let told_then : IsTrue (g.D.Disk.tells opening.disk) = subst IsTrue c.in-Ok-finish.ensures.tells told_now in
+    let told : IsTrue (g.D.Disk.tells c.args.disk) = subst IsTrue c.in-Ok.ensures.frame.tells told_then in
+    subst (λ (d : g.row.D.Denot). IsSettled (g.D.Disk.content d) (g.D.Disk.accounts d) → AtEachMoment (g.D.Disk.accounts d) (accounts_of j) (Stands b plan book.entries)) (sym c.of-opened.ensures)
+    (λ settled. stands_while_opened b plan book.entries (g.D.Disk.content c.args.disk) (g.D.Disk.content opening.disk) (g.D.Disk.accounts c.args.disk) (g.D.Disk.accounts opening.disk) (accounts_of j)
+    (stood b plan read book.entries marks (g.D.Disk.content c.args.disk) taken (c.in-Ok.ensures.gives told)) (c.in-Ok.ensures.settled told settled) (c.in-Ok.ensures.untouched told) (c.in-Ok-finish.ensures.moments told_then))))
 
 pub returns-clause-marks : goal.returns-clause-marks
 returns-clause-marks g c =
@@ -75,13 +82,13 @@ returns-clause-marks g c =
     let book = c.take_all.new.book in
     let marks = c.take_all.new.marks in
     let size = j.size in
-    let count = g.D.Disk.faults c.of-opened.result.value in
+    let was = handed g.D.Disk.content g.D.Disk.accounts g.D.Disk.faults c.of-opened.result.value in
     let taken : AreTaken b plan read book.entries marks =
     subst (λ (ps : List Payload). AreTaken b plan ps book.entries marks) c.deref.ensures.value
     (subst (λ (p : Plan). AreTaken b p c.deref.result.now book.entries marks) c.in-Ok-new.ensures.plan
     (subst (λ (t : Tables). AreTaken t c.in-Ok-new.book.plan c.deref.result.now book.entries marks) c.in-Ok-new.ensures.bank c.in-Ok-take_all.ensures.taken)) in
     let noted : c.note.new.marks ≡ marks ++ Opened size ∷ [] = c.in-Ok-note.ensures.noted ∙ ap (λ (n : ℕ). marks ++ Opened n ∷ []) (c.length.ensures ∙ sym c.in-Ok-finish.ensures.length) in
-    subst (λ (ms : List Mark). ms ≡ map Old (history ms) ++ Opened (reach ms) ∷ []) (sym noted) (marks_told b plan c.args.base count book j read marks taken size)
+    subst (λ (ms : List Mark). ms ≡ map Old (history ms) ++ Opened (reach ms) ∷ []) (sym noted) (marks_told b plan c.args.base was book j read marks taken size)
 
 pub returns-clause-stands : goal.returns-clause-stands
 returns-clause-stands g c = λ told.
@@ -93,13 +100,13 @@ returns-clause-stands g c = λ told.
     let book = c.take_all.new.book in
     let marks = c.take_all.new.marks in
     let size = j.size in
-    let count = g.D.Disk.faults c.of-opened.result.value in
+    let was = handed g.D.Disk.content g.D.Disk.accounts g.D.Disk.faults c.of-opened.result.value in
     let taken : AreTaken b plan read book.entries marks =
     subst (λ (ps : List Payload). AreTaken b plan ps book.entries marks) c.deref.ensures.value
     (subst (λ (p : Plan). AreTaken b p c.deref.result.now book.entries marks) c.in-Ok-new.ensures.plan
     (subst (λ (t : Tables). AreTaken t c.in-Ok-new.book.plan c.deref.result.now book.entries marks) c.in-Ok-new.ensures.bank c.in-Ok-take_all.ensures.taken)) in
     let noted : c.note.new.marks ≡ marks ++ Opened size ∷ [] = c.in-Ok-note.ensures.noted ∙ ap (λ (n : ℕ). marks ++ Opened n ∷ []) (c.length.ensures ∙ sym c.in-Ok-finish.ensures.length) in
-    let told_history : history c.note.new.marks ≡ book.entries = ap history noted ∙ history_is b plan c.args.base count book j read marks taken size in
+    let told_history : history c.note.new.marks ≡ book.entries = ap history noted ∙ history_is b plan c.args.base was book j read marks taken size in
     subst (λ (H : List Entry). Stands b plan H (g.D.Disk.content c.args.disk)) (sym told_history) (stood b plan read book.entries marks (g.D.Disk.content c.args.disk) taken (c.in-Ok.ensures.gives told))
 
 pub returns-clause-images : goal.returns-clause-images
@@ -112,13 +119,13 @@ returns-clause-images g c = λ told file i.
     let book = c.take_all.new.book in
     let marks = c.take_all.new.marks in
     let size = j.size in
-    let count = g.D.Disk.faults c.of-opened.result.value in
+    let was = handed g.D.Disk.content g.D.Disk.accounts g.D.Disk.faults c.of-opened.result.value in
     let taken : AreTaken b plan read book.entries marks =
     subst (λ (ps : List Payload). AreTaken b plan ps book.entries marks) c.deref.ensures.value
     (subst (λ (p : Plan). AreTaken b p c.deref.result.now book.entries marks) c.in-Ok-new.ensures.plan
     (subst (λ (t : Tables). AreTaken t c.in-Ok-new.book.plan c.deref.result.now book.entries marks) c.in-Ok-new.ensures.bank c.in-Ok-take_all.ensures.taken)) in
     let noted : c.note.new.marks ≡ marks ++ Opened size ∷ [] = c.in-Ok-note.ensures.noted ∙ ap (λ (n : ℕ). marks ++ Opened n ∷ []) (c.length.ensures ∙ sym c.in-Ok-finish.ensures.length) in
-    let told_history : history c.note.new.marks ≡ book.entries = ap history noted ∙ history_is b plan c.args.base count book j read marks taken size in
+    let told_history : history c.note.new.marks ≡ book.entries = ap history noted ∙ history_is b plan c.args.base was book j read marks taken size in
     subst (λ (H : List Entry). Stands b plan H file) (sym told_history)
     (stood b plan read book.entries marks file taken (c.in-Ok-finish.ensures.images (c.in-Ok.ensures.frame.tells ∙ told) file i ∙ (ap (payloads shadowj1) (c.in-Ok.ensures.untouched told) ∙ c.in-Ok.ensures.gives told)))
 
@@ -132,13 +139,13 @@ returns-clause-settled g c = λ told settled.
     let book = c.take_all.new.book in
     let marks = c.take_all.new.marks in
     let size = j.size in
-    let count = g.D.Disk.faults c.of-opened.result.value in
+    let was = handed g.D.Disk.content g.D.Disk.accounts g.D.Disk.faults c.of-opened.result.value in
     let taken : AreTaken b plan read book.entries marks =
     subst (λ (ps : List Payload). AreTaken b plan ps book.entries marks) c.deref.ensures.value
     (subst (λ (p : Plan). AreTaken b p c.deref.result.now book.entries marks) c.in-Ok-new.ensures.plan
     (subst (λ (t : Tables). AreTaken t c.in-Ok-new.book.plan c.deref.result.now book.entries marks) c.in-Ok-new.ensures.bank c.in-Ok-take_all.ensures.taken)) in
     let noted : c.note.new.marks ≡ marks ++ Opened size ∷ [] = c.in-Ok-note.ensures.noted ∙ ap (λ (n : ℕ). marks ++ Opened n ∷ []) (c.length.ensures ∙ sym c.in-Ok-finish.ensures.length) in
-    let told_history : history c.note.new.marks ≡ book.entries = ap history noted ∙ history_is b plan c.args.base count book j read marks taken size in
+    let told_history : history c.note.new.marks ≡ book.entries = ap history noted ∙ history_is b plan c.args.base was book j read marks taken size in
     subst (λ (H : List Entry). AtEachMoment (g.D.Disk.accounts c.args.disk) (accounts_of j) (Stands b plan H)) (sym told_history)
     (stands_while_opened b plan book.entries (g.D.Disk.content c.args.disk) (g.D.Disk.content opening.disk) (g.D.Disk.accounts c.args.disk) (g.D.Disk.accounts opening.disk) (accounts_of j)
     (stood b plan read book.entries marks (g.D.Disk.content c.args.disk) taken (c.in-Ok.ensures.gives told)) (c.in-Ok.ensures.settled told settled) (c.in-Ok.ensures.untouched told) (c.in-Ok-finish.ensures.moments (c.in-Ok.ensures.frame.tells ∙ told)))
@@ -153,13 +160,13 @@ returns-clause-legal g c =
     let book = c.take_all.new.book in
     let marks = c.take_all.new.marks in
     let size = j.size in
-    let count = g.D.Disk.faults c.of-opened.result.value in
+    let was = handed g.D.Disk.content g.D.Disk.accounts g.D.Disk.faults c.of-opened.result.value in
     let taken : AreTaken b plan read book.entries marks =
     subst (λ (ps : List Payload). AreTaken b plan ps book.entries marks) c.deref.ensures.value
     (subst (λ (p : Plan). AreTaken b p c.deref.result.now book.entries marks) c.in-Ok-new.ensures.plan
     (subst (λ (t : Tables). AreTaken t c.in-Ok-new.book.plan c.deref.result.now book.entries marks) c.in-Ok-new.ensures.bank c.in-Ok-take_all.ensures.taken)) in
     let noted : c.note.new.marks ≡ marks ++ Opened size ∷ [] = c.in-Ok-note.ensures.noted ∙ ap (λ (n : ℕ). marks ++ Opened n ∷ []) (c.length.ensures ∙ sym c.in-Ok-finish.ensures.length) in
-    let told_history : history c.note.new.marks ≡ book.entries = ap history noted ∙ history_is b plan c.args.base count book j read marks taken size in
+    let told_history : history c.note.new.marks ≡ book.entries = ap history noted ∙ history_is b plan c.args.base was book j read marks taken size in
     subst (λ (H : List Entry). LegalRun b plan H) (taken.are.entries ∙ sym told_history) (backed_is_legal_run b plan taken.records taken.are.backed)
 
 -- the file was within the limit
