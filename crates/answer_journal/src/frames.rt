@@ -1,12 +1,7 @@
-// The frames of a file in memory.
-ghost use Rattle.std.specs.Prelude.{◌≡◌, ◌<◌, ◌≤◌, ◌+◌, ◌-◌, ℕ, List, length, map, take, drop, IfOk, IfErr};
+// The frames of a file.
+ghost use Rattle.std.specs.Prelude.{◌≡◌, ◌<◌, ◌≤◌, ◌-◌, ℕ, List, length, take, drop};
 ghost use Rattle.answer_journal.specs.Frames.{shadowj1, begins};
-ghost use Rattle.answer_journal.specs.OpenFault.{IsRefused};
-ghost use Rattle.answer_journal.specs.Payload.{bytes_of, at_of, places_of};
-ghost use Rattle.answer_journal.specs.Reading.{IsFound, IsRead, IsRoomFor, OnRecord};
-
-use crate::{OpenFault, Payload};
-use std::alloc::Global;
+ghost use Rattle.answer_journal.specs.Reading.{IsFound, IsRoomFor, OnRecord};
 
 /// The first bytes of a journal.
 pub const HEADER: [u8; 8] = [b'S', b'H', b'A', b'D', b'O', b'W', b'J', b'1'];
@@ -34,28 +29,6 @@ pub enum Found {
     Short,
     /// The gate is open, and a payload of so many bytes and the next gate are after it.
     Record(usize),
-}
-
-/// Looks at a gate and at the frame after it.
-pub fn frame_at(bytes: &[u8], at: usize) -> Found
-    requires { at < length bytes.now }
-    ensures { IsFound bytes.now at result }
-{
-    if bytes[at] != OPEN {
-        return Found::Closed;
-    }
-    if bytes.len() - at < 5 {
-        return Found::Short;
-    }
-    let count = u32::from_be_bytes([bytes[at + 1], bytes[at + 2], bytes[at + 3], bytes[at + 4]]);
-    let count = count as usize;
-    if count == 0 || count > MAX_PAYLOAD {
-        return Found::NoLength;
-    }
-    if bytes.len() - at - 5 <= count {
-        return Found::Short;
-    }
-    Found::Record(count)
 }
 
 /// What is at a gate, and the frame after it, by the first five of the bytes from there on, or all
@@ -91,35 +64,4 @@ pub fn has_header(bytes: &[u8]) -> bool
     ensures { result ≡ begins shadowj1 bytes.now }
 {
     bytes[..8] == HEADER[..]
-}
-
-/// Reads the frames of a file of more than nine bytes, up to the first closed gate: their payloads, and its place.
-pub fn read_frames(alloc: Global, bytes: &[u8]) -> Result<(Vec<Payload>, usize), OpenFault>
-    requires { 9 < length bytes.now }
-    ensures ok { IfOk result
-        (λ read. IsRead shadowj1 bytes.now (map bytes_of read.0.items) read.1) }
-    ensures places { IfOk result
-        (λ read. map at_of read.0.items ≡ places_of 8 (map bytes_of read.0.items)) }
-    ensures err { IfErr result (IsRefused shadowj1 bytes.now) }
-{
-    if !has_header(bytes) {
-        return Err(OpenFault::Header);
-    }
-    let mut payloads = Vec::new(alloc);
-    let mut at = 8;
-    'walk: loop {
-        match frame_at(bytes, at) {
-            Found::Closed => return Ok((payloads, at)),
-            Found::NoLength => return Err(OpenFault::Length(at as u64)),
-            Found::Short => return Err(OpenFault::Cut(at as u64)),
-            Found::Record(count) => {
-                let payload = bytes[at + 5..at + 5 + count].to_vec(alloc)?;
-                payloads.push(Payload {
-                    at: at as u64,
-                    bytes: payload,
-                })?;
-                at += 5 + count;
-            }
-        }
-    }
 }

@@ -11,8 +11,9 @@ ghost use Rattle.answer_journal.specs.Payload.{bytes_of, at_of, places_of};
 ghost use Rattle.answer_journal.specs.Standing.{IsBeforeOrWith, IsImageOrGives, opened_file, payload_list};
 
 use crate::appending::{resolve_record, write_record};
-use crate::opening::{read_journal, test_file};
-use crate::{Frame, OpenFault, Opening, Payload, Walk};
+use crate::opening::test_file;
+use crate::walk::read_all;
+use crate::{Frame, OpenFault, Payload, Walk};
 use exam_edge::{Disk, Failed};
 use std::alloc::Global;
 use std::marker::Model;
@@ -81,71 +82,6 @@ impl<D: Disk> Model for Journal<D> {
 impl<D: Disk> Journal<D> {
     ghost use Rattle.answer_journal.specs.Journal.{disk_of, tells_of, content_of, accounts_of, faults_of, identity_of, length_of, limit_of, doubt_of, payloads_of, AreLengths, IsReady, IsDoubtful};
 
-    /// Reads a file to open it, and gives its payloads with the places of their gates. It syncs
-    /// first, and writes nothing. The limit of the journal's length is in bytes, at most
-    /// 536,870,912. A refusal gives the disk back.
-    pub fn read(
-        alloc: Global,
-        disk: D,
-        limit: u64,
-    ) -> Result<(Opening<D>, Vec<Payload>), (D, OpenFault)>
-        requires { limit ≤ 536870912 }
-        ensures limit { IfOk result (λ read. read.0.limit ≡ limit) }
-        ensures gives { IfOk result (λ read. IsTrue (D.tells disk)
-            → payloads shadowj1 (D.content disk) ≡ Some (map bytes_of read.1.items)) }
-        ensures places { IfOk result
-            (λ read. map at_of read.1.items ≡ places_of 8 (map bytes_of read.1.items)) }
-
-        // The first thing that is wrong with the file, if anything is, unless memory or the disk
-        // failed.
-        ensures sound { IfOk result (λ read. IsTrue (D.tells disk)
-            → first_fault shadowj1 limit (D.content disk) ≡ None) }
-        ensures why { IfErr result (λ e. IsTrue (D.tells disk)
-            → IsAnswerTo shadowj1 limit (D.content disk) e.1) }
-        ensures cause { IfErr result
-            (λ e. e.1 ≡ OpenFault.Disk → Rose (D.faults disk) (D.faults e.0)) }
-
-        // The file is not changed, also if the disk failed.
-        ensures untouched { IfOk result (λ read. IsTrue (D.tells disk)
-            → D.content read.0.disk ≡ D.content disk) }
-        ensures untouched_err { IfErr result (λ e. IsTrue (D.tells disk)
-            → D.content e.0 ≡ D.content disk) }
-
-        // At each moment of the call a crash leaves what it might have left before.
-        ensures moments { IfOk result (λ read. IsTrue (D.tells disk)
-            → AtEachMoment (D.accounts disk) (D.accounts read.0.disk)
-            (IsImage (latest (D.accounts disk)))) }
-        ensures moments_err { IfErr result (λ e. IsTrue (D.tells disk)
-            → AtEachMoment (D.accounts disk) (D.accounts e.0)
-            (IsImage (latest (D.accounts disk)))) }
-        ensures settled { IfOk result (λ read. IsTrue (D.tells disk)
-            → IsSettled (D.content disk) (D.accounts disk)
-            → AtEachMoment (D.accounts disk) (D.accounts read.0.disk)
-            (λ file. file ≡ D.content disk)) }
-        ensures settled_err { IfErr result (λ e. IsTrue (D.tells disk)
-            → IsSettled (D.content disk) (D.accounts disk)
-            → AtEachMoment (D.accounts disk) (D.accounts e.0) (λ file. file ≡ D.content disk)) }
-        ensures images { IfOk result (λ read. IsTrue (D.tells disk)
-            → AllImages (λ file. file ≡ D.content disk) (latest (D.accounts read.0.disk))) }
-
-        ensures frame { IfOk result
-            (λ read. IsLent D.tells D.identity D.faults disk read.0.disk) }
-        ensures frame_err { IfErr result (λ e. IsLent D.tells D.identity D.faults disk e.0) }
-    {
-        let mut disk = disk;
-        match read_journal(alloc, &mut disk, limit) {
-            Ok((extent, read)) => {
-                let opening = Opening {
-                    disk,
-                    limit,
-                    extent,
-                };
-                Ok((opening, read))
-            }
-            Err(e) => Err((disk, e)),
-        }
-    }
-
     /// Tests the frames of a file, to walk over its payloads one after another. It syncs first,
     /// and writes nothing. It takes no memory. The limit of the journal's length is in bytes, at
     /// most 536,870,912. A refusal gives the disk back.
@@ -207,8 +143,8 @@ impl<D: Disk> Journal<D> {
         }
     }
 
-    /// Opens a file, and gives its payloads with the places of their gates: first `read`, then
-    /// `finish`. It syncs first. It makes a file of at most nine bytes an empty journal. It cuts
+    /// Opens a file, and gives its payloads with the places of their gates: first a walk over all
+    /// of them, then its `finish`. It syncs first. It makes a file of at most nine bytes an empty journal. It cuts
     /// from any other file what follows its first closed gate. The limit of the journal's length is
     /// in bytes, at most 536,870,912. A refusal gives the disk back.
     pub fn open(
@@ -247,13 +183,17 @@ impl<D: Disk> Journal<D> {
         ensures identity { IfOk result (λ opened. identity_of opened.0 ≡ D.identity disk) }
         ensures frame_err { IfErr result (λ e. IsLent D.tells D.identity D.faults disk e.0) }
     {
-        let (opening, read) = match Journal::read(alloc, disk, limit) {
-            Ok(found) => found,
+        let mut walk = match Journal::walk(disk, limit) {
+            Ok(walk) => walk,
             Err(refused) => return Err(refused),
         };
-        match opening.finish() {
+        let read = match read_all(alloc, &mut walk) {
+            Ok(read) => read,
+            Err(fault) => return Err((walk.stop(), fault)),
+        };
+        match walk.finish() {
             Ok(journal) => Ok((journal, read)),
-            Err(disk) => Err((disk, OpenFault::Disk)),
+            Err(refused) => Err(refused),
         }
     }
 

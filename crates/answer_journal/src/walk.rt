@@ -1,18 +1,20 @@
 // A file that is walked over to be opened, one payload in memory at a time.
-ghost use Rattle.std.specs.Prelude.{◌≡◌, ◌≢◌, ◌≤◌, ◌<◌, ◌+◌, ◌^◌, List, ℕ, [], ◌∷◌, ◌++◌, length, take, drop, Some, None, IsTrue, IfOk, IfErr, OnErr};
+ghost use Rattle.std.specs.Prelude.{◌≡◌, ◌≢◌, ◌≤◌, ◌<◌, ◌+◌, ◌^◌, List, ℕ, [], ◌∷◌, ◌++◌, length, map, take, drop, Some, None, IsTrue, IfOk, IfErr, OnOk, OnErr};
 ghost use Rattle.std.specs.Option.{ForSome};
 ghost use Rattle.exam_edge.specs.Faults.{Rose};
 ghost use Rattle.exam_edge.specs.Lent.{IsLent, FailsOnly};
 ghost use Rattle.exam_edge.specs.Images.{AllImages, AtEachMoment, latest};
 ghost use Rattle.answer_journal.specs.Frames.{IsPayload, shadowj1, payloads};
+ghost use Rattle.answer_journal.specs.OpenFault.{IsOfDevice};
+ghost use Rattle.answer_journal.specs.Payload.{at_of, bytes_of, places_of};
 ghost use Rattle.answer_journal.specs.Reading.{IsRoomFor};
 ghost use Rattle.answer_journal.specs.Standing.{payload_list, opened_file};
 ghost use Rattle.answer_journal.specs.Walk.{HasRecord, IsJust, first_payloads};
 
 use crate::frames::Found;
 use crate::gates::{find_frame, read_from};
-use crate::opening::{Extent, Opening};
-use crate::{Journal, OpenFault};
+use crate::opening::{Extent, finish_file};
+use crate::{Journal, OpenFault, Payload};
 use exam_edge::{Disk, Failed};
 use std::alloc::{AllocError, Global};
 use std::marker::Model;
@@ -280,14 +282,15 @@ impl<D: Disk> Walk<D> {
         if at < extent.end {
             return Err((disk, OpenFault::Cut(at)));
         }
-        let opening = Opening {
-            disk,
-            limit,
-            extent,
-        };
-        match opening.finish() {
-            Ok(journal) => Ok(journal),
-            Err(disk) => Err((disk, OpenFault::Disk)),
+        let mut disk = disk;
+        match finish_file(&mut disk, extent) {
+            Ok(()) => Ok(Journal {
+                disk,
+                size: extent.end + 1,
+                limit,
+                doubt: None,
+            }),
+            Err(_) => Err((disk, OpenFault::Disk)),
         }
     }
 
@@ -303,5 +306,37 @@ impl<D: Disk> Walk<D> {
             given: _,
         } = self;
         disk
+    }
+}
+
+/// The payloads that a walk is to give from its start on, with the places of their gates.
+pub fn read_all<D: Disk>(alloc: Global, walk: &mut Walk<D>) -> Result<Vec<Payload>, OpenFault>
+    requires start { (walk.old.at ≡ 8) × (walk.old.given ≡ 0) }
+    ensures places { IfOk result
+        (λ read. map at_of read.items ≡ places_of 8 (map bytes_of read.items)) }
+    ensures bytes { IfOk result (λ read. IsTrue (D.tells walk.old.disk)
+        → map bytes_of read.items ≡ first_payloads walk.new.given (D.content walk.old.disk)) }
+    // All of them.
+    ensures last { OnOk result (IsTrue (D.tells walk.old.disk)
+        → first_payloads walk.new.given (D.content walk.old.disk)
+        ≡ payload_list shadowj1 (D.content walk.old.disk)) }
+    ensures err { IfErr result
+        (IsOfDevice (Rose (D.faults walk.old.disk) (D.faults walk.new.disk))) }
+    ensures limit { walk.new.limit ≡ walk.old.limit }
+    ensures content { IsTrue (D.tells walk.old.disk)
+        → D.content walk.new.disk ≡ D.content walk.old.disk }
+    ensures accounts { IsTrue (D.tells walk.old.disk)
+        → D.accounts walk.new.disk ≡ D.accounts walk.old.disk }
+    ensures frame { IsLent D.tells D.identity D.faults walk.old.disk walk.new.disk }
+{
+    let mut read = Vec::new(alloc);
+    'payloads: loop {
+        let mut bytes = Vec::new(alloc);
+        match walk.next(alloc, &mut bytes) {
+            Ok(Some(at)) => read.push(Payload { at, bytes })?,
+            Ok(None) => return Ok(read),
+            Err(WalkFault::Disk) => return Err(OpenFault::Disk),
+            Err(WalkFault::Memory) => return Err(OpenFault::Memory),
+        }
     }
 }

@@ -1,27 +1,24 @@
 -- A file represents at most one history, and is opened if it represents one.
-use Rattle.std.proofs.Common.{◌≡◌, ◌⊎◌, inl, inr, ℕ, ◌≤◌, List, [], ◌∷◌, ◌++◌, length, map, Option, Some, None, Ok, Err, refl, sym, ap, ◌∙◌, subst, append_assoc}
+use Rattle.std.proofs.Common.{◌≡◌, inl, inr, ℕ, List, [], ◌∷◌, ◌++◌, map, Some, refl, sym, ap, ◌∙◌, subst}
 use Rattle.std.specs.List.{AllByRecursion}
-use Rattle.std.proofs.lemmas.List.{map-append, append-nil}
 use Rattle.bank_tables.specs.Tables.{Tables}
 use Rattle.exam_model.specs.Plan.{Plan}
 use Rattle.history_model.specs.declared.entry.Entry.{Entry}
-use Rattle.history_model.specs.Judging.{Record, MayFollow, entries_of, Backed, empty, more}
+use Rattle.history_model.specs.Judging.{Record, MayFollow, entries_of, Backed}
 use Rattle.history_model.specs.Reasons.{IsIllegal}
 use Rattle.history_model.proofs.JudgingLaws.{backed_is_legal_run}
 use Rattle.history_model.proofs.ReasonLaws.{no_reason_if_may}
 use Rattle.history_model.proofs.RunParts.{each_may_follow}
-use Rattle.exam_records.specs.Reading.{record_of}
 use Rattle.exam_records.proofs.AgainLaws.{written_is_read, no_two_records}
-use Rattle.answer_journal.specs.declared.payload.Payload.{Payload}
-use Rattle.answer_journal.specs.Frames.{payloads, shadowj1}
-use Rattle.answer_journal.specs.Payload.{bytes_of as payload_bytes}
+use Rattle.answer_journal.specs.Frames.{shadowj1}
+use Rattle.answer_journal.specs.Payload.{end_of}
 use Rattle.answer_journal.specs.OpenFaultLaws.{first-none}
 use Rattle.exam_records.specs.Spelling.{payload_of}
 use Rattle.exam_records.specs.Shape.{IsRecord}
 use Rattle.exam_office.specs.declared.fault.OpenFault.{OpenFault}
 use Rattle.exam_office.specs.declared.fault.OpenFault.TheVariants.{Journal as OfJournal, BadRecord, BadTree, Illegal, Disk, Memory}
-use Rattle.exam_office.specs.Files.{AreRecordsOf, Stands}
-use Rattle.exam_office.specs.Opening.{IsNotTaken, IsRefusedFor, IsFirstRefused, IsRefusedFile, IsOpenAnswer}
+use Rattle.exam_office.specs.Files.{Stands}
+use Rattle.exam_office.specs.Opening.{IsNotTaken, IsRefusedFor, IsRefusedFile}
 use Rattle.exam_office.specs.Laws.{OneHistory, StandsForLegalRun, StandingIsOpened}
 
 -- two records with the same bytes are the same
@@ -85,19 +82,17 @@ not_refused b plan H place r Disk spells may why = absurd why
 not_refused b plan H place r Memory spells may why = refl
 
 file_refused : (b : Tables) (plan : Plan) (H : List Entry) (file : List ℕ) (fault : OpenFault) → Stands b plan H file → IsRefusedFile b plan file fault → fault ≡ Memory
-file_refused b plan H file fault s refused =
-    let f = refused.first in
+file_refused b plan H file fault s f =
     let R = s.records in
-    let gives = refused.gives in
+    let gives = f.gives in
     let holds = s.holds in
-    let e : map payload_of R ≡ map payload_bytes refused.read = cc in
-    let split : map payload_bytes refused.read ≡ map payload_of f.records ++ payload_bytes f.first ∷ map payload_bytes f.rest =
-    ap (map payload_bytes) f.is ∙ (map-append payload_bytes f.before (f.first ∷ f.rest) ∙ ap (λ (ps : List (List ℕ)). ps ++ payload_bytes f.first ∷ map payload_bytes f.rest) (sym f.bytes)) in
-    let here = at f.records R (payload_bytes f.first) (map payload_bytes f.rest) f.are.spell s.are.spell (e ∙ split) in
+    let e : map payload_of R ≡ map payload_of f.records ++ f.first ∷ f.rest = cc in
+    let here = at f.records R f.first f.rest f.are.spell s.are.spell e in
     let may = (each_may_follow b plan f.records here.last here.rest (subst (Backed b plan) here.is s.are.backed)).1 in
-    not_refused b plan f.H f.first.at here.last fault here.spells
+    let place = end_of 8 (map payload_of f.records) in
+    not_refused b plan f.H place here.last fault here.spells
     (subst (λ (G : List Entry). MayFollow b plan G here.last.entry here.last.tree) f.are.entries may)
-    (subst (λ (p : List ℕ). IsNotTaken b plan f.H f.first.at p fault) (sym here.bytes) f.refused)
+    (subst (λ (p : List ℕ). IsNotTaken b plan f.H place p fault) (sym here.bytes) f.refused)
 
 pub standing_is_opened : StandingIsOpened
 standing_is_opened b plan H file (OfJournal fault) s within why =

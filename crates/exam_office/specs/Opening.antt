@@ -1,27 +1,24 @@
 -- How an office is opened.
-use Rattle.std.specs.Prelude.{◌≡◌, ◌⊎◌, ℕ, List, [], ◌∷◌, ◌++◌, map, take, Option, Some, None, Result, Ok, Err}
+use Rattle.std.specs.Prelude.{◌≡◌, ℕ, Bool, IsTrue, List, ◌∷◌, ◌++◌, map, Some, Ok, Err}
 use Rattle.bank_tables.specs.Tables.{Tables}
 use Rattle.exam_model.specs.Plan.{Plan}
-use Rattle.exam_edge.specs.Images.{Account, IsImage}
 use Rattle.history_model.specs.declared.entry.Entry.{Entry}
 use Rattle.history_model.specs.declared.illegal.Illegal.{Illegal}
 use Rattle.history_model.specs.declared.illegal.Illegal.TheVariants.{Tree, NotSpent}
 use Rattle.history_model.specs.Judging.{Record, MayFollow}
 use Rattle.history_model.specs.Reasons.{IsIllegal}
 use Rattle.exam_records.specs.Reading.{record_of}
-use Rattle.answer_journal.specs.declared.payload.Payload.{Payload}
 use Rattle.answer_journal.specs.Frames.{payloads, shadowj1}
 use Rattle.answer_journal.specs.OpenFault.{first_fault}
 use Rattle.answer_journal.specs.declared.open_fault.OpenFault.{OpenFault as JournalFault}
 use Rattle.answer_journal.specs.declared.open_fault.OpenFault.TheVariants.{Disk as OfDisk, Memory as OfMemory}
-use Rattle.answer_journal.specs.Payload.{bytes_of as payload_bytes, at_of, places_of}
+use Rattle.answer_journal.specs.Payload.{end_of}
+use Rattle.answer_journal.specs.Walk.{first_payloads}
 use Rattle.exam_records.specs.Spelling.{payload_of}
 use Rattle.exam_records.specs.Shape.{IsRecord}
 use Rattle.exam_office.specs.declared.fault.OpenFault.{OpenFault}
 use Rattle.exam_office.specs.declared.fault.OpenFault.TheVariants.{Journal, BadRecord, BadTree, Illegal as NotLegal, Disk, Memory}
-use Rattle.exam_office.specs.declared.mark.Mark.{Mark}
-use Rattle.exam_office.specs.declared.mark.Mark.TheVariants.{Old}
-use Rattle.exam_office.specs.Files.{AreRecordsOf, Stands}
+use Rattle.exam_office.specs.Files.{AreRecordsOf}
 
 -- the fault of a record that may not follow: of its tree, or of its entry
 abbrev pub fault_of : ℕ → Illegal → OpenFault
@@ -64,24 +61,13 @@ IsNotTaken b plan H at payload (NotLegal place reason) = IsRefusedFor b plan H a
 IsNotTaken b plan H at payload Memory = Unit {0}
 IsNotTaken b plan H at payload fault = ⊥
 
--- payloads that spell the records of a history, which is noted
-pub record AreTaken (b : Tables) (plan : Plan) (read : List Payload) (H : List Entry) (marks : List Mark) : Type 0 where
+-- so many payloads of a file spell the records of a history, and this is the place after them. Of a disk that
+-- reports nothing only the history is known
+pub record AreTaken (b : Tables) (plan : Plan) (tells : Bool) (file : List ℕ) (given at : ℕ) (H : List Entry) : Type 0 where
   pub records : List Record
   pub are : AreRecordsOf b plan H records
-  pub bytes : map payload_of records ≡ map payload_bytes read
-  pub noted : marks ≡ map Old H
-
--- payloads that spell the records of a history, and one after them that isn't taken
-pub record IsFirstRefused (b : Tables) (plan : Plan) (read : List Payload) (fault : OpenFault) : Type 0 where
-  pub H : List Entry
-  pub records : List Record
-  pub are : AreRecordsOf b plan H records
-  pub first : Payload
-  pub rest : List Payload
-  pub before : List Payload
-  pub is : read ≡ before ++ first ∷ rest
-  pub bytes : map payload_of records ≡ map payload_bytes before
-  pub refused : IsNotTaken b plan H first.at first.bytes.items fault
+  pub bytes : IsTrue tells → map payload_of records ≡ first_payloads given file
+  pub place : IsTrue tells → at ≡ end_of 8 (map payload_of records)
 
 -- the fault of a file that is no journal
 abbrev pub journal_fault : JournalFault → OpenFault
@@ -89,12 +75,15 @@ journal_fault OfDisk = Disk
 journal_fault OfMemory = Memory
 journal_fault fault = Journal fault
 
--- the payload of a file that is refused, after those of a history; each payload has the place of its gate
+-- the payloads of a file spell the records of a history, and one after them isn't taken; its place is the one after them
 pub record IsRefusedFile (b : Tables) (plan : Plan) (file : List ℕ) (fault : OpenFault) : Type 0 where
-  pub read : List Payload
-  pub gives : payloads shadowj1 file ≡ Some (map payload_bytes read)
-  pub places : map at_of read ≡ places_of 8 (map payload_bytes read)
-  pub first : IsFirstRefused b plan read fault
+  pub H : List Entry
+  pub records : List Record
+  pub are : AreRecordsOf b plan H records
+  pub first : List ℕ
+  pub rest : List (List ℕ)
+  pub gives : payloads shadowj1 file ≡ Some (map payload_of records ++ first ∷ rest)
+  pub refused : IsNotTaken b plan H (end_of 8 (map payload_of records)) first fault
 
 -- what opening a file may answer: out of memory, a fault of the disk, the first thing that is wrong with its frames, or
 -- the first record that is refused

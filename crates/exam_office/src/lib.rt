@@ -21,6 +21,7 @@ mod opening;
 mod reporting;
 mod serving;
 mod starting;
+mod taking;
 mod threads;
 mod turns;
 mod writing;
@@ -33,3 +34,4 @@ pub use history_model::{Entry, Exposure, Place, Refusal, Reply, Request, Summary
 pub use mark::Mark;
 pub use noted::Noted;
 pub use office::Office;
+pub use taking::{journal_fault, take_history};

@@ -1,6 +1,6 @@
 //! How an office is opened.
 
-ghost use Rattle.std.specs.Prelude.{◌≡◌, ◌≢◌, ◌≤◌, [], ◌∷◌, ◌++◌, List, length, map, Some, None, IsTrue, IfOk, IfErr, OnOk};
+ghost use Rattle.std.specs.Prelude.{◌≡◌, ◌≢◌, ◌≤◌, [], ◌∷◌, ◌++◌, List, length, map, None, IsTrue, IfOk, IfErr};
 ghost use Rattle.bank_tables.specs.Items.{has};
 ghost use Rattle.exam_model.specs.Forms.{Meets};
 ghost use Rattle.exam_model.specs.Validity.{IsPlanFor};
@@ -8,128 +8,30 @@ ghost use Rattle.exam_edge.specs.Faults.{Rose};
 ghost use Rattle.exam_edge.specs.Lent.{IsLent};
 ghost use Rattle.exam_edge.specs.Images.{AllImages, AtEachMoment, IsImage, IsSettled, latest};
 ghost use Rattle.history_model.specs.declared.entry.Entry.{Entry};
-ghost use Rattle.history_model.specs.Judging.{MayFollow};
 ghost use Rattle.history_model.specs.Legality.{LegalRun};
 ghost use Rattle.exam_office.specs.declared.mark.Mark.TheVariants.{Old, Opened};
-ghost use Rattle.exam_office.specs.declared.fault.OpenFault.TheVariants.{Disk as OfDisk, Memory as OfMemory};
+ghost use Rattle.exam_office.specs.declared.fault.OpenFault.TheVariants.{Disk as OfDisk};
 ghost use Rattle.answer_journal.specs.Journal.{disk_of, tells_of, accounts_of, faults_of, identity_of};
 ghost use Rattle.exam_office.specs.Writing.{IsMending};
 ghost use Rattle.exam_office.specs.Files.{Stands};
 ghost use Rattle.exam_office.specs.Marks.{history, reach};
 ghost use Rattle.exam_office.specs.Running.{handed};
-ghost use Rattle.exam_office.specs.Opening.{IsTaken, IsNotFollowing, AreTaken, IsNotTaken, IsFirstRefused, IsOpenAnswer};
+ghost use Rattle.exam_office.specs.Opening.{IsOpenAnswer};
 
 use crate::fault::OpenFault;
 use crate::handed_in::HandedIn;
-use crate::mark::{Mark, note};
 use crate::office::Office;
-use answer_journal::{Journal, OpenFault as JournalFault, Payload};
+use crate::taking::{journal_fault, take_history};
+use answer_journal::Journal;
 use bank_tables::{Bank, ItemSet};
 use constraint_model::Spec;
 use exam_edge::Disk;
-use exam_records::{Record, RecordFault, decode};
-use exam_session::Book;
-use history_log::Counted;
-use history_model::Illegal;
-use history_model::laws::may_is_legal;
 use std::alloc::Global;
-
-/// The fault of a record that may not follow.
-fn fault_of(at: u64, reason: Illegal) -> OpenFault
-    ensures { result ≡ Rattle.exam_office.specs.Opening.fault_of at reason }
-{
-    match reason {
-        Illegal::Tree(_) | Illegal::NotSpent(_) => OpenFault::BadTree(at),
-        _ => OpenFault::Illegal(at, reason),
-    }
-}
-
-/// The fault of a file that is no journal.
-fn journal_fault(fault: JournalFault) -> OpenFault
-    ensures { result ≡ Rattle.exam_office.specs.Opening.journal_fault fault }
-{
-    match fault {
-        JournalFault::Disk => OpenFault::Disk,
-        JournalFault::Memory => OpenFault::Memory,
-        _ => OpenFault::Journal(fault),
-    }
-}
-
-/// Takes a record into the book, where it may follow.
-fn follow(alloc: Global, at: u64, rec: &Record, book: &mut Book) -> Result<(), OpenFault>
-    ensures bank { book.new.bank ≡ book.old.bank }
-    ensures plan { book.new.plan ≡ book.old.plan }
-    ensures may { OnOk result
-        (MayFollow book.old.bank book.old.plan book.old.entries rec.now.entry rec.now.tree) }
-    ensures entries { OnOk result (book.new.entries ≡ book.old.entries ++ rec.now.entry ∷ []) }
-    ensures refused { IfErr result
-        (IsNotFollowing book.old.bank book.old.plan book.old.entries at rec.now) }
-{
-    match book.judge(rec) {
-        Ok(()) => {}
-        Err(reason) => return Err(fault_of(at, reason)),
-    }
-    match book.reserve(alloc) {
-        Ok(()) => {}
-        Err(_) => return Err(OpenFault::Memory),
-    }
-    may_is_legal();
-    book.apply(rec.entry);
-    Ok(())
-}
-
-/// Takes the record of a payload into the book, where it may follow.
-fn take_record(alloc: Global, payload: &Payload, book: &mut Book) -> Result<Record, OpenFault>
-    ensures bank { book.new.bank ≡ book.old.bank }
-    ensures plan { book.new.plan ≡ book.old.plan }
-    ensures taken { IfOk result
-        (λ rec. IsTaken book.old.bank book.old.plan book.old.entries payload.now.bytes.items rec.entry) }
-    ensures entries { IfOk result (λ rec. book.new.entries ≡ book.old.entries ++ rec.entry ∷ []) }
-    ensures refused { IfErr result
-        (IsNotTaken book.old.bank book.old.plan book.old.entries payload.now.at payload.now.bytes.items) }
-{
-    let rec = match decode(alloc, &payload.bytes) {
-        Ok(rec) => rec,
-        Err(RecordFault::Memory) => return Err(OpenFault::Memory),
-        Err(fault) => return Err(OpenFault::BadRecord(payload.at, fault)),
-    };
-    match follow(alloc, payload.at, &rec, book) {
-        Ok(()) => Ok(rec),
-        Err(fault) => Err(fault),
-    }
-}
-
-/// Takes the records of payloads into an empty book, and notes their entries.
-fn take_all(
-    alloc: Global,
-    payloads: &[Payload],
-    book: &mut Book,
-    marks: &mut Counted<Mark>,
-) -> Result<(), OpenFault>
-    requires empty { book.old.entries ≡ [] }
-    requires none { marks.old ≡ [] }
-    ensures bank { book.new.bank ≡ book.old.bank }
-    ensures plan { book.new.plan ≡ book.old.plan }
-    ensures taken { OnOk result
-        (AreTaken book.old.bank book.old.plan payloads.now book.new.entries marks.new) }
-    ensures refused { IfErr result (IsFirstRefused book.old.bank book.old.plan payloads.now) }
-{
-    for i in 0..payloads.len() {
-        match take_record(alloc, &payloads[i], book) {
-            Ok(rec) => match note(marks, &Mark::Old(rec.entry)) {
-                Ok(()) => {}
-                Err(_) => return Err(OpenFault::Memory),
-            },
-            Err(fault) => return Err(fault),
-        }
-    }
-    Ok(())
-}
 
 impl<'a, D: Disk> Office<'a, D> {
     /// Opens an office over a disk: reads the journal, and takes each record that may follow those
-    /// before it. Only then it makes the file a journal that ends with its first closed gate. The
-    /// base is a form of the plan alone. A refusal gives the disk back.
+    /// before it, with one record in memory. Only then it makes the file a journal that ends with
+    /// its first closed gate. The base is a form of the plan alone. A refusal gives the disk back.
     pub fn open(
         alloc: Global,
         bank: &'a Bank,
@@ -182,27 +84,18 @@ impl<'a, D: Disk> Office<'a, D> {
         ensures frame_err { IfErr result (λ e. IsLent D.tells D.identity D.faults disk e.0) }
     {
         let opened = HandedIn::of(&disk);
-        let (opening, payloads) = match Journal::read(alloc, disk, spec.journal()) {
-            Ok(found) => found,
+        let mut walk = match Journal::walk(disk, spec.journal()) {
+            Ok(walk) => walk,
             Err((disk, fault)) => return Err((disk, journal_fault(fault))),
         };
-        let mut book = match Book::new(alloc, bank, spec) {
-            Ok(book) => book,
-            Err(_) => return Err((opening.stop(), OpenFault::Memory)),
+        let (book, marks) = match take_history(alloc, bank, spec, &mut walk) {
+            Ok(found) => found,
+            Err(fault) => return Err((walk.stop(), fault)),
         };
-        let mut marks = Counted::new();
-        match take_all(alloc, &payloads, &mut book, &mut marks) {
-            Ok(()) => {}
-            Err(fault) => return Err((opening.stop(), fault)),
-        }
-        match note(&mut marks, &Mark::Opened(opening.length())) {
-            Ok(()) => {}
-            Err(_) => return Err((opening.stop(), OpenFault::Memory)),
-        }
         // Up to here nothing was written. From here on no record is refused.
-        let journal = match opening.finish() {
+        let journal = match walk.finish() {
             Ok(journal) => journal,
-            Err(disk) => return Err((disk, OpenFault::Disk)),
+            Err((disk, fault)) => return Err((disk, journal_fault(fault))),
         };
         Ok(Office {
             bank,

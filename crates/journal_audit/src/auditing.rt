@@ -11,14 +11,12 @@ ghost use Rattle.exam_office.specs.Opening.{IsOpenAnswer};
 ghost use Rattle.exam_office.specs.declared.fault.OpenFault.TheVariants.{Disk as OfDisk};
 ghost use Rattle.journal_audit.specs.Audit.{IsAudit};
 
-use crate::records::{journal_fault, take_records};
 use crate::report::exposure_of;
 use answer_journal::{Journal, Walk};
 use bank_tables::Bank;
 use constraint_model::Spec;
 use exam_edge::Disk;
-use exam_office::OpenFault;
-use exam_session::Book;
+use exam_office::{OpenFault, journal_fault, take_history};
 use history_model::{Exposure, Summary};
 use std::alloc::Global;
 
@@ -46,14 +44,10 @@ fn audit_walk<D: Disk>(
         → D.accounts walk.new.disk ≡ D.accounts walk.old.disk }
     ensures frame { IsLent D.tells D.identity D.faults walk.old.disk walk.new.disk }
 {
-    let mut book = match Book::new(alloc, bank, spec) {
-        Ok(book) => book,
-        Err(_) => return Err(OpenFault::Memory),
-    };
-    match take_records(alloc, walk, &mut book) {
-        Ok(()) => {}
+    let (book, _) = match take_history(alloc, bank, spec, walk) {
+        Ok(found) => found,
         Err(fault) => return Err(fault),
-    }
+    };
     match exposure_of(alloc, &book) {
         Ok(exposure) => Ok((book.summary(), exposure)),
         Err(_) => Err(OpenFault::Memory),

@@ -4,7 +4,6 @@
 #![tactic(auto)]
 
 mod auditing;
-mod records;
 mod report;
 
 pub use auditing::{audit, audit_disk};

@@ -122,22 +122,22 @@ mod tests {
         Ok(())
     }
 
-    // A longer file with bytes after its last gate is opened by five: sync, length, read, cut,
-    // sync.
+    // A longer file of three records with bytes after its last gate is opened by 16: sync, length,
+    // header, each gate, the last one twice, two for each record, cut, sync.
     #[test]
     fn each_call_of_opening_a_journal_fails(rt: HostRuntime) -> Result<(), Fail> {
-        for call in 0..6u64 {
-            let bytes: &[u8] = if call < 4 { &TRAILED } else { &THREE };
-            opens(&rt, rt.alloc(), &TRAILED, (call, 5), bytes, (3, 30))?;
+        for call in 0..17u64 {
+            let bytes: &[u8] = if call < 15 { &TRAILED } else { &THREE };
+            opens(&rt, rt.alloc(), &TRAILED, (call, 16), bytes, (3, 30))?;
         }
         Ok(())
     }
 
-    // A longer file without such bytes is opened by four: sync, length, read, sync.
+    // A longer file without such bytes is opened by 15: no cut.
     #[test]
     fn a_whole_journal_is_not_cut(rt: HostRuntime) -> Result<(), Fail> {
-        for call in 0..5u64 {
-            opens(&rt, rt.alloc(), &THREE, (call, 4), &THREE, (3, 30))?;
+        for call in 0..16u64 {
+            opens(&rt, rt.alloc(), &THREE, (call, 15), &THREE, (3, 30))?;
         }
         Ok(())
     }
@@ -432,17 +432,16 @@ mod tests {
         Ok(())
     }
 
-    // A file that was only read keeps the two bytes after its last gate.
+    // A file that was only walked over keeps the two bytes after its last gate.
     #[test]
     fn a_file_that_is_stopped_is_as_it_was(rt: HostRuntime) -> Result<(), Fail> {
         let alloc = rt.alloc();
         let disk = MemoryDisk::of(alloc, TRAILED.to_vec(alloc)?, Vec::new(alloc));
-        match Journal::read(alloc, disk, LIMIT) {
-            Err(_) => panic!(rt; "the file was not read"),
-            Ok((opening, payloads)) => {
-                has_three(&rt, &payloads);
-                assert_eq!(rt; opening.length(), 30);
-                holds(&rt, opening.stop().bytes(), &TRAILED);
+        match Journal::walk(disk, LIMIT) {
+            Err(_) => panic!(rt; "the file was not tested"),
+            Ok(walk) => {
+                assert_eq!(rt; walk.length(), 30);
+                holds(&rt, walk.stop().bytes(), &TRAILED);
             }
         }
         Ok(())

@@ -1,5 +1,5 @@
-//! Calls that add an entry, over a journal of no byte after its last gate: opening is calls 0 to 3
-//! of the disk, and adding is calls 4 to 7: write, sync, open the gate, sync.
+//! Calls that add an entry, over a journal of no byte after its last gate. The first calls of the
+//! disk open it, and adding is four: write, sync, open the gate, sync.
 
 use crate::files::{
     ANSWERED, CLOSED, empty_journal, served_journal, started, started_journal, third_journal,
@@ -39,6 +39,22 @@ fn state_at(entries: u64, place: Place) -> State {
         entries,
         place: Reply::At(place),
     }
+}
+
+/// How many calls of the disk open a whole journal of so many records: sync, length, header, each
+/// gate, the last one twice, two for each record, sync. One of no record is made anew by four: sync,
+/// length, write, sync.
+pub(crate) fn opening_calls(records: u64) -> u64 {
+    if records == 0 {
+        4
+    } else {
+        records.saturating_mul(3).saturating_add(6)
+    }
+}
+
+/// The number of a call of the disk that is this one of the case's adding, counted from 0.
+pub(crate) fn adding_call(case: &Case, call: u64) -> u64 {
+    opening_calls(case.before.entries).saturating_add(call)
 }
 
 fn begin_case(alloc: Global) -> Result<Case, Fail> {

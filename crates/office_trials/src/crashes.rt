@@ -4,7 +4,7 @@
 //! any bytes. After its gate was written it leaves the whole record, and at the gate any value.
 //! After each sync, and before the first call, it leaves what a read gives.
 
-use crate::cases::{Case, cases, opens};
+use crate::cases::{Case, adding_call, cases, opens};
 use crate::expected::leaves;
 use crate::files::{ANSWERED, served_journal, third_journal};
 use crate::outcome::{Call, Reply, WORKED, gives, run, waiting};
@@ -14,7 +14,8 @@ use std::process::Abort;
 use std::test::Fail;
 
 /// What a read gives after so many calls of adding an entry: the next call of the disk fails.
-fn stopped(alloc: Global, case: &Case, fail: u64) -> Result<Vec<u8>, Fail> {
+fn stopped(alloc: Global, case: &Case, done: u64) -> Result<Vec<u8>, Fail> {
+    let fail = adding_call(case, done);
     let outcome = run(alloc, &WORKED, &case.bytes, &[fail], &[case.call])?;
     Ok(outcome.bytes)
 }
@@ -84,24 +85,24 @@ fn goes_on<R: Abort>(rt: &R, file: &[u8], before: &[u8]) {
 
 /// Before the write, after it, and after its sync.
 fn opens_before_the_gate<R: Abort>(rt: &R, alloc: Global, case: &Case) -> Result<(), Fail> {
-    let none = stopped(alloc, case, 4)?;
+    let none = stopped(alloc, case, 0)?;
     leaves(rt, &none, &case.bytes);
     opens(rt, alloc, &none, case.before)?;
-    let staged = stopped(alloc, case, 5)?;
+    let staged = stopped(alloc, case, 1)?;
     is_longer(rt, &staged, &case.bytes);
     goes_on(rt, &staged, &case.bytes);
     opens_torn(rt, alloc, case, &staged)?;
-    let synced = stopped(alloc, case, 6)?;
+    let synced = stopped(alloc, case, 2)?;
     leaves(rt, &synced, &staged);
     opens(rt, alloc, &synced, case.before)
 }
 
 /// After the gate was written, and after its sync.
 fn opens_after_the_gate<R: Abort>(rt: &R, alloc: Global, case: &Case) -> Result<(), Fail> {
-    let gated = stopped(alloc, case, 7)?;
+    let gated = stopped(alloc, case, 3)?;
     is_longer(rt, &gated, &case.bytes);
     opens_gated(rt, alloc, case, &gated)?;
-    let whole = stopped(alloc, case, 8)?;
+    let whole = stopped(alloc, case, 4)?;
     leaves(rt, &whole, &gated);
     opens(rt, alloc, &whole, case.after)?;
     if let Some(bytes) = &case.longer {

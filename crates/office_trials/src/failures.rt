@@ -1,6 +1,6 @@
 //! What an office does after a call of the disk has failed.
 
-use crate::cases::{Case, cases, opens};
+use crate::cases::{Case, adding_call, cases, opens};
 use crate::expected::{counts, ends, fails, leaves};
 use crate::files::{ANSWERED, served_journal, third_journal};
 use crate::outcome::{Call, Reply, WORKED, gives, run};
@@ -22,43 +22,43 @@ fn staged_journal(alloc: Global) -> Result<Vec<u8>, Fail> {
     Ok(staged)
 }
 
-/// The first sync of the answer fails: call 5. The record is on the disk after a closed gate, and
+/// The first sync of the answer fails: call 13, after twelve of opening. The record is on the disk after a closed gate, and
 /// the history lacks it. The next answer drops it by four calls (sync, read, cut, sync) and adds it
 /// by four.
 #[test]
 fn a_record_that_is_dropped(rt: HostRuntime) -> Result<(), Fail> {
     let alloc = rt.alloc();
     let before = served_journal(alloc)?;
-    let once = gives(&rt, alloc, (&before, &[5]), &[ANSWER], &[FAILED], 2)?;
-    counts(&rt, once.count, 6, 1);
+    let once = gives(&rt, alloc, (&before, &[13]), &[ANSWER], &[FAILED], 2)?;
+    counts(&rt, once.count, 14, 1);
     leaves(&rt, &once.bytes, &staged_journal(alloc)?);
     let replies = [FAILED, ANSWERED_REPLY];
-    let twice = gives(&rt, alloc, (&before, &[5]), &[ANSWER, ANSWER], &replies, 3)?;
-    counts(&rt, twice.count, 14, 1);
+    let twice = gives(&rt, alloc, (&before, &[13]), &[ANSWER, ANSWER], &replies, 3)?;
+    counts(&rt, twice.count, 22, 1);
     leaves(&rt, &twice.bytes, &third_journal(alloc, &ANSWERED)?);
     Ok(())
 }
 
-/// Its last sync fails: call 7. The gate is open. The next answer keeps the record by two calls
+/// Its last sync fails: call 15. The gate is open. The next answer keeps the record by two calls
 /// (sync, read), and adds none.
 #[test]
 fn a_record_that_is_kept(rt: HostRuntime) -> Result<(), Fail> {
     let alloc = rt.alloc();
     let before = served_journal(alloc)?;
     let after = third_journal(alloc, &ANSWERED)?;
-    let once = gives(&rt, alloc, (&before, &[7]), &[ANSWER], &[FAILED], 2)?;
-    counts(&rt, once.count, 8, 1);
+    let once = gives(&rt, alloc, (&before, &[15]), &[ANSWER], &[FAILED], 2)?;
+    counts(&rt, once.count, 16, 1);
     leaves(&rt, &once.bytes, &after);
     let replies = [FAILED, ANSWERED_REPLY];
-    let twice = gives(&rt, alloc, (&before, &[7]), &[ANSWER, ANSWER], &replies, 3)?;
-    counts(&rt, twice.count, 10, 1);
+    let twice = gives(&rt, alloc, (&before, &[15]), &[ANSWER, ANSWER], &replies, 3)?;
+    counts(&rt, twice.count, 18, 1);
     leaves(&rt, &twice.bytes, &after);
     Ok(())
 }
 
-/// A call whose disk call of this number fails; 8 is none of its calls.
+/// A call of whose adding this call of the disk fails; 4 is none of them.
 fn fail_one<R: Abort>(rt: &R, alloc: Global, case: &Case, fail: u64) -> Result<(), Fail> {
-    let (reply, entries, faults) = if fail < 8 {
+    let (reply, entries, faults) = if fail < 4 {
         (FAILED, case.before.entries, 1)
     } else {
         (case.reply, case.after.entries, 0)
@@ -66,23 +66,24 @@ fn fail_one<R: Abort>(rt: &R, alloc: Global, case: &Case, fail: u64) -> Result<(
     let left = gives(
         rt,
         alloc,
-        (&case.bytes, &[fail]),
+        (&case.bytes, &[adding_call(case, fail)]),
         &[case.call],
         &[reply],
         entries,
     )?;
-    counts(rt, left.count, fail.min(7) + 1, faults);
-    let state = if fail < 7 { case.before } else { case.after };
+    counts(rt, left.count, adding_call(case, fail.min(3) + 1), faults);
+    let state = if fail < 3 { case.before } else { case.after };
     opens(rt, alloc, &left.bytes, state)
 }
 
 /// The same call again drops the record and adds it, or where the last sync failed keeps it.
 fn fail_and_repeat<R: Abort>(rt: &R, alloc: Global, case: &Case, fail: u64) -> Result<(), Fail> {
-    let reply = if fail == 7 { case.again } else { case.reply };
+    let reply = if fail == 3 { case.again } else { case.reply };
     let entries = case.after.entries;
     let calls = [case.call, case.call];
     let replies = [FAILED, reply];
-    let left = gives(rt, alloc, (&case.bytes, &[fail]), &calls, &replies, entries)?;
+    let call = adding_call(case, fail);
+    let left = gives(rt, alloc, (&case.bytes, &[call]), &calls, &replies, entries)?;
     fails(rt, left.count, 1);
     if let Some(longer) = &case.longer {
         leaves(rt, &left.bytes, longer);
@@ -92,10 +93,10 @@ fn fail_and_repeat<R: Abort>(rt: &R, alloc: Global, case: &Case, fail: u64) -> R
 
 /// Each call of the disk that a call of the office makes.
 fn fail_each<R: Abort>(rt: &R, alloc: Global, case: &Case) -> Result<(), Fail> {
-    for fail in 4..9u64 {
+    for fail in 0..5u64 {
         fail_one(rt, alloc, case, fail)?;
     }
-    for fail in 4..8u64 {
+    for fail in 0..4u64 {
         fail_and_repeat(rt, alloc, case, fail)?;
     }
     Ok(())
@@ -123,37 +124,45 @@ fn fail_twice<R: Abort>(rt: &R, alloc: Global, two: &[u64]) -> Result<(), Fail> 
     Ok(())
 }
 
-/// After the first sync of the answer failed, mending is calls 6 to 9: sync, read, cut, sync. After
-/// the last one failed, it is calls 8 and 9: sync, read.
+/// After the first sync of the answer failed, mending is calls 14 to 17: sync, read, cut, sync.
+/// After the last one failed, it is calls 16 and 17: sync, read.
 #[test]
 fn each_call_of_mending_fails(rt: HostRuntime) -> Result<(), Fail> {
-    for two in [[5u64, 6], [5, 7], [5, 8], [5, 9], [7, 8], [7, 9]] {
+    for two in [
+        [13u64, 14],
+        [13, 15],
+        [13, 16],
+        [13, 17],
+        [15, 16],
+        [15, 17],
+    ] {
         fail_twice(&rt, rt.alloc(), &two)?;
     }
     Ok(())
 }
 
-/// A journal with two bytes after its last gate is opened by five calls: sync, length, read, cut,
-/// sync. The one of this number fails; 5 is none of them.
+/// A journal of two records with two bytes after its last gate is opened by 13 calls: sync, length,
+/// header, each gate, the last one twice, two for each record, cut, sync. The one of this number
+/// fails; 13 is none of them.
 fn fail_opening<R: Abort>(rt: &R, alloc: Global, fail: u64) -> Result<(), Fail> {
     let whole = served_journal(alloc)?;
     let mut longer = whole.to_vec(alloc)?;
     longer.extend_from_slice(&[1, 1])?;
     let outcome = run(alloc, &WORKED, &longer, &[fail], &[])?;
-    let (fault, faults) = if fail < 5 {
+    let (fault, faults) = if fail < 13 {
         (Some(OpenFault::Disk), 1)
     } else {
         (None, 0)
     };
-    let left = if fail < 4 { &longer } else { &whole };
+    let left = if fail < 12 { &longer } else { &whole };
     ends(rt, &outcome, fault, left);
-    counts(rt, outcome.count, fail.min(4) + 1, faults);
+    counts(rt, outcome.count, fail.min(12) + 1, faults);
     Ok(())
 }
 
 #[test]
 fn each_call_of_opening_fails(rt: HostRuntime) -> Result<(), Fail> {
-    for fail in 0..6u64 {
+    for fail in 0..14u64 {
         fail_opening(&rt, rt.alloc(), fail)?;
     }
     Ok(())
@@ -167,10 +176,10 @@ fn a_refused_call_keeps_the_entry_in_doubt(rt: HostRuntime) -> Result<(), Fail> 
     let before = served_journal(alloc)?;
     let calls = [ANSWER, Call::Answer(0, 0, 0)];
     let replies = [FAILED, Reply::Refused(Refusal::Other(1))];
-    let kept = gives(&rt, alloc, (&before, &[7]), &calls, &replies, 3)?;
+    let kept = gives(&rt, alloc, (&before, &[15]), &calls, &replies, 3)?;
     leaves(&rt, &kept.bytes, &third_journal(alloc, &ANSWERED)?);
     let replies = [FAILED, ANSWERED_REPLY];
-    let dropped = gives(&rt, alloc, (&before, &[5]), &calls, &replies, 3)?;
+    let dropped = gives(&rt, alloc, (&before, &[13]), &calls, &replies, 3)?;
     let other = third_journal(alloc, &[4, 0, 0, 0, 0, 0, 0, 0])?;
     leaves(&rt, &dropped.bytes, &other);
     Ok(())

@@ -27,7 +27,7 @@ fn a_served_item_with_its_tree(rt: HostRuntime) -> Result<(), Fail> {
     let found = gives(&rt, alloc, (&bytes, &[]), &[Call::Look(0)], &replies, 2)?;
     is_proved_by_one_node(&rt, &found.found.summary);
     leaves(&rt, &found.bytes, &bytes);
-    counts(&rt, found.count, 4, 0);
+    counts(&rt, found.count, 12, 0);
     Ok(())
 }
 

@@ -1,6 +1,7 @@
 //! Each refusal of a call with its value. A refused call adds no entry, and makes no call of the
 //! disk.
 
+use crate::cases::opening_calls;
 use crate::expected::{counts, is_same, leaves, replies_at, shows};
 use crate::files::{ANSWERED, empty_journal, served_journal, started_journal, third_journal};
 use crate::outcome::{After, Call, Found, Numbers, Reply, WORKED, asked, begun, gives, waiting};
@@ -181,7 +182,7 @@ fn is_full<R: Abort>(
     let refused = Reply::Refused(Refusal::JournalFull(full));
     shows(rt, &asked.found, &[refused, refused], entries);
     leaves(rt, &asked.bytes, before);
-    counts(rt, asked.count, 4, 0);
+    counts(rt, asked.count, opening_calls(entries), 0);
     Ok(())
 }
 

@@ -53,7 +53,7 @@ fn is_same_history<R: Abort>(rt: &R, now: &Found, was: &Found) {
 }
 
 /// Items 2, 4 and 1 are served, and each item was eligible. The file opens as the same history.
-/// Opening is four calls of the disk, and so is each entry.
+/// Opening an empty file is four calls of the disk, and so is each entry.
 #[test]
 fn a_whole_session(rt: HostRuntime) -> Result<(), Fail> {
     let alloc = rt.alloc();

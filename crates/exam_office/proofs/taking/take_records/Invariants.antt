@@ -1,13 +1,17 @@
-use Rattle.std.proofs.Common.{◌≡◌, ◌-◌, IsTrue}
+use Rattle.std.proofs.Common.{◌≡◌, ◌-◌, map, IsTrue}
 use Rattle.exam_edge.specs.Lent.{IsLent}
-use Rattle.journal_audit.specs.Audit.{IsSoFar}
-use Rattle.journal_audit.proofs.records.take_records.Given as goal
+use Rattle.exam_office.specs.declared.mark.Mark.TheVariants.{Old}
+use Rattle.exam_office.specs.Opening.{AreTaken}
+use Rattle.exam_office.proofs.taking.take_records.Given as goal
 
 abbrev pub invariant-records : goal.invariant-records
 invariant-records g l = record {
   bank : l.book.bank ≡ l.fn.book.bank;
   plan : l.book.plan ≡ l.fn.book.plan;
-  so_far : IsTrue (g.D.Disk.tells l.fn.walk.disk) → IsSoFar l.fn.book.bank l.fn.book.plan l.book.entries (g.D.Disk.content l.fn.walk.disk) l.walk.given l.walk.at;
+  taken : AreTaken l.fn.book.bank l.fn.book.plan (g.D.Disk.tells l.fn.walk.disk) (g.D.Disk.content l.fn.walk.disk) l.walk.given l.walk.at l.book.entries;
+  noted : l.marks ≡ map Old l.book.entries;
+  limit : l.walk.limit ≡ l.fn.walk.limit;
+  size : l.walk.size ≡ l.fn.walk.size;
   content : IsTrue (g.D.Disk.tells l.fn.walk.disk) → g.D.Disk.content l.walk.disk ≡ g.D.Disk.content l.fn.walk.disk;
   accounts : IsTrue (g.D.Disk.tells l.fn.walk.disk) → g.D.Disk.accounts l.walk.disk ≡ g.D.Disk.accounts l.fn.walk.disk;
   frame : IsLent g.D.Disk.tells g.D.Disk.identity g.D.Disk.faults l.fn.walk.disk l.walk.disk;

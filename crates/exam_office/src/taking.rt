@@ -1,0 +1,205 @@
+//! The records of a file, taken into a book one after another.
+
+ghost use Rattle.std.specs.Prelude.{◌≡◌, List, [], ◌∷◌, ◌++◌, map, Some, IsTrue, IfOk, IfErr, OnOk};
+ghost use Rattle.exam_edge.specs.Faults.{Rose};
+ghost use Rattle.exam_edge.specs.Lent.{IsLent};
+ghost use Rattle.exam_model.specs.Validity.{IsPlanFor};
+ghost use Rattle.history_model.specs.Judging.{MayFollow};
+ghost use Rattle.answer_journal.specs.Frames.{payloads, shadowj1};
+ghost use Rattle.answer_journal.specs.Standing.{payload_list};
+ghost use Rattle.answer_journal.specs.Walk.{first_payloads};
+ghost use Rattle.exam_office.specs.declared.fault.OpenFault.TheVariants.{Disk as OfDisk};
+ghost use Rattle.exam_office.specs.declared.mark.Mark.TheVariants.{Old, Opened};
+ghost use Rattle.exam_office.specs.Files.{Stands};
+ghost use Rattle.exam_office.specs.Opening.{IsTaken, IsNotFollowing, AreTaken, IsNotTaken, IsOpenAnswer};
+
+use crate::fault::OpenFault;
+use crate::mark::{Mark, note};
+use answer_journal::{OpenFault as JournalFault, Walk, WalkFault};
+use bank_tables::Bank;
+use constraint_model::Spec;
+use exam_edge::Disk;
+use exam_records::{Record, RecordFault, decode};
+use exam_session::Book;
+use history_log::Counted;
+use history_model::laws::may_is_legal;
+use history_model::{Entry, Illegal};
+use std::alloc::Global;
+
+/// The fault of a record that may not follow.
+fn fault_of(at: u64, reason: Illegal) -> OpenFault
+    ensures { result ≡ Rattle.exam_office.specs.Opening.fault_of at reason }
+{
+    match reason {
+        Illegal::Tree(_) | Illegal::NotSpent(_) => OpenFault::BadTree(at),
+        _ => OpenFault::Illegal(at, reason),
+    }
+}
+
+/// The fault of a file that is no journal.
+pub fn journal_fault(fault: JournalFault) -> OpenFault
+    ensures { result ≡ Rattle.exam_office.specs.Opening.journal_fault fault }
+{
+    match fault {
+        JournalFault::Disk => OpenFault::Disk,
+        JournalFault::Memory => OpenFault::Memory,
+        _ => OpenFault::Journal(fault),
+    }
+}
+
+/// Takes a record into the book, where it may follow.
+fn follow(alloc: Global, at: u64, rec: &Record, book: &mut Book) -> Result<(), OpenFault>
+    ensures bank { book.new.bank ≡ book.old.bank }
+    ensures plan { book.new.plan ≡ book.old.plan }
+    ensures may { OnOk result
+        (MayFollow book.old.bank book.old.plan book.old.entries rec.now.entry rec.now.tree) }
+    ensures entries { OnOk result (book.new.entries ≡ book.old.entries ++ rec.now.entry ∷ []) }
+    ensures refused { IfErr result
+        (IsNotFollowing book.old.bank book.old.plan book.old.entries at rec.now) }
+{
+    match book.judge(rec) {
+        Ok(()) => {}
+        Err(reason) => return Err(fault_of(at, reason)),
+    }
+    match book.reserve(alloc) {
+        Ok(()) => {}
+        Err(_) => return Err(OpenFault::Memory),
+    }
+    may_is_legal();
+    book.apply(rec.entry);
+    Ok(())
+}
+
+/// Takes the record of a payload into the book, where it may follow, and gives its entry.
+fn take_record(alloc: Global, at: u64, payload: &[u8], book: &mut Book) -> Result<Entry, OpenFault>
+    ensures bank { book.new.bank ≡ book.old.bank }
+    ensures plan { book.new.plan ≡ book.old.plan }
+    ensures taken { IfOk result
+        (λ entry. IsTaken book.old.bank book.old.plan book.old.entries payload.now entry) }
+    ensures entries { IfOk result (λ entry. book.new.entries ≡ book.old.entries ++ entry ∷ []) }
+    ensures refused { IfErr result
+        (IsNotTaken book.old.bank book.old.plan book.old.entries at payload.now) }
+{
+    let rec = match decode(alloc, payload) {
+        Ok(rec) => rec,
+        Err(RecordFault::Memory) => return Err(OpenFault::Memory),
+        Err(fault) => return Err(OpenFault::BadRecord(at, fault)),
+    };
+    match follow(alloc, at, &rec, book) {
+        Ok(()) => Ok(rec.entry),
+        Err(fault) => Err(fault),
+    }
+}
+
+/// Takes the records of a file into an empty book and notes their entries, with one payload in
+/// memory. Only a disk that doesn't report its content may have lost a record since its frame was
+/// tested.
+fn take_records<D: Disk>(
+    alloc: Global,
+    walk: &mut Walk<D>,
+    book: &mut Book,
+    marks: &mut Counted<Mark>,
+) -> Result<(), OpenFault>
+    requires start { (walk.old.at ≡ 8) × (walk.old.given ≡ 0) }
+    requires gives { IsTrue (D.tells walk.old.disk)
+        → payloads shadowj1 (D.content walk.old.disk)
+        ≡ Some (payload_list shadowj1 (D.content walk.old.disk)) }
+    requires empty { book.old.entries ≡ [] }
+    requires none { marks.old ≡ [] }
+    ensures bank { book.new.bank ≡ book.old.bank }
+    ensures plan { book.new.plan ≡ book.old.plan }
+    ensures taken { OnOk result (AreTaken book.old.bank book.old.plan (D.tells walk.old.disk)
+        (D.content walk.old.disk) walk.new.given walk.new.at book.new.entries) }
+    ensures noted { OnOk result (marks.new ≡ map Old book.new.entries) }
+    // All of them.
+    ensures last { OnOk result (IsTrue (D.tells walk.old.disk)
+        → first_payloads walk.new.given (D.content walk.old.disk)
+        ≡ payload_list shadowj1 (D.content walk.old.disk)) }
+    ensures why { IfErr result (λ e. IsTrue (D.tells walk.old.disk)
+        → IsOpenAnswer book.old.bank book.old.plan (D.content walk.old.disk) e) }
+    ensures cause { IfErr result (λ e. e ≡ OfDisk
+        → Rose (D.faults walk.old.disk) (D.faults walk.new.disk)) }
+    ensures limit { walk.new.limit ≡ walk.old.limit }
+    ensures size { walk.new.size ≡ walk.old.size }
+    ensures content { IsTrue (D.tells walk.old.disk)
+        → D.content walk.new.disk ≡ D.content walk.old.disk }
+    ensures accounts { IsTrue (D.tells walk.old.disk)
+        → D.accounts walk.new.disk ≡ D.accounts walk.old.disk }
+    ensures frame { IsLent D.tells D.identity D.faults walk.old.disk walk.new.disk }
+{
+    let mut payload = Vec::new(alloc);
+    'records: loop {
+        match walk.next(alloc, &mut payload) {
+            Ok(Some(at)) => match take_record(alloc, at, &payload, book) {
+                Ok(entry) => match note(marks, &Mark::Old(entry)) {
+                    Ok(()) => {}
+                    Err(_) => return Err(OpenFault::Memory),
+                },
+                Err(fault) => return Err(fault),
+            },
+            Ok(None) => {
+                let length = walk.length();
+                if walk.place() + 1 < length {
+                    return Err(OpenFault::Journal(JournalFault::Cut(walk.place())));
+                }
+                return Ok(());
+            }
+            Err(WalkFault::Disk) => return Err(OpenFault::Disk),
+            Err(WalkFault::Memory) => return Err(OpenFault::Memory),
+        }
+    }
+}
+
+/// Judges each record of a file that is walked over, its proof tree included, and takes it into a
+/// new book, with one record in memory. It gives the book, and the marks of an office opened with
+/// it: the entries found, and the length of the journal. It writes nothing.
+pub fn take_history<'a, D: Disk>(
+    alloc: Global,
+    bank: &'a Bank,
+    spec: &'a Spec,
+    walk: &mut Walk<D>,
+) -> Result<(Book<'a>, Counted<Mark>), OpenFault>
+    requires plan { IsPlanFor bank.now spec.now }
+    requires start { (walk.old.at ≡ 8) × (walk.old.given ≡ 0) }
+    requires gives { IsTrue (D.tells walk.old.disk)
+        → payloads shadowj1 (D.content walk.old.disk)
+        ≡ Some (payload_list shadowj1 (D.content walk.old.disk)) }
+    ensures bank { IfOk result (λ found. found.0.bank ≡ bank.now) }
+    ensures plan { IfOk result (λ found. found.0.plan ≡ spec.now) }
+    ensures taken { IfOk result (λ found. AreTaken bank.now spec.now (D.tells walk.old.disk)
+        (D.content walk.old.disk) walk.new.given walk.new.at found.0.entries) }
+    ensures marks { IfOk result
+        (λ found. found.1 ≡ map Old found.0.entries ++ Opened walk.new.size ∷ []) }
+    // All of them: the file represents this history.
+    ensures last { OnOk result (IsTrue (D.tells walk.old.disk)
+        → first_payloads walk.new.given (D.content walk.old.disk)
+        ≡ payload_list shadowj1 (D.content walk.old.disk)) }
+    ensures stands { IfOk result (λ found. IsTrue (D.tells walk.old.disk)
+        → Stands bank.now spec.now found.0.entries (D.content walk.old.disk)) }
+    // The first record that is refused, if memory and the disk don't fail before.
+    ensures why { IfErr result (λ e. IsTrue (D.tells walk.old.disk)
+        → IsOpenAnswer bank.now spec.now (D.content walk.old.disk) e) }
+    ensures cause { IfErr result (λ e. e ≡ OfDisk
+        → Rose (D.faults walk.old.disk) (D.faults walk.new.disk)) }
+    ensures limit { walk.new.limit ≡ walk.old.limit }
+    ensures size { walk.new.size ≡ walk.old.size }
+    ensures content { IsTrue (D.tells walk.old.disk)
+        → D.content walk.new.disk ≡ D.content walk.old.disk }
+    ensures accounts { IsTrue (D.tells walk.old.disk)
+        → D.accounts walk.new.disk ≡ D.accounts walk.old.disk }
+    ensures frame { IsLent D.tells D.identity D.faults walk.old.disk walk.new.disk }
+{
+    let mut book = match Book::new(alloc, bank, spec) {
+        Ok(book) => book,
+        Err(_) => return Err(OpenFault::Memory),
+    };
+    let mut marks = Counted::new();
+    match take_records(alloc, walk, &mut book, &mut marks) {
+        Ok(()) => {}
+        Err(fault) => return Err(fault),
+    }
+    match note(&mut marks, &Mark::Opened(walk.length())) {
+        Ok(()) => Ok((book, marks)),
+        Err(_) => Err(OpenFault::Memory),
+    }
+}
