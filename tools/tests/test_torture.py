@@ -1,0 +1,219 @@
+"""torture.py: its draws, its readers by rows worked by hand, and that it finds a program that is
+wrong."""
+import contextlib
+import io
+import os
+import unittest
+from unittest import mock
+
+import data_of_bank_a as a
+import message_model
+import mutate_bank
+import reply_model
+import text_readers
+import torture
+import torture_cases
+import torture_draws as draws
+import torture_http
+from common import PROGRAM, TOOLS, Folder, needs_program
+from exam_client import answer, begin, request_bytes
+
+BANK = mutate_bank.read(draws.EXAMPLE[0])
+FAULTY = os.path.join(TOOLS, "tests", "faulty_shadowd.py")
+
+
+class Draws(unittest.TestCase):
+    def test_a_seed_gives_the_same_texts(self):
+        for number in range(20):
+            first, second = (draws.of_case(3, number) for _ in range(2))
+            self.assertEqual(draws.any_exam(first), draws.any_exam(second))
+            self.assertEqual(list(draws.requests(first, 9, 3)), list(draws.requests(second, 9, 3)))
+            self.assertEqual(draws.damaged(first, draws.EXAMPLE[0]),
+                             draws.damaged(second, draws.EXAMPLE[0]))
+
+    def test_texts_without_damage_are_read(self):
+        for number in range(20):
+            bank, plan = draws.small_exam(draws.of_case(4, number))
+            text_readers.read_plan(plan, *mutate_bank.read(bank))
+
+
+class Plans(unittest.TestCase):
+    """The first fault of a plan for the example's bank."""
+
+    def said(self, text):
+        try:
+            return text_readers.canonical(text_readers.read_plan(text, *BANK), 0)
+        except mutate_bank.Refused as refused:
+            return refused.line
+
+    def test_faults(self):
+        front = b"length 3\nprior -10 0 -10\n"
+        for text, wanted in (
+                (b"enemies 3 2\n", "line 1 set"), (b"length 2\n", "missing prior"),
+                             (b"", "missing length"), (front + b"rate 1 2\n", "missing key"),
+                (front + b"# \n\nlength 2", "line 5 twice"), (front + b"length x", "line 3 number"),
+                             (front + b"width 2", "line 3 word"),
+                (front + b"count 0 1 ", "line 3 shape"), (front + b"count 0  1 2", "line 3 shape"),
+                             (front + b"count 0 1 2-2", "line 3 set"),
+                (front + b"count 0 1 512", "line 3 set"), (front + b"count 2 1 0", "row 0 bounds"),
+                             (front + b"count 0 1 6", "row 0 item"),
+                (front + b"quantity 0 0 1 0", "row 0 quantity"),
+                             (front + b"quantity 256 0 1 0", "line 3 number"),
+                             (front + b"stimulus 1 1 2", "stimulus 1"),
+                (front + b"budget 2", "budget"), (front + b"journal 63", "limit"),
+                             (front + b"base 0-1", "base"), (b"prior 0\nlength 7", "length"),
+                (b"prior 0\nlength 6", "prior"), (front + b"key " + b"A" * 64, "line 3 number"),
+                             (front + b"\r\n", "line 3 word")):
+            with self.subTest(text):
+                self.assertEqual(self.said(text), f"plan: {wanted}")
+
+    def test_canonical(self):
+        text = b"#\nprior -10 0 -10\ncount 0 3 0-1 2 4\nlength 3\nbase 1 4-5"
+        self.assertEqual(self.said(text).splitlines(),
+                         ["length 3", "prior -10 0 -10", "rate 1 1", "key " + "0" * 64,
+                          "budget 2001", "base-budget 4095", "sessions 1000",
+                          "journal 67108864", "count 0 3 0-2 4", "base 1 4-5"])
+
+
+class Messages(unittest.TestCase):
+    """What messages are, and why bytes are none."""
+
+    def found(self, data):
+        return [one.words if isinstance(one, message_model.Fault) else message_model.asked(one)
+                for one in message_model.messages(data)]
+
+    def test_messages(self):
+        look = b"GET /sessions/7?x HTTP/1.1\n\n"
+        body = b'POST /sessions HTTP/1.1\r\nContent-length:\t25\r\n\r\n{"booking":1,"booking":2}'
+        for data, wanted in (
+                (look + look, [("look", [7])] * 2), (body[:-1], [[None]]), (body, [("begin", [2])]),
+                             (body.replace(b"25", b"24"), ["bad-json", ["bad-head"]]),
+                             (b"\r\n" + look[:-1], [[None]]),
+                (look.replace(b"1.1", b"1.0") + look, [("look", [7])]),
+                             (look.replace(b"GET", b"HEAD") + look, ["no-method"]),
+                (look.replace(b"GET ", b"GET  "), [["bad-head"]]),
+                             (look.replace(b"7", b"07"), ["no-route"]),
+                (b"POST /exposure HTTP/1.1\n\n", [["no-length"]]),
+                             (b"GET / HTTP/1.1\nContent-Length: 4097\n\n", [["too-long"]]),
+                (b"GET / HTTP/1.1\nContent-Length: 1\nContent-Length: 1\n\n", [["bad-head"]]),
+                (b"GET / HTTP/1.1\n" + b"A:\n" * 65 + b"\n", [["bad-head"]]),
+                             (b"GET /" + b"a" * 9000, [["too-long"]]), (b"\xff", [["bad-head"]]),
+                (b"POST /sessions HTTP/1.1\nContent-Length: 16\n\n{\"booking\": 1.0}",
+                 ["bad-body"]),
+                (b"POST /sessions HTTP/1.1\nContent-Length: 6\n\n[1e400", ["bad-json"])):
+            with self.subTest(data):
+                self.assertEqual(self.found(data), wanted)
+
+    def test_each_front_of_a_head_is_a_part(self):
+        head = b"\r\n\nPOST /a?b HTTP/1.1\r\nContent-Length: 0\r\nA:\n\r\n"
+        for size in range(1, len(head)):
+            self.assertEqual(message_model.front(head[:size]), message_model.Fault([None]),
+                             head[:size])
+
+
+def responded(status, body, close=False):
+    """A response as docs/HTTP.md has it, with the status line as its text."""
+    fields = "Content-Type: application/json\r\n" + f"Content-Length: {len(body)}\r\n"
+    return f"HTTP/1.1 {status}\r\n{fields}{close * CLOSE}\r\n{body}".encode("ascii")
+
+
+CLOSE = "Connection: close\r\n"
+PLACE = '{"item":2,"proved":true,"session":0,"state":"waiting","step":0}'
+# A session that begins, gets a response that its item does not have, and is closed.
+ASKED = [begin(70), answer(0, 0, 2), request_bytes("GET", "/sessions/0"),
+         request_bytes("POST", "/sessions/0/close"), request_bytes("GET", "/exposure"), b"\xff"]
+ANSWERED = [responded("201 Created", PLACE),
+            responded("422 Unprocessable Entity", '{"error":"bad-response","value":2}'),
+            responded("200 OK", PLACE), responded("200 OK", '{"session":0,"state":"closed"}'),
+            responded("200 OK", '{"finished":1,"rows":[[0,1],[0,1],[1,1],[0,1],[0,1],[0,1]]}'),
+            responded("400 Bad Request", '{"error":"bad-head"}', True)]
+
+
+class Connections(Folder):
+    """The responses of a connection, beside the journal that was left."""
+
+    def setUp(self):
+        super().setUp()
+        case = torture_cases.Case(None, self.folder, None)
+        self.exam = torture_cases.Exam(case, *draws.EXAMPLE)
+        tree = bytes.fromhex("0100010003000000010300")
+        entries = [a.started(0, 70), a.served(0, 0, 2, [1, 2, 3], tree=tree), b"\5\0\0\0\0"]
+        case.write("journal", a.journal(entries))
+
+    def in_order(self, answered, asked=b"".join(ASKED)):
+        """The judgement of one connection after another."""
+        records, _ = reply_model.records_of(self.exam.case.read("journal"))
+        model = reply_model.Model(self.exam.rules, records)
+        torture_http.Responses(self.exam, model, answered, False).judge(asked, False)
+
+    def in_any_order(self, answered, asked=b"".join(ASKED)):
+        """The judgement of many at once."""
+        caller = mock.Mock(heard=[(asked, answered, True)])
+        torture_http.Facts(self.exam).judge([caller])
+
+    def replayed(self, status, out, script):
+        """The judgement of a replay that was killed or that ended, over no journal before."""
+        stop = torture_cases.Stop(after=1) if status else torture_cases.NO_STOP
+        done = torture_cases.Run(status, out.encode("ascii"), "")
+        after, requests = self.exam.case.read("journal"), text_readers.read_script(script)
+        return torture_cases.Judged(self.exam, requests, None, after, done, stop).judge()
+
+    def test_replies_and_entries_of_a_replay(self):
+        script = b"begin 70\nclose 0\n"
+        first, last = "session 0 step 0 item 2 proved\n", "session 0 closed\n"
+        for status, out, asked, count in ((0, first + last, script, 2), (-9, first, script, 1),
+                                          (-9, first + last[:9], script, 1),
+                                          (-9, first + last, script + b"begin 71\n", 2)):
+            self.assertEqual(self.replayed(status, out, asked), count)
+        for status, out, asked in ((-9, "", script), (-9, last, script), (-9, first, script[:9]),
+                                   (0, first, script), (0, first + last + last, script)):
+            with self.subTest(status=status, out=out, asked=asked):
+                with self.assertRaises(reply_model.Surprise):
+                    self.replayed(status, out, asked)
+
+    def test_what_is_right(self):
+        self.in_order(b"".join(ANSWERED))
+        self.in_any_order(b"".join(ANSWERED))
+
+    def test_what_is_wrong(self):
+        whole = b"".join(ANSWERED)
+        wrong = [b"".join(ANSWERED[:k] + ANSWERED[k + 1:]) for k in range(6)]
+        wrong += [whole + ANSWERED[-1], ANSWERED[0] + whole,
+                  whole.replace(b"201 Created", b"200 OK")]
+        changes = [(b'"item":2', b'"item":3'), (b'"value":2', b'"value":3'), (b"[1,1]", b"[2,1]"),
+                   (b"closed", b"opened"), (b"true", b"null"), (b'"step":0', b'"step":1')]
+        wrong += [whole.replace(*change) for change in changes]
+        for answered in wrong:
+            for judge in (self.in_order, self.in_any_order):
+                if judge == self.in_any_order and answered == wrong[8]:
+                    continue  # another caller may have begun the session
+                with self.subTest(answered, judge=judge.__name__):
+                    with self.assertRaises((reply_model.Surprise, LookupError)):
+                        judge(answered)
+
+
+@needs_program
+class Wrong(Folder):
+    """A program that is wrong is found, and the case is kept."""
+
+    def tortured(self, fault, kind, cases):
+        said, environment = io.StringIO(), {"SHADOWD": PROGRAM, "FAULT": fault}
+        with contextlib.redirect_stdout(said), mock.patch.dict(os.environ, environment):
+            status = torture.main([FAULTY, "--cases", str(cases), "--kinds", kind, "--keep",
+                                   self.path("kept")])
+        return status, said.getvalue()
+
+    def test_faults(self):
+        for fault, kind in (("item", "stops"), ("twice", "stops"), ("lost", "stops"),
+                            ("byte", "stops"), ("shorter", "stops"), ("status", "journals"),
+                            ("touch", "journals"), ("fault", "texts"), ("canonical", "texts"),
+                            ("status", "texts")):
+            with self.subTest(fault=fault, kind=kind):
+                status, said = self.tortured(fault, kind, 8)
+                self.assertEqual(status, 1, said)
+                self.assertRegex(said, r"again: python3 .* --seed 1 --case \d+ --kinds " + kind)
+                self.assertTrue(os.path.exists(self.path("kept/surprise.txt")))
+
+
+if __name__ == "__main__":
+    unittest.main()
