@@ -22,18 +22,34 @@ const SECOND: &str = "POST /sessions HTTP/1.1\r\nContent-Length: 14\r\n\r\n{\"bo
 
 const IDLE: &str = "entries 0 sessions 0 finished 0 proved 0 unproved 0 aside 0 nodes 0\n";
 
-/// A door with one link, which gives this text; its calls of these numbers fail.
-fn door(alloc: Global, text: &str, fails: &[u64]) -> Result<MemoryDoor, Fail>
-    ensures { IfOk result (λ d. out_of d ≡ false) }
-{
-    let link = MemoryLink::of(alloc, text.as_bytes().to_vec(alloc)?, Vec::new(alloc));
-    let mut links = Vec::new(alloc);
-    links.push(link)?;
-    Ok(MemoryDoor::of(alloc, links, fails.to_vec(alloc)?)?)
+/// The calls that fail: of each door, and of each link.
+#[derive(Clone, Copy)]
+struct Fails<'a> {
+    door: &'a [u64],
+    link: &'a [u64],
 }
 
-/// A door for each of these texts; the calls of each of these numbers fail.
-fn doors_of(alloc: Global, texts: &[&str; 2], fails: &[u64]) -> Result<Vec<MemoryDoor>, Fail>
+const NONE: Fails<'static> = Fails {
+    door: &[],
+    link: &[],
+};
+
+/// A door with one link, which gives this text; these calls of them fail.
+fn door(alloc: Global, text: &str, fails: Fails<'_>) -> Result<MemoryDoor, Fail>
+    ensures { IfOk result (λ d. out_of d ≡ false) }
+{
+    let link = MemoryLink::of(
+        alloc,
+        text.as_bytes().to_vec(alloc)?,
+        fails.link.to_vec(alloc)?,
+    );
+    let mut links = Vec::new(alloc);
+    links.push(link)?;
+    Ok(MemoryDoor::of(alloc, links, fails.door.to_vec(alloc)?)?)
+}
+
+/// A door for each of these texts; these calls of each fail.
+fn doors_of(alloc: Global, texts: &[&str; 2], fails: Fails<'_>) -> Result<Vec<MemoryDoor>, Fail>
     ensures few { IfOk result (λ doors. vec_len doors ≤ 2) }
     ensures home { IfOk result (λ doors. All (λ d. out_of d ≡ false) doors.items) }
 {
@@ -75,28 +91,58 @@ fn a_server_with_no_doors(rt: HostRuntime) -> Result<(), Fail> {
     serves(&rt, Vec::new(rt.alloc()), &CALM, 0, IDLE)
 }
 
-#[test]
-fn a_server_with_two_doors(rt: HostRuntime) -> Result<(), Fail> {
-    let doors = doors_of(rt.alloc(), &[FIRST, SECOND], &[])?;
-    let front = "entries 4 sessions 2 finished 0 proved 2 unproved 0 aside 0 nodes ";
-    serves(&rt, doors, &CALM, 0, front)
+/// The summary where both sessions were begun.
+const BOTH: &str = "entries 4 sessions 2 finished 0 proved 2 unproved 0 aside 0 nodes ";
+
+/// Two doors, of each of which these calls fail, end with this status and a text that begins so.
+fn two_doors<R: Abort + AllocGlobal + Threads + Wait + Sync>(
+    rt: &R,
+    fails: Fails<'_>,
+    status: u8,
+    front: &str,
+) -> Result<(), Fail> {
+    let doors = doors_of(rt.alloc(), &[FIRST, SECOND], fails)?;
+    serves(rt, doors, &CALM, status, front)
 }
 
 #[test]
-fn a_door_that_fails(rt: HostRuntime) -> Result<(), Fail> {
-    let doors = doors_of(rt.alloc(), &[FIRST, SECOND], &[0])?;
-    serves(&rt, doors, &CALM, 14, "door failed\n")
+fn a_server_with_two_doors(rt: HostRuntime) -> Result<(), Fail> {
+    two_doors(&rt, NONE, 0, BOTH)
+}
+
+/// A door gives its link by the first call and none by the second; it has no third.
+#[test]
+fn each_failing_call_of_a_door(rt: HostRuntime) -> Result<(), Fail> {
+    for call in 0..2u64 {
+        let fails = Fails {
+            door: &[call],
+            ..NONE
+        };
+        two_doors(&rt, fails, 14, "door failed\n")?;
+    }
+    let fails = Fails { door: &[2], ..NONE };
+    two_doors(&rt, fails, 0, BOTH)
+}
+
+/// A link that fails ends its connection, and no more: the first call is a read and the second a write.
+#[test]
+fn each_failing_call_of_a_link(rt: HostRuntime) -> Result<(), Fail> {
+    let fails = Fails { link: &[0], ..NONE };
+    two_doors(&rt, fails, 0, IDLE)?;
+    for call in 1..4u64 {
+        let fails = Fails {
+            link: &[call],
+            ..NONE
+        };
+        two_doors(&rt, fails, 0, BOTH)?;
+    }
+    Ok(())
 }
 
 #[test]
 fn a_journal_that_cannot_be_opened(rt: HostRuntime) -> Result<(), Fail> {
-    let given = Given {
-        journal: &[],
-        files: &[],
-        sink: &[],
-        disk: &[0],
-    };
-    let doors = doors_of(rt.alloc(), &[FIRST, SECOND], &[])?;
+    let given = Given { disk: &[0], ..CALM };
+    let doors = doors_of(rt.alloc(), &[FIRST, SECOND], NONE)?;
     serves(&rt, doors, &given, 9, "disk failed\n")
 }
 

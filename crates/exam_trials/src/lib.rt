@@ -10,6 +10,8 @@ mod doors;
 #[cfg(test)]
 mod faults;
 #[cfg(test)]
+mod journals;
+#[cfg(test)]
 mod outcome;
 #[cfg(test)]
 mod sessions;
