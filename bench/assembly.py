@@ -183,6 +183,7 @@ GROUPS = (
     ("all drills", lambda name: name.startswith("drill")),
     ("larger, no stimuli", lambda name: name.endswith(", 0 stimuli")),
     ("larger, stimuli", lambda name: name.endswith("stimuli") and not name.endswith(", 0 stimuli")),
+    ("passages", lambda name: name.endswith("passages")),
 )
 
 

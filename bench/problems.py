@@ -115,6 +115,10 @@ class Larger:
         alone = [i for i in range(self.items) if self.stimulus[i] == 0]
         return frozenset(form + self.draws.some(self.length - len(form), alone))
 
+    def bounds(self):
+        """The least and the greatest number of items of each stimulus."""
+        return [(2, 4)] * self.stimuli
+
     def bank(self):
         rows = []
         for i in range(self.items):
@@ -149,7 +153,8 @@ class Larger:
             rows.append("stimuli %d %d" % (max(0, len(self.used) - 1), len(self.used) + 1))
         rows += self.enemies(self.count - len(rows))
         lines = ["length %d" % self.length, "prior " + " ".join(str(-20 * (g - 5)**2) for g in range(11)), "budget 2001"]
-        return "\n".join(lines + rows + ["stimulus %d 2 4" % s for s in range(1, self.stimuli + 1)]) + "\n"
+        bounds = ["stimulus %d %d %d" % (s, *bound) for s, bound in enumerate(self.bounds(), 1)]
+        return "\n".join(lines + rows + bounds) + "\n"
 
     def problem(self, sessions):
         name = "%d items, %d rows, %d stimuli" % (self.items, self.count, self.stimuli)
@@ -158,12 +163,50 @@ class Larger:
         return Problem(name, bank, plan, answers, None)
 
 
+# ---------------------------------------------------------------- tests of passages
+
+class Passages(Larger):
+    """A larger bank most of whose items are in stimuli of four to eight items, and tests of 30 items.
+
+    The form drawn first has some five stimuli, each with four items; a plan bounds each stimulus to three to five items.
+    """
+
+    def __init__(self, seed, items, rows, stimuli):
+        self.draws = Draws(seed)
+        self.items, self.length, self.count, self.stimuli = items, 30, rows, stimuli
+        sizes = [self.draws.between(4, 8) for _ in range(stimuli)]
+        self.stimulus = [s for s, size in enumerate(sizes, 1) for _ in range(size)]
+        self.stimulus += [0] * (items - len(self.stimulus))
+        self.amounts = [(self.draws.between(30, 120), self.draws.between(20, 90)) for _ in range(items)]
+        self.subject = [self.draws.between(0, 4) for _ in range(items)]
+        self.key = [self.draws.between(0, 3) for _ in range(items)]
+        self.used = self.draws.some(5, range(1, stimuli + 1))
+        self.form = self.draw_form()
+
+    def draw_form(self):
+        form = []
+        for s in self.used:
+            form += self.draws.some(4, [i for i in range(self.items) if self.stimulus[i] == s])
+        alone = [i for i in range(self.items) if self.stimulus[i] == 0]
+        return frozenset(form + self.draws.some(self.length - len(form), alone))
+
+    def bounds(self):
+        return [(3, 5)] * self.stimuli
+
+    def problem(self, sessions):
+        made = super().problem(sessions)
+        return made._replace(name="%d items, %d rows, %d passages" % (self.items, self.count, self.stimuli))
+
+
 def all_problems(short):
-    """The drills, bank L and the larger banks; `short` gives few and small ones."""
+    """The drills, bank L, the larger banks and the passages; `short` gives few and small ones."""
     numbers = (7,) if short else (1, 7, 8, 77, 100, 2024)
     problems = [drill(number, 2 if short else 10) for number in numbers] + [twelve_categories()]
     sizes = [(64, 20, 30, 0), (128, 20, 30, 0), (256, 30, 30, 0), (256, 30, 60, 0), (512, 36, 60, 0),
              (64, 20, 30, 4), (128, 20, 30, 4), (256, 30, 30, 4), (512, 36, 60, 4), (256, 30, 60, 8), (512, 36, 60, 24)]
     for items, length, rows, stimuli in sizes[:1] if short else sizes:
         problems.append(Larger(items + stimuli, items, length, rows, stimuli).problem(1 if short else 2))
+    passages = [(200, 20, 16), (200, 40, 16), (400, 30, 40), (400, 60, 40), (512, 20, 64), (512, 60, 64)]
+    for items, rows, stimuli in passages[:1] if short else passages:
+        problems.append(Passages(items + rows, items, rows, stimuli).problem(1 if short else 2))
     return problems

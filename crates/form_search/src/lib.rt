@@ -5,7 +5,8 @@
 //!
 //! Words: a *table* is a problem as flat arrays; a *tally* what a set of items adds to each row; a *pool* the vectors of a
 //! tree; a vector is *priced* once its reduced weights are computed; a *hand* is the vector that the steps at a path begin
-//! with; *shares* are how often steps selected each item.
+//! with; *shares* are how often steps chose each item and each stimulus; a *cap* is what a free item of an open stimulus counts
+//! at most in a vector's bound.
 #![tactic(auto)]
 
 mod branching;

@@ -92,7 +92,7 @@ impl Pass {
     fn aim(&self, incumbent: &Incumbent, steps: u32) -> Aim {
         Aim {
             ray: incumbent.form.is_none(),
-            target: incumbent.top().wrapping_sub(self.limits.margin),
+            target: Some(incumbent.top().wrapping_sub(self.limits.margin)),
             steps,
         }
     }
@@ -206,7 +206,7 @@ impl Pass {
         }
         self.branches = self.branches.saturating_sub(1);
         let (cut, probes) = (&place.cut, self.limits.probes);
-        let choices = choices(alloc, table, cut, stepped.shares.as_slice(), probes)?;
+        let choices = choices(alloc, table, cut, &stepped, probes)?;
         let (pool, tried) = (&self.pool, choices.as_slice());
         let aim = self.aim(incumbent, PROBE_STEPS);
         let best = if pool.has_room() {
@@ -303,6 +303,11 @@ impl Pass {
     fn is_stale(&self, incumbent: &Incumbent) -> bool {
         let count = self.nodes.len();
         count >= 32 && count.is_power_of_two() && incumbent.objective > self.begun
+    }
+
+    /// Whether a better form was met while it grew to many nodes: a pass that begins anew would be smaller.
+    pub fn is_late(&self, incumbent: &Incumbent) -> bool {
+        self.nodes.len() > 48 && incumbent.objective > self.begun
     }
 
     /// A pass over the paths from the root on.

@@ -76,6 +76,8 @@ fn side_of(
     let Stepped {
         vector,
         shares: _,
+        stimulus_shares: _,
+        choice: _,
         bound,
     } = Stepped::of(ascent);
     Ok(Hand { vector, bound })

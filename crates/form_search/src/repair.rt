@@ -16,15 +16,24 @@ fn weight_at(weights: &[i64], item: u16) -> i64 {
     weights.get(item as usize).copied().unwrap_or(0)
 }
 
-/// A free item outside the set of the greatest weight.
-fn next_best(table: &Table, weights: &[i64], items: &ItemSet) -> Option<u16> {
+/// A free item outside the set of the greatest weight, of those that open no stimulus and fill none beyond its bound where
+/// `fits` is set.
+fn next_best(
+    table: &Table,
+    tally: &Tally,
+    weights: &[i64],
+    items: &ItemSet,
+    fits: bool,
+) -> Option<u16> {
     let mut best = None;
     let mut most = i64::MIN;
     let mut item = 0u16;
     for entry in table.entries.as_slice() {
         if entry.free && !items.has(item) && weight_at(weights, item) > most {
-            most = weight_at(weights, item);
-            best = Some(item);
+            if !fits || tally.has_room(table, entry) {
+                most = weight_at(weights, item);
+                best = Some(item);
+            }
         }
         item = item.saturating_add(1);
     }
@@ -35,10 +44,14 @@ fn next_best(table: &Table, weights: &[i64], items: &ItemSet) -> Option<u16> {
 fn filled(table: &Table, weights: &[i64], begun: &ItemSet) -> ItemSet {
     let mut items = *begun;
     for _ in begun.count()..table.length {
-        if let Some(item) = next_best(table, weights, &items) {
-            if item < 512 {
-                items = items.with(item);
-            }
+        let tally = Tally::of(table, &items);
+        let next = match next_best(table, &tally, weights, &items, true) {
+            Some(item) => Some(item),
+            None => next_best(table, &tally, weights, &items, false),
+        };
+        match next {
+            Some(item) if item < 512 => items = items.with(item),
+            _ => {}
         }
     }
     items

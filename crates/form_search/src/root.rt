@@ -4,14 +4,14 @@ ghost use Rattle.exam_model.specs.Validity.{IsWellMade};
 ghost use Rattle.constraint_model.specs.Views.{problem_of};
 
 use crate::incumbent::Incumbent;
-use crate::pool::{copied, empty_vector, wanted};
-use crate::priced::Priced;
+use crate::pool::empty_vector;
 use crate::repair::nearby_form;
 use crate::steps::{Stepped, take_form};
 use crate::table::Table;
+use bank_tables::ItemSet;
 use constraint_model::Problem;
 use lagrange_bound::{Aim, Cut, climb};
-use proof_tree::{Memory, Vector};
+use proof_tree::Memory;
 use std::alloc::Global;
 
 /// Steps of a piece at the root.
@@ -20,26 +20,15 @@ const PIECE: u32 = 100;
 /// Pieces at the root, at most.
 const PIECES: u32 = 3;
 
-/// How far below its bound steps at the root aim as long as there is no form.
-const FIRST_WAY: i64 = 12_800;
-
 /// The least that a piece has to gain for another one to follow.
 const LEAST_GAIN: i64 = 512;
 
-/// What steps at the root aim at: to close it, or, as long as there is no form, to come some way below its bound.
-fn target_of(
-    alloc: Global,
-    table: &Table,
-    cut: &Cut,
-    from: &Vector,
-    incumbent: &Incumbent,
-) -> Result<i64, Memory> {
-    if incumbent.form.is_some() {
-        return Ok(incumbent.top());
+/// What steps at the root aim at: to close it, where there is a form.
+fn target_of(incumbent: &Incumbent) -> Option<i64> {
+    match incumbent.form {
+        Some(_) => Some(incumbent.top()),
+        None => None,
     }
-    let priced = Priced::of(alloc, table, copied(alloc, from)?, false)?;
-    let bound = priced.bound_on(cut, wanted(table, cut)).unwrap_or(0);
-    Ok(bound.wrapping_sub(FIRST_WAY))
 }
 
 /// The result of no steps.
@@ -47,6 +36,8 @@ fn no_steps(alloc: Global) -> Stepped {
     Stepped {
         vector: empty_vector(alloc),
         shares: Vec::new(alloc),
+        stimulus_shares: Vec::new(alloc),
+        choice: ItemSet::empty(),
         bound: i64::MAX,
     }
 }
@@ -65,7 +56,7 @@ pub fn steps_at_root(
     for _ in 0..PIECES {
         let aim = Aim {
             ray: false,
-            target: target_of(alloc, table, cut, &stepped.vector, incumbent)?,
+            target: target_of(incumbent),
             steps: PIECE,
         };
         let ascent = climb(alloc, problem, cut, &stepped.vector, aim)?;
@@ -73,7 +64,7 @@ pub fn steps_at_root(
         let gained = stepped.bound.saturating_sub(ascent.bound);
         stepped = Stepped::of(ascent);
         if incumbent.form.is_none() {
-            let items = nearby_form(alloc, table, &stepped.vector, &problem.given)?;
+            let items = nearby_form(alloc, table, &stepped.vector, &stepped.choice)?;
             incumbent.offer(problem, table, &items);
         }
         if gained < LEAST_GAIN || stepped.bound <= incumbent.top() {

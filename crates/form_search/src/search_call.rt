@@ -87,8 +87,8 @@ fn tree_of(alloc: Global, pass: Pass) -> Result<Option<Tree>, Memory> {
     Ok(Tree::of(List::of(vectors), List::of(nodes)))
 }
 
-/// Passes until one is whole. Its tree is taken if the budget is not spent. Else one more pass tries more branches at each
-/// path.
+/// Passes until one is whole, and no better form was met while it grew large. Its tree is taken if the budget is not spent.
+/// Else one more pass tries more branches at each path.
 fn passes(
     alloc: Global,
     problem: &Problem,
@@ -109,10 +109,12 @@ fn passes(
     for _ in 0..MOST_PASSES {
         let pass = Pass::over(alloc, problem, table, incumbent, at_root, limits)?;
         if pass.is_whole {
-            if !pass.is_spent {
+            if pass.is_spent {
+                break;
+            }
+            if !pass.is_late(incumbent) {
                 return tree_of(alloc, pass);
             }
-            break;
         }
     }
     limits.restarts = false;

@@ -6,17 +6,20 @@ ghost use Rattle.constraint_model.specs.Views.{problem_of};
 use crate::incumbent::Incumbent;
 use crate::pool::copied;
 use crate::table::Table;
+use bank_tables::ItemSet;
 use constraint_model::Problem;
 use lagrange_bound::Ascent;
 use proof_tree::{Memory, Vector};
 use std::alloc::Global;
 
-/// The result of steps on a path: the best vector, for each item its share, and the vector's bound
-/// as the steps computed it.
+/// The result of steps on a path: the best vector, for each item and stimulus its share, the items chosen last, and the
+/// vector's bound as the steps computed it.
 #[derive(Debug, Drop)]
 pub struct Stepped {
     pub vector: Vector,
     pub shares: Vec<u16>,
+    pub stimulus_shares: Vec<u16>,
+    pub choice: ItemSet,
     pub bound: i64,
 }
 
@@ -27,22 +30,26 @@ impl Stepped {
             vector,
             bound,
             shares,
+            stimulus_shares,
+            choice,
             form: _,
         } = ascent;
         Stepped {
             vector,
             shares,
+            stimulus_shares,
+            choice,
             bound,
         }
     }
 
     /// The same once more.
     pub fn again(&self, alloc: Global) -> Result<Stepped, Memory> {
-        let mut shares = Vec::new(alloc);
-        shares.extend_from_slice(self.shares.as_slice())?;
         Ok(Stepped {
             vector: copied(alloc, &self.vector)?,
-            shares,
+            shares: Vec::from_slice(alloc, &self.shares)?,
+            stimulus_shares: Vec::from_slice(alloc, &self.stimulus_shares)?,
+            choice: self.choice,
             bound: self.bound,
         })
     }

@@ -95,6 +95,18 @@ impl Tally {
         }
     }
 
+    /// Whether one more item opens no stimulus, and fills none beyond its bound.
+    pub fn has_room(&self, table: &Table, entry: &Entry) -> bool {
+        if entry.stimulus == 0 {
+            return true;
+        }
+        let found = self.on_stimulus(entry.stimulus);
+        match table.stimuli.get((entry.stimulus as usize).wrapping_sub(1)) {
+            Some(limits) => 0 < found && found < limits.high,
+            None => false,
+        }
+    }
+
     /// How far the set is from the bounds of all rows and stimuli; 0 exactly where it meets them.
     pub fn violation(&self, table: &Table) -> i64 {
         let mut sum = 0i64;

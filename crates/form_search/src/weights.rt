@@ -116,3 +116,14 @@ pub fn stimulus_weights(alloc: Global, table: &Table, vector: &Vector) -> Result
     }
     Ok(weights)
 }
+
+/// The cap: the multiplier of its low side less that of its high side, where the vector names one of them.
+pub fn cap_of(vector: &Vector) -> Option<i64> {
+    let mut cap = None;
+    for pair in vector.pairs() {
+        if pair.0 / 2 == 192 {
+            cap = Some(cap.unwrap_or(0i64).wrapping_sub(side_price(1, 1, pair)));
+        }
+    }
+    cap
+}

@@ -17,11 +17,12 @@ use constraint_model::Problem;
 use proof_tree::{Memory, Vector};
 use std::alloc::Global;
 
-/// What subgradient steps aim at: a bound of at most `target`, of the objective or of a ray, within so many steps.
+/// What subgradient steps aim at: a bound of at most `target`, or as low as they come where there is none, of the objective or
+/// of a ray, within so many steps.
 #[derive(Clone, Copy, Debug, PartialEq, Eq)]
 pub struct Aim {
     pub ray: bool,
-    pub target: i64,
+    pub target: Option<i64>,
     pub steps: u32,
 }
 
@@ -32,8 +33,12 @@ pub struct Ascent {
     pub vector: Vector,
     /// Its bound, as the steps computed it.
     pub bound: i64,
-    /// For each item of the bank the smoothed share of steps in which it was among those of the greatest weight, from 0 to 4,096.
+    /// For each item of the bank the smoothed share of steps in which the relaxed maximum had it, from 0 to 4,096.
     pub shares: Vec<u16>,
+    /// The same of each stimulus, that of stimulus `s` at `s - 1`.
+    pub stimulus_shares: Vec<u16>,
+    /// The items that the relaxed maximum of the last step had.
+    pub choice: ItemSet,
     /// A set of items met on the way that seems to be a form better than the target.
     pub form: Option<ItemSet>,
 }
@@ -81,12 +86,16 @@ pub fn climb(
         vector: _,
         bound: _,
         shares,
+        stimulus_shares,
+        choice,
         form,
     } = ascent;
     Ok(Ascent {
         vector: Vector::new(List::of(Vec::new(alloc))),
         bound: i64::MAX,
         shares,
+        stimulus_shares,
+        choice,
         form,
     })
 }
@@ -111,13 +120,15 @@ pub fn improve(
 {
     let aim = Aim {
         ray: false,
-        target: target.min(i64::MAX as u64) as i64,
+        target: Some(target.min(i64::MAX as u64) as i64),
         steps,
     };
     let Ascent {
         vector,
         bound: _,
         shares: _,
+        stimulus_shares: _,
+        choice: _,
         form: _,
     } = steps_from(alloc, problem, cut, from, aim)?;
     if names_only_sides(problem, &vector) && is_no_higher(problem, cut, from, &vector, false) {

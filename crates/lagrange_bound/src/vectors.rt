@@ -10,19 +10,15 @@ use constraint_model::Problem;
 use proof_tree::{Memory, Vector};
 use std::alloc::Global;
 
-/// Whether the vector names only sides of the plan.
+/// Whether each side that the vector names is one of the plan's, or of the cap.
 pub fn names_only_sides(problem: &Problem, vector: &Vector) -> bool
     requires { IsWellMade (problem_of problem.now) }
     ensures { IsTrue result → NamesOnlySides (problem_of problem.now) vector.now }
 {
     prove!(problem.spec.rows().len() <= 128);
     let sides = 2 * problem.spec.rows().len() + 2 * problem.bank.stimuli() as usize;
-    for pair in vector.pairs() {
-        if sides <= pair.0 as usize {
-            return false;
-        }
-    }
-    true
+    let pairs = vector.pairs();
+    pairs.iter().all(|pair| (pair.0 as usize) < sides || pair.0 == 384 || pair.0 == 385)
 }
 
 /// A copy of the vector.

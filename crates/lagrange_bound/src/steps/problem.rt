@@ -1,45 +1,59 @@
-//! A problem on a path as flat arrays: its free items, and lines for its rows and stimuli.
+//! A problem on a path as flat arrays: its free items, lines for its rows, and its stimuli.
 
 use crate::cut::Cut;
 use crate::steps::coefficients::{
     Bounds, Measure, Taken, bounds_of, coefficient, gain_of, stimulus_of, sum_over,
 };
-use crate::steps::constraints::{Kind, Line, Multiplier};
+use crate::steps::constraints::{Line, Multiplier};
+use crate::steps::ranking::{Weighed, put_in_order, reorder};
 use crate::steps::selection::{Selection, reweigh};
+use crate::steps::stimuli::Stimulus;
 use bank_tables::{Bank, ItemSet};
 use constraint_model::{Problem, Row, StimulusBound};
 use proof_tree::{Memory, Vector};
 use std::alloc::Global;
 
-/// The free items and the lines.
+/// The free items, the lines and the stimuli.
 #[derive(Drop)]
 pub(crate) struct Flat {
-    /// The numbers of the free items, ascending.
+    /// The numbers of the free items: those of no stimulus, and then those of each stimulus.
     pub numbers: Vec<u16>,
     /// 256 times the information of each, or 0 for a ray.
     pub gains: Vec<i64>,
     /// The reduced weight of each.
     pub weights: Vec<i64>,
-    /// The smoothed share of steps in which each was selected, from 0 to 4,096.
+    /// The smoothed share of steps in which each was chosen, from 0 to 4,096.
     pub shares: Vec<u16>,
-    /// The rows in their order, and then the stimuli that are chosen or open.
+    /// How many are of no stimulus.
+    pub alone: usize,
+    /// The heaviest of these, in order: as many as can be chosen.
+    pub top: Vec<Weighed>,
+    /// The items of each stimulus, the heaviest first.
+    pub ranked: Vec<Weighed>,
+    /// The stimuli that are chosen or open.
+    pub stimuli: Vec<Stimulus>,
+    /// The rows in their order.
     pub lines: Vec<Line>,
     pub selection: Selection,
     /// 256 times the information of the items taken, or 0 for a ray.
     pub taken: i64,
+    /// How many more items a form needs.
+    pub wanted: i64,
+    /// The threshold of the last step.
+    pub threshold: i64,
     /// Whether the rows that have no line are met.
     pub rest_is_met: bool,
 }
 
 /// The multiplier of each side.
-type Sides = [u32; 384];
+type Sides = [u32; 386];
 
 /// The place of each free item among them.
 type Places = [u16; 512];
 
 /// The multiplier of each side that a vector names, 0 of the others.
 fn sides_of(vector: &Vector) -> Sides {
-    let mut sides = [0u32; 384];
+    let mut sides = [0u32; 386];
     for (side, multiplier) in vector.pairs() {
         if let Some(slot) = sides.get_mut(*side as usize) {
             *slot = *multiplier;
@@ -69,39 +83,137 @@ struct Free {
     gains: Vec<i64>,
     /// The place of each number.
     places: Places,
-    /// The place of the last item of each stimulus.
+    /// The last item of each stimulus; 0 is none.
     last_of: [u16; 256],
-    /// The place of the item before each that has the same stimulus.
-    before: Vec<u16>,
+    /// The item before each that has the same stimulus.
+    before: [u16; 512],
 }
 
-fn free_items(alloc: Global, problem: &Problem, free: &ItemSet, ray: bool) -> Result<Free, Memory> {
-    let count = free.count() as usize;
-    let mut numbers = Vec::with_capacity(alloc, count)?;
-    let mut gains = Vec::with_capacity(alloc, count)?;
-    let mut before = Vec::with_capacity(alloc, count)?;
-    let mut places = [u16::MAX; 512];
-    let mut last_of = [u16::MAX; 256];
-    for item in 0..problem.bank.items() {
-        if free.has(item) {
-            let place = short(numbers.len());
-            if let Some(slot) = places.get_mut(item as usize) {
-                *slot = place;
-            }
-            numbers.push(item)?;
-            gains.push(gain_of(problem, ray, item))?;
-            let last = &mut last_of[stimulus_of(problem.bank, item) as usize];
-            before.push(*last)?;
-            *last = place;
+impl Free {
+    /// Gives an item the next place.
+    fn place(&mut self, problem: &Problem, item: u16, ray: bool) -> Result<(), Memory> {
+        if let Some(slot) = self.places.get_mut(item as usize) {
+            *slot = short(self.numbers.len());
+        }
+        self.numbers.push(item)?;
+        self.gains.push(gain_of(problem, ray, item))?;
+        Ok(())
+    }
+
+    /// Keeps an item of a stimulus for later.
+    fn chain(&mut self, stimulus: u8, item: u16) {
+        let last = &mut self.last_of[stimulus as usize];
+        if let Some(slot) = self.before.get_mut(item as usize) {
+            *slot = *last;
+            *last = item;
         }
     }
-    Ok(Free {
-        numbers,
-        gains,
-        places,
-        last_of,
-        before,
-    })
+
+    /// Gives the items of a stimulus their places.
+    fn place_members(
+        &mut self,
+        problem: &Problem,
+        stimulus: usize,
+        ray: bool,
+    ) -> Result<(), Memory> {
+        let mut item = self.last_of.get(stimulus).copied().unwrap_or(u16::MAX);
+        for _ in 0..512 {
+            let Some(before) = self.before.get(item as usize).copied() else {
+                break;
+            };
+            self.place(problem, item, ray)?;
+            item = before;
+        }
+        Ok(())
+    }
+}
+
+/// The free items, of which those of no stimulus have places yet.
+fn free_items(alloc: Global, problem: &Problem, free: &ItemSet, ray: bool) -> Result<Free, Memory> {
+    let count = free.count() as usize;
+    let mut items = Free {
+        numbers: Vec::with_capacity(alloc, count)?,
+        gains: Vec::with_capacity(alloc, count)?,
+        places: [u16::MAX; 512],
+        last_of: [u16::MAX; 256],
+        before: [u16::MAX; 512],
+    };
+    for item in 0..problem.bank.items() {
+        if free.has(item) {
+            let stimulus = stimulus_of(problem.bank, item);
+            if stimulus == 0 {
+                items.place(problem, item, ray)?;
+            } else {
+                items.chain(stimulus, item);
+            }
+        }
+    }
+    Ok(items)
+}
+
+/// A stimulus on a path of which so many items are taken, with free items yet to come.
+fn stimulus_on(
+    cut: &Cut,
+    number: u16,
+    side: usize,
+    bound: &StimulusBound,
+    taken: i64,
+    start: usize,
+) -> Stimulus {
+    Stimulus {
+        number,
+        side: short(side),
+        is_chosen: cut.chosen.has(number),
+        low: (bound.low as i64).wrapping_sub(taken).max(0),
+        high: (bound.high as i64).wrapping_sub(taken).max(0),
+        start,
+        end: start,
+        next: start,
+        last: start,
+        base: 0,
+        part: 0,
+        share: 0,
+    }
+}
+
+/// The stimuli that are chosen or open, whose free items get their places.
+fn stimuli_on(
+    alloc: Global,
+    problem: &Problem,
+    cut: &Cut,
+    free: &mut Free,
+    taken: &Taken,
+    ray: bool,
+) -> Result<Vec<Stimulus>, Memory> {
+    let rows = problem.spec.rows().len();
+    let alone = free.numbers.len();
+    let mut stimuli = Vec::new(alloc);
+    for (k, bound) in problem.spec.bounds().iter().enumerate() {
+        let stimulus = k.wrapping_add(1);
+        let number = short(stimulus);
+        if cut.chosen.has(number) || cut.opened.has(number) {
+            let start = free.numbers.len().wrapping_sub(alone);
+            let fixed = taken.of_stimulus.get(stimulus).copied().unwrap_or(0);
+            let side = rows.wrapping_add(k).wrapping_mul(2);
+            let made = stimulus_on(cut, number, side, bound, fixed, start);
+            free.place_members(problem, stimulus, ray)?;
+            let end = free.numbers.len().wrapping_sub(alone);
+            stimuli.push(made.with_end(end))?;
+        }
+    }
+    Ok(stimuli)
+}
+
+/// The free items from a place on, in the order of their places.
+fn ranked_from(alloc: Global, gains: &[i64], alone: usize) -> Result<Vec<Weighed>, Memory> {
+    let mut ranked = Vec::new(alloc);
+    for (item, gain) in gains.iter().enumerate().skip(alone) {
+        ranked.push(Weighed {
+            weight: *gain,
+            item,
+        })?;
+    }
+    Ok(ranked)
 }
 
 /// Adds what the free items of a large set add to a line, and gives the sum.
@@ -174,27 +286,33 @@ fn row_multiplier(row: &Row, sides: &Sides, side: usize) -> i64 {
     }
 }
 
-impl Flat {
-    /// A row with no entries yet.
-    fn new_line(&self, kind: Kind, side: usize, low: i64, high: i64) -> Line {
-        let start = self.selection.entries.len();
-        Line {
-            kind,
-            side: short(side),
-            counted: false,
-            low,
-            high,
-            unit: 65536,
-            fixed: 0,
-            activity: 0,
-            price: 0,
-            first: Multiplier::of(0),
-            second: Multiplier::of(0),
-            start,
-            end: start,
-        }
+/// A row with no entries yet.
+fn new_line(start: usize, side: usize, low: i64, high: i64, multiplier: i64) -> Line {
+    Line {
+        is_on_stimuli: true,
+        side: short(side),
+        low,
+        high,
+        unit: 65536,
+        fixed: 0,
+        activity: 0,
+        price: 0,
+        multiplier: Multiplier::of(multiplier),
+        start,
+        end: start,
     }
+}
 
+/// The weight of the last of the heaviest items; the greatest number where there are none.
+#[inline]
+fn least_of(top: &[Weighed]) -> i64 {
+    match top.last() {
+        Some(last) => last.weight,
+        None => i64::MAX,
+    }
+}
+
+impl Flat {
     /// Adds a row; not if it has neither free items nor a multiplier.
     fn add_row(
         &mut self,
@@ -208,19 +326,18 @@ impl Flat {
         let Bounds { low, high, measure } = bounds_of(row);
         let side = number.wrapping_mul(2);
         let multiplier = row_multiplier(row, sides, side);
-        let mut line = self.new_line(Kind::Stimuli, side, low, high);
-        line.first = Multiplier::of(multiplier);
+        let mut line = new_line(self.selection.entries.len(), side, low, high, multiplier);
         if let Some(Measure { set, which }) = measure {
             let place = short(self.lines.len());
             let members = Measure {
                 set: set.meet(cut.free),
                 which,
             };
-            line.kind = Kind::Items;
+            line.is_on_stimuli = false;
             line.unit = add_measure(&mut self.selection, problem, free, members, place)?;
             line.end = self.selection.entries.len();
             line.fixed = sum_over(problem.bank, which, set.meet(cut.taken));
-            line.activity = line.fixed;
+            line.activity = line.fixed.wrapping_mul(256);
             if line.start == line.end && multiplier == 0 {
                 self.rest_is_met = self.rest_is_met && low <= line.fixed && line.fixed <= high;
                 return Ok(());
@@ -230,83 +347,28 @@ impl Flat {
         Ok(())
     }
 
-    /// Adds what the free items of a stimulus add to the next line.
-    fn add_members(&mut self, free: &Free, stimulus: usize) -> Result<(), Memory> {
-        let line = short(self.lines.len());
-        let mut at = free.last_of.get(stimulus).copied().unwrap_or(u16::MAX);
-        for _ in 0..512 {
-            let Some(before) = free.before.get(at as usize).copied() else {
-                break;
-            };
-            self.selection.add_entry(at, line, 1)?;
-            at = before;
-        }
-        Ok(())
-    }
-
-    /// Adds a stimulus that is chosen or open.
-    fn add_stimulus(
-        &mut self,
+    /// The free items and the stimuli, with no lines and none chosen.
+    fn with_items(
+        alloc: Global,
         free: &Free,
-        stimulus: usize,
-        bound: &StimulusBound,
-        kind: Kind,
-        side: usize,
-    ) -> Result<(), Memory> {
-        let mut line = self.new_line(kind, side, bound.low as i64, bound.high as i64);
-        self.add_members(free, stimulus)?;
-        line.end = self.selection.entries.len();
-        line.unit = 32768;
-        self.lines.push(line)?;
-        Ok(())
-    }
-
-    /// Gives the last line the multipliers of its sides and the activity of the items taken.
-    fn finish_stimulus(&mut self, sides: &Sides, side: usize, fixed: i64) {
-        if let Some(line) = self.lines.last_mut() {
-            line.first = Multiplier::of(multiplier_at(sides, side));
-            line.second = Multiplier::of(multiplier_at(sides, side.wrapping_add(1)));
-            line.fixed = fixed;
-            line.activity = fixed;
-        }
-    }
-
-    /// Adds the stimuli that are chosen or open.
-    fn add_stimuli(
-        &mut self,
-        problem: &Problem,
-        cut: &Cut,
-        free: &Free,
-        sides: &Sides,
-        taken: &Taken,
-    ) -> Result<(), Memory> {
-        let rows = problem.spec.rows().len();
-        for (k, bound) in problem.spec.bounds().iter().enumerate() {
-            let stimulus = k.wrapping_add(1);
-            let number = short(stimulus);
-            let is_chosen = cut.chosen.has(number);
-            if is_chosen || cut.opened.has(number) {
-                let kind = if is_chosen { Kind::Chosen } else { Kind::Open };
-                let side = rows.wrapping_add(k).wrapping_mul(2);
-                let fixed = taken.of_stimulus.get(stimulus).copied().unwrap_or(0);
-                self.add_stimulus(free, stimulus, bound, kind, side)?;
-                self.finish_stimulus(sides, side, fixed);
-            }
-        }
-        Ok(())
-    }
-
-    /// The free items, with no lines and none selected.
-    fn with_items(alloc: Global, free: &Free, taken: i64) -> Result<Flat, Memory> {
+        stimuli: Vec<Stimulus>,
+        alone: usize,
+    ) -> Result<Flat, Memory> {
         let count = free.numbers.len();
         Ok(Flat {
             numbers: Vec::from_slice(alloc, &free.numbers)?,
             gains: Vec::from_slice(alloc, &free.gains)?,
             weights: Vec::from_slice(alloc, &free.gains)?,
             shares: Vec::from_elem(alloc, 0, count)?,
+            alone,
+            top: Vec::new(alloc),
+            ranked: ranked_from(alloc, &free.gains, alone)?,
+            stimuli,
             lines: Vec::with_capacity(alloc, 32)?,
             selection: Selection::none(alloc, count)?,
-            taken,
+            taken: 0,
+            wanted: 0,
+            threshold: 0,
             rest_is_met: true,
         })
     }
@@ -324,6 +386,75 @@ impl Flat {
         }
     }
 
+    /// How many items of no stimulus may be chosen: as many as a form needs, and one more where it may have stimuli.
+    fn most_alone(&self) -> usize {
+        let wanted = usize::try_from(self.wanted).unwrap_or(0);
+        if self.stimuli.is_empty() {
+            wanted
+        } else {
+            wanted.wrapping_add(1)
+        }
+    }
+
+    /// The heaviest items of no stimulus, the first time.
+    fn begin_top(&mut self) -> Result<(), Memory> {
+        let most = self.most_alone();
+        for (item, weight) in self.weights.iter().enumerate().take(self.alone) {
+            let moved = Weighed {
+                weight: *weight,
+                item,
+            };
+            let count = self.top.len();
+            if count < most {
+                self.top.push(moved)?;
+                put_in_order(&mut self.top, 0, count, moved);
+            } else if *weight > least_of(&self.top) {
+                put_in_order(&mut self.top, 0, count.wrapping_sub(1), moved);
+            }
+        }
+        for weighed in &self.top {
+            self.selection.mark(weighed.item, true);
+        }
+        Ok(())
+    }
+
+    /// Puts an item of no stimulus among the heaviest, in place of the last of them.
+    fn put_in_top(&mut self, moved: Weighed) {
+        if self.selection.is_marked(moved.item) {
+            return;
+        }
+        if let Some(last) = self.top.last().copied() {
+            self.selection.mark(last.item, false);
+            self.selection.choose(&mut self.lines, last.item, 0);
+            self.selection.mark(moved.item, true);
+            let place = self.top.len().wrapping_sub(1);
+            put_in_order(&mut self.top, 0, place, moved);
+        }
+    }
+
+    /// Brings the heaviest items of no stimulus in order by their weights, and puts in those that became heavier.
+    pub(crate) fn rank_top(&mut self) {
+        let count = self.top.len();
+        reorder(&mut self.top, 0, count, &self.weights);
+        let mut least = least_of(&self.top);
+        for item in 0..self.alone {
+            let weight = self.weights.get(item).copied().unwrap_or(i64::MIN);
+            if weight > least {
+                self.put_in_top(Weighed { weight, item });
+                least = least_of(&self.top);
+            }
+        }
+    }
+
+    /// Brings the items of each stimulus in order by their weights.
+    pub(crate) fn rank_members(&mut self) {
+        for stimulus in self.stimuli.iter_mut() {
+            let (start, end) = (stimulus.start, stimulus.end);
+            reorder(&mut self.ranked, start, end, &self.weights);
+            stimulus.base = stimulus.base_of(&self.ranked);
+        }
+    }
+
     /// The problem on a path, with the multipliers of a vector.
     pub(crate) fn of(
         alloc: Global,
@@ -334,16 +465,18 @@ impl Flat {
     ) -> Result<Flat, Memory> {
         let sides = sides_of(from);
         let taken = Taken::of(problem, cut.taken, ray);
-        let free = free_items(alloc, problem, &cut.free, ray)?;
-        let mut flat = Flat::with_items(alloc, &free, taken.gain)?;
+        let mut free = free_items(alloc, problem, &cut.free, ray)?;
+        let alone = free.numbers.len();
+        let stimuli = stimuli_on(alloc, problem, cut, &mut free, &taken, ray)?;
+        let mut flat = Flat::with_items(alloc, &free, stimuli, alone)?;
         for (number, row) in problem.spec.rows().iter().enumerate() {
             flat.add_row(problem, cut, &free, &sides, number, row)?;
         }
-        flat.add_stimuli(problem, cut, &free, &sides, &taken)?;
-        let wanted = problem.spec.length().saturating_sub(cut.taken.count()) as usize;
+        flat.taken = taken.gain;
+        flat.wanted = (problem.spec.length() as i64).wrapping_sub(cut.taken.count() as i64);
+        flat.threshold = multiplier_at(&sides, 384).wrapping_sub(multiplier_at(&sides, 385));
         flat.step(0);
-        flat.selection
-            .begin(&mut flat.lines, &flat.weights, wanted)?;
+        flat.begin_top()?;
         Ok(flat)
     }
 }

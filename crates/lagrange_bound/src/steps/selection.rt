@@ -1,4 +1,4 @@
-//! The free items of a path by their reduced weights, and the selection of those of the greatest weights.
+//! What the free items add to the rows, and which of them are chosen.
 
 use crate::steps::constraints::Line;
 use std::alloc::{AllocError, Global};
@@ -15,24 +15,20 @@ pub(crate) struct Entry {
     pub coefficient: i64,
 }
 
-/// A free item, by its place among the free ones, and its weight.
-#[derive(Clone, Copy)]
-pub(crate) struct Weighed {
-    pub weight: i64,
-    pub item: usize,
-}
+/// The whole of an item in a choice.
+pub(crate) const WHOLE: u16 = 256;
 
-/// A selection of free items, and what they add to the lines.
+/// A choice of free items, some of them in part, and what they add to the lines.
 #[derive(Drop)]
 pub(crate) struct Selection {
     /// What the free items add to the lines, line by line.
     pub entries: Vec<Entry>,
     /// The place of the first entry of each item.
-    pub heads: Vec<u32>,
-    /// Whether each is selected.
-    pub marks: Vec<bool>,
-    /// The items selected, by falling weights.
-    pub selected: Vec<Weighed>,
+    heads: Vec<u32>,
+    /// The part of each item that is chosen, at most 256.
+    pub parts: Vec<u16>,
+    /// Whether each is among the heaviest of no stimulus.
+    marks: Vec<bool>,
 }
 
 /// Adds a change of the price of a line to the weights of its items.
@@ -45,66 +41,30 @@ pub(crate) fn reweigh(weights: &mut [i64], entries: &[Entry], change: i64) {
     }
 }
 
-/// Adds an item's entries, times a sign, to the activities of the lines.
+/// Adds an item's entries, times a part, to the activities of the lines.
 #[inline]
-fn count_in(lines: &mut [Line], entries: &[Entry], head: u32, sign: i64) {
+fn count_in(lines: &mut [Line], entries: &[Entry], head: u32, part: i64) {
     let mut at = head;
     for _ in 0..256 {
         let Some(entry) = entries.get(at as usize) else {
             return;
         };
         if let Some(line) = lines.get_mut(entry.line as usize) {
-            let change = sign.wrapping_mul(entry.coefficient);
+            let change = part.wrapping_mul(entry.coefficient);
             line.activity = line.activity.wrapping_add(change);
         }
         at = entry.next;
     }
 }
 
-/// Puts an item where its weight belongs among the first ones, as many as `place`, which are in order.
-#[inline]
-fn put_in_order(selected: &mut [Weighed], place: usize, moved: Weighed) {
-    let mut at = place;
-    for _ in 0..place {
-        if at == 0 {
-            break;
-        }
-        let Some(before) = selected.get(at - 1).copied() else {
-            break;
-        };
-        if before.weight >= moved.weight {
-            break;
-        }
-        if let Some(slot) = selected.get_mut(at) {
-            *slot = before;
-        }
-        at -= 1;
-    }
-    if let Some(slot) = selected.get_mut(at) {
-        *slot = moved;
-    }
-}
-
-/// Brings the items selected in order by their new weights.
-#[inline]
-fn reorder(selected: &mut [Weighed], weights: &[i64]) {
-    for place in 0..selected.len() {
-        if let Some(old) = selected.get(place).copied() {
-            let item = old.item;
-            let weight = weights.get(item).copied().unwrap_or(0);
-            put_in_order(selected, place, Weighed { weight, item });
-        }
-    }
-}
-
 impl Selection {
-    /// None selected of so many items, which add nothing to any line yet.
+    /// None chosen of so many items, which add nothing to any line yet.
     pub(crate) fn none(alloc: Global, items: usize) -> Result<Selection, AllocError> {
         Ok(Selection {
             entries: Vec::with_capacity(alloc, items.wrapping_mul(4))?,
             heads: Vec::from_elem(alloc, u32::MAX, items)?,
+            parts: Vec::from_elem(alloc, 0, items)?,
             marks: Vec::from_elem(alloc, false, items)?,
-            selected: Vec::with_capacity(alloc, items)?,
         })
     }
 
@@ -130,103 +90,31 @@ impl Selection {
         Ok(())
     }
 
-    /// Counts an item in.
+    /// Whether an item is among the heaviest of no stimulus.
     #[inline]
-    fn enter(&mut self, lines: &mut [Line], item: usize) {
+    pub(crate) fn is_marked(&self, item: usize) -> bool {
+        self.marks.get(item).copied().unwrap_or(true)
+    }
+
+    /// Notes whether it is.
+    #[inline]
+    pub(crate) fn mark(&mut self, item: usize, is_top: bool) {
         if let Some(mark) = self.marks.get_mut(item) {
-            *mark = true;
-        }
-        if let Some(head) = self.heads.get(item) {
-            count_in(lines, &self.entries, *head, 1);
+            *mark = is_top;
         }
     }
 
-    /// Counts it out.
+    /// Chooses a part of an item.
     #[inline]
-    fn leave(&mut self, lines: &mut [Line], item: usize) {
-        if let Some(mark) = self.marks.get_mut(item) {
-            *mark = false;
-        }
-        if let Some(head) = self.heads.get(item) {
-            count_in(lines, &self.entries, *head, -1);
-        }
-    }
-
-    /// Counts all items selected in.
-    fn enter_all(&mut self, lines: &mut [Line]) {
-        for place in 0..self.selected.len() {
-            if let Some(weighed) = self.selected.get(place).copied() {
-                self.enter(lines, weighed.item);
+    pub(crate) fn choose(&mut self, lines: &mut [Line], item: usize, part: u16) {
+        if let Some(slot) = self.parts.get_mut(item) {
+            if *slot != part {
+                let change = (part as i64).wrapping_sub(*slot as i64);
+                *slot = part;
+                if let Some(head) = self.heads.get(item) {
+                    count_in(lines, &self.entries, *head, change);
+                }
             }
         }
-    }
-
-    /// The weight of the last item selected; an item of a greater one is to be selected.
-    #[inline]
-    fn least(&self) -> i64 {
-        match self.selected.last() {
-            Some(last) => last.weight,
-            None => i64::MAX,
-        }
-    }
-
-    /// Selects an item in place of the last one.
-    fn exchange(&mut self, lines: &mut [Line], item: usize, weight: i64) {
-        if self.marks.get(item).copied() != Some(false) {
-            return;
-        }
-        if let Some(last) = self.selected.last().copied() {
-            self.leave(lines, last.item);
-            self.enter(lines, item);
-            let place = self.selected.len().wrapping_sub(1);
-            put_in_order(&mut self.selected, place, Weighed { weight, item });
-        }
-    }
-
-    /// Selects so many items of the greatest weights, the first time.
-    pub(crate) fn begin(
-        &mut self,
-        lines: &mut [Line],
-        weights: &[i64],
-        wanted: usize,
-    ) -> Result<(), AllocError> {
-        for (item, weight) in weights.iter().enumerate() {
-            let weight = *weight;
-            let place = self.selected.len();
-            if place < wanted {
-                self.selected.push(Weighed { weight, item })?;
-                put_in_order(&mut self.selected, place, Weighed { weight, item });
-            } else if weight > self.least() {
-                put_in_order(
-                    &mut self.selected,
-                    place.wrapping_sub(1),
-                    Weighed { weight, item },
-                );
-            }
-        }
-        self.enter_all(lines);
-        Ok(())
-    }
-
-    /// Selects the items of the greatest weights, as many as before.
-    pub(crate) fn select(&mut self, lines: &mut [Line], weights: &[i64]) {
-        reorder(&mut self.selected, weights);
-        let mut least = self.least();
-        for (item, weight) in weights.iter().enumerate() {
-            if *weight > least {
-                self.exchange(lines, item, *weight);
-                least = self.least();
-            }
-        }
-    }
-
-    /// The sum of the weights of the items selected.
-    #[inline]
-    pub(crate) fn sum(&self) -> i64 {
-        let mut sum = 0i64;
-        for weighed in &self.selected {
-            sum = sum.wrapping_add(weighed.weight);
-        }
-        sum
     }
 }

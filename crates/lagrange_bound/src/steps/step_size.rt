@@ -11,6 +11,8 @@ pub(crate) struct Level {
     delta: i64,
     /// How far below the target they aim at most.
     reach: i64,
+    /// How near the level comes at least, where the target is no known value.
+    nearest: i64,
     /// Steps that gained nothing since one gained much.
     fails: u32,
 }
@@ -27,6 +29,20 @@ impl Level {
             best: first,
             delta: gap.checked_div(part).unwrap_or(gap).max(reach.max(256)),
             reach,
+            nearest: 0,
+            fails: 0,
+        }
+    }
+
+    /// The level after the first bound where nothing is known of the value that it can reach.
+    pub(crate) fn blind(first: i64) -> Level {
+        let size = first.wrapping_abs();
+        Level {
+            target: i64::MIN / 4,
+            best: first,
+            delta: (size / 16).max(256),
+            reach: 64,
+            nearest: (size / 2048).max(64),
             fails: 0,
         }
     }
@@ -57,7 +73,12 @@ impl Level {
     /// Whether the steps are too short to be worth going on.
     pub(crate) fn is_stale(&self) -> bool {
         let gap = self.best.wrapping_sub(self.target);
-        self.delta < (gap / 16).max(16)
+        let least = if self.nearest > 0 {
+            self.nearest
+        } else {
+            (gap / 16).max(16)
+        };
+        self.delta < least
     }
 
     /// How long a step is from a bound, against a direction of this sum of squares, times 2 to the 32nd.

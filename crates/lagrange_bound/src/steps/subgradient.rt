@@ -2,8 +2,9 @@
 
 use crate::ascent::{Aim, Ascent};
 use crate::cut::Cut;
+use crate::steps::choice::Choice;
 use crate::steps::constraints::{Line, MOST};
-use crate::steps::direction::{LinesValue, Slope};
+use crate::steps::direction::{RowsValue, Slope};
 use crate::steps::problem::Flat;
 use crate::steps::step_size::Level;
 use crate::vectors::copy_of;
@@ -12,52 +13,6 @@ use constraint_model::Problem;
 use proof_tree::{Memory, Vector};
 use std::alloc::Global;
 
-impl Flat {
-    /// The sum of the gains of the items taken and selected.
-    fn gain(&self) -> i64 {
-        let mut sum = self.taken;
-        for weighed in &self.selection.selected {
-            sum = sum.wrapping_add(self.gains.get(weighed.item).copied().unwrap_or(0));
-        }
-        sum
-    }
-
-    /// The items taken and selected.
-    fn form(&self, taken: ItemSet) -> ItemSet {
-        let mut form = taken;
-        for weighed in &self.selection.selected {
-            match self.numbers.get(weighed.item).copied() {
-                Some(item) if item < 512 => form = form.with(item),
-                _ => {}
-            }
-        }
-        form
-    }
-
-    /// Adds a part to the shares of the items selected.
-    fn share(&mut self, part: u16) {
-        for weighed in &self.selection.selected {
-            if let Some(share) = self.shares.get_mut(weighed.item) {
-                *share = share.wrapping_add(part);
-            }
-        }
-    }
-
-    /// Takes a part of 16 off the shares of all items.
-    fn fade(&mut self) {
-        for share in self.shares.iter_mut() {
-            *share = share.wrapping_sub(*share >> 4);
-        }
-    }
-
-    /// Notes the multipliers as those of the best bound.
-    fn note_best(&mut self) {
-        for line in self.lines.iter_mut() {
-            line.note_best();
-        }
-    }
-}
-
 fn push_side(pairs: &mut Vec<(u16, u32)>, side: u16, multiplier: i64) -> Result<(), Memory> {
     if 0 < multiplier {
         pairs.push((side, multiplier.min(MOST) as u32))?;
@@ -65,22 +20,25 @@ fn push_side(pairs: &mut Vec<(u16, u32)>, side: u16, multiplier: i64) -> Result<
     Ok(())
 }
 
-/// The vector of the best multipliers.
-fn best_vector(alloc: Global, lines: &[Line], from: &Vector) -> Result<Vector, Memory> {
-    let mut pairs = Vec::with_capacity(alloc, lines.len())?;
+/// The sides of the rows with the multipliers of the best bound.
+fn push_rows(pairs: &mut Vec<(u16, u32)>, lines: &[Line]) -> Result<(), Memory> {
     for line in lines {
-        let high_side = line.side.wrapping_add(1);
-        push_side(&mut pairs, line.side, line.first.best)?;
-        if line.is_row() {
-            push_side(&mut pairs, high_side, line.first.best.wrapping_neg())?;
-        } else {
-            push_side(&mut pairs, high_side, line.second.best)?;
-        }
+        let best = line.multiplier.best;
+        push_side(pairs, line.side, best)?;
+        push_side(pairs, line.side.wrapping_add(1), best.wrapping_neg())?;
     }
-    match Vector::of(List::of(pairs)) {
-        Some(vector) => Ok(vector),
-        None => copy_of(alloc, from),
+    Ok(())
+}
+
+/// The sides of the cap; both of them for the cap 0.
+fn push_cap(pairs: &mut Vec<(u16, u32)>, cap: i64) -> Result<(), Memory> {
+    if cap == 0 {
+        pairs.push((384, 1))?;
+        pairs.push((385, 1))?;
+        return Ok(());
     }
+    push_side(pairs, 384, cap)?;
+    push_side(pairs, 385, cap.wrapping_neg())
 }
 
 /// Gives the items of a set the share of those always selected.
@@ -97,21 +55,63 @@ fn fill(shares: &mut [u16], items: ItemSet) {
     }
 }
 
-/// The share of each item of the bank.
-fn all_shares(
-    alloc: Global,
-    problem: &Problem,
-    cut: &Cut,
-    flat: &Flat,
-) -> Result<Vec<u16>, Memory> {
-    let mut shares = Vec::from_elem(alloc, 0, problem.bank.items() as usize)?;
-    fill(&mut shares, cut.taken);
-    for (item, share) in flat.numbers.iter().zip(flat.shares.iter()) {
-        if let Some(slot) = shares.get_mut(*item as usize) {
-            *slot = *share;
+impl Flat {
+    /// The sides of the stimuli at a threshold, and of the cap where a stimulus is open.
+    fn push_stimuli(&self, pairs: &mut Vec<(u16, u32)>, threshold: i64) -> Result<(), Memory> {
+        let price = RowsValue::of(&self.lines).price;
+        let mut has_open = false;
+        for stimulus in &self.stimuli {
+            let (low, high) = stimulus.multipliers(&self.ranked, price, threshold);
+            push_side(pairs, stimulus.side, low)?;
+            push_side(pairs, stimulus.side.wrapping_add(1), high)?;
+            has_open = has_open || !stimulus.is_chosen;
+        }
+        if has_open {
+            push_cap(pairs, threshold)
+        } else {
+            Ok(())
         }
     }
-    Ok(shares)
+
+    /// The vector of the best bound, once the weights are those of its multipliers.
+    fn vector(&self, alloc: Global, threshold: i64, from: &Vector) -> Result<Vector, Memory> {
+        let mut pairs = Vec::with_capacity(alloc, self.lines.len())?;
+        push_rows(&mut pairs, &self.lines)?;
+        self.push_stimuli(&mut pairs, threshold)?;
+        match Vector::of(List::of(pairs)) {
+            Some(vector) => Ok(vector),
+            None => copy_of(alloc, from),
+        }
+    }
+
+    /// The share of each item of the bank.
+    fn all_shares(
+        &self,
+        alloc: Global,
+        problem: &Problem,
+        taken: ItemSet,
+    ) -> Result<Vec<u16>, Memory> {
+        let mut shares = Vec::from_elem(alloc, 0, problem.bank.items() as usize)?;
+        fill(&mut shares, taken);
+        for (item, share) in self.numbers.iter().zip(self.shares.iter()) {
+            if let Some(slot) = shares.get_mut(*item as usize) {
+                *slot = *share;
+            }
+        }
+        Ok(shares)
+    }
+
+    /// The share of each stimulus of the bank.
+    fn stimulus_shares(&self, alloc: Global, problem: &Problem) -> Result<Vec<u16>, Memory> {
+        let mut shares = Vec::from_elem(alloc, 0, problem.bank.stimuli() as usize)?;
+        for stimulus in &self.stimuli {
+            let place = (stimulus.number as usize).wrapping_sub(1);
+            if let Some(slot) = shares.get_mut(place) {
+                *slot = stimulus.share;
+            }
+        }
+        Ok(shares)
+    }
 }
 
 /// A search for better multipliers.
@@ -119,20 +119,22 @@ fn all_shares(
 struct Search {
     flat: Flat,
     level: Level,
+    /// The threshold of the best bound.
+    threshold: i64,
     form: Option<ItemSet>,
 }
 
 impl Search {
-    /// Takes the items selected if they are a form whose objective is above the target; the target
+    /// Takes the items chosen if they are a form whose objective is above the target; the target
     /// rises to it.
     fn take_form(&mut self, cut: &Cut, ray: bool) {
         let gain = self.flat.gain();
         if ray {
             if self.form.is_none() {
-                self.form = Some(self.flat.form(cut.taken));
+                self.form = Some(self.flat.chosen(cut.taken));
             }
         } else if gain > self.level.target {
-            self.form = Some(self.flat.form(cut.taken));
+            self.form = Some(self.flat.chosen(cut.taken));
             self.level.target = gain.wrapping_add(255);
         }
     }
@@ -140,41 +142,72 @@ impl Search {
     /// The bound at the present multipliers, and the slope there.
     fn look(&mut self, cut: &Cut, ray: bool) -> (i64, Slope) {
         let flat = &mut self.flat;
-        flat.selection.select(&mut flat.lines, &flat.weights);
-        let value = LinesValue::of(&mut flat.lines);
-        let bound = value
+        flat.rank_top();
+        flat.rank_members();
+        let rows = RowsValue::of(&flat.lines);
+        let choice = Choice::of(flat, rows.price);
+        flat.choose(&choice);
+        let bound = rows
             .value
-            .wrapping_add(flat.selection.sum())
+            .wrapping_add(choice.value)
             .wrapping_add(flat.taken);
-        let slope = Slope::of(&mut flat.lines, &value);
-        if slope.meets && flat.rest_is_met {
+        let slope = Slope::of(&mut flat.lines);
+        if choice.is_whole && slope.meets && flat.rest_is_met {
             self.take_form(cut, ray);
         }
         (bound, slope)
     }
 
+    /// Notes the multipliers as those of the best bound.
+    fn note_best(&mut self) {
+        self.threshold = self.flat.threshold;
+        for line in self.flat.lines.iter_mut() {
+            line.note_best();
+        }
+    }
+
+    /// The level after the first bound.
+    fn begun(&self, aim: &Aim, bound: i64) -> Level {
+        match aim.target {
+            Some(_) => Level::of(
+                self.level.target,
+                bound,
+                part_of(aim.steps),
+                reach_of(aim.ray),
+            ),
+            None => Level::blind(bound),
+        }
+    }
+
     /// Goes by at most so many steps.
     fn run(&mut self, cut: &Cut, aim: &Aim) {
         let (mut bound, mut slope) = self.look(cut, aim.ray);
-        self.flat.share(4096);
-        self.level = Level::of(
-            self.level.target,
-            bound,
-            part_of(aim.steps),
-            reach_of(aim.ray),
-        );
+        self.flat.share_first();
+        self.level = self.begun(aim, bound);
+        self.note_best();
         for _ in 0..aim.steps {
             if self.level.is_reached() || self.level.is_stale() {
                 return;
             }
             self.flat.step(self.level.length(bound, slope.squares));
             (bound, slope) = self.look(cut, aim.ray);
-            self.flat.fade();
-            self.flat.share(256);
+            self.flat.share();
             if self.level.takes(bound) {
-                self.flat.note_best();
+                self.note_best();
             }
         }
+    }
+
+    /// Goes back to the multipliers of the best bound, where those of stimuli are to be worked out at them.
+    fn return_to_best(&mut self) {
+        if self.flat.stimuli.is_empty() {
+            return;
+        }
+        for line in self.flat.lines.iter_mut() {
+            line.return_to_best();
+        }
+        self.flat.step(0);
+        self.flat.rank_members();
     }
 }
 
@@ -196,16 +229,22 @@ pub(crate) fn steps_from(
     from: &Vector,
     aim: Aim,
 ) -> Result<Ascent, Memory> {
+    let target = aim.target.unwrap_or(i64::MIN / 4);
     let mut search = Search {
         flat: Flat::of(alloc, problem, cut, from, aim.ray)?,
-        level: Level::of(aim.target, 0, 1, 0),
+        level: Level::of(target, 0, 1, 0),
+        threshold: 0,
         form: None,
     };
     search.run(cut, &aim);
+    let choice = search.flat.chosen(cut.taken);
+    search.return_to_best();
     Ok(Ascent {
-        vector: best_vector(alloc, &search.flat.lines, from)?,
+        vector: search.flat.vector(alloc, search.threshold, from)?,
         bound: search.level.best,
-        shares: all_shares(alloc, problem, cut, &search.flat)?,
+        shares: search.flat.all_shares(alloc, problem, cut.taken)?,
+        stimulus_shares: search.flat.stimulus_shares(alloc, problem)?,
+        choice,
         form: search.form,
     })
 }
