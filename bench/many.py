@@ -1,10 +1,10 @@
 #!/usr/bin/env python3
 """What an entry costs, and what memory a run takes, as the number of sessions grows.
 
-usage: many.py PROGRAM FOLDER      a folder in memory, such as /dev/shm, so that no disk is measured
+usage: many.py PROGRAM FOLDER [close]      a folder in memory, such as /dev/shm, so that no disk is measured
 
 The bank has six items and three points of ability, a test three items; each session has seven entries (started, and three times served
-and answered). Bookings are numbers in no order. For each number of sessions one script is done over a new journal (`replay`). Then the
+and answered). With `close` each is closed after its first answer, and has five. Bookings are numbers in no order. For each number of sessions one script is done over a new journal (`replay`). Then the
 journal is opened with an empty script, and audited (`audit`), three times each; the least time counts. Memory is the greatest resident
 size of the process. It asserts nothing about time; it stops where a run does not end with 0, or an audit has other counts.
 """
@@ -20,13 +20,15 @@ PLAN = "length 3\nprior -10 0 -10\ncount 1 1 0-1\ncount 0 1 2 5\nsessions 65536\
 SIZES = (100, 1_000, 10_000, 65_536)
 
 
-def script_of(sessions, drawn):
-    """The requests of whole sessions, with bookings in no order."""
+def script_of(sessions, drawn, closes):
+    """The requests of whole sessions, or of closed ones, with bookings in no order."""
     bookings = drawn.sample(range(1 << 31), sessions)
     lines = []
     for session, booking in enumerate(bookings):
         lines.append(f"begin {booking}")
-        lines += [f"answer {session} {step} {drawn.randrange(2)}" for step in range(3)]
+        lines += [f"answer {session} {step} {drawn.randrange(2)}" for step in range(1 if closes else 3)]
+        if closes:
+            lines.append(f"close {session}")
     return "\n".join(lines) + "\n"
 
 
@@ -48,12 +50,12 @@ def least(program, words, folder):
     return min((run(program, words, folder) for _ in range(3)), key=lambda found: found[0])
 
 
-def measure(program, sessions, folder, bank):
+def measure(program, sessions, folder, bank, closes):
     drawn = random.Random(sessions)
-    for name, text in (("bank.csv", bank), ("plan.txt", PLAN), ("script.txt", script_of(sessions, drawn)), ("none.txt", "")):
+    for name, text in (("bank.csv", bank), ("plan.txt", PLAN), ("script.txt", script_of(sessions, drawn, closes)), ("none.txt", "")):
         with open(os.path.join(folder, name), "w", encoding="utf-8") as file:
             file.write(text)
-    entries = 7 * sessions
+    entries = (5 if closes else 7) * sessions
     files = ["bank.csv", "plan.txt"]
     took, size, _ = run(program, ["replay", *files, "script.txt"], folder)
     opened = least(program, ["replay", *files, "none.txt"], folder)
@@ -66,7 +68,7 @@ def measure(program, sessions, folder, bank):
 
 
 def main(words):
-    if len(words) != 2:
+    if len(words) not in (2, 3) or words[2:] not in ([], ["close"]):
         sys.exit(__doc__)
     program = os.path.abspath(words[0])
     with open(BANK, encoding="utf-8") as file:
@@ -76,7 +78,7 @@ def main(words):
     print("|---|---|---|---|---|---|---|---|---|")
     for sessions in SIZES:
         with tempfile.TemporaryDirectory(dir=words[1]) as folder:
-            measure(program, sessions, folder, bank)
+            measure(program, sessions, folder, bank, bool(words[2:]))
     print(f"load {os.getloadavg()[0]:.1f} after")
 
 
