@@ -228,7 +228,8 @@ def numbers(asked, begun):
         number += 1
 
 
-def told(passed, took):
+def progress(passed, took):
+    """The number of cases of each kind, and what they took."""
     return ", ".join(f"{kind} {count} in {took[kind]:.1f} s of processor"
                      for kind, count in sorted(passed.items()))
 
@@ -247,8 +248,8 @@ def main(arguments):
                 return 1
         passed[kind] += 1
         if sum(passed.values()) % 500 == 0:
-            print(told(passed, took), flush=True)
-    print(told(passed, took))
+            print(progress(passed, took), flush=True)
+    print(progress(passed, took))
     print(f"{sum(passed.values())} passed, 0 failed")
     return 0 if passed else 1
 

@@ -186,7 +186,7 @@ class Exam:
         demand([" ".join(line) for line in words] == lines, f"assemble: {words}")
         said = check_tree.verdict(self.problem, form, *tree[:2])
         demand(said.split(" ")[0] == wanted and (wanted != "Partial" or spends),
-               f"assemble: the checker says {said}, spent {spends}, wanted {wanted}")
+               f"assemble: the checker gives {said}, spent {spends}, wanted {wanted}")
         if math.comb(len(self.items), self.problem.plan.length) <= ENUMERATED:
             demand(not check_tree.contradicts(self.problem, form, said),
                    f"assemble: all sets of items contradict {said}")

@@ -188,7 +188,7 @@ class Caller(threading.Thread):
                 said = self.speak(parts, way)
                 self.heard.append((b"".join(parts), said, way == "whole" and since is not None
                                    and since == self.crowd.lives))
-        except Exception as fault:  # told by the case
+        except Exception as fault:  # raised again by `drive`
             self.fault = fault
 
     def speak(self, parts, way):
