@@ -1,14 +1,24 @@
 -- What the parts of a drill give together.
-use Rattle.std.proofs.Common.{◌≡◌, ◌∙◌, ℕ, List, [], refl, ap, subst, sym}
+use Rattle.std.proofs.Common.{◌≡◌, ◌∙◌, ℕ, List, [], Option, Some, None, refl, ap, subst, sym}
+use Rattle.std.specs.Option.{option_map}
+use Rattle.bank_tables.specs.Items.{Set, has}
 use Rattle.bank_tables.specs.Tables.{Tables}
-use Rattle.exam_model.specs.Plan.{Plan as Numbers}
+use Rattle.bank_reader.specs.Grammar.{IsBankText}
+use Rattle.bank_reader.proofs.BankLaws.{one_bank}
+use Rattle.exam_model.specs.Plan.{Plan}
+use Rattle.exam_model.specs.Validity.{IsPlanFor}
+use Rattle.spec_reader.specs.Plans.{SaidPlan, plan_said}
+use Rattle.spec_reader.specs.Reading.{IsPlanText}
 use Rattle.history_model.specs.declared.entry.Entry.{Entry}
 use Rattle.history_model.specs.declared.request.Request.{Request}
 use Rattle.history_model.specs.declared.summary.Summary.{Summary}
 use Rattle.history_model.specs.Judging.{empty}
 use Rattle.replay_cli.specs.Scripts.{IsScript}
 use Rattle.bank_maker.specs.declared.drill.Made.{Made}
-use Rattle.bank_maker.specs.Drills.{IsDrill, script_of_drill, requests_of_drill}
+use Rattle.bank_maker.specs.Drills.{IsDrill, bank_of_drill, tables_of_drill, plan_of_drill, script_of_drill, requests_of_drill}
+use Rattle.bank_maker.specs.Exams.{IsPlanOfDrill}
+use Rattle.bank_maker.specs.Items.{items}
+use Rattle.bank_maker.specs.Plans.{between, plan}
 use Rattle.history_model.specs.Summaries.{summary}
 use Rattle.answer_journal.specs.Frames.{payloads}
 use Rattle.exam_office.specs.Files.{Stands}
@@ -21,36 +31,60 @@ use Rattle.exam_drill.specs.declared.fault.DrillFault.TheVariants.{JournalFull, 
 use Rattle.exam_drill.specs.Leading.{LeadsTo, IsSummaryOf, IsExamFault, IsStopped}
 
 -- an empty file represents the empty history
-empty_stands : (b : Tables) (plan : Numbers) → Stands b plan [] []
+empty_stands : (b : Tables) (plan : Plan) → Stands b plan [] []
 unfolding payloads
 empty_stands b plan = record { records = []; are = record { spell = tt; backed = empty; entries = refl }; holds = refl }
 
-pub begins_empty : (b : Tables) (plan : Numbers) (H : List Entry) (file : List ℕ) → file ≡ [] → Stands b plan H file → H ≡ []
+pub begins_empty : (b : Tables) (plan : Plan) (H : List Entry) (file : List ℕ) → file ≡ [] → Stands b plan H file → H ≡ []
 begins_empty b plan H file e stands = one_history b plan H [] [] (subst (λ (bytes : List ℕ). Stands b plan H bytes) e stands) (empty_stands b plan)
 
 -- ---- from the office that was opened
-module _ {D : Type 0} (b : Tables) (plan : Numbers) (old new : Running D) (is_bank : old.bank ≡ b) (is_plan : old.plan ≡ plan) (first : history old.marks ≡ [])
+module _ {D : Type 0} (b : Tables) (plan : Plan) (old new : Running D) (is_bank : old.bank ≡ b) (is_plan : old.plan ≡ plan) (first : history old.marks ≡ [])
     (same : IsSameOffice old new) (requests : List Request) where
-  given : (P : Tables → Numbers → List Entry → Type 0) → P old.bank old.plan (history old.marks) → P b plan []
-  given P p = subst (λ (x : Tables). P x plan []) is_bank (subst (λ (y : Numbers). P old.bank y []) is_plan (subst (λ (H : List Entry). P old.bank old.plan H) first p))
+  given : (P : Tables → Plan → List Entry → Type 0) → P old.bank old.plan (history old.marks) → P b plan []
+  given P p = subst (λ (x : Tables). P x plan []) is_bank (subst (λ (y : Plan). P old.bank y []) is_plan (subst (λ (H : List Entry). P old.bank old.plan H) first p))
 
   pub summed : (s : Summary) → LeadsTo old.bank old.plan (history old.marks) requests (history new.marks) → s ≡ summary new.plan (history new.marks) → IsSummaryOf b plan requests s
   summed s leads is = record {
     H = history new.marks;
-    leads = given (λ (x : Tables) (y : Numbers) (H : List Entry). LeadsTo x y H requests (history new.marks)) leads;
-    is = is ∙ ap (λ (y : Numbers). summary y (history new.marks)) (same.plan ∙ is_plan);
+    leads = given (λ (x : Tables) (y : Plan) (H : List Entry). LeadsTo x y H requests (history new.marks)) leads;
+    is = is ∙ ap (λ (y : Plan). summary y (history new.marks)) (same.plan ∙ is_plan);
   }
 
   of_stop : (f : DrillFault) → IsStopped b plan [] requests f → IsExamFault b plan requests f
   of_stop (JournalFull size most) s = s
   of_stop Memory s = tt
-  of_stop f s = absurd s.cut_short
 
   pub unsummed : (f : DrillFault) → IsStopped old.bank old.plan (history old.marks) requests f → IsExamFault b plan requests f
-  unsummed f s = of_stop f (given (λ (x : Tables) (y : Numbers) (H : List Entry). IsStopped x y H requests f) s)
+  unsummed f s = of_stop f (given (λ (x : Tables) (y : Plan) (H : List Entry). IsStopped x y H requests f) s)
 
 -- ---- from the script that was made
 pub script_there : (number sessions : ℕ) (made : Made) → IsDrill number sessions made
     → IsScript (script_of_drill number sessions) (requests_of_drill number sessions) → (requests : List Request) × IsScript made.script.items requests
 script_there number sessions made drill is =
     (requests_of_drill number sessions, subst (λ (text : List ℕ). IsScript text (requests_of_drill number sessions)) (sym drill.script) is)
+
+-- ---- from the bank and the plan that were made
+module _ (number sessions : ℕ) (made : Made) (drill : IsDrill number sessions made) (b : Tables)
+    (described : IsBankText (bank_of_drill number) (tables_of_drill number)) (is_bank : IsBankText made.bank.items b) where
+  bank_is : tables_of_drill number ≡ b
+  bank_is = one_bank (bank_of_drill number) (tables_of_drill number) b described (subst (λ (text : List ℕ). IsBankText text b) drill.bank is_bank)
+
+  pub plan_there : (p : Plan) × IsPlanOfDrill number sessions p → (p : Plan) × IsPlanText b made.plan.items p × IsPlanFor b p
+  plan_there found = (
+    found.0,
+    subst (λ (x : Tables). IsPlanText x made.plan.items found.0) bank_is (subst (λ (text : List ℕ). IsPlanText (tables_of_drill number) text found.0) (sym drill.plan) found.1.text),
+    subst (λ (x : Tables). IsPlanFor x found.0) bank_is found.1.valid,
+  )
+
+  pub has_base : (p : Plan) → IsPlanText b made.plan.items p
+      → (IsPlanText (tables_of_drill number) (plan_of_drill number sessions) p → plan_said p ≡ plan number sessions (items number)) → p.base ≡ None → ⊥
+  has_base p text one none =
+      let of_text : IsPlanText (tables_of_drill number) (plan_of_drill number sessions) p =
+      subst (λ (x : Tables). IsPlanText x (plan_of_drill number sessions) p) (sym bank_is) (subst (λ (bytes : List ℕ). IsPlanText b bytes p) drill.plan text) in
+      let stated : option_map has p.base ≡ Some (between 30 49) = ap (λ (said : SaidPlan). said.base) (one of_text) in
+      let lost : option_map has p.base ≡ None = ap (λ (words : Option (List ℕ)). option_map has words) none in
+      apart (option_map has p.base) stated lost
+    where
+      apart : (o : Option Set) → o ≡ Some (between 30 49) → o ≡ None → ⊥
+      apart o some none = cc

@@ -1,8 +1,8 @@
 -- What a drill gives.
-use Rattle.std.specs.Prelude.{◌≡◌, ⊤, ℕ, List, None}
+use Rattle.std.specs.Prelude.{⊤, ℕ, List}
 use Rattle.bank_tables.specs.Tables.{Tables}
 use Rattle.bank_reader.specs.Grammar.{IsBankText}
-use Rattle.exam_model.specs.Plan.{Plan as Numbers}
+use Rattle.exam_model.specs.Plan.{Plan}
 use Rattle.exam_model.specs.Validity.{IsPlanFor}
 use Rattle.spec_reader.specs.Reading.{IsPlanText}
 use Rattle.history_model.specs.declared.request.Request.{Request}
@@ -10,12 +10,11 @@ use Rattle.history_model.specs.declared.summary.Summary.{Summary}
 use Rattle.replay_cli.specs.Scripts.{IsScript}
 use Rattle.bank_maker.specs.Drills.{bank_of_drill, plan_of_drill, script_of_drill}
 use Rattle.exam_drill.specs.declared.fault.DrillFault.{DrillFault}
-use Rattle.exam_drill.specs.declared.fault.DrillFault.TheVariants.{Plan, NoBase, JournalFull, Memory}
-use Rattle.exam_drill.specs.Reading.{IsPlanRefused}
+use Rattle.exam_drill.specs.declared.fault.DrillFault.TheVariants.{JournalFull, Memory}
 use Rattle.exam_drill.specs.Leading.{IsSummaryOf, IsExamFault}
 
 -- the bank and the plan of a drill, as its texts describe them
-pub record IsExam (number sessions : ℕ) (b : Tables) (plan : Numbers) : Type 0 where
+pub record IsExam (number sessions : ℕ) (b : Tables) (plan : Plan) : Type 0 where
   pub bank : IsBankText (bank_of_drill number) b
   pub is_plan : IsPlanText b (plan_of_drill number sessions) plan
   pub valid : IsPlanFor b plan
@@ -23,38 +22,22 @@ pub record IsExam (number sessions : ℕ) (b : Tables) (plan : Numbers) : Type 0
 -- the summary of the history to which the requests of its script lead
 pub record IsSummaryOfDrill (number sessions : ℕ) (s : Summary) : Type 0 where
   pub b : Tables
-  pub plan : Numbers
+  pub plan : Plan
   pub requests : List Request
   pub exam : IsExam number sessions b plan
   pub script : IsScript (script_of_drill number sessions) requests
   pub is : IsSummaryOf b plan requests s
 
--- its plan text is refused for its bank
-pub record IsPlanFault (number sessions : ℕ) (fault : DrillFault) : Type 0 where
-  pub b : Tables
-  pub bank : IsBankText (bank_of_drill number) b
-  pub refused : IsPlanRefused b (plan_of_drill number sessions) fault
-
--- its plan has no base form
-pub record HasNoBase (number sessions : ℕ) : Type 0 where
-  pub b : Tables
-  pub plan : Numbers
-  pub exam : IsExam number sessions b plan
-  pub no_base : plan.base ≡ None
-
 -- the requests of its script are not all done
 pub record IsUndone (number sessions : ℕ) (fault : DrillFault) : Type 0 where
   pub b : Tables
-  pub plan : Numbers
+  pub plan : Plan
   pub requests : List Request
   pub exam : IsExam number sessions b plan
   pub script : IsScript (script_of_drill number sessions) requests
   pub stopped : IsExamFault b plan requests fault
 
--- why a drill has no summary: its plan text is refused; its plan has no base form; the journal's limit is met; or memory ran
--- out
+-- why a drill has no summary: the journal's limit is met, or memory ran out
 abbrev pub IsDrillFault : ℕ → ℕ → DrillFault → Type 0
-IsDrillFault number sessions (Plan fault) = IsPlanFault number sessions (Plan fault)
-IsDrillFault number sessions NoBase = HasNoBase number sessions
 IsDrillFault number sessions (JournalFull size most) = IsUndone number sessions (JournalFull size most)
 IsDrillFault number sessions Memory = ⊤

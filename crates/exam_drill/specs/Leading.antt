@@ -50,7 +50,6 @@ pub record IsTooLong (b : Tables) (plan : Plan) (H : List Entry) (request : Requ
 abbrev pub IsCutShort : Tables → Plan → List Entry → Request → DrillFault → Type 0
 IsCutShort b plan H request (JournalFull size most) = IsTooLong b plan H request size × (most ≡ plan.journal)
 IsCutShort b plan H request Memory = ⊤
-IsCutShort b plan H request fault = ⊥
 
 -- the first requests were done, and the next one was not
 pub record IsStopped (b : Tables) (plan : Plan) (H : List Entry) (requests : List Request) (fault : DrillFault) : Type 0 where
@@ -72,4 +71,3 @@ pub record IsSummaryOf (b : Tables) (plan : Plan) (requests : List Request) (s :
 abbrev pub IsExamFault : Tables → Plan → List Request → DrillFault → Type 0
 IsExamFault b plan requests (JournalFull size most) = IsStopped b plan [] requests (JournalFull size most)
 IsExamFault b plan requests Memory = ⊤
-IsExamFault b plan requests fault = ⊥

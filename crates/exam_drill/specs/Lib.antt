@@ -1,4 +1,3 @@
-pub mod Reading
 pub mod Leading
 pub mod Drills
 pub mod Texts

@@ -10,7 +10,7 @@ ghost use Rattle.exam_drill.specs.Drills.{IsSummaryOfDrill, IsDrillFault};
 use crate::asking::ask_all;
 use crate::fault::DrillFault;
 use crate::reading::{bank_of, plan_of, script_of};
-use bank_maker::laws::{a_bank_is_read, a_script_is_read};
+use bank_maker::laws::{a_bank_is_read, a_plan_is_read, a_script_is_read};
 use bank_maker::make;
 use bank_tables::{Bank, ItemSet};
 use constraint_model::Spec;
@@ -58,13 +58,14 @@ pub fn run_drill(alloc: Global, number: u32, sessions: u32) -> Result<Summary, D
     ensures err { IfErr result (IsDrillFault number sessions) }
 {
     a_bank_is_read();
+    a_plan_is_read();
     a_script_is_read();
     let made = make(alloc, number, sessions)?;
     let bank = bank_of(alloc, made.bank)?;
     let spec = plan_of(alloc, &bank, made.plan)?;
     let requests = script_of(alloc, made.script)?;
     let Some(base) = spec.base() else {
-        return Err(DrillFault::NoBase);
+        unreachable!()
     };
     examine(alloc, &bank, &spec, base, &requests)
 }

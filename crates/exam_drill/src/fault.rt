@@ -3,16 +3,11 @@
 ghost use Rattle.std.specs.Prelude.{◌≡◌};
 ghost use Rattle.exam_drill.specs.declared.fault.DrillFault.TheVariants.{Memory};
 
-use spec_reader::PlanFault;
 use std::alloc::AllocError;
 
 /// Why a drill has no summary.
 #[derive(Debug, Drop)]
 pub enum DrillFault {
-    /// The plan text is refused.
-    Plan(PlanFault),
-    /// The plan has no base form.
-    NoBase,
     /// With its next record the journal would have `size` bytes, more than its limit of `most`.
     JournalFull { size: u64, most: u64 },
     /// Out of memory.

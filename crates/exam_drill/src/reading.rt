@@ -4,12 +4,13 @@ ghost use Rattle.std.specs.Prelude.{◌≡◌, ◌≤◌, ◌⊎◌, List, lengt
 ghost use Rattle.bank_reader.specs.Grammar.{IsBankText};
 ghost use Rattle.bank_reader.specs.declared.fault.ReadFault.TheVariants as read_fault;
 ghost use Rattle.bank_tables.specs.Tables.{Tables};
+ghost use Rattle.exam_model.specs.Plan.{Plan};
 ghost use Rattle.exam_model.specs.Validity.{IsPlanFor};
 ghost use Rattle.history_model.specs.declared.request.Request.{Request};
 ghost use Rattle.replay_cli.specs.Scripts.{IsScript};
 ghost use Rattle.replay_cli.specs.Reading.{most_bytes};
-ghost use Rattle.spec_reader.specs.Reading.{IsPlanText};
-ghost use Rattle.exam_drill.specs.Reading.{IsPlanRefused};
+ghost use Rattle.spec_reader.specs.Reading.{IsPlanText, most_bytes as most_of_plan};
+ghost use Rattle.spec_reader.specs.declared.plan_fault.PlanFault.TheVariants as plan_fault;
 
 use crate::fault::DrillFault;
 use bank_reader::{ReadFault, read_bank};
@@ -45,17 +46,29 @@ pub fn bank_of(alloc: Global, text: Vec<u8>) -> Result<Bank, DrillFault>
     }
 }
 
-/// The plan of a text, valid for the bank.
+/// The fault that ends a drill where a plan text was not read.
+fn fault_of_plan(fault: PlanFault) -> DrillFault
+    requires { (fault ≡ plan_fault.Memory) ⊎ (fault ≡ plan_fault.Source) }
+    ensures { result ≡ DrillFault.Memory }
+{
+    match fault {
+        PlanFault::Source | PlanFault::Memory => DrillFault::Memory,
+        _ => unreachable!(),
+    }
+}
+
+/// The plan of a text of a plan that is valid for the bank. The text is not too long.
 pub fn plan_of(alloc: Global, bank: &Bank, text: Vec<u8>) -> Result<Spec, DrillFault>
+    requires plan { (p : Plan) × IsPlanText bank.now text.items p × IsPlanFor bank.now p }
+    requires short { length text.items ≤ most_of_plan }
     ensures ok { IfOk result (IsPlanText bank.now text.items) }
     ensures valid { IfOk result (IsPlanFor bank.now) }
-    ensures err { IfErr result (IsPlanRefused bank.now text.items) }
+    ensures err { IfErr result (λ fault. fault ≡ DrillFault.Memory) }
 {
     let mut source = MemorySource::of(text, Vec::new(alloc));
     match read_plan(alloc, bank, &mut source) {
         Ok(spec) => Ok(spec),
-        Err(PlanFault::Source) | Err(PlanFault::Memory) => Err(DrillFault::Memory),
-        Err(fault) => Err(DrillFault::Plan(fault)),
+        Err(fault) => Err(fault_of_plan(fault)),
     }
 }
 

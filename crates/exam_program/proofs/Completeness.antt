@@ -27,7 +27,7 @@ use Rattle.exam_program.specs.Outside.{Outside}
 use Rattle.exam_program.specs.Replays.{IsOfFile, IsJournalRefused}
 use Rattle.exam_program.proofs.BaseLaws.{whole_form}
 use Rattle.exam_program.proofs.OnePlan.{one_plan_in}
-use Rattle.exam_program.specs.Outcomes.{IsOver, IsReady, IsReplayOf, Outcome, faulty_words, bank_refused, plan_refused, script_refused, checked, form_found, without_form, without_base_form, journal_refused, replayed, sessions_full, journal_full, without_files, without_journal, without_disk, without_memory, without_more_memory, server_refused, server_without_journal, server_without_memory, IsAuditOf, audited, audit_refused, without_audit, drilled, drill_refused, drill_without_base, drill_full}
+use Rattle.exam_program.specs.Outcomes.{IsOver, IsReady, IsReplayOf, Outcome, faulty_words, bank_refused, plan_refused, script_refused, checked, form_found, without_form, without_base_form, journal_refused, replayed, sessions_full, journal_full, without_files, without_journal, without_disk, without_memory, without_more_memory, server_refused, server_without_journal, server_without_memory, IsAuditOf, audited, audit_refused, without_audit, drilled, drill_full}
 use Rattle.exam_program.specs.Serves.{IsServeOf}
 
 -- ---- a reading is one
@@ -211,8 +211,6 @@ module _ (words : List (List ℕ)) (o : Outside) (command : Command) (e : comman
       no_journal (subst (NoJournal o) (same_command (Audit is.bank is.plan) is.asked) (c, q, why, is.reads, refusal))
   left bank plan names b p _ _ reads quiet (without_audit c q is rose untouched) = disk (audits_journal c q is) rose
   left bank plan names b p _ _ reads quiet (drilled number sessions s f is untouched) = absurd (no_drill bank plan names number sessions f)
-  left bank plan names b p _ _ reads quiet (drill_refused number sessions why f is untouched) = absurd (no_drill bank plan names number sessions f)
-  left bank plan names b p _ _ reads quiet (drill_without_base number sessions f is untouched) = absurd (no_drill bank plan names number sessions f)
   left bank plan names b p _ _ reads quiet (drill_full number sessions size most f is untouched) = absurd (no_drill bank plan names number sessions f)
 
 -- a server that served no connection was not done
@@ -245,8 +243,6 @@ module _ (words : List (List ℕ)) (o : Outside) (command : Command) (e : comman
   not_done _ _ (audit_refused c q why is refusal) zero = omega (arith, zero)
   not_done _ _ (without_audit c q is rose untouched) zero = omega (arith, zero)
   not_done _ _ (drilled number sessions s f is untouched) zero = no_server (Drill number sessions) f (λ x. x)
-  not_done _ _ (drill_refused number sessions why f is untouched) zero = omega (arith, zero)
-  not_done _ _ (drill_without_base number sessions f is untouched) zero = omega (arith, zero)
   not_done _ _ (drill_full number sessions size most f is untouched) zero = omega (arith, zero)
 
 -- ---- the laws

@@ -24,7 +24,7 @@ use Rattle.exam_program.specs.Replays.{IsLeftAt, IsJournalRefused}
 use Rattle.exam_program.specs.Stopping.{opening_halt, IsUnopened, refused, failed, out_of_memory, Stops, by_sessions, by_journal, by_disk, by_memory, by_sink, Finishes, IsReplayed, Halted}
 use Rattle.exam_program.specs.Texts.{bank_line, journal_text, usage}
 use Rattle.exam_program.specs.Writing.{IsWritten, WritesPart}
-use Rattle.exam_program.specs.Outcomes.{IsOver, IsReady, IsReplayOf, Outcome, faulty_words, bank_refused, plan_refused, script_refused, checked, form_found, without_form, without_base_form, journal_refused, replayed, sessions_full, journal_full, without_files, without_journal, without_disk, without_memory, without_more_memory, server_refused, server_without_journal, server_without_memory, IsAuditOf, audited, audit_refused, without_audit, drilled, drill_refused, drill_without_base, drill_full, Prints, PrintsPart, PrintsBefore, PrintsBeforeText, Ends, LeavesJournal, as_found, at_opening, after_requests, server_at_opening, after_opening, Halts, EndsBy, IsStatus, IsStatusBefore}
+use Rattle.exam_program.specs.Outcomes.{IsOver, IsReady, IsReplayOf, Outcome, faulty_words, bank_refused, plan_refused, script_refused, checked, form_found, without_form, without_base_form, journal_refused, replayed, sessions_full, journal_full, without_files, without_journal, without_disk, without_memory, without_more_memory, server_refused, server_without_journal, server_without_memory, IsAuditOf, audited, audit_refused, without_audit, drilled, drill_full, Prints, PrintsPart, PrintsBefore, PrintsBeforeText, Ends, LeavesJournal, as_found, at_opening, after_requests, server_at_opening, after_opening, Halts, EndsBy, IsStatus, IsStatusBefore}
 
 -- a count that rose later, rose
 pub rose_later : (before now after : ℕ) → before ≤ now → Rose now after → Rose before after
@@ -113,20 +113,10 @@ module _ (words : List (List ℕ)) (o : Outside) (told : Bool) (old : List ℕ) 
   -- ---- a drill
   module _ (number sessions : ℕ) (e : command_of words ≡ Some (Drill number sessions)) (untouched : IsUntouched o.disk) where
     pub halts_at_drill : (h : Halt) → HaltsAtDrill number sessions h → Halts words o told old old h
-    halts_at_drill (halt.Plan fault) is = (nothing_before 4 _ (drill_refused number sessions fault e is untouched), nothing_before 10 _ (without_memory untouched))
-    halts_at_drill (halt.NoBaseForm text) is = nothing_before 12 text.items
-        (subst (λ (t : List ℕ). Outcome words o 12 t) (sym is.1) (drill_without_base number sessions e is.0 untouched))
     halts_at_drill (halt.JournalFull size most) is =
         (nothing_before 13 _ (drill_full number sessions size most e is untouched), nothing_before 10 _ (without_memory untouched))
     halts_at_drill halt.Memory is = nothing_before 10 _ (without_memory untouched)
-    halts_at_drill (halt.Bank fault) is = absurd is
-    halts_at_drill (halt.Script fault) is = absurd is
-    halts_at_drill (halt.NoForm text) is = absurd is
-    halts_at_drill (halt.Journal fault) is = absurd is
-    halts_at_drill (halt.Sessions count most) is = absurd is
-    halts_at_drill halt.Files is = absurd is
-    halts_at_drill halt.Disk is = absurd is
-    halts_at_drill halt.Sink is = absurd is
+    halts_at_drill h is = absurd is
 
   -- ---- a replay
   module _ (b : Tables) (p : Plan) (base : List ℕ) (script : List Request) (is : IsReplayOf words o b p script base) (new : List ℕ) where
@@ -210,8 +200,6 @@ module _ (words : List (List ℕ)) (o : Outside) where
   leaves _ _ (audit_refused b p fault is so) = as_found so.untouched
   leaves _ _ (without_audit b p is rose untouched) = as_found untouched
   leaves _ _ (drilled number sessions s e is untouched) = as_found untouched
-  leaves _ _ (drill_refused number sessions fault e is untouched) = as_found untouched
-  leaves _ _ (drill_without_base number sessions e is untouched) = as_found untouched
   leaves _ _ (drill_full number sessions size most e is untouched) = as_found untouched
 
   pub leaves_journal : (told : Bool) (old new : List ℕ) (status : ℕ) → Ends words o told old new status → LeavesJournal words o

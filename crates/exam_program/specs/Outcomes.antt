@@ -42,7 +42,7 @@ use Rattle.exam_program.specs.Outside.{Outside, IsUntouched}
 use Rattle.exam_program.specs.Replays.{IsUnderWay, IsJournalRefused, IsOpeningFailed, IsFullAt, IsLeftAt}
 use Rattle.exam_program.specs.Serves.{IsServeOf, IsExamined}
 use Rattle.exam_program.specs.Writing.{IsWritten}
-use Rattle.exam_program.specs.Texts.{usage, disk_failed, journal_text, sessions_limit, journal_limit, no_form, no_base_form, no_drill_base, bank_line, form_text}
+use Rattle.exam_program.specs.Texts.{usage, disk_failed, journal_text, sessions_limit, journal_limit, no_form, no_base_form, bank_line, form_text}
 
 -- there are the files of a replay, they describe this bank, plan and script, and this is the base
 -- form
@@ -188,14 +188,6 @@ pub data Outcome (words : List (List ℕ)) (o : Outside) : ℕ → List ℕ → 
   drilled : (number sessions : ℕ) (s : Summary) → command_of words ≡ Some (Drill number sessions)
       → IsSummaryOfDrill number sessions s → IsUntouched o.disk
       → Outcome words o 0 (drill_text number sessions ++ summary_text s)
-  -- the plan text of a drill is refused, or its plan has no base form
-  drill_refused : (number sessions : ℕ) (fault : PlanFault)
-      → command_of words ≡ Some (Drill number sessions)
-      → IsDrillFault number sessions (drill.Plan fault) → IsUntouched o.disk
-      → Outcome words o 4 (plan_text fault)
-  drill_without_base : (number sessions : ℕ) → command_of words ≡ Some (Drill number sessions)
-      → IsDrillFault number sessions drill.NoBase → IsUntouched o.disk
-      → Outcome words o 12 no_drill_base
   -- an entry of a drill has no room in its journal
   drill_full : (number sessions size most : ℕ) → command_of words ≡ Some (Drill number sessions)
       → IsDrillFault number sessions (drill.JournalFull size most) → IsUntouched o.disk

@@ -79,7 +79,3 @@ objective_line value proved nodes = codes "objective " ++ (decimal value ++ (cod
 unfoldable pub form_text : Problem → List ℕ → Bool → ProofTree → List ℕ
 form_text P form proved T =
     codes "form" ++ (items_text (size P.bank) (has form) ++ (codes "\n" ++ (objective_line (objective P (has form)) proved (length T.nodes) ++ (codes "tree " ++ tree_text T))))
-
--- the plan of a drill has no base form
-unfoldable pub no_drill_base : List ℕ
-no_drill_base = codes "no base form\n"

@@ -4,7 +4,6 @@ ghost use Rattle.std.specs.Prelude.{◌≡◌, ℕ, ◌≤◌, ◌++◌, List, S
 ghost use Rattle.command_line.specs.Commands.{Drill, command_of};
 ghost use Rattle.exam_edge.specs.Faults.{Rose};
 ghost use Rattle.exam_drill.specs.Drills.{IsDrillFault};
-ghost use Rattle.exam_drill.specs.declared.fault.DrillFault.TheVariants.{NoBase};
 ghost use Rattle.exam_drill.specs.Texts.{drill_text};
 ghost use Rattle.exam_lines.specs.Texts.{summary_text};
 ghost use Rattle.exam_program.specs.Drilling.{HaltsAtDrill, IsOfDrill};
@@ -32,31 +31,14 @@ fn drill_text(alloc: Global, number: u32, sessions: u32, summary: &Summary) -> O
     Some(text)
 }
 
-/// The plan of a drill has no base form.
-#[tactic(auto, unfolding(crate::specs::Texts::no_drill_base))]
-fn no_base(alloc: Global) -> Halt
-    ensures halts { (number sessions : ℕ) → IsDrillFault number sessions NoBase
-        → HaltsAtDrill number sessions result }
-    ensures alone { IsOfDrill result }
-    ensures no_sink { result ≡ Halt.Sink → ⊥ }
-{
-    let mut text = Vec::new(alloc);
-    match text.extend_from_slice(b"no base form\n") {
-        Ok(()) => Halt::NoBaseForm(text),
-        Err(_) => Halt::Memory,
-    }
-}
-
 /// Why a drill has no summary, as the program ends with it.
-fn halt_of_drill(alloc: Global, fault: DrillFault) -> Halt
+fn halt_of_drill(fault: DrillFault) -> Halt
     ensures halts { (number sessions : ℕ) → IsDrillFault number sessions fault
         → HaltsAtDrill number sessions result }
     ensures alone { IsOfDrill result }
     ensures no_sink { result ≡ Halt.Sink → ⊥ }
 {
     match fault {
-        DrillFault::Plan(fault) => Halt::Plan(fault),
-        DrillFault::NoBase => no_base(alloc),
         DrillFault::JournalFull { size, most } => Halt::JournalFull { size, most },
         DrillFault::Memory => Halt::Memory,
     }
@@ -84,7 +66,7 @@ pub(crate) fn drill<O: Sink>(
 {
     let summary = match run_drill(alloc, number, sessions) {
         Ok(summary) => summary,
-        Err(fault) => return Err(halt_of_drill(alloc, fault)),
+        Err(fault) => return Err(halt_of_drill(fault)),
     };
     let Some(text) = drill_text(alloc, number, sessions, &summary) else {
         return Err(Halt::Memory);
