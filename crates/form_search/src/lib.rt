@@ -10,6 +10,7 @@
 #![tactic(auto)]
 
 mod branching;
+mod dive;
 mod exchange;
 mod incumbent;
 mod leaves;
@@ -24,6 +25,9 @@ mod search_call;
 mod steps;
 mod table;
 mod tally;
+mod vertex_branching;
+mod vertex_pass;
+mod vertices;
 mod weights;
 
 pub use proof_tree::Memory;

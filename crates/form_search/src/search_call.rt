@@ -8,11 +8,13 @@ ghost use Rattle.constraint_model.specs.Views.{problem_of};
 
 use crate::incumbent::Incumbent;
 use crate::pass::{Limits, Pass};
-use crate::pool::empty_vector;
+use crate::pool::{Pool, empty_vector};
 use crate::repair::nearby_form;
 use crate::root::steps_at_root;
 use crate::steps::Stepped;
 use crate::table::Table;
+use crate::vertex_pass::{vertex_of_root, vertex_passes};
+use crate::vertices::Solver;
 use bank_tables::{ItemSet, List};
 use constraint_model::{Problem, is_form};
 use exam_model::Node;
@@ -73,18 +75,54 @@ fn names_vector(nodes: &[Node]) -> bool {
     false
 }
 
-/// The tree of a pass, without vectors where no leaf names one.
-fn tree_of(alloc: Global, pass: Pass) -> Result<Option<Tree>, Memory> {
-    if !pass.is_whole {
-        return Ok(None);
-    }
-    let nodes = pass.nodes;
+/// The tree of some nodes, without vectors where no leaf names one.
+fn tree_with(alloc: Global, nodes: Vec<Node>, pool: Pool) -> Result<Option<Tree>, Memory> {
     let vectors = if names_vector(&nodes) {
-        pass.pool.into_vectors(alloc)?
+        pool.into_vectors(alloc)?
     } else {
         Vec::new(alloc)
     };
     Ok(Tree::of(List::of(vectors), List::of(nodes)))
+}
+
+/// The tree of a pass.
+fn tree_of(alloc: Global, pass: Pass) -> Result<Option<Tree>, Memory> {
+    if !pass.is_whole {
+        return Ok(None);
+    }
+    tree_with(alloc, pass.nodes, pass.pool)
+}
+
+/// The tree of passes by exchanges, if one is whole within the budget. Where many items are of
+/// passages no exchanges are made: the steps have caps, which close such paths sooner.
+fn tree_by_exchanges(
+    alloc: Global,
+    problem: &Problem,
+    table: &Table,
+    incumbent: &mut Incumbent,
+    budget: u16,
+) -> Result<Option<Tree>, Memory>
+    requires { IsWellMade (problem_of problem.now) }
+{
+    if table.is_of_passages() {
+        return Ok(None);
+    }
+    let root = Cut::root(problem);
+    let mut solver = Solver::of(alloc, problem, &root)?;
+    let vertex = vertex_of_root(alloc, problem, table, &mut solver, incumbent, &root)?;
+    let branches = (budget as u32).saturating_sub(1) / 2;
+    match vertex_passes(
+        alloc,
+        problem,
+        table,
+        &mut solver,
+        incumbent,
+        &vertex,
+        branches,
+    )? {
+        Some(pass) => tree_with(alloc, pass.nodes, pass.pool),
+        None => Ok(None),
+    }
 }
 
 /// Passes until one is whole, and no better form was met while it grew large. Its tree is taken if the budget is not spent.
@@ -138,7 +176,8 @@ fn form_or_none(problem: &Problem, form: &Option<ItemSet>) -> Option<ItemSet>
 }
 
 /// Looks for a form of the problem, and for a tree within a budget of nodes, which is odd and at most 4,095, that shows it
-/// best, or that no set is a form, or that spends the budget; the hint may be a form. The tree is to be tested.
+/// best, or that no set is a form, or that spends the budget; the hint may be a form. The tree is to be tested. Where steps
+/// at the root close it, the tree is one node.
 pub fn search(
     alloc: Global,
     problem: &Problem,
@@ -152,7 +191,13 @@ pub fn search(
     let table = Table::of(alloc, problem)?;
     let mut incumbent = known(alloc, problem, &table, hint)?;
     let root = steps_at_root(alloc, problem, &table, &mut incumbent, &Cut::root(problem))?;
-    let tree = passes(alloc, problem, &table, &mut incumbent, &root, budget)?;
+    let mut tree = None;
+    if root.bound > incumbent.top() {
+        tree = tree_by_exchanges(alloc, problem, &table, &mut incumbent, budget)?;
+    }
+    if tree.is_none() {
+        tree = passes(alloc, problem, &table, &mut incumbent, &root, budget)?;
+    }
     Ok(Searched {
         form: form_or_none(problem, &incumbent.form),
         tree,

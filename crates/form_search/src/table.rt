@@ -171,6 +171,17 @@ impl Table {
         self.parts.get(entry.start..entry.end).unwrap_or(&[])
     }
 
+    /// Whether at least two fifths of the items that may be taken or left are of stimuli.
+    pub fn is_of_passages(&self) -> bool {
+        let mut free = 0u32;
+        let mut grouped = 0u32;
+        for entry in &self.entries {
+            free = free.wrapping_add(entry.free as u32);
+            grouped = grouped.wrapping_add((entry.free && entry.stimulus > 0) as u32);
+        }
+        grouped > 0 && free.wrapping_mul(2) <= grouped.wrapping_mul(5)
+    }
+
     /// Adds the items of the bank.
     fn add_entries(&mut self, problem: &Problem) -> Result<(), Memory> {
         for item in 0..problem.bank.items() {

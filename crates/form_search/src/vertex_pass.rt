@@ -1,0 +1,243 @@
+//! A pass by exchanges: a tree made depth first, where each path begins with the vertex that its branch led to.
+
+ghost use Rattle.exam_model.specs.Validity.{IsWellMade};
+ghost use Rattle.constraint_model.specs.Views.{problem_of};
+ghost use Rattle.lagrange_bound.specs.Cuts.{IsCut};
+
+use crate::dive::dive;
+use crate::incumbent::Incumbent;
+use crate::leaves::settled;
+use crate::paths::{Sides, Waiting, next_path, push_below, wait};
+use crate::pool::Pool;
+use crate::repair::nearby_form;
+use crate::table::Table;
+use crate::tally::is_ruled_out;
+use crate::vertex_branching::best_branch;
+use crate::vertices::{Solver, sets_of, target_of};
+use constraint_model::Problem;
+use exam_model::Node;
+use lagrange_bound::{Cut, impossible};
+use multiplier_exchanges::{Reached, Vertex};
+use proof_tree::Memory;
+use std::alloc::Global;
+
+/// Nodes of a tree, at most.
+const MOST_NODES: u32 = 4095;
+
+/// Exchanges at the root, at most.
+const ROOT_EXCHANGES: u32 = 2000;
+
+/// Nodes after which the first pass may begin anew.
+const FIRST_RESTART: usize = 24;
+
+/// How far below what closes the root the exchanges there go: one unit of a bound.
+const ROOT_MARGIN: i64 = 256;
+
+/// The part of the bound that is a great gap.
+const FAR: i64 = 128;
+
+/// What a pass has made so far.
+#[derive(Debug, Drop)]
+pub struct VertexPass {
+    pub nodes: Vec<Node>,
+    pub pool: Pool,
+    /// The vertices of the paths that wait, in their order.
+    vertices: Vec<Vertex>,
+    /// Branches that the budget still allows.
+    branches: u32,
+    /// Whether a leaf is Open.
+    pub is_spent: bool,
+    /// Whether no path waits for its subtree.
+    pub is_whole: bool,
+}
+
+/// Whether there is no form, or the best is so far below the bound that a better one is worth a search.
+fn is_far(vertex: &Vertex, incumbent: &Incumbent) -> bool {
+    match incumbent.form {
+        Some(_) => {
+            let gap = vertex.bound().saturating_sub(target_of(incumbent));
+            gap > vertex.bound() / FAR
+        }
+        None => true,
+    }
+}
+
+/// The vertex of the root, and a first form or a better one where the root isn't closed.
+pub fn vertex_of_root(
+    alloc: Global,
+    problem: &Problem,
+    table: &Table,
+    solver: &mut Solver,
+    incumbent: &mut Incumbent,
+    root: &Cut,
+) -> Result<Vertex, Memory>
+    requires { IsWellMade (problem_of problem.now) }
+{
+    let mut vertex = Vertex::first(alloc, &solver.relaxation, &sets_of(root))?;
+    let target = target_of(incumbent).saturating_sub(ROOT_MARGIN);
+    match solver.run(&mut vertex, target, ROOT_EXCHANGES)? {
+        Reached::Target | Reached::Ray => return Ok(vertex),
+        Reached::Best | Reached::Limit => {}
+    }
+    let known = incumbent.objective;
+    dive(alloc, problem, table, solver, incumbent, &vertex)?;
+    if incumbent.objective == known && is_far(&vertex, incumbent) {
+        let vector = solver.vector(alloc, &vertex)?;
+        let items = nearby_form(alloc, table, &vector, &problem.given)?;
+        incumbent.offer(problem, table, &items);
+    }
+    Ok(vertex)
+}
+
+impl VertexPass {
+    /// The branch at a path, or Open where the budget allows none.
+    fn branch_or_open(
+        &mut self,
+        alloc: Global,
+        problem: &Problem,
+        table: &Table,
+        solver: &mut Solver,
+        incumbent: &Incumbent,
+        cut: &Cut,
+        vertex: &Vertex,
+    ) -> Result<Node, Memory>
+        requires well_made { IsWellMade (problem_of problem.now) }
+        requires cut { IsCut (problem_of problem.now) cut.now }
+    {
+        if self.branches == 0 {
+            self.is_spent = true;
+            return Ok(Node::Open);
+        }
+        self.branches = self.branches.saturating_sub(1);
+        match best_branch(alloc, problem, table, solver, incumbent, vertex, cut)? {
+            Some(branch) => {
+                let node = branch.node;
+                self.vertices.push(branch.other)?;
+                self.vertices.push(branch.first)?;
+                Ok(node)
+            }
+            None => {
+                self.is_spent = true;
+                Ok(Node::Open)
+            }
+        }
+    }
+
+    /// The node at a path: the leaf of the lowest row that is impossible by counting, or another leaf, or a branch.
+    fn node_at(
+        &mut self,
+        alloc: Global,
+        problem: &Problem,
+        table: &Table,
+        solver: &mut Solver,
+        incumbent: &mut Incumbent,
+        cut: &Cut,
+        vertex: &mut Vertex,
+    ) -> Result<Node, Memory>
+        requires well_made { IsWellMade (problem_of problem.now) }
+        requires cut { IsCut (problem_of problem.now) cut.now }
+    {
+        if is_ruled_out(table, cut) {
+            if let Some(row) = impossible(problem, cut) {
+                return Ok(Node::Count(row));
+            }
+        }
+        let pool = &mut self.pool;
+        if let Some(leaf) = settled(problem, table, pool, incumbent, cut)? {
+            return Ok(leaf);
+        }
+        if self.is_spent {
+            return Ok(Node::Open);
+        }
+        if let Some(leaf) = solver.leaf(alloc, problem, table, pool, incumbent, cut, vertex)? {
+            return Ok(leaf);
+        }
+        self.branch_or_open(alloc, problem, table, solver, incumbent, cut, vertex)
+    }
+
+    /// A pass with no nodes yet, and the root's vertex.
+    fn new(
+        alloc: Global,
+        table: &Table,
+        at_root: &Vertex,
+        branches: u32,
+    ) -> Result<VertexPass, Memory> {
+        let mut vertices = Vec::new(alloc);
+        vertices.push(at_root.again(alloc)?)?;
+        Ok(VertexPass {
+            nodes: Vec::new(alloc),
+            pool: Pool::new(alloc, table)?,
+            vertices,
+            branches,
+            is_spent: false,
+            is_whole: false,
+        })
+    }
+
+    /// A pass over the paths from the root on. It ends early where it has so many nodes and met a better form.
+    pub fn over(
+        alloc: Global,
+        problem: &Problem,
+        table: &Table,
+        solver: &mut Solver,
+        incumbent: &mut Incumbent,
+        at_root: &Vertex,
+        branches: u32,
+        restart: usize,
+    ) -> Result<VertexPass, Memory>
+        requires { IsWellMade (problem_of problem.now) }
+    {
+        let begun = incumbent.objective;
+        let mut pass = VertexPass::new(alloc, table, at_root, branches)?;
+        let mut waiting = Vec::new(alloc);
+        let first = Waiting {
+            cut: Cut::root(problem),
+            depth: 0,
+            hand: 0,
+        };
+        wait(problem, &mut waiting, first)?;
+        for _ in 0..MOST_NODES {
+            let Some(place) = next_path(problem, &mut waiting) else {
+                break;
+            };
+            let Some(mut vertex) = pass.vertices.pop() else {
+                return Ok(pass);
+            };
+            let cut = &place.cut;
+            let node = pass.node_at(alloc, problem, table, solver, incumbent, cut, &mut vertex)?;
+            pass.nodes.push(node)?;
+            let hands = Sides { first: 0, other: 0 };
+            push_below(problem, &mut waiting, &place, &node, hands)?;
+            if pass.nodes.len() >= restart && incumbent.objective > begun {
+                break;
+            }
+        }
+        pass.is_whole = waiting.is_empty();
+        Ok(pass)
+    }
+}
+
+/// Passes until one is whole; each may have twice as many nodes before it begins anew as the one before.
+pub fn vertex_passes(
+    alloc: Global,
+    problem: &Problem,
+    table: &Table,
+    solver: &mut Solver,
+    incumbent: &mut Incumbent,
+    at_root: &Vertex,
+    branches: u32,
+) -> Result<Option<VertexPass>, Memory>
+    requires { IsWellMade (problem_of problem.now) }
+{
+    let mut restart = FIRST_RESTART;
+    for _ in 0..8 {
+        let pass = VertexPass::over(
+            alloc, problem, table, solver, incumbent, at_root, branches, restart,
+        )?;
+        if pass.is_whole {
+            return Ok(if pass.is_spent { None } else { Some(pass) });
+        }
+        restart = restart.saturating_mul(2);
+    }
+    Ok(None)
+}

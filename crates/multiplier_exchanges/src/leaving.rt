@@ -1,0 +1,109 @@
+//! What is out of its bounds most.
+
+use crate::numbers::{FAR, ONE};
+use crate::relaxation::{Line, Relaxation};
+use crate::vertex::{Hold, Vertex};
+use crate::workspace::Workspace;
+use proof_tree::Memory;
+
+/// A column is out of its bounds by more than this.
+const LEAST_COLUMN: i64 = 16_384;
+
+/// A line is out of its bounds by more than this.
+const LEAST_LINE: i64 = 262_144;
+
+/// What leaves: the basic column at a place, or a line that isn't tight.
+#[derive(Clone, Copy, Debug)]
+pub(crate) enum Part {
+    Column(usize),
+    Line(u16),
+}
+
+/// What leaves, the sign of its reduced weight or multiplier to come, and how far it is out.
+#[derive(Clone, Copy, Debug)]
+pub(crate) struct Leaver {
+    pub part: Part,
+    pub sign: i64,
+    pub out: i64,
+}
+
+/// How far a value is from where the path lets its column be, and on which side.
+fn column_out(hold: Hold, value: i64) -> (i64, i64) {
+    let (low, high) = match hold {
+        Hold::Free => (0, ONE),
+        Hold::Zero => (0, 0),
+        Hold::One => (ONE, ONE),
+    };
+    if value > high {
+        (value.wrapping_sub(high), 1)
+    } else {
+        (low.wrapping_sub(value), -1)
+    }
+}
+
+/// How far a sum is from the bounds of its line, and on which side.
+#[inline]
+fn line_out(line: &Line, sum: i64) -> (i64, i64) {
+    let under = line.low.wrapping_mul(ONE).wrapping_sub(sum);
+    if line.high >= FAR || under > 0 {
+        return (under, 1);
+    }
+    (sum.wrapping_sub(line.high.wrapping_mul(ONE)), -1)
+}
+
+impl Vertex {
+    /// The basic column that is out of its bounds most.
+    fn leaving_column(&self) -> Option<Leaver> {
+        let mut best = None;
+        let mut most = LEAST_COLUMN;
+        let mut place = 0usize;
+        for (column, value) in self.basic.iter().zip(self.values.iter()) {
+            let (out, sign) = column_out(self.hold(*column), *value);
+            if out > most {
+                most = out;
+                let part = Part::Column(place);
+                best = Some(Leaver { part, sign, out });
+            }
+            place = place.wrapping_add(1);
+        }
+        best
+    }
+
+    /// The line that is out of its bounds most, as it is measured, where that is more than `least`.
+    fn leaving_line(&self, relaxation: &Relaxation, sums: &[i64], least: i64) -> Option<Leaver> {
+        let mut best = None;
+        let mut most = least;
+        let mut number = 0u16;
+        for (line, sum) in relaxation.lines.iter().zip(sums.iter()) {
+            let (out, sign) = line_out(line, *sum);
+            if out > LEAST_LINE && self.is_tight.get(number as usize).copied() == Some(false) {
+                let measured = out.checked_div(line.scale).unwrap_or(0);
+                if measured > most {
+                    most = measured;
+                    let part = Part::Line(number);
+                    best = Some(Leaver { part, sign, out });
+                }
+            }
+            number = number.wrapping_add(1);
+        }
+        best
+    }
+
+    /// What leaves; None at the best bound.
+    pub(crate) fn leaver(
+        &self,
+        relaxation: &Relaxation,
+        room: &mut Workspace,
+    ) -> Result<Option<Leaver>, Memory> {
+        self.compute_sums(relaxation, &mut room.sums)?;
+        let column = self.leaving_column();
+        let least = match &column {
+            Some(leaver) => leaver.out,
+            None => 0,
+        };
+        match self.leaving_line(relaxation, room.sums.as_slice(), least) {
+            Some(leaver) => Ok(Some(leaver)),
+            None => Ok(column),
+        }
+    }
+}

@@ -1,0 +1,78 @@
+//! The vector of a vertex, in whole multipliers.
+
+use crate::numbers::{add_at, product};
+use crate::relaxation::{NO_SIDE, Relaxation};
+use crate::vertex::Vertex;
+use crate::workspace::Workspace;
+use bank_tables::List;
+use proof_tree::{Memory, Vector};
+use std::alloc::Global;
+
+/// The greatest multiplier.
+const MOST: i64 = 16_777_216;
+
+/// Adds a side with its multiplier, in units of 1/256, if it has one and that is positive.
+fn push_side(pairs: &mut Vec<(u16, u32)>, side: u16, price: i64) -> Result<(), Memory> {
+    let multiplier = price.saturating_add(128) >> 8;
+    if side != NO_SIDE && multiplier > 0 {
+        pairs.push((side, multiplier.clamp(0, MOST) as u32))?;
+    }
+    Ok(())
+}
+
+/// The vector of the multipliers of all lines.
+fn vector_of(alloc: Global, relaxation: &Relaxation, prices: &[i64]) -> Result<Vector, Memory> {
+    let mut pairs = Vec::new(alloc);
+    for (line, price) in relaxation.lines.iter().zip(prices.iter()) {
+        push_side(&mut pairs, line.positive, *price)?;
+        push_side(&mut pairs, line.negative, price.wrapping_neg())?;
+    }
+    match Vector::of(List::of(pairs)) {
+        Some(vector) => Ok(vector),
+        None => Ok(Vector::new(List::of(Vec::new(alloc)))),
+    }
+}
+
+impl Vertex {
+    /// The vector of the vertex.
+    pub fn vector(
+        &self,
+        alloc: Global,
+        relaxation: &Relaxation,
+        room: &mut Workspace,
+    ) -> Result<Vector, Memory> {
+        self.line_prices(relaxation.lines.len(), &mut room.sums)?;
+        vector_of(alloc, relaxation, room.sums.as_slice())
+    }
+
+    /// Adds the direction of the last line search to the multipliers, times a length.
+    fn add_direction(&self, room: &mut Workspace, length: i64) {
+        for (tight, price) in self.tight.iter().zip(room.direction.prices.iter()) {
+            let more = product(length, *price);
+            add_at(&mut room.sums, tight.line as usize, more);
+        }
+        if let Some((line, sign)) = room.direction.line {
+            add_at(&mut room.sums, line as usize, length.wrapping_mul(sign));
+        }
+    }
+}
+
+/// The vector at a length from a vertex in the direction of its last line search, or that direction alone.
+pub fn vector_towards(
+    alloc: Global,
+    relaxation: &Relaxation,
+    vertex: &Vertex,
+    room: &mut Workspace,
+    length: i64,
+    alone: bool,
+) -> Result<Vector, Memory> {
+    let lines = relaxation.lines.len();
+    if alone {
+        room.sums.clear();
+        room.sums.resize(lines, 0)?;
+    } else {
+        vertex.line_prices(lines, &mut room.sums)?;
+    }
+    vertex.add_direction(room, length);
+    vector_of(alloc, relaxation, room.sums.as_slice())
+}

@@ -1,0 +1,295 @@
+//! A vertex of the relaxation.
+
+use crate::numbers::{ONE, add_at, at};
+use crate::relaxation::{PathSets, Relaxation};
+use bank_tables::ItemSet;
+use proof_tree::Memory;
+use std::alloc::Global;
+
+/// Where a column stands.
+#[derive(Clone, Copy, Debug, PartialEq, Eq)]
+pub(crate) enum Stand {
+    Zero,
+    One,
+    Basic,
+}
+
+/// Where a path holds a column.
+#[derive(Clone, Copy, Debug, PartialEq, Eq)]
+pub(crate) enum Hold {
+    Free,
+    Zero,
+    One,
+}
+
+/// A column: its reduced weight (0 where it is basic), where it stands, and where the path holds it.
+#[derive(Clone, Copy, Debug)]
+pub(crate) struct Column {
+    pub weight: i64,
+    pub stand: Stand,
+    pub hold: Hold,
+}
+
+/// A tight line: its number, which bound it stands at, and its multiplier in units of 1/256.
+#[derive(Clone, Copy, Debug)]
+pub(crate) struct Tight {
+    pub line: u16,
+    pub is_high: bool,
+    pub price: i64,
+}
+
+/// A vertex.
+#[derive(Debug, Drop)]
+pub struct Vertex {
+    pub(crate) columns: Vec<Column>,
+    pub(crate) tight: Vec<Tight>,
+    pub(crate) basic: Vec<u16>,
+    /// The inverse of the basic columns on the tight lines: a row for each basic column.
+    pub(crate) inverse: Vec<i64>,
+    /// The sum on each line of the columns that stand at 1.
+    pub(crate) sums: Vec<i64>,
+    pub(crate) is_tight: Vec<bool>,
+    /// The value of each basic column.
+    pub(crate) values: Vec<i64>,
+    /// The gains of the columns that stand at 1.
+    pub(crate) standing: i64,
+    /// 65,536 times the objective of the vertex.
+    pub(crate) bound: i64,
+    /// Exchanges since the inverse was refreshed.
+    pub(crate) age: u32,
+}
+
+/// Where a path holds what is in neither set, in the first, or in the other.
+fn hold_by(number: u16, one: &ItemSet, free: &ItemSet) -> Hold {
+    if one.has(number) {
+        Hold::One
+    } else if free.has(number) {
+        Hold::Free
+    } else {
+        Hold::Zero
+    }
+}
+
+/// The places and gains of the free columns of the length, the greatest gain first.
+fn free_by_gain(
+    alloc: Global,
+    relaxation: &Relaxation,
+    sets: &PathSets,
+) -> Result<Vec<(i64, u16)>, Memory> {
+    let mut order = Vec::new(alloc);
+    let mut column = 0u16;
+    for item in relaxation.items.as_slice() {
+        if sets.free.has(*item) {
+            order.push((relaxation.gain(column).wrapping_neg(), column))?;
+        }
+        column = column.saturating_add(1);
+    }
+    order.sort_unstable_by_key(|pair| pair.0);
+    Ok(order)
+}
+
+impl Vertex {
+    /// The bound of the vertex: 65,536 times its objective.
+    pub fn bound(&self) -> i64 {
+        self.bound
+    }
+
+    /// Where a column stands.
+    #[inline]
+    pub(crate) fn stand(&self, column: u16) -> Stand {
+        match self.columns.get(column as usize) {
+            Some(known) => known.stand,
+            None => Stand::Basic,
+        }
+    }
+
+    /// Where the path holds a column.
+    #[inline]
+    pub(crate) fn hold(&self, column: u16) -> Hold {
+        match self.columns.get(column as usize) {
+            Some(known) => known.hold,
+            None => Hold::Zero,
+        }
+    }
+
+    /// Adds a column to the sums, or takes it off them.
+    pub(crate) fn count(&mut self, relaxation: &Relaxation, column: u16, sign: i64) {
+        let gain = relaxation.gain(column).wrapping_mul(sign);
+        self.standing = self.standing.wrapping_add(gain);
+        for cell in relaxation.column_cells(column) {
+            let more = cell.amount.wrapping_mul(sign);
+            add_at(&mut self.sums, cell.place as usize, more);
+        }
+    }
+
+    /// Lets a column that isn't basic stand at 0 or at 1.
+    pub(crate) fn stand_at(&mut self, relaxation: &Relaxation, column: u16, stand: Stand) {
+        let Some(known) = self.columns.get_mut(column as usize) else {
+            return;
+        };
+        let was = known.stand == Stand::One;
+        let is = stand == Stand::One;
+        known.stand = stand;
+        if is && !was {
+            self.count(relaxation, column, 1);
+        } else if was && !is {
+            self.count(relaxation, column, -1);
+        }
+    }
+
+    /// Lets the path hold a column; one that isn't basic stands there.
+    fn hold_at(&mut self, relaxation: &Relaxation, column: u16, hold: Hold) {
+        let Some(known) = self.columns.get_mut(column as usize) else {
+            return;
+        };
+        if known.hold == hold {
+            return;
+        }
+        known.hold = hold;
+        if known.stand == Stand::Basic {
+            return;
+        }
+        let stand = stand_by(hold, known.weight);
+        self.stand_at(relaxation, column, stand);
+    }
+
+    /// Lets a path hold the columns of the items.
+    fn hold_items(&mut self, relaxation: &Relaxation, sets: &PathSets) {
+        let mut column = 0u16;
+        for item in relaxation.items.as_slice() {
+            self.hold_at(relaxation, column, hold_by(*item, &sets.taken, &sets.free));
+            column = column.saturating_add(1);
+        }
+    }
+
+    /// Lets a path hold the columns.
+    pub fn hold_on(&mut self, relaxation: &Relaxation, sets: &PathSets) {
+        self.hold_items(relaxation, sets);
+        let mut column = relaxation.items.len() as u64;
+        for stimulus in relaxation.stimuli.as_slice() {
+            let hold = hold_by(*stimulus as u16, &sets.chosen, &sets.opened);
+            self.hold_at(relaxation, u16::try_from(column).unwrap_or(u16::MAX), hold);
+            column = column.saturating_add(1);
+        }
+    }
+
+    /// The vertex with no tight line, where each column stands at 0.
+    fn empty(alloc: Global, relaxation: &Relaxation) -> Result<Vertex, Memory> {
+        let lines = relaxation.lines.len();
+        let mut columns = Vec::with_capacity(alloc, relaxation.gains.len())?;
+        for gain in relaxation.gains.as_slice() {
+            columns.push(Column {
+                weight: *gain,
+                stand: Stand::Zero,
+                hold: Hold::Zero,
+            })?;
+        }
+        Ok(Vertex {
+            columns,
+            tight: Vec::new(alloc),
+            basic: Vec::new(alloc),
+            inverse: Vec::new(alloc),
+            sums: Vec::from_elem(alloc, 0i64, lines)?,
+            is_tight: Vec::from_elem(alloc, false, lines)?,
+            values: Vec::new(alloc),
+            standing: 0,
+            bound: i64::MAX,
+            age: 0,
+        })
+    }
+
+    /// Takes the gain of the last item off the weights of the items.
+    fn lower_weights(&mut self, items: usize, gain: i64) {
+        for column in self.columns.iter_mut().take(items) {
+            column.weight = column.weight.wrapping_sub(gain);
+        }
+    }
+
+    /// Makes a column basic, and the length tight at a price.
+    fn make_basic(&mut self, column: u16, price: i64) -> Result<(), Memory> {
+        if let Some(known) = self.columns.get_mut(column as usize) {
+            known.stand = Stand::Basic;
+            known.weight = 0;
+        }
+        if let Some(tight) = self.is_tight.get_mut(0) {
+            *tight = true;
+        }
+        self.tight.push(Tight {
+            line: 0,
+            is_high: false,
+            price,
+        })?;
+        self.basic.push(column)?;
+        self.inverse.push(ONE)?;
+        Ok(())
+    }
+
+    /// The vertex of the items of the greatest gains, as many as the length needs. The length is tight, and the last of them
+    /// is basic.
+    pub fn first(
+        alloc: Global,
+        relaxation: &Relaxation,
+        sets: &PathSets,
+    ) -> Result<Vertex, Memory> {
+        let mut vertex = Vertex::empty(alloc, relaxation)?;
+        let order = free_by_gain(alloc, relaxation, sets)?;
+        let wanted = match relaxation.lines.get(0) {
+            Some(line) => usize::try_from(line.low).unwrap_or(0),
+            None => 0,
+        };
+        let last = wanted.min(order.len()).saturating_sub(1);
+        if let Some((less, column)) = order.get(last).copied() {
+            vertex.lower_weights(relaxation.items.len(), less.wrapping_neg());
+            vertex.make_basic(column, less)?;
+        }
+        vertex.hold_on(relaxation, sets);
+        Ok(vertex)
+    }
+
+    /// The same once more.
+    pub fn again(&self, alloc: Global) -> Result<Vertex, Memory> {
+        let mut columns = Vec::with_capacity(alloc, self.columns.len())?;
+        columns.extend_from_slice(self.columns.as_slice())?;
+        let mut tight = Vec::new(alloc);
+        tight.extend_from_slice(self.tight.as_slice())?;
+        let mut basic = Vec::new(alloc);
+        basic.extend_from_slice(self.basic.as_slice())?;
+        let mut is_tight = Vec::new(alloc);
+        is_tight.extend_from_slice(self.is_tight.as_slice())?;
+        Ok(Vertex {
+            columns,
+            tight,
+            basic,
+            inverse: copied(alloc, self.inverse.as_slice())?,
+            sums: copied(alloc, self.sums.as_slice())?,
+            is_tight,
+            values: copied(alloc, self.values.as_slice())?,
+            standing: self.standing,
+            bound: self.bound,
+            age: self.age,
+        })
+    }
+
+    /// The value of the basic column at a place.
+    #[inline]
+    pub(crate) fn value(&self, place: usize) -> i64 {
+        at(self.values.as_slice(), place)
+    }
+}
+
+/// A copy of some numbers.
+fn copied(alloc: Global, numbers: &[i64]) -> Result<Vec<i64>, Memory> {
+    let mut copy = Vec::new(alloc);
+    copy.extend_from_slice(numbers)?;
+    Ok(copy)
+}
+
+/// Where a column of a weight stands that a path holds so.
+#[inline]
+pub(crate) fn stand_by(hold: Hold, weight: i64) -> Stand {
+    match hold {
+        Hold::One => Stand::One,
+        Hold::Zero => Stand::Zero,
+        Hold::Free => { if weight > 0 { Stand::One } else { Stand::Zero } }
+    }
+}

@@ -1,0 +1,50 @@
+//! Room for the numbers of an exchange, which is used again.
+
+use crate::breaks::Break;
+use std::alloc::Global;
+
+/// A direction of the multipliers: what is added to that of each tight line, the line that is to be tight, with the sign of
+/// its multiplier, and what is added to the reduced weight of each column.
+#[derive(Debug, Drop)]
+pub(crate) struct Direction {
+    pub prices: Vec<i64>,
+    pub line: Option<(u16, i64)>,
+    pub entries: Vec<i64>,
+}
+
+/// Room for the numbers of an exchange.
+#[derive(Debug, Drop)]
+pub struct Workspace {
+    pub(crate) direction: Direction,
+    /// Where columns and lines come to 0 on the way.
+    pub(crate) breaks: Vec<Break>,
+    /// The sum of each line.
+    pub(crate) sums: Vec<i64>,
+    /// What the tight lines still need.
+    pub(crate) needs: Vec<i64>,
+    /// A column times the inverse.
+    pub(crate) column: Vec<i64>,
+    /// The inverse times a line.
+    pub(crate) line: Vec<i64>,
+    /// The inverse to come, or a row of it.
+    pub(crate) spare: Vec<i64>,
+}
+
+impl Workspace {
+    /// Room that is empty.
+    pub fn new(alloc: Global) -> Workspace {
+        Workspace {
+            direction: Direction {
+                prices: Vec::new(alloc),
+                line: None,
+                entries: Vec::new(alloc),
+            },
+            breaks: Vec::new(alloc),
+            sums: Vec::new(alloc),
+            needs: Vec::new(alloc),
+            column: Vec::new(alloc),
+            line: Vec::new(alloc),
+            spare: Vec::new(alloc),
+        }
+    }
+}
