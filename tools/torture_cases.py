@@ -201,12 +201,15 @@ class Exam:
             return str(refused)
 
     def audit(self):
-        """The command `audit` beside `audit.py`; it changes nothing, but makes an empty file."""
+        """The command `audit` beside `audit.py`; it changes nothing, and makes no file."""
         before = self.case.read("journal")
         done = self.case.run("audit", *self.words)
-        demand((self.case.read("journal") or b"") == (before or b""), "audit changed the journal")
+        demand(self.case.read("journal") == before, "audit changed the journal")
         if self.refused:
             self.expect(done, self.refused[0], [self.refused[1]])
+            return
+        if before is None:
+            self.expect(done, 9, ["disk failed"])
             return
         found = self.history(before)
         self.expect(done, *((6, [found]) if isinstance(found, str)
