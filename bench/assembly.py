@@ -1,10 +1,11 @@
 #!/usr/bin/env python3
 """Times the assembler beside GLPK, CBC and HiGHS on the same steps, and judges every proof tree. See assembly.md.
 
-usage: assembly.py PROGRAM [--short] [--rounds N] [--only TEXT]
+usage: assembly.py PROGRAM [--short] [--rounds N] [--only TEXT] [--seeds N]
 
 PROGRAM is the built program of crates/assembly_bench. --short takes few and small problems; --only those whose names have
-this text; --rounds is how often each step is solved, of which the least time counts (3 without it).
+this text; --rounds is how often each step is solved, of which the least time counts (3 without it); --seeds makes other
+problems of the same kinds, N added to each seed.
 """
 import os
 import subprocess
@@ -93,8 +94,9 @@ def run_program(program, problem, folder, rounds):
 
 # ---------------------------------------------------------------- 0-1 models
 
-def model_of(P):
-    """The 0-1 model of a problem: a column for each item, and behind them one for each stimulus."""
+def model_of(P, links=False):
+    """The 0-1 model of a problem: a column for each item, and behind them one for each stimulus; with `links` also a row
+    for each item of a stimulus, which is chosen only where its stimulus is."""
     count, stimuli = len(P.bank.items), P.bank.stimuli
     lower = [1 if i in P.given else 0 for i in range(count)] + [0] * stimuli
     upper = [0 if i in P.barred else 1 for i in range(count)] + [1] * stimuli
@@ -114,6 +116,7 @@ def model_of(P):
         low, high = P.plan.bounds[s - 1]
         rows.append((0, len(members), members + [(count + s - 1, -low)]))
         rows.append((-len(members), 0, members + [(count + s - 1, -min(high, len(members)))]))
+        rows += [(0, 1, [(count + s - 1, 1), (item, -1)]) for item, _ in members if links]
     return peers.Model(lower, upper, cost, rows)
 
 
@@ -171,12 +174,18 @@ def row_of(result, names):
              str(sum(step.mark != "proved" for step in result.steps)),
              str(sum(step.search == "fallback" for step in result.steps + result.bases))]
     for name in names:
+        if name not in result.peers:
+            cells.append("")
+            continue
         solved = result.peers[name]
         late = sum(not s.optimal for s in solved)
         times = [s.microseconds for s in solved]
         cells.append("%s%s; %.2f" % (milliseconds(times), ", %d not optimal" % late if late else "", mean(times) / mean(own)))
     return "| " + " | ".join(cells) + " |"
 
+
+# GLPK on banks of many passages, with the links of items to their stimuli in its model
+WITH_LINKS = "GLPK with links"
 
 # rows that take several banks together
 GROUPS = (
@@ -188,7 +197,8 @@ GROUPS = (
 
 
 def together(name, group, names):
-    solved = {peer: [s for r in group for s in r.peers[peer]] for peer in names}
+    shared = [peer for peer in names if all(peer in r.peers for r in group)]
+    solved = {peer: [s for r in group for s in r.peers[peer]] for peer in shared}
     return Result(name, [s for r in group for s in r.steps], [s for r in group for s in r.bases], solved)
 
 
@@ -211,6 +221,9 @@ def measure(program, problem, commands, folder, rounds):
     steps, bases = run_program(program, problem, folder, rounds)
     models = [model_of(step.problem) for step in steps]
     solved = {name: peers.solve_all(folder, command, models, rounds) for name, command in commands.items()}
+    if "GLPK" in commands and problem.name.endswith("passages"):
+        linked = [model_of(step.problem, True) for step in steps]
+        solved[WITH_LINKS] = peers.solve_all(folder, commands["GLPK"], linked, rounds)
     wrong = []
     for step in bases + steps:
         said = judge(step)
@@ -226,13 +239,15 @@ def measure(program, problem, commands, folder, rounds):
 
 
 def main(words):
-    rounds, short, only, plain = 3, False, "", []
+    rounds, short, only, shift, plain = 3, False, "", 0, []
     while words:
         word = words.pop(0)
         if word == "--short":
             short = True
         elif word in ("--rounds", "--only") and words:
             rounds, only = (int(words.pop(0)), only) if word == "--rounds" else (rounds, words.pop(0))
+        elif word == "--seeds" and words:
+            shift = int(words.pop(0))
         else:
             plain.append(word)
     if len(plain) != 1:
@@ -241,13 +256,13 @@ def main(words):
     results, wrong = [], []
     with tempfile.TemporaryDirectory() as folder:
         commands = peers.all_peers(folder)
-        for problem in problems.all_problems(short):
+        for problem in problems.all_problems(short, shift):
             if only in problem.name:
                 result, faults = measure(plain[0], problem, commands, folder, rounds)
                 results.append(result)
                 wrong += faults
     print()
-    table(results, list(commands))
+    table(results, list(commands) + [name for name in [WITH_LINKS] if any(name in r.peers for r in results)])
     if not {"GLPK", "CBC"} <= set(commands):
         print("GLPK or CBC is missing: this is no result to publish.")
     for fault in wrong:

@@ -198,15 +198,16 @@ class Passages(Larger):
         return made._replace(name="%d items, %d rows, %d passages" % (self.items, self.count, self.stimuli))
 
 
-def all_problems(short):
-    """The drills, bank L, the larger banks and the passages; `short` gives few and small ones."""
+def all_problems(short, shift=0):
+    """The drills, bank L, the larger banks and the passages; `short` gives few and small ones, `shift` other seeds."""
     numbers = (7,) if short else (1, 7, 8, 77, 100, 2024)
-    problems = [drill(number, 2 if short else 10) for number in numbers] + [twelve_categories()]
+    problems = [drill(number + shift, 2 if short else 10) for number in numbers]
+    problems += [] if shift else [twelve_categories()]
     sizes = [(64, 20, 30, 0), (128, 20, 30, 0), (256, 30, 30, 0), (256, 30, 60, 0), (512, 36, 60, 0),
              (64, 20, 30, 4), (128, 20, 30, 4), (256, 30, 30, 4), (512, 36, 60, 4), (256, 30, 60, 8), (512, 36, 60, 24)]
     for items, length, rows, stimuli in sizes[:1] if short else sizes:
-        problems.append(Larger(items + stimuli, items, length, rows, stimuli).problem(1 if short else 2))
+        problems.append(Larger(shift + items + stimuli, items, length, rows, stimuli).problem(1 if short else 2))
     passages = [(200, 20, 16), (200, 40, 16), (400, 30, 40), (400, 60, 40), (512, 20, 64), (512, 60, 64)]
     for items, rows, stimuli in passages[:1] if short else passages:
-        problems.append(Passages(items + rows, items, rows, stimuli).problem(1 if short else 2))
+        problems.append(Passages(shift + items + rows, items, rows, stimuli).problem(1 if short else 2))
     return problems
