@@ -1,5 +1,5 @@
 #!/usr/bin/env python3
-"""Times the assembler beside GLPK, CBC and HiGHS on the same steps, and judges every proof tree. See assembly.md.
+"""Times the assembler beside GLPK, CBC, HiGHS and SYMPHONY on the same steps, and judges every proof tree. See assembly.md.
 
 usage: assembly.py PROGRAM [--short] [--rounds N] [--only TEXT] [--seeds N]
 

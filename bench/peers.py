@@ -1,7 +1,7 @@
-"""The free solvers beside which assembly.py times the assembler: GLPK, CBC and HiGHS, each on the same 0-1 models.
+"""The free solvers beside which assembly.py times the assembler: GLPK, CBC, HiGHS and SYMPHONY, each on the same 0-1 models.
 
 Each peer is a child process of its own that reads all models, solves each several times, and tells for each the least time of
-the solve call alone, in microseconds, whether it says optimal, and the columns that are 1. The two in C are compiled from the
+the solve call alone, in microseconds, whether it says optimal, and the columns that are 1. The three in C are compiled from the
 texts below in a temporary folder. A peer that can't be made is left out.
 """
 import os
@@ -15,10 +15,14 @@ Solved = namedtuple("Solved", "microseconds optimal ones")
 
 LIMIT = 60  # seconds a solve may take
 
+# Debian's library of SYMPHONY exports its calls by their names in C++
+AS_CXX = ("g++", "-x", "c++", "-fpermissive", "-w")
+
 HOW = {
     "GLPK": "apt-get install libglpk-dev gcc",
     "CBC": "apt-get install coinor-libcbc-dev gcc pkg-config",
     "HiGHS": "apt-get install python3-scipy (1.9 or later; the interpreter that runs this or /usr/bin/python3 must have it)",
+    "SYMPHONY": "apt-get install coinor-libsymphony-dev g++ pkg-config",
 }
 
 READING = r"""
@@ -93,9 +97,9 @@ int main(int argc, char **argv) {
 }
 """
 
-CBC = READING + r"""
-#include <Cbc_C_Interface.h>
-typedef struct { int cols, rows, nz; CoinBigIndex *start; int *index; double *value, *lower, *upper, *cost, *low, *high; } model;
+# a model by columns, for the solvers that take it so; `place` is the solver's type of a place among the elements
+BY_COLUMNS = r"""
+typedef struct { int cols, rows, nz; place *start; int *index; double *value, *lower, *upper, *cost, *low, *high; } model;
 static model read_model(FILE *in) {
   model m;
   m.cols = number(in); m.rows = number(in); m.nz = 0;
@@ -107,7 +111,7 @@ static model read_model(FILE *in) {
     m.low[r] = number(in); m.high[r] = number(in);
     for (int k = number(in); k > 0; k--) { int c = number(in); dense[(size_t)c * m.rows + r] = number(in); m.nz++; }
   }
-  m.start = calloc(m.cols + 1, sizeof(CoinBigIndex)); m.index = calloc(m.nz + 1, sizeof(int)); m.value = calloc(m.nz + 1, sizeof(double));
+  m.start = calloc(m.cols + 1, sizeof(place)); m.index = calloc(m.nz + 1, sizeof(int)); m.value = calloc(m.nz + 1, sizeof(double));
   int at = 0;
   for (int c = 0; c < m.cols; c++) {
     m.start[c] = at;
@@ -120,6 +124,15 @@ static model read_model(FILE *in) {
   free(dense);
   return m;
 }
+static void free_model(model m) {
+  free(m.start); free(m.index); free(m.value); free(m.lower); free(m.upper); free(m.cost); free(m.low); free(m.high);
+}
+"""
+
+CBC = READING + r"""
+#include <Cbc_C_Interface.h>
+typedef CoinBigIndex place;
+""" + BY_COLUMNS + r"""
 static Cbc_Model *made(const model *m, const char *limit) {
   Cbc_Model *c = Cbc_newModel();
   Cbc_loadProblem(c, m->cols, m->rows, m->start, m->index, m->value, m->lower, m->upper, m->cost, m->low, m->high);
@@ -155,7 +168,57 @@ int main(int argc, char **argv) {
       }
       Cbc_deleteModel(c);
     }
-    free(m.start); free(m.index); free(m.value); free(m.lower); free(m.upper); free(m.cost); free(m.low); free(m.high);
+    free_model(m);
+  }
+  return fclose(out);
+}
+"""
+
+SYMPHONY = READING + r"""
+#include <symphony.h>
+typedef int place;
+""" + BY_COLUMNS + r"""
+static sym_environment *made(const model *m, int limit) {
+  sym_environment *s = sym_open_environment();
+  char *whole = malloc(m->cols), *sense = malloc(m->rows + 1);
+  double *cost = malloc(m->cols * sizeof *cost), *range = calloc(m->rows + 1, sizeof *range);
+  for (int c = 0; c < m->cols; c++) { whole[c] = 1; cost[c] = -m->cost[c]; }
+  for (int r = 0; r < m->rows; r++) {
+    sense[r] = m->low[r] == m->high[r] ? 'E' : 'R';
+    range[r] = m->high[r] - m->low[r];
+  }
+  sym_set_int_param(s, "verbosity", -2);
+  sym_set_dbl_param(s, "time_limit", limit);
+  sym_set_dbl_param(s, "gap_limit", 0);
+  sym_explicit_load_problem(s, m->cols, m->rows, m->start, m->index, m->value, m->lower, m->upper, whole, cost, NULL,
+                            sense, m->high, range, 1);
+  free(whole); free(sense); free(cost); free(range);
+  return s;
+}
+int main(int argc, char **argv) {
+  FILE *in = fopen(argv[1], "r"), *out = fopen(argv[2], "w");
+  int models = number(in), rounds = number(in), limit = number(in);
+  while (models--) {
+    model m = read_model(in);
+    double best = 1e18, spent = 0;
+    for (int k = 0; k < rounds && spent < 5e5; k++) {
+      sym_environment *s = made(&m, limit);
+      double start = now();
+      sym_solve(s);
+      double took = now() - start;
+      spent += took;
+      if (took < best) best = took;
+      if (k == rounds - 1 || spent >= 5e5) {
+        double *x = calloc(m.cols, sizeof *x);
+        int is_there = sym_get_col_solution(s, x) == FUNCTION_TERMINATED_NORMALLY;
+        fprintf(out, "%.1f %d", best, sym_is_proven_optimal(s) != 0);
+        for (int c = 0; is_there && c < m.cols; c++) if (x[c] > 0.5) fprintf(out, " %d", c);
+        fprintf(out, "\n");
+        free(x);
+      }
+      sym_close_environment(s);
+    }
+    free_model(m);
   }
   return fclose(out);
 }
@@ -195,18 +258,19 @@ out.close()
 """
 
 
-def compiled(folder, name, text, flags):
+def compiled(folder, name, text, flags, compiler=("gcc",)):
     """The command of a program in C, or None where it can't be compiled."""
     source, program = os.path.join(folder, name + ".c"), os.path.join(folder, name)
     with open(source, "w") as file:
         file.write(text)
-    done = subprocess.run(["gcc", "-O2", "-o", program, source, *flags], stderr=subprocess.DEVNULL)
+    done = subprocess.run([*compiler, "-O2", "-o", program, source, *flags], stderr=subprocess.DEVNULL)
     return [program] if done.returncode == 0 else None
 
 
-def cbc_flags():
-    done = subprocess.run(["pkg-config", "--cflags", "--libs", "cbc"], stdout=subprocess.PIPE, stderr=subprocess.DEVNULL)
-    return done.stdout.decode().split() if done.returncode == 0 else ["-I/usr/include/coin", "-lCbcSolver", "-lCbc"]
+def flags_of(package, otherwise):
+    """What the compiler needs for a package."""
+    done = subprocess.run(["pkg-config", "--cflags", "--libs", package], stdout=subprocess.PIPE, stderr=subprocess.DEVNULL)
+    return done.stdout.decode().split() if done.returncode == 0 else ["-I/usr/include/coin", *otherwise]
 
 
 def with_scipy(folder):
@@ -234,8 +298,9 @@ def all_peers(folder):
     """The commands of the peers that are there, by name."""
     found = {
         "GLPK": attempt(lambda: compiled(folder, "with_glpk", GLPK, ["-lglpk"])),
-        "CBC": attempt(lambda: compiled(folder, "with_cbc", CBC, cbc_flags())),
+        "CBC": attempt(lambda: compiled(folder, "with_cbc", CBC, flags_of("cbc", ["-lCbcSolver", "-lCbc"]))),
         "HiGHS": with_scipy(folder),
+        "SYMPHONY": attempt(lambda: compiled(folder, "with_symphony", SYMPHONY, flags_of("symphony", ["-lSym"]), AS_CXX)),
     }
     for name in [name for name in found if found[name] is None]:
         print("%s is left out: it isn't installed (%s)" % (name, HOW[name]), flush=True)
