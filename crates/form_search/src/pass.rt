@@ -16,7 +16,8 @@ use crate::table::Table;
 use crate::tally::is_ruled_out;
 use constraint_model::Problem;
 use exam_model::Node;
-use lagrange_bound::{Aim, Ascent, Cut, climb, impossible};
+use lagrange_bound::{Cut, impossible};
+use multiplier_steps::{Aim, Ascent, climb};
 use proof_tree::{Memory, Vector};
 use std::alloc::Global;
 

@@ -14,7 +14,8 @@ use crate::table::Table;
 use crate::tally::is_ruled_out;
 use constraint_model::Problem;
 use exam_model::Node;
-use lagrange_bound::{Aim, Cut, climb};
+use lagrange_bound::Cut;
+use multiplier_steps::{Aim, climb};
 use proof_tree::{Memory, Vector};
 use std::alloc::Global;
 

@@ -10,7 +10,8 @@ use crate::steps::{Stepped, take_form};
 use crate::table::Table;
 use bank_tables::ItemSet;
 use constraint_model::Problem;
-use lagrange_bound::{Aim, Cut, climb};
+use lagrange_bound::Cut;
+use multiplier_steps::{Aim, climb};
 use proof_tree::Memory;
 use std::alloc::Global;
 

@@ -8,7 +8,7 @@ use crate::pool::copied;
 use crate::table::Table;
 use bank_tables::ItemSet;
 use constraint_model::Problem;
-use lagrange_bound::Ascent;
+use multiplier_steps::Ascent;
 use proof_tree::{Memory, Vector};
 use std::alloc::Global;
 

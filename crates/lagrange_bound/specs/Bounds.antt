@@ -20,13 +20,3 @@ bounded_value P false X = pos (256 * objective P X)
 -- no form on the path exceeds it
 abbrev pub IsAboveForms : Problem → Path → Bool → ℤ → Type 0
 IsAboveForms P p ray r = (X : Set) → Under P p X → bounded_value P ray X ≤ℤ r
-
--- the relaxed maximum of the vector `to` is at most that of `from`
-abbrev pub IsNoHigher : Problem → Path → Bool → Multipliers → Multipliers → Type 0
-IsNoHigher P p ray from to = (r q : ℤ) → IsRelaxedMaximum P p from ray r → IsRelaxedMaximum P p to ray q → q ≤ℤ r
-
--- both numbers are there, and the first is at most the second
-abbrev pub AreInOrder : Option ℤ → Option ℤ → Type 0
-AreInOrder None to = ⊥
-AreInOrder (Some q) None = ⊥
-AreInOrder (Some q) (Some r) = q ≤ℤ r

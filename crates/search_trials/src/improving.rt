@@ -5,7 +5,8 @@ ghost use Rattle.constraint_model.specs.Views.{problem_of};
 
 use bank_tables::List;
 use constraint_model::{Problem, Spec};
-use lagrange_bound::{Cut, bound, improve};
+use lagrange_bound::{Cut, bound};
+use multiplier_steps::improve;
 use proof_tree::Vector;
 use std::alloc::Global;
 use std::test::Fail;

@@ -5,15 +5,14 @@ ghost use Rattle.exam_model.specs.Paths.{Path};
 ghost use Rattle.exam_model.specs.Validity.{IsWellMade};
 ghost use Rattle.exam_model.specs.Verdicts.{NamesOnlySides};
 ghost use Rattle.constraint_model.specs.Views.{problem_of};
-ghost use Rattle.lagrange_bound.specs.Bounds.{IsNoHigher, AreInOrder};
 ghost use Rattle.lagrange_bound.specs.Cuts.{IsCut, IsCutOf};
+ghost use Rattle.multiplier_steps.specs.Improvement.{AreInOrder, IsNoHigher};
 
-use crate::cut::Cut;
-use crate::relaxation::bound;
-use crate::steps::steps_from;
+use crate::subgradient::steps_from;
 use crate::vectors::{copy_of, names_only_sides};
 use bank_tables::{ItemSet, List};
 use constraint_model::Problem;
+use lagrange_bound::{Cut, bound};
 use proof_tree::{Memory, Vector};
 use std::alloc::Global;
 

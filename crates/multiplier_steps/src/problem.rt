@@ -1,15 +1,15 @@
 //! A problem on a path as flat arrays: its free items, lines for its rows, and its stimuli.
 
-use crate::cut::Cut;
-use crate::steps::coefficients::{
+use crate::coefficients::{
     Bounds, Measure, Taken, bounds_of, coefficient, gain_of, stimulus_of, sum_over,
 };
-use crate::steps::constraints::{Line, Multiplier};
-use crate::steps::ranking::{Weighed, put_in_order, reorder};
-use crate::steps::selection::{Selection, reweigh};
-use crate::steps::stimuli::Stimulus;
+use crate::constraints::{Line, Multiplier};
+use crate::ranking::{Weighed, put_in_order, reorder};
+use crate::selection::{Selection, reweigh};
+use crate::stimuli::Stimulus;
 use bank_tables::{Bank, ItemSet};
 use constraint_model::{Problem, Row, StimulusBound};
+use lagrange_bound::Cut;
 use proof_tree::{Memory, Vector};
 use std::alloc::Global;
 

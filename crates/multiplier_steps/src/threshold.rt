@@ -1,9 +1,9 @@
 //! The threshold above which free items are chosen, so that in the relaxed maximum with the links of items to their stimuli
 //! as many are as a form needs: the least value of a convex function of one number.
 
-use crate::steps::constraints::MOST;
-use crate::steps::problem::Flat;
-use crate::steps::ranking::Weighed;
+use crate::constraints::MOST;
+use crate::problem::Flat;
+use crate::ranking::Weighed;
 
 /// The value of the relaxed maximum's free items and stimuli at a threshold, and how many items are chosen there.
 #[derive(Clone, Copy)]

@@ -1,6 +1,6 @@
 //! What the rows add to the relaxed maximum, and the direction of the next step.
 
-use crate::steps::constraints::{Line, Multiplier};
+use crate::constraints::{Line, Multiplier};
 
 /// What the rows add to the relaxed maximum.
 #[derive(Clone, Copy)]

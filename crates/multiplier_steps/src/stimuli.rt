@@ -1,6 +1,6 @@
 //! The stimuli of a problem, each with its free items by their reduced weights: what the best of them weigh above a threshold.
 
-use crate::steps::ranking::Weighed;
+use crate::ranking::Weighed;
 
 /// A stimulus that is chosen or open.
 #[derive(Clone, Copy)]

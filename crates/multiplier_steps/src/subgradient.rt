@@ -1,15 +1,15 @@
 //! Whole-number subgradient steps.
 
 use crate::ascent::{Aim, Ascent};
-use crate::cut::Cut;
-use crate::steps::choice::Choice;
-use crate::steps::constraints::{Line, MOST};
-use crate::steps::direction::{RowsValue, Slope};
-use crate::steps::problem::Flat;
-use crate::steps::step_size::Level;
+use crate::choice::Choice;
+use crate::constraints::{Line, MOST};
+use crate::direction::{RowsValue, Slope};
+use crate::problem::Flat;
+use crate::step_size::Level;
 use crate::vectors::copy_of;
 use bank_tables::{ItemSet, List};
 use constraint_model::Problem;
+use lagrange_bound::Cut;
 use proof_tree::{Memory, Vector};
 use std::alloc::Global;
 

@@ -1,8 +1,8 @@
 //! The items and stimuli chosen at a threshold: those of the relaxed maximum, some of them in part.
 
-use crate::steps::problem::Flat;
-use crate::steps::selection::WHOLE;
-use crate::steps::stimuli::Stimulus;
+use crate::problem::Flat;
+use crate::selection::WHOLE;
+use crate::stimuli::Stimulus;
 use bank_tables::ItemSet;
 
 /// What is chosen at two neighbouring thresholds, mixed so that it has as many items as a form needs.

@@ -1,6 +1,6 @@
 //! What the free items add to the rows, and which of them are chosen.
 
-use crate::steps::constraints::Line;
+use crate::constraints::Line;
 use std::alloc::{AllocError, Global};
 
 /// What a free item adds to a line.

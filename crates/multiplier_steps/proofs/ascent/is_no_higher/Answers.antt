@@ -5,8 +5,9 @@ use Rattle.exam_model.specs.Paths.{Path}
 use Rattle.exam_model.specs.Relaxed.{Multipliers}
 use Rattle.exam_model.proofs.SomeMaximum.{one_maximum}
 use Rattle.constraint_model.specs.Views.{problem_of}
-use Rattle.lagrange_bound.specs.Bounds.{IsBound, IsNoHigher, AreInOrder}
-use Rattle.lagrange_bound.proofs.ascent.is_no_higher.Goals as goal
+use Rattle.lagrange_bound.specs.Bounds.{IsBound}
+use Rattle.multiplier_steps.specs.Improvement.{AreInOrder, IsNoHigher}
+use Rattle.multiplier_steps.proofs.ascent.is_no_higher.Goals as goal
 
 in_order : (P : Problem) (p : Path) (ray : Bool) (v u : Multipliers) (to from : Option ℤ) → IsBound P p u ray to → IsBound P p v ray from → AreInOrder to from → IsNoHigher P p ray v u
 in_order P p ray v u None from is_to is_from order = absurd order
