@@ -1,10 +1,11 @@
 //! The assembly of a form.
 
-ghost use Rattle.std.specs.Prelude.{◌≡◌, ◌+◌, ◌^◌, ◌≤◌, IfOk};
+ghost use Rattle.std.specs.Prelude.{◌≡◌, ◌+◌, ◌^◌, ◌≤◌, IfOk, IfSome};
 ghost use Rattle.std.specs.Option.{option_map, option_copied};
 ghost use Rattle.bank_tables.specs.Items.{has};
 ghost use Rattle.exam_model.specs.Paths.{root, undecided};
 ghost use Rattle.exam_model.specs.Validity.{IsBudget, IsWellMade};
+ghost use Rattle.exam_model.specs.Verdicts.{NamesOnlySides};
 ghost use Rattle.constraint_model.specs.Views.{problem_of};
 ghost use Rattle.branch_bound.specs.Assembled.{KeepsPromise};
 ghost use Rattle.branch_bound.specs.Assemblies.{IsAssembly, IsTrueOutcome, IsDecided};
@@ -15,7 +16,7 @@ use crate::outcome::Outcome;
 use bank_tables::ItemSet;
 use constraint_model::Problem;
 use form_search::{Searched, search};
-use proof_tree::{Memory, Tree};
+use proof_tree::{Memory, Tree, Vector};
 use std::alloc::Global;
 use std::marker::Model;
 
@@ -98,12 +99,14 @@ struct Made {
     used_fallback: bool,
 }
 
-/// Searches, and where what the search gave fails a test falls back.
+/// Searches, and where what the search gave fails a test falls back. The search may begin with the
+/// warm vector.
 fn make(
     alloc: Global,
     problem: &Problem,
     hint: &Option<ItemSet>,
     budget: u16,
+    warm: Option<&Vector>,
 ) -> Result<Made, Memory>
     requires well_made { IsWellMade (problem_of problem.now) }
     requires budget { IsBudget budget }
@@ -111,7 +114,7 @@ fn make(
         IsAssembly (problem_of problem.now) (option_map has hint.now) budget made.tree
         made.outcome) }
 {
-    let Searched { form, tree } = search(alloc, problem, hint.as_ref(), budget)?;
+    let Searched { form, tree } = search(alloc, problem, hint.as_ref(), budget, warm)?;
     if let Some(tree) = tree {
         if let Some(outcome) = outcome_shown(problem, hint, budget, form, &tree) {
             return Ok(Made {
@@ -149,11 +152,39 @@ pub fn assemble<'a>(
         2 ^ (undecided (problem_of problem.entry) (root
         (problem_of problem.entry)) + 1) ≤ budget + 1 → IsDecided a.outcome) }
 {
+    let asked = Problem { ..problem };
+    assemble_from(alloc, asked, hint, budget, None)
+}
+
+/// The same, with a vector of multipliers that the search may begin with, as the first one of the
+/// tree of a like problem. Its sides are those of the plan's rows and the bank's stimuli, or the
+/// two of the cap. The vector changes nothing in what is promised.
+pub fn assemble_from<'a>(
+    alloc: Global,
+    problem: Problem<'a>,
+    hint: Option<&ItemSet>,
+    budget: u16,
+    warm: Option<&Vector>,
+) -> Result<Assembled<'a>, Memory>
+    requires well_made { IsWellMade (problem_of problem) }
+    requires budget { IsBudget budget }
+    requires sides { IfSome (option_copied warm) (NamesOnlySides (problem_of problem)) }
+    ensures problem { IfOk result (λ a. a.problem ≡ problem.entry) }
+    ensures budget { IfOk result (λ a. a.budget ≡ budget) }
+    ensures hint { IfOk result (λ a. a.hint ≡ option_copied hint.entry) }
+    ensures assembly { IfOk result (λ a.
+        IsAssembly (problem_of problem.entry) (option_map has
+        (option_copied hint.entry)) budget a.tree a.outcome) }
+    ensures is_true { IfOk result (λ a. IsTrueOutcome (problem_of problem.entry) a.outcome) }
+    ensures decided { IfOk result (λ a.
+        2 ^ (undecided (problem_of problem.entry) (root
+        (problem_of problem.entry)) + 1) ≤ budget + 1 → IsDecided a.outcome) }
+{
     // The parts are moved one by one: no proof is generated where a parameter that holds references
     // is moved as a whole.
     let asked = Problem { ..problem };
     let known = hint.copied();
-    let made = make(alloc, &asked, &known, budget)?;
+    let made = make(alloc, &asked, &known, budget, warm)?;
     Ok(Assembled {
         problem: asked,
         hint: known,

@@ -4,7 +4,7 @@ ghost use Rattle.exam_model.specs.Validity.{IsWellMade};
 ghost use Rattle.constraint_model.specs.Views.{problem_of};
 
 use crate::incumbent::Incumbent;
-use crate::pool::empty_vector;
+use crate::pool::{copied, empty_vector};
 use crate::repair::nearby_form;
 use crate::steps::{Stepped, take_form};
 use crate::table::Table;
@@ -12,7 +12,7 @@ use bank_tables::ItemSet;
 use constraint_model::Problem;
 use lagrange_bound::Cut;
 use multiplier_steps::{Aim, climb};
-use proof_tree::Memory;
+use proof_tree::{Memory, Vector};
 use std::alloc::Global;
 
 /// Steps of a piece at the root.
@@ -32,10 +32,18 @@ fn target_of(incumbent: &Incumbent) -> Option<i64> {
     }
 }
 
-/// The result of no steps.
-fn no_steps(alloc: Global) -> Stepped {
+/// The vector that the steps at the root begin with: a copy of the warm one, else the empty one.
+fn first_vector(alloc: Global, warm: Option<&Vector>) -> Result<Vector, Memory> {
+    match warm {
+        Some(vector) => copied(alloc, vector),
+        None => Ok(empty_vector(alloc)),
+    }
+}
+
+/// The result of no steps, at a vector.
+fn no_steps(alloc: Global, vector: Vector) -> Stepped {
     Stepped {
-        vector: empty_vector(alloc),
+        vector,
         shares: Vec::new(alloc),
         stimulus_shares: Vec::new(alloc),
         choice: ItemSet::empty(),
@@ -43,17 +51,19 @@ fn no_steps(alloc: Global) -> Stepped {
     }
 }
 
-/// Steps at the root, piece by piece, and a form near to where they lead if there is none yet.
+/// Steps at the root, piece by piece, and a form near to where they lead if there is none yet. The
+/// first piece begins with the warm vector, if there is one.
 pub fn steps_at_root(
     alloc: Global,
     problem: &Problem,
     table: &Table,
     incumbent: &mut Incumbent,
     cut: &Cut,
+    warm: Option<&Vector>,
 ) -> Result<Stepped, Memory>
     requires { IsWellMade (problem_of problem.now) }
 {
-    let mut stepped = no_steps(alloc);
+    let mut stepped = no_steps(alloc, first_vector(alloc, warm)?);
     for _ in 0..PIECES {
         let aim = Aim {
             ray: false,

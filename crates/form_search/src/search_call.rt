@@ -19,7 +19,7 @@ use bank_tables::{ItemSet, List};
 use constraint_model::{Problem, is_form};
 use exam_model::Node;
 use lagrange_bound::Cut;
-use proof_tree::{Memory, Tree};
+use proof_tree::{Memory, Tree, Vector};
 use std::alloc::Global;
 
 /// The part of the root's gap that the steps of the last pass aim below what closes.
@@ -177,12 +177,13 @@ fn form_or_none(problem: &Problem, form: &Option<ItemSet>) -> Option<ItemSet>
 
 /// Looks for a form of the problem, and for a tree within a budget of nodes, which is odd and at most 4,095, that shows it
 /// best, or that no set is a form, or that spends the budget; the hint may be a form. The tree is to be tested. Where steps
-/// at the root close it, the tree is one node.
+/// at the root close it, the tree is one node. They begin with the warm vector, if there is one.
 pub fn search(
     alloc: Global,
     problem: &Problem,
     hint: Option<&ItemSet>,
     budget: u16,
+    warm: Option<&Vector>,
 ) -> Result<Searched, Memory>
     requires well_made { IsWellMade (problem_of problem.now) }
     requires budget { IsBudget budget }
@@ -190,7 +191,14 @@ pub fn search(
 {
     let table = Table::of(alloc, problem)?;
     let mut incumbent = known(alloc, problem, &table, hint)?;
-    let root = steps_at_root(alloc, problem, &table, &mut incumbent, &Cut::root(problem))?;
+    let root = steps_at_root(
+        alloc,
+        problem,
+        &table,
+        &mut incumbent,
+        &Cut::root(problem),
+        warm,
+    )?;
     let mut tree = None;
     if root.bound > incumbent.top() {
         tree = tree_by_exchanges(alloc, problem, &table, &mut incumbent, budget)?;

@@ -1,6 +1,6 @@
 use Rattle.constraint_model.specs.Views.{problem_of}
 use Rattle.branch_bound.proofs.OutcomeLaws.{shown_is_true, shown_is_decided}
-use Rattle.branch_bound.proofs.assembly.assemble.Goals as goal
+use Rattle.branch_bound.proofs.assembly.assemble_from.Goals as goal
 
 pub returns-clause-is_true : goal.returns-clause-is_true
 returns-clause-is_true c =
