@@ -1,8 +1,9 @@
 //! The times of the checker.
 
+ghost use Rattle.std.specs.Prelude.{IfOk};
 ghost use Rattle.bank_tables.specs.Items.{has};
 ghost use Rattle.bank_tables.specs.Validity.{HoldsItems};
-ghost use Rattle.exam_model.specs.Validity.{IsWellMade};
+ghost use Rattle.exam_model.specs.Validity.{IsPlanFor, IsWellMade};
 ghost use Rattle.constraint_model.specs.Views.{problem_of};
 
 use crate::bank::rows;
@@ -15,6 +16,7 @@ use bank_tables::{Bank, ItemSet};
 use certificate_check::{check, spent};
 use constraint_model::{Problem, Spec};
 use proof_tree::Tree;
+use std::alloc::Global;
 use std::fmt::Debug;
 use std::io;
 use std::rt::Clock;
@@ -99,6 +101,87 @@ fn with_start<'a>(problem: &Problem<'a>, form: &ItemSet) -> Problem<'a>
     }
 }
 
+/// A bank of these sizes.
+fn made_bank(alloc: Global, size: &Size) -> Result<Bank> {
+    match Bank::of(alloc, rows(alloc, size)?) {
+        Ok(bank) => Ok(bank),
+        Err(_) => bail!("no bank of these sizes"),
+    }
+}
+
+/// A plan of these sizes for the bank.
+fn made_spec(alloc: Global, bank: &Bank, size: &Size) -> Result<Spec>
+    ensures { IfOk result (IsPlanFor bank.now) }
+{
+    match Spec::of(alloc, bank, draft(alloc, size)?) {
+        Ok(spec) => Ok(spec),
+        Err(_) => bail!("no plan of these sizes"),
+    }
+}
+
+/// The best form, of items of the bank.
+fn made_form(bank: &Bank, size: &Size) -> Result<ItemSet>
+    ensures { IfOk result (λ form. HoldsItems bank.now (has form)) }
+{
+    let form = best_form(size);
+    if !form.all_below(bank.items()) {
+        bail!("no form of these sizes");
+    }
+    Ok(form)
+}
+
+/// A tree of these sizes.
+fn made_tree(alloc: Global, size: &Size, nodes: u16, open: bool) -> Result<Tree> {
+    match tree(alloc, size, nodes, open)? {
+        Some(tree) => Ok(tree),
+        None => bail!("no tree of these sizes"),
+    }
+}
+
+/// Times the checker on a tree without an open leaf.
+fn time_closed<R: Print + Clock + AllocGlobal>(
+    rt: &R,
+    problem: &Problem,
+    form: &ItemSet,
+    size: &Size,
+    nodes: u16,
+    quiet: bool,
+) -> Result<()>
+    requires { IsWellMade (problem_of problem.now) }
+{
+    let tree = made_tree(rt.alloc(), size, nodes, false)?;
+    time_check(rt, problem, form, &tree, quiet)
+}
+
+/// Times the checker on a tree with an open leaf.
+fn time_open<R: Print + Clock + AllocGlobal>(
+    rt: &R,
+    problem: &Problem,
+    size: &Size,
+    nodes: u16,
+    quiet: bool,
+) -> Result<()>
+    requires { IsWellMade (problem_of problem.now) }
+{
+    let tree = made_tree(rt.alloc(), size, nodes, true)?;
+    time_spent(rt, problem, &tree, quiet)
+}
+
+/// Times the checker on a plan and trees of these sizes.
+fn time_plan<R: Print + Clock + AllocGlobal>(
+    rt: &R,
+    bank: &Bank,
+    size: &Size,
+    nodes: u16,
+    quiet: bool,
+) -> Result<()> {
+    let spec = made_spec(rt.alloc(), bank, size)?;
+    let form = made_form(bank, size)?;
+    let problem = with_start(&Problem::whole(bank, &spec), &form);
+    time_closed(rt, &problem, &form, size, nodes, quiet)?;
+    time_open(rt, &problem, size, nodes, quiet)
+}
+
 /// Makes a problem and trees of these sizes, times the checker on them, and prints a line for each call.
 pub fn time_checks<R: Print + Clock + AllocGlobal>(
     rt: &R,
@@ -106,24 +189,6 @@ pub fn time_checks<R: Print + Clock + AllocGlobal>(
     nodes: u16,
     quiet: bool,
 ) -> Result<()> {
-    let alloc = rt.alloc();
-    let Ok(bank) = Bank::of(alloc, rows(alloc, &size)?) else {
-        bail!("no bank of these sizes");
-    };
-    let Ok(spec) = Spec::of(alloc, &bank, draft(alloc, &size)?) else {
-        bail!("no plan of these sizes");
-    };
-    let form = best_form(&size);
-    if !form.all_below(bank.items()) {
-        bail!("no form of these sizes");
-    }
-    let problem = with_start(&Problem::whole(&bank, &spec), &form);
-    let Some(closed) = tree(alloc, &size, nodes, false)? else {
-        bail!("no tree of these sizes");
-    };
-    time_check(rt, &problem, &form, &closed, quiet)?;
-    let Some(open) = tree(alloc, &size, nodes, true)? else {
-        bail!("no tree of these sizes");
-    };
-    time_spent(rt, &problem, &open, quiet)
+    let bank = made_bank(rt.alloc(), &size)?;
+    time_plan(rt, &bank, &size, nodes, quiet)
 }

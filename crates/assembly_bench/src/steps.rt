@@ -1,7 +1,9 @@
 //! The times of the assembler.
 
-ghost use Rattle.std.specs.Prelude.{IfOk};
+ghost use Rattle.std.specs.Prelude.{IfOk, IfSome};
+ghost use Rattle.bank_tables.specs.Items.{has};
 ghost use Rattle.branch_bound.specs.Assemblies.{IsTrueOutcome};
+ghost use Rattle.exam_model.specs.Forms.{Form};
 ghost use Rattle.exam_model.specs.Seats.{IsSeat};
 ghost use Rattle.exam_model.specs.Validity.{IsBudget, IsPlanFor, IsWellMade};
 ghost use Rattle.constraint_model.specs.Views.{problem_of};
@@ -50,6 +52,17 @@ fn timed<'a, R: Clock + AllocGlobal>(
     Ok((assembled, took))
 }
 
+/// The form of an outcome, if it has one.
+fn found_form(problem: &Problem, outcome: Outcome) -> Option<ItemSet>
+    requires { IsTrueOutcome (problem_of problem.now) outcome }
+    ensures { IfSome result (λ form. Form (problem_of problem.now) (has form)) }
+{
+    match outcome {
+        Outcome::Found { form, proved: _ } => Some(form),
+        Outcome::NoForm | Outcome::NoneFound => None,
+    }
+}
+
 /// Prints the outcome of an assembly, and with `trees` what rebuilds it.
 fn tell<R: Print + AllocGlobal>(
     rt: &R,
@@ -69,6 +82,24 @@ fn tell<R: Print + AllocGlobal>(
     Ok(())
 }
 
+/// Assembles a form, prints the outcome, and gives the form if there is one.
+fn form_of<'a, R: Print + Clock + AllocGlobal>(
+    rt: &R,
+    problem: &Problem<'a>,
+    hint: Option<&ItemSet>,
+    budget: u16,
+    trees: bool,
+) -> Result<Option<ItemSet>>
+    requires well_made { IsWellMade (problem_of problem.now) }
+    requires budget { IsBudget budget }
+    ensures { IfOk result (λ found.
+        IfSome found (λ form. Form (problem_of problem.now) (has form))) }
+{
+    let (assembled, took) = timed(rt, problem, hint, budget)?;
+    tell(rt, problem, &assembled, took, trees)?;
+    Ok(found_form(problem, assembled.outcome()))
+}
+
 /// The base form of the plan. If the plan names none, it is assembled and printed.
 fn base_form<'a, R: Print + Clock + AllocGlobal>(
     rt: &R,
@@ -82,13 +113,12 @@ fn base_form<'a, R: Print + Clock + AllocGlobal>(
         return Ok(base);
     }
     let problem = Problem::whole(bank, spec);
-    let (assembled, took) = timed(rt, &problem, None, spec.base_budget() as u16)?;
     print!(rt; "base ")?;
-    tell(rt, &problem, &assembled, took, trees)?;
+    let found = form_of(rt, &problem, None, spec.base_budget() as u16, trees)?;
     println!(rt; "")?;
-    match assembled.outcome() {
-        Outcome::Found { form, proved: _ } => Ok(form),
-        Outcome::NoForm | Outcome::NoneFound => bail!("no base form"),
+    match found {
+        Some(form) => Ok(form),
+        None => bail!("no base form"),
     }
 }
 
@@ -109,11 +139,16 @@ fn step<R: Print + Clock + AllocGlobal>(
         bail!("more responses than steps");
     };
     let base = session.base;
-    let (assembled, took) = timed(rt, &problem, Some(&base), spec.budget() as u16)?;
     let number = problem.step;
     print!(rt; "step {number} ")?;
-    tell(rt, &problem, &assembled, took, session.trees)?;
-    let Outcome::Found { form, proved: _ } = assembled.outcome() else {
+    let found = form_of(
+        rt,
+        &problem,
+        Some(&base),
+        spec.budget() as u16,
+        session.trees,
+    )?;
+    let Some(form) = found else {
         println!(rt; " item -")?;
         bail!("no form");
     };
