@@ -99,6 +99,27 @@ struct Made {
     used_fallback: bool,
 }
 
+/// Searches by the fallback search.
+fn made_by_fallback(
+    alloc: Global,
+    problem: &Problem,
+    hint: &Option<ItemSet>,
+    budget: u16,
+) -> Result<Made, Memory>
+    requires well_made { IsWellMade (problem_of problem.now) }
+    requires budget { IsBudget budget }
+    ensures { IfOk result (λ made.
+        IsAssembly (problem_of problem.now) (option_map has hint.now) budget made.tree
+        made.outcome) }
+{
+    let fallback = search_fallback(alloc, problem, hint, budget)?;
+    Ok(Made {
+        tree: fallback.tree,
+        outcome: fallback.outcome,
+        used_fallback: true,
+    })
+}
+
 /// Searches, and where what the search gave fails a test falls back. The search may begin with the
 /// warm vector.
 fn make(
@@ -124,12 +145,7 @@ fn make(
             });
         }
     }
-    let fallback = search_fallback(alloc, problem, hint, budget)?;
-    Ok(Made {
-        tree: fallback.tree,
-        outcome: fallback.outcome,
-        used_fallback: true,
-    })
+    made_by_fallback(alloc, problem, hint, budget)
 }
 
 /// Assembles a form of the problem within a budget of nodes, which is odd and at most 4,095; the hint may be a form.
@@ -185,6 +201,40 @@ pub fn assemble_from<'a>(
     let asked = Problem { ..problem };
     let known = hint.copied();
     let made = make(alloc, &asked, &known, budget, warm)?;
+    Ok(Assembled {
+        problem: asked,
+        hint: known,
+        tree: made.tree,
+        budget,
+        outcome: made.outcome,
+        used_fallback: made.used_fallback,
+    })
+}
+
+/// Assembles a form by the fallback search alone, with all that `assemble` promises: for tests, and for a caller who distrusts
+/// the search.
+pub fn assemble_by_fallback<'a>(
+    alloc: Global,
+    problem: Problem<'a>,
+    hint: Option<&ItemSet>,
+    budget: u16,
+) -> Result<Assembled<'a>, Memory>
+    requires well_made { IsWellMade (problem_of problem) }
+    requires budget { IsBudget budget }
+    ensures problem { IfOk result (λ a. a.problem ≡ problem.entry) }
+    ensures budget { IfOk result (λ a. a.budget ≡ budget) }
+    ensures hint { IfOk result (λ a. a.hint ≡ option_copied hint.entry) }
+    ensures assembly { IfOk result (λ a.
+        IsAssembly (problem_of problem.entry) (option_map has
+        (option_copied hint.entry)) budget a.tree a.outcome) }
+    ensures is_true { IfOk result (λ a. IsTrueOutcome (problem_of problem.entry) a.outcome) }
+    ensures decided { IfOk result (λ a.
+        2 ^ (undecided (problem_of problem.entry) (root
+        (problem_of problem.entry)) + 1) ≤ budget + 1 → IsDecided a.outcome) }
+{
+    let asked = Problem { ..problem };
+    let known = hint.copied();
+    let made = made_by_fallback(alloc, &asked, &known, budget)?;
     Ok(Assembled {
         problem: asked,
         hint: known,

@@ -1,9 +1,9 @@
-//! The assembler beside the enumeration of all sets of items: on small banks both find a form of the same objective. And the
-//! subgradient steps: on a bank that was worked out by hand they find a lower bound. It promises nothing upward and holds no
-//! code of the product.
+//! The search, the fallback search and the enumeration of all sets of items: on small banks all three find a form of the same
+//! objective, or that there is none. And the subgradient steps: on a bank that was worked out by hand they find a lower bound.
+//! It promises nothing upward and holds no code of the product.
 #![tactic(auto)]
 
 #[cfg(test)]
-mod both;
+mod agreement;
 #[cfg(test)]
 mod improving;

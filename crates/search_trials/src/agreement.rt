@@ -1,0 +1,170 @@
+//! The search, the fallback search and the enumeration on small banks. What is expected was worked out by hand.
+
+ghost use Rattle.exam_model.specs.Validity.{IsPlanFor, IsWellMade};
+ghost use Rattle.constraint_model.specs.Views.{problem_of};
+
+use bank_tables::Bank;
+use branch_bound::{Assembled, Outcome, assemble, assemble_by_fallback};
+use constraint_model::{Draft, Problem, Row, Spec, StimulusBound, objective};
+use exam_model::Node;
+use form_enumeration::best_form;
+use std::alloc::Global;
+use std::test::Fail;
+use trial_cases::{bank_a, draft_a, draft_of, item, rows_of, set_of};
+
+/// The objective of the best form among all sets of items; None where no set is a form.
+fn enumerated(problem: &Problem) -> Result<Option<u64>, Fail>
+    requires { IsWellMade (problem_of problem.now) }
+{
+    if problem.bank.items() > 16 {
+        return Err(Fail::from("a large bank"));
+    }
+    match best_form(problem) {
+        Some(form) => Ok(Some(objective(problem, &form))),
+        None => Ok(None),
+    }
+}
+
+/// The objective of the form that is proved best; None where it is proved that there is no form.
+fn decided(found: &Assembled) -> Result<Option<u64>, Fail>
+    requires { IsWellMade (problem_of found.now.problem) }
+{
+    match found.outcome() {
+        Outcome::Found { form, proved } => {
+            if proved {
+                Ok(Some(objective(found.problem(), &form)))
+            } else {
+                Err(Fail::from("a form that is not proved best"))
+            }
+        }
+        Outcome::NoForm => Ok(None),
+        Outcome::NoneFound => Err(Fail::from("no form, and no proof that there is none")),
+    }
+}
+
+/// Whether the tree has a branch.
+fn has_branch(found: &Assembled) -> bool {
+    for node in found.tree().nodes() {
+        if let Node::BranchItem(_) | Node::BranchStimulus(_) = node {
+            return true;
+        }
+    }
+    false
+}
+
+/// What the search found of a plan: the objective of the best form or None, and whether its tree has a branch.
+#[derive(Clone, Copy, Debug, PartialEq, Eq)]
+struct Found {
+    best: Option<u64>,
+    has_branch: bool,
+}
+
+/// What the search finds, once the fallback search finds the same.
+fn found_alike<'a>(alloc: Global, bank: &'a Bank, spec: &'a Spec) -> Result<Found, Fail>
+    requires { IsPlanFor bank.now spec.now }
+{
+    let searched = assemble(alloc, Problem::whole(bank, spec), None, 2_001)?;
+    if searched.used_fallback() {
+        return Err(Fail::from("the search's result failed a test"));
+    }
+    let by_fallback = assemble_by_fallback(alloc, Problem::whole(bank, spec), None, 2_001)?;
+    let best = decided(&searched)?;
+    if decided(&by_fallback)? != best {
+        return Err(Fail::from("the fallback search differs from the search"));
+    }
+    Ok(Found {
+        best,
+        has_branch: has_branch(&searched),
+    })
+}
+
+/// What the search finds for a bank and a draft, once the fallback search and the enumeration find the same.
+fn agreed(alloc: Global, bank: Bank, draft: Draft) -> Result<Found, Fail> {
+    let spec = Spec::of(alloc, &bank, draft)?;
+    let found = found_alike(alloc, &bank, &spec)?;
+    if enumerated(&Problem::whole(&bank, &spec))? != found.best {
+        return Err(Fail::from("the enumeration differs from the search"));
+    }
+    Ok(found)
+}
+
+/// At the middle point, with one of items 0 and 1 and not both 2 and 5, {1, 2, 3} has 8 + 9 + 6. Without item 2 at most
+/// 8 + 7 + 6 is left, without item 1 at most 5 + 9 + 6, and with both of them item 3 has more than item 4.
+#[test]
+fn a_bank_without_stimuli(rt: HostRuntime) -> Result<(), Fail> {
+    let alloc = rt.alloc();
+    let found = agreed(alloc, bank_a(alloc)?, draft_a(alloc)?)?;
+    assert_eq!(rt; found.best, Some(23));
+    Ok(())
+}
+
+/// Items 0 and 1 are of stimulus 1, items 2 and 3 of stimulus 2, item 4 of none.
+fn stimulus_bank(alloc: Global) -> Result<Bank, Fail> {
+    let mut items = Vec::new(alloc);
+    for (stimulus, info) in [(1u32, 9u32), (1, 1), (2, 6), (2, 5), (0, 7)] {
+        items.push(item(alloc, stimulus, &[], &[info], &[-7, -7])?)?;
+    }
+    Ok(Bank::of(alloc, rows_of(1, 0, items))?)
+}
+
+/// A form has both items of stimulus 1 or none: the forms are {0, 1, 2}, {0, 1, 3}, {0, 1, 4} and {2, 3, 4}, of 16, 15, 17
+/// and 18. The first two have two stimuli. The three items of most information, 0, 2 and 4, have one item of stimulus 1.
+#[test]
+fn a_bank_with_stimuli(rt: HostRuntime) -> Result<(), Fail> {
+    let alloc = rt.alloc();
+    let bounds = [
+        StimulusBound { low: 2, high: 2 },
+        StimulusBound { low: 1, high: 2 },
+    ];
+    let free = draft_of(alloc, 3, &[0], &[], &bounds)?;
+    let found = agreed(alloc, stimulus_bank(alloc)?, free)?;
+    assert_eq!(rt; found.best, Some(18));
+    let rows = [Row::Stimuli { low: 2, high: 2 }];
+    let both = draft_of(alloc, 3, &[0], &rows, &bounds)?;
+    let found = agreed(alloc, stimulus_bank(alloc)?, both)?;
+    assert_eq!(rt; found.best, Some(16));
+    Ok(())
+}
+
+/// Two items of 2 words with the information 10 and 9, and two of no words with 2 and 1.
+fn word_bank(alloc: Global) -> Result<Bank, Fail> {
+    let mut items = Vec::new(alloc);
+    for (words, info) in [(2u32, 10u32), (2, 9), (0, 2), (0, 1)] {
+        items.push(item(alloc, 0, &[words], &[info], &[-7, -7])?)?;
+    }
+    Ok(Bank::of(alloc, rows_of(1, 1, items))?)
+}
+
+/// A draft of a test of two items that has from `low` to 3 words.
+fn word_draft(alloc: Global, low: u32) -> Result<Draft, Fail> {
+    let rows = [Row::Quantity {
+        which: 0,
+        set: set_of(&[0, 1, 2, 3]),
+        low,
+        high: 3,
+    }];
+    Ok(draft_of(alloc, 2, &[0], &rows, &[])?)
+}
+
+/// With at most 3 words a form has one item of 2 words: the best is {0, 2}, of 12. Item 0 with half of each of items 1 and 2 has
+/// 3 words and 15.5, so each bound of the root is at least that, which is more than 13, and the tree has a branch. A branch
+/// divides it: without item 1, or without item 0, at most 12 is left, and with both there are 4 words.
+#[test]
+fn a_bank_that_needs_a_branch(rt: HostRuntime) -> Result<(), Fail> {
+    let alloc = rt.alloc();
+    let found = agreed(alloc, word_bank(alloc)?, word_draft(alloc, 0)?)?;
+    assert_eq!(rt; found.best, Some(12));
+    assert!(rt; found.has_branch);
+    Ok(())
+}
+
+/// Two items have 0, 2 or 4 words, so none of the sets has 3. Item 0 with half of each of items 1 and 2 has 3 words, so no ray
+/// closes the root, and the tree has a branch.
+#[test]
+fn a_branch_shows_that_there_is_no_form(rt: HostRuntime) -> Result<(), Fail> {
+    let alloc = rt.alloc();
+    let found = agreed(alloc, word_bank(alloc)?, word_draft(alloc, 3)?)?;
+    assert_eq!(rt; found.best, None);
+    assert!(rt; found.has_branch);
+    Ok(())
+}
