@@ -215,3 +215,12 @@ serving_status Done status (inl (inl e)) = inl (also 0 status e (0, omega arith,
 serving_status Done status (inl (inr e)) = inl (also 10 status e (9, omega arith, refl))
 serving_status DoorFailed status (inl e) = inr e
 serving_status Memory status (inl e) = inl (also 10 status e (9, omega arith, refl))
+
+-- status 14 is that of a door that failed
+pub failed_door_so : {Q R : Type 0} (end : End) (status : ℕ) → (end ≡ DoorFailed → Q) → (IsStatusOfServing end status) ⊎ ((status ≡ 8) × R)
+    → status ≡ 14 → Q
+failed_door_so end status why (inr e) is = let is_8 : status ≡ 8 = e.0 in absurd (omega (arith, is_8, is))
+failed_door_so Done status why (inl (inl e)) is = absurd (omega (arith, e, is))
+failed_door_so Done status why (inl (inr e)) is = absurd (omega (arith, e, is))
+failed_door_so DoorFailed status why (inl e) is = why refl
+failed_door_so Memory status why (inl e) is = absurd (omega (arith, e, is))

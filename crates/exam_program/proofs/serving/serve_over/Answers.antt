@@ -18,7 +18,7 @@ use Rattle.exam_program.specs.Serves.{IsExamined}
 use Rattle.exam_program.specs.Stopping.{IsUnopened, opening_halt}
 use Rattle.exam_program.proofs.ReplayLaws.{failing_so, unwritten_so, unopened_so}
 use Rattle.exam_program.proofs.RequestLaws.{nothing_written}
-use Rattle.exam_program.proofs.ServeLaws.{server_unopened, IsClosed, same_plan, examined_so, ends_serving, halt_status, serving_status}
+use Rattle.exam_program.proofs.ServeLaws.{server_unopened, IsClosed, same_plan, examined_so, ends_serving, halt_status, serving_status, failed_door_so}
 use Rattle.exam_program.proofs.serving.serve_over.Goals as goal
 
 -- ---- the journal was not opened
@@ -100,6 +100,10 @@ returns-clause-answers g c = λ words o is same.
 
 pub returns-clause-status : goal.returns-clause-status
 returns-clause-status g c = serving_status c.serve_doors-office.result.end c.end_with.result c.end_with.ensures.status
+
+pub returns-clause-door : goal.returns-clause-door
+returns-clause-door g c =
+    failed_door_so c.serve_doors-office.result.end c.end_with.result c.serve_doors-office.ensures.failed c.end_with.ensures.status
 
 pub returns-clause-disk : goal.returns-clause-disk
 returns-clause-disk g c =
