@@ -22,3 +22,6 @@ pub mod Advancing
 pub mod Firsts
 pub mod Asked
 pub mod CompletenessLaws
+pub mod VectorLaws
+pub mod KeepingVectors
+pub mod Warmed

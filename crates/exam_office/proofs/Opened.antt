@@ -7,7 +7,7 @@ use Rattle.bank_tables.specs.Items.{has}
 use Rattle.bank_tables.specs.Tables.{Tables}
 use Rattle.exam_model.specs.Plan.{Plan}
 use Rattle.exam_model.specs.Forms.{Meets}
-use Rattle.exam_edge.specs.Images.{Account, latest, AllImages, AtEachMoment, IsSettled}
+use Rattle.exam_edge.specs.Images.{Account, AtEachMoment, IsSettled}
 use Rattle.exam_edge.specs.ImageLaws.{joined, weaker}
 use Rattle.history_model.specs.declared.entry.Entry.{Entry}
 use Rattle.history_model.specs.Judging.{empty}
@@ -32,6 +32,8 @@ use Rattle.exam_office.specs.Keeping.{IsSure, IsKept}
 use Rattle.exam_office.specs.Moments.{AreMoments, opening}
 use Rattle.exam_office.specs.Running.{HandedDisk}
 use Rattle.exam_office.specs.Opening.{IsTaken, AreTaken, IsNotTaken, IsRefusedFile, IsOpenAnswer}
+use Rattle.exam_office.specs.declared.vectors.Vectors.{Vectors}
+use Rattle.exam_office.specs.KeptVectors.{HasRoom, AreKeptVectors, AreOf, IsTakenWith, AreTakenWith}
 use Rattle.exam_office.proofs.Records.{are_more, stands_so}
 use Rattle.exam_office.proofs.Marking.{reach-push, faults-push}
 
@@ -56,6 +58,10 @@ module _ (b : Tables) (plan : Plan) (tells : Bool) (file : List ℕ) where
     bytes = λ told. ap (λ (k : ℕ). first_payloads k file) (sym none);
     place = λ told. first;
   }
+
+  pub none_with : (H : List Entry) (given at : ℕ) (vectors : Option Vectors) → H ≡ [] → given ≡ 0 → at ≡ 8 → AreOf b plan [] vectors → AreTakenWith b plan tells file given at H vectors
+  unfolding none_taken
+  none_with H given at vectors no_entry none first cold = record { taken = none_taken H given at no_entry none first; vectors_are = cold }
 
   module _ (H : List Entry) (given at : ℕ) (so_far : AreTaken b plan tells file given at H) where
     -- the payload is taken
@@ -95,6 +101,14 @@ module _ (b : Tables) (plan : Plan) (tells : Bool) (file : List ℕ) where
 
     pub stood : IsTrue tells → payloads shadowj1 file ≡ Some (payload_list shadowj1 file) → first_payloads given file ≡ payload_list shadowj1 file → Stands b plan H file
     stood told gives all = stands_so b plan H so_far.records so_far.are file (gives ∙ ap Some (sym (all_taken told all)))
+
+    -- the same with what its record gives
+    pub taken_with_more : (before after : Option Vectors) → AreOf b plan so_far.records before
+        → (p : List ℕ) (given1 at1 : ℕ) → at1 ≡ at + 5 + length p → (IsTrue tells → first_payloads given1 file ≡ first_payloads given file ++ p ∷ []) → (entry : Entry) → IsTakenWith b plan H p entry before after
+        → AreTakenWith b plan tells file given1 at1 (H ++ entry ∷ []) after
+    unfolding taken_more
+    taken_with_more before after vectors_are p given1 at1 at_is more entry one =
+        record { taken = taken_more p given1 at1 at_is more entry one.taken; vectors_are = one.vectors_are so_far.records vectors_are }
 
 -- ---- the marks
 history-old : (H : List Entry) → history (map Old H) ≡ H
@@ -139,6 +153,19 @@ module _ (marks : List Mark) (H : List Entry) (size : ℕ) (is : marks ≡ map O
     base_is = base_is;
     moments = λ told settled. subst (λ (ms : List Mark). AreMoments b plan was.accounts ms (accounts_of j)) (sym is) (opening H size (accounts_of j) (stands told settled));
   }
+
+  pub vectors_open : {D : Type 0} (b : Tables) (plan : Plan) (j : JournalState D) (file : List ℕ) (given at : ℕ) (v : Vectors) → AreTakenWith b plan (tells_of j) file given at H (Some v)
+      → (IsTrue (tells_of j) → payloads_of j ≡ first_payloads given file) → AreKeptVectors b plan (history marks) j None v.each.items v.doubt
+  vectors_open b plan j file given at v taken keeps =
+      subst (λ (G : List Entry). AreKeptVectors b plan G j None v.each.items v.doubt) (sym history_is) (record {
+        records = taken.taken.records;
+        are = taken.taken.are;
+        last = None;
+        holds = λ told. keeps told ∙ sym (taken.taken.bytes told);
+        each_is = taken.vectors_are.0;
+        new_is = taken.vectors_are.1;
+        room = subst (HasRoom v.each.items) (sym taken.vectors_are.1) tt;
+      })
 
 -- ---- the file
 -- a file that gives the same payloads represents the same history

@@ -1,5 +1,5 @@
 -- What resolving the entry in doubt does to an office that is open.
-use Rattle.std.proofs.Common.{◌≡◌, ℕ, ◌+◌, ◌<◌, ◌≤◌, List, [], ◌∷◌, ◌++◌, map, Option, Some, None, IsTrue, refl, sym, ◌∙◌, ap, subst}
+use Rattle.std.proofs.Common.{◌≡◌, ℕ, ◌<◌, ◌≤◌, List, [], ◌∷◌, ◌++◌, map, Option, Some, None, IsTrue, sym, subst}
 use Rattle.bank_tables.specs.Tables.{Tables}
 use Rattle.exam_model.specs.Plan.{Plan}
 use Rattle.exam_edge.specs.Faults.{Rose}
@@ -17,8 +17,13 @@ use Rattle.exam_office.specs.declared.mark.Mark.TheVariants.{Adopted, Fault}
 use Rattle.exam_office.specs.Files.{Stands}
 use Rattle.exam_office.specs.Marks.{history}
 use Rattle.exam_office.specs.Running.{HandedDisk, Running}
-use Rattle.exam_office.specs.Keeping.{IsSure, IsUnsure, IsKept}
-use Rattle.exam_office.specs.Writing.{IsMending, IsWriting, IsMended, IsFaulted, sure, dropped, kept}
+use Rattle.exam_office.specs.Keeping.{IsUnsure, IsKept}
+use Rattle.exam_office.specs.Writing.{IsMending, IsWriting, IsMended, sure, dropped, kept}
+use Rattle.exam_model.specs.Relaxed.{Multipliers}
+use Rattle.exam_office.specs.declared.vectors.NewVector.{NewVector}
+use Rattle.exam_office.specs.KeptVectors.{AreVectorsWith, AreKeptVectors}
+use Rattle.exam_office.proofs.Marking.{history-adopted, history-fault}
+use Rattle.exam_office.proofs.KeepingVectors.{vectors_adopted, vectors_dropped, vectors_unmended}
 use Rattle.exam_office.proofs.Kept.{kept_adopted, kept_dropped, kept_unmended}
 use Rattle.exam_office.proofs.Moments.{sure_images, still_sure, still_mending, mending_moments, in_hand_moments}
 
@@ -119,3 +124,26 @@ module _ {D : Type 0} (b : Tables) (plan : Plan) (base : List ℕ) (book : Ledge
       still_so bank plan_is entries room size limit rose grows tells still moments =
           subst (λ (d : Option Entry). IsKept b plan base book1 j1 (M ++ Fault entry ∷ []) d was) (sym is)
           (kept_unmended b plan base was book book1 j j1 M entry kept_some bank plan_is entries room size limit rose grows tells still (in_hand j1 moments))
+
+    -- the vectors
+    module _ (each : List (Option Multipliers)) (new : Option NewVector) (vectors : AreKeptVectors b plan (history M) j doubt each new) where
+      vectors_some : AreKeptVectors b plan (history M) j (Some entry) each new
+      vectors_some = subst (λ (d : Option Entry). AreKeptVectors b plan (history M) j d each new) is vectors
+
+      module _ (j1 : JournalState D) (tells : tells_of j1 ≡ tells_of j) (each1 : List (Option Multipliers)) (new1 : Option NewVector) where
+        pub adopted_vectors : (IsTrue (tells_of j) → (ps : List (List ℕ)) (payload : List ℕ) → IsDoubtful ps payload j → payloads_of j1 ≡ ps ++ payload ∷ [])
+            → AreVectorsWith each new each1 → new1 ≡ None → AreKeptVectors b plan (history (M ++ Adopted entry (length_of j1) ∷ [])) j1 None each1 new1
+        adopted_vectors mended kept1 empty =
+            subst (λ (H : List Entry). AreKeptVectors b plan H j1 None each1 new1) (sym (history-adopted M entry (length_of j1)))
+            (vectors_adopted b plan (history M) j each new entry vectors_some j1 tells each1 new1 mended kept1 empty)
+
+        pub dropped_vectors : (IsTrue (tells_of j) → (ps : List (List ℕ)) (payload : List ℕ) → IsDoubtful ps payload j → payloads_of j1 ≡ ps)
+            → each1 ≡ each → new1 ≡ None → AreKeptVectors b plan (history M) j1 None each1 new1
+        dropped_vectors mended same empty = vectors_dropped b plan (history M) j each new entry vectors_some j1 tells each1 new1 mended same empty
+
+      pub unmended_vectors : (j1 : JournalState D) → ((ps : List (List ℕ)) (payload : List ℕ) → IsDoubtful ps payload j → IsDoubtful ps payload j1)
+          → AreKeptVectors b plan (history (M ++ Fault entry ∷ [])) j1 doubt each new
+      unmended_vectors j1 still =
+          subst (λ (d : Option Entry). AreKeptVectors b plan (history (M ++ Fault entry ∷ [])) j1 d each new) (sym is)
+          (subst (λ (H : List Entry). AreKeptVectors b plan H j1 (Some entry) each new) (sym (history-fault M entry))
+          (vectors_unmended b plan (history M) j each new entry vectors_some j1 still))

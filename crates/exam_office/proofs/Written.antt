@@ -1,5 +1,5 @@
 -- What writing a record does to an office that is open.
-use Rattle.std.proofs.Common.{◌≡◌, ℕ, ◌+◌, ◌<◌, ◌≤◌, List, [], ◌∷◌, ◌++◌, Option, Some, None, IsTrue, refl, sym, ◌∙◌, ap, subst}
+use Rattle.std.proofs.Common.{◌≡◌, ℕ, ◌<◌, ◌≤◌, List, [], ◌∷◌, ◌++◌, Option, Some, None, IsTrue, sym, ◌∙◌, ap, subst}
 use Rattle.bank_tables.specs.Tables.{Tables}
 use Rattle.exam_model.specs.Plan.{Plan}
 use Rattle.exam_edge.specs.Faults.{Rose}
@@ -17,8 +17,13 @@ use Rattle.exam_office.specs.declared.mark.Mark.TheVariants.{Own, Fault}
 use Rattle.exam_office.specs.Files.{Stands}
 use Rattle.exam_office.specs.Marks.{history}
 use Rattle.exam_office.specs.Running.{HandedDisk, Running}
-use Rattle.exam_office.specs.Keeping.{IsSure, IsKept}
+use Rattle.exam_office.specs.Keeping.{IsBacked, IsKept}
 use Rattle.exam_office.specs.Writing.{IsWriting}
+use Rattle.exam_model.specs.Relaxed.{Multipliers}
+use Rattle.exam_office.specs.declared.vectors.NewVector.{NewVector}
+use Rattle.exam_office.specs.KeptVectors.{vector_at, new_vector, HasRoom, AreVectorsWith, AreKeptVectors}
+use Rattle.exam_office.proofs.Marking.{history-own, history-fault}
+use Rattle.exam_office.proofs.KeepingVectors.{with_room, vectors_written, vectors_faulted}
 use Rattle.exam_office.proofs.Kept.{kept_own, kept_fault}
 use Rattle.exam_office.proofs.Moments.{sure_images, writing_moments, still_writing}
 
@@ -55,6 +60,22 @@ module _ {D : Type 0} (b : Tables) (plan : Plan) (base : List ℕ) (book : Ledge
   pub moments_of : (later : List Account) (payload : List ℕ) → payload ≡ payload_of r → IsRecord r → (IsTrue (tells_of j) → AtEachMoment (accounts_of j) later (IsBeforeOrWith shadowj1 (payloads_of j) payload)) → IsTrue (tells_of now.journal) → AtEachMoment (accounts_of now.journal) later (IsWriting now.bank now.plan (history now.marks) r.entry)
   moments_of later payload is spells moments told = seen later (in_hand later payload is spells moments (told_here told))
 
+  -- room was taken in the book
+  pub kept_roomy : (book1 : Ledger) → book1.bank ≡ book.bank → book1.plan ≡ book.plan → book1.entries ≡ book.entries → IsKept b plan base book1 j M doubt was
+  kept_roomy book1 bank plan_is entries = record {
+    bank = bank ∙ kept.bank;
+    plan_is = plan_is ∙ kept.plan_is;
+    entries = entries ∙ kept.entries;
+    size = kept.size;
+    limit = kept.limit;
+    marks_are = kept.marks_are;
+    counted = kept.counted;
+    grows = kept.grows;
+    backed = subst (λ (d : Option Entry). IsBacked b plan M book1.room j d) (sym none) kept_sure.backed;
+    base_is = kept.base_is;
+    moments = kept.moments;
+  }
+
   -- it was written
   pub kept_written : (book1 : Ledger) (j1 : JournalState D) (payload : List ℕ) → payload ≡ payload_of r → IsRecord r
       → book1.bank ≡ book.bank → book1.plan ≡ book.plan → book1.entries ≡ book.entries ++ r.entry ∷ []
@@ -82,3 +103,31 @@ module _ {D : Type 0} (b : Tables) (plan : Plan) (base : List ℕ) (book : Ledge
   kept_faulted book1 j1 payload is spells bank plan_is entries room doubtful size limit rose grows tells moments =
       kept_fault b plan base was book book1 j j1 M kept_sure r spells may_here bank plan_is entries room (subst (λ (p : List ℕ). IsDoubtful (payloads_of j) p j1) is doubtful) size limit rose grows tells
       (in_hand (accounts_of j1) payload is spells moments)
+
+  -- the vectors: room was taken
+  module _ (each each0 : List (Option Multipliers)) (new new0 : Option NewVector) (same : (s : ℕ) → vector_at each0 s ≡ vector_at each s) (same_new : new0 ≡ new)
+      (vectors : AreKeptVectors b plan (history M) j doubt each new) where
+    vectors_sure : AreKeptVectors b plan (history M) j None each new
+    vectors_sure = subst (λ (d : Option Entry). AreKeptVectors b plan (history M) j d each new) none vectors
+
+    pub roomy_vectors : AreKeptVectors b plan (history M) j doubt each0 new0
+    roomy_vectors = subst (λ (d : Option Entry). AreKeptVectors b plan (history M) j d each0 new0) (sym none) (with_room b plan (history M) j each each0 new new0 same same_new vectors_sure)
+
+    module _ (j1 : JournalState D) (payload : List ℕ) (is : payload ≡ payload_of r) (spells : IsRecord r) (tells : tells_of j1 ≡ tells_of j) (fresh : Option NewVector) (fresh_is : fresh ≡ new_vector b plan r)
+        (each1 : List (Option Multipliers)) (new1 : Option NewVector) where
+      -- the record was written
+      pub written_vectors : (IsTrue (tells_of j) → payloads_of j1 ≡ payloads_of j ++ payload ∷ []) → AreVectorsWith each0 fresh each1 → new1 ≡ new0
+          → AreKeptVectors b plan (history (M ++ Own r.entry (length_of j1) ∷ [])) j1 doubt each1 new1
+      written_vectors added kept1 same1 =
+          subst (λ (d : Option Entry). AreKeptVectors b plan (history (M ++ Own r.entry (length_of j1) ∷ [])) j1 d each1 new1) (sym none)
+          (subst (λ (H : List Entry). AreKeptVectors b plan H j1 None each1 new1) (sym (history-own M r.entry (length_of j1)))
+          (vectors_written b plan (history M) j each each0 new new0 same same_new vectors_sure j1 r spells may_here tells fresh fresh_is
+          (λ told. added told ∙ ap (λ (p : List ℕ). payloads_of j ++ p ∷ []) is) each1 new1 kept1 same1))
+
+      -- the disk failed
+      pub faulted_vectors : IsDoubtful (payloads_of j) payload j1 → HasRoom each0 fresh → each1 ≡ each0 → new1 ≡ fresh
+          → AreKeptVectors b plan (history (M ++ Fault r.entry ∷ [])) j1 (Some r.entry) each1 new1
+      faulted_vectors doubtful room each_same new_same =
+          subst (λ (H : List Entry). AreKeptVectors b plan H j1 (Some r.entry) each1 new1) (sym (history-fault M r.entry))
+          (vectors_faulted b plan (history M) j each each0 new new0 same same_new vectors_sure j1 r spells may_here tells fresh fresh_is
+          (subst (λ (p : List ℕ). IsDoubtful (payloads_of j) p j1) is doubtful) room each1 new1 each_same new_same)

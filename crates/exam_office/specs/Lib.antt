@@ -12,3 +12,5 @@ pub mod Handling
 pub mod Asking
 pub mod Serving
 pub mod Noting
+pub mod Warm
+pub mod KeptVectors

@@ -24,6 +24,8 @@ mod starting;
 mod taking;
 mod threads;
 mod turns;
+mod vectors;
+mod warming;
 mod writing;
 
 pub use alone::Alone;

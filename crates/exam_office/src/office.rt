@@ -2,6 +2,7 @@
 
 use crate::handed_in::HandedIn;
 use crate::mark::Mark;
+use crate::vectors::Vectors;
 use answer_journal::Journal;
 use bank_tables::{Bank, ItemSet};
 use constraint_model::Spec;
@@ -23,6 +24,8 @@ pub struct Office<'a, D: Disk> {
     pub(crate) marks: Counted<Mark>,
     /// The entry in doubt.
     pub(crate) doubt: Option<Entry>,
+    /// The vectors that the searches for the sessions' next forms begin with.
+    pub(crate) vectors: Vectors,
     /// The disk as it was handed in, for contracts alone.
     pub(crate) opened: HandedIn<D>,
 }
@@ -30,11 +33,15 @@ pub struct Office<'a, D: Disk> {
 impl<'a, D: Disk> Model for Office<'a, D> {
     ghost use Rattle.exam_office.specs.Running.{Running, handed};
     ghost use Rattle.exam_office.specs.Keeping.{IsKept};
+    ghost use Rattle.exam_office.specs.KeptVectors.{AreKeptVectors};
+    ghost use Rattle.exam_office.specs.Marks.{history};
 
     ghost Value = { Running D };
 
     ghost view = { λ o. record { bank = o.bank.now; plan = o.spec.now; base = o.base; marks = o.marks; doubt = o.doubt; journal = o.journal; opened = handed D.content D.accounts D.faults o.opened.value } };
 
     ghost invariant = { λ o. IsKept o.bank.now o.spec.now o.base o.book o.journal o.marks o.doubt
-        (handed D.content D.accounts D.faults o.opened.value) };
+        (handed D.content D.accounts D.faults o.opened.value)
+        × AreKeptVectors o.bank.now o.spec.now (history o.marks) o.journal o.doubt
+        o.vectors.each.items o.vectors.doubt };
 }

@@ -21,7 +21,8 @@ ghost use Rattle.exam_office.specs.Opening.{IsOpenAnswer};
 use crate::fault::OpenFault;
 use crate::handed_in::HandedIn;
 use crate::office::Office;
-use crate::taking::{journal_fault, take_history};
+use crate::taking::{journal_fault, take_all};
+use crate::vectors::Vectors;
 use answer_journal::Journal;
 use bank_tables::{Bank, ItemSet};
 use constraint_model::Spec;
@@ -88,9 +89,13 @@ impl<'a, D: Disk> Office<'a, D> {
             Ok(walk) => walk,
             Err((disk, fault)) => return Err((disk, journal_fault(fault))),
         };
-        let (book, marks) = match take_history(alloc, bank, spec, &mut walk) {
+        let mut vectors = Some(Vectors::new(alloc));
+        let (book, marks) = match take_all(alloc, bank, spec, &mut walk, &mut vectors) {
             Ok(found) => found,
             Err(fault) => return Err((walk.stop(), fault)),
+        };
+        let Some(vectors) = vectors else {
+            unreachable!()
         };
         // Up to here nothing was written. From here on no record is refused.
         let journal = match walk.finish() {
@@ -105,6 +110,7 @@ impl<'a, D: Disk> Office<'a, D> {
             journal,
             marks,
             doubt: None,
+            vectors,
             opened,
         })
     }
@@ -136,6 +142,7 @@ impl<'a, D: Disk> Office<'a, D> {
             journal,
             marks: _,
             doubt: _,
+            vectors: _,
             opened: _,
         } = self;
         journal.into_disk()

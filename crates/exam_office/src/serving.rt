@@ -9,13 +9,14 @@ ghost use Rattle.exam_office.specs.Asking.{IsDurable, Steps, IsSettled};
 ghost use Rattle.exam_office.specs.Serving.{IsPendingThere, IsAssembledFor, IsTriedAlong, IsTried, IsServedAlong, IsServed};
 
 use crate::office::Office;
-use branch_bound::{Assembled, assemble};
+use branch_bound::{Assembled, assemble_from};
 use exam_edge::Disk;
 use history_model::{Place, Refusal};
 use std::alloc::Global;
 
 impl<'a, D: Disk> Office<'a, D> {
-    /// What is assembled for a session that waits for an item, with the base as the hint.
+    /// What is assembled for a session that waits for an item, with the base as the hint, from the
+    /// vector that is kept for the session. Where memory is wanting for that, from none.
     fn assembled(&self, alloc: Global, session: u32) -> Result<Assembled<'a>, Refusal>
         requires { IsPendingThere self.now.plan (history self.now.marks) session }
         ensures assembled { IfOk result (IsAssembledFor self.now.bank self.now.plan self.now.base
@@ -27,7 +28,9 @@ impl<'a, D: Disk> Office<'a, D> {
             unreachable!()
         };
         let base = self.base;
-        match assemble(alloc, problem, Some(&base), self.spec.budget() as u16) {
+        let warm = self.warm_or_none(alloc, session);
+        let budget = self.spec.budget() as u16;
+        match assemble_from(alloc, problem, Some(&base), budget, warm.as_ref()) {
             Ok(assembled) => Ok(assembled),
             Err(_) => Err(Refusal::Memory),
         }

@@ -1,6 +1,7 @@
 //! The records of a file, taken into a book one after another.
 
 ghost use Rattle.std.specs.Prelude.{◌≡◌, List, [], ◌∷◌, ◌++◌, map, Some, IsTrue, IfOk, IfErr, OnOk};
+ghost use Rattle.std.specs.Option.{is_some};
 ghost use Rattle.exam_edge.specs.Faults.{Rose};
 ghost use Rattle.exam_edge.specs.Lent.{IsLent};
 ghost use Rattle.exam_model.specs.Validity.{IsPlanFor};
@@ -11,14 +12,16 @@ ghost use Rattle.answer_journal.specs.Walk.{first_payloads};
 ghost use Rattle.exam_office.specs.declared.fault.OpenFault.TheVariants.{Disk as OfDisk};
 ghost use Rattle.exam_office.specs.declared.mark.Mark.TheVariants.{Old, Opened};
 ghost use Rattle.exam_office.specs.Files.{Stands};
-ghost use Rattle.exam_office.specs.Opening.{IsTaken, IsNotFollowing, AreTaken, IsNotTaken, IsOpenAnswer};
+ghost use Rattle.exam_office.specs.KeptVectors.{AreOf, AreWith, IsTakenWith, AreTakenWith};
+ghost use Rattle.exam_office.specs.Opening.{IsNotFollowing, AreTaken, IsNotTaken, IsOpenAnswer};
 
 use crate::fault::OpenFault;
 use crate::mark::{Mark, note};
+use crate::vectors::Vectors;
 use answer_journal::{OpenFault as JournalFault, Walk, WalkFault};
 use bank_tables::Bank;
 use constraint_model::Spec;
-use exam_edge::Disk;
+use exam_edge::{Disk, Memory};
 use exam_records::{Record, RecordFault, decode};
 use exam_session::Book;
 use history_log::Counted;
@@ -70,13 +73,37 @@ fn follow(alloc: Global, at: u64, rec: &Record, book: &mut Book) -> Result<(), O
     Ok(())
 }
 
+/// Keeps what a record makes the vector of its session, where the vectors are asked for.
+fn keep_vector(
+    alloc: Global,
+    bank: &Bank,
+    spec: &Spec,
+    rec: &Record,
+    vectors: &mut Option<Vectors>,
+) -> Result<(), Memory>
+    ensures vectors { OnOk result (AreWith bank.now spec.now vectors.old rec.now vectors.new) }
+    ensures asked { is_some vectors.new ≡ is_some vectors.old }
+{
+    match vectors {
+        Some(vectors) => vectors.take(alloc, bank, spec, rec),
+        None => Ok(()),
+    }
+}
+
 /// Takes the record of a payload into the book, where it may follow, and gives its entry.
-fn take_record(alloc: Global, at: u64, payload: &[u8], book: &mut Book) -> Result<Entry, OpenFault>
+fn take_record(
+    alloc: Global,
+    at: u64,
+    payload: &[u8],
+    book: &mut Book,
+    vectors: &mut Option<Vectors>,
+) -> Result<Entry, OpenFault>
     ensures bank { book.new.bank ≡ book.old.bank }
     ensures plan { book.new.plan ≡ book.old.plan }
-    ensures taken { IfOk result
-        (λ entry. IsTaken book.old.bank book.old.plan book.old.entries payload.now entry) }
+    ensures taken { IfOk result (λ entry. IsTakenWith book.old.bank book.old.plan book.old.entries
+        payload.now entry vectors.old vectors.new) }
     ensures entries { IfOk result (λ entry. book.new.entries ≡ book.old.entries ++ entry ∷ []) }
+    ensures asked { is_some vectors.new ≡ is_some vectors.old }
     ensures refused { IfErr result
         (IsNotTaken book.old.bank book.old.plan book.old.entries at payload.now) }
 {
@@ -86,8 +113,12 @@ fn take_record(alloc: Global, at: u64, payload: &[u8], book: &mut Book) -> Resul
         Err(fault) => return Err(OpenFault::BadRecord(at, fault)),
     };
     match follow(alloc, at, &rec, book) {
+        Ok(()) => {}
+        Err(fault) => return Err(fault),
+    }
+    match keep_vector(alloc, book.bank(), book.spec(), &rec, vectors) {
         Ok(()) => Ok(rec.entry),
-        Err(fault) => Err(fault),
+        Err(_) => Err(OpenFault::Memory),
     }
 }
 
@@ -99,6 +130,7 @@ fn take_records<D: Disk>(
     walk: &mut Walk<D>,
     book: &mut Book,
     marks: &mut Counted<Mark>,
+    vectors: &mut Option<Vectors>,
 ) -> Result<(), OpenFault>
     requires start { (walk.old.at ≡ 8) × (walk.old.given ≡ 0) }
     requires gives { IsTrue (D.tells walk.old.disk)
@@ -106,11 +138,13 @@ fn take_records<D: Disk>(
         ≡ Some (payload_list shadowj1 (D.content walk.old.disk)) }
     requires empty { book.old.entries ≡ [] }
     requires none { marks.old ≡ [] }
+    requires cold { AreOf book.old.bank book.old.plan [] vectors.old }
     ensures bank { book.new.bank ≡ book.old.bank }
     ensures plan { book.new.plan ≡ book.old.plan }
-    ensures taken { OnOk result (AreTaken book.old.bank book.old.plan (D.tells walk.old.disk)
-        (D.content walk.old.disk) walk.new.given walk.new.at book.new.entries) }
+    ensures taken { OnOk result (AreTakenWith book.old.bank book.old.plan (D.tells walk.old.disk)
+        (D.content walk.old.disk) walk.new.given walk.new.at book.new.entries vectors.new) }
     ensures noted { OnOk result (marks.new ≡ map Old book.new.entries) }
+    ensures asked { is_some vectors.new ≡ is_some vectors.old }
     // All of them.
     ensures last { OnOk result (IsTrue (D.tells walk.old.disk)
         → first_payloads walk.new.given (D.content walk.old.disk)
@@ -130,7 +164,7 @@ fn take_records<D: Disk>(
     let mut payload = Vec::new(alloc);
     'records: loop {
         match walk.next(alloc, &mut payload) {
-            Ok(Some(at)) => match take_record(alloc, at, &payload, book) {
+            Ok(Some(at)) => match take_record(alloc, at, &payload, book, vectors) {
                 Ok(entry) => match note(marks, &Mark::Old(entry)) {
                     Ok(()) => {}
                     Err(_) => return Err(OpenFault::Memory),
@@ -189,12 +223,55 @@ pub fn take_history<'a, D: Disk>(
         → D.accounts walk.new.disk ≡ D.accounts walk.old.disk }
     ensures frame { IsLent D.tells D.identity D.faults walk.old.disk walk.new.disk }
 {
+    take_all(alloc, bank, spec, walk, &mut None)
+}
+
+/// The same, and what the records make the vectors of their sessions, where these are asked for.
+pub(crate) fn take_all<'a, D: Disk>(
+    alloc: Global,
+    bank: &'a Bank,
+    spec: &'a Spec,
+    walk: &mut Walk<D>,
+    vectors: &mut Option<Vectors>,
+) -> Result<(Book<'a>, Counted<Mark>), OpenFault>
+    requires plan { IsPlanFor bank.now spec.now }
+    requires start { (walk.old.at ≡ 8) × (walk.old.given ≡ 0) }
+    requires gives { IsTrue (D.tells walk.old.disk)
+        → payloads shadowj1 (D.content walk.old.disk)
+        ≡ Some (payload_list shadowj1 (D.content walk.old.disk)) }
+    requires cold { AreOf bank.now spec.now [] vectors.old }
+    ensures bank { IfOk result (λ found. found.0.bank ≡ bank.now) }
+    ensures plan { IfOk result (λ found. found.0.plan ≡ spec.now) }
+    ensures taken { IfOk result (λ found. AreTakenWith bank.now spec.now (D.tells walk.old.disk)
+        (D.content walk.old.disk) walk.new.given walk.new.at found.0.entries vectors.new) }
+    ensures asked { is_some vectors.new ≡ is_some vectors.old }
+    ensures marks { IfOk result
+        (λ found. found.1 ≡ map Old found.0.entries ++ Opened walk.new.size ∷ []) }
+    // All of them: the file represents this history.
+    ensures last { OnOk result (IsTrue (D.tells walk.old.disk)
+        → first_payloads walk.new.given (D.content walk.old.disk)
+        ≡ payload_list shadowj1 (D.content walk.old.disk)) }
+    ensures stands { IfOk result (λ found. IsTrue (D.tells walk.old.disk)
+        → Stands bank.now spec.now found.0.entries (D.content walk.old.disk)) }
+    // The first record that is refused, if memory and the disk don't fail before.
+    ensures why { IfErr result (λ e. IsTrue (D.tells walk.old.disk)
+        → IsOpenAnswer bank.now spec.now (D.content walk.old.disk) e) }
+    ensures cause { IfErr result (λ e. e ≡ OfDisk
+        → Rose (D.faults walk.old.disk) (D.faults walk.new.disk)) }
+    ensures limit { walk.new.limit ≡ walk.old.limit }
+    ensures size { walk.new.size ≡ walk.old.size }
+    ensures content { IsTrue (D.tells walk.old.disk)
+        → D.content walk.new.disk ≡ D.content walk.old.disk }
+    ensures accounts { IsTrue (D.tells walk.old.disk)
+        → D.accounts walk.new.disk ≡ D.accounts walk.old.disk }
+    ensures frame { IsLent D.tells D.identity D.faults walk.old.disk walk.new.disk }
+{
     let mut book = match Book::new(alloc, bank, spec) {
         Ok(book) => book,
         Err(_) => return Err(OpenFault::Memory),
     };
     let mut marks = Counted::new();
-    match take_records(alloc, walk, &mut book, &mut marks) {
+    match take_records(alloc, walk, &mut book, &mut marks, vectors) {
         Ok(()) => {}
         Err(fault) => return Err(fault),
     }

@@ -62,10 +62,12 @@ impl<'a, D: Disk> Office<'a, D> {
                 self.book.apply(*entry);
                 let size = self.journal.length();
                 self.marks.push(&Mark::Adopted(*entry, size));
+                self.vectors.adopt();
                 self.doubt = None;
                 Ok(())
             }
             Ok(Adopted::Dropped) => {
+                self.vectors.forget();
                 self.doubt = None;
                 Ok(())
             }
@@ -114,17 +116,26 @@ impl<'a, D: Disk> Office<'a, D> {
             Ok(()) => {}
             Err(_) => return Err(Refusal::Memory),
         }
+        let new = match self
+            .vectors
+            .prepare(alloc, self.bank, self.spec, entry, tree)
+        {
+            Ok(new) => new,
+            Err(_) => return Err(Refusal::Memory),
+        };
         match self.journal.append(&frame) {
             Ok(()) => {
                 may_is_legal();
                 self.book.apply(*entry);
                 let size = self.journal.length();
                 self.marks.push(&Mark::Own(*entry, size));
+                self.vectors.keep(new);
                 Ok(())
             }
             Err(AppendFault::Full(size)) => Err(Refusal::JournalFull(size)),
             Err(AppendFault::Disk) => {
                 self.marks.push(&Mark::Fault(*entry));
+                self.vectors.hold(new);
                 self.doubt = Some(*entry);
                 Err(Refusal::Disk)
             }

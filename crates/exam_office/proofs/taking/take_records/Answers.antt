@@ -6,8 +6,9 @@ use Rattle.history_model.specs.declared.entry.Entry.{Entry}
 use Rattle.answer_journal.specs.Walk.{first_payloads}
 use Rattle.exam_office.specs.declared.mark.Mark.{Mark}
 use Rattle.exam_office.specs.declared.mark.Mark.TheVariants.{Old}
-use Rattle.exam_office.specs.Opening.{IsTaken, AreTaken, IsNotTaken}
-use Rattle.exam_office.proofs.Opened.{none_taken, taken_more, refused_here}
+use Rattle.exam_office.specs.KeptVectors.{IsTakenWith, AreTakenWith}
+use Rattle.exam_office.specs.Opening.{IsNotTaken}
+use Rattle.exam_office.proofs.Opened.{none_with, taken_with_more, refused_here}
 use Rattle.exam_office.proofs.taking.take_records.Goals as goal
 
 pub records-init : goal.records-init
@@ -17,7 +18,8 @@ records-init g c =
     record {
       bank = refl;
       plan = refl;
-      taken = none_taken book.bank book.plan (g.D.Disk.tells walk.disk) (g.D.Disk.content walk.disk) book.entries walk.given walk.at c.requires.empty c.requires.start.1 c.requires.start.0;
+      taken = none_with book.bank book.plan (g.D.Disk.tells walk.disk) (g.D.Disk.content walk.disk) book.entries walk.given walk.at c.args.vectors.now c.requires.empty c.requires.start.1 c.requires.start.0 c.requires.cold;
+      asked = refl;
       noted = c.requires.none ∙ ap (map Old) (sym c.requires.empty);
       limit = refl;
       size = refl;
@@ -39,17 +41,20 @@ records-preserved g c =
     let at = c.in-Ok-Some.at in
     let is = c.in-Ok-Some.field-0-is in
     let e = c.in-Ok.entry in
-    let one : IsTaken book.bank book.plan H p e =
-    subst (λ (q : List ℕ). IsTaken book.bank book.plan H q e) c.deref.ensures.value
-    (subst (λ (q : Plan). IsTaken book.bank q H c.deref.result.now e) i.plan (subst (λ (b : Tables). IsTaken b c.records.book.plan H c.deref.result.now e) i.bank c.in-Ok.ensures.taken)) in
+    let v = c.records.vectors in
+    let w = c.take_record.new.vectors in
+    let one : IsTakenWith book.bank book.plan H p e v w =
+    subst (λ (q : List ℕ). IsTakenWith book.bank book.plan H q e v w) c.deref.ensures.value
+    (subst (λ (q : Plan). IsTakenWith book.bank q H c.deref.result.now e v w) i.plan (subst (λ (b : Tables). IsTakenWith b c.records.book.plan H c.deref.result.now e v w) i.bank c.in-Ok.ensures.taken)) in
     let place : new.at ≡ old.at + 5 + length p = c.in-Ok-Some.ensures.at at is ∙ ap (λ (k : ℕ). k + 5 + length p) (c.in-Ok-Some.ensures.place at is) in
     record {
       bank = c.take_record.ensures.bank ∙ i.bank;
       plan = c.take_record.ensures.plan ∙ i.plan;
-      taken = subst (λ (G : List Entry). AreTaken book.bank book.plan t0 c0 new.given new.at G) (sym c.in-Ok.ensures.entries)
-          (taken_more book.bank book.plan t0 c0 H old.given old.at i.taken p new.given new.at place
+      taken = subst (λ (G : List Entry). AreTakenWith book.bank book.plan t0 c0 new.given new.at G w) (sym c.in-Ok.ensures.entries)
+          (taken_with_more book.bank book.plan t0 c0 H old.given old.at i.taken.taken v w i.taken.vectors_are p new.given new.at place
           (λ told. subst (λ (f : List ℕ). first_payloads new.given f ≡ first_payloads old.given f ++ p ∷ []) (i.content told) (c.in-Ok-Some.ensures.payload at is (i.frame.tells ∙ told)))
           e one);
+      asked = c.take_record.ensures.asked ∙ i.asked;
       noted = c.in-Ok-note.ensures.noted ∙ (ap (λ (ms : List Mark). ms ++ Old e ∷ []) i.noted ∙ (sym (map-append Old H (e ∷ [])) ∙ ap (map Old) (sym c.in-Ok.ensures.entries)));
       limit = c.next.ensures.limit ∙ i.limit;
       size = c.next.ensures.size ∙ i.size;
@@ -84,4 +89,17 @@ returns-in-Err-clause-why g c = λ told.
     let why : IsNotTaken book.bank book.plan H old.at p fault =
     subst (λ (k : ℕ). IsNotTaken book.bank book.plan H k p fault) (c.in-Ok-Some.ensures.place at is)
     (subst (λ (q : List ℕ). IsNotTaken book.bank book.plan H at q fault) c.deref.ensures.value here) in
-    refused_here book.bank book.plan t0 c0 H old.given old.at i.taken told (c.requires.gives told) p one_on fault why
+    refused_here book.bank book.plan t0 c0 H old.given old.at i.taken.taken told (c.requires.gives told) p one_on fault why
+
+pub returns-in-Ok-None-clause-taken : goal.returns-in-Ok-None-clause-taken
+returns-in-Ok-None-clause-taken g c =
+    let book = c.args.book.now in
+    let t0 = g.D.Disk.tells c.args.walk.now.disk in
+    let c0 = g.D.Disk.content c.args.walk.now.disk in
+    let i = c.records.invariant in
+    let H = c.records.book.entries in
+    let old = c.records.walk in
+    let new = c.next.new.self in
+    let stays = c.in-Ok-None.ensures.stays c.in-Ok-None.field-0-is in
+    subst (λ (n : ℕ). AreTakenWith book.bank book.plan t0 c0 new.given n H c.records.vectors) (sym stays.0)
+    (subst (λ (n : ℕ). AreTakenWith book.bank book.plan t0 c0 n old.at H c.records.vectors) (sym stays.1) i.taken)

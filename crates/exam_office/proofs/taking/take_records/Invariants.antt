@@ -1,14 +1,16 @@
 use Rattle.std.proofs.Common.{◌≡◌, ◌-◌, map, IsTrue}
+use Rattle.std.specs.Option.{is_some}
 use Rattle.exam_edge.specs.Lent.{IsLent}
 use Rattle.exam_office.specs.declared.mark.Mark.TheVariants.{Old}
-use Rattle.exam_office.specs.Opening.{AreTaken}
+use Rattle.exam_office.specs.KeptVectors.{AreTakenWith}
 use Rattle.exam_office.proofs.taking.take_records.Given as goal
 
 abbrev pub invariant-records : goal.invariant-records
 invariant-records g l = record {
   bank : l.book.bank ≡ l.fn.book.bank;
   plan : l.book.plan ≡ l.fn.book.plan;
-  taken : AreTaken l.fn.book.bank l.fn.book.plan (g.D.Disk.tells l.fn.walk.disk) (g.D.Disk.content l.fn.walk.disk) l.walk.given l.walk.at l.book.entries;
+  taken : AreTakenWith l.fn.book.bank l.fn.book.plan (g.D.Disk.tells l.fn.walk.disk) (g.D.Disk.content l.fn.walk.disk) l.walk.given l.walk.at l.book.entries l.vectors;
+  asked : is_some l.vectors ≡ is_some l.fn.vectors;
   noted : l.marks ≡ map Old l.book.entries;
   limit : l.walk.limit ≡ l.fn.walk.limit;
   size : l.walk.size ≡ l.fn.walk.size;

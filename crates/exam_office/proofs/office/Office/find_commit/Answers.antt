@@ -1,4 +1,4 @@
-use Rattle.std.proofs.Common.{◌≡◌, ◌∙◌, ℕ, List, length, true, Some, None, refl, sym, ap, subst}
+use Rattle.std.proofs.Common.{◌≡◌, ◌∙◌, List, length, true, Some, sym, ap, subst}
 use Rattle.exam_model.specs.Problem.{Problem}
 use Rattle.exam_model.specs.declared.node.Node.{Node}
 use Rattle.exam_model.specs.ProofTrees.{ProofTree}
@@ -35,10 +35,10 @@ entry_for-requires-clause-form g c =
     let waits : IsWaitingFor now.plan (history now.marks) c.problem-problem.result.now.session c.problem-problem.result.now.step c.problem-problem.result.now.aside = rw c.in_default.is at c.find_stale.ensures.none in
     let still_now : IsStillAsked now.plan (history now.marks) P = subst (λ (p : Given). IsWaitingFor now.plan (history now.marks) p.session p.step p.aside) is_here waits in
     let still : IsStillAsked plan H P = subst (λ (r : Running g.row.D.Denot). IsStillAsked r.plan (history r.marks) P) (sym c.self.view_is) still_now in
-    let run : LegalRun b plan H = run_of b plan o.base o.book o.journal o.marks o.doubt (handed g.D.Disk.content g.D.Disk.accounts g.D.Disk.faults o.opened.value) c.self.invariant c.entries.ensures.examination in
+    let run : LegalRun b plan H = run_of b plan o.base o.book o.journal o.marks o.doubt (handed g.D.Disk.content g.D.Disk.accounts g.D.Disk.faults o.opened.value) c.self.invariant.0 c.entries.ensures.examination in
     let asked = c.in-Some-problem.asked in
     let found : IsProblemOf b plan H P.session asked.step (problem_of asked) =
-    problem_in b plan o.base o.book o.journal o.marks o.doubt (handed g.D.Disk.content g.D.Disk.accounts g.D.Disk.faults o.opened.value) c.self.invariant P.session asked.step (problem_of asked)
+    problem_in b plan o.base o.book o.journal o.marks o.doubt (handed g.D.Disk.content g.D.Disk.accounts g.D.Disk.faults o.opened.value) c.self.invariant.0 P.session asked.step (problem_of asked)
     (subst (λ (p : Given). IsProblemOf o.book.bank o.book.plan o.book.entries p.session asked.step (problem_of asked)) is_here c.in-Some-problem.ensures.problem) in
     let same : problem_of asked ≡ P = same_problem b plan o.base H a (problem_of asked) asked.step run m still found in
     let promise = c.outcome-outcome.ensures.promise in
@@ -58,10 +58,10 @@ returns-clause-found g c =
     let waits : IsWaitingFor now.plan (history now.marks) c.problem-problem.result.now.session c.problem-problem.result.now.step c.problem-problem.result.now.aside = rw c.in_default.is at c.find_stale.ensures.none in
     let still_now : IsStillAsked now.plan (history now.marks) P = subst (λ (p : Given). IsWaitingFor now.plan (history now.marks) p.session p.step p.aside) is_here waits in
     let still : IsStillAsked plan H P = subst (λ (r : Running g.row.D.Denot). IsStillAsked r.plan (history r.marks) P) (sym c.self.view_is) still_now in
-    let run : LegalRun b plan H = run_of b plan o.base o.book o.journal o.marks o.doubt (handed g.D.Disk.content g.D.Disk.accounts g.D.Disk.faults o.opened.value) c.self.invariant c.entries.ensures.examination in
+    let run : LegalRun b plan H = run_of b plan o.base o.book o.journal o.marks o.doubt (handed g.D.Disk.content g.D.Disk.accounts g.D.Disk.faults o.opened.value) c.self.invariant.0 c.entries.ensures.examination in
     let asked = c.in-Some-problem.asked in
     let found : IsProblemOf b plan H P.session asked.step (problem_of asked) =
-    problem_in b plan o.base o.book o.journal o.marks o.doubt (handed g.D.Disk.content g.D.Disk.accounts g.D.Disk.faults o.opened.value) c.self.invariant P.session asked.step (problem_of asked)
+    problem_in b plan o.base o.book o.journal o.marks o.doubt (handed g.D.Disk.content g.D.Disk.accounts g.D.Disk.faults o.opened.value) c.self.invariant.0 P.session asked.step (problem_of asked)
     (subst (λ (p : Given). IsProblemOf o.book.bank o.book.plan o.book.entries p.session asked.step (problem_of asked)) is_here c.in-Some-problem.ensures.problem) in
     let same : problem_of asked ≡ P = same_problem b plan o.base H a (problem_of asked) asked.step run m still found in
     let promise = c.outcome-outcome.ensures.promise in
@@ -89,10 +89,10 @@ returns-clause-may g c =
     let waits : IsWaitingFor now.plan (history now.marks) c.problem-problem.result.now.session c.problem-problem.result.now.step c.problem-problem.result.now.aside = rw c.in_default.is at c.find_stale.ensures.none in
     let still_now : IsStillAsked now.plan (history now.marks) P = subst (λ (p : Given). IsWaitingFor now.plan (history now.marks) p.session p.step p.aside) is_here waits in
     let still : IsStillAsked plan H P = subst (λ (r : Running g.row.D.Denot). IsStillAsked r.plan (history r.marks) P) (sym c.self.view_is) still_now in
-    let run : LegalRun b plan H = run_of b plan o.base o.book o.journal o.marks o.doubt (handed g.D.Disk.content g.D.Disk.accounts g.D.Disk.faults o.opened.value) c.self.invariant c.entries.ensures.examination in
+    let run : LegalRun b plan H = run_of b plan o.base o.book o.journal o.marks o.doubt (handed g.D.Disk.content g.D.Disk.accounts g.D.Disk.faults o.opened.value) c.self.invariant.0 c.entries.ensures.examination in
     let asked = c.in-Some-problem.asked in
     let found : IsProblemOf b plan H P.session asked.step (problem_of asked) =
-    problem_in b plan o.base o.book o.journal o.marks o.doubt (handed g.D.Disk.content g.D.Disk.accounts g.D.Disk.faults o.opened.value) c.self.invariant P.session asked.step (problem_of asked)
+    problem_in b plan o.base o.book o.journal o.marks o.doubt (handed g.D.Disk.content g.D.Disk.accounts g.D.Disk.faults o.opened.value) c.self.invariant.0 P.session asked.step (problem_of asked)
     (subst (λ (p : Given). IsProblemOf o.book.bank o.book.plan o.book.entries p.session asked.step (problem_of asked)) is_here c.in-Some-problem.ensures.problem) in
     let same : problem_of asked ≡ P = same_problem b plan o.base H a (problem_of asked) asked.step run m still found in
     let promise = c.outcome-outcome.ensures.promise in

@@ -13,7 +13,7 @@ pub returns-clause-images : goal.returns-clause-images
 returns-clause-images g c = λ told.
     let o = c.self.inside in
     let now = c.args.self in
-    let kept = c.self.invariant in
+    let kept = c.self.invariant.0 in
     let here : AllImages (IsMending o.bank.now o.spec.now (history o.marks) o.doubt) (latest (accounts_of o.journal)) = each_image o.bank.now o.spec.now o.journal o.marks o.doubt o.book.room kept.backed (subst IsTrue c.into_disk.ensures.tells told) in
     let there : AllImages (IsMending now.bank now.plan (history now.marks) now.doubt) (latest (accounts_of o.journal)) = subst (λ (r : Running g.row.D.Denot). AllImages (IsMending r.bank r.plan (history r.marks) r.doubt) (latest (accounts_of o.journal))) c.self.view_is here in
     subst (λ (accounts : List Account). AllImages (IsMending now.bank now.plan (history now.marks) now.doubt) (latest accounts)) (sym c.into_disk.ensures.accounts) there
@@ -24,7 +24,7 @@ returns-clause-content g c = λ told. returns-clause-images g c told (g.D.Disk.c
 pub returns-clause-length : goal.returns-clause-length
 returns-clause-length g c = λ told sure.
     let o = c.self.inside in
-    let kept = c.self.invariant in
+    let kept = c.self.invariant.0 in
     let none : o.doubt ≡ None = ap (λ (r : Running g.row.D.Denot). r.doubt) c.self.view_is ∙ sure in
     let is : IsSure o.bank.now o.spec.now (history o.marks) o.journal = subst (λ (d : Option Entry). IsBacked o.bank.now o.spec.now o.marks o.book.room o.journal d) none kept.backed in
     let rest = is.ready.rest (subst IsTrue c.into_disk.ensures.tells told) in

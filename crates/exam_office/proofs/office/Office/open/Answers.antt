@@ -6,20 +6,23 @@ use Rattle.history_model.specs.declared.entry.Entry.{Entry}
 use Rattle.history_model.specs.Legality.{LegalRun}
 use Rattle.history_model.proofs.JudgingLaws.{backed_is_legal_run}
 use Rattle.exam_office.specs.Files.{Stands}
-use Rattle.exam_office.specs.Opening.{AreTaken}
+use Rattle.std.proofs.Common.{Option, Some}
+use Rattle.answer_journal.specs.Walk.{first_payloads}
+use Rattle.exam_office.specs.declared.vectors.Vectors.{Vectors}
+use Rattle.exam_office.specs.KeptVectors.{AreTakenWith}
 use Rattle.exam_office.specs.Running.{handed}
-use Rattle.exam_office.proofs.Opened.{history_is, marks_told, kept_open, stands_too, stands_while_read, stands_while_opened, short_so, given_by}
+use Rattle.exam_office.proofs.Opened.{history_is, marks_told, kept_open, vectors_open, stands_too, stands_while_read, stands_while_opened, short_so, given_by}
 use Rattle.exam_office.proofs.office.Office.open.Goals as goal
 
 -- a record is refused
-pub returns-in-Err-take_history-clause-settled_err : goal.returns-in-Err-take_history-clause-settled_err
-returns-in-Err-take_history-clause-settled_err g c = λ told settled H stands.
+pub returns-in-Err-take_all-clause-settled_err : goal.returns-in-Err-take_all-clause-settled_err
+returns-in-Err-take_all-clause-settled_err g c = λ told settled H stands.
     let b = c.args.bank.now in
     let plan = c.args.spec.now in
     let w0 = c.in-Ok.walk in
-    let w1 = c.take_history.new.walk in
+    let w1 = c.take_all.new.walk in
     let a0 = g.D.Disk.accounts c.args.disk in
-    let same = c.take_history.ensures.accounts (c.in-Ok.ensures.frame.tells ∙ told) in
+    let same = c.take_all.ensures.accounts (c.in-Ok.ensures.frame.tells ∙ told) in
     subst (λ (d : g.row.D.Denot). AtEachMoment a0 (g.D.Disk.accounts d) (Stands b plan H)) (sym c.stop.ensures)
     (subst (λ (a : List Account). AtEachMoment a0 a (Stands b plan H)) (sym same)
     (stands_while_read b plan H (g.D.Disk.content c.args.disk) a0 (g.D.Disk.accounts w0.disk) stands (c.in-Ok.ensures.settled told settled)))
@@ -30,111 +33,116 @@ returns-in-Err-finish-clause-settled_err g c = λ told settled H stands.
     let b = c.args.bank.now in
     let plan = c.args.spec.now in
     let w0 = c.in-Ok.walk in
-    let w1 = c.take_history.new.walk in
+    let w1 = c.take_all.new.walk in
     let told0 = c.in-Ok.ensures.frame.tells ∙ told in
-    let same = c.take_history.ensures.content told0 ∙ c.in-Ok.ensures.untouched told in
+    let same = c.take_all.ensures.content told0 ∙ c.in-Ok.ensures.untouched told in
     let a0 = g.D.Disk.accounts c.args.disk in
-    let reading = subst (λ (a : List Account). AtEachMoment a0 a (λ file. file ≡ g.D.Disk.content c.args.disk)) (sym (c.take_history.ensures.accounts told0)) (c.in-Ok.ensures.settled told settled) in
+    let reading = subst (λ (a : List Account). AtEachMoment a0 a (λ file. file ≡ g.D.Disk.content c.args.disk)) (sym (c.take_all.ensures.accounts told0)) (c.in-Ok.ensures.settled told settled) in
     stands_while_opened b plan H (g.D.Disk.content c.args.disk) (g.D.Disk.content w1.disk) a0 (g.D.Disk.accounts w1.disk) (g.D.Disk.accounts c.in-Err-finish.disk) stands reading same
-    (c.in-Err-finish.ensures.moments_err (c.take_history.ensures.frame.tells ∙ told0))
+    (c.in-Err-finish.ensures.moments_err (c.take_all.ensures.frame.tells ∙ told0))
 
 pub invariant_of-result : goal.invariant_of-result
 invariant_of-result g c =
     let b = c.args.bank.now in
     let plan = c.args.spec.now in
     let w0 = c.in-Ok.walk in
-    let w1 = c.take_history.new.walk in
+    let w1 = c.take_all.new.walk in
     let j = c.in-Ok-finish.journal in
-    let book = c.in-Ok-take_history.found.0 in
-    let marks = c.in-Ok-take_history.found.1 in
-    let is = c.in-Ok-take_history.ensures.marks in
+    let book = c.in-Ok-take_all.found.0 in
+    let marks = c.in-Ok-take_all.found.1 in
+    let is = c.in-Ok-take_all.ensures.marks in
     let file = g.D.Disk.content w0.disk in
     let was = handed g.D.Disk.content g.D.Disk.accounts g.D.Disk.faults c.of-opened.result.value in
-    let tells : tells_of j ≡ g.D.Disk.tells w0.disk = c.in-Ok-finish.ensures.tells ∙ c.take_history.ensures.frame.tells in
-    let taken : AreTaken b plan (tells_of j) file w1.given w1.at book.entries =
-    subst (λ (t : Bool). AreTaken b plan t file w1.given w1.at book.entries) (sym tells) c.in-Ok-take_history.ensures.taken in
-    kept_open marks book.entries w1.size is b plan c.args.base was book j file w1.given w1.at taken c.in-Ok-take_history.ensures.bank c.in-Ok-take_history.ensures.plan refl
-    c.in-Ok-finish.ensures.ready (c.in-Ok-finish.ensures.limit ∙ c.take_history.ensures.limit ∙ c.in-Ok.ensures.limit ∙ c.journal.ensures) c.in-Ok-finish.ensures.length
-    (λ told_now.
+    let tells : tells_of j ≡ g.D.Disk.tells w0.disk = c.in-Ok-finish.ensures.tells ∙ c.take_all.ensures.frame.tells in
+    let v = c.in-Some.vectors in
+    let taken : AreTakenWith b plan (tells_of j) file w1.given w1.at book.entries (Some v) =
+    subst (λ (o : Option Vectors). AreTakenWith b plan (tells_of j) file w1.given w1.at book.entries o) c.in-Some.is
+    (subst (λ (t : Bool). AreTakenWith b plan t file w1.given w1.at book.entries c.take_all.new.vectors) (sym tells) c.in-Ok-take_all.ensures.taken) in
+    let keeps : IsTrue (tells_of j) → payloads_of j ≡ first_payloads w1.given file = λ told_now.
     let told0 : IsTrue (g.D.Disk.tells w0.disk) = subst IsTrue tells told_now in
-    let told1 : IsTrue (g.D.Disk.tells w1.disk) = c.take_history.ensures.frame.tells ∙ told0 in
-    given_by file (g.D.Disk.content w1.disk) (payloads_of j) w1.given (c.take_history.ensures.content told0) (c.in-Ok-finish.ensures.keeps told1) (c.in-Ok-take_history.ensures.last told0))
-    (subst (λ (d : g.row.D.Denot). g.D.Disk.faults d ≤ faults_of j) (sym c.of-opened.ensures) (omega (arith, c.in-Ok.ensures.frame.grows, c.take_history.ensures.frame.grows, c.in-Ok-finish.ensures.grows)))
-    c.requires.base
-    (λ told_now.
-    let told0 : IsTrue (g.D.Disk.tells w0.disk) = subst IsTrue tells told_now in
-    let told : IsTrue (g.D.Disk.tells c.args.disk) = subst IsTrue c.in-Ok.ensures.frame.tells told0 in
-    let c0 = g.D.Disk.content c.args.disk in
-    let a0 = g.D.Disk.accounts c.args.disk in
-    let same = c.take_history.ensures.content told0 ∙ c.in-Ok.ensures.untouched told in
-    let here : Stands b plan book.entries c0 = subst (Stands b plan book.entries) (c.in-Ok.ensures.untouched told) (c.in-Ok-take_history.ensures.stands told0) in
-    subst (λ (d : g.row.D.Denot). IsSettled (g.D.Disk.content d) (g.D.Disk.accounts d) → AtEachMoment (g.D.Disk.accounts d) (accounts_of j) (Stands b plan book.entries)) (sym c.of-opened.ensures)
-    (λ settled.
-    let reading = subst (λ (a : List Account). AtEachMoment a0 a (λ file. file ≡ c0)) (sym (c.take_history.ensures.accounts told0)) (c.in-Ok.ensures.settled told settled) in
-    stands_while_opened b plan book.entries c0 (g.D.Disk.content w1.disk) a0 (g.D.Disk.accounts w1.disk) (accounts_of j) here reading same (c.in-Ok-finish.ensures.moments (c.take_history.ensures.frame.tells ∙ told0))))
+    let told1 : IsTrue (g.D.Disk.tells w1.disk) = c.take_all.ensures.frame.tells ∙ told0 in
+    given_by file (g.D.Disk.content w1.disk) (payloads_of j) w1.given (c.take_all.ensures.content told0) (c.in-Ok-finish.ensures.keeps told1) (c.in-Ok-take_all.ensures.last told0) in (
+      kept_open marks book.entries w1.size is b plan c.args.base was book j file w1.given w1.at taken.taken c.in-Ok-take_all.ensures.bank c.in-Ok-take_all.ensures.plan refl
+          c.in-Ok-finish.ensures.ready (c.in-Ok-finish.ensures.limit ∙ c.take_all.ensures.limit ∙ c.in-Ok.ensures.limit ∙ c.journal.ensures) c.in-Ok-finish.ensures.length
+          keeps
+          (subst (λ (d : g.row.D.Denot). g.D.Disk.faults d ≤ faults_of j) (sym c.of-opened.ensures) (omega (arith, c.in-Ok.ensures.frame.grows, c.take_all.ensures.frame.grows, c.in-Ok-finish.ensures.grows)))
+          c.requires.base
+          (λ told_now.
+          let told0 : IsTrue (g.D.Disk.tells w0.disk) = subst IsTrue tells told_now in
+          let told : IsTrue (g.D.Disk.tells c.args.disk) = subst IsTrue c.in-Ok.ensures.frame.tells told0 in
+          let c0 = g.D.Disk.content c.args.disk in
+          let a0 = g.D.Disk.accounts c.args.disk in
+          let same = c.take_all.ensures.content told0 ∙ c.in-Ok.ensures.untouched told in
+          let here : Stands b plan book.entries c0 = subst (Stands b plan book.entries) (c.in-Ok.ensures.untouched told) (c.in-Ok-take_all.ensures.stands told0) in
+          subst (λ (d : g.row.D.Denot). IsSettled (g.D.Disk.content d) (g.D.Disk.accounts d) → AtEachMoment (g.D.Disk.accounts d) (accounts_of j) (Stands b plan book.entries)) (sym c.of-opened.ensures)
+          (λ settled.
+          let reading = subst (λ (a : List Account). AtEachMoment a0 a (λ file. file ≡ c0)) (sym (c.take_all.ensures.accounts told0)) (c.in-Ok.ensures.settled told settled) in
+          stands_while_opened b plan book.entries c0 (g.D.Disk.content w1.disk) a0 (g.D.Disk.accounts w1.disk) (accounts_of j) here reading same (c.in-Ok-finish.ensures.moments (c.take_all.ensures.frame.tells ∙ told0)))),
+      vectors_open marks book.entries w1.size is b plan j file w1.given w1.at v taken keeps,
+    )
 
 pub returns-clause-marks : goal.returns-clause-marks
 returns-clause-marks g c =
-    marks_told c.in-Ok-take_history.found.1 c.in-Ok-take_history.found.0.entries c.take_history.new.walk.size c.in-Ok-take_history.ensures.marks
+    marks_told c.in-Ok-take_all.found.1 c.in-Ok-take_all.found.0.entries c.take_all.new.walk.size c.in-Ok-take_all.ensures.marks
 
 pub returns-clause-stands : goal.returns-clause-stands
 returns-clause-stands g c = λ told.
     let b = c.args.bank.now in
     let plan = c.args.spec.now in
     let w0 = c.in-Ok.walk in
-    let w1 = c.take_history.new.walk in
+    let w1 = c.take_all.new.walk in
     let j = c.in-Ok-finish.journal in
-    let book = c.in-Ok-take_history.found.0 in
-    let marks = c.in-Ok-take_history.found.1 in
-    let is = c.in-Ok-take_history.ensures.marks in
+    let book = c.in-Ok-take_all.found.0 in
+    let marks = c.in-Ok-take_all.found.1 in
+    let is = c.in-Ok-take_all.ensures.marks in
     subst (λ (H : List Entry). Stands b plan H (g.D.Disk.content c.args.disk)) (sym (history_is marks book.entries w1.size is))
-    (subst (Stands b plan book.entries) (c.in-Ok.ensures.untouched told) (c.in-Ok-take_history.ensures.stands (c.in-Ok.ensures.frame.tells ∙ told)))
+    (subst (Stands b plan book.entries) (c.in-Ok.ensures.untouched told) (c.in-Ok-take_all.ensures.stands (c.in-Ok.ensures.frame.tells ∙ told)))
 
 pub returns-clause-images : goal.returns-clause-images
 returns-clause-images g c = λ told file i.
     let b = c.args.bank.now in
     let plan = c.args.spec.now in
     let w0 = c.in-Ok.walk in
-    let w1 = c.take_history.new.walk in
+    let w1 = c.take_all.new.walk in
     let j = c.in-Ok-finish.journal in
-    let book = c.in-Ok-take_history.found.0 in
-    let marks = c.in-Ok-take_history.found.1 in
-    let is = c.in-Ok-take_history.ensures.marks in
+    let book = c.in-Ok-take_all.found.0 in
+    let marks = c.in-Ok-take_all.found.1 in
+    let is = c.in-Ok-take_all.ensures.marks in
     let told0 = c.in-Ok.ensures.frame.tells ∙ told in
     subst (λ (H : List Entry). Stands b plan H file) (sym (history_is marks book.entries w1.size is))
-    (stands_too b plan book.entries (g.D.Disk.content w0.disk) file (c.in-Ok-take_history.ensures.stands told0)
-    (c.in-Ok-finish.ensures.images (c.take_history.ensures.frame.tells ∙ told0) file i ∙ ap (payloads shadowj1) (c.take_history.ensures.content told0)))
+    (stands_too b plan book.entries (g.D.Disk.content w0.disk) file (c.in-Ok-take_all.ensures.stands told0)
+    (c.in-Ok-finish.ensures.images (c.take_all.ensures.frame.tells ∙ told0) file i ∙ ap (payloads shadowj1) (c.take_all.ensures.content told0)))
 
 pub returns-clause-settled : goal.returns-clause-settled
 returns-clause-settled g c = λ told settled.
     let b = c.args.bank.now in
     let plan = c.args.spec.now in
     let w0 = c.in-Ok.walk in
-    let w1 = c.take_history.new.walk in
+    let w1 = c.take_all.new.walk in
     let j = c.in-Ok-finish.journal in
-    let book = c.in-Ok-take_history.found.0 in
-    let marks = c.in-Ok-take_history.found.1 in
-    let is = c.in-Ok-take_history.ensures.marks in
+    let book = c.in-Ok-take_all.found.0 in
+    let marks = c.in-Ok-take_all.found.1 in
+    let is = c.in-Ok-take_all.ensures.marks in
     let told0 = c.in-Ok.ensures.frame.tells ∙ told in
     let c0 = g.D.Disk.content c.args.disk in
     let a0 = g.D.Disk.accounts c.args.disk in
-    let same = c.take_history.ensures.content told0 ∙ c.in-Ok.ensures.untouched told in
-    let reading = subst (λ (a : List Account). AtEachMoment a0 a (λ file. file ≡ c0)) (sym (c.take_history.ensures.accounts told0)) (c.in-Ok.ensures.settled told settled) in
-    let here : Stands b plan book.entries c0 = subst (Stands b plan book.entries) (c.in-Ok.ensures.untouched told) (c.in-Ok-take_history.ensures.stands told0) in
+    let same = c.take_all.ensures.content told0 ∙ c.in-Ok.ensures.untouched told in
+    let reading = subst (λ (a : List Account). AtEachMoment a0 a (λ file. file ≡ c0)) (sym (c.take_all.ensures.accounts told0)) (c.in-Ok.ensures.settled told settled) in
+    let here : Stands b plan book.entries c0 = subst (Stands b plan book.entries) (c.in-Ok.ensures.untouched told) (c.in-Ok-take_all.ensures.stands told0) in
     subst (λ (H : List Entry). AtEachMoment a0 (accounts_of j) (Stands b plan H)) (sym (history_is marks book.entries w1.size is))
-    (stands_while_opened b plan book.entries c0 (g.D.Disk.content w1.disk) a0 (g.D.Disk.accounts w1.disk) (accounts_of j) here reading same (c.in-Ok-finish.ensures.moments (c.take_history.ensures.frame.tells ∙ told0)))
+    (stands_while_opened b plan book.entries c0 (g.D.Disk.content w1.disk) a0 (g.D.Disk.accounts w1.disk) (accounts_of j) here reading same (c.in-Ok-finish.ensures.moments (c.take_all.ensures.frame.tells ∙ told0)))
 
 pub returns-clause-legal : goal.returns-clause-legal
 returns-clause-legal g c =
     let b = c.args.bank.now in
     let plan = c.args.spec.now in
     let w0 = c.in-Ok.walk in
-    let w1 = c.take_history.new.walk in
+    let w1 = c.take_all.new.walk in
     let j = c.in-Ok-finish.journal in
-    let book = c.in-Ok-take_history.found.0 in
-    let marks = c.in-Ok-take_history.found.1 in
-    let is = c.in-Ok-take_history.ensures.marks in
-    let taken = c.in-Ok-take_history.ensures.taken in
+    let book = c.in-Ok-take_all.found.0 in
+    let marks = c.in-Ok-take_all.found.1 in
+    let is = c.in-Ok-take_all.ensures.marks in
+    let taken = c.in-Ok-take_all.ensures.taken.taken in
     subst (λ (H : List Entry). LegalRun b plan H) (taken.are.entries ∙ sym (history_is marks book.entries w1.size is)) (backed_is_legal_run b plan taken.records taken.are.backed)
 
 -- the file was within the limit

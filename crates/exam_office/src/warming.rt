@@ -1,0 +1,50 @@
+//! The vector that the search for a session's next form may begin with.
+
+ghost use Rattle.std.specs.Prelude.{◌≡◌, None, IfOk, IfErr, IfSome};
+ghost use Rattle.history_model.specs.declared.refusal.Refusal.TheVariants.{Memory as OutOfMemory};
+ghost use Rattle.history_model.specs.declared.request.Request.TheVariants.{Look};
+ghost use Rattle.history_model.specs.Refusals.{refusal_of};
+ghost use Rattle.exam_office.specs.Marks.{history};
+ghost use Rattle.exam_office.specs.Warm.{FitsPlan, IsWarm, IsColdBy};
+
+use crate::office::Office;
+use exam_edge::Disk;
+use history_model::Refusal;
+use proof_tree::Vector;
+use std::alloc::Global;
+
+impl<'a, D: Disk> Office<'a, D> {
+    /// The vector that the search for a session's next form may begin with: a copy of the first
+    /// vector of the tree in the session's last record that serves an item. None where there is no
+    /// such record, its tree has no vector, or the vector names a side that is neither of the plan
+    /// nor of the cap. A session that isn't started is refused, and else only memory may be
+    /// wanting.
+    pub fn warm(&self, alloc: Global, session: u32) -> Result<Option<Vector>, Refusal>
+        ensures started { IfOk result (λ found. refusal_of self.now.bank self.now.plan
+            (history self.now.marks) (Look session) ≡ None) }
+        ensures warm { IfOk result (IsWarm self.now session) }
+        // Each side is one of the plan's, or of the cap.
+        ensures sides { IfOk result
+            (λ found. IfSome found (FitsPlan self.now.bank self.now.plan)) }
+        ensures refused { IfErr result (IsColdBy self.now session) }
+    {
+        match self.book.place(session) {
+            Some(_) => {}
+            None => return Err(Refusal::NoSession(self.book.sessions())),
+        }
+        match self.vectors.copy(alloc, session) {
+            Ok(vector) => Ok(vector),
+            Err(_) => Err(Refusal::Memory),
+        }
+    }
+
+    /// The same; none where memory is wanting.
+    pub(crate) fn warm_or_none(&self, alloc: Global, session: u32) -> Option<Vector>
+        ensures { IfSome result (FitsPlan self.now.bank self.now.plan) }
+    {
+        match self.warm(alloc, session) {
+            Ok(vector) => vector,
+            Err(_) => None,
+        }
+    }
+}
