@@ -1,5 +1,6 @@
 -- From the turns of a request to what its reply tells.
-use Rattle.std.proofs.Common.{◌≡◌, ℕ, ◌||◌, Bool, true, false, List, [], ◌∷◌, ◌++◌, length, refl, sym, ap, ◌∙◌, subst, inl, inr, ⊎_elim, arith, Ok, Err}
+use Rattle.std.proofs.Common.{◌≡◌, ℕ, ◌||◌, Bool, true, false, List, [], ◌∷◌, ◌++◌, length, refl, sym, ap, ◌∙◌, subst, inl, inr, ⊎_elim, arith, Option, Ok, Err}
+use Rattle.exam_model.specs.Relaxed.{Multipliers}
 use Rattle.std.specs.List.{list_any}
 use Rattle.std.proofs.lemmas.List.{append-nil}
 use Rattle.std.proofs.lemmas.List.Elements.{Contains-append_left}
@@ -157,7 +158,7 @@ module _ (h : HallKnown) (old new : Known Mark) (q : Request) where
       b.begins.0)
 
 -- ---- a request whose session waited for an item
-module _ (h : HallKnown) (old mid new : Known Mark) (q : Request) (fresh : Bool) (P : Problem) (b : HasBegun h old mid q (Waits fresh P)) where
+module _ (h : HallKnown) (old mid new : Known Mark) (q : Request) (fresh : Bool) (P : Problem) (warm : Option Multipliers) (b : HasBegun h old mid q (Waits fresh P warm)) where
   abbrev led : IsLed h.plan q mid.seen (taken mid.seen b.places) P.session (Pending P.step) fresh
   led = b.begins.0
 

@@ -1,5 +1,7 @@
 -- From what a call does to an office to what a turn does to its history.
-use Rattle.std.proofs.Common.{◌≡◌, ℕ, Bool, List, ◌++◌, refl, sym, ap, ◌∙◌, subst, arith, Some}
+use Rattle.std.proofs.Common.{◌≡◌, ℕ, Bool, List, ◌++◌, refl, sym, ap, ◌∙◌, subst, arith, Option, Some, IfSome}
+use Rattle.exam_model.specs.Relaxed.{Multipliers}
+use Rattle.exam_office.specs.Warm.{FitsPlan}
 use Rattle.std.proofs.lemmas.List.{map-append}
 use Rattle.bank_tables.specs.Tables.{Tables}
 use Rattle.exam_model.specs.Plan.{Plan}
@@ -78,14 +80,15 @@ same_at p r e = cc
 
 begun_so : (b : Tables) (plan : Plan) (q : Request) (S T : List Mark) (begun : Begun) (answer : Reply) → Leads b plan q S T answer → IsBegunAt b plan (history S) answer begun → IsBegun b plan q S T begun
 begun_so b plan q S T (Done same) answer leads h = (subst (λ r. Leads b plan q S T r) (sym h.0) leads, subst IsNoWait (sym h.0) h.1)
-begun_so b plan q S T (Waits started P) (reply.At session at fresh) leads h =
+begun_so b plan q S T (Waits started P warm) (reply.At session at fresh) leads h =
     let stands : place plan (history S) P.session ≡ Some at = subst (λ s. place plan (history S) s ≡ Some at) (sym h.0) leads.is_at.stands in
     let waits : at ≡ Pending P.step = same_at at (Pending P.step) (sym stands ∙ h.2.is_problem.pending) in (
       subst (λ x. IsLed plan q S T P.session x started) waits (subst (λ f. IsLed plan q S T P.session at f) (sym h.1) (subst (λ s. IsLed plan q S T s at fresh) (sym h.0) leads)),
       h.2,
+      h.3,
     )
-begun_so b plan q S T (Waits started P) (reply.Exposure exposure) leads h = absurd h
-begun_so b plan q S T (Waits started P) (reply.Refused r) leads h = absurd h
+begun_so b plan q S T (Waits started P warm) (reply.Exposure exposure) leads h = absurd h
+begun_so b plan q S T (Waits started P warm) (reply.Refused r) leads h = absurd h
 
 pub first_made : {D : Type 0} (old new : Running D) (q : Request) (answer : Reply) (begun : Begun) → Led q old new answer → LegalRun new.bank new.plan (history new.marks)
     → IsBegunAt new.bank new.plan (history new.marks) answer begun → BeginsRequest q (noted (opened_with old) old.marks) (noted (opened_with new) new.marks) begun
@@ -118,11 +121,12 @@ placed_reply old new q (reply.Exposure exposure) led = tt
 placed_reply old new q (reply.Refused r) led = tt
 
 pub waits_at : (b : Tables) (plan : Plan) (H : List Entry) (answer : Reply) (session : ℕ) (at : Place) (fresh : Bool) (P : Problem) → answer ≡ reply.At session at fresh
-    → IsProblemOf b plan H session P.step (problem_of P) → IsWellMade (problem_of P) → IsBegunAt b plan H answer (Waits fresh P)
-waits_at b plan H answer session at fresh P is asked made =
+    → IsProblemOf b plan H session P.step (problem_of P) → IsWellMade (problem_of P)
+    → (warm : Option Multipliers) → IfSome warm (FitsPlan b plan) → IsBegunAt b plan H answer (Waits fresh P warm)
+waits_at b plan H answer session at fresh P is asked made warm fit =
     let same : P.session ≡ session = ap (λ (R : Model). R.session) asked.of_seat.is in
-    subst (λ r. IsBegunAt b plan H r (Waits fresh P)) (sym is)
-    (same, refl, record { is_problem = subst (λ s. IsProblemOf b plan H s P.step (problem_of P)) (sym same) asked; well_made = made })
+    subst (λ r. IsBegunAt b plan H r (Waits fresh P warm)) (sym is)
+    (same, refl, record { is_problem = subst (λ s. IsProblemOf b plan H s P.step (problem_of P)) (sym same) asked; well_made = made }, fit)
 
 pub done_at : (b : Tables) (plan : Plan) (H : List Entry) (answer : Reply) (session : ℕ) (at : Place) (fresh : Bool) → answer ≡ reply.At session at fresh → IsPlacedReply plan H answer
     → ((step : ℕ) → place plan H session ≡ Some (Pending step) → ⊥) → IsBegunAt b plan H answer (Done (reply.At session at fresh))

@@ -1,5 +1,6 @@
 -- What the first turn of a request does.
-use Rattle.std.specs.Prelude.{◌≡◌, ◌⊎◌, ⊤, ℕ, Bool, List, ◌++◌}
+use Rattle.std.specs.Prelude.{◌≡◌, ◌⊎◌, ⊤, ℕ, Bool, List, ◌++◌, IfSome}
+use Rattle.exam_office.specs.Warm.{FitsPlan}
 use Rattle.bank_tables.specs.Tables.{Tables}
 use Rattle.exam_model.specs.Plan.{Plan}
 use Rattle.exam_model.specs.Validity.{IsWellMade}
@@ -49,10 +50,11 @@ abbrev pub IsNoWait : Reply → Type 0
 IsNoWait (reply.At session at fresh) = (step : ℕ) → at ≡ Pending step → ⊥
 IsNoWait answer = ⊤
 
--- the request is done, or its session waits for an item, with this problem
+-- the request is done, or its session waits for an item, with this problem; a search of it may begin with the vector
 abbrev pub IsBegun : Tables → Plan → Request → List Mark → List Mark → Begun → Type 0
 IsBegun b plan q S T (Done answer) = Leads b plan q S T answer × IsNoWait answer
-IsBegun b plan q S T (Waits fresh P) = IsLed plan q S T P.session (Pending P.step) fresh × IsAsked b plan (history S) P
+IsBegun b plan q S T (Waits fresh P warm) = IsLed plan q S T P.session (Pending P.step) fresh × IsAsked b plan (history S) P
+    × IfSome warm (FitsPlan b plan)
 
 -- a turn on one office adds marks to it; its history is a legal run afterwards
 pub record GoesOn (before after : List NotedMark) (makes : OpenedWith → List Mark → List Mark → Type 0) : Type 0 where

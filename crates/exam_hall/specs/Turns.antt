@@ -1,5 +1,6 @@
 -- What a call of the office does, as a part of a turn.
-use Rattle.std.specs.Prelude.{◌≡◌, ⊤, ℕ, ◌≤◌, List, [], ◌∷◌, ◌++◌, length, Some}
+use Rattle.std.specs.Prelude.{◌≡◌, ⊤, ℕ, ◌≤◌, List, [], ◌∷◌, ◌++◌, length, Some, IfSome}
+use Rattle.exam_office.specs.Warm.{FitsPlan}
 use Rattle.bank_tables.specs.Tables.{Tables}
 use Rattle.exam_model.specs.Plan.{Plan}
 use Rattle.exam_edge.specs.Lent.{IsLent}
@@ -45,11 +46,12 @@ abbrev pub IsPlacedReply : Plan → List Entry → Reply → Type 0
 IsPlacedReply plan H (reply.At session at fresh) = place plan H session ≡ Some at
 IsPlacedReply plan H answer = ⊤
 
--- the problem of the session of the reply, where it waits for an item
+-- the problem of the session of the reply, where it waits for an item, and a vector for its search
 abbrev pub IsBegunAt : Tables → Plan → List Entry → Reply → Begun → Type 0
 IsBegunAt b plan H answer (Done same) = (same ≡ answer) × IsNoWait answer
-IsBegunAt b plan H (reply.At session at fresh) (Waits started P) = (P.session ≡ session) × (started ≡ fresh) × IsAsked b plan H P
-IsBegunAt b plan H answer (Waits started P) = ⊥
+IsBegunAt b plan H (reply.At session at fresh) (Waits started P warm) = (P.session ≡ session) × (started ≡ fresh) × IsAsked b plan H P
+    × IfSome warm (FitsPlan b plan)
+IsBegunAt b plan H answer (Waits started P warm) = ⊥
 
 -- where a session is after a commit for the problem P: at this place, or it still waits for the item of that step
 abbrev pub IsRoundAt : Tables → Plan → List Entry → Problem → Place → Round → Type 0

@@ -1,15 +1,17 @@
 //! The first turn of a request.
 
-ghost use Rattle.std.specs.Prelude.{◌≡◌, false};
+ghost use Rattle.std.specs.Prelude.{◌≡◌, false, IfSome};
 ghost use Rattle.history_model.specs.declared.request.Request.TheVariants.{Begin, Answer, Close, Look, Exposure};
 ghost use Rattle.exam_hall.specs.Leading.{BeginsRequest};
 ghost use Rattle.exam_hall.specs.Turns.{IsBegunAt, IsPlacedReply, Led};
 ghost use Rattle.exam_office.specs.Asking.{reply_of};
 ghost use Rattle.exam_office.specs.Marks.{history};
+ghost use Rattle.exam_office.specs.Warm.{FitsPlan};
 
 use constraint_model::Problem;
 use exam_edge::Disk;
 use exam_office::{Office, Place, Refusal, Reply, Request};
+use proof_tree::Vector;
 use std::alloc::Global;
 use turn_lock::Move as TurnMove;
 
@@ -18,8 +20,13 @@ use turn_lock::Move as TurnMove;
 pub enum Begun<'a> {
     /// The request is done, with this reply.
     Done(Reply),
-    /// Its session waits for an item, with this problem; and whether the request started the session.
-    Waits { fresh: bool, problem: Problem<'a> },
+    /// Its session waits for an item, with this problem; whether the request started the session;
+    /// and the vector that the search may begin with.
+    Waits {
+        fresh: bool,
+        problem: Problem<'a>,
+        warm: Option<Vector>,
+    },
 }
 
 /// Asks an office for the first entry of a request, and for the problem of its session.
@@ -115,8 +122,19 @@ fn lead<'a, D: Disk>(office: &mut Office<'a, D>, alloc: Global, request: &Reques
     }
 }
 
-/// The problem of the session of a reply, where it waits for an item.
-fn begun_by<'a, D: Disk>(office: &Office<'a, D>, reply: Reply) -> Begun<'a>
+/// The vector that the search for a session's next form may begin with; none where memory is
+/// wanting.
+fn vector_for<'a, D: Disk>(office: &Office<'a, D>, alloc: Global, session: u32) -> Option<Vector>
+    ensures { IfSome result (FitsPlan office.now.bank office.now.plan) }
+{
+    match office.warm(alloc, session) {
+        Ok(vector) => vector,
+        Err(_) => None,
+    }
+}
+
+/// The problem of the session of a reply, where it waits for an item, and the vector of the session.
+fn begun_by<'a, D: Disk>(office: &Office<'a, D>, alloc: Global, reply: Reply) -> Begun<'a>
     requires { IsPlacedReply office.now.plan (history office.now.marks) reply }
     ensures { IsBegunAt office.now.bank office.now.plan
         (history office.now.marks) reply result }
@@ -127,7 +145,14 @@ fn begun_by<'a, D: Disk>(office: &Office<'a, D>, reply: Reply) -> Begun<'a>
             place,
             fresh,
         } => match office.problem(session) {
-            Some(problem) => Begun::Waits { fresh, problem },
+            Some(problem) => {
+                let warm = vector_for(office, alloc, session);
+                Begun::Waits {
+                    fresh,
+                    problem,
+                    warm,
+                }
+            }
             None => Begun::Done(Reply::At {
                 session,
                 place,
@@ -148,7 +173,7 @@ impl<'a, D: Disk> TurnMove<Office<'a, D>> for First {
     fn make(&mut self, value: &mut Office<'a, D>) -> Begun<'a> {
         let reply = lead(value, self.alloc, &self.request);
         value.keeps();
-        begun_by(value, reply)
+        begun_by(value, self.alloc, reply)
     }
 
     ghost lasts = { λ _ _ _ h. h };

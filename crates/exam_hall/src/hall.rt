@@ -1,7 +1,9 @@
 //! The hall.
 
-ghost use Rattle.std.specs.Prelude.{◌≡◌, ◌<◌, ◌+◌, List, IfOk, IfErr};
+ghost use Rattle.std.specs.Prelude.{◌≡◌, ◌<◌, ◌+◌, List, IfOk, IfErr, IfSome};
+ghost use Rattle.std.specs.Option.{option_copied};
 ghost use Rattle.exam_model.specs.Validity.{IsWellMade};
+ghost use Rattle.exam_model.specs.Verdicts.{NamesOnlySides};
 ghost use Rattle.constraint_model.specs.Views.{problem_of};
 ghost use Rattle.turn_lock.specs.Histories.{StartsWith};
 ghost use Rattle.turn_lock.specs.Passes.{TakesIn, new_pass};
@@ -13,6 +15,7 @@ ghost use Rattle.exam_office.specs.Handling.{IsReply};
 ghost use Rattle.exam_office.specs.Marks.{history};
 ghost use Rattle.exam_office.specs.Noting.{noted, marks_of, opened_with};
 ghost use Rattle.exam_office.specs.Serving.{IsAssembledFor};
+ghost use Rattle.exam_office.specs.Warm.{FitsPlan};
 ghost use Rattle.exam_hall.specs.Leading.{IsAsked};
 ghost use Rattle.exam_hall.specs.Known.{IsOf, IsOfficeOf, marked};
 ghost use Rattle.exam_hall.specs.Rounds.{IsGoodFor, Rounds, Assembles};
@@ -22,10 +25,11 @@ ghost use Rattle.exam_hall.specs.Turns.{HasBegun};
 use crate::asking::{Begun, First};
 use crate::committing::{Commit, Round};
 use bank_tables::{Bank, ItemSet};
-use branch_bound::{Assembled, assemble};
+use branch_bound::{Assembled, assemble_from};
 use constraint_model::{Problem, Spec};
 use exam_edge::{Disk, Gate, Memory, Point};
 use exam_office::{Office, Place, Refusal, Reply, Request};
+use proof_tree::Vector;
 use std::alloc::Global;
 use std::marker::Model;
 use std::sync::Wait;
@@ -147,9 +151,13 @@ impl<'a, D: Disk> Hall<'a, D> {
     {
         match self.begin(rt, alloc, pass, request) {
             Begun::Done(reply) => reply,
-            Begun::Waits { fresh, problem } => {
+            Begun::Waits {
+                fresh,
+                problem,
+                warm,
+            } => {
                 let session = problem.session;
-                match self.assemble_twice(rt, alloc, gate, pass, &problem) {
+                match self.assemble_twice(rt, alloc, gate, pass, &problem, warm.as_ref()) {
                     Ok(place) => Reply::At {
                         session,
                         place,
@@ -188,8 +196,10 @@ impl<'a, D: Disk> Hall<'a, D> {
         gate: &G,
         pass: &mut Pass<Office<'a, D>>,
         problem: &Problem<'a>,
+        warm: Option<&Vector>,
     ) -> Result<Place, Refusal>
         requires of { IsOf pass.old self.now }
+        requires fits { IfSome (option_copied warm) (FitsPlan self.now.bank self.now.plan) }
         requires asked { IsAsked self.now.bank self.now.plan (history (marks_of pass.old.seen))
             problem.now }
         requires legal { LegalRun self.now.bank self.now.plan (history (marks_of pass.old.seen)) }
@@ -197,10 +207,10 @@ impl<'a, D: Disk> Hall<'a, D> {
         ensures assembles { Assembles self.now problem.now.session (marked pass.old)
             (marked pass.new) result }
     {
-        match self.serve_once(rt, alloc, gate, pass, problem) {
+        match self.serve_once(rt, alloc, gate, pass, problem, warm) {
             Round::Placed(place) => Ok(place),
             Round::Failed(refusal) => Err(refusal),
-            Round::Again(next) => match self.serve_once(rt, alloc, gate, pass, &next) {
+            Round::Again(next) => match self.serve_once(rt, alloc, gate, pass, &next, warm) {
                 Round::Placed(place) => Ok(place),
                 Round::Failed(refusal) => Err(refusal),
                 Round::Again(_) => unreachable!(),
@@ -216,8 +226,10 @@ impl<'a, D: Disk> Hall<'a, D> {
         gate: &G,
         pass: &mut Pass<Office<'a, D>>,
         problem: &Problem<'a>,
+        warm: Option<&Vector>,
     ) -> Round<'a>
         requires of { IsOf pass.old self.now }
+        requires fits { IfSome (option_copied warm) (FitsPlan self.now.bank self.now.plan) }
         requires asked { IsAsked self.now.bank self.now.plan (history (marks_of pass.old.seen))
             problem.now }
         requires legal { LegalRun self.now.bank self.now.plan (history (marks_of pass.old.seen)) }
@@ -225,16 +237,22 @@ impl<'a, D: Disk> Hall<'a, D> {
         ensures rounds { Rounds self.now problem.now (marked pass.old) (marked pass.new) result }
     {
         gate.pass(Point::BeforeAssembly, pass.number());
-        let Ok(assembled) = self.assembled(alloc, problem) else {
+        let Ok(assembled) = self.assembled(alloc, problem, warm) else {
             return Round::Failed(Refusal::Memory);
         };
         gate.pass(Point::AfterAssembly, pass.number());
         self.commit(rt, alloc, pass, assembled)
     }
 
-    /// What is assembled for a problem, with the base as the hint.
-    fn assembled(&self, alloc: Global, problem: &Problem<'a>) -> Result<Assembled<'a>, Memory>
-        requires { IsWellMade (problem_of problem.now) }
+    /// What is assembled for a problem, with the base as the hint, from a vector or from none.
+    fn assembled(
+        &self,
+        alloc: Global,
+        problem: &Problem<'a>,
+        warm: Option<&Vector>,
+    ) -> Result<Assembled<'a>, Memory>
+        requires well_made { IsWellMade (problem_of problem.now) }
+        requires sides { IfSome (option_copied warm) (NamesOnlySides (problem_of problem.now)) }
         ensures problem { IfOk result (λ a. a.problem ≡ problem.now) }
         ensures assembled { IfOk result (λ a. (H : List Entry) → LegalRun self.now.bank self.now.plan H
             → IsProblemOf self.now.bank self.now.plan H problem.now.session problem.now.step
@@ -242,11 +260,12 @@ impl<'a, D: Disk> Hall<'a, D> {
             → IsAssembledFor self.now.bank self.now.plan self.now.base H problem.now.session a) }
     {
         let base = self.base;
-        assemble(
+        assemble_from(
             alloc,
             problem.again(),
             Some(&base),
             problem.spec.budget() as u16,
+            warm,
         )
     }
 

@@ -25,3 +25,4 @@ pub mod CompletenessLaws
 pub mod VectorLaws
 pub mod KeepingVectors
 pub mod Warmed
+mod WarmOfA

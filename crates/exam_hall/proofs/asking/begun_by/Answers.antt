@@ -6,7 +6,7 @@ pub returns-in-Some : goal.returns-in-Some
 returns-in-Some g c =
     let now = c.args.office.now in
     let e = c.in-Some.ensures in
-    waits_at now.bank now.plan (history now.marks) c.args.reply c.in-At.session c.in-At.place c.in-At.fresh c.in-Some.problem c.in-At.is e.problem e.well_made
+    waits_at now.bank now.plan (history now.marks) c.args.reply c.in-At.session c.in-At.place c.in-At.fresh c.in-Some.problem c.in-At.is e.problem e.well_made c.vector_for-warm.result c.vector_for-warm.ensures
 
 pub returns-in-None : goal.returns-in-None
 returns-in-None g c =

@@ -13,9 +13,9 @@ pub returns-clause-assembled : goal.returns-clause-assembled
 returns-clause-assembled g c =
     let o = c.self.inside in
     let p = c.args.problem.now in
-    let e = c.assemble.ensures in
+    let e = c.assemble_from.ensures in
     let h : HallKnown = record { lock = o.turn; bank = o.bank.now; plan = o.spec.now; base = o.base } in
     subst
-    (λ (x : HallKnown). IfOk c.assemble.result (λ (a : Assembly). (H : List Entry) → LegalRun x.bank x.plan H → IsProblemOf x.bank x.plan H p.session p.step (problem_of p) → IsAssembledFor x.bank x.plan x.base H p.session a))
+    (λ (x : HallKnown). IfOk c.assemble_from.result (λ (a : Assembly). (H : List Entry) → LegalRun x.bank x.plan H → IsProblemOf x.bank x.plan H p.session p.step (problem_of p) → IsAssembledFor x.bank x.plan x.base H p.session a))
     c.self.view_is
-    (assembled_result h c.self.invariant p c.again.result c.again.ensures c.budget.result c.budget.ensures c.assemble.result e.problem e.budget e.assembly)
+    (assembled_result h c.self.invariant p c.again.result c.again.ensures c.budget.result c.budget.ensures c.assemble_from.result e.problem e.budget e.assembly)

@@ -1,3 +1,6 @@
+use Rattle.std.proofs.Common.{Option, IfSome, sym, subst}
+use Rattle.exam_model.specs.Relaxed.{Multipliers}
+use Rattle.exam_office.specs.Warm.{FitsPlan}
 use Rattle.exam_hall.specs.Known.{marked}
 use Rattle.exam_hall.proofs.Seen.{sees_done, sees_served, sees_failed}
 use Rattle.exam_hall.proofs.hall.Hall.handle.Goals as goal
@@ -7,8 +10,13 @@ returns-in-Done-clause-sees g c = sees_done c.args.self.now (marked c.args.pass.
 
 pub returns-in-Ok-clause-sees : goal.returns-in-Ok-clause-sees
 returns-in-Ok-clause-sees g c =
-    sees_served c.args.self.now (marked c.args.pass.now) (marked c.begin.new.pass) (marked c.assemble_twice.new.pass) c.args.request.now c.in-Waits.fresh c.in-Waits.problem c.in-Waits.ensures.begun c.in-Ok.place c.in-Ok.ensures.assembles
+    sees_served c.args.self.now (marked c.args.pass.now) (marked c.begin.new.pass) (marked c.assemble_twice.new.pass) c.args.request.now c.in-Waits.fresh c.in-Waits.problem c.in-Waits.warm c.in-Waits.ensures.begun c.in-Ok.place c.in-Ok.ensures.assembles
 
-pub returns-in-Err-clause-sees : goal.returns-in-Err-clause-sees
-returns-in-Err-clause-sees g c =
-    sees_failed c.args.self.now (marked c.args.pass.now) (marked c.begin.new.pass) (marked c.assemble_twice.new.pass) c.args.request.now c.in-Waits.fresh c.in-Waits.problem c.in-Waits.ensures.begun c.in-Err.refusal c.in-Err.ensures.assembles
+pub returns-clause-sees : goal.returns-clause-sees
+returns-clause-sees g c =
+    sees_failed c.args.self.now (marked c.args.pass.now) (marked c.begin.new.pass) (marked c.assemble_twice.new.pass) c.args.request.now c.in-Waits.fresh c.in-Waits.problem c.in-Waits.warm c.in-Waits.ensures.begun c.in-Err.refusal c.in-Err.ensures.assembles
+
+-- the vector of the first turn fits the problem of it
+pub assemble_twice-requires-clause-fits : goal.assemble_twice-requires-clause-fits
+assemble_twice-requires-clause-fits g c =
+    subst (λ (warm : Option Multipliers). IfSome warm (FitsPlan c.args.self.now.bank c.args.self.now.plan)) (sym c.as_ref.ensures.value) c.in-Waits.ensures.begun.begins.2
