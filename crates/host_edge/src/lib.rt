@@ -12,8 +12,6 @@ mod host_files;
 mod host_link;
 mod host_sink;
 mod threads;
-#[cfg(test)]
-mod trials;
 
 pub use host_disk::HostDisk;
 pub use host_door::HostDoor;

@@ -1,10 +1,26 @@
-//! The work of a server on bank A: no doors, two doors in memory with one connection each, also behind a gate that both
-//! connections must reach, and a door of the host with one client. It serves trials of `exam_serve` alone.
+//! Tests on bank A above the office. Requests: on an office of one thread, on a hall with one caller, and on a hall with two
+//! callers at once. The work of a server: no doors, two doors in memory with one connection each, also behind a gate that both
+//! connections must reach, and a door of the host with one client. The workers on two doors in memory. The objects of
+//! `host_edge` on files of a temporary folder and on a socket. It promises nothing upward and holds no code of the product.
 #![tactic(auto)]
 
+#[cfg(test)]
+mod alone;
+#[cfg(test)]
+mod answers;
+#[cfg(test)]
+mod hall_requests;
+#[cfg(test)]
+mod halls;
+#[cfg(test)]
+mod held;
+#[cfg(test)]
+mod host;
 #[cfg(test)]
 mod meeting;
 #[cfg(test)]
 mod rows;
 #[cfg(test)]
 mod work;
+#[cfg(test)]
+mod workers;

@@ -1,6 +1,6 @@
 // The host's objects on files of a temporary folder and on a socket of the loopback address.
-use crate::{HostDisk, HostDoor, HostFiles, HostSink};
 use exam_edge::{Disk, Door, Files, Link, Sink};
+use host_edge::{HostDisk, HostDoor, HostFiles, HostSink};
 use std::io::{ErrorKind, Read, Write};
 use std::net::{Net, TcpListener, TcpStream};
 use std::test::Fail;

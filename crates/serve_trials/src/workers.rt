@@ -1,5 +1,4 @@
-//! The workers on two doors in memory, one of which fails at its second call. It serves trials of `exam_workers` alone.
-#![tactic(auto)]
+//! The workers on two doors in memory, one of which fails at its second call.
 
 ghost use Rattle.std.specs.Prelude.{IfSome, false, ◌≡◌, ◌+◌, ◌^◌, ◌%◌};
 ghost use Rattle.exam_edge.specs.MemoryDoor.{out_of};
@@ -11,7 +10,7 @@ use std::sync::Wait;
 use std::test::Fail;
 
 /// A service that counts its links.
-pub struct Count;
+struct Count;
 
 impl<K: Link> Service<K> for Count {
     type Token = u64;
