@@ -60,9 +60,12 @@ fn file_to_write(rt: &HostRuntime, path: &str) -> io::Result<File> {
     Ok(file)
 }
 
-// Opens and locks the file of this path to be read.
+// Opens and locks the file of this path to be read. The host opens a folder so too: it is refused.
 fn file_to_read(rt: &HostRuntime, path: &str) -> io::Result<File> {
     let file = File::open(rt, path)?;
+    if file.metadata()?.is_dir() {
+        return Err(io::Error::new(ErrorKind::IsADirectory, "it is a folder"));
+    }
     lock(&file)?;
     Ok(file)
 }
@@ -105,8 +108,8 @@ impl HostDisk {
         }
     }
 
-    /// The file of this path, to be read alone. Each call fails if there is none, and so does each
-    /// write or cut; no call has failed yet.
+    /// The file of this path, to be read alone. Each call fails if there is none, or a folder in its
+    /// place, and so does each write or cut; no call has failed yet.
     pub fn to_read(rt: HostRuntime, path: String) -> HostDisk
         ensures count { count_of (faults_of result) ≡ 0 }
         ensures cause { cause_of (faults_of result) ≡ None }

@@ -85,6 +85,21 @@ fn a_file_to_read_is_neither_made_nor_changed(rt: HostRuntime) -> Result<(), Fai
 }
 
 #[test]
+fn a_folder_is_no_file_to_read(rt: HostRuntime) -> Result<(), Fail> {
+    let alloc = rt.alloc();
+    let temporary = env::temp_dir(&rt)?;
+    let place = temporary.as_path().as_str();
+    let mut folder = HostDisk::to_read(rt.clone()?, format!(in alloc; "{place}")?);
+    assert!(rt; folder.len().is_err() && folder.len().is_err());
+    assert!(rt;
+        folder
+            .cause()
+            .is_some_and(|e| e.kind() == ErrorKind::IsADirectory)
+    );
+    Ok(())
+}
+
+#[test]
 fn a_door_gives_its_links(rt: HostRuntime) -> Result<(), Fail> {
     let listener = TcpListener::bind(&rt, "127.0.0.1:0")?;
     let address = listener.local_addr()?;
