@@ -1,7 +1,6 @@
 -- The vectors of sessions of the worked bank without stimuli, whose plan has two rows: its sides are 0 to 3.
 use Rattle.std.proofs.Common.{◌≡◌, ℕ, true, List, [], ◌∷◌, None, Some, refl}
 use Rattle.exam_model.specs.declared.node.Node.TheVariants.{Bound}
-use Rattle.exam_model.specs.ProofTrees.{ProofTree}
 use Rattle.exam_model.specs.Relaxed.{Multipliers}
 use Rattle.exam_model.proofs.BankA.{item_a, bank_a, plan_of_rows, plan_a}
 use Rattle.history_model.specs.declared.entry.Entry.TheVariants.{Started, Served, Answered}

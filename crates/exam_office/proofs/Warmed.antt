@@ -5,6 +5,8 @@ use Rattle.std.specs.Option.{option_and_then}
 use Rattle.bank_tables.specs.Tables.{Tables}
 use Rattle.exam_model.specs.Plan.{Plan}
 use Rattle.exam_model.specs.Problem.{Problem}
+use Rattle.exam_model.specs.declared.seat.Seat.{Seat}
+use Rattle.exam_model.specs.Seats.{IsSeatProblem}
 use Rattle.exam_model.specs.ProofTrees.{ProofTree}
 use Rattle.exam_model.specs.Relaxed.{Multipliers}
 use Rattle.exam_model.specs.Verdicts.{NamesOnlySides}
@@ -41,6 +43,11 @@ fits_found b plan R s None e = tt
 fits_found b plan R s (Some v) e = fits b plan v R s (sym e)
 
 -- so a search of a problem of the bank and the plan may begin with it
-pub fits_problem : (b : Tables) (plan : Plan) (P : Problem) → P.bank ≡ b → P.plan ≡ plan → (found : Option Multipliers) → IfSome found (FitsPlan b plan) → IfSome found (NamesOnlySides P)
+fits_problem : (b : Tables) (plan : Plan) (P : Problem) → P.bank ≡ b → P.plan ≡ plan → (found : Option Multipliers) → IfSome found (FitsPlan b plan) → IfSome found (NamesOnlySides P)
 fits_problem b plan P bank plan_is None fit = tt
 fits_problem b plan P bank plan_is (Some v) fit = fit P bank plan_is
+
+-- the same by the seat of the problem
+pub fits_seat : (b : Tables) (plan : Plan) (session : ℕ) (seat : Seat) (P : Problem) → IsSeatProblem b plan session seat P → (found : Option Multipliers) → IfSome found (FitsPlan b plan) → IfSome found (NamesOnlySides P)
+fits_seat b plan session seat P of_seat found fit =
+    fits_problem b plan P (ap (λ (Q : Problem). Q.bank) of_seat.is) (ap (λ (Q : Problem). Q.plan) of_seat.is) found fit

@@ -1,9 +1,9 @@
-use Rattle.std.proofs.Common.{◌≡◌, ◌∙◌, Option, Some, IfSome, sym, ap, subst}
-use Rattle.exam_model.specs.Problem.{Problem}
+use Rattle.std.proofs.Common.{◌≡◌, ◌∙◌, Option, Some, IfSome, sym, subst}
+use Rattle.history_model.specs.Entries.{seat_of}
 use Rattle.exam_model.specs.Relaxed.{Multipliers}
 use Rattle.exam_model.specs.Verdicts.{NamesOnlySides}
 use Rattle.exam_office.specs.Warm.{FitsPlan}
-use Rattle.exam_office.proofs.Warmed.{fits_problem}
+use Rattle.exam_office.proofs.Warmed.{fits_seat}
 use Rattle.bank_tables.specs.Items.{has}
 use Rattle.constraint_model.specs.declared.problem.Problem.{Problem as Given}
 use Rattle.constraint_model.specs.Views.{problem_of}
@@ -49,4 +49,4 @@ assemble_from-requires-clause-sides g c =
     let v = c.warm_or_none-warm.result in
     let fit : IfSome v (FitsPlan b plan) = subst (λ (r : Running g.row.D.Denot). IfSome v (FitsPlan r.bank r.plan)) (sym c.self.view_is) c.warm_or_none-warm.ensures in
     subst (λ (o : Option Multipliers). IfSome o (NamesOnlySides (problem_of p))) (sym c.as_ref.ensures.value)
-    (fits_problem b plan (problem_of p) (ap (λ (P : Problem). P.bank) found.of_seat.is) (ap (λ (P : Problem). P.plan) found.of_seat.is) v fit)
+    (fits_seat b plan s (seat_of H s) (problem_of p) found.of_seat v fit)
