@@ -10,4 +10,3 @@ pub mod WalkSteps
 pub mod CheckLaws
 pub mod ShapeLaws
 pub mod SpendSteps
-pub mod Counts

@@ -5,16 +5,15 @@ ghost use Rattle.std.specs.Option.{option_map};
 ghost use Rattle.bank_tables.specs.Items.{has};
 ghost use Rattle.bank_tables.specs.Sums.{any_below};
 ghost use Rattle.bank_tables.specs.Tables.{size};
-ghost use Rattle.exam_model.specs.Forms.{Form};
 ghost use Rattle.exam_model.specs.Validity.{IsWellMade};
 ghost use Rattle.exam_model.specs.Verdicts.{only_candidate, IsAtLeast, LacksChosen, CandidateIsSettled};
 ghost use Rattle.constraint_model.specs.Views.{problem_of};
 ghost use Rattle.certificate_check.specs.Cuts.{path_of, IsStanding};
 
-use crate::activity::size_in;
-use crate::standing::{Standing, used_stimuli};
+use crate::standing::Standing;
 use bank_tables::{Bank, ItemSet};
-use constraint_model::{Problem, meets, objective};
+use constraint_model::counts::{size_in, stimuli_used};
+use constraint_model::{Problem, is_form, objective};
 
 /// Whether the set has an item of the bank.
 fn has_members(bank: &Bank, items: &ItemSet) -> bool
@@ -46,20 +45,12 @@ pub fn only_candidate(problem: &Problem, standing: &Standing) -> Option<ItemSet>
     }
 }
 
-/// Whether the set is a form.
-pub fn is_form(problem: &Problem, items: &ItemSet) -> bool
-    requires { IsWellMade (problem_of problem.now) }
-    ensures { IsTrue result ↔ Form (problem_of problem.now) (has items.now) }
-{
-    meets(problem, items).is_none()
-}
-
 /// Whether a chosen stimulus has no item in the set.
 fn lacks_chosen(problem: &Problem, standing: &Standing, items: &ItemSet) -> bool
     requires { IsStanding (problem_of problem.now) standing.now }
     ensures { IsTrue result ↔ LacksChosen (problem_of problem.now) (path_of standing.now.cut) (has items.now) }
 {
-    let used = used_stimuli(problem.bank, items);
+    let used = stimuli_used(problem.bank, items);
     for k in 0..problem.bank.stimuli() as u16 {
         if standing.chosen.has(k + 1) && !used.has(k + 1) {
             return true;

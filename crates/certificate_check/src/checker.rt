@@ -8,11 +8,10 @@ ghost use Rattle.exam_model.specs.Validity.{IsWellMade};
 ghost use Rattle.exam_model.specs.Verdicts.{verdict_of, IsFormOrNone, IsVerdict};
 ghost use Rattle.constraint_model.specs.Views.{problem_of};
 
-use crate::candidate::is_form;
 use crate::cut::root_cut;
 use crate::walk::walk;
 use bank_tables::ItemSet;
-use constraint_model::Problem;
+use constraint_model::{Problem, is_form};
 use exam_model::{Reason, Verdict};
 use proof_tree::Tree;
 

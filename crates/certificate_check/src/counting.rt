@@ -3,13 +3,12 @@
 ghost use Rattle.std.specs.Prelude.{◌≡◌, ◌<◌, ◌≤◌, length};
 ghost use Rattle.exam_model.specs.Counting.{length_impossible, row_impossible, stimulus_impossible, is_impossible};
 ghost use Rattle.exam_model.specs.Forms.{stimuli_of};
-ghost use Rattle.exam_model.specs.Plan.{row_at};
 ghost use Rattle.exam_model.specs.Validity.{IsRow, IsWellMade};
 ghost use Rattle.constraint_model.specs.Views.{problem_of};
 ghost use Rattle.certificate_check.specs.Cuts.{path_of, IsStanding};
 
-use crate::activity::{activity, items_of, lower_bound, size_in, upper_bound};
 use crate::standing::Standing;
+use constraint_model::counts::{activity, items_of, lower_bound, size_in, upper_bound};
 use constraint_model::{Problem, Row};
 
 /// Whether too many items are taken, or too few are taken or free.

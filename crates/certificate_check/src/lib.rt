@@ -1,11 +1,10 @@
 //! The separate checker of proof trees: small, and apart from every searcher. Upward it promises
 //! that its verdict is the one by definition, that `Optimal` means that no set of items is a better
 //! form, that `NoForm` means that there is no form, and that `spent` decides exactly which trees
-//! spend their node budget. It takes no memory, never searches, and shares no code with what makes
-//! the trees.
+//! spend their node budget. It takes no memory, never searches, and calls no code of what makes the
+//! trees.
 #![tactic(auto)]
 
-mod activity;
 mod branch;
 mod candidate;
 mod cap;

@@ -1,6 +1,6 @@
 //! The relaxed maximum: an upper bound on the objective of each form on a path.
 
-ghost use Rattle.std.specs.Prelude.{◌≡◌, ℕ, suc, ◌+◌, ◌*◌, ◌<◌, ◌≤◌, ◌+ℤ◌, pos, Bool, All, IsTrue, true, length, slice_index};
+ghost use Rattle.std.specs.Prelude.{◌≡◌, ℕ, suc, ◌+◌, ◌*◌, ◌<◌, ◌≤◌, ◌+ℤ◌, pos, Bool, All, IsTrue, length, slice_index};
 ghost use Rattle.std.specs.Int.{int_max};
 ghost use Rattle.bank_tables.specs.Items.{has};
 ghost use Rattle.bank_tables.specs.Sums.{total_z};
@@ -17,13 +17,13 @@ ghost use Rattle.exam_model.specs.Weights.{item_weight, stimulus_share};
 ghost use Rattle.certificate_check.specs.Caps.{has_cap, AreCapped};
 ghost use Rattle.certificate_check.specs.Weights.{item_top, stimulus_top, excess_top, gain_top, maximum_top};
 
-use crate::activity::size_in;
 use crate::cap::{capped_weights, excesses_of, has_cap};
 use crate::sides::sides_of;
 use crate::standing::Standing;
 use crate::top::{sum_of, top_of};
 use crate::weights::{item_weights, rows_constant, rows_stimulus, stimulus_weight};
 use constraint_model::Problem;
+use constraint_model::counts::size_in;
 
 /// A weight with what is added to it, if that is above 0.
 fn lifted(weight: i64, excess: i64) -> i64

@@ -2,14 +2,14 @@
 
 ghost use Rattle.std.specs.Prelude.{◌≡◌, ℕ};
 ghost use Rattle.bank_tables.specs.Items.{has};
-ghost use Rattle.exam_model.specs.Forms.{used};
 ghost use Rattle.exam_model.specs.Paths.{is_free};
 ghost use Rattle.constraint_model.specs.Views.{problem_of};
 ghost use Rattle.certificate_check.specs.Cuts.{path_of, IsStanding};
 
 use crate::cut::Cut;
-use bank_tables::{Bank, ItemSet};
+use bank_tables::ItemSet;
 use constraint_model::Problem;
+use constraint_model::counts::stimuli_used;
 
 /// A path, the items free there, those taken or free, the stimuli chosen, open, and either.
 #[derive(Clone, Copy, Debug)]
@@ -35,20 +35,6 @@ fn free_items(problem: &Problem, cut: &Cut) -> ItemSet
     free
 }
 
-/// The stimuli with an item in the set.
-pub fn used_stimuli(bank: &Bank, items: &ItemSet) -> ItemSet
-    ensures { (s : ℕ) → has result s ≡ used bank.now (has items.now) s }
-{
-    let mut found = ItemSet::empty();
-    for i in 0..bank.items() {
-        let stimulus = bank.stimulus(i);
-        if items.has(i) && stimulus > 0 {
-            found = found.with(stimulus as u16);
-        }
-    }
-    found
-}
-
 /// The items that are free on a path, those taken or free, the stimuli chosen, open, and either.
 pub fn standing_on(problem: &Problem, cut: &Cut) -> Standing
     ensures cut { result.cut ≡ cut.now }
@@ -57,8 +43,8 @@ pub fn standing_on(problem: &Problem, cut: &Cut) -> Standing
     let free = free_items(problem, cut);
     let chosen = cut
         .branched_on
-        .union(used_stimuli(problem.bank, &cut.taken));
-    let opened = used_stimuli(problem.bank, &free).minus(chosen);
+        .union(stimuli_used(problem.bank, &cut.taken));
+    let opened = stimuli_used(problem.bank, &free).minus(chosen);
     Standing {
         cut: *cut,
         free,

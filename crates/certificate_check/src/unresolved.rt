@@ -10,14 +10,13 @@ ghost use Rattle.constraint_model.specs.Views.{problem_of};
 ghost use Rattle.certificate_check.specs.Cuts.{path_of, IsStanding};
 ghost use Rattle.certificate_check.specs.Spends.{ExceedsForm, IsStartForm};
 
-use crate::candidate::is_form;
 use crate::counting::is_impossible;
 use crate::leaf::closing_value;
 use crate::node::is_open_stimulus;
 use crate::relaxed::relaxed_maximum;
 use crate::standing::Standing;
 use bank_tables::ItemSet;
-use constraint_model::Problem;
+use constraint_model::{Problem, is_form};
 use exam_model::Node;
 
 /// The start of the problem, if it is a form.

@@ -11,8 +11,8 @@ ghost use Rattle.constraint_model.specs.Views.{problem_of};
 ghost use Rattle.exam_model.specs.Ranges.{AreMultipliers, IsWithin, at};
 ghost use Rattle.certificate_check.specs.Weights.{IsAdded, weight_up_to, item_top, stimulus_top};
 
-use crate::activity::{lower_bound, upper_bound};
 use bank_tables::Bank;
+use constraint_model::counts::{lower_bound, upper_bound};
 use constraint_model::{Problem, Row};
 
 /// What an item adds to a row.

@@ -1,17 +1,16 @@
 -- Sets of items in words: no member, unknown members, first members.
 use Rattle.std.proofs.Common.{◌≡◌, ℕ, zero, suc, cond, ap, ◌+◌, ◌*◌, ◌/◌, ◌%◌, ◌<◌, ◌≤◌, ◌&&◌, not, Bool, true, false, List, length, refl, sym, ◌∙◌, arith, inl, inr}
-use Rattle.std.specs.Prelude.{IsTrue, nat_le, nat_lt, ◌==◌, MatchOption, is_some, Option, Some, None, ◌↔◌}
+use Rattle.std.specs.Prelude.{IsTrue, nat_le, MatchOption, is_some, Option, Some, None, ◌↔◌}
 use Rattle.std.proofs.lemmas.List.{get_or_past}
 use Rattle.std.proofs.lemmas.Nat.Bits.{bit_at-zero}
-use Rattle.std.proofs.lemmas.Bool.{cases_lt, lt-ltb, leb-true, le-leb, not-false, not_from_false, and_parts, and_from}
+use Rattle.std.proofs.lemmas.Bool.{cases_lt, leb-true, le-leb, not-false, not_from_false, and_parts, and_from}
 use Rattle.std.proofs.Math.Bool.{true≢false}
 use Rattle.bank_tables.specs.Items.{Set, has, IsLowest}
-use Rattle.bank_tables.specs.Sums.{any_below, count_in, size_of}
-use Rattle.bank_tables.specs.Tables.{Tables, size, stimulus}
+use Rattle.bank_tables.specs.Sums.{count_in, size_of}
+use Rattle.bank_tables.specs.Tables.{Tables, size}
 use Rattle.bank_tables.specs.Validity.{HoldsItems}
 use Rattle.bank_tables.proofs.Bits.{size_of-below}
-use Rattle.exam_model.specs.Forms.{used, items_of}
-use Rattle.exam_model.proofs.SumLaws.{either, any_intro, any_elim, count_some, count_none}
+use Rattle.exam_model.proofs.SumLaws.{either, any_intro, any_elim}
 use Rattle.constraint_model.specs.Faults.{is_empty, has_unknown}
 
 -- a number past the words is not in the set
@@ -87,17 +86,21 @@ count-same (suc n) X p both h = rw (count-same n X p both h, h n) (ap (λ (k : �
     last true b = refl
     last false b = refl
 
-pub count_of_both : (n : ℕ) (X p both : Set) → n ≤ 512 → ((i : ℕ) → X i ≡ true → i < n) → ((i : ℕ) → both i ≡ (X i && p i)) → size_of both ≡ count_in n X p
+count_of_both : (n : ℕ) (X p both : Set) → n ≤ 512 → ((i : ℕ) → X i ≡ true → i < n) → ((i : ℕ) → both i ≡ (X i && p i)) → size_of both ≡ count_in n X p
 count_of_both n X p both few below h =
     size_of-below n both few (λ i past. not_true (both i) (λ e. let lt : i < n = below i (and_parts (X i) (p i) (sym (h i) ∙ e)).0 in omega arith))
     ∙ count-same n X p both h
 
--- ---- a stimulus is used where some item has it
-used_by_count : (b : Tables) (X : Set) (s : ℕ) → used b X s ≡ (nat_lt 0 s && nat_lt 0 (items_of b s X))
-used_by_count b X s = ap (λ (found : Bool). nat_lt 0 s && found) (elim (either (any_below (size b) (λ i. X i && stimulus b i == s))) [
-  | inl some ↦ some ∙ sym (lt-ltb 0 (items_of b s X) (count_some (size b) X (λ i. stimulus b i == s) some))
-  | inr none ↦ none ∙ sym (ap (λ (n : ℕ). nat_lt 0 n) (count_none (size b) X (λ i. stimulus b i == s) none))
-])
+both_ways : (n : ℕ) (X Y : Set) → count_in n X Y ≡ count_in n Y X
+both_ways zero X Y = refl
+both_ways (suc n) X Y = omega (arith, both_ways n X Y, one (X n) (Y n))
+  where
+    one : (x y : Bool) → ◌≡◌ {A = ℕ} (cond x (cond y 1 0) 0) (cond y (cond x 1 0) 0)
+    one true true = refl
+    one true false = refl
+    one false true = refl
+    one false false = refl
 
-pub used_where_counted : (b : Tables) (X : Set) (s n : ℕ) → 0 < s → n ≡ items_of b s X → nat_lt 0 n ≡ used b X s
-used_where_counted b X s n first counted = sym (used_by_count b X s ∙ rw (lt-ltb 0 s first) (ap (λ (k : ℕ). nat_lt 0 k) (sym counted)))
+-- the members that items of the bank and another set have in common
+pub count_of_meet : (n : ℕ) (X Y both : Set) → n ≤ 512 → ((i : ℕ) → X i ≡ true → i < n) → ((i : ℕ) → both i ≡ (X i && Y i)) → size_of both ≡ count_in n Y X
+count_of_meet n X Y both few below h = count_of_both n X Y both few below h ∙ both_ways n X Y

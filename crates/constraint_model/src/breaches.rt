@@ -1,19 +1,19 @@
 //! Whether a set of items is a form.
 
-ghost use Rattle.std.specs.Prelude.{◌≡◌, ◌↔◌, IsTrue};
+ghost use Rattle.std.specs.Prelude.{◌≡◌, ◌↔◌, ℕ, IsTrue};
 ghost use Rattle.bank_tables.specs.Items.{has};
 ghost use Rattle.bank_tables.specs.Validity.{HoldsItems};
 ghost use Rattle.exam_model.specs.Breaches.{IsFirstBreach};
-ghost use Rattle.exam_model.specs.Forms.{Form};
-ghost use Rattle.exam_model.specs.Validity.{IsWellMade};
+ghost use Rattle.exam_model.specs.Forms.{Form, activity, used};
+ghost use Rattle.exam_model.specs.Validity.{IsRow, IsWellMade};
 ghost use Rattle.constraint_model.specs.Views.{problem_of};
 ghost use Rattle.constraint_model.specs.Countable.{IsCountable};
 ghost use Rattle.constraint_model.specs.FirstBreaches.{IsLengthBreach, IsRowBreach, IsStimulusBreach, IsFirstMissing, IsFirstCommon, IsPlanBreach};
 
-use crate::counts::{activity, items_of, lower_bound, upper_bound};
+use crate::counts::{activity, items_of, lower_bound, stimuli_used, upper_bound};
 use crate::problem::Problem;
 use bank_tables::{Bank, ItemSet};
-use exam_model::{Breach, Draft};
+use exam_model::{Breach, Draft, Row};
 
 /// The number of items of the form, where it isn't the plan's or an item isn't of the bank.
 fn wrong_length(bank: &Bank, plan: &Draft, form: &ItemSet) -> Option<u32>
@@ -27,6 +27,16 @@ fn wrong_length(bank: &Bank, plan: &Draft, form: &ItemSet) -> Option<u32>
     }
 }
 
+/// The activity of a row at a form that uses these stimuli.
+fn activity_at(bank: &Bank, row: &Row, form: &ItemSet, stimuli: &ItemSet) -> u32
+    requires row { IsRow bank.now row.now }
+    requires stimuli { (s : ℕ) → has stimuli.now s ≡ used bank.now (has form.now) s }
+    ensures { result ≡
+        activity bank.now row.now (has form.now) (used bank.now (has form.now)) }
+{
+    activity(bank, row, form, stimuli)
+}
+
 /// The first row that doesn't hold, with the activity found.
 fn row_breach(bank: &Bank, plan: &Draft, form: &ItemSet) -> Option<(u8, u32)>
     requires plan { IsCountable bank.now plan.now }
@@ -34,8 +44,9 @@ fn row_breach(bank: &Bank, plan: &Draft, form: &ItemSet) -> Option<(u8, u32)>
     ensures { IsRowBreach bank.now plan.now (has form.now) result }
 {
     let rows = plan.rows.as_slice();
+    let stimuli = stimuli_used(bank, form);
     for (r, row) in rows.iter().enumerate() {
-        let found = activity(bank, row, form);
+        let found = activity_at(bank, row, form, &stimuli);
         if found < lower_bound(row) || found > upper_bound(row) {
             return Some((r as u8, found));
         }

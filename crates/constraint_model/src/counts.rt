@@ -1,79 +1,106 @@
-//! The sum or the count of a set of items on a row or a stimulus.
+//! What the rows and the stimuli of a plan count in a set of items.
 
-ghost use Rattle.std.specs.Prelude.{◌≡◌, ◌<◌, ◌≤◌};
+ghost use Rattle.std.specs.Prelude.{◌≡◌, ℕ, ◌<◌, ◌≤◌};
 ghost use Rattle.bank_tables.specs.Items.{has};
 ghost use Rattle.bank_tables.specs.Tables.{size, quantity};
-ghost use Rattle.bank_tables.specs.Sums.{sum_in};
+ghost use Rattle.bank_tables.specs.Sums.{count_in, sum_in};
 ghost use Rattle.bank_tables.specs.Validity.{HoldsItems};
-ghost use Rattle.exam_model.specs.Forms.{activity, items_of, used, stimuli_in, stimuli_of, lower_bound, upper_bound};
+ghost use Rattle.exam_model.specs.Forms.{activity, items_of, size_in, used, stimuli_in, stimuli_of, lower_bound, upper_bound};
 ghost use Rattle.exam_model.specs.Validity.{IsRow};
 ghost use Rattle.constraint_model.specs.Countable.{quantity_of};
 
 use bank_tables::{Bank, ItemSet};
 use exam_model::Row;
 
-/// The sum of a quantity over the items of the form in the set.
-fn quantity_in(bank: &Bank, which: u8, set: &ItemSet, form: &ItemSet) -> u32
-    requires { which < bank.now.quantities }
-    ensures { result ≡ sum_in (size bank.now) (has form.now) (quantity_of bank.now (has set.now) which) }
+/// The number of items of the bank in a set.
+pub fn size_in(bank: &Bank, items: &ItemSet) -> u32
+    ensures size { result ≡ size_in bank.now (has items.now) }
+    ensures few { result ≤ size bank.now }
+    ensures most { result ≤ 512 }
 {
-    let items = bank.items();
+    let mut n = 0;
+    for i in 0..bank.items() {
+        if items.has(i) {
+            n += 1;
+        }
+    }
+    n
+}
+
+/// How many items of a set have the stimulus.
+pub fn items_of(bank: &Bank, stimulus: u8, items: &ItemSet) -> u32
+    ensures { result ≡ items_of bank.now stimulus (has items.now) }
+{
+    let mut n = 0;
+    for i in 0..bank.items() {
+        if items.has(i) && bank.stimulus(i) == stimulus {
+            n += 1;
+        }
+    }
+    n
+}
+
+/// The stimuli with an item in a set.
+pub fn stimuli_used(bank: &Bank, items: &ItemSet) -> ItemSet
+    ensures { (s : ℕ) → has result s ≡ used bank.now (has items.now) s }
+{
+    let mut stimuli = ItemSet::empty();
+    for i in 0..bank.items() {
+        let stimulus = bank.stimulus(i);
+        if items.has(i) && stimulus > 0 {
+            stimuli = stimuli.with(stimulus as u16);
+        }
+    }
+    stimuli
+}
+
+/// How many items of a row's set are in the other set.
+fn members_in(bank: &Bank, set: &ItemSet, items: &ItemSet) -> u32
+    requires { HoldsItems bank.now (has set.now) }
+    ensures { result ≡ count_in (size bank.now) (has items.now) (has set.now) }
+{
+    prove!(bank.items() <= 512);
+    set.meet(*items).count()
+}
+
+/// The sum of a quantity over the items that are in both sets.
+fn quantity_in(bank: &Bank, which: u8, set: &ItemSet, items: &ItemSet) -> u32
+    requires { which < bank.now.quantities }
+    ensures { result ≡
+        sum_in (size bank.now) (has items.now) (quantity_of bank.now (has set.now) which) }
+{
     let mut sum = 0;
-    for i in 0..items {
-        if form.has(i) && set.has(i) {
+    for i in 0..bank.items() {
+        if items.has(i) && set.has(i) {
             sum += bank.quantity(i, which);
         }
     }
     sum
 }
 
-/// How many items of the form have the stimulus.
-pub fn items_of(bank: &Bank, stimulus: u8, form: &ItemSet) -> u32
-    ensures { result ≡ items_of bank.now stimulus (has form.now) }
+/// How many stimuli of the bank are in the set.
+fn stimuli_in(bank: &Bank, stimuli: &ItemSet) -> u32
+    ensures { result ≡ stimuli_in (stimuli_of bank.now) (has stimuli.now) }
 {
-    let items = bank.items();
     let mut n = 0;
-    for i in 0..items {
-        if form.has(i) && bank.stimulus(i) == stimulus {
+    for k in 0..bank.stimuli() {
+        if stimuli.has(k as u16 + 1) {
             n += 1;
         }
     }
     n
 }
 
-/// Whether the form has an item of the stimulus; 0 is no stimulus.
-fn uses(bank: &Bank, stimulus: u8, form: &ItemSet) -> bool
-    ensures { result ≡ used bank.now (has form.now) stimulus }
+/// The activity of a row: the sum over a set of items and a set of stimuli.
+pub fn activity(bank: &Bank, row: &Row, items: &ItemSet, stimuli: &ItemSet) -> u32
+    requires { IsRow bank.now row.now }
+    ensures { result ≡ activity bank.now row.now (has items.now) (has stimuli.now) }
 {
-    stimulus > 0 && items_of(bank, stimulus, form) > 0
-}
-
-/// How many of the stimuli from 1 to the greatest have an item in the form.
-fn stimuli_in(bank: &Bank, form: &ItemSet) -> u32
-    ensures { result ≡ stimuli_in (stimuli_of bank.now) (used bank.now (has form.now)) }
-{
-    let stimuli = bank.stimuli();
-    let mut n = 0;
-    for k in 0..stimuli {
-        if uses(bank, k + 1, form) {
-            n += 1;
-        }
-    }
-    n
-}
-
-/// The activity of a row at a form of items of the bank.
-pub fn activity(bank: &Bank, row: &Row, form: &ItemSet) -> u32
-    requires row { IsRow bank.now row.now }
-    requires items { HoldsItems bank.now (has form.now) }
-    ensures { result ≡ activity bank.now row.now (has form.now) (used bank.now (has form.now)) }
-{
-    prove!(bank.items() > 0);
     match row {
-        Row::Count { set, .. } => form.meet(*set).count(),
-        Row::Quantity { which, set, .. } => quantity_in(bank, *which, set, form),
-        Row::Enemies { set } => form.meet(*set).count(),
-        Row::Stimuli { .. } => stimuli_in(bank, form),
+        Row::Count { set, .. } => members_in(bank, set, items),
+        Row::Quantity { which, set, .. } => quantity_in(bank, *which, set, items),
+        Row::Enemies { set } => members_in(bank, set, items),
+        Row::Stimuli { .. } => stimuli_in(bank, stimuli),
     }
 }
 

@@ -1,11 +1,11 @@
 -- What counting finds, by the state of a path.
-use Rattle.std.proofs.Common.{◌≡◌, ℕ, zero, suc, ◌+◌, ◌-◌, ◌<◌, ◌≤◌, inl, inr, Bool, true, false, not, cond, ◌&&◌, ◌||◌, length, nat_lt, get_or, Some, None, refl, sym, ap, ◌∙◌, arith}
+use Rattle.std.proofs.Common.{◌≡◌, ℕ, zero, suc, ◌+◌, ◌-◌, ◌<◌, ◌≤◌, inl, inr, Bool, true, false, not, ◌&&◌, ◌||◌, length, nat_lt, get_or, Some, None, refl, sym, ap, ◌∙◌, arith}
 use Rattle.std.specs.Prelude.{replicate}
 use Rattle.std.proofs.Math.Path.{fun_ext}
 use Rattle.std.proofs.Math.Bool.{true≢false}
 use Rattle.std.proofs.lemmas.Bool.{lt-ltb, le-ltb, cases_lt}
 use Rattle.bank_tables.specs.Items.{Set, has}
-use Rattle.bank_tables.specs.Sums.{count_in, size_of, greatest_below}
+use Rattle.bank_tables.specs.Sums.{greatest_below}
 use Rattle.bank_tables.specs.Tables.{size}
 use Rattle.exam_model.specs.declared.row.Row.{Row}
 use Rattle.exam_model.specs.declared.row.StimulusBound.{StimulusBound}
@@ -16,7 +16,6 @@ use Rattle.exam_model.specs.Paths.{Path, is_free, is_chosen}
 use Rattle.exam_model.specs.Counting.{taken_or_free, chosen_or_open, length_impossible, row_impossible, stimulus_impossible, is_impossible, IsFirstImpossible}
 use Rattle.exam_model.proofs.SumLaws.{or_left, or_right}
 use Rattle.exam_model.proofs.Greatest.{count_in-split}
-use Rattle.constraint_model.proofs.SetLaws.{count_of_both}
 use Rattle.lagrange_bound.specs.declared.cut.Cut.{Cut}
 use Rattle.lagrange_bound.specs.Counted.{IsFirstWhere, IsWanted}
 use Rattle.lagrange_bound.specs.Cuts.{IsCutOf}
@@ -163,19 +162,6 @@ module _ (P : Problem) (p : Path) (cut : Cut) (is : IsCutOf P p cut) where
 pub greatest_at_most : (n most : ℕ) (f : ℕ → ℕ) → ((i : ℕ) → f i ≤ most) → greatest_below n f ≤ most
 greatest_at_most zero most f h = omega arith
 greatest_at_most (suc n) most f h = omega (arith, greatest_at_most n most f h, h n)
-
-both_ways : (n : ℕ) (X Y : Set) → count_in n X Y ≡ count_in n Y X
-both_ways zero X Y = refl
-both_ways (suc n) X Y = omega (arith, both_ways n X Y, one (X n) (Y n))
-  where
-    one : (x y : Bool) → ◌≡◌ {A = ℕ} (cond x (cond y 1 0) 0) (cond y (cond x 1 0) 0)
-    one true true = refl
-    one true false = refl
-    one false true = refl
-    one false false = refl
-
-pub count_of_meet : (n : ℕ) (X Y both : Set) → n ≤ 512 → ((i : ℕ) → X i ≡ true → i < n) → ((i : ℕ) → both i ≡ (X i && Y i)) → size_of both ≡ count_in n Y X
-count_of_meet n X Y both few below h = count_of_both n X Y both few below h ∙ both_ways n X Y
 
 pub zero_at : (n s : ℕ) → ◌≡◌ {A = ℕ} (get_or (replicate n 0) s 0) 0
 zero_at zero s = refl

@@ -1,25 +1,24 @@
 -- The cap of a vector and the links, by arrays.
-use Rattle.std.proofs.Common.{◌≡◌, ℕ, zero, suc, ◌+◌, ◌*◌, ◌<◌, ◌≤◌, ◌⊎◌, Bool, true, false, not, cond, ◌&&◌, ◌||◌, ◌==◌, nat_lt, ◌≢◌, List, [], ◌∷◌, length, replicate, set, inl, inr, add-one, below_more, refl, sym, ap, ◌∙◌, subst, arith}
-use Rattle.std.specs.Prelude.{ℤ, pos, neg_ℤ, ◌+ℤ◌, ◌-ℤ◌, ◌≤ℤ◌, int_lt, Option, Some, None, if◌then◌else◌}
-use Rattle.std.specs.Int.{int_max}
+use Rattle.std.proofs.Common.{◌≡◌, ℕ, zero, suc, ◌+◌, ◌<◌, ◌≤◌, ◌⊎◌, Bool, true, false, not, cond, ◌&&◌, ◌||◌, ◌==◌, nat_lt, ◌≢◌, List, [], ◌∷◌, length, replicate, set, inl, inr, add-one, below_more, refl, sym, ap, ◌∙◌, subst, arith}
+use Rattle.std.specs.Prelude.{ℤ, pos, ◌+ℤ◌, ◌-ℤ◌, int_lt, Some, None, if◌then◌else◌}
 use Rattle.std.proofs.lemmas.Int.{ints}
 use Rattle.std.proofs.lemmas.Bool.{lt-ltb}
 use Rattle.std.proofs.lemmas.Bool.Decides.{eqb_tells}
 use Rattle.std.proofs.lemmas.List.{get_or-set_same, get_or-set_other}
 use Rattle.bank_tables.specs.Items.{Set, has}
-use Rattle.bank_tables.specs.Sums.{sum_in_z, total_z}
+use Rattle.bank_tables.specs.Sums.{sum_in_z}
 use Rattle.bank_tables.specs.Tables.{Tables, size, stimulus}
 use Rattle.exam_model.specs.ProofTrees.{IsVector}
 use Rattle.exam_model.specs.Problem.{Problem}
-use Rattle.exam_model.specs.Paths.{Path, is_free, is_open}
+use Rattle.exam_model.specs.Paths.{Path, is_free}
 use Rattle.exam_model.specs.Ranges.{IsWithin, at}
-use Rattle.exam_model.specs.Relaxed.{Multipliers, multiplier, names, cap, cap_side, excess_over, is_linked, link_multiplier}
+use Rattle.exam_model.specs.Relaxed.{Multipliers, multiplier, names, cap, excess_over, is_linked, link_multiplier}
 use Rattle.exam_model.specs.Weights.{price, item_weight}
 use Rattle.exam_model.proofs.SumLaws.{either}
 use Rattle.lagrange_bound.specs.declared.cut.Cut.{Cut}
 use Rattle.lagrange_bound.specs.Cuts.{IsCutOf}
 use Rattle.lagrange_bound.specs.Links.{is_linked_on, link_on, excess_on}
-use Rattle.lagrange_bound.specs.Ranges.{item_top, excess_top}
+use Rattle.lagrange_bound.specs.Ranges.{item_top}
 
 -- a vector names the sides that have a multiplier
 names_is : (v : Multipliers) (from side : ℕ) → IsVector from v → names v side ≡ nat_lt 0 (multiplier v side)

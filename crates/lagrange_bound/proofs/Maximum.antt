@@ -1,14 +1,13 @@
 -- What the code sums up is the relaxed maximum.
-use Rattle.std.proofs.Common.{◌≡◌, ℕ, zero, suc, ◌+◌, ◌<◌, ◌≤◌, ◌==◌, Bool, cond, List, refl, sym, ap, ◌∙◌, subst, arith}
+use Rattle.std.proofs.Common.{◌≡◌, ℕ, suc, ◌+◌, ◌<◌, ◌≤◌, ◌==◌, Bool, cond, List, sym, ap, ◌∙◌, subst, arith}
 use Rattle.std.specs.Prelude.{ℤ, pos, ◌+ℤ◌, ◌-ℤ◌}
 use Rattle.std.specs.Int.{int_max}
-use Rattle.std.proofs.lemmas.Int.{ints}
 use Rattle.bank_tables.specs.Items.{Set, has}
 use Rattle.bank_tables.specs.Sums.{sum_in_z, total_z}
 use Rattle.bank_tables.specs.Tables.{size, stimulus}
 use Rattle.exam_model.specs.Forms.{size_in, stimuli_of}
 use Rattle.exam_model.specs.Problem.{Problem}
-use Rattle.exam_model.specs.Paths.{Path, is_free, is_chosen, is_open}
+use Rattle.exam_model.specs.Paths.{Path, is_free, is_chosen}
 use Rattle.exam_model.specs.Ranges.{at}
 use Rattle.exam_model.specs.Relaxed.{Multipliers, multiplier, cap, link_multiplier, IsRelaxedMaximum}
 use Rattle.exam_model.specs.ClosedForm.{capped_weight, excess_of_items, IsGreatestFill, stimulus_gain}

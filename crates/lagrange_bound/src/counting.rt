@@ -1,22 +1,20 @@
 //! Rows that are impossible by counting.
 
-ghost use Rattle.std.specs.Prelude.{◌≡◌, ℕ, suc, ◌+◌, ◌==◌, ◌<◌, ◌≤◌, MatchOption, cond, length, nat_lt, slice_index, true, ◌&&◌, ◌||◌};
+ghost use Rattle.std.specs.Prelude.{◌≡◌, ℕ, suc, ◌+◌, ◌<◌, ◌≤◌, length, nat_lt, slice_index, true, ◌&&◌, ◌||◌};
 ghost use Rattle.bank_tables.specs.Items.{has};
-ghost use Rattle.bank_tables.specs.Sums.{count_in, sum_in};
-ghost use Rattle.bank_tables.specs.Tables.{size, quantity, stimulus};
-ghost use Rattle.bank_tables.specs.Validity.{HoldsItems};
+ghost use Rattle.bank_tables.specs.Tables.{stimulus};
 ghost use Rattle.exam_model.specs.Paths.{Path};
 ghost use Rattle.exam_model.specs.Plan.{row_at};
-ghost use Rattle.exam_model.specs.Forms.{activity, items_of, lower_bound, size_in, stimuli_in, stimuli_of, upper_bound};
-ghost use Rattle.exam_model.specs.Counting.{length_impossible, row_impossible, stimulus_impossible, IsFirstImpossible};
+ghost use Rattle.exam_model.specs.Forms.{activity, items_of, lower_bound, size_in, stimuli_of, upper_bound};
+ghost use Rattle.exam_model.specs.Counting.{row_impossible, stimulus_impossible, IsFirstImpossible};
 ghost use Rattle.exam_model.specs.Validity.{IsRow, IsWellMade};
 ghost use Rattle.constraint_model.specs.Views.{problem_of};
 ghost use Rattle.lagrange_bound.specs.Cuts.{IsCut, IsCutOf};
 ghost use Rattle.lagrange_bound.specs.Counted.{IsFirstWhere, IsWanted};
 
 use crate::cut::Cut;
-use crate::members::size_in;
 use bank_tables::{Bank, ItemSet};
+use constraint_model::counts::{activity, lower_bound, size_in, upper_bound};
 use constraint_model::{Problem, Row};
 
 /// How many items the test needs beyond those taken; None exactly where the length is impossible.
@@ -36,67 +34,12 @@ pub fn items_wanted(problem: &Problem, cut: &Cut) -> Option<u32>
     Some(length - taken)
 }
 
-/// The sum of a quantity over the items of the bank that are in both sets.
-fn quantity_in(bank: &Bank, which: u8, set: &ItemSet, items: &ItemSet) -> u32
-    requires { which < bank.now.quantities }
-    ensures { result ≡ sum_in (size bank.now) (has items.now) (λ i.
-        cond (has set.now i) (quantity bank.now i which) 0) }
-{
-    let mut sum = 0;
-    for i in 0..bank.items() {
-        if set.has(i) && items.has(i) {
-            sum += bank.quantity(i, which);
-        }
-    }
-    sum
-}
-
-/// How many stimuli of the bank are in the set.
-fn stimuli_in(bank: &Bank, stimuli: &ItemSet) -> u32
-    ensures { result ≡ stimuli_in (stimuli_of bank.now) (has stimuli.now) }
-{
-    let mut n = 0;
-    for k in 0..bank.stimuli() {
-        if stimuli.has(k as u16 + 1) {
-            n += 1;
-        }
-    }
-    n
-}
-
-/// How many items of a row's set are in the other set.
-fn members_in(bank: &Bank, set: &ItemSet, items: &ItemSet) -> u32
-    requires { HoldsItems bank.now (has set.now) }
-    ensures { result ≡ count_in (size bank.now) (has items.now) (has set.now) }
-{
-    prove!(bank.items() <= 512);
-    set.meet(*items).count()
-}
-
-/// The activity of a row: the sum over the items and stimuli.
-fn activity(bank: &Bank, row: &Row, items: &ItemSet, stimuli: &ItemSet) -> u32
-    requires { IsRow bank.now row.now }
-    ensures { result ≡ activity bank.now row.now (has items.now) (has stimuli.now) }
-{
-    match row {
-        Row::Count { set, .. } => members_in(bank, set, items),
-        Row::Quantity { which, set, .. } => quantity_in(bank, *which, set, items),
-        Row::Enemies { set } => members_in(bank, set, items),
-        Row::Stimuli { .. } => stimuli_in(bank, stimuli),
-    }
-}
-
 /// The bounds of a row, the lower first.
 pub fn bounds_of(row: &Row) -> (u32, u32)
     ensures low { result.0 ≡ lower_bound row.now }
     ensures high { result.1 ≡ upper_bound row.now }
 {
-    match row {
-        Row::Count { low, high, .. } => (*low, *high),
-        Row::Quantity { low, high, .. } => (*low, *high),
-        Row::Enemies { .. } => (0, 1),
-        Row::Stimuli { low, high } => (*low, *high),
-    }
+    (lower_bound(row), upper_bound(row))
 }
 
 /// Whether what is had at least exceeds the upper bound, or what is had at most is below a lower bound that counts.

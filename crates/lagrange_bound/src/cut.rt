@@ -8,9 +8,10 @@ ghost use Rattle.exam_model.specs.Validity.{IsWellMade};
 ghost use Rattle.constraint_model.specs.Views.{problem_of};
 ghost use Rattle.lagrange_bound.specs.Cuts.{IsCut, IsCutOf};
 
-use crate::members::{has_one_of, others, stimuli_used, those_of, with_one_more};
+use crate::members::{has_one_of, others, those_of, with_one_more};
 use bank_tables::ItemSet;
 use constraint_model::Problem;
+use constraint_model::counts::stimuli_used;
 
 /// The items taken, out and free on a path, and the numbers of the stimuli chosen and open; the other stimuli are dropped
 /// (branch and bound; Land and Doig, An Automatic Method of Solving Discrete Programming Problems, 1960).

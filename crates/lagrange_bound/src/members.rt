@@ -1,10 +1,9 @@
 //! The items of a bank that a set has, by stimulus.
 
-ghost use Rattle.std.specs.Prelude.{◌≡◌, ℕ, ◌<◌, ◌≤◌, ◌&&◌, ◌||◌, ◌==◌, nat_lt, not, true};
+ghost use Rattle.std.specs.Prelude.{◌≡◌, ℕ, ◌&&◌, ◌||◌, ◌==◌, nat_lt, not, true};
 ghost use Rattle.bank_tables.specs.Items.{has};
 ghost use Rattle.bank_tables.specs.Sums.{any_below};
 ghost use Rattle.bank_tables.specs.Tables.{size, stimulus};
-ghost use Rattle.exam_model.specs.Forms.{size_in, used};
 
 use bank_tables::{Bank, ItemSet};
 
@@ -34,19 +33,6 @@ pub fn with_one_more(stimuli: ItemSet, which: u8) -> ItemSet
     }
 }
 
-/// The stimuli with an item in the set.
-pub fn stimuli_used(bank: &Bank, items: &ItemSet) -> ItemSet
-    ensures { (s : ℕ) → has result s ≡ used bank.now (has items.now) s }
-{
-    let mut stimuli = ItemSet::empty();
-    for i in 0..bank.items() {
-        if items.has(i) {
-            stimuli = with_one_more(stimuli, bank.stimulus(i));
-        }
-    }
-    stimuli
-}
-
 /// Whether an item of the set has the stimulus.
 pub fn has_one_of(bank: &Bank, items: &ItemSet, which: u8) -> bool
     ensures { result ≡ any_below (size bank.now) (λ i.
@@ -73,18 +59,4 @@ pub fn those_of(bank: &Bank, items: &ItemSet, which: u8) -> ItemSet
         }
     }
     those
-}
-
-/// How many items of the bank the set has.
-pub fn size_in(bank: &Bank, items: &ItemSet) -> u32
-    ensures size { result ≡ size_in bank.now (has items.now) }
-    ensures few { result ≤ 512 }
-{
-    let mut n = 0;
-    for i in 0..bank.items() {
-        if items.has(i) {
-            n += 1;
-        }
-    }
-    n
 }

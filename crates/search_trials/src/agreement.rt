@@ -53,7 +53,7 @@ fn has_branch(found: &Assembled) -> bool {
 }
 
 /// What the search found of a plan: the objective of the best form or None, and whether its tree has a branch.
-#[derive(Clone, Copy, Debug, PartialEq, Eq)]
+#[derive(Clone, Copy)]
 struct Found {
     best: Option<u64>,
     has_branch: bool,

@@ -5,4 +5,4 @@ use Rattle.bank_tables.specs.Tables.{stimulus}
 use Rattle.constraint_model.proofs.counts.items_of.Given as goal
 
 abbrev pub invariant-loop-i : goal.invariant-loop-i
-invariant-loop-i l = (l.n ≡ count_in l.i (has l.form) (λ i. stimulus l.bank i == l.stimulus)) × (l.n ≤ l.i)
+invariant-loop-i l = (l.n ≡ count_in l.i (has l.items) (λ i. stimulus l.bank i == l.stimulus)) × (l.n ≤ l.i)

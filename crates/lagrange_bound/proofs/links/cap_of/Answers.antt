@@ -1,5 +1,5 @@
 use Rattle.std.proofs.Common.{◌≡◌, ℕ, w64, to_z, of_z, sym, ap, ◌∙◌, arith}
-use Rattle.std.specs.Prelude.{ℤ, Some, slice_index}
+use Rattle.std.specs.Prelude.{ℤ, Some}
 use Rattle.exam_model.specs.Relaxed.{multiplier}
 use Rattle.exam_model.specs.Weights.{price}
 use Rattle.lagrange_bound.proofs.Linked.{cap_none, cap_low, cap_high}

@@ -1,8 +1,0 @@
-use Rattle.std.proofs.Common.{◌≡◌, ℕ, nat_lt, ◌&&◌, ◌==◌}
-use Rattle.bank_tables.specs.Items.{has}
-use Rattle.bank_tables.specs.Sums.{any_below}
-use Rattle.bank_tables.specs.Tables.{stimulus}
-use Rattle.certificate_check.proofs.standing.used_stimuli.Given as goal
-
-abbrev pub invariant-loop-i : goal.invariant-loop-i
-invariant-loop-i l = (s : ℕ) → has l.found s ≡ (nat_lt 0 s && any_below l.i (λ i. has l.items i && stimulus l.bank i == s))
