@@ -64,20 +64,20 @@ fn a_session_to_its_end(rt: HostRuntime) -> Result<(), Fail> {
         Request::Exposure,
     ];
     let replies = replies_of(&rt, rt.alloc(), Rate { num: 1, den: 1 }, &requests)?;
-    assert_eq!(rt; replies.get(0), Some(&waiting(0, 0, 2, true)));
-    assert_eq!(rt; replies.get(1), Some(&waiting(0, 1, 4, false)));
-    assert_eq!(rt; replies.get(2), Some(&waiting(0, 1, 4, false)));
-    assert_eq!(rt; replies.get(3), Some(&Err(Refusal::Other(1))));
-    assert_eq!(rt; replies.get(4), Some(&waiting(0, 2, 1, false)));
-    assert_eq!(rt; replies.get(5), Some(&waiting(0, 2, 1, false)));
-    assert_eq!(rt; replies.get(6), Some(&waiting(0, 2, 1, false)));
-    assert_eq!(rt; replies.get(7), Some(&Ok((0, Place::Complete, false))));
-    assert_eq!(rt;
-        replies.get(8),
-        Some(&Err(Refusal::IsClosed(Place::Complete)))
-    );
-    assert_eq!(rt; replies.get(9), Some(&Err(Refusal::NoSession(1))));
-    assert_eq!(rt; replies.get(10), Some(&Ok((1, Place::Complete, false))));
+    let expected = [
+        waiting(0, 0, 2, true),
+        waiting(0, 1, 4, false),
+        waiting(0, 1, 4, false),
+        Err(Refusal::Other(1)),
+        waiting(0, 2, 1, false),
+        waiting(0, 2, 1, false),
+        waiting(0, 2, 1, false),
+        Ok((0, Place::Complete, false)),
+        Err(Refusal::IsClosed(Place::Complete)),
+        Err(Refusal::NoSession(1)),
+        Ok((1, Place::Complete, false)),
+    ];
+    assert_eq!(rt; replies.as_slice(), expected.as_slice());
     Ok(())
 }
 
@@ -102,11 +102,14 @@ fn eligibility_is_set_aside(rt: HostRuntime) -> Result<(), Fail> {
         Request::Close(2),
     ];
     let replies = replies_of(&rt, rt.alloc(), rate, &requests)?;
-    assert_eq!(rt; replies.get(4), Some(&waiting(1, 0, 5, true)));
-    assert_eq!(rt; replies.get(5), Some(&waiting(1, 1, 3, false)));
-    assert_eq!(rt; replies.get(6), Some(&waiting(1, 2, 0, false)));
-    assert_eq!(rt; replies.get(7), Some(&Ok((1, Place::Complete, false))));
-    assert_eq!(rt; replies.get(8), Some(&waiting(2, 0, 2, true)));
-    assert_eq!(rt; replies.get(9), Some(&Ok((2, Place::Closed, false))));
+    let expected = [
+        waiting(1, 0, 5, true),
+        waiting(1, 1, 3, false),
+        waiting(1, 2, 0, false),
+        Ok((1, Place::Complete, false)),
+        waiting(2, 0, 2, true),
+        Ok((2, Place::Closed, false)),
+    ];
+    assert_eq!(rt; replies.get(4..), Some(expected.as_slice()));
     Ok(())
 }

@@ -3,6 +3,7 @@ use exam_edge::{Disk, Door, Files, Link, Sink};
 use host_edge::{HostDisk, HostDoor, HostFiles, HostSink};
 use std::io::{ErrorKind, Read, Write};
 use std::net::{Net, TcpListener, TcpStream};
+use std::process::Abort;
 use std::test::Fail;
 use std::{env, fs, process, thread};
 
@@ -18,45 +19,68 @@ fn new_folder(rt: &HostRuntime) -> Result<(String, String), Fail> {
     Ok((folder, path))
 }
 
-#[test]
-fn files_keep_what_was_written(rt: HostRuntime) -> Result<(), Fail> {
-    let (folder, path) = new_folder(&rt)?;
+// What is written, cut and synced is read back.
+fn writes_and_reads<R: Abort>(rt: &R, disk: &mut HostDisk) {
     let mut buffer = [0u8; 4];
-    let mut disk = HostDisk::of(rt.clone()?, path.clone()?);
     let wrote = disk.write_at(0, b"abcdef").is_ok() && disk.write_at(4, b"xyz").is_ok();
     let cut = disk.cut(6).is_ok() && disk.sync().is_ok();
     assert!(rt; wrote && cut && disk.len() == Ok(6) && disk.read(3, &mut buffer) == Ok(3));
     assert!(rt;
         buffer == *b"dxy\0" && disk.read(6, &mut buffer) == Ok(0) && disk.cause().is_none()
     );
-    let mut second = HostDisk::of(rt.clone()?, path.clone()?);
-    assert!(rt; second.len().is_err());
-    assert!(rt;
-        second
-            .cause()
-            .is_some_and(|e| e.kind() == ErrorKind::WouldBlock)
-    );
-    let mut files = HostFiles::of(rt.clone()?);
-    assert!(rt; files.read(path.as_str(), 0, &mut buffer) == Ok(4) && buffer == *b"abcd");
-    fs::remove_file(&rt, path.as_str())?;
-    assert!(rt; files.read(path.as_str(), 4, &mut buffer) == Ok(2) && buffer == *b"xycd");
-    assert!(rt; files.read(path.as_str(), 6, &mut buffer) == Ok(0) && files.cause().is_none());
-    assert!(rt; files.read(folder.as_str(), 0, &mut buffer).is_err());
+}
+
+// Each call of the disk fails, from this cause.
+fn fails<R: Abort>(rt: &R, disk: &mut HostDisk, kind: ErrorKind) {
+    assert!(rt; disk.sync().is_err() && disk.len().is_err());
+    assert!(rt; disk.cause().is_some_and(|e| e.kind() == kind));
+}
+
+// The front of the file of this name is read.
+fn reads_front<R: Abort>(rt: &R, files: &mut HostFiles, path: &str) {
+    let mut buffer = [0u8; 4];
+    assert!(rt; files.read(path, 0, &mut buffer) == Ok(4) && buffer == *b"abcd");
+}
+
+// The rest of the file that had this name is read to its end.
+fn reads_rest<R: Abort>(rt: &R, files: &mut HostFiles, path: &str) {
+    let mut buffer = *b"abcd";
+    assert!(rt; files.read(path, 4, &mut buffer) == Ok(2) && buffer == *b"xycd");
+    assert!(rt; files.read(path, 6, &mut buffer) == Ok(0) && files.cause().is_none());
+}
+
+fn reads_no_folder<R: Abort>(rt: &R, files: &mut HostFiles, folder: &str) {
+    let mut buffer = [0u8; 4];
+    assert!(rt; files.read(folder, 0, &mut buffer).is_err());
     assert!(rt;
         files
             .cause()
             .is_some_and(|e| e.kind() == ErrorKind::IsADirectory)
     );
+}
+
+#[test]
+fn files_keep_what_was_written(rt: HostRuntime) -> Result<(), Fail> {
+    let (folder, path) = new_folder(&rt)?;
+    let mut disk = HostDisk::of(rt.clone()?, path.clone()?);
+    writes_and_reads(&rt, &mut disk);
+    let mut second = HostDisk::of(rt.clone()?, path.clone()?);
+    fails(&rt, &mut second, ErrorKind::WouldBlock);
+    let mut files = HostFiles::of(rt.clone()?);
+    reads_front(&rt, &mut files, path.as_str());
+    fs::remove_file(&rt, path.as_str())?;
+    reads_rest(&rt, &mut files, path.as_str());
+    reads_no_folder(&rt, &mut files, folder.as_str());
     fs::remove_dir(&rt, folder.as_str())?;
     let mut lost = HostDisk::of(rt.clone()?, path);
-    assert!(rt; lost.sync().is_err() && lost.len().is_err());
-    assert!(rt;
-        lost.cause()
-            .is_some_and(|e| e.kind() == ErrorKind::NotFound)
-    );
+    fails(&rt, &mut lost, ErrorKind::NotFound);
+    Ok(())
+}
+
+#[test]
+fn standard_output_takes_bytes(rt: HostRuntime) {
     let mut sink = HostSink::of(rt.stdout());
     assert!(rt; sink.write(b"") == Ok(0) && sink.write(b"x") == Ok(1) && sink.cause().is_none());
-    Ok(())
 }
 
 #[test]
@@ -67,12 +91,7 @@ fn a_file_to_read_is_neither_made_nor_changed(rt: HostRuntime) -> Result<(), Fai
     let number = process::id(rt.process());
     let path = format!(in alloc; "{place}/host_edge_read_{number}")?;
     let mut absent = HostDisk::to_read(rt.clone()?, path.clone()?);
-    assert!(rt; absent.sync().is_err() && absent.len().is_err());
-    assert!(rt;
-        absent
-            .cause()
-            .is_some_and(|e| e.kind() == ErrorKind::NotFound)
-    );
+    fails(&rt, &mut absent, ErrorKind::NotFound);
     fs::write(&rt, path.as_str(), b"abc")?;
     let mut there = HostDisk::to_read(rt.clone()?, path.clone()?);
     let mut buffer = [0u8; 4];
