@@ -25,3 +25,5 @@ mod refusals;
 mod serving;
 #[cfg(test)]
 mod sessions;
+#[cfg(test)]
+mod warm;

@@ -179,7 +179,8 @@ fn run_over<'a>(
     }
 }
 
-fn draft(alloc: Global, numbers: &Numbers) -> Result<Draft, AllocError> {
+/// The worked plan with these numbers, and a base form.
+pub(crate) fn draft(alloc: Global, numbers: &Numbers) -> Result<Draft, AllocError> {
     let mut draft = draft_a(alloc)?;
     draft.rate = numbers.rate;
     draft.sessions = numbers.sessions;

@@ -1,0 +1,121 @@
+//! The vectors that the searches for the sessions' next forms may begin with.
+
+ghost use Rattle.exam_model.specs.Validity.{IsPlanFor};
+
+use crate::cases::opening_calls;
+use crate::files::{served_journal, started_journal};
+use crate::outcome::{WORKED, draft};
+use crate::serving::serve;
+use bank_tables::Bank;
+use constraint_model::Spec;
+use exam_edge::{Disk, MemoryDisk};
+use exam_office::{Office, Refusal};
+use std::alloc::Global;
+use std::test::Fail;
+use trial_cases::bank_a;
+
+/// What an office answers of a session's vector: how many pairs it has, and the first of them.
+#[derive(Clone, Copy, Debug, PartialEq, Eq)]
+enum SessionVector {
+    Pairs(usize, Option<(u16, u32)>),
+    Cold,
+    Refused(Refusal),
+}
+
+fn vector_of<D: Disk>(alloc: Global, office: &Office<D>, session: u32) -> SessionVector {
+    match office.warm(alloc, session) {
+        Ok(Some(vector)) => SessionVector::Pairs(
+            vector.pairs().len(),
+            vector.pairs().first().copied(),
+        ),
+        Ok(None) => SessionVector::Cold,
+        Err(refusal) => SessionVector::Refused(refusal),
+    }
+}
+
+/// What is answered of sessions 0 and 1.
+type Both = (SessionVector, SessionVector);
+
+fn both<D: Disk>(alloc: Global, office: &Office<D>) -> Both {
+    (vector_of(alloc, office, 0), vector_of(alloc, office, 1))
+}
+
+/// An item is served in session 0, and what was in doubt is resolved; what is answered before,
+/// between and after.
+fn serve_and_settle<D: Disk>(alloc: Global, office: &mut Office<D>) -> Result<[Both; 3], Fail> {
+    let before = both(alloc, office);
+    let _served = serve(alloc, office, 0)?;
+    let between = both(alloc, office);
+    let _begun = office.begin(alloc, 70);
+    Ok([before, between, both(alloc, office)])
+}
+
+fn over<'a>(
+    alloc: Global,
+    bank: &'a Bank,
+    spec: &'a Spec,
+    disk: MemoryDisk,
+    serves: bool,
+) -> Result<[Both; 3], Fail>
+    requires { IsPlanFor bank.now spec.now }
+{
+    let Some(base) = spec.base() else {
+        return Err(Fail::from("no base"));
+    };
+    let Ok(office) = Office::open(alloc, bank, spec, base, disk) else {
+        return Err(Fail::from("not opened"));
+    };
+    let mut office = office;
+    let found = if serves {
+        serve_and_settle(alloc, &mut office)
+    } else {
+        Ok([both(alloc, &office); 3])
+    };
+    let _disk = office.into_disk();
+    found
+}
+
+/// An office is opened over a file of these bytes. The calls of the disk that have these numbers
+/// fail.
+fn answers(alloc: Global, bytes: &[u8], fails: &[u64], serves: bool) -> Result<[Both; 3], Fail> {
+    let bank = bank_a(alloc)?;
+    let spec = Spec::of(alloc, &bank, draft(alloc, &WORKED)?)?;
+    let disk = MemoryDisk::of(alloc, bytes.to_vec(alloc)?, fails.to_vec(alloc)?);
+    over(alloc, &bank, &spec, disk, serves)
+}
+
+/// There is no second session.
+const NO_SECOND: SessionVector = SessionVector::Refused(Refusal::NoSession(1));
+
+/// The tree's one vector has side 3 with multiplier 1.
+#[test]
+fn the_vector_of_a_journal(rt: HostRuntime) -> Result<(), Fail> {
+    let alloc = rt.alloc();
+    let found = answers(alloc, &served_journal(alloc)?, &[], false)?;
+    assert_eq!(rt;
+        found[0],
+        (SessionVector::Pairs(1, Some((3, 1))), NO_SECOND)
+    );
+    let started = answers(alloc, &started_journal(alloc)?, &[], false)?;
+    assert_eq!(rt; started[0], (SessionVector::Cold, NO_SECOND));
+    Ok(())
+}
+
+/// The first call of the disk that writes the record fails, and the record is dropped; or the last
+/// one, and it is kept.
+#[test]
+fn the_vector_of_a_record_in_doubt(rt: HostRuntime) -> Result<(), Fail> {
+    let alloc = rt.alloc();
+    let bytes = started_journal(alloc)?;
+    let cold = (SessionVector::Cold, NO_SECOND);
+    let [before, between, after] = answers(alloc, &bytes, &[], true)?;
+    assert_eq!(rt; before, cold);
+    assert_ne!(rt; between, cold);
+    assert_eq!(rt; between, after);
+    let first = opening_calls(1);
+    let dropped = answers(alloc, &bytes, &[first], true)?;
+    assert_eq!(rt; dropped, [cold; 3]);
+    let kept = answers(alloc, &bytes, &[first.saturating_add(3)], true)?;
+    assert_eq!(rt; kept, [cold, cold, after]);
+    Ok(())
+}
