@@ -1,5 +1,5 @@
 //! Routes.
-ghost use Rattle.std.specs.Prelude.{◌≡◌, ◌≢◌, ◌≤◌, ◌++◌, ℕ, IfOk, IfSome, IfNone, codes, decimal};
+ghost use Rattle.std.specs.Prelude.{◌≡◌, ◌≢◌, ◌≤◌, ◌++◌, ℕ, [], IfOk, OnOk, IfSome, IfNone, codes, decimal};
 ghost use Rattle.exam_http.specs.Paths.{Names, IsRoute, path_of, method_of};
 ghost use Rattle.exam_http.specs.Table.{table, kind_of};
 
@@ -27,16 +27,25 @@ pub enum RouteKind {
     Exposure,
 }
 
-/// The router of the five routes.
-pub(crate) fn router(alloc: Global) -> Result<Router<RouteKind>, InsertError>
-    ensures { IfOk result (λ router. router ≡ table) }
+/// Adds the five routes to a router that has none.
+fn add_routes(router: &mut Router<RouteKind>) -> Result<(), InsertError>
+    requires { router.old ≡ [] }
+    ensures { OnOk result (router.new ≡ table) }
 {
-    let mut router = Router::new(alloc);
     router.insert("/sessions", RouteKind::Sessions)?;
     router.insert("/sessions/{id}", RouteKind::Session)?;
     router.insert("/sessions/{id}/answers", RouteKind::Answers)?;
     router.insert("/sessions/{id}/close", RouteKind::Close)?;
     router.insert("/exposure", RouteKind::Exposure)?;
+    Ok(())
+}
+
+/// The router of the five routes.
+pub(crate) fn router(alloc: Global) -> Result<Router<RouteKind>, InsertError>
+    ensures { IfOk result (λ router. router ≡ table) }
+{
+    let mut router = Router::new(alloc);
+    add_routes(&mut router)?;
     Ok(router)
 }
 
