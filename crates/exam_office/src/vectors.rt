@@ -44,7 +44,8 @@ fn first_vector(
     spec: &Spec,
     tree: &Tree,
 ) -> Result<Option<Vector>, Memory>
-    ensures { IfOk result (λ found. found ≡ Rattle.exam_office.specs.Warm.first_vector bank.now spec.now tree.now) }
+    ensures { IfOk result (λ found. found
+        ≡ Rattle.exam_office.specs.Warm.first_vector bank.now spec.now tree.now) }
 {
     let Some(vector) = tree.vectors().first() else {
         return Ok(None);
