@@ -125,9 +125,12 @@ class Model:
         return At(number, kind, step, session.shown[step], bool(self.marks[number, step]), fresh)
 
     def advance(self, number, fresh=False):
-        """Serves an item where the session waits for one."""
+        """Serves an item where the session waits for one. Before its first item its eligibility may
+        be set aside once."""
         if self.place(number).state == "pending":
-            if self.kind() == audit.ASIDE:
+            session = self.history.sessions[number]
+            may_be_aside = not session.shown and not session.aside
+            if self.kind() == audit.ASIDE or self.kind() is None and may_be_aside:
                 self.need(audit.ASIDE, number)
             self.need(audit.SERVED, number)
         return self.place(number, fresh)
