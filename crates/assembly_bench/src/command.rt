@@ -16,6 +16,8 @@ pub struct Order<'a> {
     pub left_out: ItemSet,
     /// Whether what rebuilds a step is printed too.
     pub trees: bool,
+    /// Whether the search of a step begins with the first vector of the tree of the step before.
+    pub warm: bool,
 }
 
 /// What the words after the program's name ask for.
@@ -78,7 +80,7 @@ fn left_out_of(words: &[String]) -> Option<(bool, ItemSet)> {
     }
 }
 
-fn steps_of(words: &[String]) -> Option<Command<'_>> {
+fn steps_of(words: &[String], warm: bool) -> Option<Command<'_>> {
     let (trees, left_out) = left_out_of(words)?;
     if words.len() < 4 {
         return None;
@@ -89,6 +91,7 @@ fn steps_of(words: &[String]) -> Option<Command<'_>> {
         responses: words[3].as_str(),
         left_out,
         trees,
+        warm,
     }))
 }
 
@@ -97,7 +100,8 @@ impl<'a> Command<'a> {
     pub fn of(words: &'a [String]) -> Option<Command<'a>> {
         match words.first()?.as_str() {
             "check" => check_of(words),
-            "steps" => steps_of(words),
+            "steps" => steps_of(words, false),
+            "warm" => steps_of(words, true),
             _ => None,
         }
     }
