@@ -21,8 +21,9 @@ import check_tree
 
 # one solved step: the problem as check_tree has it, the node budget, the form or None, and what the program said of it
 Step = namedtuple("Step", "problem budget form microseconds nodes mark search objective item tree")
-# one bank: its name, the steps of its sessions, their base forms, and for each peer what it made of the steps
-Result = namedtuple("Result", "name steps bases peers")
+# one bank: its name, the steps of its sessions, those of sessions whose searches begin with the multipliers of the step
+# before, the base forms, and for each peer what it made of the steps
+Result = namedtuple("Result", "name steps warm bases peers")
 
 
 def set_of(word):
@@ -48,9 +49,9 @@ def step_of(words, bank, plan, budgets):
                 int(said["nodes"]), said["mark"], said["search"], said["objective"], said.get("item"), bytes.fromhex(said["tree"]))
 
 
-def run_session(program, paths, answers, left_out, rounds):
+def run_session(program, command, paths, answers, left_out, rounds):
     """The lines of a session, each with the least time of so many runs."""
-    words = [program, "steps", *paths, answers, "trees"]
+    words = [program, command, *paths, answers, "trees"]
     if left_out:
         words += ["without", ",".join(map(str, sorted(left_out)))]
     runs = []
@@ -73,7 +74,8 @@ def left_out_items(rate, counts, sessions):
     return [i for i, n in enumerate(counts) if n * rate[1] > (sessions + 4) * rate[0]]
 
 
-def run_program(program, problem, folder, rounds):
+def run_program(program, command, problem, folder, rounds):
+    """The steps of all sessions of a bank by this command of the program, and their base forms."""
     paths = [os.path.join(folder, name) for name in ("bank", "plan")]
     for path, text in zip(paths, (problem.bank, problem.plan)):
         with open(path, "w") as file:
@@ -83,7 +85,7 @@ def run_program(program, problem, folder, rounds):
     budgets = budgets_of(problem.plan)
     counts, steps, bases = [0] * len(bank.items), [], []
     for number, answers in enumerate(problem.sessions):
-        lines = run_session(program, paths, answers, left_out_items(problem.rate, counts, number), rounds)
+        lines = run_session(program, command, paths, answers, left_out_items(problem.rate, counts, number), rounds)
         for words in lines:
             step = step_of(words, bank, plan, budgets)
             (bases if words[0] == "base" else steps).append(step)
@@ -170,9 +172,11 @@ def mean(numbers):
 def row_of(result, names):
     own = [step.microseconds for step in result.steps]
     nodes = sorted(step.nodes for step in result.steps)
+    warm = [step.microseconds for step in result.warm]
     cells = [result.name, str(len(own)), milliseconds(own), "%d / %.1f / %d" % (nodes[len(nodes) // 2], mean(nodes), nodes[-1]),
-             str(sum(step.mark != "proved" for step in result.steps)),
-             str(sum(step.search == "fallback" for step in result.steps + result.bases))]
+             str(sum(step.mark != "proved" for step in result.steps + result.warm)),
+             str(sum(step.search == "fallback" for step in result.steps + result.warm + result.bases)),
+             "%s; %.1f; %.2f" % (milliseconds(warm), mean([step.nodes for step in result.warm]), mean(warm) / mean(own))]
     for name in names:
         if name not in result.peers:
             cells.append("")
@@ -199,11 +203,12 @@ GROUPS = (
 def together(name, group, names):
     shared = [peer for peer in names if all(peer in r.peers for r in group)]
     solved = {peer: [s for r in group for s in r.peers[peer]] for peer in shared}
-    return Result(name, [s for r in group for s in r.steps], [s for r in group for s in r.bases], solved)
+    return Result(name, [s for r in group for s in r.steps], [s for r in group for s in r.warm],
+                  [s for r in group for s in r.bases], solved)
 
 
 def table(results, names):
-    heads = ["Bank", "Steps", "Assembler, ms", "Nodes", "Unproved", "Fallback"] + ["%s, ms; ratio" % name for name in names]
+    heads = ["Bank", "Steps", "Assembler, ms", "Nodes", "Unproved", "Fallback", "Warm, ms; nodes; share"] + ["%s, ms; ratio" % name for name in names]
     print("| " + " | ".join(heads) + " |")
     print("|" + "---|" * len(heads))
     for result in results:
@@ -214,18 +219,20 @@ def table(results, names):
             print(row_of(together(name, group, names), names))
     print()
     print("Times are median / 95th in a hundred / greatest / mean a step; nodes are median / mean / greatest. A ratio is the mean")
-    print("of the peer by that of the assembler. Fallback is how often the fallback search was called.")
+    print("of the peer by that of the assembler. Fallback is how often the fallback search was called. Warm are sessions whose")
+    print("searches begin with the multipliers of the step before: their times, mean of nodes, and mean time by that of the others.")
 
 
 def measure(program, problem, commands, folder, rounds):
-    steps, bases = run_program(program, problem, folder, rounds)
+    steps, bases = run_program(program, "steps", problem, folder, rounds)
+    warm, _ = run_program(program, "warm", problem, folder, rounds)
     models = [model_of(step.problem) for step in steps]
     solved = {name: peers.solve_all(folder, command, models, rounds) for name, command in commands.items()}
     if "GLPK" in commands and problem.name.endswith("passages"):
         linked = [model_of(step.problem, True) for step in steps]
         solved[WITH_LINKS] = peers.solve_all(folder, commands["GLPK"], linked, rounds)
     wrong = []
-    for step in bases + steps:
+    for step in bases + steps + warm:
         said = judge(step)
         if said:
             wrong.append("%s: a tree is wrong: %s" % (problem.name, said))
@@ -234,8 +241,8 @@ def measure(program, problem, commands, folder, rounds):
             said = compare(step, answer)
             if said:
                 wrong.append("%s: step %d beside %s: %s" % (problem.name, number, name, said))
-    print("%s: %d steps, %d trees judged, %d wrong" % (problem.name, len(steps), len(steps) + len(bases), len(wrong)), flush=True)
-    return Result(problem.name, steps, bases, solved), wrong
+    print("%s: %d steps, %d trees judged, %d wrong" % (problem.name, len(steps), len(steps) + len(warm) + len(bases), len(wrong)), flush=True)
+    return Result(problem.name, steps, warm, bases, solved), wrong
 
 
 def main(words):
@@ -267,7 +274,7 @@ def main(words):
         print("GLPK or CBC is missing: this is no result to publish.")
     for fault in wrong:
         print(fault)
-    print("%d trees judged, %d faults" % (sum(len(r.steps) + len(r.bases) for r in results), len(wrong)))
+    print("%d trees judged, %d faults" % (sum(len(r.steps) + len(r.warm) + len(r.bases) for r in results), len(wrong)))
     return 1 if wrong else 0
 
 
