@@ -227,7 +227,12 @@ def measure(program, problem, commands, folder, rounds):
     steps, bases = run_program(program, "steps", problem, folder, rounds)
     warm, _ = run_program(program, "warm", problem, folder, rounds)
     models = [model_of(step.problem) for step in steps]
-    solved = {name: peers.solve_all(folder, command, models, rounds) for name, command in commands.items()}
+    solved = {}
+    for name, command in commands.items():
+        try:
+            solved[name] = peers.solve_all(folder, command, models, rounds)
+        except subprocess.CalledProcessError as ended:
+            print("%s: %s ended by itself: %s" % (problem.name, name, ended.returncode), flush=True)
     if "GLPK" in commands and problem.name.endswith("passages"):
         linked = [model_of(step.problem, True) for step in steps]
         solved[WITH_LINKS] = peers.solve_all(folder, commands["GLPK"], linked, rounds)
