@@ -85,7 +85,7 @@ fn new_vector(
 /// item in it, if each side that it names is one of the plan's, or of the cap.
 #[derive(Debug, Drop)]
 pub(crate) struct Vectors {
-    /// One for each session up to the last that has one.
+    /// One for each session up to the last for which a serving was tried.
     pub each: Vec<Option<Vector>>,
     /// What the record in doubt makes the vector of its session.
     pub doubt: Option<NewVector>,
