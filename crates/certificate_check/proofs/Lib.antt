@@ -10,3 +10,4 @@ pub mod WalkSteps
 pub mod CheckLaws
 pub mod ShapeLaws
 pub mod SpendSteps
+pub mod Tallies

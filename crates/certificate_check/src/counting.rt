@@ -1,13 +1,16 @@
 //! Rows that are impossible by counting.
 
-ghost use Rattle.std.specs.Prelude.{◌≡◌, ◌<◌, ◌≤◌, length};
+ghost use Rattle.std.specs.Prelude.{◌≡◌, ℕ, suc, ◌<◌, ◌≤◌, ◌↔◌, length, get_or, IsTrue, IsFalse};
+ghost use Rattle.bank_tables.specs.Items.{has};
 ghost use Rattle.exam_model.specs.Counting.{length_impossible, row_impossible, stimulus_impossible, is_impossible};
-ghost use Rattle.exam_model.specs.Forms.{stimuli_of};
+ghost use Rattle.exam_model.specs.Forms.{items_of, stimuli_of};
+ghost use Rattle.exam_model.specs.Plan.{row_at};
 ghost use Rattle.exam_model.specs.Validity.{IsRow, IsWellMade};
 ghost use Rattle.constraint_model.specs.Views.{problem_of};
 ghost use Rattle.certificate_check.specs.Cuts.{path_of, IsStanding};
 
 use crate::standing::Standing;
+use bank_tables::{Bank, ItemSet};
 use constraint_model::counts::{activity, items_of, lower_bound, size_in, upper_bound};
 use constraint_model::{Problem, Row};
 
@@ -33,18 +36,33 @@ fn row_impossible(problem: &Problem, standing: &Standing, row: &Row) -> bool
     upper_bound(row) < least || most < lower_bound(row)
 }
 
-/// The same for the items of a stimulus.
+/// The same for the items of a stimulus, of which so many are taken, and so many taken or free.
+fn stimulus_misses(problem: &Problem, standing: &Standing, which: u8, least: u32, most: u32) -> bool
+    requires well_made { IsWellMade (problem_of problem.now) }
+    requires first { 0 < which }
+    requires last { which ≤ stimuli_of problem.now.bank.now }
+    requires standing { IsStanding (problem_of problem.now) standing.now }
+    requires least { least ≡ items_of problem.now.bank.now which (has standing.now.cut.taken) }
+    requires most { most ≡ items_of problem.now.bank.now which (has standing.now.may_hold) }
+    ensures { result ≡
+        stimulus_impossible (problem_of problem.now) (path_of standing.now.cut) which }
+{
+    let bound = problem.spec.bounds()[which as usize - 1];
+    bound.high < least || standing.chosen.has(which as u16) && most < bound.low
+}
+
+/// The same of a stimulus by its number alone.
 fn stimulus_impossible(problem: &Problem, standing: &Standing, which: u8) -> bool
     requires well_made { IsWellMade (problem_of problem.now) }
     requires first { 0 < which }
     requires last { which ≤ stimuli_of problem.now.bank.now }
     requires standing { IsStanding (problem_of problem.now) standing.now }
-    ensures { result ≡ stimulus_impossible (problem_of problem.now) (path_of standing.now.cut) which }
+    ensures { result ≡
+        stimulus_impossible (problem_of problem.now) (path_of standing.now.cut) which }
 {
-    let bound = problem.spec.bounds()[which as usize - 1];
     let least = items_of(problem.bank, which, &standing.cut.taken);
     let most = items_of(problem.bank, which, &standing.may_hold);
-    bound.high < least || standing.chosen.has(which as u16) && most < bound.low
+    stimulus_misses(problem, standing, which, least, most)
 }
 
 /// Whether a row, by number, is impossible by counting: 0 is the length, then come the rows of the plan and the stimuli.
@@ -65,4 +83,71 @@ pub fn is_impossible(problem: &Problem, standing: &Standing, row: u8) -> bool
     } else {
         false
     }
+}
+
+/// How many items of a set each stimulus has, by its number; at 0 those of no stimulus.
+fn items_of_each(bank: &Bank, items: &ItemSet) -> [u32; 65]
+    ensures { (s : ℕ) → s < 65 →
+        get_or result s 0 ≡ items_of bank.now s (has items.now) }
+{
+    let mut counts = [0u32; 65];
+    for i in 0..bank.items() {
+        counts[bank.stimulus(i) as usize] += items.has(i) as u32;
+    }
+    counts
+}
+
+/// Whether no stimulus is impossible by counting. The items of all are counted in one pass.
+fn are_stimuli_possible(problem: &Problem, standing: &Standing) -> bool
+    requires well_made { IsWellMade (problem_of problem.now) }
+    requires standing { IsStanding (problem_of problem.now) standing.now }
+    ensures { IsTrue result ↔
+        ((k : ℕ) → k < stimuli_of problem.now.bank.now →
+        IsFalse (stimulus_impossible
+        (problem_of problem.now) (path_of standing.now.cut) (suc k))) }
+{
+    let least = items_of_each(problem.bank, &standing.cut.taken);
+    let most = items_of_each(problem.bank, &standing.may_hold);
+    for k in 0..problem.bank.stimuli() {
+        let at = k as usize + 1;
+        if stimulus_misses(problem, standing, k + 1, least[at], most[at]) {
+            return false;
+        }
+    }
+    true
+}
+
+/// Whether no row of the plan is impossible by counting.
+fn are_rows_possible(problem: &Problem, standing: &Standing) -> bool
+    requires well_made { IsWellMade (problem_of problem.now) }
+    requires standing { IsStanding (problem_of problem.now) standing.now }
+    ensures { IsTrue result ↔
+        ((r : ℕ) → r < length problem.now.spec.now.rows →
+        IsFalse (row_impossible (problem_of problem.now) (path_of standing.now.cut)
+        (row_at problem.now.spec.now r))) }
+{
+    let rows = problem.spec.rows();
+    for r in 0..rows.len() {
+        if row_impossible(problem, standing, &rows[r]) {
+            return false;
+        }
+    }
+    true
+}
+
+/// Whether no row, by number, is impossible by counting.
+pub fn is_possible(problem: &Problem, standing: &Standing) -> bool
+    requires well_made { IsWellMade (problem_of problem.now) }
+    requires standing { IsStanding (problem_of problem.now) standing.now }
+    ensures { IsTrue result ↔
+        ((r : ℕ) →
+        IsFalse (is_impossible (problem_of problem.now) (path_of standing.now.cut) r)) }
+{
+    if length_impossible(problem, standing) {
+        return false;
+    }
+    if !are_rows_possible(problem, standing) {
+        return false;
+    }
+    are_stimuli_possible(problem, standing)
 }

@@ -1,16 +1,15 @@
 //! Paths that neither counting nor the plain bound settles.
 
-ghost use Rattle.std.specs.Prelude.{◌≡◌, ℕ, ◌↔◌, IsTrue, IsFalse};
+ghost use Rattle.std.specs.Prelude.{◌≡◌, ◌↔◌, IsTrue};
 ghost use Rattle.std.specs.Option.{option_map};
 ghost use Rattle.bank_tables.specs.Items.{has};
-ghost use Rattle.exam_model.specs.Counting.{is_impossible};
 ghost use Rattle.exam_model.specs.Spending.{PlainBoundExceeds, IsUnresolved, IsSpentNode};
 ghost use Rattle.exam_model.specs.Validity.{IsWellMade};
 ghost use Rattle.constraint_model.specs.Views.{problem_of};
 ghost use Rattle.certificate_check.specs.Cuts.{path_of, IsStanding};
 ghost use Rattle.certificate_check.specs.Spends.{ExceedsForm, IsStartForm};
 
-use crate::counting::is_impossible;
+use crate::counting::is_possible;
 use crate::leaf::closing_value;
 use crate::node::is_open_stimulus;
 use crate::relaxed::relaxed_maximum;
@@ -34,21 +33,6 @@ pub fn start_form(problem: &Problem) -> Option<ItemSet>
         }
         None => None,
     }
-}
-
-/// Whether no row is impossible by counting.
-fn is_possible(problem: &Problem, standing: &Standing) -> bool
-    requires well_made { IsWellMade (problem_of problem.now) }
-    requires standing { IsStanding (problem_of problem.now) standing.now }
-    ensures { IsTrue result ↔ ((r : ℕ) → IsFalse (is_impossible (problem_of problem.now) (path_of standing.now.cut) r)) }
-{
-    let rows = problem.spec.rows().len() + problem.bank.stimuli() as usize;
-    for row in 0..rows as u8 + 1 {
-        if is_impossible(problem, standing, row) {
-            return false;
-        }
-    }
-    true
 }
 
 /// Whether the plain bound is defined and exceeds the value that closes a path.
