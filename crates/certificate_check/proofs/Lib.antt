@@ -11,3 +11,4 @@ pub mod CheckLaws
 pub mod ShapeLaws
 pub mod SpendSteps
 pub mod Tallies
+pub mod RowShares

@@ -26,7 +26,7 @@ other i b x ne = elim (eqb_tells i b) [ inl (e, same) ↦ absurd (ne same) | inr
 last_or_before : (i n : ℕ) → i < suc n → (i < n) ⊎ (i ≡ n)
 last_or_before i n h = grind arith
 
-count_with : (n b : ℕ) (T T' : Set) → b < n → T b ≡ false → ((i : ℕ) → T' i ≡ (i == b || T i)) → count_in n T' (λ _. true) ≡ count_in n T (λ _. true) + 1
+pub count_with : (n b : ℕ) (T T' : Set) → b < n → T b ≡ false → ((i : ℕ) → T' i ≡ (i == b || T i)) → count_in n T' (λ _. true) ≡ count_in n T (λ _. true) + 1
 count_with zero b T T' w out e = absurd (omega arith)
 count_with (suc n) b T T' w out e =
     elim (last_or_before b n w) [

@@ -1,9 +1,10 @@
 //! The reduced weights: what each item and stimulus adds to the Lagrangian.
 
-ghost use Rattle.std.specs.Prelude.{◌≡◌, ℕ, ◌+◌, ◌*◌, ◌-ℤ◌, ◌*ℤ◌, ◌<◌, ◌≤◌, ◌≤ℤ◌, pos, length, slice_index};
+ghost use Rattle.std.specs.Prelude.{◌≡◌, ℕ, ◌+◌, ◌*◌, ◌-ℤ◌, ◌*ℤ◌, ◌<◌, ◌≤◌, ◌≤ℤ◌, pos, cond, length, slice_index};
+ghost use Rattle.bank_tables.specs.Items.{has};
 ghost use Rattle.bank_tables.specs.Sums.{total_z};
-ghost use Rattle.bank_tables.specs.Tables.{size};
-ghost use Rattle.bank_tables.specs.Validity.{IsBank};
+ghost use Rattle.bank_tables.specs.Tables.{size, quantity};
+ghost use Rattle.bank_tables.specs.Validity.{IsBank, HoldsItems};
 ghost use Rattle.exam_model.specs.Forms.{stimuli_of};
 ghost use Rattle.exam_model.specs.Weights.{weight, item_activity, stimulus_activity, price, bounds_price, item_share, stimulus_share, price_of_stimulus, rows_constant, item_weight, stimulus_weight};
 ghost use Rattle.exam_model.specs.Validity.{IsRow, IsWellMade};
@@ -11,40 +12,9 @@ ghost use Rattle.constraint_model.specs.Views.{problem_of};
 ghost use Rattle.exam_model.specs.Ranges.{AreMultipliers, IsWithin, at};
 ghost use Rattle.certificate_check.specs.Weights.{IsAdded, weight_up_to, item_top, stimulus_top};
 
-use bank_tables::Bank;
+use bank_tables::{Bank, ItemSet};
 use constraint_model::counts::{lower_bound, upper_bound};
 use constraint_model::{Problem, Row};
-
-/// What an item adds to a row.
-fn item_activity(bank: &Bank, row: &Row, item: u16) -> u32
-    requires item { item < size bank.now }
-    requires bank { IsBank bank.now }
-    requires row { IsRow bank.now row.now }
-    ensures part { result ≡ item_activity bank.now row.now item }
-    ensures few { result ≤ 65535 }
-{
-    match row {
-        Row::Count {
-            set,
-            low: _,
-            high: _,
-        } => set.has(item) as u32,
-        Row::Quantity {
-            which,
-            set,
-            low: _,
-            high: _,
-        } => {
-            if set.has(item) {
-                bank.quantity(item, *which)
-            } else {
-                0
-            }
-        }
-        Row::Enemies { set } => set.has(item) as u32,
-        Row::Stimuli { low: _, high: _ } => 0,
-    }
-}
 
 /// What a stimulus adds to a row.
 fn stimulus_activity(row: &Row) -> u32
@@ -129,6 +99,93 @@ pub fn rows_constant(problem: &Problem, sides: &[u32; 386]) -> i64
     sum
 }
 
+/// The multiplier of a low side less that of the high side.
+fn net_of(low: u32, high: u32) -> i64
+    requires low { low ≤ 16777216 }
+    requires high { high ≤ 16777216 }
+    ensures value { result ≡ pos low -ℤ pos high }
+    ensures within { IsWithin 16777216 result }
+{
+    low as i64 - high as i64
+}
+
+/// The net of two multipliers where the item is in the set, else 0.
+fn net_of_member(set: &ItemSet, low: u32, high: u32, item: u16) -> i64
+    requires low { low ≤ 16777216 }
+    requires high { high ≤ 16777216 }
+    ensures value { result ≡ (pos low -ℤ pos high) *ℤ pos (cond (has set.now item) 1 0) }
+    ensures within { IsWithin (16777216 * 65535) result }
+{
+    if set.has(item) { net_of(low, high) } else { 0 }
+}
+
+/// The quantity of an item in the set, else 0.
+fn quantity_in(bank: &Bank, set: &ItemSet, which: u8, item: u16) -> u32
+    requires bank { IsBank bank.now }
+    requires which { which < bank.now.quantities }
+    requires item { item < size bank.now }
+    ensures part { result ≡ cond (has set.now item) (quantity bank.now item which) 0 }
+    ensures few { result ≤ 65535 }
+{
+    if set.has(item) {
+        bank.quantity(item, which)
+    } else {
+        0
+    }
+}
+
+/// Adds to the weight of each item in a set the net of two multipliers.
+fn add_count(bank: &Bank, set: &ItemSet, low: u32, high: u32, weights: &mut [i64])
+    requires low { low ≤ 16777216 }
+    requires high { high ≤ 16777216 }
+    requires room { size bank.now ≤ length weights.old }
+    requires within { (i : ℕ) → i < size bank.now → IsWithin item_top (at weights.old i) }
+    ensures { (i : ℕ) → i < size bank.now →
+        IsAdded (16777216 * 65535) (at weights.old i)
+        ((pos low -ℤ pos high) *ℤ pos (cond (has set.now i) 1 0)) (at weights.new i) }
+{
+    for i in 0..bank.items() {
+        weights[i as usize] += net_of_member(set, low, high, i);
+    }
+}
+
+/// The same where the set has few items: its members alone are looked at.
+fn add_to_members(bank: &Bank, set: &ItemSet, low: u32, high: u32, weights: &mut [i64])
+    requires set { HoldsItems bank.now (has set.now) }
+    requires low { low ≤ 16777216 }
+    requires high { high ≤ 16777216 }
+    requires room { size bank.now ≤ length weights.old }
+    requires within { (i : ℕ) → i < size bank.now → IsWithin item_top (at weights.old i) }
+    ensures { (i : ℕ) → i < size bank.now →
+        IsAdded (16777216 * 65535) (at weights.old i)
+        ((pos low -ℤ pos high) *ℤ pos (cond (has set.now i) 1 0)) (at weights.new i) }
+{
+    let _items = bank.items();
+    let mut rest = *set;
+    while let Some(item) = rest.first() {
+        weights[item as usize] += net_of(low, high);
+        rest = rest.without(item);
+    }
+}
+
+/// Adds to the weight of each item in a set the net of two multipliers times its quantity.
+fn add_quantity(bank: &Bank, set: &ItemSet, which: u8, low: u32, high: u32, weights: &mut [i64])
+    requires bank { IsBank bank.now }
+    requires which { which < bank.now.quantities }
+    requires low { low ≤ 16777216 }
+    requires high { high ≤ 16777216 }
+    requires room { size bank.now ≤ length weights.old }
+    requires within { (i : ℕ) → i < size bank.now → IsWithin item_top (at weights.old i) }
+    ensures { (i : ℕ) → i < size bank.now →
+        IsAdded (16777216 * 65535) (at weights.old i)
+        ((pos low -ℤ pos high) *ℤ pos (cond (has set.now i) (quantity bank.now i which) 0))
+        (at weights.new i) }
+{
+    for i in 0..bank.items() {
+        weights[i as usize] += scaled(low, high, quantity_in(bank, set, which, i));
+    }
+}
+
 /// Adds to the weight of each item what a row adds whose sides have these multipliers.
 fn add_row(bank: &Bank, row: &Row, low: u32, high: u32, weights: &mut [i64])
     requires bank { IsBank bank.now }
@@ -139,8 +196,11 @@ fn add_row(bank: &Bank, row: &Row, low: u32, high: u32, weights: &mut [i64])
     requires within { (i : ℕ) → i < size bank.now → IsWithin item_top (at weights.old i) }
     ensures { (i : ℕ) → i < size bank.now → IsAdded (16777216 * 65535) (at weights.old i) ((pos low -ℤ pos high) *ℤ pos (item_activity bank.now row.now i)) (at weights.new i) }
 {
-    for i in 0..bank.items() {
-        weights[i as usize] += scaled(low, high, item_activity(bank, row, i));
+    match row {
+        Row::Count { set, .. } => add_count(bank, set, low, high, weights),
+        Row::Quantity { which, set, .. } => add_quantity(bank, set, *which, low, high, weights),
+        Row::Enemies { set } => add_to_members(bank, set, low, high, weights),
+        Row::Stimuli { .. } => {}
     }
 }
 
