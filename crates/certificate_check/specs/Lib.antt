@@ -6,3 +6,4 @@ pub mod Maximum
 pub mod Answers
 pub mod Walks
 pub mod Spends
+pub mod Columns

@@ -9,6 +9,7 @@ mod branch;
 mod candidate;
 mod cap;
 mod checker;
+mod column;
 mod counting;
 mod cut;
 mod leaf;

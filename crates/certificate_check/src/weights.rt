@@ -1,6 +1,6 @@
 //! The reduced weights: what each item and stimulus adds to the Lagrangian.
 
-ghost use Rattle.std.specs.Prelude.{◌≡◌, ℕ, ◌+◌, ◌*◌, ◌-ℤ◌, ◌*ℤ◌, ◌<◌, ◌≤◌, ◌≤ℤ◌, pos, cond, length, slice_index};
+ghost use Rattle.std.specs.Prelude.{◌≡◌, ℕ, ◌+◌, ◌*◌, ◌-ℤ◌, ◌*ℤ◌, ◌<◌, ◌≤◌, ◌≤ℤ◌, pos, cond, get_or, length, slice_index};
 ghost use Rattle.bank_tables.specs.Items.{has};
 ghost use Rattle.bank_tables.specs.Sums.{total_z};
 ghost use Rattle.bank_tables.specs.Tables.{size, quantity};
@@ -10,8 +10,10 @@ ghost use Rattle.exam_model.specs.Weights.{weight, item_activity, stimulus_activ
 ghost use Rattle.exam_model.specs.Validity.{IsRow, IsWellMade};
 ghost use Rattle.constraint_model.specs.Views.{problem_of};
 ghost use Rattle.exam_model.specs.Ranges.{AreMultipliers, IsWithin, at};
+ghost use Rattle.certificate_check.specs.Columns.{IsColumn};
 ghost use Rattle.certificate_check.specs.Weights.{IsAdded, weight_up_to, item_top, stimulus_top};
 
+use crate::column::{Column, no_column, read_column};
 use bank_tables::{Bank, ItemSet};
 use constraint_model::counts::{lower_bound, upper_bound};
 use constraint_model::{Problem, Row};
@@ -119,16 +121,15 @@ fn net_of_member(set: &ItemSet, low: u32, high: u32, item: u16) -> i64
     if set.has(item) { net_of(low, high) } else { 0 }
 }
 
-/// The quantity of an item in the set, else 0.
-fn quantity_in(bank: &Bank, set: &ItemSet, which: u8, item: u16) -> u32
-    requires bank { IsBank bank.now }
-    requires which { which < bank.now.quantities }
-    requires item { item < size bank.now }
-    ensures part { result ≡ cond (has set.now item) (quantity bank.now item which) 0 }
+/// The value of an item in the set, else 0.
+fn value_in(values: &[u32; 512], set: &ItemSet, item: u16) -> u32
+    requires item { item < 512 }
+    requires high { get_or values.now item 0 ≤ 65535 }
+    ensures part { result ≡ cond (has set.now item) (get_or values.now item 0) 0 }
     ensures few { result ≤ 65535 }
 {
     if set.has(item) {
-        bank.quantity(item, which)
+        values[item as usize]
     } else {
         0
     }
@@ -168,55 +169,107 @@ fn add_to_members(bank: &Bank, set: &ItemSet, low: u32, high: u32, weights: &mut
     }
 }
 
-/// Adds to the weight of each item in a set the net of two multipliers times its quantity.
-fn add_quantity(bank: &Bank, set: &ItemSet, which: u8, low: u32, high: u32, weights: &mut [i64])
-    requires bank { IsBank bank.now }
-    requires which { which < bank.now.quantities }
+/// Adds to the weight of each item in a set the net of two multipliers times its value.
+fn add_values(
+    bank: &Bank,
+    set: &ItemSet,
+    values: &[u32; 512],
+    low: u32,
+    high: u32,
+    weights: &mut [i64],
+)
     requires low { low ≤ 16777216 }
     requires high { high ≤ 16777216 }
+    requires values { (i : ℕ) → i < size bank.now → get_or values.now i 0 ≤ 65535 }
     requires room { size bank.now ≤ length weights.old }
     requires within { (i : ℕ) → i < size bank.now → IsWithin item_top (at weights.old i) }
     ensures { (i : ℕ) → i < size bank.now →
         IsAdded (16777216 * 65535) (at weights.old i)
-        ((pos low -ℤ pos high) *ℤ pos (cond (has set.now i) (quantity bank.now i which) 0))
+        ((pos low -ℤ pos high) *ℤ pos (cond (has set.now i) (get_or values.now i 0) 0))
         (at weights.new i) }
 {
     for i in 0..bank.items() {
-        weights[i as usize] += scaled(low, high, quantity_in(bank, set, which, i));
+        weights[i as usize] += scaled(low, high, value_in(values, set, i));
     }
 }
 
+/// Adds to the weight of each item in a set the net of two multipliers times its quantity.
+fn add_quantity(
+    bank: &Bank,
+    set: &ItemSet,
+    which: u8,
+    low: u32,
+    high: u32,
+    column: &mut Column,
+    weights: &mut [i64],
+)
+    requires bank { IsBank bank.now }
+    requires which { which < bank.now.quantities }
+    requires low { low ≤ 16777216 }
+    requires high { high ≤ 16777216 }
+    requires column { IsColumn bank.now column.old }
+    requires room { size bank.now ≤ length weights.old }
+    requires within { (i : ℕ) → i < size bank.now → IsWithin item_top (at weights.old i) }
+    ensures column { IsColumn bank.now column.new }
+    ensures added { (i : ℕ) → i < size bank.now →
+        IsAdded (16777216 * 65535) (at weights.old i)
+        ((pos low -ℤ pos high) *ℤ pos (cond (has set.now i) (quantity bank.now i which) 0))
+        (at weights.new i) }
+{
+    read_column(bank, which, column);
+    add_values(bank, set, &column.values, low, high, weights);
+}
+
 /// Adds to the weight of each item what a row adds whose sides have these multipliers.
-fn add_row(bank: &Bank, row: &Row, low: u32, high: u32, weights: &mut [i64])
+fn add_row(bank: &Bank, row: &Row, low: u32, high: u32, column: &mut Column, weights: &mut [i64])
     requires bank { IsBank bank.now }
     requires row { IsRow bank.now row.now }
     requires low { low ≤ 16777216 }
     requires high { high ≤ 16777216 }
+    requires column { IsColumn bank.now column.old }
     requires room { size bank.now ≤ length weights.old }
     requires within { (i : ℕ) → i < size bank.now → IsWithin item_top (at weights.old i) }
-    ensures { (i : ℕ) → i < size bank.now → IsAdded (16777216 * 65535) (at weights.old i) ((pos low -ℤ pos high) *ℤ pos (item_activity bank.now row.now i)) (at weights.new i) }
+    ensures column { IsColumn bank.now column.new }
+    ensures added { (i : ℕ) → i < size bank.now → IsAdded (16777216 * 65535) (at weights.old i) ((pos low -ℤ pos high) *ℤ pos (item_activity bank.now row.now i)) (at weights.new i) }
 {
     match row {
         Row::Count { set, .. } => add_count(bank, set, low, high, weights),
-        Row::Quantity { which, set, .. } => add_quantity(bank, set, *which, low, high, weights),
+        Row::Quantity { which, set, .. } => {
+            add_quantity(bank, set, *which, low, high, column, weights)
+        }
         Row::Enemies { set } => add_to_members(bank, set, low, high, weights),
         Row::Stimuli { .. } => {}
     }
 }
 
 /// Adds to the weight of each item what a row of the plan adds; most rows have no multiplier.
-fn add_row_at(problem: &Problem, sides: &[u32; 386], r: usize, weights: &mut [i64])
+fn add_row_at(
+    problem: &Problem,
+    sides: &[u32; 386],
+    r: usize,
+    column: &mut Column,
+    weights: &mut [i64],
+)
     requires well_made { IsWellMade (problem_of problem.now) }
     requires sides { AreMultipliers (slice_index sides.now) }
     requires row { r < length problem.now.spec.now.rows }
+    requires column { IsColumn problem.now.bank.now column.old }
     requires room { size problem.now.bank.now ≤ length weights.old }
     requires within { (i : ℕ) → i < size problem.now.bank.now → IsWithin item_top (at weights.old i) }
-    ensures { (i : ℕ) → i < size problem.now.bank.now → IsAdded (16777216 * 65535) (at weights.old i) (item_share (problem_of problem.now) (slice_index sides.now) i r) (at weights.new i) }
+    ensures column { IsColumn problem.now.bank.now column.new }
+    ensures added { (i : ℕ) → i < size problem.now.bank.now → IsAdded (16777216 * 65535) (at weights.old i) (item_share (problem_of problem.now) (slice_index sides.now) i r) (at weights.new i) }
 {
     let low = sides[2 * r];
     let high = sides[2 * r + 1];
     if low != high {
-        add_row(problem.bank, &problem.spec.rows()[r], low, high, weights);
+        add_row(
+            problem.bank,
+            &problem.spec.rows()[r],
+            low,
+            high,
+            column,
+            weights,
+        );
     }
 }
 
@@ -299,8 +352,9 @@ pub fn item_weights(problem: &Problem, sides: &[u32; 386], ray: bool) -> [i64; 5
 {
     let rows = problem.spec.rows().len();
     let mut weights = plain_weights(problem, sides, ray);
+    let mut column = no_column();
     for r in 0..rows {
-        add_row_at(problem, sides, r, &mut weights);
+        add_row_at(problem, sides, r, &mut column, &mut weights);
     }
     weights
 }

@@ -21,7 +21,7 @@ wider : (r : ℕ) (z : ℤ) → r ≤ 128 → IsWithin (r * 1099494850560 + 1099
 wider r z few w = record { low = omega (arith, ints, w.low); high = omega (arith, ints, w.high) }
 
 pub loop-r-init : goal.loop-r-init
-loop-r-init c = record { value = c.plain_weights-weights.ensures.value; within = c.plain_weights-weights.ensures.within }
+loop-r-init c = record { column = c.no_column-column.ensures c.args.problem.now.bank.now; value = c.plain_weights-weights.ensures.value; within = c.plain_weights-weights.ensures.within }
 
 pub add_row_at-requires-clause-within : goal.add_row_at-requires-clause-within
 add_row_at-requires-clause-within c = λ i w. wider c.loop-r.r (at c.loop-r.weights i) (omega (arith, c.loop-r-test.true, ap (λ (xs : List Row). length xs) c.rows-rows.ensures, c.requires.well_made.plan.few_rows)) (c.loop-r.invariant.within i w)
@@ -32,8 +32,9 @@ loop-r-preserved c =
     let M : ℕ → ℕ = slice_index c.args.sides.now in
     let r = c.loop-r.r in
     record {
-      value = λ i w. rw add-one (regrouped (at c.add_row_at.new.weights i) (at c.loop-r.weights i) (item_share P M i r) (pos (weight P c.args.ray i)) (total_z r (item_share P M i)) (price_of_stimulus P M (stimulus P.bank i)) (c.add_row_at.ensures i w).sum (c.loop-r.invariant.value i w));
-      within = λ i w. more_within r (at c.add_row_at.new.weights i) (at c.loop-r.weights i) (item_share P M i r) (c.loop-r.invariant.within i w) (c.add_row_at.ensures i w);
+      value = λ i w. rw add-one (regrouped (at c.add_row_at.new.weights i) (at c.loop-r.weights i) (item_share P M i r) (pos (weight P c.args.ray i)) (total_z r (item_share P M i)) (price_of_stimulus P M (stimulus P.bank i)) (c.add_row_at.ensures.added i w).sum (c.loop-r.invariant.value i w));
+      column = c.add_row_at.ensures.column;
+      within = λ i w. more_within r (at c.add_row_at.new.weights i) (at c.loop-r.weights i) (item_share P M i r) (c.loop-r.invariant.within i w) (c.add_row_at.ensures.added i w);
     }
 
 pub returns-clause-value : goal.returns-clause-value

@@ -1,0 +1,50 @@
+//! One quantity of every item, read once for all the rows that sum it.
+
+ghost use Rattle.std.specs.Prelude.{◌≡◌, ℕ, ◌<◌, get_or};
+ghost use Rattle.bank_tables.specs.Tables.{Tables, size, quantity};
+ghost use Rattle.certificate_check.specs.Columns.{IsColumn};
+
+use bank_tables::Bank;
+
+/// Which quantity was read last, if any was, and its value for each item.
+#[derive(Drop)]
+pub struct Column {
+    which: Option<u8>,
+    pub values: [u32; 512],
+}
+
+/// A column that was not read yet.
+pub fn no_column() -> Column
+    ensures { (b : Tables) → IsColumn b result }
+{
+    Column {
+        which: None,
+        values: [0; 512],
+    }
+}
+
+/// The values of a quantity.
+fn values_of(bank: &Bank, which: u8) -> [u32; 512]
+    requires { which < bank.now.quantities }
+    ensures { (i : ℕ) → i < size bank.now → get_or result i 0 ≡ quantity bank.now i which }
+{
+    let mut values = [0u32; 512];
+    for i in 0..bank.items() {
+        values[i as usize] = bank.quantity(i, which);
+    }
+    values
+}
+
+/// Reads a quantity into the column, unless it is there.
+pub fn read_column(bank: &Bank, which: u8, column: &mut Column)
+    requires which { which < bank.now.quantities }
+    requires column { IsColumn bank.now column.old }
+    ensures column { IsColumn bank.now column.new }
+    ensures values { (i : ℕ) → i < size bank.now →
+        get_or column.new.values i 0 ≡ quantity bank.now i which }
+{
+    if column.which != Some(which) {
+        column.values = values_of(bank, which);
+        column.which = Some(which);
+    }
+}
