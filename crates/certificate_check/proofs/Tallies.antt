@@ -4,7 +4,7 @@ use Rattle.std.specs.Prelude.{replicate}
 use Rattle.std.proofs.lemmas.Bool.{eq-eqb, ne_eqb, cases_eq}
 use Rattle.std.proofs.lemmas.List.{get_or-set_same, get_or-set_other}
 use Rattle.bank_tables.specs.Items.{Set}
-use Rattle.bank_tables.specs.Sums.{count_in}
+use Rattle.bank_tables.specs.Sums.{sum_in, count_in}
 
 pub none_yet : (n k : ℕ) → ◌≡◌ {A = ℕ} (get_or (replicate n 0) k 0) 0
 none_yet zero k = refl
@@ -38,3 +38,8 @@ tallied xs number X i at new is within e before s w =
           let elsewhere : (number i == s) ≡ false = ne_eqb (number i) s ne' in
           rw elsewhere (get_or-set_other xs at s new 0 ne ∙ before s w ∙ nothing (X i) (count_in i X (λ j. number j == s)))
     ]
+
+-- sums of numbers that are the same below n
+pub sum_in_alike : (n : ℕ) (X : Set) (f g : ℕ → ℕ) → ((i : ℕ) → i < n → f i ≡ g i) → sum_in n X f ≡ sum_in n X g
+sum_in_alike zero X f g h = refl
+sum_in_alike (suc n) X f g h = rw (sum_in_alike n X f g (λ i w. h i (omega arith)), h n (omega arith)) refl

@@ -1,10 +1,11 @@
 //! One quantity of every item, read once for all the rows that sum it.
 
-ghost use Rattle.std.specs.Prelude.{◌≡◌, ℕ, ◌<◌, get_or};
+ghost use Rattle.std.specs.Prelude.{◌≡◌, ℕ, ◌<◌, ◌≤◌, cond, get_or};
+ghost use Rattle.bank_tables.specs.Items.{has};
 ghost use Rattle.bank_tables.specs.Tables.{Tables, size, quantity};
 ghost use Rattle.certificate_check.specs.Columns.{IsColumn};
 
-use bank_tables::Bank;
+use bank_tables::{Bank, ItemSet};
 
 /// Which quantity was read last, if any was, and its value for each item.
 #[derive(Drop)]
@@ -46,5 +47,19 @@ pub fn read_column(bank: &Bank, which: u8, column: &mut Column)
     if column.which != Some(which) {
         column.values = values_of(bank, which);
         column.which = Some(which);
+    }
+}
+
+/// The value of an item in the set, else 0.
+pub fn value_in(values: &[u32; 512], set: &ItemSet, item: u16) -> u32
+    requires item { item < 512 }
+    requires high { get_or values.now item 0 ≤ 65535 }
+    ensures part { result ≡ cond (has set.now item) (get_or values.now item 0) 0 }
+    ensures few { result ≤ 65535 }
+{
+    if set.has(item) {
+        values[item as usize]
+    } else {
+        0
     }
 }

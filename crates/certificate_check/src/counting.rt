@@ -1,14 +1,18 @@
 //! Rows that are impossible by counting.
 
-ghost use Rattle.std.specs.Prelude.{◌≡◌, ℕ, suc, ◌<◌, ◌≤◌, ◌↔◌, length, get_or, IsTrue, IsFalse};
+ghost use Rattle.std.specs.Prelude.{◌≡◌, ℕ, suc, ◌<◌, ◌≤◌, ◌↔◌, cond, length, get_or, IsTrue, IsFalse};
 ghost use Rattle.bank_tables.specs.Items.{has};
+ghost use Rattle.bank_tables.specs.Sums.{sum_in};
+ghost use Rattle.bank_tables.specs.Tables.{size, quantity};
 ghost use Rattle.exam_model.specs.Counting.{length_impossible, row_impossible, stimulus_impossible, is_impossible};
 ghost use Rattle.exam_model.specs.Forms.{items_of, stimuli_of};
 ghost use Rattle.exam_model.specs.Plan.{row_at};
 ghost use Rattle.exam_model.specs.Validity.{IsRow, IsWellMade};
 ghost use Rattle.constraint_model.specs.Views.{problem_of};
+ghost use Rattle.certificate_check.specs.Columns.{IsColumn};
 ghost use Rattle.certificate_check.specs.Cuts.{path_of, IsStanding};
 
+use crate::column::{Column, no_column, read_column, value_in};
 use crate::standing::Standing;
 use bank_tables::{Bank, ItemSet};
 use constraint_model::counts::{activity, items_of, lower_bound, size_in, upper_bound};
@@ -117,6 +121,94 @@ fn are_stimuli_possible(problem: &Problem, standing: &Standing) -> bool
     true
 }
 
+/// A value where the item is in the set, else 0.
+fn value_where(items: &ItemSet, item: u16, value: u32) -> u32
+    requires { value ≤ 65535 }
+    ensures value { result ≡ cond (has items.now item) value 0 }
+    ensures few { result ≤ 65535 }
+{
+    if items.has(item) { value } else { 0 }
+}
+
+/// The sums of the values of a set's items, over those in one set and over those in another.
+fn two_sums(
+    bank: &Bank,
+    set: &ItemSet,
+    values: &[u32; 512],
+    first: &ItemSet,
+    second: &ItemSet,
+) -> (u32, u32)
+    requires { (i : ℕ) → i < size bank.now → get_or values.now i 0 ≤ 65535 }
+    ensures first { result.0 ≡
+        sum_in (size bank.now) (has first.now)
+        (λ i. cond (has set.now i) (get_or values.now i 0) 0) }
+    ensures second { result.1 ≡
+        sum_in (size bank.now) (has second.now)
+        (λ i. cond (has set.now i) (get_or values.now i 0) 0) }
+{
+    let mut one = 0u32;
+    let mut other = 0u32;
+    for i in 0..bank.items() {
+        let value = value_in(values, set, i);
+        one += value_where(first, i, value);
+        other += value_where(second, i, value);
+    }
+    (one, other)
+}
+
+/// The sums of a quantity over a set's items that are taken, and over those taken or free.
+fn quantity_sums(
+    problem: &Problem,
+    standing: &Standing,
+    set: &ItemSet,
+    which: u8,
+    column: &mut Column,
+) -> (u32, u32)
+    requires which { which < problem.now.bank.now.quantities }
+    requires column { IsColumn problem.now.bank.now column.old }
+    ensures column { IsColumn problem.now.bank.now column.new }
+    ensures least { result.0 ≡
+        sum_in (size problem.now.bank.now) (has standing.now.cut.taken)
+        (λ i. cond (has set.now i) (quantity problem.now.bank.now i which) 0) }
+    ensures most { result.1 ≡
+        sum_in (size problem.now.bank.now) (has standing.now.may_hold)
+        (λ i. cond (has set.now i) (quantity problem.now.bank.now i which) 0) }
+{
+    let bank = problem.bank;
+    let _items = bank.items();
+    read_column(bank, which, column);
+    two_sums(
+        bank,
+        set,
+        &column.values,
+        &standing.cut.taken,
+        &standing.may_hold,
+    )
+}
+
+/// Whether a row is impossible by counting, where a quantity is read once for many rows.
+fn row_misses(problem: &Problem, standing: &Standing, row: &Row, column: &mut Column) -> bool
+    requires row { IsRow problem.now.bank.now row.now }
+    requires standing { IsStanding (problem_of problem.now) standing.now }
+    requires column { IsColumn problem.now.bank.now column.old }
+    ensures column { IsColumn problem.now.bank.now column.new }
+    ensures misses { result ≡
+        row_impossible (problem_of problem.now) (path_of standing.now.cut) row.now }
+{
+    match row {
+        Row::Quantity {
+            which,
+            set,
+            low,
+            high,
+        } => {
+            let (least, most) = quantity_sums(problem, standing, set, *which, column);
+            *high < least || most < *low
+        }
+        _ => row_impossible(problem, standing, row),
+    }
+}
+
 /// Whether no row of the plan is impossible by counting.
 fn are_rows_possible(problem: &Problem, standing: &Standing) -> bool
     requires well_made { IsWellMade (problem_of problem.now) }
@@ -127,8 +219,9 @@ fn are_rows_possible(problem: &Problem, standing: &Standing) -> bool
         (row_at problem.now.spec.now r))) }
 {
     let rows = problem.spec.rows();
+    let mut column = no_column();
     for r in 0..rows.len() {
-        if row_impossible(problem, standing, &rows[r]) {
+        if row_misses(problem, standing, &rows[r], &mut column) {
             return false;
         }
     }

@@ -13,7 +13,7 @@ ghost use Rattle.exam_model.specs.Ranges.{AreMultipliers, IsWithin, at};
 ghost use Rattle.certificate_check.specs.Columns.{IsColumn};
 ghost use Rattle.certificate_check.specs.Weights.{IsAdded, weight_up_to, item_top, stimulus_top};
 
-use crate::column::{Column, no_column, read_column};
+use crate::column::{Column, no_column, read_column, value_in};
 use bank_tables::{Bank, ItemSet};
 use constraint_model::counts::{lower_bound, upper_bound};
 use constraint_model::{Problem, Row};
@@ -119,20 +119,6 @@ fn net_of_member(set: &ItemSet, low: u32, high: u32, item: u16) -> i64
     ensures within { IsWithin (16777216 * 65535) result }
 {
     if set.has(item) { net_of(low, high) } else { 0 }
-}
-
-/// The value of an item in the set, else 0.
-fn value_in(values: &[u32; 512], set: &ItemSet, item: u16) -> u32
-    requires item { item < 512 }
-    requires high { get_or values.now item 0 ≤ 65535 }
-    ensures part { result ≡ cond (has set.now item) (get_or values.now item 0) 0 }
-    ensures few { result ≤ 65535 }
-{
-    if set.has(item) {
-        values[item as usize]
-    } else {
-        0
-    }
 }
 
 /// Adds to the weight of each item in a set the net of two multipliers.
