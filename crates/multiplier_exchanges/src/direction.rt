@@ -54,7 +54,7 @@ impl Vertex {
         made.resize(self.tight.len(), 0)?;
         for place in 0..self.basic.len() {
             let column = self.basic.get(place).copied().unwrap_or(0);
-            let amount = amount_at(relaxation.column_cells(column), line);
+            let amount = self.amount(relaxation, column, line);
             if amount != 0 {
                 add_times(made, self.inverse_row(place), amount);
             }

@@ -1,6 +1,6 @@
 //! The inverse of the basic columns on the tight lines, as rows of one length one after the other.
 
-use crate::numbers::{ONE, at, product, quotient};
+use crate::numbers::{ONE, add_at, at, product, quotient};
 use proof_tree::Memory;
 
 /// Takes numbers, each times a factor, off others.
@@ -144,4 +144,14 @@ pub(crate) fn shrink(
         push_shorter(shrunk, known, by, line, factor)?;
     }
     Ok(())
+}
+
+/// Adds a row, times a sign, to another one.
+pub(crate) fn add_row(inverse: &mut [i64], size: usize, place: usize, other: usize, sign: i64) {
+    let from = other.wrapping_mul(size);
+    let to = place.wrapping_mul(size);
+    for number in 0..size {
+        let more = at(inverse, from.wrapping_add(number)).wrapping_mul(sign);
+        add_at(inverse, to.wrapping_add(number), more);
+    }
 }

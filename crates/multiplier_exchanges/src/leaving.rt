@@ -2,7 +2,7 @@
 
 use crate::numbers::{FAR, ONE};
 use crate::relaxation::{Line, Relaxation};
-use crate::vertex::{Hold, Vertex};
+use crate::vertex::{Hold, Stand, Vertex};
 use crate::workspace::Workspace;
 use proof_tree::Memory;
 
@@ -27,12 +27,13 @@ pub(crate) struct Leaver {
     pub out: i64,
 }
 
-/// How far a value is from where the path lets its column be, and on which side.
-fn column_out(hold: Hold, value: i64) -> (i64, i64) {
+/// How far a value is from where the path lets its column be, and on which side; `most` is 1 or, for a linked item, how far
+/// its stimulus is taken.
+fn column_out(hold: Hold, value: i64, most: i64) -> (i64, i64) {
     let (low, high) = match hold {
-        Hold::Free => (0, ONE),
+        Hold::Free => (0, most),
         Hold::Zero => (0, 0),
-        Hold::One => (ONE, ONE),
+        Hold::One => (most, most),
     };
     if value > high {
         (value.wrapping_sub(high), 1)
@@ -52,13 +53,34 @@ fn line_out(line: &Line, sum: i64) -> (i64, i64) {
 }
 
 impl Vertex {
+    /// How far a column may be taken.
+    fn most(&self, relaxation: &Relaxation, column: u16) -> i64 {
+        let Some(stimulus) = relaxation.link(column) else {
+            return ONE;
+        };
+        match self.stand(stimulus) {
+            Stand::One => ONE,
+            Stand::Zero => 0,
+            Stand::Basic => match self.place(stimulus) {
+                Some(place) => self.value(place),
+                None => 0,
+            },
+        }
+    }
+
+    /// The place of a basic column.
+    pub(crate) fn place(&self, column: u16) -> Option<usize> {
+        self.basic.iter().position(|basic| *basic == column)
+    }
+
     /// The basic column that is out of its bounds most.
-    fn leaving_column(&self) -> Option<Leaver> {
+    fn leaving_column(&self, relaxation: &Relaxation) -> Option<Leaver> {
         let mut best = None;
         let mut most = LEAST_COLUMN;
         let mut place = 0usize;
         for (column, value) in self.basic.iter().zip(self.values.iter()) {
-            let (out, sign) = column_out(self.hold(*column), *value);
+            let limit = self.most(relaxation, *column);
+            let (out, sign) = column_out(self.hold(*column), *value, limit);
             if out > most {
                 most = out;
                 let part = Part::Column(place);
@@ -96,7 +118,7 @@ impl Vertex {
         room: &mut Workspace,
     ) -> Result<Option<Leaver>, Memory> {
         self.compute_sums(relaxation, &mut room.sums)?;
-        let column = self.leaving_column();
+        let column = self.leaving_column(relaxation);
         let least = match &column {
             Some(leaver) => leaver.out,
             None => 0,

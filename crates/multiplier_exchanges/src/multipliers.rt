@@ -1,8 +1,8 @@
 //! The vector of a vertex, in whole multipliers.
 
-use crate::numbers::{add_at, product};
+use crate::numbers::{add_at, at, product};
 use crate::relaxation::{NO_SIDE, Relaxation};
-use crate::vertex::Vertex;
+use crate::vertex::{Hold, Stand, Vertex};
 use crate::workspace::Workspace;
 use bank_tables::List;
 use proof_tree::{Memory, Vector};
@@ -20,12 +20,32 @@ fn push_side(pairs: &mut Vec<(u16, u32)>, side: u16, price: i64) -> Result<(), M
     Ok(())
 }
 
-/// The vector of the multipliers of all lines.
-fn vector_of(alloc: Global, relaxation: &Relaxation, prices: &[i64]) -> Result<Vector, Memory> {
+/// Adds the cap, in units of 1/256.
+fn push_cap(pairs: &mut Vec<(u16, u32)>, price: i64) -> Result<(), Memory> {
+    let cap = price.saturating_add(128) >> 8;
+    if cap >= 0 {
+        pairs.push((384, cap.clamp(1, MOST) as u32))?;
+    }
+    if cap <= 0 {
+        pairs.push((385, cap.saturating_neg().clamp(1, MOST) as u32))?;
+    }
+    Ok(())
+}
+
+/// The vector of the multipliers of all lines; with a cap, that is the price of the length.
+fn vector_of(
+    alloc: Global,
+    relaxation: &Relaxation,
+    prices: &[i64],
+    has_cap: bool,
+) -> Result<Vector, Memory> {
     let mut pairs = Vec::new(alloc);
     for (line, price) in relaxation.lines.iter().zip(prices.iter()) {
         push_side(&mut pairs, line.positive, *price)?;
         push_side(&mut pairs, line.negative, price.wrapping_neg())?;
+    }
+    if has_cap {
+        push_cap(&mut pairs, at(prices, 0).wrapping_neg())?;
     }
     match Vector::of(List::of(pairs)) {
         Some(vector) => Ok(vector),
@@ -41,8 +61,29 @@ impl Vertex {
         relaxation: &Relaxation,
         room: &mut Workspace,
     ) -> Result<Vector, Memory> {
-        self.line_prices(relaxation.lines.len(), &mut room.sums)?;
-        vector_of(alloc, relaxation, room.sums.as_slice())
+        self.exact_prices(relaxation, room)?;
+        vector_of(
+            alloc,
+            relaxation,
+            room.sums.as_slice(),
+            self.has_followers(relaxation),
+        )
+    }
+
+    /// Whether an item is taken as far as its stimulus, and no further for the stimulus alone.
+    fn has_followers(&self, relaxation: &Relaxation) -> bool {
+        let mut number = 0u16;
+        for column in self.columns.as_slice() {
+            if column.stand == Stand::One && column.weight > 0 {
+                if let Some(stimulus) = relaxation.link(number) {
+                    if self.hold(stimulus) == Hold::Free {
+                        return true;
+                    }
+                }
+            }
+            number = number.wrapping_add(1);
+        }
+        false
     }
 
     /// Adds the direction of the last line search to the multipliers, times a length.
@@ -71,8 +112,13 @@ pub fn vector_towards(
         room.sums.clear();
         room.sums.resize(lines, 0)?;
     } else {
-        vertex.line_prices(lines, &mut room.sums)?;
+        vertex.exact_prices(relaxation, room)?;
     }
     vertex.add_direction(room, length);
-    vector_of(alloc, relaxation, room.sums.as_slice())
+    vector_of(
+        alloc,
+        relaxation,
+        room.sums.as_slice(),
+        relaxation.has_links(),
+    )
 }

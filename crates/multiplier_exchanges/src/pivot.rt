@@ -1,12 +1,11 @@
 //! The exchange of what leaves for what enters.
 
-use crate::breaks::{Break, Enterer, search_line};
-use crate::direction::amount_at;
-use crate::inverse::{grow, replace_column, replace_line, shrink};
+use crate::breaks::{Break, Enterer, Leaving, search_line};
+use crate::inverse::{add_row, grow, replace_column, replace_line, shrink};
 use crate::leaving::{Leaver, Part};
 use crate::numbers::{ONE, at, product, quotient};
 use crate::relaxation::Relaxation;
-use crate::vertex::{Stand, Tight, Vertex, stand_by};
+use crate::vertex::{Hold, Stand, Tight, Vertex, stand_by};
 use crate::workspace::{Direction, Workspace};
 use proof_tree::Memory;
 use std::mem;
@@ -18,14 +17,11 @@ fn way(number: i64, entry: i64) -> i64 {
 
 impl Vertex {
     /// How far it is to the break that enters.
-    fn step_to(&self, enterer: Enterer, direction: &Direction) -> i64 {
+    fn step_to(&self, relaxation: &Relaxation, enterer: Enterer, direction: &Direction) -> i64 {
         match enterer {
             Enterer::Column(column) => {
-                let entry = at(direction.entries.as_slice(), column as usize);
-                match self.columns.get(column as usize) {
-                    Some(known) => way(known.weight, entry),
-                    None => 0,
-                }
+                let entry = self.entry(relaxation, direction, column);
+                way(self.weight(relaxation, column), entry)
             }
             Enterer::Line(place) => {
                 let entry = at(direction.prices.as_slice(), place);
@@ -44,13 +40,26 @@ impl Vertex {
         }
     }
 
-    /// Moves the reduced weights.
-    fn move_weights(&mut self, direction: &Direction, step: i64) {
+    /// Moves the reduced weights of the items, and of the stimuli, also of basic ones.
+    fn move_weights(&mut self, relaxation: &Relaxation, direction: &Direction, step: i64) {
+        let mut number = 0u16;
         for (column, entry) in self.columns.iter_mut().zip(direction.entries.iter()) {
-            if *entry != 0 && column.stand != Stand::Basic {
+            if *entry != 0 && (column.stand != Stand::Basic || relaxation.is_stimulus(number)) {
                 column.weight = column.weight.wrapping_add(product(step, *entry));
             }
+            number = number.wrapping_add(1);
         }
+    }
+
+    /// The entry of a column; that of a stimulus with those of the items that follow it.
+    pub(crate) fn entry(&self, relaxation: &Relaxation, direction: &Direction, column: u16) -> i64 {
+        let mut entry = at(direction.entries.as_slice(), column as usize);
+        for item in relaxation.linked(column) {
+            if self.stand(*item) == Stand::One {
+                entry = entry.wrapping_add(at(direction.entries.as_slice(), *item as usize));
+            }
+        }
+        entry
     }
 
     /// Lets what is passed change sides.
@@ -88,7 +97,7 @@ impl Vertex {
     ) -> Result<(), Memory> {
         room.needs.clear();
         for tight in self.tight.as_slice() {
-            let amount = amount_at(relaxation.column_cells(column), tight.line);
+            let amount = self.amount(relaxation, column, tight.line);
             room.needs.push(amount)?;
         }
         self.times_needs(room)
@@ -109,7 +118,7 @@ impl Vertex {
 
     /// The cell of a line and a column, less what the tight lines make up for.
     fn pivot_of(&self, relaxation: &Relaxation, line: u16, column: u16, room: &Workspace) -> i64 {
-        let cell = amount_at(relaxation.column_cells(column), line);
+        let cell = self.amount(relaxation, column, line);
         let mut pivot = cell.wrapping_mul(ONE);
         for (number, amount) in room.line.iter().zip(room.needs.iter()) {
             pivot = pivot.wrapping_sub(number.wrapping_mul(*amount));
@@ -119,19 +128,85 @@ impl Vertex {
 
     /// Lets a column that was basic stand, at the bound that the sign of its weight shows, also where that is 0.
     fn leave(&mut self, relaxation: &Relaxation, column: u16, step: i64, sign: i64) {
+        let others = self
+            .weight(relaxation, column)
+            .wrapping_sub(self.own_weight(column));
         if let Some(known) = self.columns.get_mut(column as usize) {
-            known.stand = Stand::Zero;
-            known.weight = step.wrapping_mul(sign);
+            known.weight = step.wrapping_mul(sign).wrapping_sub(others);
         }
         let stand = stand_by(self.hold(column), sign);
         self.stand_at(relaxation, column, stand);
     }
 
-    /// Makes a column basic.
-    fn enter(&mut self, relaxation: &Relaxation, column: u16) {
+    /// The reduced weight of a column without those of the items that follow it.
+    fn own_weight(&self, column: u16) -> i64 {
+        match self.columns.get(column as usize) {
+            Some(known) => known.weight,
+            None => 0,
+        }
+    }
+
+    /// Makes a column basic, whose row of the inverse is at a place. An item that followed a basic stimulus is told from it.
+    fn enter(&mut self, relaxation: &Relaxation, column: u16, place: usize) {
+        if self.stand(column) == Stand::One && self.follows_basic(relaxation, column) {
+            self.add_row_of_stimulus(relaxation, column, place, 1);
+        }
         self.stand_at(relaxation, column, Stand::Basic);
-        if let Some(known) = self.columns.get_mut(column as usize) {
-            known.weight = 0;
+        if !relaxation.is_stimulus(column) {
+            if let Some(known) = self.columns.get_mut(column as usize) {
+                known.weight = 0;
+            }
+        }
+    }
+
+    /// Adds the row of the inverse of an item's basic stimulus, times a sign, to the row at a place.
+    fn add_row_of_stimulus(
+        &mut self,
+        relaxation: &Relaxation,
+        column: u16,
+        place: usize,
+        sign: i64,
+    ) {
+        let Some(stimulus) = relaxation.link(column) else {
+            return;
+        };
+        let Some(other) = self.place(stimulus) else {
+            return;
+        };
+        let size = self.tight.len();
+        add_row(&mut self.inverse, size, place, other, sign);
+    }
+
+    /// What leaves, if it is a column.
+    fn leaving(&self, leaver: &Leaver) -> Option<Leaving> {
+        let Part::Column(place) = leaver.part else {
+            return None;
+        };
+        let column = self.basic.get(place).copied()?;
+        let hold = self.hold(column);
+        Some(Leaving {
+            column,
+            is_one: stand_by(hold, leaver.sign) == Stand::One,
+            is_held: hold != Hold::Free,
+        })
+    }
+
+    /// Lets a linked item that leaves follow its stimulus from now on, or takes that back.
+    fn follow(&mut self, relaxation: &Relaxation, leaver: &Leaver, leaving: &Leaving, is: bool) {
+        let Part::Column(place) = leaver.part else {
+            return;
+        };
+        if !leaving.is_one || relaxation.link(leaving.column).is_none() {
+            return;
+        }
+        let (stand, sign) = if is {
+            (Stand::One, -1)
+        } else {
+            (Stand::Basic, 1)
+        };
+        self.stand_at(relaxation, leaving.column, stand);
+        if self.follows_basic(relaxation, leaving.column) {
+            self.add_row_of_stimulus(relaxation, leaving.column, place, sign);
         }
     }
 
@@ -163,9 +238,12 @@ impl Vertex {
         )?;
         if let Some(slot) = self.basic.get_mut(place) {
             let leaves = mem::replace(slot, column);
+            if leaves == column {
+                return Ok(());
+            }
             self.leave(relaxation, leaves, step, sign);
         }
-        self.enter(relaxation, column);
+        self.enter(relaxation, column, place);
         Ok(())
     }
 
@@ -187,7 +265,7 @@ impl Vertex {
         self.note_tight(tight.line, true);
         self.tight.push(tight)?;
         self.basic.push(column)?;
-        self.enter(relaxation, column);
+        self.enter(relaxation, column, size);
         Ok(())
     }
 
@@ -292,22 +370,29 @@ impl Vertex {
         leaver: &Leaver,
         room: &mut Workspace,
     ) -> Result<bool, Memory> {
+        let leaving = self.leaving(leaver);
+        if let Some(known) = &leaving {
+            self.follow(relaxation, leaver, known, true);
+        }
         self.compute_direction(relaxation, leaver, &mut room.direction)?;
-        self.compute_breaks(relaxation, &room.direction, leaver.out, &mut room.breaks)?;
+        self.compute_breaks(relaxation, &leaving, leaver.out, room)?;
         let found = search_line(&mut room.breaks, leaver.out);
         let Some(last) = found.last else {
+            if let Some(known) = &leaving {
+                self.follow(relaxation, leaver, known, false);
+            }
             return Ok(false);
         };
         let Some(entering) = room.breaks.get(last).copied() else {
             return Ok(false);
         };
-        let step = self.step_to(entering.enterer, &room.direction);
-        self.move_prices(&room.direction, step);
-        self.move_weights(&room.direction, step);
         self.pass_all(
             relaxation,
             room.breaks.as_slice().get(..last).unwrap_or(&[]),
         );
+        let step = self.step_to(relaxation, entering.enterer, &room.direction);
+        self.move_prices(&room.direction, step);
+        self.move_weights(relaxation, &room.direction, step);
         self.pivot(relaxation, leaver, entering.enterer, step, room)?;
         self.age = self.age.saturating_add(1);
         Ok(true)

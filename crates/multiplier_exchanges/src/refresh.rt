@@ -78,8 +78,25 @@ impl Vertex {
             let column = self.basic.get(place).copied().unwrap_or(0);
             let cells = relaxation.column_cells(column);
             self.take_column(cells, place, room.sums.as_slice(), &mut room.spare);
+            self.take_followers(relaxation, column, place, room);
         }
         Ok(())
+    }
+
+    /// The same of the items that follow a column.
+    fn take_followers(
+        &self,
+        relaxation: &Relaxation,
+        column: u16,
+        place: usize,
+        room: &mut Workspace,
+    ) {
+        for item in relaxation.linked(column) {
+            if self.stand(*item) == Stand::One {
+                let cells = relaxation.column_cells(*item);
+                self.take_column(cells, place, room.sums.as_slice(), &mut room.spare);
+            }
+        }
     }
 
     /// The correction of a row of the inverse: the row times the errors.
@@ -117,7 +134,7 @@ impl Vertex {
         room.line.resize(self.tight.len(), 0)?;
         for place in 0..self.basic.len() {
             let column = self.basic.get(place).copied().unwrap_or(0);
-            let gain = relaxation.gain(column).wrapping_neg();
+            let gain = self.whole_gain(relaxation, column).wrapping_neg();
             add_product(&mut room.line, self.inverse_row(place), gain);
         }
         for (tight, price) in self.tight.iter_mut().zip(room.line.iter()) {
@@ -136,6 +153,65 @@ impl Vertex {
         weight
     }
 
+    /// The weight of a basic column by the multipliers, which is to be 0; that of a stimulus with those of the items that
+    /// follow it.
+    fn residue(&self, relaxation: &Relaxation, column: u16, prices: &[i64]) -> i64 {
+        let mut weight = self.weight_of(relaxation, column, prices);
+        for item in relaxation.linked(column) {
+            if self.stand(*item) == Stand::One {
+                let more = self.weight_of(relaxation, *item, prices);
+                weight = weight.wrapping_add(more);
+            }
+        }
+        weight
+    }
+
+    /// The residues of all basic columns.
+    fn compute_residues(
+        &self,
+        relaxation: &Relaxation,
+        room: &mut Workspace,
+    ) -> Result<(), Memory> {
+        room.needs.clear();
+        for column in self.basic.as_slice() {
+            let residue = self.residue(relaxation, *column, room.sums.as_slice());
+            room.needs.push(residue)?;
+        }
+        Ok(())
+    }
+
+    /// Takes a row of the inverse, times a residue, off the multipliers of the lines.
+    fn take_residue(&self, place: usize, residue: i64, prices: &mut [i64]) {
+        for (tight, number) in self.tight.iter().zip(self.inverse_row(place).iter()) {
+            let less = product(residue, *number).wrapping_neg();
+            add_at(prices, tight.line as usize, less);
+        }
+    }
+
+    /// The multiplier of each line, corrected by what the weights of the basic columns lack to be 0.
+    pub(crate) fn exact_prices(
+        &self,
+        relaxation: &Relaxation,
+        room: &mut Workspace,
+    ) -> Result<(), Memory> {
+        self.line_prices(relaxation.lines.len(), &mut room.sums)?;
+        self.compute_residues(relaxation, room)?;
+        for place in 0..self.basic.len() {
+            let residue = at(room.needs.as_slice(), place);
+            if residue != 0 {
+                self.take_residue(place, residue, &mut room.sums);
+            }
+        }
+        Ok(())
+    }
+
+    /// Keeps the multipliers of the tight lines.
+    fn keep_prices(&mut self, prices: &[i64]) {
+        for tight in self.tight.iter_mut() {
+            tight.price = at(prices, tight.line as usize);
+        }
+    }
+
     /// The multiplier of each line.
     pub(crate) fn line_prices(&self, lines: usize, prices: &mut Vec<i64>) -> Result<(), Memory> {
         prices.clear();
@@ -152,19 +228,27 @@ impl Vertex {
         relaxation: &Relaxation,
         room: &mut Workspace,
     ) -> Result<(), Memory> {
-        self.line_prices(relaxation.lines.len(), &mut room.sums)?;
+        self.exact_prices(relaxation, room)?;
+        self.keep_prices(room.sums.as_slice());
         let count = u16::try_from(self.columns.len()).unwrap_or(0);
         for column in 0..count {
-            if self.stand(column) != Stand::Basic {
+            if self.stand(column) != Stand::Basic || relaxation.is_stimulus(column) {
                 let weight = self.weight_of(relaxation, column, room.sums.as_slice());
                 if let Some(known) = self.columns.get_mut(column as usize) {
                     known.weight = weight;
                 }
-                let stand = stand_by(self.hold(column), weight);
-                self.stand_at(relaxation, column, stand);
+                self.stand_anew(relaxation, column);
             }
         }
         Ok(())
+    }
+
+    /// Lets a column stand where its weight shows, unless it is basic or follows a basic one.
+    fn stand_anew(&mut self, relaxation: &Relaxation, column: u16) {
+        if self.stand(column) != Stand::Basic && !self.follows_basic(relaxation, column) {
+            let stand = stand_by(self.hold(column), self.weight(relaxation, column));
+            self.stand_at(relaxation, column, stand);
+        }
     }
 
     /// Refreshes the inverse, the multipliers and the weights.

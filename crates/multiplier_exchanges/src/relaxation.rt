@@ -55,6 +55,12 @@ pub struct Relaxation {
     pub(crate) items: Vec<u16>,
     /// The numbers of the stimuli that are columns, after the items.
     pub(crate) stimuli: Vec<u8>,
+    /// For each item that is a column the column of its stimulus, where that is open at the root; else `NO_SIDE`.
+    links: Vec<u16>,
+    /// The columns of the items linked to each stimulus, one stimulus after the other.
+    linked: Vec<u16>,
+    /// Where the linked items of each stimulus begin, and where those of the last end.
+    link_starts: Vec<usize>,
 }
 
 /// The place of each item among the columns; `NO_SIDE` for none.
@@ -170,6 +176,45 @@ impl Relaxation {
             (Some(start), Some(end)) => self.column_cells.get(*start..*end).unwrap_or(&[]),
             _ => &[],
         }
+    }
+
+    /// The column of the stimulus to which the item of a column is linked: it is chosen only where that is.
+    #[inline]
+    pub(crate) fn link(&self, column: u16) -> Option<u16> {
+        match self.links.get(column as usize) {
+            Some(stimulus) if *stimulus != NO_SIDE => Some(*stimulus),
+            _ => None,
+        }
+    }
+
+    /// The columns of the items that are linked to the stimulus of a column.
+    #[inline]
+    pub(crate) fn linked(&self, column: u16) -> &[u16] {
+        let place = (column as usize).wrapping_sub(self.items.len());
+        match (
+            self.link_starts.get(place),
+            self.link_starts.get(place.wrapping_add(1)),
+        ) {
+            (Some(start), Some(end)) => self.linked.get(*start..*end).unwrap_or(&[]),
+            _ => &[],
+        }
+    }
+
+    /// Whether a column is that of a linked item, or of a stimulus with such items.
+    #[inline]
+    pub(crate) fn is_linked(&self, column: u16) -> bool {
+        self.link(column).is_some() || !self.linked(column).is_empty()
+    }
+
+    /// Whether an item is linked to a stimulus.
+    pub(crate) fn has_links(&self) -> bool {
+        !self.linked.is_empty()
+    }
+
+    /// Whether the column is that of a stimulus.
+    #[inline]
+    pub(crate) fn is_stimulus(&self, column: u16) -> bool {
+        (column as usize) >= self.items.len()
     }
 
     /// The gain of a column.
@@ -412,6 +457,36 @@ impl Relaxation {
         Ok(())
     }
 
+    /// Links the items of one stimulus to its column.
+    fn link_items(&mut self, bank: &Bank, stimulus: u8, column: u16) -> Result<(), Memory> {
+        let count = self.items.len();
+        for place in 0..count {
+            let item = self.items.get(place).copied().unwrap_or(0);
+            if item < bank.items() && bank.stimulus(item) == stimulus {
+                self.linked.push(short(place))?;
+                if let Some(link) = self.links.get_mut(place) {
+                    *link = column;
+                }
+            }
+        }
+        Ok(())
+    }
+
+    /// Links the items of the open stimuli.
+    fn add_links(&mut self, bank: &Bank, sets: &PathSets) -> Result<(), Memory> {
+        let count = self.items.len();
+        self.links.resize(count, NO_SIDE)?;
+        for place in 0..self.stimuli.len() {
+            self.link_starts.push(self.linked.len())?;
+            let stimulus = self.stimuli.get(place).copied().unwrap_or(0);
+            if sets.opened.has(stimulus as u16) {
+                self.link_items(bank, stimulus, short(count.saturating_add(place)))?;
+            }
+        }
+        self.link_starts.push(self.linked.len())?;
+        Ok(())
+    }
+
     /// The number of cells of each column.
     fn column_counts(&self, alloc: Global) -> Result<Vec<usize>, Memory> {
         let mut counts = Vec::from_elem(alloc, 0usize, self.gains.len())?;
@@ -479,9 +554,13 @@ impl Relaxation {
             given: gains_of(problem, &root.taken),
             items: Vec::new(alloc),
             stimuli: Vec::new(alloc),
+            links: Vec::new(alloc),
+            linked: Vec::new(alloc),
+            link_starts: Vec::new(alloc),
         };
         let places = relaxation.add_items(problem, &root.free)?;
         relaxation.add_stimuli(root)?;
+        relaxation.add_links(problem.bank, root)?;
         relaxation.add_length(problem, root)?;
         relaxation.add_rows(problem, root, &places)?;
         relaxation.add_all_bounds(problem, root, &places)?;

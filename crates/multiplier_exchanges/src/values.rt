@@ -2,7 +2,7 @@
 
 use crate::numbers::{ONE, add_at, product};
 use crate::relaxation::Relaxation;
-use crate::vertex::{Tight, Vertex};
+use crate::vertex::{Stand, Tight, Vertex};
 use crate::workspace::Workspace;
 use proof_tree::Memory;
 
@@ -58,7 +58,7 @@ impl Vertex {
         for place in 0..self.basic.len() {
             let value = sum_of_products(self.inverse_row(place), room.needs.as_slice());
             let column = self.basic.get(place).copied().unwrap_or(0);
-            bound = bound.wrapping_add(product(relaxation.gain(column), value));
+            bound = bound.wrapping_add(product(self.whole_gain(relaxation, column), value));
             self.values.push(value)?;
         }
         self.bound = bound;
@@ -71,6 +71,16 @@ impl Vertex {
         for cell in relaxation.column_cells(column) {
             let more = cell.amount.wrapping_mul(value);
             add_at(sums, cell.place as usize, more);
+        }
+    }
+
+    /// The same with the items that follow it.
+    fn add_basic_all(&self, relaxation: &Relaxation, sums: &mut [i64], column: u16, value: i64) {
+        self.add_basic(relaxation, sums, column, value);
+        for item in relaxation.linked(column) {
+            if self.stand(*item) == Stand::One {
+                self.add_basic(relaxation, sums, *item, value);
+            }
         }
     }
 
@@ -91,7 +101,7 @@ impl Vertex {
     ) -> Result<(), Memory> {
         self.standing_sums(sums)?;
         for (column, value) in self.basic.iter().zip(self.values.iter()) {
-            self.add_basic(relaxation, sums, *column, *value);
+            self.add_basic_all(relaxation, sums, *column, *value);
         }
         Ok(())
     }

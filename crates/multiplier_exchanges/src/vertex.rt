@@ -1,5 +1,6 @@
 //! A vertex of the relaxation.
 
+use crate::direction::amount_at;
 use crate::numbers::{ONE, add_at, at};
 use crate::relaxation::{PathSets, Relaxation};
 use bank_tables::ItemSet;
@@ -22,7 +23,8 @@ pub(crate) enum Hold {
     One,
 }
 
-/// A column: its reduced weight (0 where it is basic), where it stands, and where the path holds it.
+/// A column: its reduced weight (0 for an item that is basic), where it stands, and where the path holds it. A linked item
+/// that stands at 1 is taken as far as its stimulus is. The weight of a stimulus is without those of its items.
 #[derive(Clone, Copy, Debug)]
 pub(crate) struct Column {
     pub weight: i64,
@@ -113,7 +115,7 @@ impl Vertex {
     }
 
     /// Adds a column to the sums, or takes it off them.
-    pub(crate) fn count(&mut self, relaxation: &Relaxation, column: u16, sign: i64) {
+    fn count(&mut self, relaxation: &Relaxation, column: u16, sign: i64) {
         let gain = relaxation.gain(column).wrapping_mul(sign);
         self.standing = self.standing.wrapping_add(gain);
         for cell in relaxation.column_cells(column) {
@@ -122,19 +124,86 @@ impl Vertex {
         }
     }
 
-    /// Lets a column that isn't basic stand at 0 or at 1.
+    /// The same of a column with the items that follow it.
+    fn count_all(&mut self, relaxation: &Relaxation, column: u16, sign: i64) {
+        self.count(relaxation, column, sign);
+        for item in relaxation.linked(column) {
+            if self.stand(*item) == Stand::One {
+                self.count(relaxation, *item, sign);
+            }
+        }
+    }
+
+    /// Whether a column that stands at 1 counts as a whole: a linked item does only where its stimulus stands at 1.
+    #[inline]
+    fn counts(&self, relaxation: &Relaxation, column: u16) -> bool {
+        match relaxation.link(column) {
+            Some(stimulus) => self.stand(stimulus) == Stand::One,
+            None => true,
+        }
+    }
+
+    /// Lets a column stand.
     pub(crate) fn stand_at(&mut self, relaxation: &Relaxation, column: u16, stand: Stand) {
+        let counts = self.counts(relaxation, column);
         let Some(known) = self.columns.get_mut(column as usize) else {
             return;
         };
         let was = known.stand == Stand::One;
         let is = stand == Stand::One;
         known.stand = stand;
-        if is && !was {
-            self.count(relaxation, column, 1);
-        } else if was && !is {
-            self.count(relaxation, column, -1);
+        if counts && is && !was {
+            self.count_all(relaxation, column, 1);
+        } else if counts && was && !is {
+            self.count_all(relaxation, column, -1);
         }
+    }
+
+    /// Whether the column is that of an item whose stimulus is basic.
+    #[inline]
+    pub(crate) fn follows_basic(&self, relaxation: &Relaxation, column: u16) -> bool {
+        match relaxation.link(column) {
+            Some(stimulus) => self.stand(stimulus) == Stand::Basic,
+            None => false,
+        }
+    }
+
+    /// The reduced weight of a column; that of a stimulus with those of the items that follow it.
+    pub(crate) fn weight(&self, relaxation: &Relaxation, column: u16) -> i64 {
+        let mut weight = match self.columns.get(column as usize) {
+            Some(known) => known.weight,
+            None => 0,
+        };
+        for item in relaxation.linked(column) {
+            if let Some(known) = self.columns.get(*item as usize) {
+                if known.stand == Stand::One {
+                    weight = weight.wrapping_add(known.weight);
+                }
+            }
+        }
+        weight
+    }
+
+    /// What a column adds to a line; a stimulus with the items that follow it.
+    pub(crate) fn amount(&self, relaxation: &Relaxation, column: u16, line: u16) -> i64 {
+        let mut amount = amount_at(relaxation.column_cells(column), line);
+        for item in relaxation.linked(column) {
+            if self.stand(*item) == Stand::One {
+                amount = amount.wrapping_add(amount_at(relaxation.column_cells(*item), line));
+            }
+        }
+        amount
+    }
+
+    /// The gain of a column; that of a stimulus with those of the items that follow it.
+    pub(crate) fn whole_gain(&self, relaxation: &Relaxation, column: u16) -> i64 {
+        let mut gain = relaxation.gain(column);
+        for item in relaxation.linked(column) {
+            if self.stand(*item) == Stand::One {
+                gain = gain.wrapping_add(relaxation.gain(*item));
+            }
+        }
+        gain
     }
 
     /// Lets the path hold a column; one that isn't basic stands there.
@@ -146,10 +215,10 @@ impl Vertex {
             return;
         }
         known.hold = hold;
-        if known.stand == Stand::Basic {
+        if known.stand == Stand::Basic || self.follows_basic(relaxation, column) {
             return;
         }
-        let stand = stand_by(hold, known.weight);
+        let stand = stand_by(hold, self.weight(relaxation, column));
         self.stand_at(relaxation, column, stand);
     }
 

@@ -1,6 +1,6 @@
 //! Room for the numbers of an exchange, which is used again.
 
-use crate::breaks::Break;
+use crate::breaks::{Break, Event};
 use std::alloc::Global;
 
 /// A direction of the multipliers: what is added to that of each tight line, the line that is to be tight, with the sign of
@@ -18,6 +18,8 @@ pub struct Workspace {
     pub(crate) direction: Direction,
     /// Where columns and lines come to 0 on the way.
     pub(crate) breaks: Vec<Break>,
+    /// The same of the items of one stimulus.
+    pub(crate) events: Vec<Event>,
     /// The sum of each line.
     pub(crate) sums: Vec<i64>,
     /// What the tight lines still need.
@@ -40,6 +42,7 @@ impl Workspace {
                 entries: Vec::new(alloc),
             },
             breaks: Vec::new(alloc),
+            events: Vec::new(alloc),
             sums: Vec::new(alloc),
             needs: Vec::new(alloc),
             column: Vec::new(alloc),
