@@ -8,7 +8,8 @@ ghost use Rattle.constraint_model.specs.Views.{problem_of};
 
 use crate::incumbent::Incumbent;
 use crate::pass::{Limits, Pass};
-use crate::pool::{Pool, empty_vector};
+use crate::pool::{Pool, closes, copied, empty_vector};
+use crate::priced::Priced;
 use crate::repair::nearby_form;
 use crate::root::steps_at_root;
 use crate::steps::Stepped;
@@ -93,8 +94,7 @@ fn tree_of(alloc: Global, pass: Pass) -> Result<Option<Tree>, Memory> {
     tree_with(alloc, pass.nodes, pass.pool)
 }
 
-/// The tree of passes by exchanges, if one is whole within the budget. Where many items are of
-/// passages no exchanges are made: the steps have caps, which close such paths sooner.
+/// The tree of passes by exchanges, if one is whole within the budget.
 fn tree_by_exchanges(
     alloc: Global,
     problem: &Problem,
@@ -104,9 +104,6 @@ fn tree_by_exchanges(
 ) -> Result<Option<Tree>, Memory>
     requires { IsWellMade (problem_of problem.now) }
 {
-    if table.is_of_passages() {
-        return Ok(None);
-    }
     let root = Cut::root(problem);
     let mut solver = Solver::of(alloc, problem, &root)?;
     let vertex = vertex_of_root(alloc, problem, table, &mut solver, incumbent, &root)?;
@@ -162,6 +159,54 @@ fn passes(
     tree_of(alloc, pass)
 }
 
+/// The tree of the warm vector alone, where that closes the root.
+fn tree_of_warm(
+    alloc: Global,
+    problem: &Problem,
+    table: &Table,
+    incumbent: &Incumbent,
+    warm: Option<&Vector>,
+) -> Result<Option<Tree>, Memory>
+    requires { IsWellMade (problem_of problem.now) }
+{
+    let Some(known) = warm else {
+        return Ok(None);
+    };
+    let priced = Priced::of(alloc, table, copied(alloc, known)?, false)?;
+    if !closes(&priced, table, incumbent, &Cut::root(problem)) {
+        return Ok(None);
+    }
+    let mut pool = Pool::new(alloc, table)?;
+    let mut nodes = Vec::new(alloc);
+    if let Some(leaf) = pool.store(priced)? {
+        nodes.push(leaf)?;
+    }
+    tree_with(alloc, nodes, pool)
+}
+
+/// The tree where steps at the root begin the search: one node if they close it; else that of exchanges, where no items are
+/// linked, or of passes by steps.
+fn tree_by_steps(
+    alloc: Global,
+    problem: &Problem,
+    table: &Table,
+    incumbent: &mut Incumbent,
+    budget: u16,
+    warm: Option<&Vector>,
+) -> Result<Option<Tree>, Memory>
+    requires { IsWellMade (problem_of problem.now) }
+{
+    let cut = Cut::root(problem);
+    let root = steps_at_root(alloc, problem, table, incumbent, &cut, warm)?;
+    if root.bound > incumbent.top() && table.has_no_stimuli() {
+        let tree = tree_by_exchanges(alloc, problem, table, incumbent, budget)?;
+        if tree.is_some() {
+            return Ok(tree);
+        }
+    }
+    passes(alloc, problem, table, incumbent, &root, budget)
+}
+
 /// The form, tested once more.
 fn form_or_none(problem: &Problem, form: &Option<ItemSet>) -> Option<ItemSet>
     requires { IsWellMade (problem_of problem.now) }
@@ -176,8 +221,8 @@ fn form_or_none(problem: &Problem, form: &Option<ItemSet>) -> Option<ItemSet>
 }
 
 /// Looks for a form of the problem, and for a tree within a budget of nodes, which is odd and at most 4,095, that shows it
-/// best, or that no set is a form, or that spends the budget; the hint may be a form. The tree is to be tested. Where steps
-/// at the root close it, the tree is one node. They begin with the warm vector, if there is one.
+/// best, or that no set is a form, or that spends the budget; the hint may be a form. The tree is to be tested. Where the
+/// warm vector, if there is one, closes the root, the tree is one node.
 pub fn search(
     alloc: Global,
     problem: &Problem,
@@ -191,20 +236,15 @@ pub fn search(
 {
     let table = Table::of(alloc, problem)?;
     let mut incumbent = known(alloc, problem, &table, hint)?;
-    let root = steps_at_root(
-        alloc,
-        problem,
-        &table,
-        &mut incumbent,
-        &Cut::root(problem),
-        warm,
-    )?;
     let mut tree = None;
-    if root.bound > incumbent.top() {
-        tree = tree_by_exchanges(alloc, problem, &table, &mut incumbent, budget)?;
+    if table.has_links() {
+        tree = tree_of_warm(alloc, problem, &table, &incumbent, warm)?;
+        if tree.is_none() {
+            tree = tree_by_exchanges(alloc, problem, &table, &mut incumbent, budget)?;
+        }
     }
     if tree.is_none() {
-        tree = passes(alloc, problem, &table, &mut incumbent, &root, budget)?;
+        tree = tree_by_steps(alloc, problem, &table, &mut incumbent, budget, warm)?;
     }
     Ok(Searched {
         form: form_or_none(problem, &incumbent.form),

@@ -171,15 +171,28 @@ impl Table {
         self.parts.get(entry.start..entry.end).unwrap_or(&[])
     }
 
-    /// Whether at least two fifths of the items that may be taken or left are of stimuli.
-    pub fn is_of_passages(&self) -> bool {
+    /// The number of items that may be taken or left, and of those of them that are of stimuli.
+    fn free_items(&self) -> (u32, u32) {
         let mut free = 0u32;
         let mut grouped = 0u32;
         for entry in &self.entries {
             free = free.wrapping_add(entry.free as u32);
             grouped = grouped.wrapping_add((entry.free && entry.stimulus > 0) as u32);
         }
-        grouped > 0 && free.wrapping_mul(2) <= grouped.wrapping_mul(5)
+        (free, grouped)
+    }
+
+    /// Whether no item that may be taken or left is of a stimulus.
+    pub fn has_no_stimuli(&self) -> bool {
+        self.free_items().1 == 0
+    }
+
+    /// Whether some of the items that may be taken or left are of stimuli, but fewer than two fifths: then exchanges, by which
+    /// such items are linked to their stimuli, prove more with each node than steps do. Where more items are linked, the
+    /// exchanges lose more by rounding than they gain.
+    pub fn has_links(&self) -> bool {
+        let (free, grouped) = self.free_items();
+        grouped > 0 && free.wrapping_mul(2) > grouped.wrapping_mul(5)
     }
 
     /// Adds the items of the bank.

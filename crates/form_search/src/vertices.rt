@@ -11,6 +11,7 @@ use constraint_model::Problem;
 use exam_model::Node;
 use lagrange_bound::Cut;
 use multiplier_exchanges::{PathSets, Reached, Relaxation, Vertex, Workspace, vector_towards};
+use multiplier_steps::{Aim, climb};
 use proof_tree::{Memory, Vector};
 use std::alloc::Global;
 
@@ -19,6 +20,9 @@ const MOST_EXCHANGES: u32 = 500;
 
 /// Exchanges beyond those that close a path, so that its vector closes other paths too.
 const MORE_EXCHANGES: u32 = 2;
+
+/// Steps from a vector that rounding kept from closing a path, at most.
+const MOST_STEPS: u32 = 40;
 
 /// The lengths at which the direction of a ray is tried, of which each is 16 times the one before.
 const RAY_LENGTHS: u32 = 4;
@@ -105,16 +109,48 @@ impl Solver {
         closed_by(alloc, table, pool, incumbent, cut, vector, false)
     }
 
+    /// The leaf of the vector of a vertex whose bound closes the path; where the rounding to whole multipliers lost that, of
+    /// some steps from there.
+    fn leaf_near(
+        &mut self,
+        alloc: Global,
+        problem: &Problem,
+        table: &Table,
+        pool: &mut Pool,
+        incumbent: &Incumbent,
+        cut: &Cut,
+        vertex: &Vertex,
+    ) -> Result<Option<Node>, Memory>
+        requires { IsWellMade (problem_of problem.now) }
+    {
+        let vector = self.vector(alloc, vertex)?;
+        let leaf = closed_by(alloc, table, pool, incumbent, cut, vector, false)?;
+        if leaf.is_some() || incumbent.form.is_none() {
+            return Ok(leaf);
+        }
+        let aim = Aim {
+            ray: false,
+            target: Some(incumbent.top()),
+            steps: MOST_STEPS,
+        };
+        let from = self.vector(alloc, vertex)?;
+        let near = climb(alloc, problem, cut, &from, aim)?;
+        closed_by(alloc, table, pool, incumbent, cut, near.vector, false)
+    }
+
     /// The leaf of a vertex of a bound that closes the path; where rounding lost it, of the best vertex.
     fn leaf_at_target(
         &mut self,
         alloc: Global,
+        problem: &Problem,
         table: &Table,
         pool: &mut Pool,
         incumbent: &Incumbent,
         cut: &Cut,
         vertex: &mut Vertex,
-    ) -> Result<Option<Node>, Memory> {
+    ) -> Result<Option<Node>, Memory>
+        requires { IsWellMade (problem_of problem.now) }
+    {
         let before = self.vector(alloc, vertex)?;
         let _ = self.run(vertex, i64::MIN, MORE_EXCHANGES)?;
         if let Some(leaf) = self.leaf_of(alloc, table, pool, incumbent, cut, vertex)? {
@@ -124,7 +160,7 @@ impl Solver {
             return Ok(Some(leaf));
         }
         let _ = self.run(vertex, i64::MIN, MOST_EXCHANGES)?;
-        self.leaf_of(alloc, table, pool, incumbent, cut, vertex)
+        self.leaf_near(alloc, problem, table, pool, incumbent, cut, vertex)
     }
 
     /// The leaf of the best vertex, whose items are offered where none is taken in part.
@@ -145,7 +181,7 @@ impl Solver {
             incumbent.offer(problem, table, &items);
         }
         if vertex.bound() <= target_of(incumbent) {
-            self.leaf_of(alloc, table, pool, incumbent, cut, vertex)
+            self.leaf_near(alloc, problem, table, pool, incumbent, cut, vertex)
         } else {
             Ok(None)
         }
@@ -208,7 +244,9 @@ impl Solver {
         requires { IsWellMade (problem_of problem.now) }
     {
         match self.run(vertex, target_of(incumbent), MOST_EXCHANGES)? {
-            Reached::Target => self.leaf_at_target(alloc, table, pool, incumbent, cut, vertex),
+            Reached::Target => {
+                self.leaf_at_target(alloc, problem, table, pool, incumbent, cut, vertex)
+            }
             Reached::Best => {
                 self.leaf_at_best(alloc, problem, table, pool, incumbent, cut, vertex)
             }
