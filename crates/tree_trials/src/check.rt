@@ -3,7 +3,7 @@
 
 ghost use Rattle.bank_tables.specs.Items.{has};
 ghost use Rattle.bank_tables.specs.Validity.{HoldsItems};
-ghost use Rattle.exam_model.specs.Validity.{IsWellMade};
+ghost use Rattle.exam_model.specs.Validity.{IsPlanFor, IsWellMade};
 ghost use Rattle.constraint_model.specs.Views.{problem_of};
 
 #[cfg(test)]
@@ -47,6 +47,33 @@ mod tests {
         Ok(tree)
     }
 
+    /// The verdict on a tree over a bank and its plan. What owns a bank is a function of its own, since one that also makes a
+    /// problem of it is dear to prove.
+    fn verdict_of(
+        alloc: Global,
+        bank: &Bank,
+        spec: &Spec,
+        form: Option<&ItemSet>,
+        bytes: &[u8],
+    ) -> Result<Verdict, Fail>
+        requires { IsPlanFor bank.now spec.now }
+    {
+        let tree = tree_of(alloc, bytes)?;
+        Ok(check(&Problem::whole(bank, spec), form, &tree))
+    }
+
+    /// The verdict on a tree over a bank and the plan of a draft.
+    fn verdict_on(
+        alloc: Global,
+        bank: &Bank,
+        draft: Draft,
+        form: Option<&ItemSet>,
+        bytes: &[u8],
+    ) -> Result<Verdict, Fail> {
+        let spec = Spec::of(alloc, bank, draft)?;
+        verdict_of(alloc, bank, &spec, form, bytes)
+    }
+
     /// The verdict on a tree over the plain bank, with so many of items 0 and 1 in a form.
     fn plain_verdict(
         alloc: Global,
@@ -54,41 +81,47 @@ mod tests {
         form: Option<ItemSet>,
         bytes: &[u8],
     ) -> Result<Verdict, Fail> {
-        let bank = bank_a(alloc)?;
-        let spec = Spec::of(alloc, &bank, plain_plan(alloc, count)?)?;
-        let problem = Problem::whole(&bank, &spec);
-        let tree = tree_of(alloc, bytes)?;
-        Ok(check(&problem, form.as_ref(), &tree))
+        let plan = plain_plan(alloc, count)?;
+        verdict_on(alloc, &bank_a(alloc)?, plan, form.as_ref(), bytes)
     }
 
-    /// The verdict on a tree over the bank with a quantity: each pair of items has 20 of it, and 15 are allowed.
-    fn quantity_verdict(alloc: Global, bytes: &[u8]) -> Result<Verdict, Fail> {
-        let bank = bank_q(alloc)?;
+    /// Two items with at most 15 of the quantity.
+    fn quantity_plan(alloc: Global) -> Result<Draft, AllocError> {
         let rows = [Row::Quantity {
             which: 0,
             set: set_of(&[0, 1, 2, 3]),
             low: 0,
             high: 15,
         }];
-        let spec = Spec::of(alloc, &bank, draft_of(alloc, 2, &[0], &rows, &[])?)?;
-        let problem = Problem::whole(&bank, &spec);
-        let tree = tree_of(alloc, bytes)?;
-        Ok(check(&problem, None, &tree))
+        draft_of(alloc, 2, &[0], &rows, &[])
     }
 
-    /// The verdict on a tree with the form {3, 4, 5}, of 13: the passage of items 0, 1 and 2, of 9, 1 and 1, is in a form
-    /// whole or not at all, and items 3, 4 and 5, of 5, 4 and 4, have no passage.
-    fn passage_verdict(alloc: Global, bytes: &[u8]) -> Result<Verdict, Fail> {
+    /// The verdict on a tree over the bank with a quantity: each pair of items has 20 of it, and 15 are allowed.
+    fn quantity_verdict(alloc: Global, bytes: &[u8]) -> Result<Verdict, Fail> {
+        let plan = quantity_plan(alloc)?;
+        verdict_on(alloc, &bank_q(alloc)?, plan, None, bytes)
+    }
+
+    /// The passage of items 0, 1 and 2, of 9, 1 and 1, and items 3, 4 and 5, of 5, 4 and 4, which have no passage.
+    fn passage_bank(alloc: Global) -> Result<Bank, Fail> {
         let mut items = Vec::new(alloc);
         for (stimulus, info) in [(1, 9), (1, 1), (1, 1), (0, 5), (0, 4), (0, 4)] {
             items.push(item(alloc, stimulus, &[], &[info], &[-1, -1])?)?;
         }
-        let bank = Bank::of(alloc, rows_of(1, 0, items))?;
+        Ok(Bank::of(alloc, rows_of(1, 0, items))?)
+    }
+
+    /// The verdict on a tree with the form {3, 4, 5}, of 13. The passage is in a form whole or not at all.
+    fn passage_verdict(alloc: Global, bytes: &[u8]) -> Result<Verdict, Fail> {
         let bounds = [StimulusBound { low: 3, high: 3 }];
-        let spec = Spec::of(alloc, &bank, draft_of(alloc, 3, &[0], &[], &bounds)?)?;
-        let problem = Problem::whole(&bank, &spec);
-        let tree = tree_of(alloc, bytes)?;
-        Ok(check(&problem, Some(&set_of(&[3, 4, 5])), &tree))
+        let plan = draft_of(alloc, 3, &[0], &[], &bounds)?;
+        verdict_on(
+            alloc,
+            &passage_bank(alloc)?,
+            plan,
+            Some(&set_of(&[3, 4, 5])),
+            bytes,
+        )
     }
 
     /// Trees with the multiplier 768 on side 0, the low one of the passage, whose items then weigh 12, 4 and 4 units of 256
@@ -148,13 +181,25 @@ mod tests {
         Ok(())
     }
 
+    /// Whether a tree over a bank and its plan spends a budget.
+    fn spent_of(
+        alloc: Global,
+        bank: &Bank,
+        spec: &Spec,
+        bytes: &[u8],
+        budget: u16,
+    ) -> Result<bool, Fail>
+        requires { IsPlanFor bank.now spec.now }
+    {
+        let tree = tree_of(alloc, bytes)?;
+        Ok(spent(&Problem::whole(bank, spec), &tree, budget))
+    }
+
     /// Whether a tree over the plain bank spends a budget.
     fn plain_spent(alloc: Global, bytes: &[u8], budget: u16) -> Result<bool, Fail> {
         let bank = bank_a(alloc)?;
         let spec = Spec::of(alloc, &bank, plain_plan(alloc, 1)?)?;
-        let problem = Problem::whole(&bank, &spec);
-        let tree = tree_of(alloc, bytes)?;
-        Ok(spent(&problem, &tree, budget))
+        spent_of(alloc, &bank, &spec, bytes, budget)
     }
 
     /// The problem of a session that was last served from this form.
@@ -169,6 +214,25 @@ mod tests {
         }
     }
 
+    /// Whether a tree over a bank and its plan spends a budget, where this form was served from before.
+    fn spent_from(
+        alloc: Global,
+        bank: &Bank,
+        spec: &Spec,
+        start: &ItemSet,
+        bytes: &[u8],
+        budget: u16,
+    ) -> Result<bool, Fail>
+        requires { IsPlanFor bank.now spec.now }
+    {
+        if !start.all_below(bank.items()) {
+            return Err(Fail::from("a start"));
+        }
+        let tree = tree_of(alloc, bytes)?;
+        let problem = with_start(&Problem::whole(bank, spec), start);
+        Ok(spent(&problem, &tree, budget))
+    }
+
     /// Whether a tree over the plain bank spends a budget, where a form was served from before.
     fn started_spent(
         alloc: Global,
@@ -178,13 +242,7 @@ mod tests {
     ) -> Result<bool, Fail> {
         let bank = bank_a(alloc)?;
         let spec = Spec::of(alloc, &bank, plain_plan(alloc, 1)?)?;
-        let form = set_of(start);
-        if !form.all_below(bank.items()) {
-            return Err(Fail::from("a start"));
-        }
-        let problem = with_start(&Problem::whole(&bank, &spec), &form);
-        let tree = tree_of(alloc, bytes)?;
-        Ok(spent(&problem, &tree, budget))
+        spent_from(alloc, &bank, &spec, &set_of(start), bytes, budget)
     }
 
     /// Trees of one node.
