@@ -59,33 +59,47 @@ struct Found {
     has_branch: bool,
 }
 
-/// What the search finds, once the fallback search finds the same.
-fn found_alike<'a>(alloc: Global, bank: &'a Bank, spec: &'a Spec) -> Result<Found, Fail>
+/// What the search finds.
+fn searched<'a>(alloc: Global, bank: &'a Bank, spec: &'a Spec) -> Result<Found, Fail>
     requires { IsPlanFor bank.now spec.now }
 {
-    let searched = assemble(alloc, Problem::whole(bank, spec), None, 2_001)?;
-    if searched.used_fallback() {
+    let found = assemble(alloc, Problem::whole(bank, spec), None, 2_001)?;
+    if found.used_fallback() {
         return Err(Fail::from("the search's result failed a test"));
     }
-    let by_fallback = assemble_by_fallback(alloc, Problem::whole(bank, spec), None, 2_001)?;
-    let best = decided(&searched)?;
-    if decided(&by_fallback)? != best {
-        return Err(Fail::from("the fallback search differs from the search"));
-    }
     Ok(Found {
-        best,
-        has_branch: has_branch(&searched),
+        best: decided(&found)?,
+        has_branch: has_branch(&found),
     })
 }
 
-/// What the search finds for a bank and a draft, once the fallback search and the enumeration find the same.
-fn agreed(alloc: Global, bank: Bank, draft: Draft) -> Result<Found, Fail> {
-    let spec = Spec::of(alloc, &bank, draft)?;
-    let found = found_alike(alloc, &bank, &spec)?;
-    if enumerated(&Problem::whole(&bank, &spec))? != found.best {
+/// The objective that the fallback search decides. Each search is called in a function of its own, since one that owns what both
+/// find is dear to prove.
+fn found_by_fallback<'a>(alloc: Global, bank: &'a Bank, spec: &'a Spec) -> Result<Option<u64>, Fail>
+    requires { IsPlanFor bank.now spec.now }
+{
+    let found = assemble_by_fallback(alloc, Problem::whole(bank, spec), None, 2_001)?;
+    decided(&found)
+}
+
+/// What the search finds, once the fallback search and the enumeration find the same.
+fn found_alike(alloc: Global, bank: &Bank, spec: &Spec) -> Result<Found, Fail>
+    requires { IsPlanFor bank.now spec.now }
+{
+    let found = searched(alloc, bank, spec)?;
+    if found_by_fallback(alloc, bank, spec)? != found.best {
+        return Err(Fail::from("the fallback search differs from the search"));
+    }
+    if enumerated(&Problem::whole(bank, spec))? != found.best {
         return Err(Fail::from("the enumeration differs from the search"));
     }
     Ok(found)
+}
+
+/// The same for a bank and a draft.
+fn agreed(alloc: Global, bank: Bank, draft: Draft) -> Result<Found, Fail> {
+    let spec = Spec::of(alloc, &bank, draft)?;
+    found_alike(alloc, &bank, &spec)
 }
 
 /// At the middle point, with one of items 0 and 1 and not both 2 and 5, {1, 2, 3} has 8 + 9 + 6. Without item 2 at most

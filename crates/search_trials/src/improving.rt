@@ -1,9 +1,9 @@
 //! Better multipliers by subgradient steps. What is expected was worked out by hand.
 
-ghost use Rattle.exam_model.specs.Validity.{IsWellMade};
+ghost use Rattle.exam_model.specs.Validity.{IsPlanFor, IsWellMade};
 ghost use Rattle.constraint_model.specs.Views.{problem_of};
 
-use bank_tables::List;
+use bank_tables::{Bank, List};
 use constraint_model::{Problem, Spec};
 use lagrange_bound::{Cut, bound};
 use multiplier_steps::improve;
@@ -27,16 +27,27 @@ fn bounds_at_root(alloc: Global, problem: &Problem, target: u64) -> Result<[Opti
     ])
 }
 
+/// The same of the whole problem.
+fn bounds_of(alloc: Global, bank: &Bank, spec: &Spec, target: u64) -> Result<[Option<i64>; 2], Fail>
+    requires { IsPlanFor bank.now spec.now }
+{
+    bounds_at_root(alloc, &Problem::whole(bank, spec), target)
+}
+
+/// The same for bank A and its plan.
+fn bounds_for_a(alloc: Global, target: u64) -> Result<[Option<i64>; 2], Fail> {
+    let bank = bank_a(alloc)?;
+    let spec = Spec::of(alloc, &bank, draft_a(alloc)?)?;
+    bounds_of(alloc, &bank, &spec, target)
+}
+
 /// The three items of most information, 2, 1 and 5, have 9 + 8 + 7 = 24, and 256 * 24 = 6,144. Items 2 and 5 are enemies: with
 /// the multiplier 256 on their upper bound they have 8 and 6, the greatest are 8, 8 and 6, and the bound is
 /// 256 * (8 + 8 + 6) + 256 * 1 = 5,888. That is 256 times the 23 of the form {1, 2, 3}, so no bound is lower, and one of at
 /// most 256 * 23 + 255 = 6,143 shows that form best.
 #[test]
 fn steps_find_a_lower_bound(rt: HostRuntime) -> Result<(), Fail> {
-    let alloc = rt.alloc();
-    let bank = bank_a(alloc)?;
-    let spec = Spec::of(alloc, &bank, draft_a(alloc)?)?;
-    let [plain, improved] = bounds_at_root(alloc, &Problem::whole(&bank, &spec), 6_143)?;
+    let [plain, improved] = bounds_for_a(rt.alloc(), 6_143)?;
     assert_eq!(rt; plain, Some(6_144));
     let improved = improved.ok_or("no bound")?;
     assert!(rt; 5_888 <= improved);
