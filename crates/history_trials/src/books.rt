@@ -1,10 +1,12 @@
 //! Books of examinations over the worked bank and plan: each reason why a record may not follow, and the counts of two
 //! sessions.
 
+ghost use Rattle.exam_model.specs.Validity.{IsPlanFor};
+
 use crate::worked::{
     ALL, FIRST_BEST, SECOND_BEST, answered, closed, plan, served, set_aside, started, tree_of,
 };
-use bank_tables::Short;
+use bank_tables::{Bank, Short};
 use constraint_model::{Breach, Spec};
 use exam_model::{Reason, Seat, Verdict};
 use exam_records::Record;
@@ -44,7 +46,23 @@ fn take_all(book: &mut Book, alloc: Global, records: &[Record]) -> Result<(), Fa
     Ok(())
 }
 
-/// Why a record may not follow these records, under a plan with this budget of nodes; none where it may.
+/// Why a record may not follow these records; none where it may. What owns a bank is a function of its own, since one that
+/// also makes a book of it is dear to prove.
+fn reason_in(
+    alloc: Global,
+    bank: &Bank,
+    spec: &Spec,
+    records: &[Record],
+    rec: &Record,
+) -> Result<Option<Illegal>, Fail>
+    requires { IsPlanFor bank.now spec.now }
+{
+    let mut book = Book::new(alloc, bank, spec)?;
+    take_all(&mut book, alloc, records)?;
+    Ok(book.judge(rec).err())
+}
+
+/// The same under the worked plan with this budget of nodes.
 fn reason(
     alloc: Global,
     budget: u32,
@@ -53,9 +71,7 @@ fn reason(
 ) -> Result<Option<Illegal>, Fail> {
     let bank = bank_a(alloc)?;
     let spec = Spec::of(alloc, &bank, plan(alloc, budget)?)?;
-    let mut book = Book::new(alloc, &bank, &spec)?;
-    take_all(&mut book, alloc, records)?;
-    Ok(book.judge(rec).err())
+    reason_in(alloc, &bank, &spec, records, rec)
 }
 
 /// The item of the first step of session 0 is served.
@@ -228,12 +244,24 @@ fn two_sessions(alloc: Global) -> Result<Vec<Record>, Fail> {
 }
 
 /// The exposure counts after these records.
+fn counts_in(
+    alloc: Global,
+    bank: &Bank,
+    spec: &Spec,
+    records: &[Record],
+) -> Result<Vec<(u32, u32)>, Fail>
+    requires { IsPlanFor bank.now spec.now }
+{
+    let mut book = Book::new(alloc, bank, spec)?;
+    take_all(&mut book, alloc, records)?;
+    counts_of(alloc, book.counters())
+}
+
+/// The same under the worked plan.
 fn counts_after(alloc: Global, records: &[Record]) -> Result<Vec<(u32, u32)>, Fail> {
     let bank = bank_a(alloc)?;
     let spec = Spec::of(alloc, &bank, plan(alloc, 2_001)?)?;
-    let mut book = Book::new(alloc, &bank, &spec)?;
-    take_all(&mut book, alloc, records)?;
-    counts_of(alloc, book.counters())
+    counts_in(alloc, &bank, &spec, records)
 }
 
 /// The same, where session 1 was closed then.
@@ -278,12 +306,19 @@ fn told_by(book: &Book) -> Told {
 }
 
 /// The same after these records.
+fn told_in(alloc: Global, bank: &Bank, spec: &Spec, records: &[Record]) -> Result<Told, Fail>
+    requires { IsPlanFor bank.now spec.now }
+{
+    let mut book = Book::new(alloc, bank, spec)?;
+    take_all(&mut book, alloc, records)?;
+    Ok(told_by(&book))
+}
+
+/// The same under the worked plan.
 fn what_is_told(alloc: Global, records: &[Record]) -> Result<Told, Fail> {
     let bank = bank_a(alloc)?;
     let spec = Spec::of(alloc, &bank, plan(alloc, 2_001)?)?;
-    let mut book = Book::new(alloc, &bank, &spec)?;
-    take_all(&mut book, alloc, records)?;
-    Ok(told_by(&book))
+    told_in(alloc, &bank, &spec, records)
 }
 
 /// A short list of these numbers.

@@ -1,11 +1,14 @@
 //! Ten thousand sessions in one book.
 
+ghost use Rattle.exam_model.specs.Validity.{IsPlanFor};
+
 use crate::books::{counts_of, take};
 use crate::worked::{answered, served, started};
 use bank_tables::Bank;
 use constraint_model::{Draft, Spec};
 use exam_session::Book;
 use std::alloc::Global;
+use std::process::Abort;
 use std::test::Fail;
 use trial_cases::{draft_of, item, rows_of};
 
@@ -42,18 +45,40 @@ fn take_session(book: &mut Book, alloc: Global, session: u32) -> Result<(), Fail
     take(book, alloc, &answered(session, 0, 1))
 }
 
+fn take_sessions(book: &mut Book, alloc: Global) -> Result<(), Fail> {
+    for session in 0..10_000 {
+        take_session(book, alloc, session)?;
+    }
+    Ok(())
+}
+
+/// It has three entries of each session, and knows the session of a booking.
+fn shows_sessions<R: Abort>(rt: &R, book: &Book) {
+    assert_eq!(rt; book.entries(), 30_000);
+    assert_eq!(rt; book.booked(7_308), Some(5_000));
+}
+
+/// The item was eligible and shown in each session.
+fn shows_counts<R: Abort>(rt: &R, alloc: Global, book: &Book) -> Result<(), Fail> {
+    let counts = counts_of(alloc, book.counters())?;
+    assert_eq!(rt; counts.as_slice(), [(10_000, 10_000)].as_slice());
+    Ok(())
+}
+
+/// Takes the sessions into a book over this bank and its plan.
+fn keeps_sessions<R: Abort>(rt: &R, alloc: Global, bank: &Bank, spec: &Spec) -> Result<(), Fail>
+    requires { IsPlanFor bank.now spec.now }
+{
+    let mut book = Book::new(alloc, bank, spec)?;
+    take_sessions(&mut book, alloc)?;
+    shows_sessions(rt, &book);
+    shows_counts(rt, alloc, &book)
+}
+
 #[test]
 fn ten_thousand_sessions(rt: HostRuntime) -> Result<(), Fail> {
     let alloc = rt.alloc();
     let bank = bank_of_one(alloc)?;
     let spec = Spec::of(alloc, &bank, plan_of_one(alloc)?)?;
-    let mut book = Book::new(alloc, &bank, &spec)?;
-    for session in 0..10_000 {
-        take_session(&mut book, alloc, session)?;
-    }
-    assert_eq!(rt; book.entries(), 30_000);
-    let counts = counts_of(alloc, book.counters())?;
-    assert_eq!(rt; counts.as_slice(), [(10_000, 10_000)].as_slice());
-    assert_eq!(rt; book.booked(7_308), Some(5_000));
-    Ok(())
+    keeps_sessions(&rt, alloc, &bank, &spec)
 }

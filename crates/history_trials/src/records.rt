@@ -1,8 +1,11 @@
 //! The payloads of records: the worked ones, read and written again, and each fault that they can have at its place.
 
+ghost use Rattle.exam_records.specs.Shape.{GoesWith};
+
 use crate::worked::{ALL, FIRST_BEST};
-use exam_records::{Entry, RecordFault, decode, encode};
+use exam_records::{Entry, Record, RecordFault, decode, encode};
 use std::alloc::{AllocError, Global};
+use std::process::Abort;
 use std::test::Fail;
 use trial_cases::set_of;
 
@@ -31,6 +34,30 @@ fn served(alloc: Global, mark: u8, nodes: u8) -> Result<Vec<u8>, AllocError> {
     payload(alloc, &SERVED, 0x0e, &rest)
 }
 
+/// The record has this entry. Each comparison is a function of its own, since a test with many of them is dear to prove.
+fn has_entry<R: Abort>(rt: &R, rec: &Record, entry: Entry) {
+    assert_eq!(rt; rec.entry, entry);
+}
+
+/// The record is spelled with these bytes.
+fn is_spelled<R: Abort>(rt: &R, alloc: Global, rec: &Record, bytes: &[u8]) -> Result<(), Fail>
+    requires { GoesWith rec.now.entry rec.now.tree }
+{
+    let found = encode(alloc, rec)?;
+    assert_eq!(rt; found.as_slice(), bytes);
+    Ok(())
+}
+
+/// The record has a tree that is spelled with these bytes.
+fn has_tree<R: Abort>(rt: &R, alloc: Global, rec: &Record, bytes: &[u8]) -> Result<(), Fail> {
+    let Some(tree) = &rec.tree else {
+        return Err(Fail::from("a tree"));
+    };
+    let found = proof_tree::encode(alloc, tree)?;
+    assert_eq!(rt; found.as_slice(), bytes);
+    Ok(())
+}
+
 #[test]
 fn an_answer(rt: HostRuntime) -> Result<(), Fail> {
     let alloc = rt.alloc();
@@ -40,11 +67,9 @@ fn an_answer(rt: HostRuntime) -> Result<(), Fail> {
         step: 0,
         response: 1,
     };
-    assert_eq!(rt; rec.entry, entry);
+    has_entry(&rt, &rec, entry);
     assert!(rt; rec.tree.is_none());
-    let bytes = encode(alloc, &rec)?;
-    assert_eq!(rt; bytes.as_slice(), ANSWERED.as_slice());
-    Ok(())
+    is_spelled(&rt, alloc, &rec, &ANSWERED)
 }
 
 #[test]
@@ -76,7 +101,7 @@ fn a_start(rt: HostRuntime) -> Result<(), Fail> {
         booking: 70,
         eligible: set_of(&ALL),
     };
-    assert_eq!(rt; rec.entry, entry);
+    has_entry(&rt, &rec, entry);
     assert!(rt; rec.tree.is_none());
     Ok(())
 }
@@ -95,15 +120,7 @@ fn a_serving(rt: HostRuntime) -> Result<(), Fail> {
         proved: true,
         nodes: 1,
     };
-    assert_eq!(rt; rec.entry, entry);
-    let bytes = encode(alloc, &rec)?;
-    assert_eq!(rt; bytes.as_slice(), spelled.as_slice());
-    let Some(tree) = &rec.tree else {
-        return Err(Fail::from("a tree"));
-    };
-    assert_eq!(rt;
-        proof_tree::encode(alloc, tree)?.as_slice(),
-        FIRST_BEST.as_slice()
-    );
-    Ok(())
+    has_entry(&rt, &rec, entry);
+    is_spelled(&rt, alloc, &rec, &spelled)?;
+    has_tree(&rt, alloc, &rec, &FIRST_BEST)
 }
