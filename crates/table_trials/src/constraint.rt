@@ -1,6 +1,8 @@
 // Plans and forms: each fault of a draft with its value, in the stated order, also those that no plan text reaches; and
 // what is found of sets of items on three small banks. What is expected was worked out by hand.
 
+ghost use Rattle.exam_model.specs.Validity.{IsPlanFor};
+
 #[cfg(test)]
 mod tests {
     use bank_tables::{Bank, ItemSet};
@@ -337,17 +339,26 @@ mod tests {
         Ok(())
     }
 
-    // The ability point of the whole problem of plan A, and the breach and the objective of a set of items.
-    fn found_on_a(alloc: Global, items: &[u16]) -> Result<(u8, Option<Breach>, u64), Fail> {
+    // What is found of a set of items: the ability point of the whole problem, and the set's breach and objective.
+    type FoundOf = (u8, Option<Breach>, u64);
+
+    // What owns a bank is a function of its own, since one that also makes a problem of it is dear to prove.
+    fn found_on(bank: &Bank, spec: &Spec, set: &ItemSet) -> FoundOf
+        requires { IsPlanFor bank.now spec.now }
+    {
+        let problem = Problem::whole(bank, spec);
+        (
+            problem.theta,
+            meets(&problem, set),
+            objective(&problem, set),
+        )
+    }
+
+    // The same for plan A.
+    fn found_on_a(alloc: Global, items: &[u16]) -> Result<FoundOf, Fail> {
         let bank = bank_a(alloc)?;
         let spec = Spec::of(alloc, &bank, draft_a(alloc)?)?;
-        let problem = Problem::whole(&bank, &spec);
-        let set = set_of(items);
-        Ok((
-            problem.theta,
-            meets(&problem, &set),
-            objective(&problem, &set),
-        ))
+        Ok(found_on(&bank, &spec, &set_of(items)))
     }
 
     #[test]
@@ -367,10 +378,16 @@ mod tests {
         Ok(draft)
     }
 
+    fn breach_on(bank: &Bank, spec: &Spec, set: &ItemSet) -> Option<Breach>
+        requires { IsPlanFor bank.now spec.now }
+    {
+        meets(&Problem::whole(bank, spec), set)
+    }
+
     fn narrow_breach(alloc: Global, items: &[u16]) -> Result<Option<Breach>, Fail> {
         let bank = mixed_bank(alloc)?;
         let spec = Spec::of(alloc, &bank, narrow_plan(alloc)?)?;
-        Ok(meets(&Problem::whole(&bank, &spec), &set_of(items)))
+        Ok(breach_on(&bank, &spec, &set_of(items)))
     }
 
     #[test]
