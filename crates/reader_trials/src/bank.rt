@@ -3,7 +3,7 @@
 use bank_reader::{ReadFault, read_bank};
 use bank_tables::{Bank, BankFault, ItemSet, Rows};
 use exam_edge::MemorySource;
-use std::alloc::{AllocError, Global};
+use std::alloc::{AllocError, AllocGlobal, Global};
 use std::process::Abort;
 use std::test::Fail;
 use trial_cases::{BANK_A, item, rows_of};
@@ -138,12 +138,22 @@ const CHANGES: [(&str, &str, ReadFault); 17] = [
     ("i0", "q0", ReadFault::Header(4)),
 ];
 
+/// The fault of bank A's text with this change.
+fn fault_of_change(alloc: Global, old: &str, new: &str) -> Result<Option<ReadFault>, Fail> {
+    let text = changed(alloc, BANK_A, old, new)?;
+    Ok(read(alloc, text.as_bytes()).err())
+}
+
+/// The text has this fault. Each comparison is a function of its own, since a test with many of them is dear to prove.
+fn is_fault<R: Abort>(rt: &R, text: &str, found: Option<ReadFault>, fault: ReadFault) {
+    assert_eq!(rt; found, Some(fault), "{text:?}");
+}
+
 #[test]
 fn changes_of_bank_a(rt: HostRuntime) -> Result<(), Fail> {
     for (old, new, want) in CHANGES {
-        let text = changed(rt.alloc(), BANK_A, old, new)?;
-        let got = read(rt.alloc(), text.as_bytes()).err();
-        assert_eq!(rt; got, Some(want), "{new:?}");
+        let found = fault_of_change(rt.alloc(), old, new)?;
+        is_fault(&rt, new, found, want);
     }
     Ok(())
 }
@@ -182,8 +192,8 @@ const SEVERAL: [(&str, ReadFault); 9] = [
 #[test]
 fn first_of_several(rt: HostRuntime) {
     for (text, want) in SEVERAL {
-        let got = read(rt.alloc(), text.as_bytes()).err();
-        assert_eq!(rt; got, Some(want), "{text:?}");
+        let found = read(rt.alloc(), text.as_bytes()).err();
+        is_fault(&rt, text, found, want);
     }
 }
 
@@ -199,14 +209,27 @@ fn padded(alloc: Global, length: usize) -> Result<Vec<u8>, AllocError> {
     Ok(text)
 }
 
+fn is_long<R: Abort>(rt: &R, text: &[u8], length: usize) {
+    assert_eq!(rt; text.len(), length);
+}
+
+/// How many items the bank of a text of this length has, or the text's fault.
+fn items_of_length<R: Abort + AllocGlobal>(
+    rt: &R,
+    length: usize,
+) -> Result<Result<u16, ReadFault>, Fail> {
+    let text = padded(rt.alloc(), length)?;
+    is_long(rt, &text, length);
+    match read(rt.alloc(), &text) {
+        Ok(bank) => Ok(Ok(bank.items())),
+        Err(fault) => Ok(Err(fault)),
+    }
+}
+
 #[test]
 fn longest_text(rt: HostRuntime) -> Result<(), Fail> {
-    let text = padded(rt.alloc(), 4_194_304)?;
-    assert_eq!(rt; text.len(), 4_194_304);
-    let bank = read(rt.alloc(), &text).ok().ok_or("a bank")?;
-    assert_eq!(rt; bank.items(), 1);
-    let text = padded(rt.alloc(), 4_194_305)?;
-    assert_eq!(rt; read(rt.alloc(), &text).err(), Some(ReadFault::TooLong));
+    assert_eq!(rt; items_of_length(&rt, 4_194_304)?, Ok(1));
+    assert_eq!(rt; items_of_length(&rt, 4_194_305)?, Err(ReadFault::TooLong));
     Ok(())
 }
 

@@ -3,7 +3,7 @@
 
 #[cfg(test)]
 mod tests {
-    use bank_tables::Bank;
+    use bank_tables::{Bank, BankFault};
     use constraint_model::{Breach, Spec, SpecFault};
     use exam_edge::MemorySource;
     use spec_reader::{Kind, Name, PlanFault, print_plan, read_plan};
@@ -40,6 +40,20 @@ mod tests {
     const PRINTED_A: &str =
         "length 3\nprior -10 0 -10\nrate 1 1\nkey 0000000000000000000000000000000000000000000000000000000000000000\nbudget 2001\nbase-budget 4095\nsessions 1000\njournal 67108864\ncount 1 1 0-1\nenemies 2 5\n";
 
+    // The texts are the same. Each comparison is a function of its own, since a test with many of them is dear to prove.
+    fn is_text<R: Abort>(rt: &R, found: &[u8], expected: &[u8]) {
+        assert_eq!(rt; found, expected);
+    }
+
+    fn is_longer<R: Abort>(rt: &R, found: &[u8], text: &str) {
+        assert!(rt; text.len() < found.len());
+    }
+
+    // The text has this fault.
+    fn is_fault<R: Abort>(rt: &R, text: &str, found: Option<PlanFault>, fault: PlanFault) {
+        assert_eq!(rt; found, Some(fault), "{text:?}");
+    }
+
     // What the plan of a text is printed as.
     fn printed(alloc: Global, bank: &Bank, text: &str) -> Result<Vec<u8>, Fail> {
         let spec = read(alloc, bank, text)??;
@@ -49,7 +63,7 @@ mod tests {
     #[test]
     fn a_plan_is_printed_with_its_defaults(rt: HostRuntime) -> Result<(), Fail> {
         let text = printed(rt.alloc(), &bank_a(rt.alloc())?, PLAN_A)?;
-        assert_eq!(rt; text.as_slice(), PRINTED_A.as_bytes());
+        is_text(&rt, &text, PRINTED_A.as_bytes());
         Ok(())
     }
 
@@ -60,26 +74,28 @@ mod tests {
         Ok(print_plan(alloc, &again)?)
     }
 
-    // The text that a plan is printed as reads to a plan that is printed the same.
+    // The text that a plan is printed as reads to a plan that is printed the same. The bank is handed over as it was made: a
+    // test that owns several is dear to prove.
     fn is_printed_twice<R: Abort + AllocGlobal>(
         rt: &R,
-        bank: &Bank,
+        bank: Result<Bank, BankFault>,
         text: &str,
     ) -> Result<(), Fail> {
-        let first = printed(rt.alloc(), bank, text)?;
-        assert!(rt; text.len() < first.len());
-        let again = printed_again(rt.alloc(), bank, &first)?;
-        assert_eq!(rt; first.as_slice(), again.as_slice());
+        let bank = bank?;
+        let first = printed(rt.alloc(), &bank, text)?;
+        is_longer(rt, &first, text);
+        let again = printed_again(rt.alloc(), &bank, &first)?;
+        is_text(rt, &again, &first);
         Ok(())
     }
 
     #[test]
     fn each_worked_plan_is_printed_the_same_twice(rt: HostRuntime) -> Result<(), Fail> {
-        is_printed_twice(&rt, &bank_a(rt.alloc())?, PLAN_A)?;
-        is_printed_twice(&rt, &bank_s(rt.alloc())?, PLAN_S)?;
-        is_printed_twice(&rt, &bank_e(rt.alloc())?, PLAN_E)?;
-        is_printed_twice(&rt, &bank_q(rt.alloc())?, PLAN_Q)?;
-        is_printed_twice(&rt, &bank_l(rt.alloc())?, PLAN_L)
+        is_printed_twice(&rt, bank_a(rt.alloc()), PLAN_A)?;
+        is_printed_twice(&rt, bank_s(rt.alloc()), PLAN_S)?;
+        is_printed_twice(&rt, bank_e(rt.alloc()), PLAN_E)?;
+        is_printed_twice(&rt, bank_q(rt.alloc()), PLAN_Q)?;
+        is_printed_twice(&rt, bank_l(rt.alloc()), PLAN_L)
     }
 
     #[test]
@@ -125,7 +141,7 @@ mod tests {
     fn the_first_faulty_line_is_named(rt: HostRuntime) -> Result<(), Fail> {
         for (text, fault) in LINES {
             let found = fault_over_q(rt.alloc(), text)?;
-            assert_eq!(rt; found, Some(fault), "{text:?}");
+            is_fault(&rt, text, found, fault);
         }
         Ok(())
     }
@@ -144,7 +160,7 @@ mod tests {
     fn what_is_missing_comes_next(rt: HostRuntime) -> Result<(), Fail> {
         for (text, fault) in LACKING {
             let found = fault_over_q(rt.alloc(), text)?;
-            assert_eq!(rt; found, Some(fault), "{text:?}");
+            is_fault(&rt, text, found, fault);
         }
         Ok(())
     }
@@ -175,7 +191,7 @@ mod tests {
     fn faults_of_the_plan_come_in_order(rt: HostRuntime) -> Result<(), Fail> {
         for (text, fault) in REFUSED {
             let found = fault_over_a(rt.alloc(), text)?;
-            assert_eq!(rt; found, Some(PlanFault::Spec(fault)), "{text:?}");
+            is_fault(&rt, text, found, PlanFault::Spec(fault));
         }
         Ok(())
     }

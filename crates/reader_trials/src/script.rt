@@ -9,6 +9,7 @@ mod tests {
     use history_model::{Counts, Exposure, Place, Refusal, Reply, Request};
     use replay_cli::{ScriptFault, read_script, reply_line};
     use std::alloc::{AllocError, Global};
+    use std::process::Abort;
     use std::test::Fail;
 
     fn read(alloc: Global, text: &str) -> Result<Result<Vec<Request>, ScriptFault>, AllocError> {
@@ -19,6 +20,18 @@ mod tests {
 
     fn fault_of(alloc: Global, text: &str) -> Result<Option<ScriptFault>, AllocError> {
         Ok(read(alloc, text)?.err())
+    }
+
+    // The text reads to these requests.
+    fn reads<R: Abort>(
+        rt: &R,
+        alloc: Global,
+        text: &str,
+        requests: &[Request],
+    ) -> Result<(), Fail> {
+        let found = read(alloc, text)??;
+        assert_eq!(rt; found.as_slice(), requests);
+        Ok(())
     }
 
     #[test]
@@ -42,12 +55,10 @@ mod tests {
             Request::Look(0),
             Request::Exposure,
         ];
-        let whole = read(alloc, text)??;
-        assert_eq!(rt; whole.as_slice(), requests.as_slice());
-        let without_last_line_feed = read(alloc, text.trim_ascii_end())??;
-        assert_eq!(rt; without_last_line_feed.as_slice(), requests.as_slice());
-        assert!(rt; read(alloc, "")??.is_empty());
-        Ok(())
+        reads(&rt, alloc, text, &requests)?;
+        // the same without the last line feed
+        reads(&rt, alloc, text.trim_ascii_end(), &requests)?;
+        reads(&rt, alloc, "", &[])
     }
 
     #[test]
@@ -80,6 +91,11 @@ mod tests {
             assert_eq!(rt; fault_of(alloc, text)?, expected, "{text:?}");
         }
         Ok(())
+    }
+
+    // The text is this line. Each comparison is a function of its own, since a test with many of them is dear to prove.
+    fn is_line<R: Abort>(rt: &R, found: &[u8], line: &str) {
+        assert_eq!(rt; found, line.as_bytes(), "{line:?}");
     }
 
     // What is read of so many bytes `x`, where the calls of the source of these numbers fail.
@@ -159,7 +175,7 @@ mod tests {
             (3, Place::Pending(1), "session 3 pending 1\n"),
         ] {
             let printed = reply_line(alloc, &at(session, place))?;
-            assert_eq!(rt; printed.as_slice(), line.as_bytes(), "{line:?}");
+            is_line(&rt, &printed, line);
         }
         Ok(())
     }
@@ -188,7 +204,7 @@ mod tests {
             (Refusal::Memory, ""),
         ] {
             let printed = reply_line(alloc, &Reply::Refused(refusal))?;
-            assert_eq!(rt; printed.as_slice(), line.as_bytes(), "{line:?}");
+            is_line(&rt, &printed, line);
         }
         Ok(())
     }
@@ -207,7 +223,7 @@ mod tests {
         let printed = reply_line(alloc, &Reply::Exposure(exposure))?;
         let expected =
             "exposure finished 3\nitem 0 shown 1 eligible 3\nitem 1 shown 1 eligible 2\nitem 2 shown 2 eligible 2\nitem 3 shown 1 eligible 3\nitem 4 shown 1 eligible 2\nitem 5 shown 1 eligible 3\n";
-        assert_eq!(rt; printed.as_slice(), expected.as_bytes());
+        is_line(&rt, &printed, expected);
         Ok(())
     }
 }
