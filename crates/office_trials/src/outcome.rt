@@ -189,8 +189,28 @@ pub(crate) fn draft(alloc: Global, numbers: &Numbers) -> Result<Draft, AllocErro
     Ok(draft)
 }
 
-/// An office is opened over a file of these bytes, under the worked plan with these numbers, and
-/// these calls are made. The calls of the disk that have these numbers fail.
+/// An office is opened over a file of these bytes, and these calls are made. The calls of the disk
+/// that have these numbers fail. What owns a bank is a function of its own, since one that also
+/// owns a disk is dear to prove.
+fn run_on(
+    alloc: Global,
+    bank: &Bank,
+    spec: &Spec,
+    bytes: &[u8],
+    fails: &[u64],
+    calls: &[Call],
+) -> Result<Outcome, Fail>
+    requires { IsPlanFor bank.now spec.now }
+{
+    let disk = MemoryDisk::of(alloc, bytes.to_vec(alloc)?, fails.to_vec(alloc)?);
+    // There is room for each call that fails, so a crash leaves what the model of a disk has.
+    if disk.room() < fails.len() {
+        return Err(Fail::from("no room"));
+    }
+    run_over(alloc, bank, spec, CountedDisk::of(disk), calls)
+}
+
+/// The same under the worked plan with these numbers.
 pub(crate) fn run(
     alloc: Global,
     numbers: &Numbers,
@@ -200,12 +220,7 @@ pub(crate) fn run(
 ) -> Result<Outcome, Fail> {
     let bank = bank_a(alloc)?;
     let spec = Spec::of(alloc, &bank, draft(alloc, numbers)?)?;
-    let disk = MemoryDisk::of(alloc, bytes.to_vec(alloc)?, fails.to_vec(alloc)?);
-    // There is room for each call that fails, so a crash leaves what the model of a disk has.
-    if disk.room() < fails.len() {
-        return Err(Fail::from("no room"));
-    }
-    run_over(alloc, &bank, &spec, CountedDisk::of(disk), calls)
+    run_on(alloc, &bank, &spec, bytes, fails, calls)
 }
 
 /// What calls gave over a file that was opened, the bytes of the disk in the end, and the count of
