@@ -1,5 +1,7 @@
 //! The numbers of a problem, item by item.
 
+use crate::tally::Tally;
+use bank_tables::ItemSet;
 use constraint_model::{Problem, Row};
 use proof_tree::Memory;
 use std::alloc::Global;
@@ -42,6 +44,10 @@ pub struct Table {
     pub rows: Vec<Limits>,
     /// The bounds of stimulus `s` at `s - 1`.
     pub stimuli: Vec<Limits>,
+    /// The items given, and those that may be taken or left.
+    pub usable: ItemSet,
+    /// Their sums.
+    pub most: Tally,
 }
 
 /// What an item of the bank adds to a row.
@@ -195,6 +201,19 @@ impl Table {
         grouped > 0 && free.wrapping_mul(2) > grouped.wrapping_mul(5)
     }
 
+    /// The items given, and those that may be taken or left.
+    fn usable_items(&self) -> ItemSet {
+        let mut items = ItemSet::empty();
+        let mut item = 0u16;
+        for entry in self.entries.as_slice() {
+            if item < 512 && (entry.given || entry.free) {
+                items = items.with(item);
+            }
+            item = item.saturating_add(1);
+        }
+        items
+    }
+
     /// Adds the items of the bank.
     fn add_entries(&mut self, problem: &Problem) -> Result<(), Memory> {
         for item in 0..problem.bank.items() {
@@ -225,9 +244,13 @@ impl Table {
             parts: Vec::new(alloc),
             rows: Vec::new(alloc),
             stimuli: stimuli_of(alloc, problem)?,
+            usable: ItemSet::empty(),
+            most: Tally::none(),
         };
         table.add_entries(problem)?;
         table.add_rows(problem)?;
+        table.usable = table.usable_items();
+        table.most = Tally::of(&table, &table.usable);
         Ok(table)
     }
 }

@@ -37,13 +37,18 @@ fn stimulus_excess(limits: &Limits, found: i64) -> i64 {
 }
 
 impl Tally {
-    /// The sums of a set of items.
-    pub fn of(table: &Table, items: &ItemSet) -> Tally {
-        let mut tally = Tally {
+    /// The sums of no items.
+    pub fn none() -> Tally {
+        Tally {
             activity: [0; 128],
             members: [0; 65],
             used: 0,
-        };
+        }
+    }
+
+    /// The sums of a set of items.
+    pub fn of(table: &Table, items: &ItemSet) -> Tally {
+        let mut tally = Tally::none();
         tally.add_all(table, items);
         tally
     }
@@ -76,6 +81,34 @@ impl Tally {
                 self.used = self.used.wrapping_add(1);
             }
             self.members[stimulus] = self.members[stimulus].wrapping_add(1);
+        }
+    }
+
+    /// Takes an item off the sums on rows and stimuli.
+    fn take(&mut self, table: &Table, entry: &Entry) {
+        for part in table.parts_of(entry) {
+            let row = part.row as usize;
+            if row < 128 {
+                self.activity[row] = self.activity[row].wrapping_sub(part.amount as i64);
+            }
+        }
+        let stimulus = entry.stimulus as usize;
+        if stimulus < 65 {
+            self.members[stimulus] = self.members[stimulus].wrapping_sub(1);
+        }
+    }
+
+    /// The same of the items of a set. The number of stimuli used stays as it is.
+    fn take_all(&mut self, table: &Table, items: &ItemSet) {
+        let mut left = *items;
+        for _ in 0..512 {
+            let Some(item) = left.first() else {
+                break;
+            };
+            left = left.without(item);
+            if let Some(entry) = table.entries.get(item as usize) {
+                self.take(table, entry);
+            }
         }
     }
 
@@ -248,7 +281,8 @@ pub fn is_ruled_out(table: &Table, cut: &Cut) -> bool {
         return true;
     }
     let least = Tally::of(table, &cut.taken);
-    let mut most = least;
-    most.add_all(table, &cut.free);
+    let mut most = table.most;
+    let left = table.usable.minus(cut.taken.union(cut.free));
+    most.take_all(table, &left);
     least.rules_out(table, &most, cut)
 }
