@@ -9,7 +9,7 @@ use exam_edge::{Link, MemoryDisk, MemoryLink};
 use exam_http::{Ended, serve_connection};
 use exam_office::{Alone, Office};
 use rand_pcg::Pcg32;
-use std::alloc::Global;
+use std::alloc::{AllocError, Global};
 use std::sync::Wait;
 use std::test::Fail;
 use trial_cases::{bank_a, draft_a, set_of};
@@ -40,6 +40,13 @@ fn serve<'a, R: Wait + Sync, K: Link>(
     }
 }
 
+// Plan A with a base form.
+fn plan(alloc: Global) -> Result<Draft, AllocError> {
+    let mut draft = draft_a(alloc)?;
+    draft.base = Some(set_of(&[1, 2, 3]));
+    Ok(draft)
+}
+
 // Serves one connection on bank A, whose plan is plan A.
 fn serve_bank_a<R: Wait + Sync, K: Link>(
     rt: &R,
@@ -47,11 +54,7 @@ fn serve_bank_a<R: Wait + Sync, K: Link>(
     link: &mut K,
 ) -> Result<Ended, Fail> {
     let bank = bank_a(alloc)?;
-    let draft = Draft {
-        base: Some(set_of(&[1, 2, 3])),
-        ..draft_a(alloc)?
-    };
-    let spec = Spec::of(alloc, &bank, draft)?;
+    let spec = Spec::of(alloc, &bank, plan(alloc)?)?;
     serve(rt, alloc, &bank, &spec, link)
 }
 
@@ -67,6 +70,17 @@ pub(crate) struct Cutting {
 pub(crate) struct Heard {
     pub(crate) text: String,
     pub(crate) ended: Ended,
+}
+
+// The text that the client of this link has.
+fn heard_by(alloc: Global, link: &MemoryLink, ended: Ended) -> Result<Heard, Fail> {
+    match std::str::from_utf8(link.bytes()) {
+        Ok(text) => Ok(Heard {
+            text: String::from_str(alloc, text)?,
+            ended,
+        }),
+        Err(_) => Err(Fail::from("no text")),
+    }
 }
 
 /// What a client gets who sends these bytes, at once unless they are cut. These calls of the link fail.
@@ -90,11 +104,5 @@ pub(crate) fn serve_bytes<R: Wait + Sync>(
             serve_bank_a(rt, alloc, &mut pieces)?
         }
     };
-    match std::str::from_utf8(link.bytes()) {
-        Ok(text) => Ok(Heard {
-            text: String::from_str(alloc, text)?,
-            ended,
-        }),
-        Err(_) => Err(Fail::from("no text")),
-    }
+    heard_by(alloc, &link, ended)
 }
