@@ -91,7 +91,22 @@ fn draft(alloc: Global, rate: Rate, journal: u64) -> Result<Draft, AllocError> {
     Ok(draft)
 }
 
-// The answers on bank A at this rate and this limit of the journal. These calls of the disk fail.
+// The answers over an empty journal. These calls of the disk fail. What owns a bank is a function of its own, since one that also
+// owns a disk is dear to prove.
+fn answers_over(
+    alloc: Global,
+    bank: &Bank,
+    spec: &Spec,
+    fails: &[u64],
+    requests: &[Request],
+) -> Result<Answered, Fail>
+    requires { IsPlanFor bank.now spec.now }
+{
+    let disk = MemoryDisk::of(alloc, Vec::new(alloc), fails.to_vec(alloc)?);
+    ask_over(alloc, bank, spec, disk, requests)
+}
+
+// The same on bank A at this rate and this limit of the journal.
 pub(crate) fn answers(
     alloc: Global,
     rate: Rate,
@@ -101,6 +116,5 @@ pub(crate) fn answers(
 ) -> Result<Answered, Fail> {
     let bank = bank_a(alloc)?;
     let spec = Spec::of(alloc, &bank, draft(alloc, rate, journal)?)?;
-    let disk = MemoryDisk::of(alloc, Vec::new(alloc), fails.to_vec(alloc)?);
-    ask_over(alloc, &bank, &spec, disk, requests)
+    answers_over(alloc, &bank, &spec, fails, requests)
 }

@@ -159,14 +159,22 @@ fn replies_over<'a, R: Threads + Wait + Sync>(
     Ok(replies)
 }
 
+// The same on bank A. What owns a bank is a function of its own, since a test that does and compares is dear to prove.
+fn replies_on_a<R: Threads + Wait + Sync>(
+    rt: &R,
+    alloc: Global,
+    gate: &Hold,
+) -> Result<(Option<Told>, Option<Told>), Fail> {
+    let bank = bank_a(alloc)?;
+    let spec = plan_of(alloc, &bank, Rate { num: 1, den: 1 })?;
+    replies_over(rt, alloc, &bank, &spec, gate)
+}
+
 // Session 0 is started first, and session 1 is served before it. No session has ended, so both have the same first item.
 #[test]
 fn one_is_held_while_the_other_is_answered(rt: HostRuntime) -> Result<(), Fail> {
-    let alloc = rt.alloc();
-    let bank = bank_a(alloc)?;
-    let spec = plan_of(alloc, &bank, Rate { num: 1, den: 1 })?;
     let gate = Hold::new();
-    let (held, meanwhile) = replies_over(&rt, alloc, &bank, &spec, &gate)?;
+    let (held, meanwhile) = replies_on_a(&rt, rt.alloc(), &gate)?;
     assert!(rt; !gate.given_up());
     assert_eq!(rt; meanwhile, Some(waiting(1, 0, 2, true)));
     assert_eq!(rt; held, Some(waiting(0, 0, 2, true)));

@@ -10,7 +10,7 @@ use constraint_model::{Draft, Spec};
 use exam_edge::{Door, Gate, MemoryDisk, MemoryDoor, MemoryLink};
 use exam_office::{Alone, Office, Reply, Request, Summary};
 use exam_serve::{End, Served, serve_doors};
-use std::alloc::Global;
+use std::alloc::{AllocError, Global};
 use std::sync::Wait;
 use std::test::Fail;
 use std::thread::Threads;
@@ -91,6 +91,18 @@ fn session_of(alloc: Global, alone: &mut Alone<MemoryDisk>, booking: u64) -> Opt
     }
 }
 
+// The sessions of bookings 70 and 71.
+fn sessions_of(alloc: Global, office: Office<MemoryDisk>) -> (Option<u32>, Option<u32>) {
+    let mut alone = Alone { office };
+    let sessions = (
+        session_of(alloc, &mut alone, 70),
+        session_of(alloc, &mut alone, 71),
+    );
+    let Alone { office } = alone;
+    let _disk = office.into_disk();
+    sessions
+}
+
 fn serve<'a, L: Door + Send + Drop, G: Gate + Sync, R: Threads + Wait + Sync>(
     rt: &R,
     alloc: Global,
@@ -108,19 +120,19 @@ fn serve<'a, L: Door + Send + Drop, G: Gate + Sync, R: Threads + Wait + Sync>(
     let Served { office, doors, end } = serve_doors(rt, alloc, office, gate, doors);
     let summary = office.summary();
     let office = open(alloc, bank, spec, office.into_disk())?;
-    let mut alone = Alone { office };
-    let sessions = (
-        session_of(alloc, &mut alone, 70),
-        session_of(alloc, &mut alone, 71),
-    );
-    let Alone { office } = alone;
-    let _disk = office.into_disk();
+    let sessions = sessions_of(alloc, office);
     Ok(Told {
         end,
         summary,
         doors,
         sessions,
     })
+}
+
+fn plan(alloc: Global) -> Result<Draft, AllocError> {
+    let mut draft = draft_a(alloc)?;
+    draft.base = Some(set_of(&[1, 2, 3]));
+    Ok(draft)
 }
 
 /// What comes of the work on bank A with these doors.
@@ -134,10 +146,6 @@ pub(crate) fn serve_bank_a<L: Door + Send + Drop, G: Gate + Sync, R: Threads + W
     requires home { All (λ d. L.is_out d ≡ false) doors.items }
 {
     let bank = bank_a(alloc)?;
-    let draft = Draft {
-        base: Some(set_of(&[1, 2, 3])),
-        ..draft_a(alloc)?
-    };
-    let spec = Spec::of(alloc, &bank, draft)?;
+    let spec = Spec::of(alloc, &bank, plan(alloc)?)?;
     serve(rt, alloc, &bank, &spec, doors, gate)
 }
