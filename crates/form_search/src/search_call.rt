@@ -184,8 +184,8 @@ fn tree_of_warm(
     tree_with(alloc, nodes, pool)
 }
 
-/// The tree where steps at the root begin the search: one node if they close it; else that of exchanges, where no items are
-/// linked, or of passes by steps.
+/// The tree where steps at the root begin the search: one node if they close it; else that of exchanges, where these may be
+/// made, or of passes by steps.
 fn tree_by_steps(
     alloc: Global,
     problem: &Problem,
@@ -193,12 +193,13 @@ fn tree_by_steps(
     incumbent: &mut Incumbent,
     budget: u16,
     warm: Option<&Vector>,
+    may_exchange: bool,
 ) -> Result<Option<Tree>, Memory>
     requires { IsWellMade (problem_of problem.now) }
 {
     let cut = Cut::root(problem);
     let root = steps_at_root(alloc, problem, table, incumbent, &cut, warm)?;
-    if root.bound > incumbent.top() && table.has_no_stimuli() {
+    if root.bound > incumbent.top() && may_exchange {
         let tree = tree_by_exchanges(alloc, problem, table, incumbent, budget)?;
         if tree.is_some() {
             return Ok(tree);
@@ -236,15 +237,18 @@ pub fn search(
 {
     let table = Table::of(alloc, problem)?;
     let mut incumbent = known(alloc, problem, &table, hint)?;
+    let begins_exact = table.has_links() && incumbent.form.is_some();
     let mut tree = None;
-    if table.has_links() {
+    if begins_exact {
         tree = tree_of_warm(alloc, problem, &table, &incumbent, warm)?;
         if tree.is_none() {
             tree = tree_by_exchanges(alloc, problem, &table, &mut incumbent, budget)?;
         }
     }
     if tree.is_none() {
-        tree = tree_by_steps(alloc, problem, &table, &mut incumbent, budget, warm)?;
+        let may_exchange = !begins_exact && !table.is_of_passages();
+        let known = &mut incumbent;
+        tree = tree_by_steps(alloc, problem, &table, known, budget, warm, may_exchange)?;
     }
     Ok(Searched {
         form: form_or_none(problem, &incumbent.form),

@@ -188,17 +188,17 @@ impl Table {
         (free, grouped)
     }
 
-    /// Whether no item that may be taken or left is of a stimulus.
-    pub fn has_no_stimuli(&self) -> bool {
-        self.free_items().1 == 0
+    /// Whether at least two fifths of the items that may be taken or left are of stimuli. Exchanges, by which these are linked
+    /// to their stimuli, then lose more by rounding than they gain.
+    pub fn is_of_passages(&self) -> bool {
+        let (free, grouped) = self.free_items();
+        grouped > 0 && free.wrapping_mul(2) <= grouped.wrapping_mul(5)
     }
 
-    /// Whether some of the items that may be taken or left are of stimuli, but fewer than two fifths: then exchanges, by which
-    /// such items are linked to their stimuli, prove more with each node than steps do. Where more items are linked, the
-    /// exchanges lose more by rounding than they gain.
+    /// Whether some of the items that may be taken or left are of stimuli, but fewer than two fifths: then exchanges prove more
+    /// with each node than steps do.
     pub fn has_links(&self) -> bool {
-        let (free, grouped) = self.free_items();
-        grouped > 0 && free.wrapping_mul(2) > grouped.wrapping_mul(5)
+        self.free_items().1 > 0 && !self.is_of_passages()
     }
 
     /// The items given, and those that may be taken or left.
