@@ -1,11 +1,11 @@
 #!/usr/bin/env python3
 """Times the assembler beside GLPK, CBC, HiGHS and SYMPHONY on the same steps, and judges every proof tree. See assembly.md.
 
-usage: assembly.py PROGRAM [--short] [--rounds N] [--only TEXT] [--seeds N]
+usage: assembly.py PROGRAM [--short] [--rounds N] [--only TEXT] [--seeds N] [--alone]
 
 PROGRAM is the built program of crates/assembly_bench. --short takes few and small problems; --only those whose names have
 this text; --rounds is how often each step is solved, of which the least time counts (3 without it); --seeds makes other
-problems of the same kinds, N added to each seed.
+problems of the same kinds, N added to each seed. --alone runs no peer; the trees are judged all the same.
 """
 import os
 import subprocess
@@ -251,11 +251,13 @@ def measure(program, problem, commands, folder, rounds):
 
 
 def main(words):
-    rounds, short, only, shift, plain = 3, False, "", 0, []
+    rounds, short, only, shift, alone, plain = 3, False, "", 0, False, []
     while words:
         word = words.pop(0)
         if word == "--short":
             short = True
+        elif word == "--alone":
+            alone = True
         elif word in ("--rounds", "--only") and words:
             rounds, only = (int(words.pop(0)), only) if word == "--rounds" else (rounds, words.pop(0))
         elif word == "--seeds" and words:
@@ -267,7 +269,7 @@ def main(words):
         return 2
     results, wrong = [], []
     with tempfile.TemporaryDirectory() as folder:
-        commands = peers.all_peers(folder)
+        commands = {} if alone else peers.all_peers(folder)
         for problem in problems.all_problems(short, shift):
             if only in problem.name:
                 result, faults = measure(plain[0], problem, commands, folder, rounds)
