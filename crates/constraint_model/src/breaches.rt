@@ -1,10 +1,10 @@
 //! Whether a set of items is a form.
 
-ghost use Rattle.std.specs.Prelude.{◌≡◌, ◌↔◌, ℕ, IsTrue};
+ghost use Rattle.std.specs.Prelude.{◌≡◌, ◌<◌, ◌↔◌, ℕ, IsTrue};
 ghost use Rattle.bank_tables.specs.Items.{has};
 ghost use Rattle.bank_tables.specs.Validity.{HoldsItems};
 ghost use Rattle.exam_model.specs.Breaches.{IsFirstBreach};
-ghost use Rattle.exam_model.specs.Forms.{Form, activity, used};
+ghost use Rattle.exam_model.specs.Forms.{Form, activity, items_of, used};
 ghost use Rattle.exam_model.specs.Validity.{IsRow, IsWellMade};
 ghost use Rattle.constraint_model.specs.Views.{problem_of};
 ghost use Rattle.constraint_model.specs.Countable.{IsCountable};
@@ -37,16 +37,16 @@ fn activity_at(bank: &Bank, row: &Row, form: &ItemSet, stimuli: &ItemSet) -> u32
     activity(bank, row, form, stimuli)
 }
 
-/// The first row that doesn't hold, with the activity found.
-fn row_breach(bank: &Bank, plan: &Draft, form: &ItemSet) -> Option<(u8, u32)>
+/// The first row that doesn't hold, with the activity found, at a form that uses these stimuli.
+fn row_breach(bank: &Bank, plan: &Draft, form: &ItemSet, stimuli: &ItemSet) -> Option<(u8, u32)>
     requires plan { IsCountable bank.now plan.now }
     requires items { HoldsItems bank.now (has form.now) }
+    requires stimuli { (s : ℕ) → has stimuli.now s ≡ used bank.now (has form.now) s }
     ensures { IsRowBreach bank.now plan.now (has form.now) result }
 {
     let rows = plan.rows.as_slice();
-    let stimuli = stimuli_used(bank, form);
     for (r, row) in rows.iter().enumerate() {
-        let found = activity_at(bank, row, form, &stimuli);
+        let found = activity_at(bank, row, form, stimuli);
         if found < lower_bound(row) || found > upper_bound(row) {
             return Some((r as u8, found));
         }
@@ -54,15 +54,34 @@ fn row_breach(bank: &Bank, plan: &Draft, form: &ItemSet) -> Option<(u8, u32)>
     None
 }
 
-/// The first stimulus that doesn't hold, with its number of items.
-fn stimulus_breach(bank: &Bank, plan: &Draft, form: &ItemSet) -> Option<(u8, u32)>
-    requires { IsCountable bank.now plan.now }
+/// How many items of a form that uses these stimuli have the stimulus.
+fn items_at(bank: &Bank, stimulus: u8, form: &ItemSet, stimuli: &ItemSet) -> u32
+    requires stimulus { 0 < stimulus }
+    requires stimuli { (s : ℕ) → has stimuli.now s ≡ used bank.now (has form.now) s }
+    ensures { result ≡ items_of bank.now stimulus (has form.now) }
+{
+    if stimuli.has(stimulus as u16) {
+        items_of(bank, stimulus, form)
+    } else {
+        0
+    }
+}
+
+/// The first stimulus that doesn't hold, with its number of items, at a form that uses these stimuli.
+fn stimulus_breach(
+    bank: &Bank,
+    plan: &Draft,
+    form: &ItemSet,
+    stimuli: &ItemSet,
+) -> Option<(u8, u32)>
+    requires plan { IsCountable bank.now plan.now }
+    requires stimuli { (s : ℕ) → has stimuli.now s ≡ used bank.now (has form.now) s }
     ensures { IsStimulusBreach bank.now plan.now (has form.now) result }
 {
     let bounds = plan.bounds.as_slice();
     for k in 0..bank.stimuli() {
         let bound = bounds[k as usize];
-        let found = items_of(bank, k + 1, form);
+        let found = items_at(bank, k + 1, form, stimuli);
         if found > 0 && found < bound.low || found > bound.high {
             return Some((k + 1, found));
         }
@@ -92,10 +111,11 @@ pub fn plan_breach(bank: &Bank, plan: &Draft, form: &ItemSet) -> Option<Breach>
     if let Some(found) = wrong_length(bank, plan, form) {
         return Some(Breach::Length(found));
     }
-    if let Some((row, found)) = row_breach(bank, plan, form) {
+    let stimuli = stimuli_used(bank, form);
+    if let Some((row, found)) = row_breach(bank, plan, form, &stimuli) {
         return Some(Breach::Row(row, found));
     }
-    if let Some((stimulus, found)) = stimulus_breach(bank, plan, form) {
+    if let Some((stimulus, found)) = stimulus_breach(bank, plan, form, &stimuli) {
         return Some(Breach::Stimulus(stimulus, found));
     }
     None

@@ -1,9 +1,10 @@
 //! A vector of Lagrange multipliers.
 
-ghost use Rattle.std.specs.Prelude.{◌≡◌, ◌↔◌, IsTrue, IsSome, IfSome};
+ghost use Rattle.std.specs.Prelude.{◌≡◌, ◌↔◌, IsTrue, IsSome, IfOk, IfSome};
 ghost use Rattle.exam_model.specs.ProofTrees.{IsVector};
 
 use bank_tables::List;
+use std::alloc::{AllocError, Global};
 use std::marker::Model;
 
 /// The multiplier of each side of the constraints that it names: pairs of a side and a multiplier, sides strictly
@@ -60,6 +61,14 @@ impl Vector {
         } else {
             None
         }
+    }
+
+    /// A copy of the vector; the only error is want of memory.
+    pub fn again(&self, alloc: Global) -> Result<Vector, AllocError>
+        ensures { IfOk result (λ copy. copy ≡ self.now) }
+    {
+        let pairs = Vec::from_slice(alloc, self.pairs())?;
+        Ok(Vector::new(List::of(pairs)))
     }
 
     /// Its pairs of a side and a multiplier.
