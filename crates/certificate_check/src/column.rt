@@ -1,4 +1,4 @@
-//! One quantity of every item, read once for all the rows that sum it.
+//! One quantity of every item, read once for rows in succession that sum it.
 
 ghost use Rattle.std.specs.Prelude.{◌≡◌, ℕ, ◌<◌, ◌≤◌, cond, get_or};
 ghost use Rattle.bank_tables.specs.Items.{has};

@@ -15,17 +15,9 @@ ghost use Rattle.certificate_check.specs.Cuts.{path_of, IsStanding};
 use crate::relaxed::relaxed_maximum;
 use crate::standing::Standing;
 use bank_tables::ItemSet;
-use constraint_model::{Problem, objective};
+use constraint_model::{Problem, names_only_sides, objective};
 use exam_model::Reason;
 use proof_tree::Tree;
-
-/// Whether each side that a vector names is one of the plan's, or of the cap.
-fn names_only_sides(problem: &Problem, vector: &[(u16, u32)]) -> bool
-    ensures { IsTrue result ↔ NamesOnlySides (problem_of problem.now) vector.now }
-{
-    let sides = 2 * problem.spec.rows().len() + 2 * problem.bank.stimuli() as usize;
-    vector.iter().all(|pair| (pair.0 as usize) < sides || pair.0 == 384 || pair.0 == 385)
-}
 
 /// Whether the relaxed maximum is defined and at most this number.
 pub fn maximum_is_at_most(

@@ -111,32 +111,7 @@ fn net_of(low: u32, high: u32) -> i64
     low as i64 - high as i64
 }
 
-/// The net of two multipliers where the item is in the set, else 0.
-fn net_of_member(set: &ItemSet, low: u32, high: u32, item: u16) -> i64
-    requires low { low ≤ 16777216 }
-    requires high { high ≤ 16777216 }
-    ensures value { result ≡ (pos low -ℤ pos high) *ℤ pos (cond (has set.now item) 1 0) }
-    ensures within { IsWithin (16777216 * 65535) result }
-{
-    if set.has(item) { net_of(low, high) } else { 0 }
-}
-
-/// Adds to the weight of each item in a set the net of two multipliers.
-fn add_count(bank: &Bank, set: &ItemSet, low: u32, high: u32, weights: &mut [i64])
-    requires low { low ≤ 16777216 }
-    requires high { high ≤ 16777216 }
-    requires room { size bank.now ≤ length weights.old }
-    requires within { (i : ℕ) → i < size bank.now → IsWithin item_top (at weights.old i) }
-    ensures { (i : ℕ) → i < size bank.now →
-        IsAdded (16777216 * 65535) (at weights.old i)
-        ((pos low -ℤ pos high) *ℤ pos (cond (has set.now i) 1 0)) (at weights.new i) }
-{
-    for i in 0..bank.items() {
-        weights[i as usize] += net_of_member(set, low, high, i);
-    }
-}
-
-/// The same where the set has few items: its members alone are looked at.
+/// Adds to the weight of each item in a set the net of two multipliers. The members alone are looked at.
 fn add_to_members(bank: &Bank, set: &ItemSet, low: u32, high: u32, weights: &mut [i64])
     requires set { HoldsItems bank.now (has set.now) }
     requires low { low ≤ 16777216 }
@@ -219,11 +194,12 @@ fn add_row(bank: &Bank, row: &Row, low: u32, high: u32, column: &mut Column, wei
     ensures added { (i : ℕ) → i < size bank.now → IsAdded (16777216 * 65535) (at weights.old i) ((pos low -ℤ pos high) *ℤ pos (item_activity bank.now row.now i)) (at weights.new i) }
 {
     match row {
-        Row::Count { set, .. } => add_count(bank, set, low, high, weights),
+        Row::Count { set, .. } | Row::Enemies { set } => {
+            add_to_members(bank, set, low, high, weights)
+        }
         Row::Quantity { which, set, .. } => {
             add_quantity(bank, set, *which, low, high, column, weights)
         }
-        Row::Enemies { set } => add_to_members(bank, set, low, high, weights),
         Row::Stimuli { .. } => {}
     }
 }
