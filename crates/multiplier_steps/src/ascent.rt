@@ -8,39 +8,12 @@ ghost use Rattle.constraint_model.specs.Views.{problem_of};
 ghost use Rattle.lagrange_bound.specs.Cuts.{IsCut, IsCutOf};
 ghost use Rattle.multiplier_steps.specs.Improvement.{AreInOrder, IsNoHigher};
 
-use crate::subgradient::steps_from;
-use crate::vectors::{copy_of, names_only_sides};
-use bank_tables::{ItemSet, List};
-use constraint_model::Problem;
+use bank_tables::List;
+use constraint_model::{Problem, names_only_sides};
 use lagrange_bound::{Cut, bound};
 use proof_tree::{Memory, Vector};
 use std::alloc::Global;
-
-/// What subgradient steps aim at: a bound of at most `target`, or as low as they come where there is none, of the objective or
-/// of a ray, within so many steps.
-#[derive(Clone, Copy, Debug, PartialEq, Eq)]
-pub struct Aim {
-    pub ray: bool,
-    pub target: Option<i64>,
-    pub steps: u32,
-}
-
-/// What they lead to.
-#[derive(Debug, Drop)]
-pub struct Ascent {
-    /// The best vector met.
-    pub vector: Vector,
-    /// Its bound, as the steps computed it.
-    pub bound: i64,
-    /// For each item of the bank the smoothed share of steps in which the relaxed maximum had it, from 0 to 4,096.
-    pub shares: Vec<u16>,
-    /// The same of each stimulus, that of stimulus `s` at `s - 1`.
-    pub stimulus_shares: Vec<u16>,
-    /// The items that the relaxed maximum of the last step had.
-    pub choice: ItemSet,
-    /// A set of items met on the way that seems to be a form better than the target.
-    pub form: Option<ItemSet>,
-}
+use subgradient_steps::{Aim, Ascent, steps_from};
 
 /// Whether a bound is there, and at most another that is.
 fn is_at_most(to: Option<i64>, from: Option<i64>) -> bool
@@ -78,7 +51,7 @@ pub fn climb(
     ensures { IfOk result (λ ascent. NamesOnlySides (problem_of problem.now) ascent.vector) }
 {
     let ascent = steps_from(alloc, problem, cut, from, aim)?;
-    if names_only_sides(problem, &ascent.vector) {
+    if names_only_sides(problem, ascent.vector.pairs()) {
         return Ok(ascent);
     }
     let Ascent {
@@ -130,8 +103,10 @@ pub fn improve(
         choice: _,
         form: _,
     } = steps_from(alloc, problem, cut, from, aim)?;
-    if names_only_sides(problem, &vector) && is_no_higher(problem, cut, from, &vector, false) {
+    if names_only_sides(problem, vector.pairs())
+        && is_no_higher(problem, cut, from, &vector, false)
+    {
         return Ok(vector);
     }
-    copy_of(alloc, from)
+    from.again(alloc)
 }

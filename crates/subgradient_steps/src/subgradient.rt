@@ -1,12 +1,11 @@
 //! Whole-number subgradient steps.
 
-use crate::ascent::{Aim, Ascent};
+use crate::aim::{Aim, Ascent};
 use crate::choice::Choice;
 use crate::constraints::{Line, MOST};
 use crate::direction::{RowsValue, Slope};
 use crate::problem::Flat;
 use crate::step_size::Level;
-use crate::vectors::copy_of;
 use bank_tables::{ItemSet, List};
 use constraint_model::Problem;
 use lagrange_bound::Cut;
@@ -80,7 +79,7 @@ impl Flat {
         self.push_stimuli(&mut pairs, threshold)?;
         match Vector::of(List::of(pairs)) {
             Some(vector) => Ok(vector),
-            None => copy_of(alloc, from),
+            None => from.again(alloc),
         }
     }
 
@@ -222,7 +221,7 @@ fn reach_of(ray: bool) -> i64 {
 }
 
 /// Goes from a vector by at most so many subgradient steps towards a bound of at most the target.
-pub(crate) fn steps_from(
+pub fn steps_from(
     alloc: Global,
     problem: &Problem,
     cut: &Cut,
