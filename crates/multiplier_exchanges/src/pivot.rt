@@ -10,7 +10,7 @@ use crate::workspace::{Direction, Workspace};
 use proof_tree::Memory;
 use std::mem;
 
-/// How far it is until a number comes to 0, which changes by an entry.
+/// How far it is until a number reaches 0, which changes by an entry.
 fn way(number: i64, entry: i64) -> i64 {
     quotient(number, entry).saturating_abs()
 }

@@ -142,20 +142,33 @@ fn sum_of(bank: &Bank, which: Option<u8>, items: ItemSet) -> i64 {
     sum
 }
 
-/// The items of a stimulus in a set.
-fn with_stimulus(bank: &Bank, items: &ItemSet, stimulus: u8) -> ItemSet {
+/// The items of each stimulus, those of stimulus `s` at `s`.
+type Members = [ItemSet; 65];
+
+/// The items of a set by their stimuli.
+fn members_of(bank: &Bank, items: &ItemSet) -> Members {
+    let mut members = [ItemSet::empty(); 65];
     let mut left = *items;
-    let mut found = ItemSet::empty();
     for _ in 0..512 {
         let Some(item) = left.first() else {
             break;
         };
         left = left.without(item);
-        if item < bank.items() && item < 512 && bank.stimulus(item) == stimulus {
-            found = found.with(item);
+        if item < bank.items() {
+            if let Some(set) = members.get_mut(bank.stimulus(item) as usize) {
+                *set = set.with(item);
+            }
         }
     }
-    found
+    members
+}
+
+/// The items of a stimulus.
+fn members_at(members: &Members, stimulus: u8) -> ItemSet {
+    match members.get(stimulus as usize) {
+        Some(items) => *items,
+        None => ItemSet::empty(),
+    }
 }
 
 impl Relaxation {
@@ -415,19 +428,19 @@ impl Relaxation {
         Ok(())
     }
 
-    /// Adds the lines of both bounds of a stimulus, whose column is at a place.
+    /// Adds the lines of both bounds of a stimulus, whose column is at a place; `members` are its free items, and so many of its
+    /// items are taken.
     fn add_bounds(
         &mut self,
         problem: &Problem,
-        sets: &PathSets,
         places: &Places,
+        members: ItemSet,
+        taken: i64,
         stimulus: u8,
         place: u16,
         bound: &StimulusBound,
     ) -> Result<(), Memory> {
         let bank = problem.bank;
-        let members = with_stimulus(bank, &sets.free, stimulus);
-        let taken = with_stimulus(bank, &sets.taken, stimulus).count() as i64;
         let rows = short(problem.spec.rows().len());
         let pair = rows.wrapping_add(stimulus as u16).wrapping_sub(1);
         let side = pair.wrapping_mul(2);
@@ -443,13 +456,17 @@ impl Relaxation {
         problem: &Problem,
         sets: &PathSets,
         places: &Places,
+        members: &Members,
     ) -> Result<(), Memory> {
+        let taken = members_of(problem.bank, &sets.taken);
         let mut place = short(self.items.len());
         let mut stimulus = 1u8;
         for bound in problem.spec.bounds() {
             let number = stimulus as u16;
             if sets.chosen.has(number) || sets.opened.has(number) {
-                self.add_bounds(problem, sets, places, stimulus, place, bound)?;
+                let free = members_at(members, stimulus);
+                let count = members_at(&taken, stimulus).count() as i64;
+                self.add_bounds(problem, places, free, count, stimulus, place, bound)?;
                 place = place.saturating_add(1);
             }
             stimulus = stimulus.saturating_add(1);
@@ -458,29 +475,37 @@ impl Relaxation {
     }
 
     /// Links the items of one stimulus to its column.
-    fn link_items(&mut self, bank: &Bank, stimulus: u8, column: u16) -> Result<(), Memory> {
-        let count = self.items.len();
-        for place in 0..count {
-            let item = self.items.get(place).copied().unwrap_or(0);
-            if item < bank.items() && bank.stimulus(item) == stimulus {
-                self.linked.push(short(place))?;
-                if let Some(link) = self.links.get_mut(place) {
-                    *link = column;
-                }
+    fn link_items(&mut self, places: &Places, members: ItemSet, column: u16) -> Result<(), Memory> {
+        let mut left = members;
+        for _ in 0..512 {
+            let Some(item) = left.first() else {
+                break;
+            };
+            left = left.without(item);
+            let place = places.get(item as usize).copied().unwrap_or(NO_SIDE);
+            if let Some(link) = self.links.get_mut(place as usize) {
+                *link = column;
+                self.linked.push(place)?;
             }
         }
         Ok(())
     }
 
     /// Links the items of the open stimuli.
-    fn add_links(&mut self, bank: &Bank, sets: &PathSets) -> Result<(), Memory> {
+    fn add_links(
+        &mut self,
+        sets: &PathSets,
+        places: &Places,
+        members: &Members,
+    ) -> Result<(), Memory> {
         let count = self.items.len();
         self.links.resize(count, NO_SIDE)?;
         for place in 0..self.stimuli.len() {
             self.link_starts.push(self.linked.len())?;
             let stimulus = self.stimuli.get(place).copied().unwrap_or(0);
             if sets.opened.has(stimulus as u16) {
-                self.link_items(bank, stimulus, short(count.saturating_add(place)))?;
+                let column = short(count.saturating_add(place));
+                self.link_items(places, members_at(members, stimulus), column)?;
             }
         }
         self.link_starts.push(self.linked.len())?;
@@ -545,14 +570,15 @@ impl Relaxation {
 
     /// The relaxation of a problem at its root.
     pub fn of(alloc: Global, problem: &Problem, root: &PathSets) -> Result<Relaxation, Memory> {
+        let free = root.free.count() as usize;
         let mut relaxation = Relaxation {
-            gains: Vec::new(alloc),
+            gains: Vec::with_capacity(alloc, free)?,
             lines: Vec::new(alloc),
-            line_cells: Vec::new(alloc),
-            starts: Vec::new(alloc),
+            line_cells: Vec::with_capacity(alloc, free.saturating_mul(4))?,
+            starts: Vec::with_capacity(alloc, free)?,
             column_cells: Vec::new(alloc),
             given: gains_of(problem, &root.taken),
-            items: Vec::new(alloc),
+            items: Vec::with_capacity(alloc, free)?,
             stimuli: Vec::new(alloc),
             links: Vec::new(alloc),
             linked: Vec::new(alloc),
@@ -560,10 +586,11 @@ impl Relaxation {
         };
         let places = relaxation.add_items(problem, &root.free)?;
         relaxation.add_stimuli(root)?;
-        relaxation.add_links(problem.bank, root)?;
+        let members = members_of(problem.bank, &root.free);
+        relaxation.add_links(root, &places, &members)?;
         relaxation.add_length(problem, root)?;
         relaxation.add_rows(problem, root, &places)?;
-        relaxation.add_all_bounds(problem, root, &places)?;
+        relaxation.add_all_bounds(problem, root, &places, &members)?;
         relaxation.add_columns(alloc)?;
         Ok(relaxation)
     }

@@ -24,12 +24,14 @@ pub(crate) enum Hold {
 }
 
 /// A column: its reduced weight (0 for an item that is basic), where it stands, and where the path holds it. A linked item
-/// that stands at 1 is taken as far as its stimulus is. The weight of a stimulus is without those of its items.
+/// that stands at 1 is taken as far as its stimulus is. The weight of a stimulus is without those of its items. Linked are such
+/// items and their stimuli.
 #[derive(Clone, Copy, Debug)]
 pub(crate) struct Column {
     pub weight: i64,
     pub stand: Stand,
     pub hold: Hold,
+    pub is_linked: bool,
 }
 
 /// A tight line: its number, which bound it stands at, and its multiplier in units of 1/256.
@@ -246,12 +248,15 @@ impl Vertex {
     fn empty(alloc: Global, relaxation: &Relaxation) -> Result<Vertex, Memory> {
         let lines = relaxation.lines.len();
         let mut columns = Vec::with_capacity(alloc, relaxation.gains.len())?;
+        let mut column = 0u16;
         for gain in relaxation.gains.as_slice() {
             columns.push(Column {
                 weight: *gain,
                 stand: Stand::Zero,
                 hold: Hold::Zero,
+                is_linked: relaxation.is_linked(column),
             })?;
+            column = column.saturating_add(1);
         }
         Ok(Vertex {
             columns,

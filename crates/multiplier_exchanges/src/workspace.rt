@@ -16,7 +16,7 @@ pub(crate) struct Direction {
 #[derive(Debug, Drop)]
 pub struct Workspace {
     pub(crate) direction: Direction,
-    /// Where columns and lines come to 0 on the way.
+    /// Where columns and lines reach 0 on the way.
     pub(crate) breaks: Vec<Break>,
     /// The same of the items of one stimulus.
     pub(crate) events: Vec<Event>,
