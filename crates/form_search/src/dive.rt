@@ -5,7 +5,6 @@ ghost use Rattle.constraint_model.specs.Views.{problem_of};
 ghost use Rattle.lagrange_bound.specs.Cuts.{IsCut};
 
 use crate::incumbent::Incumbent;
-use crate::paths::below;
 use crate::table::Table;
 use crate::tally::is_ruled_out;
 use crate::vertices::{Solver, sets_of, target_of};
@@ -13,6 +12,7 @@ use constraint_model::Problem;
 use lagrange_bound::Cut;
 use multiplier_exchanges::{Reached, Vertex};
 use proof_tree::Memory;
+use search_paths::below;
 use std::alloc::Global;
 
 /// Columns that a dive settles, at most.

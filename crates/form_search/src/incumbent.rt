@@ -36,7 +36,7 @@ impl Incumbent {
     }
 
     /// Takes a set of items if it is a better form.
-    fn take(&mut self, problem: &Problem, items: &ItemSet) -> bool
+    pub fn take(&mut self, problem: &Problem, items: &ItemSet) -> bool
         requires { IsWellMade (problem_of problem.now) }
     {
         let found = objective(problem, items);
@@ -51,13 +51,22 @@ impl Incumbent {
         true
     }
 
+    /// Exchanges items of the form until no exchange of one betters it.
+    pub fn exchange(&mut self, problem: &Problem, table: &Table)
+        requires { IsWellMade (problem_of problem.now) }
+    {
+        if let Some(items) = self.form {
+            let firm = best_exchanges(table, &items);
+            let _ = self.take(problem, &firm);
+        }
+    }
+
     /// Takes a set of items if it is a better form, and then exchanges items until no exchange of one betters it.
     pub fn offer(&mut self, problem: &Problem, table: &Table, items: &ItemSet)
         requires { IsWellMade (problem_of problem.now) }
     {
         if self.take(problem, items) {
-            let firm = best_exchanges(table, items);
-            let _ = self.take(problem, &firm);
+            self.exchange(problem, table);
         }
     }
 }

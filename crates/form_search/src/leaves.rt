@@ -11,6 +11,7 @@ use constraint_model::Problem;
 use exam_model::Node;
 use lagrange_bound::Cut;
 use proof_tree::Memory;
+use std::alloc::Global;
 
 /// The only set that may be a form on the path; None where more than one may.
 pub fn only_candidate(table: &Table, cut: &Cut) -> Option<ItemSet> {
@@ -25,8 +26,23 @@ pub fn only_candidate(table: &Table, cut: &Cut) -> Option<ItemSet> {
     }
 }
 
+/// The leaf at a path that is settled by its one set of items.
+pub fn settled_by_set(
+    problem: &Problem,
+    table: &Table,
+    incumbent: &mut Incumbent,
+    cut: &Cut,
+) -> Option<Node>
+    requires { IsWellMade (problem_of problem.now) }
+{
+    let items = only_candidate(table, cut)?;
+    incumbent.offer(problem, table, &items);
+    Some(Node::Whole)
+}
+
 /// The leaf at a path that is settled by its one set of items, or by a vector that is there.
 pub fn settled(
+    alloc: Global,
     problem: &Problem,
     table: &Table,
     pool: &mut Pool,
@@ -35,12 +51,11 @@ pub fn settled(
 ) -> Result<Option<Node>, Memory>
     requires { IsWellMade (problem_of problem.now) }
 {
-    if let Some(items) = only_candidate(table, cut) {
-        incumbent.offer(problem, table, &items);
-        return Ok(Some(Node::Whole));
+    if let Some(leaf) = settled_by_set(problem, table, incumbent, cut) {
+        return Ok(Some(leaf));
     }
     if let Some(leaf) = pool.closing(table, incumbent, cut) {
         return Ok(Some(leaf));
     }
-    pool.closing_plain(table, incumbent, cut)
+    pool.closing_plain(alloc, table, incumbent, cut)
 }

@@ -15,7 +15,6 @@ mod exchange;
 mod incumbent;
 mod leaves;
 mod pass;
-mod paths;
 mod pool;
 mod priced;
 mod probing;

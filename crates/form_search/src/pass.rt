@@ -7,8 +7,7 @@ ghost use Rattle.lagrange_bound.specs.Cuts.{IsCut};
 use crate::branching::{Choice, choices};
 use crate::incumbent::Incumbent;
 use crate::leaves::settled;
-use crate::paths::{Sides, Waiting, next_path, push_below, wait};
-use crate::pool::{Pool, closes, copied, empty_vector};
+use crate::pool::{Pool, closes, empty_vector};
 use crate::priced::Priced;
 use crate::probing::{Hand, best_probed};
 use crate::steps::{Stepped, take_form};
@@ -19,6 +18,7 @@ use exam_model::Node;
 use lagrange_bound::{Cut, impossible};
 use multiplier_steps::{Aim, Ascent, climb};
 use proof_tree::{Memory, Vector};
+use search_paths::{Sides, Waiting, next_path, push_below, wait};
 use std::alloc::Global;
 
 /// Nodes of a tree, at most.
@@ -67,14 +67,14 @@ impl Pass {
         at_root: &Stepped,
         limits: Limits,
     ) -> Result<Pass, Memory> {
-        let mut pool = Pool::new(alloc, table)?;
+        let mut pool = Pool::new(alloc);
         if !at_root.vector.pairs().is_empty() && pool.has_room() {
-            let vector = copied(alloc, &at_root.vector)?;
+            let vector = at_root.vector.again(alloc)?;
             let _ = pool.store(Priced::of(alloc, table, vector, false)?)?;
         }
         let mut hands = Vec::new(alloc);
         hands.push(Hand {
-            vector: copied(alloc, &at_root.vector)?,
+            vector: at_root.vector.again(alloc)?,
             bound: i64::MAX,
         })?;
         Ok(Pass {
@@ -133,7 +133,7 @@ impl Pass {
     ) -> Result<Option<Node>, Memory> {
         let target = incumbent.top().wrapping_sub(self.limits.margin);
         let vector = match self.hands.get(place.hand) {
-            Some(hand) if hand.bound <= target => copied(alloc, &hand.vector)?,
+            Some(hand) if hand.bound <= target => hand.vector.again(alloc)?,
             _ => return Ok(None),
         };
         self.closed_by(alloc, table, incumbent, place, vector)
@@ -174,7 +174,7 @@ impl Pass {
         vector: Vector,
     ) -> Result<Node, Memory> {
         let first = Hand {
-            vector: copied(alloc, &vector)?,
+            vector: vector.again(alloc)?,
             bound: i64::MAX,
         };
         let other = Hand {
@@ -245,7 +245,7 @@ impl Pass {
         let ascent = self.steps(alloc, problem, incumbent, place)?;
         take_form(problem, table, incumbent, &ascent);
         if ascent.bound <= incumbent.top() {
-            let vector = copied(alloc, &ascent.vector)?;
+            let vector = ascent.vector.again(alloc)?;
             if let Some(leaf) = self.closed_by(alloc, table, incumbent, place, vector)? {
                 return Ok(leaf);
             }
@@ -266,7 +266,7 @@ impl Pass {
         requires well_made { IsWellMade (problem_of problem.now) }
         requires cut { IsCut (problem_of problem.now) place.now.cut }
     {
-        if let Some(leaf) = settled(problem, table, &mut self.pool, incumbent, &place.cut)? {
+        if let Some(leaf) = settled(alloc, problem, table, &mut self.pool, incumbent, &place.cut)? {
             return Ok(leaf);
         }
         if self.is_spent {

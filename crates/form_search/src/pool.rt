@@ -21,8 +21,10 @@ pub struct Pool {
     vectors: Vec<Priced>,
     /// How many pairs they have in all.
     pairs: usize,
-    /// The empty vector, until it closes a path.
+    /// The empty vector, once it was tried, until it closes a path.
     plain: Option<Priced>,
+    /// Whether the empty vector is one of the vectors.
+    has_plain: bool,
     /// The place of the vector that closed a path last.
     last: usize,
 }
@@ -30,16 +32,6 @@ pub struct Pool {
 /// The vector with no multipliers.
 pub fn empty_vector(alloc: Global) -> Vector {
     Vector::new(List::of(Vec::new(alloc)))
-}
-
-/// A copy of a vector.
-pub fn copied(alloc: Global, vector: &Vector) -> Result<Vector, Memory> {
-    let mut pairs = Vec::new(alloc);
-    pairs.extend_from_slice(vector.pairs())?;
-    match Vector::of(List::of(pairs)) {
-        Some(copy) => Ok(copy),
-        None => Ok(empty_vector(alloc)),
-    }
 }
 
 /// How many items a path still needs.
@@ -70,20 +62,20 @@ fn leaf_with(ray: bool, place: usize) -> Option<Node> {
 }
 
 impl Pool {
-    /// No vectors but the empty one, whose place is kept.
-    pub fn new(alloc: Global, table: &Table) -> Result<Pool, Memory> {
-        let plain = Priced::of(alloc, table, empty_vector(alloc), false)?;
-        Ok(Pool {
+    /// No vectors; the place of the empty one is kept.
+    pub fn new(alloc: Global) -> Pool {
+        Pool {
             vectors: Vec::new(alloc),
             pairs: 0,
-            plain: Some(plain),
+            plain: None,
+            has_plain: false,
             last: 0,
-        })
+        }
     }
 
     /// Whether there is room for a vector with any pairs, the place of the empty one aside.
     pub fn has_room(&self) -> bool {
-        let kept = if self.plain.is_some() { 1 } else { 0 };
+        let kept = if self.has_plain { 0 } else { 1 };
         self.vectors.len().saturating_add(kept) < MOST_VECTORS && self.pairs <= MOST_PAIRS - 384
     }
 
@@ -137,20 +129,38 @@ impl Pool {
             .any(|priced| closes(priced, table, incumbent, cut))
     }
 
+    /// Whether the empty vector closes the path and isn't among the others yet.
+    fn plain_closes(
+        &mut self,
+        alloc: Global,
+        table: &Table,
+        incumbent: &Incumbent,
+        cut: &Cut,
+    ) -> Result<bool, Memory> {
+        if self.has_plain {
+            return Ok(false);
+        }
+        if self.plain.is_none() {
+            self.plain = Some(Priced::of(alloc, table, empty_vector(alloc), false)?);
+        }
+        Ok(match &self.plain {
+            Some(plain) => closes(plain, table, incumbent, cut),
+            None => false,
+        })
+    }
+
     /// The leaf of the empty vector, if that closes the path and isn't among the others yet.
     pub fn closing_plain(
         &mut self,
+        alloc: Global,
         table: &Table,
         incumbent: &Incumbent,
         cut: &Cut,
     ) -> Result<Option<Node>, Memory> {
-        let does = match &self.plain {
-            Some(plain) => closes(plain, table, incumbent, cut),
-            None => false,
-        };
-        if !does {
+        if !self.plain_closes(alloc, table, incumbent, cut)? {
             return Ok(None);
         }
+        self.has_plain = true;
         match self.plain.take() {
             Some(plain) => self.store(plain),
             None => Ok(None),
@@ -161,7 +171,7 @@ impl Pool {
     pub fn into_vectors(self, alloc: Global) -> Result<Vec<Vector>, Memory> {
         let mut vectors = Vec::new(alloc);
         for priced in self.vectors.as_slice() {
-            vectors.push(copied(alloc, &priced.vector)?)?;
+            vectors.push(priced.vector.again(alloc)?)?;
         }
         Ok(vectors)
     }

@@ -7,7 +7,6 @@ ghost use Rattle.lagrange_bound.specs.Cuts.{IsCut};
 
 use crate::branching::Choice;
 use crate::incumbent::Incumbent;
-use crate::paths::below;
 use crate::pool::{Pool, empty_vector};
 use crate::steps::{Stepped, take_form};
 use crate::table::Table;
@@ -17,6 +16,7 @@ use exam_model::Node;
 use lagrange_bound::Cut;
 use multiplier_steps::{Aim, climb};
 use proof_tree::{Memory, Vector};
+use search_paths::below;
 use std::alloc::Global;
 
 /// How much the side that gains least counts against the other.

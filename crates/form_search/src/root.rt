@@ -4,7 +4,7 @@ ghost use Rattle.exam_model.specs.Validity.{IsWellMade};
 ghost use Rattle.constraint_model.specs.Views.{problem_of};
 
 use crate::incumbent::Incumbent;
-use crate::pool::{copied, empty_vector};
+use crate::pool::empty_vector;
 use crate::repair::nearby_form;
 use crate::steps::{Stepped, take_form};
 use crate::table::Table;
@@ -35,7 +35,7 @@ fn target_of(incumbent: &Incumbent) -> Option<i64> {
 /// The vector that the steps at the root begin with: a copy of the warm one, else the empty one.
 fn first_vector(alloc: Global, warm: Option<&Vector>) -> Result<Vector, Memory> {
     match warm {
-        Some(vector) => copied(alloc, vector),
+        Some(vector) => vector.again(alloc),
         None => Ok(empty_vector(alloc)),
     }
 }

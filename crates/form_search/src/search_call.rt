@@ -5,10 +5,11 @@ ghost use Rattle.bank_tables.specs.Items.{has};
 ghost use Rattle.exam_model.specs.Forms.{Form};
 ghost use Rattle.exam_model.specs.Validity.{IsBudget, IsWellMade};
 ghost use Rattle.constraint_model.specs.Views.{problem_of};
+ghost use Rattle.lagrange_bound.specs.Cuts.{IsCut};
 
 use crate::incumbent::Incumbent;
 use crate::pass::{Limits, Pass};
-use crate::pool::{Pool, closes, copied, empty_vector};
+use crate::pool::{Pool, closes, empty_vector};
 use crate::priced::Priced;
 use crate::repair::nearby_form;
 use crate::root::steps_at_root;
@@ -17,10 +18,11 @@ use crate::table::Table;
 use crate::vertex_pass::{vertex_of_root, vertex_passes};
 use crate::vertices::Solver;
 use bank_tables::{ItemSet, List};
-use constraint_model::{Problem, is_form};
+use constraint_model::Problem;
 use exam_model::Node;
 use lagrange_bound::Cut;
 use proof_tree::{Memory, Tree, Vector};
+use search_paths::tested_form;
 use std::alloc::Global;
 
 /// The part of the root's gap that the steps of the last pass aim below what closes.
@@ -42,7 +44,8 @@ pub struct Searched {
     pub tree: Option<Tree>,
 }
 
-/// The better of the start and the hint, where they are forms; else a form near to the hint, if one is found.
+/// The better of the start and the hint, where they are forms; else a form near to the hint, if one is found. No item is exchanged
+/// yet, since the start is often the best form still.
 fn known(
     alloc: Global,
     problem: &Problem,
@@ -53,10 +56,10 @@ fn known(
 {
     let mut incumbent = Incumbent::none();
     if let Some(items) = &problem.start {
-        incumbent.offer(problem, table, items);
+        let _ = incumbent.take(problem, items);
     }
     if let Some(items) = hint {
-        incumbent.offer(problem, table, items);
+        let _ = incumbent.take(problem, items);
         if incumbent.form.is_none() {
             let begun = items.minus(problem.barred).union(problem.given);
             let near = nearby_form(alloc, table, &empty_vector(alloc), &begun)?;
@@ -100,13 +103,14 @@ fn tree_by_exchanges(
     problem: &Problem,
     table: &Table,
     incumbent: &mut Incumbent,
+    root: &Cut,
     budget: u16,
 ) -> Result<Option<Tree>, Memory>
-    requires { IsWellMade (problem_of problem.now) }
+    requires well_made { IsWellMade (problem_of problem.now) }
+    requires root { IsCut (problem_of problem.now) root.now }
 {
-    let root = Cut::root(problem);
-    let mut solver = Solver::of(alloc, problem, &root)?;
-    let vertex = vertex_of_root(alloc, problem, table, &mut solver, incumbent, &root)?;
+    let mut solver = Solver::of(alloc, problem, root)?;
+    let vertex = vertex_of_root(alloc, problem, table, &mut solver, incumbent, root)?;
     let branches = (budget as u32).saturating_sub(1) / 2;
     match vertex_passes(
         alloc,
@@ -114,6 +118,7 @@ fn tree_by_exchanges(
         table,
         &mut solver,
         incumbent,
+        root,
         &vertex,
         branches,
     )? {
@@ -162,21 +167,19 @@ fn passes(
 /// The tree of the warm vector alone, where that closes the root.
 fn tree_of_warm(
     alloc: Global,
-    problem: &Problem,
     table: &Table,
     incumbent: &Incumbent,
+    root: &Cut,
     warm: Option<&Vector>,
-) -> Result<Option<Tree>, Memory>
-    requires { IsWellMade (problem_of problem.now) }
-{
+) -> Result<Option<Tree>, Memory> {
     let Some(known) = warm else {
         return Ok(None);
     };
-    let priced = Priced::of(alloc, table, copied(alloc, known)?, false)?;
-    if !closes(&priced, table, incumbent, &Cut::root(problem)) {
+    let priced = Priced::of(alloc, table, known.again(alloc)?, false)?;
+    if !closes(&priced, table, incumbent, root) {
         return Ok(None);
     }
-    let mut pool = Pool::new(alloc, table)?;
+    let mut pool = Pool::new(alloc);
     let mut nodes = Vec::new(alloc);
     if let Some(leaf) = pool.store(priced)? {
         nodes.push(leaf)?;
@@ -191,34 +194,23 @@ fn tree_by_steps(
     problem: &Problem,
     table: &Table,
     incumbent: &mut Incumbent,
+    root: &Cut,
     budget: u16,
     warm: Option<&Vector>,
     may_exchange: bool,
 ) -> Result<Option<Tree>, Memory>
-    requires { IsWellMade (problem_of problem.now) }
+    requires well_made { IsWellMade (problem_of problem.now) }
+    requires root { IsCut (problem_of problem.now) root.now }
 {
-    let cut = Cut::root(problem);
-    let root = steps_at_root(alloc, problem, table, incumbent, &cut, warm)?;
-    if root.bound > incumbent.top() && may_exchange {
-        let tree = tree_by_exchanges(alloc, problem, table, incumbent, budget)?;
+    incumbent.exchange(problem, table);
+    let stepped = steps_at_root(alloc, problem, table, incumbent, root, warm)?;
+    if stepped.bound > incumbent.top() && may_exchange {
+        let tree = tree_by_exchanges(alloc, problem, table, incumbent, root, budget)?;
         if tree.is_some() {
             return Ok(tree);
         }
     }
-    passes(alloc, problem, table, incumbent, &root, budget)
-}
-
-/// The form, tested once more.
-fn form_or_none(problem: &Problem, form: &Option<ItemSet>) -> Option<ItemSet>
-    requires { IsWellMade (problem_of problem.now) }
-    ensures { IfSome result (λ x. Form (problem_of problem.now) (has x)) }
-{
-    let items = form.as_ref()?;
-    if is_form(problem, items) {
-        Some(*items)
-    } else {
-        None
-    }
+    passes(alloc, problem, table, incumbent, &stepped, budget)
 }
 
 /// Looks for a form of the problem, and for a tree within a budget of nodes, which is odd and at most 4,095, that shows it
@@ -237,21 +229,31 @@ pub fn search(
 {
     let table = Table::of(alloc, problem)?;
     let mut incumbent = known(alloc, problem, &table, hint)?;
+    let root = Cut::root(problem);
     let begins_exact = table.has_links() && incumbent.form.is_some();
     let mut tree = None;
     if begins_exact {
-        tree = tree_of_warm(alloc, problem, &table, &incumbent, warm)?;
+        tree = tree_of_warm(alloc, &table, &incumbent, &root, warm)?;
         if tree.is_none() {
-            tree = tree_by_exchanges(alloc, problem, &table, &mut incumbent, budget)?;
+            tree = tree_by_exchanges(alloc, problem, &table, &mut incumbent, &root, budget)?;
         }
     }
     if tree.is_none() {
         let may_exchange = !begins_exact && !table.is_of_passages();
         let known = &mut incumbent;
-        tree = tree_by_steps(alloc, problem, &table, known, budget, warm, may_exchange)?;
+        tree = tree_by_steps(
+            alloc,
+            problem,
+            &table,
+            known,
+            &root,
+            budget,
+            warm,
+            may_exchange,
+        )?;
     }
     Ok(Searched {
-        form: form_or_none(problem, &incumbent.form),
+        form: tested_form(problem, &incumbent.form),
         tree,
     })
 }

@@ -4,7 +4,6 @@ ghost use Rattle.exam_model.specs.Validity.{IsWellMade};
 ghost use Rattle.constraint_model.specs.Views.{problem_of};
 
 use crate::incumbent::Incumbent;
-use crate::pool::copied;
 use crate::table::Table;
 use bank_tables::ItemSet;
 use constraint_model::Problem;
@@ -46,7 +45,7 @@ impl Stepped {
     /// The same once more.
     pub fn again(&self, alloc: Global) -> Result<Stepped, Memory> {
         Ok(Stepped {
-            vector: copied(alloc, &self.vector)?,
+            vector: self.vector.again(alloc)?,
             shares: Vec::from_slice(alloc, &self.shares)?,
             stimulus_shares: Vec::from_slice(alloc, &self.stimulus_shares)?,
             choice: self.choice,

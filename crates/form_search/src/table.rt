@@ -6,6 +6,9 @@ use constraint_model::{Problem, Row};
 use proof_tree::Memory;
 use std::alloc::Global;
 
+/// So many stimuli have few multipliers to be rounded.
+const FEW_STIMULI: usize = 24;
+
 /// What an item adds to a row of the plan.
 #[derive(Clone, Copy, Debug)]
 pub struct Part {
@@ -188,15 +191,15 @@ impl Table {
         (free, grouped)
     }
 
-    /// Whether at least two fifths of the items that may be taken or left are of stimuli. Exchanges, by which these are linked
-    /// to their stimuli, then lose more by rounding than they gain.
+    /// Whether there are many stimuli, and at least two fifths of the items that may be taken or left are of stimuli. Exchanges,
+    /// by which items are linked to their stimuli, then lose more by the rounding of so many multipliers than they gain.
     pub fn is_of_passages(&self) -> bool {
         let (free, grouped) = self.free_items();
-        grouped > 0 && free.wrapping_mul(2) <= grouped.wrapping_mul(5)
+        self.stimuli.len() > FEW_STIMULI && free.wrapping_mul(2) <= grouped.wrapping_mul(5)
     }
 
-    /// Whether some of the items that may be taken or left are of stimuli, but fewer than two fifths: then exchanges prove more
-    /// with each node than steps do.
+    /// Whether some of the items that may be taken or left are of stimuli, and exchanges prove more with each node than steps
+    /// do.
     pub fn has_links(&self) -> bool {
         self.free_items().1 > 0 && !self.is_of_passages()
     }
@@ -238,10 +241,11 @@ impl Table {
 
     /// The numbers of a problem.
     pub fn of(alloc: Global, problem: &Problem) -> Result<Table, Memory> {
+        let items = problem.bank.items() as usize;
         let mut table = Table {
             length: problem.spec.length(),
-            entries: Vec::new(alloc),
-            parts: Vec::new(alloc),
+            entries: Vec::with_capacity(alloc, items)?,
+            parts: Vec::with_capacity(alloc, items.saturating_mul(4))?,
             rows: Vec::new(alloc),
             stimuli: stimuli_of(alloc, problem)?,
             usable: ItemSet::empty(),

@@ -49,12 +49,12 @@ impl Tally {
     /// The sums of a set of items.
     pub fn of(table: &Table, items: &ItemSet) -> Tally {
         let mut tally = Tally::none();
-        tally.add_all(table, items);
+        tally.add_all(table, items, 1);
         tally
     }
 
-    /// Adds the items of a set.
-    fn add_all(&mut self, table: &Table, items: &ItemSet) {
+    /// Adds the items of a set, or with the sign -1 takes them off.
+    fn add_all(&mut self, table: &Table, items: &ItemSet, sign: i64) {
         let mut left = *items;
         for _ in 0..512 {
             let Some(item) = left.first() else {
@@ -62,53 +62,27 @@ impl Tally {
             };
             left = left.without(item);
             if let Some(entry) = table.entries.get(item as usize) {
-                self.add(table, entry);
+                self.add(table, entry, sign);
             }
         }
     }
 
-    /// Adds an item.
-    fn add(&mut self, table: &Table, entry: &Entry) {
+    /// Adds an item, or with the sign -1 takes it off.
+    fn add(&mut self, table: &Table, entry: &Entry, sign: i64) {
         for part in table.parts_of(entry) {
             let row = part.row as usize;
             if row < 128 {
-                self.activity[row] = self.activity[row].wrapping_add(part.amount as i64);
+                let more = sign.wrapping_mul(part.amount as i64);
+                self.activity[row] = self.activity[row].wrapping_add(more);
             }
         }
         let stimulus = entry.stimulus as usize;
         if 0 < stimulus && stimulus < 65 {
-            if self.members[stimulus] == 0 {
-                self.used = self.used.wrapping_add(1);
-            }
-            self.members[stimulus] = self.members[stimulus].wrapping_add(1);
-        }
-    }
-
-    /// Takes an item off the sums on rows and stimuli.
-    fn take(&mut self, table: &Table, entry: &Entry) {
-        for part in table.parts_of(entry) {
-            let row = part.row as usize;
-            if row < 128 {
-                self.activity[row] = self.activity[row].wrapping_sub(part.amount as i64);
-            }
-        }
-        let stimulus = entry.stimulus as usize;
-        if stimulus < 65 {
-            self.members[stimulus] = self.members[stimulus].wrapping_sub(1);
-        }
-    }
-
-    /// The same of the items of a set. The number of stimuli used stays as it is.
-    fn take_all(&mut self, table: &Table, items: &ItemSet) {
-        let mut left = *items;
-        for _ in 0..512 {
-            let Some(item) = left.first() else {
-                break;
-            };
-            left = left.without(item);
-            if let Some(entry) = table.entries.get(item as usize) {
-                self.take(table, entry);
-            }
+            let before = self.members[stimulus];
+            let after = before.wrapping_add(sign);
+            self.members[stimulus] = after;
+            let more = (after != 0) as i64 - (before != 0) as i64;
+            self.used = self.used.wrapping_add(more);
         }
     }
 
@@ -283,6 +257,6 @@ pub fn is_ruled_out(table: &Table, cut: &Cut) -> bool {
     let least = Tally::of(table, &cut.taken);
     let mut most = table.most;
     let left = table.usable.minus(cut.taken.union(cut.free));
-    most.take_all(table, &left);
+    most.add_all(table, &left, -1);
     least.rules_out(table, &most, cut)
 }

@@ -6,8 +6,7 @@ ghost use Rattle.lagrange_bound.specs.Cuts.{IsCut};
 
 use crate::dive::dive;
 use crate::incumbent::Incumbent;
-use crate::leaves::settled;
-use crate::paths::{Sides, Waiting, next_path, push_below, wait};
+use crate::leaves::{settled, settled_by_set};
 use crate::pool::Pool;
 use crate::repair::nearby_form;
 use crate::table::Table;
@@ -19,6 +18,7 @@ use exam_model::Node;
 use lagrange_bound::{Cut, impossible};
 use multiplier_exchanges::{Reached, Vertex};
 use proof_tree::Memory;
+use search_paths::{Sides, Waiting, next_path, push_below, wait};
 use std::alloc::Global;
 
 /// Nodes of a tree, at most.
@@ -123,6 +123,23 @@ impl VertexPass {
         }
     }
 
+    /// The leaf at a path that needs no exchanges. At the root no vector is there, and the empty one isn't tried.
+    fn settled_at(
+        &mut self,
+        alloc: Global,
+        problem: &Problem,
+        table: &Table,
+        incumbent: &mut Incumbent,
+        cut: &Cut,
+    ) -> Result<Option<Node>, Memory>
+        requires { IsWellMade (problem_of problem.now) }
+    {
+        if self.nodes.is_empty() {
+            return Ok(settled_by_set(problem, table, incumbent, cut));
+        }
+        settled(alloc, problem, table, &mut self.pool, incumbent, cut)
+    }
+
     /// The node at a path: the leaf of the lowest row that is impossible by counting, or another leaf, or a branch.
     fn node_at(
         &mut self,
@@ -142,13 +159,13 @@ impl VertexPass {
                 return Ok(Node::Count(row));
             }
         }
-        let pool = &mut self.pool;
-        if let Some(leaf) = settled(problem, table, pool, incumbent, cut)? {
+        if let Some(leaf) = self.settled_at(alloc, problem, table, incumbent, cut)? {
             return Ok(leaf);
         }
         if self.is_spent {
             return Ok(Node::Open);
         }
+        let pool = &mut self.pool;
         if let Some(leaf) = solver.leaf(alloc, problem, table, pool, incumbent, cut, vertex)? {
             return Ok(leaf);
         }
@@ -156,17 +173,12 @@ impl VertexPass {
     }
 
     /// A pass with no nodes yet, and the root's vertex.
-    fn new(
-        alloc: Global,
-        table: &Table,
-        at_root: &Vertex,
-        branches: u32,
-    ) -> Result<VertexPass, Memory> {
+    fn new(alloc: Global, at_root: &Vertex, branches: u32) -> Result<VertexPass, Memory> {
         let mut vertices = Vec::new(alloc);
         vertices.push(at_root.again(alloc)?)?;
         Ok(VertexPass {
             nodes: Vec::new(alloc),
-            pool: Pool::new(alloc, table)?,
+            pool: Pool::new(alloc),
             vertices,
             branches,
             is_spent: false,
@@ -181,17 +193,19 @@ impl VertexPass {
         table: &Table,
         solver: &mut Solver,
         incumbent: &mut Incumbent,
+        root: &Cut,
         at_root: &Vertex,
         branches: u32,
         restart: usize,
     ) -> Result<VertexPass, Memory>
-        requires { IsWellMade (problem_of problem.now) }
+        requires well_made { IsWellMade (problem_of problem.now) }
+        requires root { IsCut (problem_of problem.now) root.now }
     {
         let begun = incumbent.objective;
-        let mut pass = VertexPass::new(alloc, table, at_root, branches)?;
+        let mut pass = VertexPass::new(alloc, at_root, branches)?;
         let mut waiting = Vec::new(alloc);
         let first = Waiting {
-            cut: Cut::root(problem),
+            cut: *root,
             depth: 0,
             hand: 0,
         };
@@ -224,15 +238,17 @@ pub fn vertex_passes(
     table: &Table,
     solver: &mut Solver,
     incumbent: &mut Incumbent,
+    root: &Cut,
     at_root: &Vertex,
     branches: u32,
 ) -> Result<Option<VertexPass>, Memory>
-    requires { IsWellMade (problem_of problem.now) }
+    requires well_made { IsWellMade (problem_of problem.now) }
+    requires root { IsCut (problem_of problem.now) root.now }
 {
     let mut restart = FIRST_RESTART;
     for _ in 0..8 {
         let pass = VertexPass::over(
-            alloc, problem, table, solver, incumbent, at_root, branches, restart,
+            alloc, problem, table, solver, incumbent, root, at_root, branches, restart,
         )?;
         if pass.is_whole {
             return Ok(if pass.is_spent { None } else { Some(pass) });

@@ -123,8 +123,7 @@ impl Solver {
     ) -> Result<Option<Node>, Memory>
         requires { IsWellMade (problem_of problem.now) }
     {
-        let vector = self.vector(alloc, vertex)?;
-        let leaf = closed_by(alloc, table, pool, incumbent, cut, vector, false)?;
+        let leaf = self.leaf_of(alloc, table, pool, incumbent, cut, vertex)?;
         if leaf.is_some() || incumbent.form.is_none() {
             return Ok(leaf);
         }

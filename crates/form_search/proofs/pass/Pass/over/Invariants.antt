@@ -1,5 +1,5 @@
 use Rattle.constraint_model.specs.Views.{problem_of}
-use Rattle.form_search.specs.States.{AreStates}
+use Rattle.search_paths.specs.States.{AreStates}
 use Rattle.form_search.proofs.pass.Pass.over.Given as goal
 
 abbrev pub invariant-loop : goal.invariant-loop

@@ -1,8 +1,8 @@
 use Rattle.std.proofs.lemmas.List.Elements.{All-pop}
 use Rattle.constraint_model.specs.Views.{problem_of}
 use Rattle.lagrange_bound.specs.Cuts.{IsCut}
-use Rattle.form_search.specs.declared.paths.Waiting.{Waiting}
-use Rattle.form_search.proofs.paths.next_path.Goals as goal
+use Rattle.search_paths.specs.declared.paths.Waiting.{Waiting}
+use Rattle.search_paths.proofs.paths.next_path.Goals as goal
 
 pub returns-clause-path : goal.returns-clause-path
 returns-clause-path c =

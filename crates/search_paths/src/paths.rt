@@ -4,7 +4,7 @@ ghost use Rattle.std.specs.Prelude.{OnOk, IfSome};
 ghost use Rattle.exam_model.specs.Validity.{IsWellMade};
 ghost use Rattle.constraint_model.specs.Views.{problem_of};
 ghost use Rattle.lagrange_bound.specs.Cuts.{IsCut};
-ghost use Rattle.form_search.specs.States.{AreStates};
+ghost use Rattle.search_paths.specs.States.{AreStates};
 
 use constraint_model::Problem;
 use exam_model::Node;

@@ -1,8 +1,8 @@
 use Rattle.std.proofs.lemmas.List.Elements.{All-push, All-same}
 use Rattle.constraint_model.specs.Views.{problem_of}
 use Rattle.lagrange_bound.specs.Cuts.{IsCut}
-use Rattle.form_search.specs.declared.paths.Waiting.{Waiting}
-use Rattle.form_search.proofs.paths.wait.Goals as goal
+use Rattle.search_paths.specs.declared.paths.Waiting.{Waiting}
+use Rattle.search_paths.proofs.paths.wait.Goals as goal
 
 pub returns : goal.returns
 returns c =

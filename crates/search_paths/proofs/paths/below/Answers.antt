@@ -1,7 +1,7 @@
 -- Below a branch there is the state of the path that the branch makes.
 use Rattle.exam_model.specs.Paths.{with_item, with_stimulus}
 use Rattle.constraint_model.specs.Views.{problem_of}
-use Rattle.form_search.proofs.paths.below.Goals as goal
+use Rattle.search_paths.proofs.paths.below.Goals as goal
 
 pub returns-then-has : goal.returns-then-has
 returns-then-has c =

@@ -2,7 +2,7 @@
 use Rattle.std.specs.Prelude.{List, All}
 use Rattle.exam_model.specs.Problem.{Problem}
 use Rattle.lagrange_bound.specs.Cuts.{IsCut}
-use Rattle.form_search.specs.declared.paths.Waiting.{Waiting}
+use Rattle.search_paths.specs.declared.paths.Waiting.{Waiting}
 
 -- each of them has the state of some path
 abbrev pub AreStates : Problem → List Waiting → Type 0
