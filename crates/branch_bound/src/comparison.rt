@@ -20,7 +20,7 @@ pub fn is_as_good(problem: &Problem, given: &Option<ItemSet>, form: &Option<Item
     match given {
         Some(set) => match form {
             Some(found) => {
-                !is_form(problem, set) || objective(problem, set) <= objective(problem, found)
+                objective(problem, set) <= objective(problem, found) || !is_form(problem, set)
             }
             None => !is_form(problem, set),
         },
