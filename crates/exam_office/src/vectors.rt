@@ -5,7 +5,7 @@ ghost use Rattle.std.specs.Option.{option_copied};
 ghost use Rattle.exam_office.specs.Warm.{names_sides};
 ghost use Rattle.exam_office.specs.KeptVectors.{vector_at, new_by, HasRoom, AreVectorsWith, AreVectorsAfter};
 
-use bank_tables::{Bank, List};
+use bank_tables::Bank;
 use constraint_model::Spec;
 use exam_records::Record;
 use history_model::Entry;
@@ -28,14 +28,6 @@ fn names_only_sides(bank: &Bank, spec: &Spec, vector: &Vector) -> bool
     pairs.iter().all(|pair| (pair.0 as u128) < sides || pair.0 == 384 || pair.0 == 385)
 }
 
-/// A copy of the vector.
-fn copied(alloc: Global, vector: &Vector) -> Result<Vector, Memory>
-    ensures { IfOk result (λ copy. copy ≡ vector.now) }
-{
-    let pairs = Vec::from_slice(alloc, vector.pairs())?;
-    Ok(Vector::new(List::of(pairs)))
-}
-
 /// A copy of the first vector of a tree, if each side that it names is one of the plan's, or of
 /// the cap.
 fn first_vector(
@@ -51,7 +43,7 @@ fn first_vector(
         return Ok(None);
     };
     if names_only_sides(bank, spec, vector) {
-        Ok(Some(copied(alloc, vector)?))
+        Ok(Some(vector.again(alloc)?))
     } else {
         Ok(None)
     }
@@ -108,7 +100,7 @@ impl Vectors {
         ensures { IfOk result (λ found. found ≡ vector_at self.now.each.items session) }
     {
         match self.each.get(session as usize) {
-            Some(Some(vector)) => Ok(Some(copied(alloc, vector)?)),
+            Some(Some(vector)) => Ok(Some(vector.again(alloc)?)),
             _ => Ok(None),
         }
     }
