@@ -21,7 +21,7 @@ use Rattle.exam_office.specs.declared.fault.OpenFault.{OpenFault}
 use Rattle.exam_office.specs.declared.fault.OpenFault.TheVariants as open_fault
 use Rattle.exam_office.specs.Opening.{IsOpenAnswer}
 use Rattle.exam_program.specs.Replays.{IsLeftAt, IsJournalRefused}
-use Rattle.exam_program.specs.Stopping.{opening_halt, IsUnopened, refused, failed, out_of_memory, Stops, by_sessions, by_journal, by_disk, by_memory, by_sink, Finishes, IsReplayed, Halted}
+use Rattle.exam_program.specs.Stopping.{opening_halt, IsUnprinted, IsUnopened, refused, failed, out_of_memory, Stops, by_sessions, by_journal, by_disk, by_memory, by_sink, Finishes, IsReplayed, Halted}
 use Rattle.exam_program.specs.Texts.{bank_line, journal_text, usage}
 use Rattle.exam_program.specs.Writing.{IsWritten, WritesPart}
 use Rattle.exam_program.specs.Outcomes.{IsOver, IsReady, IsReplayOf, Outcome, faulty_words, bank_refused, plan_refused, script_refused, checked, form_found, without_form, without_base_form, journal_refused, replayed, sessions_full, journal_full, without_files, without_journal, without_disk, without_memory, without_more_memory, server_refused, server_without_journal, server_without_memory, IsAuditOf, audited, audit_refused, without_audit, drilled, drill_full, Prints, PrintsPart, PrintsBefore, PrintsBeforeText, Ends, LeavesJournal, as_found, at_opening, after_requests, server_at_opening, after_opening, Halts, EndsBy, IsStatus, IsStatusBefore}
@@ -93,6 +93,12 @@ module _ (words : List (List ℕ)) (o : Outside) (told : Bool) (old : List ℕ) 
     outcome = subst (λ (t : List ℕ). Outcome words o 0 t) part.whole outcome;
     unfinished = part.unfinished;
   }
+
+  -- or cut off
+  pub halts_unprinted : (new text : List ℕ) (h : Halt) → Outcome words o 0 text → IsUntouched o.disk → IsUnprinted told old new text h → Halts words o told old new h
+  halts_unprinted new text halt.Memory outcome untouched written = record { text = []; written = written; outcome = without_memory untouched }
+  halts_unprinted new text halt.Sink outcome untouched part = prints_part new text outcome part
+  halts_unprinted new text h outcome untouched is = absurd is
 
   -- ---- an audit
   refused_audit : (b : Tables) (p : Plan) (f : OpenFault) → IsAuditOf words o b p → IsJournalRefused b p o.disk f

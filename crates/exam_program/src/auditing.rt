@@ -5,16 +5,19 @@ ghost use Rattle.exam_edge.specs.Faults.{Rose};
 ghost use Rattle.exam_edge.specs.Lent.{IsLent};
 ghost use Rattle.history_model.specs.declared.request.Reply.TheVariants.{Exposure as Exposed};
 ghost use Rattle.command_line.specs.Commands.{Audit, command_of};
+ghost use Rattle.exam_model.specs.Validity.{IsPlanFor};
 ghost use Rattle.exam_lines.specs.Texts.{summary_text};
 ghost use Rattle.replay_cli.specs.Replies.{line_of};
 ghost use Rattle.exam_program.specs.Halts.{IsBeforeJournal};
-ghost use Rattle.exam_program.specs.Outcomes.{Prints, Halts};
-ghost use Rattle.exam_program.specs.Outside.{outside, disk_seen};
+ghost use Rattle.exam_program.specs.Outcomes.{IsAuditOf, Prints, Halts};
+ghost use Rattle.exam_program.specs.Outside.{Outside, outside, disk_seen};
 
 use crate::halt::Halt;
-use crate::output::put;
+use crate::output::{joined, put_text};
 use crate::reading::exam_in;
 use crate::replay::halt_of_opening;
+use bank_tables::Bank;
+use constraint_model::Spec;
 use exam_edge::{Disk, Files, Sink};
 use exam_lines::summary_line;
 use exam_office::Reply;
@@ -29,10 +32,43 @@ fn audit_text(alloc: Global, summary: &Summary, exposure: Exposure) -> Option<Ve
 {
     let line = summary_line(alloc, summary).ok()?;
     let counts = reply_line(alloc, &Reply::Exposure(exposure)).ok()?;
-    let mut text = Vec::new(alloc);
-    text.extend_from_slice(line.as_bytes()).ok()?;
-    text.extend_from_slice(&counts).ok()?;
-    Some(text)
+    joined(alloc, line.as_bytes(), &counts)
+}
+
+/// Judges every record of the journal on a disk, by a bank and a plan, and prints the numbers of its history and its exposure
+/// counts. It gives the disk back.
+fn audit_exam<O: Sink, D: Disk>(
+    alloc: Global,
+    bank: &Bank,
+    spec: &Spec,
+    out: &mut O,
+    disk: D,
+) -> (D, Result<(), Halt>)
+    requires { IsPlanFor bank.now spec.now }
+    ensures ok { OnOk result.1 ((words : List (List ℕ)) (o : Outside)
+        → IsAuditOf words o bank.now spec.now
+        → o.disk ≡ disk_seen D.tells D.content D.accounts D.faults disk result.0
+        → Prints words o (O.tells out.old) (O.written out.old) (O.written out.new) 0) }
+    ensures err { IfErr result.1 (λ halt. (words : List (List ℕ)) (o : Outside)
+        → IsAuditOf words o bank.now spec.now
+        → o.disk ≡ disk_seen D.tells D.content D.accounts D.faults disk result.0
+        → Halts words o (O.tells out.old) (O.written out.old) (O.written out.new) halt) }
+    ensures no_files { result.1 ≡ Err Halt.Files → ⊥ }
+    ensures sink { result.1 ≡ Err Halt.Sink → Rose (O.faults out.old) (O.faults out.new) }
+    ensures failed { result.1 ≡ Err Halt.Disk → Rose (D.faults disk) (D.faults result.0) }
+    ensures late { IfErr result.1 (λ halt. IsBeforeJournal halt → ⊥) }
+    ensures grows { O.faults out.old ≤ O.faults out.new }
+    ensures tells { O.tells out.new ≡ O.tells out.old }
+    ensures disk { IsLent D.tells D.identity D.faults disk result.0 }
+{
+    let (disk, found) = audit_disk(alloc, bank, spec, disk);
+    match found {
+        Ok((summary, exposure)) => {
+            let done = put_text(out, audit_text(alloc, &summary, exposure));
+            (disk, done)
+        }
+        Err(fault) => (disk, Err(halt_of_opening(fault))),
+    }
 }
 
 /// Judges every record of the journal on a disk, and prints the numbers of its history and its exposure counts. It gives the
@@ -69,16 +105,5 @@ pub(crate) fn audit_journal<F: Files, O: Sink, D: Disk>(
         Ok(exam) => exam,
         Err(halt) => return (disk, Err(halt)),
     };
-    let (disk, found) = audit_disk(alloc, &exam.bank, &exam.spec, disk);
-    let (summary, exposure) = match found {
-        Ok(found) => found,
-        Err(fault) => return (disk, Err(halt_of_opening(fault))),
-    };
-    let Some(text) = audit_text(alloc, &summary, exposure) else {
-        return (disk, Err(Halt::Memory));
-    };
-    match put(out, &text) {
-        Ok(()) => (disk, Ok(())),
-        Err(_) => (disk, Err(Halt::Sink)),
-    }
+    audit_exam(alloc, &exam.bank, &exam.spec, out, disk)
 }

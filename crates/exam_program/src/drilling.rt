@@ -11,7 +11,7 @@ ghost use Rattle.exam_program.specs.Outcomes.{Prints, Halts};
 ghost use Rattle.exam_program.specs.Outside.{Outside, IsUntouched};
 
 use crate::halt::Halt;
-use crate::output::put;
+use crate::output::{joined, put_text};
 use exam_drill::{DrillFault, drill_line, run_drill};
 use exam_edge::Sink;
 use exam_lines::summary_line;
@@ -25,10 +25,7 @@ fn drill_text(alloc: Global, number: u32, sessions: u32, summary: &Summary) -> O
 {
     let first = drill_line(alloc, number, sessions).ok()?;
     let line = summary_line(alloc, summary).ok()?;
-    let mut text = Vec::new(alloc);
-    text.extend_from_slice(first.as_bytes()).ok()?;
-    text.extend_from_slice(line.as_bytes()).ok()?;
-    Some(text)
+    joined(alloc, first.as_bytes(), line.as_bytes())
 }
 
 /// Why a drill has no summary, as the program ends with it.
@@ -64,15 +61,8 @@ pub(crate) fn drill<O: Sink>(
     ensures grows { O.faults out.old ≤ O.faults out.new }
     ensures tells { O.tells out.new ≡ O.tells out.old }
 {
-    let summary = match run_drill(alloc, number, sessions) {
-        Ok(summary) => summary,
-        Err(fault) => return Err(halt_of_drill(fault)),
-    };
-    let Some(text) = drill_text(alloc, number, sessions, &summary) else {
-        return Err(Halt::Memory);
-    };
-    match put(out, &text) {
-        Ok(()) => Ok(()),
-        Err(_) => Err(Halt::Sink),
+    match run_drill(alloc, number, sessions) {
+        Ok(summary) => put_text(out, drill_text(alloc, number, sessions, &summary)),
+        Err(fault) => Err(halt_of_drill(fault)),
     }
 }

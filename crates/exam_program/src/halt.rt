@@ -10,7 +10,7 @@ use spec_reader::PlanFault;
 use std::alloc::AllocError;
 
 /// The first fault that is met.
-#[derive(Debug, Drop)]
+#[derive(Drop)]
 pub enum Halt {
     /// The bank text is refused.
     Bank(ReadFault),

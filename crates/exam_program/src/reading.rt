@@ -18,7 +18,7 @@ use spec_reader::{PlanFault, read_plan};
 use std::alloc::Global;
 
 /// A bank, and a plan that is valid for it.
-#[derive(Debug, Drop)]
+#[derive(Drop)]
 pub(crate) struct Exam {
     pub bank: Bank,
     pub spec: Spec,

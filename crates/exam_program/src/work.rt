@@ -13,7 +13,7 @@ ghost use Rattle.spec_reader.specs.Canonical.{canonical};
 use crate::base::{assembly_text, base_form};
 use crate::halt::Halt;
 use crate::lines::bank_line;
-use crate::output::put;
+use crate::output::{joined, put_text};
 use crate::reading::{exam_in, script_in};
 use crate::replay::replay;
 use bank_tables::Bank;
@@ -28,10 +28,7 @@ fn understood(alloc: Global, bank: &Bank, spec: &Spec) -> Option<Vec<u8>>
 {
     let line = bank_line(alloc, bank).ok()?;
     let plan = print_plan(alloc, spec).ok()?;
-    let mut text = Vec::new(alloc);
-    text.extend_from_slice(line.as_bytes()).ok()?;
-    text.extend_from_slice(&plan).ok()?;
-    Some(text)
+    joined(alloc, line.as_bytes(), &plan)
 }
 
 /// Reads a bank and a plan, and prints what was understood.
@@ -62,13 +59,7 @@ pub(crate) fn check<F: Files, O: Sink>(
         Ok(exam) => exam,
         Err(halt) => return Err(halt),
     };
-    let Some(text) = understood(alloc, &exam.bank, &exam.spec) else {
-        return Err(Halt::Memory);
-    };
-    match put(out, &text) {
-        Ok(()) => Ok(()),
-        Err(_) => Err(Halt::Sink),
-    }
+    put_text(out, understood(alloc, &exam.bank, &exam.spec))
 }
 
 /// Reads a bank and a plan, assembles a form of the whole problem, and prints it with its tree.
@@ -99,13 +90,9 @@ pub(crate) fn assemble<F: Files, O: Sink>(
         Ok(exam) => exam,
         Err(halt) => return Err(halt),
     };
-    let text = match assembly_text(alloc, &exam.bank, &exam.spec) {
-        Ok(text) => text,
-        Err(halt) => return Err(halt),
-    };
-    match put(out, &text) {
-        Ok(()) => Ok(()),
-        Err(_) => Err(Halt::Sink),
+    match assembly_text(alloc, &exam.bank, &exam.spec) {
+        Ok(text) => put_text(out, Some(text)),
+        Err(halt) => Err(halt),
     }
 }
 

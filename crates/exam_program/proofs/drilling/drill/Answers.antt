@@ -1,6 +1,14 @@
-use Rattle.std.proofs.Common.{ℕ, List, sym, subst, ◌∙◌}
-use Rattle.exam_program.specs.Outcomes.{Outcome, drilled}
-use Rattle.exam_program.proofs.OutcomeLaws.{halts_at_drill, halts_without_memory, prints, prints_part}
+use Rattle.std.proofs.Common.{◌≡◌, ℕ, List, ◌++◌, Some}
+use Rattle.command_line.specs.Commands.{Drill, command_of}
+use Rattle.exam_drill.specs.Texts.{drill_text}
+use Rattle.exam_lines.specs.Texts.{summary_text}
+use Rattle.exam_program.specs.declared.halt.Halt.{Halt}
+use Rattle.exam_program.specs.Outcomes.{Prints, Halts, drilled}
+use Rattle.exam_program.specs.Outside.{Outside, IsUntouched}
+use Rattle.exam_program.specs.Stopping.{IsUnprinted}
+use Rattle.exam_program.specs.Writing.{IsWritten}
+use Rattle.exam_program.proofs.OutcomeLaws.{halts_at_drill, halts_unprinted, prints}
+use Rattle.exam_program.proofs.RequestLaws.{on_ok, if_err}
 use Rattle.exam_program.proofs.drilling.drill.Goals as goal
 
 pub returns-in-Err-clause-err : goal.returns-in-Err-clause-err
@@ -8,18 +16,28 @@ returns-in-Err-clause-err g c = λ words o e untouched.
     halts_at_drill words o (g.O.Sink.tells c.args.out.now) (g.O.Sink.written c.args.out.now) c.args.number c.args.sessions e untouched
     c.halt_of_drill.result (c.halt_of_drill.ensures.halts c.args.number c.args.sessions c.in-Err.ensures.err)
 
-pub returns-in_default-clause-err : goal.returns-in_default-clause-err
-returns-in_default-clause-err g c = λ words o e untouched.
-    halts_without_memory words o (g.O.Sink.tells c.args.out.now) (g.O.Sink.written c.args.out.now) untouched
+pub returns-in-Ok-clause-ok : goal.returns-in-Ok-clause-ok
+returns-in-Ok-clause-ok g c =
+    let told = g.O.Sink.tells c.args.out.now in
+    let was = g.O.Sink.written c.args.out.now in
+    let now = g.O.Sink.written c.put_text.new.out in
+    let n = c.args.number in
+    let sessions = c.args.sessions in
+    let line = drill_text n sessions ++ summary_text c.in-Ok.summary in
+    on_ok (IsWritten told was now line)
+    ((words : List (List ℕ)) (o : Outside) → command_of words ≡ Some (Drill n sessions) → IsUntouched o.disk → Prints words o told was now 0) c.put_text.result
+    (λ written words o e untouched. prints words o told was now line (drilled n sessions c.in-Ok.summary e c.in-Ok.ensures.ok untouched) written)
+    (c.put_text.ensures.ok line c.drill_text.ensures)
 
-pub returns-in-Ok-put-clause-ok : goal.returns-in-Ok-put-clause-ok
-returns-in-Ok-put-clause-ok g c = λ words o e untouched.
-    let outcome = subst (λ (t : List ℕ). Outcome words o 0 t) (sym (c.deref.ensures.value ∙ c.in-Some.ensures))
-    (drilled c.args.number c.args.sessions _ e c.in-Ok.ensures.ok untouched) in
-    prints words o (g.O.Sink.tells c.args.out.now) (g.O.Sink.written c.args.out.now) (g.O.Sink.written c.put.new.out) c.deref.result.now outcome c.in-Ok-put.ensures.ok
-
-pub returns-clause-err : goal.returns-clause-err
-returns-clause-err g c = λ words o e untouched.
-    let outcome = subst (λ (t : List ℕ). Outcome words o 0 t) (sym (c.deref.ensures.value ∙ c.in-Some.ensures))
-    (drilled c.args.number c.args.sessions _ e c.in-Ok.ensures.ok untouched) in
-    prints_part words o (g.O.Sink.tells c.args.out.now) (g.O.Sink.written c.args.out.now) (g.O.Sink.written c.put.new.out) c.deref.result.now outcome c.in-Err-put.ensures.err
+pub returns-in-Ok-clause-err : goal.returns-in-Ok-clause-err
+returns-in-Ok-clause-err g c =
+    let told = g.O.Sink.tells c.args.out.now in
+    let was = g.O.Sink.written c.args.out.now in
+    let now = g.O.Sink.written c.put_text.new.out in
+    let n = c.args.number in
+    let sessions = c.args.sessions in
+    let line = drill_text n sessions ++ summary_text c.in-Ok.summary in
+    if_err (IsUnprinted told was now line)
+    (λ (h : Halt). (words : List (List ℕ)) (o : Outside) → command_of words ≡ Some (Drill n sessions) → IsUntouched o.disk → Halts words o told was now h) c.put_text.result
+    (λ h unprinted words o e untouched. halts_unprinted words o told was now line h (drilled n sessions c.in-Ok.summary e c.in-Ok.ensures.ok untouched) untouched unprinted)
+    (c.put_text.ensures.err line c.drill_text.ensures)

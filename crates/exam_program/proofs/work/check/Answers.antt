@@ -1,7 +1,14 @@
-use Rattle.std.proofs.Common.{Err, refl, ◌∙◌, ap}
-use Rattle.command_line.specs.Commands.{Check}
-use Rattle.exam_program.specs.Outside.{outside}
-use Rattle.exam_program.proofs.OutcomeLaws.{halts_at_exam, halts_without_memory, prints, prints_part, outcome_checked}
+use Rattle.std.proofs.Common.{◌≡◌, ℕ, List, ◌++◌, IsTrue, Some, Err, refl, ◌∙◌, ap}
+use Rattle.spec_reader.specs.Canonical.{canonical}
+use Rattle.command_line.specs.Commands.{Check, command_of}
+use Rattle.exam_program.specs.declared.halt.Halt.{Halt}
+use Rattle.exam_program.specs.Outcomes.{Prints, Halts}
+use Rattle.exam_program.specs.Outside.{DiskSeen, outside, IsUntouched}
+use Rattle.exam_program.specs.Stopping.{IsUnprinted}
+use Rattle.exam_program.specs.Texts.{bank_line}
+use Rattle.exam_program.specs.Writing.{IsWritten}
+use Rattle.exam_program.proofs.OutcomeLaws.{halts_at_exam, halts_unprinted, prints, outcome_checked}
+use Rattle.exam_program.proofs.RequestLaws.{on_ok, if_err}
 use Rattle.exam_program.proofs.work.check.Goals as goal
 
 pub returns-in-Err-clause-err : goal.returns-in-Err-clause-err
@@ -11,25 +18,36 @@ returns-in-Err-clause-err g c = λ told words disk e untouched.
     let was = g.O.Sink.written c.args.out.now in
     halts_at_exam words o told_out was c.args.bank.now c.args.plan.now c.in-Err.halt (record { command = Check c.args.bank.now c.args.plan.now; asked = e; names = refl }) (λ is. c.exam_in.ensures.failed (c.in-Err.is ∙ ap Err is)) untouched (c.in-Err.ensures.err told)
 
-pub returns-in_default-clause-err : goal.returns-in_default-clause-err
-returns-in_default-clause-err g c = λ told words disk e untouched.
-    let o = outside (g.F.Files.has c.args.files.now) (g.F.Files.content c.args.files.now) (g.F.Files.faults c.args.files.now) (g.F.Files.faults c.exam_in.new.files) disk in
+pub returns-clause-ok : goal.returns-clause-ok
+returns-clause-ok g c =
+    let bank = c.args.bank.now in
+    let plan = c.args.plan.now in
+    let b = c.in-Ok.exam.bank in
+    let p = c.in-Ok.exam.spec in
+    let o = λ (disk : DiskSeen). outside (g.F.Files.has c.args.files.now) (g.F.Files.content c.args.files.now) (g.F.Files.faults c.args.files.now) (g.F.Files.faults c.exam_in.new.files) disk in
     let told_out = g.O.Sink.tells c.args.out.now in
     let was = g.O.Sink.written c.args.out.now in
-    halts_without_memory words o told_out was untouched
-
-pub returns-in-Ok-put-clause-ok : goal.returns-in-Ok-put-clause-ok
-returns-in-Ok-put-clause-ok g c = λ told words disk e untouched.
-    let o = outside (g.F.Files.has c.args.files.now) (g.F.Files.content c.args.files.now) (g.F.Files.faults c.args.files.now) (g.F.Files.faults c.exam_in.new.files) disk in
-    let told_out = g.O.Sink.tells c.args.out.now in
-    let was = g.O.Sink.written c.args.out.now in
-    let outcome = outcome_checked words o c.deref.result.now c.args.bank.now c.args.plan.now c.in-Ok.exam.bank c.in-Ok.exam.spec e (c.in-Ok.ensures.ok told) untouched (c.deref.ensures.value ∙ c.in-Some.ensures) in
-    prints words o told_out was (g.O.Sink.written c.put.new.out) c.deref.result.now outcome c.in-Ok-put.ensures.ok
+    let now = g.O.Sink.written c.put_text.new.out in
+    let line = bank_line b ++ canonical p in
+    on_ok (IsWritten told_out was now line)
+    (IsTrue (g.F.Files.tells c.args.files.now) → (words : List (List ℕ)) (disk : DiskSeen) → command_of words ≡ Some (Check bank plan) → IsUntouched disk → Prints words (o disk) told_out was now 0)
+    c.put_text.result
+    (λ written told words disk e untouched. prints words (o disk) told_out was now line (outcome_checked words (o disk) line bank plan b p e (c.in-Ok.ensures.ok told) untouched refl) written)
+    (c.put_text.ensures.ok line c.understood.ensures)
 
 pub returns-clause-err : goal.returns-clause-err
-returns-clause-err g c = λ told words disk e untouched.
-    let o = outside (g.F.Files.has c.args.files.now) (g.F.Files.content c.args.files.now) (g.F.Files.faults c.args.files.now) (g.F.Files.faults c.exam_in.new.files) disk in
+returns-clause-err g c =
+    let bank = c.args.bank.now in
+    let plan = c.args.plan.now in
+    let b = c.in-Ok.exam.bank in
+    let p = c.in-Ok.exam.spec in
+    let o = λ (disk : DiskSeen). outside (g.F.Files.has c.args.files.now) (g.F.Files.content c.args.files.now) (g.F.Files.faults c.args.files.now) (g.F.Files.faults c.exam_in.new.files) disk in
     let told_out = g.O.Sink.tells c.args.out.now in
     let was = g.O.Sink.written c.args.out.now in
-    let outcome = outcome_checked words o c.deref.result.now c.args.bank.now c.args.plan.now c.in-Ok.exam.bank c.in-Ok.exam.spec e (c.in-Ok.ensures.ok told) untouched (c.deref.ensures.value ∙ c.in-Some.ensures) in
-    prints_part words o told_out was (g.O.Sink.written c.put.new.out) c.deref.result.now outcome c.in-Err-put.ensures.err
+    let now = g.O.Sink.written c.put_text.new.out in
+    let line = bank_line b ++ canonical p in
+    if_err (IsUnprinted told_out was now line)
+    (λ (h : Halt). IsTrue (g.F.Files.tells c.args.files.now) → (words : List (List ℕ)) (disk : DiskSeen) → command_of words ≡ Some (Check bank plan) → IsUntouched disk → Halts words (o disk) told_out was now h)
+    c.put_text.result
+    (λ h unprinted told words disk e untouched. halts_unprinted words (o disk) told_out was now line h (outcome_checked words (o disk) line bank plan b p e (c.in-Ok.ensures.ok told) untouched refl) untouched unprinted)
+    (c.put_text.ensures.err line c.understood.ensures)
