@@ -2,11 +2,14 @@
 //! was worked out by hand from the format: header `SHADOWJ1`, then a gate at place 8, and after each open gate a length of
 //! four bytes, the payload and the next gate.
 
+ghost use Rattle.answer_journal.specs.Journal.{IsReady};
+
 #[cfg(test)]
 mod tests {
     use answer_journal::{Adopted, AppendFault, Frame, Journal, OpenFault, Payload};
     use exam_edge::MemoryDisk;
     use std::alloc::Global;
+    use std::fmt::Debug;
     use std::process::Abort;
     use std::test::Fail;
 
@@ -40,9 +43,19 @@ mod tests {
         0, 0, 0, 3, 8, 9, 10, 0, 1, 1,
     ];
 
-    // How many records are found in a file of these bytes, and how long it is then, or why it is no journal.
-    fn found(alloc: Global, bytes: &[u8]) -> Result<(usize, u64), OpenFault> {
-        let disk = MemoryDisk::of(alloc, bytes.to_vec(alloc)?, Vec::new(alloc));
+    // The values are the same. Each comparison is a call of this function or the next: a function is dear to prove where it
+    // compares several values itself.
+    fn is_equal<R: Abort, T: PartialEq + Debug>(rt: &R, found: &T, expected: &T) {
+        assert_eq!(rt; *found, *expected);
+    }
+
+    // The lists are the same.
+    fn are_equal<R: Abort, T: PartialEq + Debug>(rt: &R, found: &[T], expected: &[T]) {
+        assert_eq!(rt; found, expected);
+    }
+
+    // How many records are found in a file, and how long it is then, or why it is no journal.
+    fn found_on(alloc: Global, disk: MemoryDisk) -> Result<(usize, u64), OpenFault> {
         match Journal::open(alloc, disk, LIMIT) {
             Ok((journal, payloads)) => {
                 let length = journal.length();
@@ -50,6 +63,20 @@ mod tests {
                 Ok((payloads.len(), length))
             }
             Err((_disk, fault)) => Err(fault),
+        }
+    }
+
+    // The same of a file of these bytes.
+    fn found(alloc: Global, bytes: &[u8]) -> Result<(usize, u64), OpenFault> {
+        let disk = MemoryDisk::of(alloc, bytes.to_vec(alloc)?, Vec::new(alloc));
+        found_on(alloc, disk)
+    }
+
+    // The disk after a file was opened, and how the opening failed.
+    fn opened_disk(alloc: Global, disk: MemoryDisk) -> (MemoryDisk, Option<OpenFault>) {
+        match Journal::open(alloc, disk, LIMIT) {
+            Ok((journal, _)) => (journal.into_disk(), None),
+            Err((disk, fault)) => (disk, Some(fault)),
         }
     }
 
@@ -61,22 +88,8 @@ mod tests {
         call: u64,
     ) -> Result<(Vec<u8>, Option<OpenFault>), Fail> {
         let disk = MemoryDisk::of(alloc, bytes.to_vec(alloc)?, vec![in alloc; call]?);
-        match Journal::open(alloc, disk, LIMIT) {
-            Ok((journal, _)) => {
-                let disk = journal.into_disk();
-                let bytes = disk.bytes().to_vec(alloc)?;
-                Ok((bytes, None))
-            }
-            Err((disk, fault)) => {
-                let bytes = disk.bytes().to_vec(alloc)?;
-                Ok((bytes, Some(fault)))
-            }
-        }
-    }
-
-    // A file has these bytes. Each comparison is a function of its own, since a test with many of them is dear to prove.
-    fn holds<R: Abort>(rt: &R, found: &[u8], bytes: &[u8]) {
-        assert_eq!(rt; found, bytes);
+        let (disk, fault) = opened_disk(alloc, disk);
+        Ok((disk.bytes().to_vec(alloc)?, fault))
     }
 
     // In a file of these bytes so many records are found, and it is so long then; or this fault is.
@@ -86,13 +99,13 @@ mod tests {
         bytes: &[u8],
         expected: Result<(usize, u64), OpenFault>,
     ) {
-        assert_eq!(rt; found(alloc, bytes), expected);
+        is_equal(rt, &found(alloc, bytes), &expected);
     }
 
     // The disk failed, or no fault was given.
     fn fails<R: Abort>(rt: &R, fault: Option<OpenFault>, failed: bool) {
         let expected = if failed { Some(OpenFault::Disk) } else { None };
-        assert_eq!(rt; fault, expected);
+        is_equal(rt, &fault, &expected);
     }
 
     // A file is opened with this call failing, which is one of the opening's calls or the next. The disk has these bytes
@@ -106,7 +119,7 @@ mod tests {
         records: (usize, u64),
     ) -> Result<(), Fail> {
         let (left, fault) = opened(alloc, file, call)?;
-        holds(rt, &left, bytes);
+        are_equal(rt, &left, bytes);
         fails(rt, fault, call < calls);
         finds(rt, alloc, &left, Ok(records));
         Ok(())
@@ -142,44 +155,75 @@ mod tests {
         Ok(())
     }
 
-    // What became of a record: how adding it failed, what mending gave then and once more where that failed, the journal's
-    // length, and the bytes on the disk.
-    #[derive(Drop)]
-    struct Outcome {
+    // What became of a record: how adding it failed, and what mending gave then and once more where that failed.
+    #[derive(Clone, Copy, Debug, PartialEq, Eq)]
+    struct Fate {
         fault: Option<AppendFault>,
         mended: Option<Adopted>,
         again: Option<Adopted>,
+    }
+
+    // The same, with the journal's length and the bytes on the disk.
+    #[derive(Drop)]
+    struct Outcome {
+        fate: Fate,
         length: u64,
         bytes: Vec<u8>,
     }
 
-    // Adds the answered record to a new journal, calls of these numbers failing. Calls 0 to 3 open the journal.
-    fn added<R: Abort>(rt: &R, alloc: Global, fails: Vec<u64>) -> Result<Outcome, Fail> {
-        let disk = MemoryDisk::of(alloc, Vec::new(alloc), fails);
-        let frame = Frame::of(alloc, &ANSWER).expect(rt, "memory");
-        match Journal::open(alloc, disk, LIMIT) {
-            Err(_) => panic!(rt; "the journal was not opened"),
-            Ok((mut journal, _)) => {
-                let fault = journal.append(&frame).err();
-                let mut mended = None;
-                let mut again = None;
-                if journal.in_doubt() {
-                    mended = journal.mend().ok();
-                    if journal.in_doubt() {
-                        again = journal.mend().ok();
-                    }
-                }
-                let length = journal.length();
-                let bytes = journal.into_disk().bytes().to_vec(alloc)?;
-                Ok(Outcome {
-                    fault,
-                    mended,
-                    again,
-                    length,
-                    bytes,
-                })
+    // Adds a record, and resolves it where it is in doubt, unless it is to be left so.
+    fn add(journal: &mut Journal<MemoryDisk>, frame: &Frame, mends: bool) -> Fate
+        requires { IsReady journal.old }
+    {
+        let fault = journal.append(frame).err();
+        let mut mended = None;
+        let mut again = None;
+        if mends && journal.in_doubt() {
+            mended = journal.mend().ok();
+            if journal.in_doubt() {
+                again = journal.mend().ok();
             }
         }
+        Fate {
+            fault,
+            mended,
+            again,
+        }
+    }
+
+    // The same in the journal on a disk; what is on the disk then, and the journal's length.
+    fn add_over(
+        alloc: Global,
+        disk: MemoryDisk,
+        frame: &Frame,
+        mends: bool,
+    ) -> Result<(MemoryDisk, u64, Fate), Fail> {
+        match Journal::open(alloc, disk, LIMIT) {
+            Err(_) => Err(Fail::from("not opened")),
+            Ok((journal, _)) => {
+                let mut journal = journal;
+                let fate = add(&mut journal, frame, mends);
+                let length = journal.length();
+                Ok((journal.into_disk(), length, fate))
+            }
+        }
+    }
+
+    // The frame of the answered record.
+    fn answer(alloc: Global) -> Result<Frame, Fail> {
+        Ok(Frame::of(alloc, &ANSWER).ok().ok_or("memory")?)
+    }
+
+    // Adds the answered record to a new journal, calls of these numbers failing. Calls 0 to 3 open the journal.
+    fn added(alloc: Global, fails: Vec<u64>) -> Result<Outcome, Fail> {
+        let disk = MemoryDisk::of(alloc, Vec::new(alloc), fails);
+        let (disk, length, fate) = add_over(alloc, disk, &answer(alloc)?, true)?;
+        let bytes = disk.bytes().to_vec(alloc)?;
+        Ok(Outcome {
+            fate,
+            length,
+            bytes,
+        })
     }
 
     // The content of the disk of a new journal once adding the answered record has stopped at this
@@ -187,15 +231,9 @@ mod tests {
     fn stopped<R: Abort>(rt: &R, alloc: Global, call: u64) -> Result<Vec<u8>, Fail> {
         let disk = MemoryDisk::of(alloc, Vec::new(alloc), vec![in alloc; call]?);
         // There is room for the call that fails, so a crash leaves what the model allows.
-        assert_eq!(rt; disk.room(), 1);
-        let frame = Frame::of(alloc, &ANSWER).expect(rt, "memory");
-        match Journal::open(alloc, disk, LIMIT) {
-            Err(_) => panic!(rt; "the journal was not opened"),
-            Ok((mut journal, _)) => {
-                let _added = journal.append(&frame).is_ok();
-                Ok(journal.into_disk().bytes().to_vec(alloc)?)
-            }
-        }
+        is_equal(rt, &disk.room(), &1);
+        let (disk, _, _) = add_over(alloc, disk, &answer(alloc)?, false)?;
+        Ok(disk.bytes().to_vec(alloc)?)
     }
 
     // How adding the record failed, and what mending gave then and once more.
@@ -206,15 +244,18 @@ mod tests {
         mended: Option<Adopted>,
         again: Option<Adopted>,
     ) {
-        assert_eq!(rt; outcome.fault, fault);
-        assert_eq!(rt; outcome.mended, mended);
-        assert_eq!(rt; outcome.again, again);
+        let fate = Fate {
+            fault,
+            mended,
+            again,
+        };
+        is_equal(rt, &outcome.fate, &fate);
     }
 
     // The journal's length, and the bytes on the disk.
     fn ends<R: Abort>(rt: &R, outcome: &Outcome, length: u64, bytes: &[u8]) {
-        assert_eq!(rt; outcome.length, length);
-        holds(rt, &outcome.bytes, bytes);
+        is_equal(rt, &outcome.length, &length);
+        are_equal(rt, &outcome.bytes, bytes);
     }
 
     // The record was dropped and is found nowhere, or it is in the journal.
@@ -235,11 +276,11 @@ mod tests {
         let alloc = rt.alloc();
         let failed = Some(AppendFault::Disk);
         for call in 4..7u64 {
-            let outcome = added(&rt, alloc, vec![in alloc; call]?)?;
+            let outcome = added(alloc, vec![in alloc; call]?)?;
             is_mended(&rt, &outcome, failed, Some(Adopted::Dropped), None);
             is_dropped(&rt, alloc, &outcome);
         }
-        let last = added(&rt, alloc, vec![in alloc; 7]?)?;
+        let last = added(alloc, vec![in alloc; 7]?)?;
         is_mended(&rt, &last, failed, Some(Adopted::Kept), None);
         is_kept(&rt, alloc, &last);
         Ok(())
@@ -249,7 +290,7 @@ mod tests {
     #[test]
     fn no_call_of_adding_fails(rt: HostRuntime) -> Result<(), Fail> {
         let alloc = rt.alloc();
-        let outcome = added(&rt, alloc, vec![in alloc; 8]?)?;
+        let outcome = added(alloc, vec![in alloc; 8]?)?;
         is_mended(&rt, &outcome, None, None, None);
         is_kept(&rt, alloc, &outcome);
         Ok(())
@@ -262,7 +303,7 @@ mod tests {
         let alloc = rt.alloc();
         let failed = Some(AppendFault::Disk);
         for call in 6..10u64 {
-            let outcome = added(&rt, alloc, vec![in alloc; 5, call]?)?;
+            let outcome = added(alloc, vec![in alloc; 5, call]?)?;
             is_mended(&rt, &outcome, failed, None, Some(Adopted::Dropped));
             ends(&rt, &outcome, 9, &EMPTY);
         }
@@ -271,7 +312,7 @@ mod tests {
 
     // What a read gives once adding has stopped at this call.
     fn stops<R: Abort>(rt: &R, alloc: Global, call: u64, bytes: &[u8]) -> Result<(), Fail> {
-        holds(rt, &stopped(rt, alloc, call)?, bytes);
+        are_equal(rt, &stopped(rt, alloc, call)?, bytes);
         Ok(())
     }
 
@@ -403,8 +444,8 @@ mod tests {
     ) {
         match payloads.get(which) {
             Some(payload) => {
-                assert_eq!(rt; payload.at, at);
-                assert_eq!(rt; payload.bytes.as_slice(), bytes);
+                is_equal(rt, &payload.at, &at);
+                are_equal(rt, payload.bytes.as_slice(), bytes);
             }
             None => panic!(rt; "no such payload"),
         }
@@ -412,7 +453,7 @@ mod tests {
 
     // The three payloads in order, each with the place of its gate.
     fn has_three<R: Abort>(rt: &R, payloads: &[Payload]) {
-        assert_eq!(rt; payloads.len(), 3);
+        is_equal(rt, &payloads.len(), &3);
         has_payload(rt, payloads, 0, (8, &[5]));
         has_payload(rt, payloads, 1, (14, &[6, 7]));
         has_payload(rt, payloads, 2, (21, &[8, 9, 10]));
@@ -440,8 +481,8 @@ mod tests {
         match Journal::walk(disk, LIMIT) {
             Err(_) => panic!(rt; "the file was not tested"),
             Ok(walk) => {
-                assert_eq!(rt; walk.length(), 30);
-                holds(&rt, walk.stop().bytes(), &TRAILED);
+                is_equal(&rt, &walk.length(), &30);
+                are_equal(&rt, walk.stop().bytes(), &TRAILED);
             }
         }
         Ok(())
