@@ -5,6 +5,7 @@ ghost use Rattle.exam_model.specs.Validity.{IsPlanFor};
 
 #[cfg(test)]
 mod tests {
+    use crate::equal::{are_equal, is_equal};
     use bank_tables::{Bank, ItemSet};
     use constraint_model::{
         Breach, Draft, Problem, Rate, Row, Spec, SpecFault, StimulusBound, front_fault, meets,
@@ -73,18 +74,18 @@ mod tests {
     }
 
     fn shows_rows<R: Abort>(rt: &R, spec: &Spec) {
-        assert_eq!(rt; spec.length(), 2);
-        assert_eq!(rt; spec.prior(), [0].as_slice());
-        assert_eq!(rt; spec.rows().len(), 2);
-        assert_eq!(rt; spec.bounds(), BOUNDS.as_slice());
+        is_equal(rt, &spec.length(), &2);
+        are_equal(rt, spec.prior(), &[0]);
+        is_equal(rt, &spec.rows().len(), &2);
+        are_equal(rt, spec.bounds(), &BOUNDS);
     }
 
     fn shows_numbers<R: Abort>(rt: &R, spec: &Spec) {
-        assert_eq!(rt; spec.rate(), Rate { num: 1, den: 1 });
-        assert_eq!(rt; spec.key(), &[0; 32]);
-        assert_eq!(rt; (spec.budget(), spec.base_budget()), (2_001, 4_095));
-        assert_eq!(rt; (spec.sessions(), spec.journal()), (1_000, 67_108_864));
-        assert_eq!(rt; spec.base(), None);
+        is_equal(rt, &spec.rate(), &Rate { num: 1, den: 1 });
+        are_equal(rt, spec.key(), &[0; 32]);
+        is_equal(rt, &(spec.budget(), spec.base_budget()), &(2_001, 4_095));
+        is_equal(rt, &(spec.sessions(), spec.journal()), &(1_000, 67_108_864));
+        is_equal(rt, &spec.base(), &None);
     }
 
     #[test]
@@ -106,7 +107,7 @@ mod tests {
         let fault = Some(SpecFault::Length);
         for length in [0, 6] {
             let found = front_faults(rt.alloc(), length, &[1])?;
-            assert_eq!(rt; found, (fault, fault));
+            is_equal(&rt, &found, &(fault, fault));
         }
         Ok(())
     }
@@ -117,10 +118,10 @@ mod tests {
         let none: &[i32] = &[];
         for prior in [none, &[0, 0], &[1], &[-10_000_001]] {
             let found = front_faults(rt.alloc(), 2, prior)?;
-            assert_eq!(rt; found, (fault, fault));
+            is_equal(&rt, &found, &(fault, fault));
         }
         let lowest = front_faults(rt.alloc(), 5, &[-10_000_000])?;
-        assert_eq!(rt; lowest, (None, None));
+        is_equal(&rt, &lowest, &(None, None));
         Ok(())
     }
 
@@ -132,9 +133,9 @@ mod tests {
     fn numbers_of_rows(rt: HostRuntime) -> Result<(), Fail> {
         let row = Row::Enemies { set: set_of(&[0]) };
         let (_, most) = rows_faults(rt.alloc(), [row; 128].as_slice())?;
-        assert_eq!(rt; most, None);
+        is_equal(&rt, &most, &None);
         let (_, too_many) = rows_faults(rt.alloc(), [row; 129].as_slice())?;
-        assert_eq!(rt; too_many, Some(SpecFault::TooManyRows));
+        is_equal(&rt, &too_many, &Some(SpecFault::TooManyRows));
         Ok(())
     }
 
@@ -169,7 +170,7 @@ mod tests {
     fn rows(rt: HostRuntime) -> Result<(), Fail> {
         for (row, fault) in faulty_rows() {
             let found = second_row_faults(rt.alloc(), row)?;
-            assert_eq!(rt; found, (Some(fault), Some(fault)));
+            is_equal(&rt, &found, &(Some(fault), Some(fault)));
         }
         Ok(())
     }
@@ -178,7 +179,7 @@ mod tests {
     fn widest_rows(rt: HostRuntime) -> Result<(), Fail> {
         let most = words(0, set_of(&[0]), 0, 33_553_920);
         let (_, found) = rows_faults(rt.alloc(), &[most, Row::Stimuli { low: 0, high: 64 }])?;
-        assert_eq!(rt; found, None);
+        is_equal(&rt, &found, &None);
         Ok(())
     }
 
@@ -188,7 +189,7 @@ mod tests {
         let one = set_of(&[0]);
         let both = [words(1, one, 0, 1), count(one, 2, 1)];
         let (_, found) = rows_faults(rt.alloc(), &both)?;
-        assert_eq!(rt; found, Some(SpecFault::BadQuantity(0)));
+        is_equal(&rt, &found, &Some(SpecFault::BadQuantity(0)));
         Ok(())
     }
 
@@ -210,7 +211,7 @@ mod tests {
         ];
         for (bounds, stimulus) in cases {
             let found = bounds_faults(rt.alloc(), bounds)?;
-            assert_eq!(rt; found, (None, Some(SpecFault::BadStimulus(stimulus))));
+            is_equal(&rt, &found, &(None, Some(SpecFault::BadStimulus(stimulus))));
         }
         Ok(())
     }
@@ -218,7 +219,7 @@ mod tests {
     #[test]
     fn widest_bounds_of_stimuli(rt: HostRuntime) -> Result<(), Fail> {
         let (_, most) = bounds_faults(rt.alloc(), &[bound(1, 512), bound(512, 512)])?;
-        assert_eq!(rt; most, None);
+        is_equal(&rt, &most, &None);
         Ok(())
     }
 
@@ -234,7 +235,7 @@ mod tests {
     fn rates(rt: HostRuntime) -> Result<(), Fail> {
         for (num, den) in [(0, 1), (2, 1), (1, 65_536)] {
             let found = rate_fault(rt.alloc(), num, den)?;
-            assert_eq!(rt; found, Some(SpecFault::BadRate));
+            is_equal(&rt, &found, &Some(SpecFault::BadRate));
         }
         Ok(())
     }
@@ -252,7 +253,7 @@ mod tests {
     fn budgets(rt: HostRuntime) -> Result<(), Fail> {
         for (budget, base) in [(0, 1), (4, 1), (4_097, 1), (1, 0), (1, 2), (1, 4_097)] {
             let found = budget_fault(rt.alloc(), budget, base)?;
-            assert_eq!(rt; found, Some(SpecFault::BadBudget));
+            is_equal(&rt, &found, &Some(SpecFault::BadBudget));
         }
         Ok(())
     }
@@ -270,7 +271,7 @@ mod tests {
     fn limits(rt: HostRuntime) -> Result<(), Fail> {
         for (sessions, journal) in [(0, 64), (65_537, 64), (1, 63), (1, 536_870_913)] {
             let found = limit_fault(rt.alloc(), sessions, journal)?;
-            assert_eq!(rt; found, Some(SpecFault::BadLimit));
+            is_equal(&rt, &found, &Some(SpecFault::BadLimit));
         }
         Ok(())
     }
@@ -290,7 +291,7 @@ mod tests {
     #[test]
     fn widest_rate_and_limits(rt: HostRuntime) -> Result<(), Fail> {
         let found = fault_of(rt.alloc(), widest_plan(rt.alloc())?)?;
-        assert_eq!(rt; found, None);
+        is_equal(&rt, &found, &None);
         Ok(())
     }
 
@@ -313,7 +314,7 @@ mod tests {
         ];
         for (items, breach) in cases {
             let found = base_fault_of_a(rt.alloc(), items)?;
-            assert_eq!(rt; found, breach.map(SpecFault::BadBase));
+            is_equal(&rt, &found, &breach.map(SpecFault::BadBase));
         }
         Ok(())
     }
@@ -334,7 +335,7 @@ mod tests {
         ];
         for (items, breach) in cases {
             let found = base_fault(rt.alloc(), items)?;
-            assert_eq!(rt; found, breach.map(SpecFault::BadBase));
+            is_equal(&rt, &found, &breach.map(SpecFault::BadBase));
         }
         Ok(())
     }
@@ -364,9 +365,9 @@ mod tests {
     #[test]
     fn forms_of_bank_a(rt: HostRuntime) -> Result<(), Fail> {
         let best = found_on_a(rt.alloc(), &[1, 2, 3])?;
-        assert_eq!(rt; best, (1, None, 23));
+        is_equal(&rt, &best, &(1, None, 23));
         let better = found_on_a(rt.alloc(), &[1, 2, 5])?;
-        assert_eq!(rt; better, (1, Some(Breach::Row(1, 2)), 24));
+        is_equal(&rt, &better, &(1, Some(Breach::Row(1, 2)), 24));
         Ok(())
     }
 
@@ -401,7 +402,7 @@ mod tests {
         ];
         for (items, breach) in cases {
             let found = narrow_breach(rt.alloc(), items)?;
-            assert_eq!(rt; found, breach);
+            is_equal(&rt, &found, &breach);
         }
         Ok(())
     }

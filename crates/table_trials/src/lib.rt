@@ -4,3 +4,5 @@
 
 mod ability;
 mod constraint;
+#[cfg(test)]
+mod equal;
