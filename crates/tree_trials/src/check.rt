@@ -8,12 +8,12 @@ ghost use Rattle.constraint_model.specs.Views.{problem_of};
 
 #[cfg(test)]
 mod tests {
+    use crate::equal::is_equal;
     use bank_tables::{Bank, ItemSet};
     use certificate_check::{Reason, Verdict, check, spent};
     use constraint_model::{Draft, Problem, Row, Spec, StimulusBound};
     use proof_tree::{Tree, decode};
     use std::alloc::{AllocError, Global};
-    use std::process::Abort;
     use std::test::Fail;
     use trial_cases::{bank_a, bank_q, draft_of, item, rows_of, set_of};
 
@@ -30,16 +30,6 @@ mod tests {
             },
         ];
         draft_of(alloc, 3, &[-10, 0, -10], &rows, &[])
-    }
-
-    /// The verdict is this one. Each comparison is a function of its own, since a test with many of them is dear to prove.
-    fn is<R: Abort>(rt: &R, found: Verdict, expected: Verdict) {
-        assert_eq!(rt; found, expected);
-    }
-
-    /// Whether the budget is spent.
-    fn is_spent<R: Abort>(rt: &R, found: bool, expected: bool) {
-        assert_eq!(rt; found, expected);
     }
 
     fn tree_of(alloc: Global, bytes: &[u8]) -> Result<Tree, Fail> {
@@ -176,7 +166,7 @@ mod tests {
     fn caps(rt: HostRuntime) -> Result<(), Fail> {
         for (bytes, verdict) in CAPPED {
             let found = passage_verdict(rt.alloc(), bytes)?;
-            is(&rt, found, verdict);
+            is_equal(&rt, &found, &verdict);
         }
         Ok(())
     }
@@ -279,7 +269,7 @@ mod tests {
     fn verdicts_of_one_node(rt: HostRuntime) -> Result<(), Fail> {
         for (bytes, verdict) in SMALL {
             let found = form_verdict(rt.alloc(), &[1, 2, 3], bytes)?;
-            is(&rt, found, verdict);
+            is_equal(&rt, &found, &verdict);
         }
         Ok(())
     }
@@ -291,13 +281,13 @@ mod tests {
     #[test]
     fn verdicts_without_a_better_form(rt: HostRuntime) -> Result<(), Fail> {
         let no_form = form_verdict(rt.alloc(), &[1, 2, 5], &[0, 7])?;
-        is(&rt, no_form, Verdict::Bad(0, Reason::NotForm));
+        is_equal(&rt, &no_form, &Verdict::Bad(0, Reason::NotForm));
         let best = form_verdict(rt.alloc(), &[1, 2, 3], LEFT)?;
-        is(&rt, best, Verdict::Partial(3));
+        is_equal(&rt, &best, &Verdict::Partial(3));
         let lesser = form_verdict(rt.alloc(), &[1, 3, 4], LEFT)?;
-        is(&rt, lesser, Verdict::Bad(3, Reason::Better));
+        is_equal(&rt, &lesser, &Verdict::Bad(3, Reason::Better));
         let none = plain_verdict(rt.alloc(), 1, None, LEFT)?;
-        is(&rt, none, Verdict::Bad(3, Reason::Better));
+        is_equal(&rt, &none, &Verdict::Bad(3, Reason::Better));
         Ok(())
     }
 
@@ -305,10 +295,10 @@ mod tests {
     fn verdicts_of_branches(rt: HostRuntime) -> Result<(), Fail> {
         let open: &[u8] = &[0, 1, 0, 1, 1, 0, 2, 1, 0, 3, 7, 7, 7, 7];
         let found = form_verdict(rt.alloc(), &[1, 2, 3], open)?;
-        is(&rt, found, Verdict::Bad(3, Reason::OpenWhole));
+        is_equal(&rt, &found, &Verdict::Bad(3, Reason::OpenWhole));
         let twice: &[u8] = &[0, 1, 0, 1, 7, 1, 0, 1, 7, 7];
         let found = form_verdict(rt.alloc(), &[1, 2, 3], twice)?;
-        is(&rt, found, Verdict::Bad(2, Reason::Determined));
+        is_equal(&rt, &found, &Verdict::Bad(2, Reason::Determined));
         Ok(())
     }
 
@@ -317,10 +307,10 @@ mod tests {
         let alloc = rt.alloc();
         // The ray gives 15 - 20.
         let ray = quantity_verdict(alloc, &[1, 0, 1, 0, 1, 0, 0, 0, 1, 4, 0])?;
-        is(&rt, ray, Verdict::NoForm);
+        is_equal(&rt, &ray, &Verdict::NoForm);
         // Three of two items: the row after the length is impossible by counting.
         let count = plain_verdict(alloc, 3, None, &[0, 5, 1])?;
-        is(&rt, count, Verdict::NoForm);
+        is_equal(&rt, &count, &Verdict::NoForm);
         Ok(())
     }
 
@@ -344,7 +334,7 @@ mod tests {
     fn spent_trees(rt: HostRuntime) -> Result<(), Fail> {
         for (bytes, budget, expected) in SPENT {
             let found = plain_spent(rt.alloc(), bytes, budget)?;
-            is_spent(&rt, found, expected);
+            is_equal(&rt, &found, &expected);
         }
         Ok(())
     }
@@ -369,7 +359,7 @@ mod tests {
     fn spent_trees_beyond_a_start(rt: HostRuntime) -> Result<(), Fail> {
         for (start, bytes, budget, expected) in STARTED {
             let found = started_spent(rt.alloc(), start, bytes, budget)?;
-            is_spent(&rt, found, expected);
+            is_equal(&rt, &found, &expected);
         }
         Ok(())
     }

@@ -4,4 +4,6 @@
 
 mod check;
 #[cfg(test)]
+mod equal;
+#[cfg(test)]
 mod tree;

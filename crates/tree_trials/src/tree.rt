@@ -1,5 +1,6 @@
 //! Proof trees in bytes: each fault at its place, and the worked trees.
 
+use crate::equal::{are_equal, is_equal};
 use bank_tables::List;
 use proof_tree::{Node, Tree, TreeFault, Vector, decode, encode};
 use std::alloc::{AllocError, Global};
@@ -52,9 +53,9 @@ const NO_TREES: [(&[u8], TreeFault); 24] = [
     (&[0, 2, 1, 6, 3], TreeFault::Short),
 ];
 
-/// These bytes have this fault. Each comparison is a function of its own, since a test with many of them is dear to prove.
+/// These bytes have this fault.
 fn has_fault<R: Abort>(rt: &R, alloc: Global, bytes: &[u8], fault: TreeFault) {
-    assert_eq!(rt; fault_of(alloc, bytes), Some(fault));
+    is_equal(rt, &fault_of(alloc, bytes), &Some(fault));
 }
 
 #[test]
@@ -62,11 +63,6 @@ fn faults(rt: HostRuntime) {
     for (bytes, fault) in NO_TREES {
         has_fault(&rt, rt.alloc(), bytes, fault);
     }
-}
-
-/// So many bytes were read.
-fn is_used<R: Abort>(rt: &R, used: usize, expected: usize) {
-    assert_eq!(rt; used, expected);
 }
 
 /// The bytes begin with a tree of so many vectors, which takes so many bytes.
@@ -78,15 +74,15 @@ fn reads<R: Abort>(
     vectors: usize,
 ) -> Result<(), Fail> {
     let (tree, used) = decode(alloc, bytes).ok().ok_or("a tree")?;
-    is_used(rt, used, expected);
-    assert_eq!(rt; tree.vectors().len(), vectors);
+    is_equal(rt, &used, &expected);
+    is_equal(rt, &tree.vectors().len(), &vectors);
     Ok(())
 }
 
 /// The tree is spelled with these bytes.
 fn is_spelled<R: Abort>(rt: &R, alloc: Global, tree: &Tree, bytes: &[u8]) -> Result<(), Fail> {
     let found = encode(alloc, tree).ok().ok_or("memory")?;
-    assert_eq!(rt; found.as_slice(), bytes);
+    are_equal(rt, found.as_slice(), bytes);
     Ok(())
 }
 
@@ -149,8 +145,8 @@ const RAY: [u8; 11] = [1, 0, 1, 0, 1, 0, 0, 0, 1, 4, 0];
 /// The tree is that of `RAY`.
 fn is_ray<R: Abort>(rt: &R, tree: &Tree) {
     assert_eq!(rt; tree.vectors().len(), 1);
-    assert_eq!(rt; tree.vectors()[0].pairs(), [(1, 1)].as_slice());
-    assert_eq!(rt; tree.nodes(), [Node::Ray(0)].as_slice());
+    are_equal(rt, tree.vectors()[0].pairs(), &[(1, 1)]);
+    are_equal(rt, tree.nodes(), &[Node::Ray(0)]);
 }
 
 #[test]
@@ -158,7 +154,7 @@ fn eleven_bytes(rt: HostRuntime) -> Result<(), Fail> {
     let alloc = rt.alloc();
     has_fault(&rt, alloc, &RAY[..10], TreeFault::Short);
     let (tree, used) = decode(alloc, &RAY).ok().ok_or("a tree")?;
-    is_used(&rt, used, 11);
+    is_equal(&rt, &used, &11);
     is_ray(&rt, &tree);
     is_spelled(&rt, alloc, &tree, &RAY)
 }
@@ -192,8 +188,8 @@ fn reads_again<R: Abort>(
     tree: &Tree,
 ) -> Result<(), Fail> {
     let (again, used) = decode(alloc, bytes).ok().ok_or("the same tree")?;
-    is_used(rt, used, expected);
-    assert_eq!(rt; again.nodes(), tree.nodes());
+    is_equal(rt, &used, &expected);
+    are_equal(rt, again.nodes(), tree.nodes());
     Ok(())
 }
 
