@@ -1,5 +1,6 @@
 //! The bank text: bank A is read as its text describes it, and each changed text has its fault.
 
+use crate::equal::{is_equal, is_equal_at};
 use bank_reader::{ReadFault, read_bank};
 use bank_tables::{Bank, BankFault, ItemSet, Rows};
 use exam_edge::MemorySource;
@@ -37,14 +38,15 @@ fn changed(alloc: Global, text: &str, old: &str, new: &str) -> Result<String, Al
     }
 }
 
+/// The bank is bank A. The first two comparisons are what the calls after them require.
 fn shows_bank_a<R: Abort>(rt: &R, bank: &Bank) {
     let shape = (bank.items(), bank.grid(), bank.quantities(), bank.stimuli());
     assert_eq!(rt; shape, (6, 3, 0, 0));
     assert_eq!(rt; (bank.categories(2), bank.info(2, 1)), (2, 9));
     let at_two = (bank.loglik(2, 1, 0), bank.loglik(2, 1, 2));
-    assert_eq!(rt; at_two, (-30, -1));
+    is_equal(rt, &at_two, &(-30, -1));
     let at_four = (bank.loglik(4, 0, 0), bank.loglik(4, 0, 2));
-    assert_eq!(rt; at_four, (0, -20));
+    is_equal(rt, &at_four, &(0, -20));
 }
 
 #[test]
@@ -60,15 +62,21 @@ fn bank_a_is_what_its_text_says(rt: HostRuntime) -> Result<(), Fail> {
 const WIDE: &str =
     "item,stimulus,categories,q0,q1,i0,l0_0,l1_0,l2_0\n0,3,2,60,1,5,-1,-2,\n1,1,3,0,65535,1000000,-10000000,0,-3\n";
 
+/// The bank is that of `WIDE`. The first two comparisons are what the calls after them require.
 fn shows_wide<R: Abort>(rt: &R, bank: &Bank) {
     let shape = (bank.items(), bank.quantities(), bank.stimuli());
     assert_eq!(rt; shape, (2, 2, 3));
     assert_eq!(rt; (bank.stimulus(1), bank.categories(1)), (1, 3));
-    assert_eq!(rt; (bank.quantity(0, 0), bank.quantity(1, 1)), (60, 65535));
-    assert_eq!(rt; bank.info(1, 0), 1000000);
-    assert_eq!(rt;
-        (bank.loglik(1, 0, 0), bank.loglik(1, 2, 0)),
-        (-10000000, -3)
+    is_equal(
+        rt,
+        &(bank.quantity(0, 0), bank.quantity(1, 1)),
+        &(60, 65535),
+    );
+    is_equal(rt, &bank.info(1, 0), &1000000);
+    is_equal(
+        rt,
+        &(bank.loglik(1, 0, 0), bank.loglik(1, 2, 0)),
+        &(-10000000, -3),
     );
 }
 
@@ -89,7 +97,7 @@ const SPELLINGS: [&str; 4] = [
 
 fn shows_small<R: Abort>(rt: &R, bank: &Bank) {
     assert_eq!(rt; bank.items(), 1);
-    assert_eq!(rt; (bank.info(0, 0), bank.loglik(0, 0, 0)), (9, -7));
+    is_equal(rt, &(bank.info(0, 0), bank.loglik(0, 0, 0)), &(9, -7));
 }
 
 #[test]
@@ -144,9 +152,9 @@ fn fault_of_change(alloc: Global, old: &str, new: &str) -> Result<Option<ReadFau
     Ok(read(alloc, text.as_bytes()).err())
 }
 
-/// The text has this fault. Each comparison is a function of its own, since a test with many of them is dear to prove.
+/// The text has this fault.
 fn is_fault<R: Abort>(rt: &R, text: &str, found: Option<ReadFault>, fault: ReadFault) {
-    assert_eq!(rt; found, Some(fault), "{text:?}");
+    is_equal_at(rt, text, &found, &Some(fault));
 }
 
 #[test]
@@ -209,8 +217,12 @@ fn padded(alloc: Global, length: usize) -> Result<Vec<u8>, AllocError> {
     Ok(text)
 }
 
-fn is_long<R: Abort>(rt: &R, text: &[u8], length: usize) {
-    assert_eq!(rt; text.len(), length);
+/// How many items the bank has that was read, or the fault.
+fn items_in(read: Result<Bank, ReadFault>) -> Result<u16, ReadFault> {
+    match read {
+        Ok(bank) => Ok(bank.items()),
+        Err(fault) => Err(fault),
+    }
 }
 
 /// How many items the bank of a text of this length has, or the text's fault.
@@ -219,18 +231,25 @@ fn items_of_length<R: Abort + AllocGlobal>(
     length: usize,
 ) -> Result<Result<u16, ReadFault>, Fail> {
     let text = padded(rt.alloc(), length)?;
-    is_long(rt, &text, length);
-    match read(rt.alloc(), &text) {
-        Ok(bank) => Ok(Ok(bank.items())),
-        Err(fault) => Ok(Err(fault)),
-    }
+    is_equal(rt, &text.len(), &length);
+    Ok(items_in(read(rt.alloc(), &text)))
 }
 
 #[test]
 fn longest_text(rt: HostRuntime) -> Result<(), Fail> {
-    assert_eq!(rt; items_of_length(&rt, 4_194_304)?, Ok(1));
-    assert_eq!(rt; items_of_length(&rt, 4_194_305)?, Err(ReadFault::TooLong));
+    is_equal(&rt, &items_of_length(&rt, 4_194_304)?, &Ok(1));
+    is_equal(
+        &rt,
+        &items_of_length(&rt, 4_194_305)?,
+        &Err(ReadFault::TooLong),
+    );
     Ok(())
+}
+
+/// How many items the bank of a text has, or the fault, where this read fails.
+fn items_failing(alloc: Global, text: &[u8], call: u64) -> Result<Result<u16, ReadFault>, Fail> {
+    let fails = vec![in alloc; call]?;
+    Ok(items_in(read_failing(alloc, text, fails)))
 }
 
 /// Each read failing in turn is a fault of the source, and never the end of the text.
@@ -239,15 +258,13 @@ fn each_read_fails_in_turn(rt: HostRuntime) -> Result<(), Fail> {
     let text = padded(rt.alloc(), 10_000)?;
     // Three pieces of at most 4,096 bytes, and the read that meets the end.
     for call in 0..4u64 {
-        let fails = vec![in rt.alloc(); call]?;
-        assert_eq!(rt;
-            read_failing(rt.alloc(), &text, fails).err(),
-            Some(ReadFault::Source)
+        is_equal(
+            &rt,
+            &items_failing(rt.alloc(), &text, call)?,
+            &Err(ReadFault::Source),
         );
     }
-    let fails = vec![in rt.alloc(); 4]?;
-    let bank = read_failing(rt.alloc(), &text, fails).ok().ok_or("a bank")?;
-    assert_eq!(rt; bank.items(), 1);
+    is_equal(&rt, &items_failing(rt.alloc(), &text, 4)?, &Ok(1));
     Ok(())
 }
 
@@ -264,12 +281,16 @@ fn rows(
     Ok(rows_of(1, 1, items))
 }
 
+fn shows_widest<R: Abort>(rt: &R, bank: &Bank) {
+    assert_eq!(rt; (bank.items(), bank.stimuli()), (1, 64));
+    is_equal(rt, &bank.loglik(0, 0, 0), &-10_000_000);
+}
+
 #[test]
 fn the_widest_bank_of_rows(rt: HostRuntime) -> Result<(), Fail> {
     let widest = rows(rt.alloc(), 64, 65_535, 1_000_000, -10_000_000)?;
     let bank = Bank::of(rt.alloc(), widest).ok().ok_or("a bank")?;
-    assert_eq!(rt; (bank.items(), bank.stimuli()), (1, 64));
-    assert_eq!(rt; bank.loglik(0, 0, 0), -10_000_000);
+    shows_widest(&rt, &bank);
     Ok(())
 }
 
@@ -292,7 +313,7 @@ fn faults_of_rows(rt: HostRuntime) -> Result<(), Fail> {
         (0, 0, 0, BankFault::BadLogLik(0)),
     ] {
         let found = fault_of(rt.alloc(), (stimulus, quantity, info), 1)?;
-        assert_eq!(rt; found, Some(fault));
+        is_equal(&rt, &found, &Some(fault));
     }
     Ok(())
 }
@@ -302,7 +323,7 @@ fn too_many_quantities(rt: HostRuntime) -> Result<(), Fail> {
     let mut wide = rows(rt.alloc(), 0, 0, 0, 0)?;
     wide.quantities = 9;
     let fault = Bank::of(rt.alloc(), wide).err();
-    assert_eq!(rt; fault, Some(BankFault::BadGrid));
+    is_equal(&rt, &fault, &Some(BankFault::BadGrid));
     Ok(())
 }
 
@@ -316,15 +337,15 @@ fn high() -> ItemSet {
 
 #[test]
 fn members_of_sets(rt: HostRuntime) {
-    assert_eq!(rt; (low().count(), low().union(high()).count()), (3, 4));
-    assert_eq!(rt; low().minus(high()).first(), Some(0));
-    assert_eq!(rt; high().without(64).first(), Some(511));
-    assert_eq!(rt; ItemSet::empty().first(), None);
+    is_equal(&rt, &(low().count(), low().union(high()).count()), &(3, 4));
+    is_equal(&rt, &low().minus(high()).first(), &Some(0));
+    is_equal(&rt, &high().without(64).first(), &Some(511));
+    is_equal(&rt, &ItemSet::empty().first(), &None);
 }
 
 #[test]
 fn sets_in_sets(rt: HostRuntime) {
-    assert_eq!(rt; low().meet(high()), ItemSet::empty().with(64));
+    is_equal(&rt, &low().meet(high()), &ItemSet::empty().with(64));
     assert!(rt; low().minus(high()).is_subset(&low()));
     assert!(rt; !low().is_subset(&high()));
     assert!(rt; low().all_below(65) && !low().all_below(64));

@@ -4,5 +4,7 @@
 
 #[cfg(test)]
 mod bank;
+#[cfg(test)]
+mod equal;
 mod plan;
 mod script;

@@ -3,6 +3,7 @@
 
 #[cfg(test)]
 mod tests {
+    use crate::equal::{are_equal, is_equal, is_equal_at};
     use bank_tables::{Bank, BankFault};
     use constraint_model::{Breach, Spec, SpecFault};
     use exam_edge::MemorySource;
@@ -40,18 +41,13 @@ mod tests {
     const PRINTED_A: &str =
         "length 3\nprior -10 0 -10\nrate 1 1\nkey 0000000000000000000000000000000000000000000000000000000000000000\nbudget 2001\nbase-budget 4095\nsessions 1000\njournal 67108864\ncount 1 1 0-1\nenemies 2 5\n";
 
-    // The texts are the same. Each comparison is a function of its own, since a test with many of them is dear to prove.
-    fn is_text<R: Abort>(rt: &R, found: &[u8], expected: &[u8]) {
-        assert_eq!(rt; found, expected);
-    }
-
     fn is_longer<R: Abort>(rt: &R, found: &[u8], text: &str) {
         assert!(rt; text.len() < found.len());
     }
 
     // The text has this fault.
     fn is_fault<R: Abort>(rt: &R, text: &str, found: Option<PlanFault>, fault: PlanFault) {
-        assert_eq!(rt; found, Some(fault), "{text:?}");
+        is_equal_at(rt, text, &found, &Some(fault));
     }
 
     // What the plan of a text is printed as.
@@ -63,7 +59,7 @@ mod tests {
     #[test]
     fn a_plan_is_printed_with_its_defaults(rt: HostRuntime) -> Result<(), Fail> {
         let text = printed(rt.alloc(), &bank_a(rt.alloc())?, PLAN_A)?;
-        is_text(&rt, &text, PRINTED_A.as_bytes());
+        are_equal(&rt, &text, PRINTED_A.as_bytes());
         Ok(())
     }
 
@@ -85,7 +81,7 @@ mod tests {
         let first = printed(rt.alloc(), &bank, text)?;
         is_longer(rt, &first, text);
         let again = printed_again(rt.alloc(), &bank, &first)?;
-        is_text(rt, &again, &first);
+        are_equal(rt, &again, &first);
         Ok(())
     }
 
@@ -204,7 +200,7 @@ mod tests {
         ] {
             let found = fault_over_s(rt.alloc(), text)?;
             let fault = SpecFault::BadStimulus(stimulus);
-            assert_eq!(rt; found, Some(PlanFault::Spec(fault)));
+            is_equal(&rt, &found, &Some(PlanFault::Spec(fault)));
         }
         Ok(())
     }
@@ -219,7 +215,7 @@ mod tests {
     #[test]
     fn a_failing_source_is_a_fault(rt: HostRuntime) -> Result<(), Fail> {
         let fault = fault_of_a_source(rt.alloc())?;
-        assert_eq!(rt; fault, Some(PlanFault::Source));
+        is_equal(&rt, &fault, &Some(PlanFault::Source));
         Ok(())
     }
 }

@@ -4,6 +4,7 @@
 
 #[cfg(test)]
 mod tests {
+    use crate::equal::{are_equal, is_equal, is_equal_at};
     use bank_tables::List;
     use exam_edge::MemorySource;
     use history_model::{Counts, Exposure, Place, Refusal, Reply, Request};
@@ -30,7 +31,7 @@ mod tests {
         requests: &[Request],
     ) -> Result<(), Fail> {
         let found = read(alloc, text)??;
-        assert_eq!(rt; found.as_slice(), requests);
+        are_equal(rt, found.as_slice(), requests);
         Ok(())
     }
 
@@ -88,14 +89,14 @@ mod tests {
             ("# begin 1\n", 1),
         ] {
             let expected = Some(ScriptFault::Line(line));
-            assert_eq!(rt; fault_of(alloc, text)?, expected, "{text:?}");
+            is_equal_at(&rt, text, &fault_of(alloc, text)?, &expected);
         }
         Ok(())
     }
 
-    // The text is this line. Each comparison is a function of its own, since a test with many of them is dear to prove.
+    // The text is this line.
     fn is_line<R: Abort>(rt: &R, found: &[u8], line: &str) {
-        assert_eq!(rt; found, line.as_bytes(), "{line:?}");
+        is_equal_at(rt, line, &found, &line.as_bytes());
     }
 
     // What is read of so many bytes `x`, where the calls of the source of these numbers fail.
@@ -112,9 +113,9 @@ mod tests {
     fn the_limit_is_exact(rt: HostRuntime) -> Result<(), Fail> {
         let alloc = rt.alloc();
         let longest = fault_of_bytes(alloc, 16_777_216, Vec::new(alloc))?;
-        assert_eq!(rt; longest, Some(ScriptFault::Line(1)));
+        is_equal(&rt, &longest, &Some(ScriptFault::Line(1)));
         let longer = fault_of_bytes(alloc, 16_777_217, Vec::new(alloc))?;
-        assert_eq!(rt; longer, Some(ScriptFault::TooLong));
+        is_equal(&rt, &longer, &Some(ScriptFault::TooLong));
         Ok(())
     }
 
@@ -124,7 +125,7 @@ mod tests {
         // Three pieces of at most 4,096 bytes, and the read that meets the end.
         for call in 0..4u64 {
             let fault = fault_of_bytes(alloc, 10_000, vec![in alloc; call]?)?;
-            assert_eq!(rt; fault, Some(ScriptFault::Source));
+            is_equal(&rt, &fault, &Some(ScriptFault::Source));
         }
         Ok(())
     }
@@ -138,7 +139,7 @@ mod tests {
             (ScriptFault::Source, "files failed\n"),
             (ScriptFault::Memory, "no memory\n"),
         ] {
-            assert_eq!(rt; fault.text(alloc)?.as_str(), text);
+            is_equal(&rt, &fault.text(alloc)?.as_str(), &text);
         }
         Ok(())
     }
