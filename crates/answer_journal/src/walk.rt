@@ -128,6 +128,13 @@ fn read_payload<D: Disk>(
     }
 }
 
+// Puts the bytes into the buffer, in the place of those that it had.
+fn refill(buffer: &mut Vec<u8>, bytes: Vec<u8>)
+    ensures { buffer.new ≡ bytes }
+{
+    *buffer = bytes;
+}
+
 // Reads the payload after the gate at a place. Only of a disk that doesn't report its content the
 // record may not be there any more: then there is none.
 fn read_record<D: Disk>(
@@ -212,7 +219,7 @@ impl<D: Disk> Walk<D> {
                 let place = self.at;
                 self.at += 5 + bytes.len() as u64;
                 self.given += 1;
-                *buffer = bytes;
+                refill(buffer, bytes);
                 Ok(Some(place))
             }
             Ok(None) => Ok(None),

@@ -1,4 +1,5 @@
-use Rattle.std.proofs.Common.{◌≡◌, List, ℕ, sym, ◌∙◌, subst}
+use Rattle.std.proofs.Common.{arith, ◌≡◌, List, ℕ, sym, ◌∙◌, subst}
+use Rattle.std.proofs.lemmas.Grind.{common_steps}
 use Rattle.exam_edge.specs.Images.{Account, latest, Grows, IsSettled}
 use Rattle.answer_journal.proofs.appending.sync_and_read_gate.Goals as goal
 
@@ -32,3 +33,6 @@ returns-else-count-eq1-clause-settled g c = λ told.
     let same : c2 ≡ g.D.Disk.content c.args.disk.now = c.read.ensures.content told1 ∙ c.sync.ensures.content told in
     subst (λ (l : List Account). IsSettled c2 l) (sym (c.read.ensures.crash told1))
     (subst (λ (f : List ℕ). IsSettled f (g.D.Disk.accounts c.sync.new.self)) (sym same) (c.in_ok-sync.ensures.settled told))
+
+pub returns-then-count-eq1-clause-gate : goal.returns-then-count-eq1-clause-gate
+returns-then-count-eq1-clause-gate g c = grind (arith, common_steps)
