@@ -1,5 +1,6 @@
 //! The lines that a drill prints.
 
+use crate::equal::is_equal;
 use exam_drill::drill_line;
 use exam_lines::summary_line;
 use history_model::Summary;
@@ -19,10 +20,11 @@ fn lines_of_a_drill(rt: HostRuntime) -> Result<(), Fail> {
     let line = summary_line(rt.alloc(), &summary)?;
     let text =
         "entries 64 sessions 2 finished 1 proved 30 unproved 3 aside 4 nodes 18446744073709551615\n";
-    assert_eq!(rt; line.as_str(), text);
-    assert_eq!(rt;
-        drill_line(rt.alloc(), 4_294_967_295, 200)?.as_str(),
-        "drill 4294967295 sessions 200\n"
+    is_equal(&rt, &line.as_str(), &text);
+    is_equal(
+        &rt,
+        &drill_line(rt.alloc(), 4_294_967_295, 200)?.as_str(),
+        &"drill 4294967295 sessions 200\n",
     );
     Ok(())
 }

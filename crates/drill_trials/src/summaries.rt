@@ -2,6 +2,7 @@
 
 ghost use Rattle.std.specs.Prelude.{◌≤◌};
 
+use crate::equal::is_equal;
 use exam_drill::run_drill;
 use history_model::Summary;
 use std::alloc::Global;
@@ -22,13 +23,13 @@ fn summary_of(rt: &HostRuntime, number: u32, sessions: u32) -> Result<Summary, F
 #[test]
 fn two_sessions(rt: HostRuntime) -> Result<(), Fail> {
     let summary = summary_of(&rt, 7, 2)?;
-    assert_eq!(rt; summary.entries, 64);
-    assert_eq!(rt; summary.sessions, 2);
-    assert_eq!(rt; summary.finished, 2);
-    assert_eq!(rt; summary.proved.wrapping_add(summary.unproved), 31);
-    assert_eq!(rt; summary.aside, 0);
+    is_equal(&rt, &summary.entries, &64);
+    is_equal(&rt, &summary.sessions, &2);
+    is_equal(&rt, &summary.finished, &2);
+    is_equal(&rt, &summary.proved.wrapping_add(summary.unproved), &31);
+    is_equal(&rt, &summary.aside, &0);
     let again = summary_of(&rt, 7, 2)?;
-    assert_eq!(rt; again, summary);
+    is_equal(&rt, &again, &summary);
     Ok(())
 }
 
@@ -37,10 +38,10 @@ fn two_sessions(rt: HostRuntime) -> Result<(), Fail> {
 #[test]
 fn ten_sessions(rt: HostRuntime) -> Result<(), Fail> {
     let summary = summary_of(&rt, 1, 10)?;
-    assert_eq!(rt; summary.entries, 392);
-    assert_eq!(rt; summary.sessions, 10);
-    assert_eq!(rt; summary.finished, 10);
-    assert_eq!(rt; summary.proved.wrapping_add(summary.unproved), 191);
-    assert_eq!(rt; summary.aside, 0);
+    is_equal(&rt, &summary.entries, &392);
+    is_equal(&rt, &summary.sessions, &10);
+    is_equal(&rt, &summary.finished, &10);
+    is_equal(&rt, &summary.proved.wrapping_add(summary.unproved), &191);
+    is_equal(&rt, &summary.aside, &0);
     Ok(())
 }

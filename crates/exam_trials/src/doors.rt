@@ -4,6 +4,7 @@ ghost use Rattle.std.specs.Prelude.{◌≡◌, ◌≤◌, false, vec_len, IfOk};
 ghost use Rattle.std.specs.List.{All};
 ghost use Rattle.exam_edge.specs.MemoryDoor.{out_of};
 
+use crate::equal::{are_equal, is_equal};
 use crate::outcome::{CALM, Given, REPLAY, SERVE, tools_of, words_of};
 use crate::texts::{LINES_A, SCRIPT_A};
 use command_line::{Command, command_of};
@@ -82,7 +83,7 @@ fn serves<R: Abort + AllocGlobal + Threads + Wait + Sync>(
     };
     let finish = run(rt, alloc, &words, world);
     assert!(rt; finish.out.bytes().starts_with(front.as_bytes()));
-    assert_eq!(rt; finish.status, status);
+    is_equal(rt, &finish.status, &status);
     Ok(())
 }
 
@@ -156,7 +157,7 @@ fn a_session_of_bank_a_alone(rt: HostRuntime) -> Result<(), Fail> {
         return Err(Fail::from("a server"));
     }
     let (status, tools) = run_alone(alloc, &words, tools);
-    assert_eq!(rt; tools.out.bytes(), LINES_A.as_bytes());
-    assert_eq!(rt; status, 0);
+    are_equal(&rt, tools.out.bytes(), LINES_A.as_bytes());
+    is_equal(&rt, &status, &0);
     Ok(())
 }

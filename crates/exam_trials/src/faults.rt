@@ -1,5 +1,6 @@
 //! Each call that fails, in turn, until a run of the worked session ends with status 0.
 
+use crate::equal::{are_equal, is_equal};
 use crate::outcome::{CALM, Given, REPLAY, Ran, outcome};
 use crate::texts::{LINES_A, SCRIPT_A};
 use std::alloc::{AllocError, AllocGlobal};
@@ -19,7 +20,7 @@ fn session<R: AllocGlobal + Threads + Wait + Sync>(
 
 /// The run ended with this status, and printed a beginning of the whole session's lines and then this line.
 fn stops<R: Abort>(rt: &R, ran: &Ran, status: u8, line: &[u8]) {
-    assert_eq!(rt; ran.status, status);
+    is_equal(rt, &ran.status, &status);
     assert!(rt; ran.text.ends_with(line));
     let lines = ran.text.len().saturating_sub(line.len());
     let printed = ran.text.iter().take(lines);
@@ -28,12 +29,12 @@ fn stops<R: Abort>(rt: &R, ran: &Ran, status: u8, line: &[u8]) {
 
 /// This call is the first that no run of the session makes.
 fn is_after_the_last<R: Abort>(rt: &R, call: u64, calls: u64) {
-    assert_eq!(rt; call, calls);
+    is_equal(rt, &call, &calls);
 }
 
 /// The journal has these bytes.
 fn leaves<R: Abort>(rt: &R, ran: &Ran, journal: &[u8]) {
-    assert_eq!(rt; ran.journal.as_slice(), journal);
+    are_equal(rt, ran.journal.as_slice(), journal);
 }
 
 /// Each text is read by two calls.
@@ -78,15 +79,16 @@ fn each_failing_call_of_the_sink(rt: HostRuntime) -> Result<(), Fail> {
 fn a_full_sink_keeps_the_journal(rt: HostRuntime) -> Result<(), Fail> {
     let given = Given { sink: &[0], ..CALM };
     let ran = outcome(&rt, &REPLAY, &[BANK_A, PLAN_A, "begin 70\n"], &given)?;
-    assert_eq!(rt; ran.status, 8);
+    is_equal(&rt, &ran.status, &8);
     let kept = Given {
         journal: &ran.journal,
         ..CALM
     };
     let again = outcome(&rt, &REPLAY, &[BANK_A, PLAN_A, "look 0\n"], &kept)?;
-    assert_eq!(rt;
+    are_equal(
+        &rt,
         again.text.as_slice(),
-        b"session 0 step 0 item 2 proved\n".as_slice()
+        b"session 0 step 0 item 2 proved\n".as_slice(),
     );
     leaves(&rt, &again, &ran.journal);
     Ok(())
@@ -103,7 +105,7 @@ fn goes_on<R: Abort + AllocGlobal + Threads + Wait + Sync>(
         ..CALM
     };
     let again = session(rt, &given)?;
-    assert_eq!(rt; again.status, 0);
+    is_equal(rt, &again.status, &0);
     assert!(rt; again.text.ends_with(b"session 0 complete\n"));
     leaves(rt, &again, &whole.journal);
     Ok(())

@@ -2,6 +2,7 @@
 
 ghost use Rattle.std.specs.Prelude.{◌≤◌, length};
 
+use crate::equal::{are_equal, is_equal};
 use crate::outcome::{CALM, Given, REPLAY, Ran, outcome};
 use crate::texts::SCRIPT_A;
 use std::alloc::{AllocError, AllocGlobal};
@@ -23,9 +24,9 @@ fn replayed<R: AllocGlobal + Threads + Wait + Sync>(
 
 /// The run ended with this status, printed this text and left this journal.
 fn ends<R: Abort>(rt: &R, ran: &Ran, status: u8, text: &[u8], journal: &[u8]) {
-    assert_eq!(rt; ran.text.as_slice(), text);
-    assert_eq!(rt; ran.status, status);
-    assert_eq!(rt; ran.journal.as_slice(), journal);
+    are_equal(rt, ran.text.as_slice(), text);
+    is_equal(rt, &ran.status, &status);
+    are_equal(rt, ran.journal.as_slice(), journal);
 }
 
 /// The length of the payload after a gate: the four bytes there, the most significant first.

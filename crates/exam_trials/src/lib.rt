@@ -8,6 +8,8 @@ mod bank_l;
 #[cfg(test)]
 mod doors;
 #[cfg(test)]
+mod equal;
+#[cfg(test)]
 mod faults;
 #[cfg(test)]
 mod journals;

@@ -1,5 +1,6 @@
 //! The program over files, a sink and a disk in memory.
 
+use crate::equal::{are_equal, is_equal};
 use exam_edge::{MemoryDisk, MemoryDoor, MemoryFiles, MemorySink, OpenGate};
 use exam_program::{Tools, World, run};
 use std::alloc::{AllocError, AllocGlobal, Global};
@@ -113,8 +114,8 @@ pub fn prints<R: Abort + AllocGlobal + Threads + Wait + Sync>(
     text: &str,
 ) -> Result<(), Fail> {
     let ran = outcome(rt, words, texts, &CALM)?;
-    assert_eq!(rt; ran.text.as_slice(), text.as_bytes());
-    assert_eq!(rt; ran.status, status);
+    are_equal(rt, ran.text.as_slice(), text.as_bytes());
+    is_equal(rt, &ran.status, &status);
     Ok(())
 }
 
@@ -128,7 +129,7 @@ pub fn begins<R: Abort + AllocGlobal + Threads + Wait + Sync>(
 ) -> Result<(), Fail> {
     let ran = outcome(rt, words, texts, &CALM)?;
     assert!(rt; ran.text.starts_with(front.as_bytes()));
-    assert_eq!(rt; ran.status, status);
+    is_equal(rt, &ran.status, &status);
     Ok(())
 }
 
@@ -147,7 +148,7 @@ pub fn goes_on<R: Abort + AllocGlobal + Threads + Wait + Sync>(
         disk: &[],
     };
     let again = outcome(rt, &REPLAY, second, &given)?;
-    assert_eq!(rt; again.text.as_slice(), text.as_bytes());
-    assert_eq!(rt; again.status, 0);
+    are_equal(rt, again.text.as_slice(), text.as_bytes());
+    is_equal(rt, &again.status, &0);
     Ok(())
 }

@@ -1,5 +1,6 @@
 //! The statuses with their texts.
 
+use crate::equal::{are_equal, is_equal};
 use crate::outcome::{ASSEMBLE, CHECK, Given, REPLAY, begins, outcome, prints};
 use crate::texts::{BANK_E, BANK_ODD, SCRIPT_A};
 use std::alloc::{AllocError, Global};
@@ -110,9 +111,9 @@ fn refused_journals(rt: HostRuntime) -> Result<(), Fail> {
             disk: &[],
         };
         let ran = outcome(&rt, &REPLAY, &[BANK_A, PLAN_A, SCRIPT_A], &given)?;
-        assert_eq!(rt; ran.text.as_slice(), text.as_bytes());
-        assert_eq!(rt; ran.status, 6);
-        assert_eq!(rt; ran.journal.as_slice(), journal.as_bytes());
+        are_equal(&rt, ran.text.as_slice(), text.as_bytes());
+        is_equal(&rt, &ran.status, &6);
+        are_equal(&rt, ran.journal.as_slice(), journal.as_bytes());
     }
     Ok(())
 }

@@ -3,6 +3,7 @@
 
 ghost use Rattle.exam_model.specs.Validity.{IsPlanFor};
 
+use crate::equal::{are_equal, is_equal};
 use crate::worked::{
     ALL, FIRST_BEST, SECOND_BEST, answered, closed, plan, served, set_aside, started, tree_of,
 };
@@ -100,26 +101,26 @@ fn after_a_serving(rt: HostRuntime) -> Result<(), Fail> {
         proved: true,
     };
     let found = reason_then(rt.alloc(), started(2, 71, &ALL))?;
-    assert_eq!(rt; found, Some(Illegal::NotNumber(1)));
+    is_equal(&rt, &found, &Some(Illegal::NotNumber(1)));
     let found = reason_then(rt.alloc(), started(1, 70, &ALL))?;
-    assert_eq!(rt; found, Some(Illegal::Booked(0)));
+    is_equal(&rt, &found, &Some(Illegal::Booked(0)));
     let found = reason_then(rt.alloc(), answered(0, 1, 0))?;
-    assert_eq!(rt; found, Some(Illegal::NotWaiting(waiting)));
+    is_equal(&rt, &found, &Some(Illegal::NotWaiting(waiting)));
     Ok(())
 }
 
 #[test]
 fn a_response_after_a_serving(rt: HostRuntime) -> Result<(), Fail> {
     let found = reason_then(rt.alloc(), answered(0, 0, 2))?;
-    assert_eq!(rt; found, Some(Illegal::BadResponse(2)));
+    is_equal(&rt, &found, &Some(Illegal::BadResponse(2)));
     Ok(())
 }
 
 #[test]
 fn closing_after_a_serving(rt: HostRuntime) -> Result<(), Fail> {
     let found = reason_then(rt.alloc(), closed(5))?;
-    assert_eq!(rt; found, Some(Illegal::NoSession(1)));
-    assert_eq!(rt; reason_then(rt.alloc(), closed(0))?, None);
+    is_equal(&rt, &found, &Some(Illegal::NoSession(1)));
+    is_equal(&rt, &reason_then(rt.alloc(), closed(0))?, &None);
     Ok(())
 }
 
@@ -133,13 +134,13 @@ fn start_reason(alloc: Global, booking: u64, items: &[u16]) -> Result<Option<Ill
 #[test]
 fn reasons_of_a_start(rt: HostRuntime) -> Result<(), Fail> {
     let found = reason(rt.alloc(), 2_001, &[], &started(1, 70, &ALL))?;
-    assert_eq!(rt; found, Some(Illegal::NotNumber(0)));
+    is_equal(&rt, &found, &Some(Illegal::NotNumber(0)));
     let found = start_reason(rt.alloc(), 70, &ALL)?;
-    assert_eq!(rt; found, Some(Illegal::Booked(0)));
+    is_equal(&rt, &found, &Some(Illegal::Booked(0)));
     let found = start_reason(rt.alloc(), 71, &[0, 1, 2, 4, 5])?;
-    assert_eq!(rt; found, Some(Illegal::NotDrawn(3)));
+    is_equal(&rt, &found, &Some(Illegal::NotDrawn(3)));
     let found = start_reason(rt.alloc(), 71, &[0, 1, 2, 3, 4, 5, 6])?;
-    assert_eq!(rt; found, Some(Illegal::NotDrawn(6)));
+    is_equal(&rt, &found, &Some(Illegal::NotDrawn(6)));
     Ok(())
 }
 
@@ -154,12 +155,12 @@ fn reason_aside(alloc: Global, rec: Record) -> Result<Option<Illegal>, Fail> {
 fn reasons_of_setting_aside(rt: HostRuntime) -> Result<(), Fail> {
     let alloc = rt.alloc();
     let found = reason_aside(alloc, set_aside(alloc, 1)?)?;
-    assert_eq!(rt; found, Some(Illegal::NoSession(1)));
+    is_equal(&rt, &found, &Some(Illegal::NoSession(1)));
     let late = served(alloc, 0, (1, 2), &[1, 2, 3], &FIRST_BEST)?;
     let found = reason_aside(alloc, late)?;
-    assert_eq!(rt; found, Some(Illegal::NotPending(Place::Pending(0))));
+    is_equal(&rt, &found, &Some(Illegal::NotPending(Place::Pending(0))));
     let found = reason_aside(alloc, set_aside(alloc, 0)?)?;
-    assert_eq!(rt; found, Some(Illegal::IsAside));
+    is_equal(&rt, &found, &Some(Illegal::IsAside));
     Ok(())
 }
 
@@ -184,14 +185,14 @@ fn serving_reason(
 #[test]
 fn reasons_of_a_serving(rt: HostRuntime) -> Result<(), Fail> {
     let found = serving_reason(rt.alloc(), 2, &[0, 1, 2], &FIRST_BEST)?;
-    assert_eq!(rt; found, Some(Illegal::NotForm(Breach::Row(0, 2))));
+    is_equal(&rt, &found, &Some(Illegal::NotForm(Breach::Row(0, 2))));
     let found = serving_reason(rt.alloc(), 1, &[1, 2, 3], &FIRST_BEST)?;
-    assert_eq!(rt; found, Some(Illegal::NotItem(2)));
+    is_equal(&rt, &found, &Some(Illegal::NotItem(2)));
     let found = serving_reason(rt.alloc(), 2, &[1, 2, 3], &[])?;
-    assert_eq!(rt; found, Some(Illegal::NotSpent(1)));
+    is_equal(&rt, &found, &Some(Illegal::NotSpent(1)));
     let found = serving_reason(rt.alloc(), 2, &[1, 2, 3], &TOO_HIGH)?;
     let not_closed = Verdict::Bad(0, Reason::NotClosed);
-    assert_eq!(rt; found, Some(Illegal::Tree(not_closed)));
+    is_equal(&rt, &found, &Some(Illegal::Tree(not_closed)));
     Ok(())
 }
 
@@ -213,13 +214,13 @@ fn reason_over(alloc: Global, rec: Record) -> Result<Option<Illegal>, Fail> {
 #[test]
 fn reasons_of_an_answer(rt: HostRuntime) -> Result<(), Fail> {
     let found = reason_begun(rt.alloc(), answered_with_tree(rt.alloc())?)?;
-    assert_eq!(rt; found, Some(Illegal::NotSpent(0)));
+    is_equal(&rt, &found, &Some(Illegal::NotSpent(0)));
     let found = reason_begun(rt.alloc(), answered(0, 0, 1))?;
-    assert_eq!(rt; found, Some(Illegal::NotWaiting(Place::Pending(0))));
+    is_equal(&rt, &found, &Some(Illegal::NotWaiting(Place::Pending(0))));
     let found = reason_then(rt.alloc(), answered(0, 0, 2))?;
-    assert_eq!(rt; found, Some(Illegal::BadResponse(2)));
+    is_equal(&rt, &found, &Some(Illegal::BadResponse(2)));
     let found = reason_over(rt.alloc(), closed(0))?;
-    assert_eq!(rt; found, Some(Illegal::Ended(Place::Closed)));
+    is_equal(&rt, &found, &Some(Illegal::Ended(Place::Closed)));
     Ok(())
 }
 
@@ -275,10 +276,10 @@ fn one_closed(alloc: Global) -> Result<Vec<Record>, Fail> {
 fn counts_of_a_closed_session(rt: HostRuntime) -> Result<(), Fail> {
     let alloc = rt.alloc();
     let before = counts_after(alloc, &two_sessions(alloc)?)?;
-    assert_eq!(rt; before.as_slice(), [(0, 0); 6].as_slice());
+    are_equal(&rt, before.as_slice(), &[(0, 0); 6]);
     let after = counts_after(alloc, &one_closed(alloc)?)?;
     let expected = [(0, 1), (0, 1), (1, 1), (0, 1), (0, 1), (0, 1)];
-    assert_eq!(rt; after.as_slice(), expected.as_slice());
+    are_equal(&rt, after.as_slice(), expected.as_slice());
     Ok(())
 }
 
@@ -361,6 +362,6 @@ fn what_a_book_tells(rt: HostRuntime) -> Result<(), Fail> {
         places: (Some(waiting), None),
         seat: Some(seat_told()),
     };
-    assert_eq!(rt; what_is_told(alloc, &two_sessions(alloc)?)?, expected);
+    is_equal(&rt, &what_is_told(alloc, &two_sessions(alloc)?)?, &expected);
     Ok(())
 }

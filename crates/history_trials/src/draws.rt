@@ -1,5 +1,6 @@
 //! The draw of eligible items: the inequality at its edge, and the words of ChaCha20 with the key of zeros.
 
+use crate::equal::is_equal;
 use eligibility_draw::{admits, draw};
 use exam_model::Rate;
 use exposure_counters::Counters;
@@ -78,6 +79,6 @@ fn four_sessions(alloc: Global) -> Result<Counters, Fail> {
 fn a_draw_at_one_half(rt: HostRuntime) -> Result<(), Fail> {
     let counters = four_sessions(rt.alloc())?;
     let eligible = draw(&[0; 32], Rate { num: 1, den: 2 }, 0, &counters);
-    assert_eq!(rt; eligible, set_of(&[3, 5]));
+    is_equal(&rt, &eligible, &set_of(&[3, 5]));
     Ok(())
 }

@@ -8,6 +8,8 @@ mod books;
 #[cfg(test)]
 mod draws;
 #[cfg(test)]
+mod equal;
+#[cfg(test)]
 mod many;
 #[cfg(test)]
 mod records;

@@ -3,6 +3,7 @@
 ghost use Rattle.exam_model.specs.Validity.{IsPlanFor};
 
 use crate::books::{counts_of, take};
+use crate::equal::{are_equal, is_equal};
 use crate::worked::{answered, served, started};
 use bank_tables::Bank;
 use constraint_model::{Draft, Spec};
@@ -54,14 +55,14 @@ fn take_sessions(book: &mut Book, alloc: Global) -> Result<(), Fail> {
 
 /// It has three entries of each session, and knows the session of a booking.
 fn shows_sessions<R: Abort>(rt: &R, book: &Book) {
-    assert_eq!(rt; book.entries(), 30_000);
-    assert_eq!(rt; book.booked(7_308), Some(5_000));
+    is_equal(rt, &book.entries(), &30_000);
+    is_equal(rt, &book.booked(7_308), &Some(5_000));
 }
 
 /// The item was eligible and shown in each session.
 fn shows_counts<R: Abort>(rt: &R, alloc: Global, book: &Book) -> Result<(), Fail> {
     let counts = counts_of(alloc, book.counters())?;
-    assert_eq!(rt; counts.as_slice(), [(10_000, 10_000)].as_slice());
+    are_equal(rt, counts.as_slice(), &[(10_000, 10_000)]);
     Ok(())
 }
 

@@ -2,6 +2,7 @@
 
 ghost use Rattle.exam_records.specs.Shape.{GoesWith};
 
+use crate::equal::{are_equal, is_equal};
 use crate::worked::{ALL, FIRST_BEST};
 use exam_records::{Entry, Record, RecordFault, decode, encode};
 use std::alloc::{AllocError, Global};
@@ -34,9 +35,9 @@ fn served(alloc: Global, mark: u8, nodes: u8) -> Result<Vec<u8>, AllocError> {
     payload(alloc, &SERVED, 0x0e, &rest)
 }
 
-/// The record has this entry. Each comparison is a function of its own, since a test with many of them is dear to prove.
+/// The record has this entry.
 fn has_entry<R: Abort>(rt: &R, rec: &Record, entry: Entry) {
-    assert_eq!(rt; rec.entry, entry);
+    is_equal(rt, &rec.entry, &entry);
 }
 
 /// The record is spelled with these bytes.
@@ -44,7 +45,7 @@ fn is_spelled<R: Abort>(rt: &R, alloc: Global, rec: &Record, bytes: &[u8]) -> Re
     requires { GoesWith rec.now.entry rec.now.tree }
 {
     let found = encode(alloc, rec)?;
-    assert_eq!(rt; found.as_slice(), bytes);
+    are_equal(rt, found.as_slice(), bytes);
     Ok(())
 }
 
@@ -54,7 +55,7 @@ fn has_tree<R: Abort>(rt: &R, alloc: Global, rec: &Record, bytes: &[u8]) -> Resu
         return Err(Fail::from("a tree"));
     };
     let found = proof_tree::encode(alloc, tree)?;
-    assert_eq!(rt; found.as_slice(), bytes);
+    are_equal(rt, found.as_slice(), bytes);
     Ok(())
 }
 
@@ -87,7 +88,7 @@ fn faults(rt: HostRuntime) -> Result<(), Fail> {
         (&nodes, RecordFault::Field(74)),
     ];
     for (bytes, fault) in cases {
-        assert_eq!(rt; decode(alloc, bytes).err(), Some(fault));
+        is_equal(&rt, &decode(alloc, bytes).err(), &Some(fault));
     }
     Ok(())
 }
@@ -110,7 +111,7 @@ fn a_start(rt: HostRuntime) -> Result<(), Fail> {
 fn a_serving(rt: HostRuntime) -> Result<(), Fail> {
     let alloc = rt.alloc();
     let spelled = served(alloc, 1, 1)?;
-    assert_eq!(rt; spelled.len(), 87);
+    is_equal(&rt, &spelled.len(), &87);
     let rec = decode(alloc, &spelled)?;
     let entry = Entry::Served {
         session: 0,

@@ -1,5 +1,6 @@
 //! Hostile messages.
 
+use crate::equal::is_equal;
 use crate::exchanges::{LAST, NO_COUNTS, push_response};
 use crate::office::{Cutting, serve_bytes};
 use exam_http::Ended;
@@ -60,8 +61,8 @@ fn expect<R: Wait + Sync + Abort>(rt: &R, alloc: Global, row: &Row<'_>) -> Resul
         push_response(alloc, &mut text, status, body, !goes_on)?;
     }
     let alone = serve_bytes(rt, alloc, row.message.as_bytes(), None, &[])?;
-    assert_eq!(rt; alone.text.as_str(), text.as_str());
-    assert_eq!(rt; alone.ended, row.ended);
+    is_equal(rt, &alone.text.as_str(), &text.as_str());
+    is_equal(rt, &alone.ended, &row.ended);
     if row.response.is_some() {
         if goes_on {
             push_response(alloc, &mut text, "200 OK", NO_COUNTS, true)?;
@@ -72,8 +73,8 @@ fn expect<R: Wait + Sync + Abort>(rt: &R, alloc: Global, row: &Row<'_>) -> Resul
             seed: 4,
         };
         let both = serve_bytes(rt, alloc, sent.as_bytes(), Some(cutting), &[])?;
-        assert_eq!(rt; both.text.as_str(), text.as_str());
-        assert_eq!(rt; both.ended, row.ended);
+        is_equal(rt, &both.text.as_str(), &text.as_str());
+        is_equal(rt, &both.ended, &row.ended);
     }
     Ok(())
 }
@@ -101,7 +102,7 @@ fn repeated(alloc: Global, start: &str, text: &str, times: u16) -> Result<String
 fn heads_too_long(rt: HostRuntime) -> Result<(), Fail> {
     let alloc = rt.alloc();
     let long = repeated(alloc, "GET / HTTP/1.1\r\n", "a", 8176)?;
-    assert_eq!(rt; long.len(), 8192);
+    is_equal(&rt, &long.len(), &8192);
     let row = Row {
         message: long.as_str(),
         response: Some(("413 Payload Too Large", "{\"error\":\"too-long\"}")),

@@ -1,5 +1,6 @@
 //! Whole exchanges: in any pieces, and over a link that fails.
 
+use crate::equal::is_equal;
 use crate::exchanges::{
     Exchange, a_body_too_long, a_head_cut_off, a_message_of_version_1_0, eight_messages,
 };
@@ -30,8 +31,8 @@ const CUTTINGS: [Option<Cutting>; 5] = [
 fn expect<R: Wait + Sync + Abort>(rt: &R, alloc: Global, exchange: &Exchange) -> Result<(), Fail> {
     for cutting in CUTTINGS {
         let got = serve_bytes(rt, alloc, exchange.sent.as_bytes(), cutting, &[])?;
-        assert_eq!(rt; got.text.as_str(), exchange.text.as_str());
-        assert_eq!(rt; got.ended, exchange.ended);
+        is_equal(rt, &got.text.as_str(), &exchange.text.as_str());
+        is_equal(rt, &got.ended, &exchange.ended);
     }
     Ok(())
 }
@@ -58,8 +59,8 @@ fn beginnings<R: Wait + Sync + Abort>(
     for call in 0..1000u64 {
         let got = serve_bytes(rt, alloc, exchange.sent.as_bytes(), cutting, &[call])?;
         if got.ended != Ended::Link {
-            assert_eq!(rt; got.text.as_str(), exchange.text.as_str());
-            assert_eq!(rt; got.ended, exchange.ended);
+            is_equal(rt, &got.text.as_str(), &exchange.text.as_str());
+            is_equal(rt, &got.ended, &exchange.ended);
             return Ok(lengths.len());
         }
         assert!(rt; exchange.text.starts_with(got.text.as_str()), "call {call}");
@@ -76,9 +77,9 @@ fn beginnings<R: Wait + Sync + Abort>(
 fn each_call_of_the_link_fails(rt: HostRuntime) -> Result<(), Fail> {
     let alloc = rt.alloc();
     let eight = eight_messages(alloc)?;
-    assert_eq!(rt; beginnings(&rt, alloc, &eight, None)?, 8);
+    is_equal(&rt, &beginnings(&rt, alloc, &eight, None)?, &8);
     let cut_off = a_head_cut_off(alloc)?;
     let found = beginnings(&rt, alloc, &cut_off, Some(BYTE_BY_BYTE))?;
-    assert_eq!(rt; found, cut_off.text.len() + 1);
+    is_equal(&rt, &found, &(cut_off.text.len() + 1));
     Ok(())
 }

@@ -1,47 +1,46 @@
 //! What is found beside what is expected.
-//!
-//! Each comparison is a function of its own, since a test with many of them is dear to prove.
 
 use crate::counted_disk::Count;
+use crate::equal::{are_equal, is_equal};
 use crate::outcome::{After, Found, Outcome, Reply};
 use exam_office::{OpenFault, Summary};
 use std::process::Abort;
 
 /// The calls gave these replies, and the history has so many entries after them.
 pub(crate) fn shows<R: Abort>(rt: &R, found: &Found, replies: &[Reply], entries: u64) {
-    assert_eq!(rt; found.replies.as_slice(), replies);
-    assert_eq!(rt; found.summary.entries, entries);
+    are_equal(rt, found.replies.as_slice(), replies);
+    is_equal(rt, &found.summary.entries, &entries);
 }
 
 /// The call of this number gave this reply.
 pub(crate) fn replies_at<R: Abort>(rt: &R, found: &Found, at: usize, reply: Reply) {
-    assert_eq!(rt; found.replies.get(at), Some(&reply));
+    is_equal(rt, &found.replies.get(at), &Some(&reply));
 }
 
 /// The file has these bytes.
 pub(crate) fn leaves<R: Abort>(rt: &R, left: &[u8], bytes: &[u8]) {
-    assert_eq!(rt; left, bytes);
+    are_equal(rt, left, bytes);
 }
 
 /// So many calls of the disk were made, and so many of them failed.
 pub(crate) fn counts<R: Abort>(rt: &R, count: Count, calls: u64, faults: u64) {
-    assert_eq!(rt; count, Count { calls, faults });
+    is_equal(rt, &count, &Count { calls, faults });
 }
 
 /// So many calls of the disk failed.
 pub(crate) fn fails<R: Abort>(rt: &R, count: Count, faults: u64) {
-    assert_eq!(rt; count.faults, faults);
+    is_equal(rt, &count.faults, &faults);
 }
 
 /// The history has this summary.
 pub(crate) fn sums_up<R: Abort>(rt: &R, found: &Summary, summary: &Summary) {
-    assert_eq!(rt; found, summary);
+    is_equal(rt, found, summary);
 }
 
 /// Each item was shown and was eligible in so many finished sessions.
 pub(crate) fn exposes<R: Abort>(rt: &R, found: &Found, shown: &[u32], eligible: &[u32]) {
-    assert_eq!(rt; found.shown.as_slice(), shown);
-    assert_eq!(rt; found.eligible.as_slice(), eligible);
+    are_equal(rt, found.shown.as_slice(), shown);
+    are_equal(rt, found.eligible.as_slice(), eligible);
 }
 
 /// The history, the file and the count of the disk's calls are the same.
@@ -61,6 +60,6 @@ fn fault_of(outcome: &Outcome) -> Option<OpenFault> {
 
 /// The file was refused with this fault, or opened where there is none, and has these bytes then.
 pub(crate) fn ends<R: Abort>(rt: &R, outcome: &Outcome, fault: Option<OpenFault>, bytes: &[u8]) {
-    assert_eq!(rt; fault_of(outcome), fault);
-    assert_eq!(rt; outcome.bytes.as_slice(), bytes);
+    is_equal(rt, &fault_of(outcome), &fault);
+    are_equal(rt, outcome.bytes.as_slice(), bytes);
 }

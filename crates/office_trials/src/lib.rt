@@ -10,6 +10,8 @@ mod counted_disk;
 #[cfg(test)]
 mod crashes;
 #[cfg(test)]
+mod equal;
+#[cfg(test)]
 mod expected;
 #[cfg(test)]
 mod failures;

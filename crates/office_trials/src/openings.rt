@@ -1,5 +1,6 @@
 //! Files that an office opens, and each fault of one.
 
+use crate::equal::is_equal;
 use crate::expected::{counts, ends, leaves};
 use crate::files::{
     BEST, TOO_HIGH, empty_journal, journal, second_journal, served, served_journal, started,
@@ -15,7 +16,7 @@ use std::test::Fail;
 
 /// One item was served from a form that a tree of one node proves best.
 fn is_proved_by_one_node<R: Abort>(rt: &R, summary: &Summary) {
-    assert_eq!(rt; (summary.proved, summary.nodes), (1, 1));
+    is_equal(rt, &(summary.proved, summary.nodes), &(1, 1));
 }
 
 /// The tree shows a bound of 6,143, and 256 * 23 + 255 is 6,143. So the mark is believed.
@@ -43,7 +44,7 @@ fn opens_as_empty<R: Abort>(rt: &R, alloc: Global, bytes: &[u8]) -> Result<(), F
 fn files_of_no_record(rt: HostRuntime) -> Result<(), Fail> {
     let alloc = rt.alloc();
     let empty = empty_journal(alloc)?;
-    assert_eq!(rt; empty.len(), 9);
+    is_equal(&rt, &empty.len(), &9);
     opens_as_empty(&rt, alloc, &[])?;
     opens_as_empty(&rt, alloc, &[1, 2, 3, 4, 5, 6, 7, 8, 9])?;
     opens_as_empty(&rt, alloc, &empty)

@@ -1,5 +1,6 @@
 //! Whole sessions, and the exposure counts after them.
 
+use crate::equal::is_equal;
 use crate::expected::{counts, exposes, leaves, sums_up};
 use crate::outcome::{Call, Found, Numbers, Reply, WORKED, asked, begun, gives, waiting};
 use exam_model::Rate;
@@ -103,7 +104,7 @@ fn finishes<R: Abort>(
 ) -> Result<(), Fail> {
     let asked = asked(alloc, &WORKED, &[], &[], calls)?;
     exposes(rt, &asked.found, shown, eligible);
-    assert_eq!(rt; asked.found.summary.finished, finished);
+    is_equal(rt, &asked.found.summary.finished, &finished);
     Ok(())
 }
 
@@ -153,7 +154,7 @@ fn replies_of_two_more() -> [Reply; 11] {
 
 /// Each call gave its reply, from the call of this number on.
 fn replies_from<R: Abort>(rt: &R, found: &Found, first: usize, replies: &[Reply]) {
-    assert_eq!(rt; found.replies.get(first..), Some(replies));
+    is_equal(rt, &found.replies.get(first..), &Some(replies));
 }
 
 /// The file opens as this history.

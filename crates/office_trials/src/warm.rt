@@ -3,6 +3,7 @@
 ghost use Rattle.exam_model.specs.Validity.{IsPlanFor};
 
 use crate::cases::opening_calls;
+use crate::equal::{are_equal, is_equal};
 use crate::files::{served_journal, started_journal};
 use crate::outcome::{WORKED, draft};
 use crate::serving::serve;
@@ -11,7 +12,6 @@ use constraint_model::Spec;
 use exam_edge::{Disk, MemoryDisk};
 use exam_office::{Office, Refusal};
 use std::alloc::Global;
-use std::process::Abort;
 use std::test::Fail;
 use trial_cases::bank_a;
 
@@ -107,18 +107,14 @@ const NO_SECOND: SessionVector = SessionVector::Refused(Refusal::NoSession(1));
 fn the_vector_of_a_journal(rt: HostRuntime) -> Result<(), Fail> {
     let alloc = rt.alloc();
     let found = answers(alloc, &served_journal(alloc)?, &[], false)?;
-    assert_eq!(rt;
-        found[0],
-        (SessionVector::Pairs(1, Some((3, 1))), NO_SECOND)
+    is_equal(
+        &rt,
+        &found[0],
+        &(SessionVector::Pairs(1, Some((3, 1))), NO_SECOND),
     );
     let started = answers(alloc, &started_journal(alloc)?, &[], false)?;
-    assert_eq!(rt; started[0], (SessionVector::Cold, NO_SECOND));
+    is_equal(&rt, &started[0], &(SessionVector::Cold, NO_SECOND));
     Ok(())
-}
-
-/// This was answered before, between and after.
-fn is_answered<R: Abort>(rt: &R, found: &[Both], expected: &[Both]) {
-    assert_eq!(rt; found, expected);
 }
 
 /// The first call of the disk that writes the record fails, and the record is dropped; or the last
@@ -131,11 +127,11 @@ fn the_vector_of_a_record_in_doubt(rt: HostRuntime) -> Result<(), Fail> {
     let whole = answers(alloc, &bytes, &[], true)?;
     let [_, _, after] = whole;
     assert_ne!(rt; after, cold);
-    is_answered(&rt, &whole, &[cold, after, after]);
+    are_equal(&rt, &whole, &[cold, after, after]);
     let first = opening_calls(1);
     let dropped = answers(alloc, &bytes, &[first], true)?;
-    is_answered(&rt, &dropped, &[cold; 3]);
+    are_equal(&rt, &dropped, &[cold; 3]);
     let kept = answers(alloc, &bytes, &[first.saturating_add(3)], true)?;
-    is_answered(&rt, &kept, &[cold, cold, after]);
+    are_equal(&rt, &kept, &[cold, cold, after]);
     Ok(())
 }

@@ -1,6 +1,7 @@
 //! Requests on bank A: the replies that were worked out by hand.
 
 use crate::answers::{Answered, Told, answers};
+use crate::equal::{are_equal, is_equal};
 use constraint_model::Rate;
 use exam_office::{Place, Refusal, Request};
 use std::alloc::Global;
@@ -33,22 +34,22 @@ const EVEN: Rate = Rate { num: 1, den: 1 };
 // The replies from the one of this number on. Each comparison is a function of its own, since a test with many of them
 // is dear to prove.
 fn tells<R: Abort>(rt: &R, answered: &Answered, first: usize, told: &[Told]) {
-    assert_eq!(rt; answered.replies.get(first..), Some(told));
+    is_equal(rt, &answered.replies.get(first..), &Some(told));
 }
 
 // The reply of this number.
 fn replies<R: Abort>(rt: &R, answered: &Answered, at: usize, told: Told) {
-    assert_eq!(rt; answered.replies.get(at), Some(&told));
+    is_equal(rt, &answered.replies.get(at), &Some(&told));
 }
 
 // The exposure counts that were asked for.
 fn counts<R: Abort>(rt: &R, answered: &Answered, expected: &[(u32, u32)]) {
-    assert_eq!(rt; answered.counts.as_slice(), expected);
+    are_equal(rt, answered.counts.as_slice(), expected);
 }
 
 // The length of the journal.
 fn is_long<R: Abort>(rt: &R, answered: &Answered, length: usize) {
-    assert_eq!(rt; answered.length, length);
+    is_equal(rt, &answered.length, &length);
 }
 
 // One session to its end. The same answer again, and the same booking again, add nothing.
@@ -235,8 +236,8 @@ fn the_journal_is_full(rt: HostRuntime) -> Result<(), Fail> {
 fn lacks_room<R: Abort>(rt: &R, answered: &Answered) {
     let first = answered.replies.get(0);
     assert!(rt; matches!(first, Some(Err(Refusal::JournalFull(_)))));
-    assert_eq!(rt; answered.replies.get(1), first);
-    assert_eq!(rt; answered.replies.get(2), first);
+    is_equal(rt, &answered.replies.get(1), &first);
+    is_equal(rt, &answered.replies.get(2), &first);
 }
 
 // At a limit of 91 bytes the session is started and not served.

@@ -2,6 +2,7 @@
 
 ghost use Rattle.exam_model.specs.Validity.{IsPlanFor};
 
+use crate::equal::{are_equal, is_equal};
 use crate::halls::{Told, ask_all, hall_over, office_of, plan_of, waiting};
 use bank_tables::Bank;
 use constraint_model::{Rate, Spec};
@@ -77,7 +78,7 @@ fn a_session_to_its_end(rt: HostRuntime) -> Result<(), Fail> {
         Err(Refusal::NoSession(1)),
         Ok((1, Place::Complete, false)),
     ];
-    assert_eq!(rt; replies.as_slice(), expected.as_slice());
+    are_equal(&rt, replies.as_slice(), expected.as_slice());
     Ok(())
 }
 
@@ -110,6 +111,6 @@ fn eligibility_is_set_aside(rt: HostRuntime) -> Result<(), Fail> {
         waiting(2, 0, 2, true),
         Ok((2, Place::Closed, false)),
     ];
-    assert_eq!(rt; replies.get(4..), Some(expected.as_slice()));
+    is_equal(&rt, &replies.get(4..), &Some(expected.as_slice()));
     Ok(())
 }

@@ -4,6 +4,7 @@ ghost use Rattle.std.specs.Prelude.{◌≡◌};
 ghost use Rattle.exam_model.specs.Validity.{IsPlanFor};
 ghost use Rattle.exam_hall.specs.Known.{IsOf};
 
+use crate::equal::is_equal;
 use crate::halls::{Told, hall_over, office_of, plan_of, told, waiting};
 use bank_tables::Bank;
 use constraint_model::{Rate, Spec};
@@ -176,7 +177,7 @@ fn one_is_held_while_the_other_is_answered(rt: HostRuntime) -> Result<(), Fail> 
     let gate = Hold::new();
     let (held, meanwhile) = replies_on_a(&rt, rt.alloc(), &gate)?;
     assert!(rt; !gate.given_up());
-    assert_eq!(rt; meanwhile, Some(waiting(1, 0, 2, true)));
-    assert_eq!(rt; held, Some(waiting(0, 0, 2, true)));
+    is_equal(&rt, &meanwhile, &Some(waiting(1, 0, 2, true)));
+    is_equal(&rt, &held, &Some(waiting(0, 0, 2, true)));
     Ok(())
 }

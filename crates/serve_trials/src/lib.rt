@@ -9,6 +9,8 @@ mod alone;
 #[cfg(test)]
 mod answers;
 #[cfg(test)]
+mod equal;
+#[cfg(test)]
 mod hall_requests;
 #[cfg(test)]
 mod halls;
