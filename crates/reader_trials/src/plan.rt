@@ -15,15 +15,28 @@ mod tests {
         PLAN_A, PLAN_E, PLAN_L, PLAN_Q, PLAN_S, bank_a, bank_e, bank_l, bank_q, bank_s,
     };
 
-    fn read(alloc: Global, bank: &Bank, text: &str) -> Result<Result<Spec, PlanFault>, AllocError> {
-        let bytes = text.as_bytes().to_vec(alloc)?;
-        let mut source = MemorySource::of(bytes, Vec::new(alloc));
+    // Reads a text from a source whose calls of these numbers fail.
+    fn read_failing(
+        alloc: Global,
+        bank: &Bank,
+        text: &[u8],
+        fails: Vec<u64>,
+    ) -> Result<Result<Spec, PlanFault>, AllocError> {
+        let mut source = MemorySource::of(text.to_vec(alloc)?, fails);
         Ok(read_plan(alloc, bank, &mut source))
+    }
+
+    fn read(
+        alloc: Global,
+        bank: &Bank,
+        text: &[u8],
+    ) -> Result<Result<Spec, PlanFault>, AllocError> {
+        read_failing(alloc, bank, text, Vec::new(alloc))
     }
 
     // The fault of a text over a bank, and over banks A, Q and S.
     fn fault_of(alloc: Global, bank: &Bank, text: &str) -> Result<Option<PlanFault>, Fail> {
-        Ok(read(alloc, bank, text)?.err())
+        Ok(read(alloc, bank, text.as_bytes())?.err())
     }
 
     fn fault_over_a(alloc: Global, text: &str) -> Result<Option<PlanFault>, Fail> {
@@ -51,23 +64,16 @@ mod tests {
     }
 
     // What the plan of a text is printed as.
-    fn printed(alloc: Global, bank: &Bank, text: &str) -> Result<Vec<u8>, Fail> {
+    fn printed(alloc: Global, bank: &Bank, text: &[u8]) -> Result<Vec<u8>, Fail> {
         let spec = read(alloc, bank, text)??;
         Ok(print_plan(alloc, &spec)?)
     }
 
     #[test]
     fn a_plan_is_printed_with_its_defaults(rt: HostRuntime) -> Result<(), Fail> {
-        let text = printed(rt.alloc(), &bank_a(rt.alloc())?, PLAN_A)?;
+        let text = printed(rt.alloc(), &bank_a(rt.alloc())?, PLAN_A.as_bytes())?;
         are_equal(&rt, &text, PRINTED_A.as_bytes());
         Ok(())
-    }
-
-    // What the plan of a printed text is printed as.
-    fn printed_again(alloc: Global, bank: &Bank, text: &[u8]) -> Result<Vec<u8>, Fail> {
-        let mut source = MemorySource::of(text.to_vec(alloc)?, Vec::new(alloc));
-        let again = read_plan(alloc, bank, &mut source)?;
-        Ok(print_plan(alloc, &again)?)
     }
 
     // The text that a plan is printed as reads to a plan that is printed the same. The bank is handed over as it was made: a
@@ -78,9 +84,9 @@ mod tests {
         text: &str,
     ) -> Result<(), Fail> {
         let bank = bank?;
-        let first = printed(rt.alloc(), &bank, text)?;
+        let first = printed(rt.alloc(), &bank, text.as_bytes())?;
         is_longer(rt, &first, text);
-        let again = printed_again(rt.alloc(), &bank, &first)?;
+        let again = printed(rt.alloc(), &bank, &first)?;
         are_equal(rt, &again, &first);
         Ok(())
     }
@@ -97,7 +103,7 @@ mod tests {
     #[test]
     fn the_runs_of_a_set_are_joined(rt: HostRuntime) -> Result<(), Fail> {
         let text = "# joined\n\nlength 3\nprior 0 0 0\ncount 0 3 0 1-2 4 5\nbase 0-1 3";
-        let found = printed(rt.alloc(), &bank_a(rt.alloc())?, text)?;
+        let found = printed(rt.alloc(), &bank_a(rt.alloc())?, text.as_bytes())?;
         let end = b"journal 67108864\ncount 0 3 0-2 4-5\nbase 0-1 3\n".as_slice();
         assert!(rt; found.as_slice().ends_with(end));
         Ok(())
@@ -135,9 +141,9 @@ mod tests {
 
     #[test]
     fn the_first_faulty_line_is_named(rt: HostRuntime) -> Result<(), Fail> {
-        for (text, fault) in LINES {
+        for (text, fault) in &LINES {
             let found = fault_over_q(rt.alloc(), text)?;
-            is_fault(&rt, text, found, fault);
+            is_fault(&rt, text, found, *fault);
         }
         Ok(())
     }
@@ -207,9 +213,8 @@ mod tests {
 
     // The fault of plan A's text over bank A, from a source whose first call fails.
     fn fault_of_a_source(alloc: Global) -> Result<Option<PlanFault>, Fail> {
-        let fails = vec![in alloc; 0]?;
-        let mut source = MemorySource::of(PLAN_A.as_bytes().to_vec(alloc)?, fails);
-        Ok(read_plan(alloc, &bank_a(alloc)?, &mut source).err())
+        let bank = bank_a(alloc)?;
+        Ok(read_failing(alloc, &bank, PLAN_A.as_bytes(), vec![in alloc; 0]?)?.err())
     }
 
     #[test]

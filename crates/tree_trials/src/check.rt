@@ -9,10 +9,10 @@ ghost use Rattle.constraint_model.specs.Views.{problem_of};
 #[cfg(test)]
 mod tests {
     use crate::equal::is_equal;
+    use crate::tree::read;
     use bank_tables::{Bank, ItemSet};
     use certificate_check::{Reason, Verdict, check, spent};
     use constraint_model::{Draft, Problem, Row, Spec, StimulusBound};
-    use proof_tree::{Tree, decode};
     use std::alloc::{AllocError, Global};
     use std::test::Fail;
     use trial_cases::{bank_a, bank_q, draft_of, item, rows_of, set_of};
@@ -32,11 +32,6 @@ mod tests {
         draft_of(alloc, 3, &[-10, 0, -10], &rows, &[])
     }
 
-    fn tree_of(alloc: Global, bytes: &[u8]) -> Result<Tree, Fail> {
-        let (tree, _) = decode(alloc, bytes).ok().ok_or("a tree")?;
-        Ok(tree)
-    }
-
     /// The verdict on a tree over a bank and its plan. What owns a bank is a function of its own, since one that also makes a
     /// problem of it is dear to prove.
     fn verdict_of(
@@ -48,7 +43,7 @@ mod tests {
     ) -> Result<Verdict, Fail>
         requires { IsPlanFor bank.now spec.now }
     {
-        let tree = tree_of(alloc, bytes)?;
+        let (tree, _) = read(alloc, bytes)?;
         Ok(check(&Problem::whole(bank, spec), form, &tree))
     }
 
@@ -181,7 +176,7 @@ mod tests {
     ) -> Result<bool, Fail>
         requires { IsPlanFor bank.now spec.now }
     {
-        let tree = tree_of(alloc, bytes)?;
+        let (tree, _) = read(alloc, bytes)?;
         Ok(spent(&Problem::whole(bank, spec), &tree, budget))
     }
 
@@ -218,7 +213,7 @@ mod tests {
         if !start.all_below(bank.items()) {
             return Err(Fail::from("a start"));
         }
-        let tree = tree_of(alloc, bytes)?;
+        let (tree, _) = read(alloc, bytes)?;
         let problem = with_start(&Problem::whole(bank, spec), start);
         Ok(spent(&problem, &tree, budget))
     }

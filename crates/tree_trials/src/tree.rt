@@ -65,6 +65,11 @@ fn faults(rt: HostRuntime) {
     }
 }
 
+/// The tree with which these bytes begin, and how many bytes it takes.
+pub(crate) fn read(alloc: Global, bytes: &[u8]) -> Result<(Tree, usize), Fail> {
+    Ok(decode(alloc, bytes).ok().ok_or("a tree")?)
+}
+
 /// The bytes begin with a tree of so many vectors, which takes so many bytes.
 fn reads<R: Abort>(
     rt: &R,
@@ -73,7 +78,7 @@ fn reads<R: Abort>(
     expected: usize,
     vectors: usize,
 ) -> Result<(), Fail> {
-    let (tree, used) = decode(alloc, bytes).ok().ok_or("a tree")?;
+    let (tree, used) = read(alloc, bytes)?;
     is_equal(rt, &used, &expected);
     is_equal(rt, &tree.vectors().len(), &vectors);
     Ok(())
@@ -153,7 +158,7 @@ fn is_ray<R: Abort>(rt: &R, tree: &Tree) {
 fn eleven_bytes(rt: HostRuntime) -> Result<(), Fail> {
     let alloc = rt.alloc();
     has_fault(&rt, alloc, &RAY[..10], TreeFault::Short);
-    let (tree, used) = decode(alloc, &RAY).ok().ok_or("a tree")?;
+    let (tree, used) = read(alloc, &RAY)?;
     is_equal(&rt, &used, &11);
     is_ray(&rt, &tree);
     is_spelled(&rt, alloc, &tree, &RAY)
@@ -187,7 +192,7 @@ fn reads_again<R: Abort>(
     expected: usize,
     tree: &Tree,
 ) -> Result<(), Fail> {
-    let (again, used) = decode(alloc, bytes).ok().ok_or("the same tree")?;
+    let (again, used) = read(alloc, bytes)?;
     is_equal(rt, &used, &expected);
     are_equal(rt, again.nodes(), tree.nodes());
     Ok(())
