@@ -28,7 +28,7 @@ use bank_tables::{ItemSet, List};
 use constraint_model::{Problem, objective};
 use exam_model::Node;
 use lagrange_bound::{Cut, bound, impossible};
-use proof_tree::{Memory, Tree, Vector};
+use proof_tree::{Memory, Tree, Vector, has_open_leaf};
 use std::alloc::Global;
 
 /// What the search keeps: the best form known, the branches that the node budget leaves, and the nodes so far.
@@ -162,18 +162,6 @@ fn search(
     let right = side(problem, cut, &branch, false);
     search(problem, plain, &right, state)?;
     Ok(())
-}
-
-/// Whether a leaf is Open.
-fn has_open_leaf(nodes: &[Node]) -> bool
-    ensures { IsTrue result ↔ (0 < open_leaves nodes.now) }
-{
-    for node in nodes {
-        if let Node::Open = node {
-            return true;
-        }
-    }
-    false
 }
 
 /// The outcome that the nodes show with a form or none.

@@ -4,7 +4,6 @@ ghost use Rattle.std.specs.Prelude.{◌≡◌, ℕ, suc, ◌↔◌, IsTrue, drop
 ghost use Rattle.exam_model.specs.Paths.{Path};
 ghost use Rattle.exam_model.specs.ProofTrees.{AreTrees};
 ghost use Rattle.exam_model.specs.Pruning.{IsPruned};
-ghost use Rattle.exam_model.specs.Spending.{IsBranch};
 ghost use Rattle.exam_model.specs.Validity.{IsWellMade};
 ghost use Rattle.constraint_model.specs.Views.{problem_of};
 ghost use Rattle.lagrange_bound.specs.Cuts.{IsCut, IsCutOf};
@@ -13,9 +12,8 @@ ghost use Rattle.branch_bound.specs.Searches.{IsBranchOn};
 
 use crate::branching::{is_branch_on, side};
 use constraint_model::Problem;
-use exam_model::Node;
 use lagrange_bound::{Cut, impossible};
-use proof_tree::Tree;
+use proof_tree::{Node, Tree, is_branch};
 
 /// Whether a node is the Count leaf of the row, or there is no row.
 fn is_count_of(row: Option<u8>, node: &Node) -> bool
@@ -27,16 +25,6 @@ fn is_count_of(row: Option<u8>, node: &Node) -> bool
             _ => false,
         },
         None => true,
-    }
-}
-
-/// Whether a node is a branch.
-fn is_branch(node: &Node) -> bool
-    ensures { IsTrue result ↔ IsBranch node.now }
-{
-    match node {
-        Node::BranchItem(_) | Node::BranchStimulus(_) => true,
-        Node::Bound(_) | Node::Ray(_) | Node::Count(_) | Node::Whole | Node::Open => false,
     }
 }
 

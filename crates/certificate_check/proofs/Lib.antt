@@ -6,6 +6,7 @@ pub mod Steps
 pub mod TopLaws
 pub mod CapLaws
 pub mod MaximumLaws
+pub mod MemberSums
 pub mod WalkSteps
 pub mod CheckLaws
 pub mod ShapeLaws

@@ -12,13 +12,13 @@ ghost use Rattle.certificate_check.specs.Spends.{IsStartForm, IsSpending};
 
 use crate::branch::below_stimulus;
 use crate::cut::{Cut, below_item, root_cut};
-use crate::shape::{has_open_leaf, is_depth_first};
+use crate::shape::is_depth_first;
 use crate::standing::standing_on;
 use crate::unresolved::{is_spent_node, start_form};
 use bank_tables::ItemSet;
 use constraint_model::Problem;
 use exam_model::Node;
-use proof_tree::Tree;
+use proof_tree::{Tree, has_open_leaf};
 
 /// The number of the first node after the subtree at a node whose path is given; None if a node of
 /// the subtree is not as in a spent tree.

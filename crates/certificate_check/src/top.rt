@@ -1,6 +1,6 @@
 //! The items of greatest weight.
 
-ghost use Rattle.std.specs.Prelude.{◌≡◌, ℕ, ◌+◌, ◌*◌, ◌<◌, ◌≤◌, true, cond, pos, IfSome, get_or};
+ghost use Rattle.std.specs.Prelude.{◌≡◌, ℕ, ◌+◌, ◌*◌, ◌<◌, ◌≤◌, true, IfSome, get_or};
 ghost use Rattle.bank_tables.specs.Items.{Set, has};
 ghost use Rattle.bank_tables.specs.Sums.{count_in, sum_in_z};
 ghost use Rattle.certificate_check.specs.Tops.{IsBest, AreLeaders, IsNextBest, IsTopOf};
@@ -12,21 +12,7 @@ use bank_tables::ItemSet;
 /// A block has so many items.
 const BLOCK: u16 = 16;
 
-/// The weight of an item that is in the set, else 0.
-fn weight_in(weights: &[i64; 512], items: &ItemSet, item: u16) -> i64
-    requires item { item < 512 }
-    requires within { IsWithin item_top (at weights.now item) }
-    ensures value { result ≡ cond (has items.now item) (at weights.now item) (pos 0) }
-    ensures within { IsWithin item_top result }
-{
-    if items.has(item) {
-        weights[item as usize]
-    } else {
-        0
-    }
-}
-
-/// The sum of the weights of the first n items that are in the set.
+/// The sum of the weights of the first n items that are in the set. The members alone are looked at.
 pub fn sum_of(weights: &[i64; 512], n: u16, items: &ItemSet) -> i64
     requires few { n ≤ 512 }
     requires within { (i : ℕ) → i < n → IsWithin item_top (at weights.now i) }
@@ -34,8 +20,13 @@ pub fn sum_of(weights: &[i64; 512], n: u16, items: &ItemSet) -> i64
     ensures within { IsWithin (512 * item_top) result }
 {
     let mut sum = 0i64;
-    for i in 0..n {
-        sum += weight_in(weights, items, i);
+    let mut rest = *items;
+    while let Some(item) = rest.first() {
+        if item >= n {
+            return sum;
+        }
+        sum += weights[item as usize];
+        rest = rest.without(item);
     }
     sum
 }

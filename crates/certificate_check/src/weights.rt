@@ -6,7 +6,7 @@ ghost use Rattle.bank_tables.specs.Sums.{total_z};
 ghost use Rattle.bank_tables.specs.Tables.{size, quantity};
 ghost use Rattle.bank_tables.specs.Validity.{IsBank, HoldsItems};
 ghost use Rattle.exam_model.specs.Forms.{stimuli_of};
-ghost use Rattle.exam_model.specs.Weights.{weight, item_activity, stimulus_activity, price, bounds_price, item_share, stimulus_share, price_of_stimulus, rows_constant, item_weight, stimulus_weight};
+ghost use Rattle.exam_model.specs.Weights.{weight, item_activity, stimulus_activity, price, item_share, stimulus_share, price_of_stimulus, rows_constant, item_weight, stimulus_weight};
 ghost use Rattle.exam_model.specs.Validity.{IsRow, IsWellMade};
 ghost use Rattle.constraint_model.specs.Views.{problem_of};
 ghost use Rattle.exam_model.specs.Ranges.{AreMultipliers, IsWithin, at};
@@ -16,6 +16,7 @@ ghost use Rattle.certificate_check.specs.Weights.{IsAdded, weight_up_to, item_to
 use crate::column::{Column, no_column, read_column, value_in};
 use bank_tables::{Bank, ItemSet};
 use constraint_model::counts::{lower_bound, upper_bound};
+use constraint_model::prices::bounds_price;
 use constraint_model::{Problem, Row};
 
 /// What a stimulus adds to a row.
@@ -62,29 +63,6 @@ fn net_times(sides: &[u32; 386], side: usize, part: u32) -> i64
     scaled(sides[side], sides[side + 1], part)
 }
 
-/// A multiplier times a bound.
-fn product(multiplier: u32, bound: u32) -> i64
-    requires multiplier { multiplier ≤ 16777216 }
-    requires bound { bound ≤ 33553920 }
-    ensures value { result ≡ pos multiplier *ℤ pos bound }
-    ensures low { pos 0 ≤ℤ result }
-    ensures high { result ≤ℤ pos (16777216 * 33553920) }
-{
-    (multiplier as u64 * bound as u64) as i64
-}
-
-/// The multiplier of the high side times the upper bound less that of the low side times the lower.
-fn bounds_price(sides: &[u32; 386], side: usize, low: u32, high: u32) -> i64
-    requires sides { AreMultipliers (slice_index sides.now) }
-    requires side { side + 1 < 386 }
-    requires low { low ≤ 33553920 }
-    requires high { high ≤ 33553920 }
-    ensures value { result ≡ bounds_price (slice_index sides.now) side low high }
-    ensures within { IsWithin (16777216 * 33553920) result }
-{
-    product(sides[side + 1], high) - product(sides[side], low)
-}
-
 /// What the rows add to the constant.
 pub fn rows_constant(problem: &Problem, sides: &[u32; 386]) -> i64
     requires well_made { IsWellMade (problem_of problem.now) }
@@ -96,7 +74,7 @@ pub fn rows_constant(problem: &Problem, sides: &[u32; 386]) -> i64
     let mut sum = 0i64;
     for r in 0..rows.len() {
         let row = &rows[r];
-        sum += bounds_price(sides, 2 * r, lower_bound(row), upper_bound(row));
+        sum += bounds_price(sides, 2 * r, (lower_bound(row), upper_bound(row)));
     }
     sum
 }
@@ -335,5 +313,5 @@ pub fn stimulus_weight(problem: &Problem, sides: &[u32; 386], rows: i64, which: 
     let place = which as usize - 1;
     let bound = problem.spec.bounds()[place];
     let side = 2 * problem.spec.rows().len() + 2 * place;
-    bounds_price(sides, side, bound.low, bound.high) + rows
+    bounds_price(sides, side, (bound.low, bound.high)) + rows
 }

@@ -11,9 +11,9 @@ ghost use Rattle.lagrange_bound.specs.Links.{excess_on, is_linked_on, link_on};
 ghost use Rattle.lagrange_bound.specs.Ranges.{excess_top, excesses_top, item_top};
 
 use crate::cut::Cut;
-use crate::prices::price;
 use crate::weights::raise;
 use bank_tables::Bank;
+use constraint_model::prices::price;
 
 /// The cap of a vector, by the multipliers of its sides; None where it names neither side of the cap.
 pub fn cap_of(sides: &[u32; 386]) -> Option<i64>

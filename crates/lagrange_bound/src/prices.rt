@@ -1,16 +1,17 @@
 //! The prices that a vector of multipliers puts on rows and stimuli.
 
-ghost use Rattle.std.specs.Prelude.{◌≡◌, ◌+◌, ◌*◌, ◌<◌, ◌≤◌, All, length, pos, slice_index, ◌*ℤ◌, ◌≤ℤ◌};
+ghost use Rattle.std.specs.Prelude.{◌≡◌, ◌*◌, ◌<◌, All, length, pos, slice_index, ◌*ℤ◌};
 ghost use Rattle.bank_tables.specs.Sums.{total_z};
 ghost use Rattle.exam_model.specs.ProofTrees.{IsVector};
 ghost use Rattle.exam_model.specs.Ranges.{AreMultipliers, IsWithin};
 ghost use Rattle.exam_model.specs.Relaxed.{multiplier};
 ghost use Rattle.exam_model.specs.Validity.{IsWellMade};
-ghost use Rattle.exam_model.specs.Weights.{price, bounds_price, rows_constant, stimulus_activity, stimulus_share};
+ghost use Rattle.exam_model.specs.Weights.{rows_constant, stimulus_activity, stimulus_share};
 ghost use Rattle.constraint_model.specs.Views.{problem_of};
 ghost use Rattle.lagrange_bound.specs.Ranges.{bounds_top};
 
 use crate::counting::bounds_of;
+use constraint_model::prices::{bounds_price, price};
 use constraint_model::{Problem, Row};
 use proof_tree::Vector;
 
@@ -28,40 +29,6 @@ pub fn sides_of(vector: &Vector) -> [u32; 386]
         sides[side as usize] = multiplier;
     }
     sides
-}
-
-/// The price of the row or stimulus with the low side.
-pub fn price(sides: &[u32; 386], low_side: usize) -> i64
-    requires sides { AreMultipliers (slice_index sides.now) }
-    requires side { low_side + 1 < 386 }
-    ensures value { result ≡ price (slice_index sides.now) low_side }
-    ensures within { IsWithin 16777216 result }
-{
-    sides[low_side] as i64 - sides[low_side + 1] as i64
-}
-
-/// A multiplier times a bound.
-fn product(multiplier: u32, bound: u32) -> i64
-    requires multiplier { multiplier ≤ 16777216 }
-    requires bound { bound ≤ 33553920 }
-    ensures value { result ≡ pos multiplier *ℤ pos bound }
-    ensures low { pos 0 ≤ℤ result }
-    ensures high { result ≤ℤ pos (16777216 * 33553920) }
-{
-    (multiplier as u64 * bound as u64) as i64
-}
-
-/// The price of the bounds of the row or stimulus with the low side.
-pub fn bounds_price(sides: &[u32; 386], low_side: usize, bounds: (u32, u32)) -> i64
-    requires sides { AreMultipliers (slice_index sides.now) }
-    requires side { low_side + 1 < 386 }
-    requires low { bounds.0 ≤ 33553920 }
-    requires high { bounds.1 ≤ 33553920 }
-    ensures value { result ≡ bounds_price (slice_index sides.now) low_side bounds.0 bounds.1 }
-    ensures within { IsWithin bounds_top result }
-{
-    let (low, high) = bounds;
-    product(sides[low_side + 1], high) - product(sides[low_side], low)
 }
 
 /// The price of the bounds of all rows.

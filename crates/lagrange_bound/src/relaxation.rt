@@ -20,10 +20,11 @@ ghost use Rattle.lagrange_bound.specs.Ranges.{excesses_top, stimulus_top};
 use crate::counting::items_wanted;
 use crate::cut::Cut;
 use crate::links::{cap_of, cap_weights};
-use crate::prices::{bounds_price, rows_constant, rows_on_stimuli, sides_of};
+use crate::prices::{rows_constant, rows_on_stimuli, sides_of};
 use crate::threshold::sum_of_greatest;
 use crate::weights::{item_weights, mark_others, sum_over};
 use constraint_model::Problem;
+use constraint_model::prices::bounds_price;
 use proof_tree::Vector;
 
 /// The reduced weight of a stimulus, with what the rows on stimuli add.

@@ -13,8 +13,8 @@ ghost use Rattle.lagrange_bound.specs.Fills.{no_weight};
 ghost use Rattle.lagrange_bound.specs.Ranges.{IsWeight, excess_top, item_top, row_top};
 ghost use Rattle.lagrange_bound.specs.Shares.{own_weight};
 
-use crate::prices::price;
 use bank_tables::{Bank, ItemSet};
+use constraint_model::prices::price;
 use constraint_model::{Problem, Row};
 
 /// The number in place of the weight of an item that isn't free: it is below each weight.

@@ -7,6 +7,7 @@
 mod fault;
 pub mod laws;
 mod reading;
+mod shape;
 mod tree;
 mod vector;
 mod writing;
@@ -14,6 +15,7 @@ mod writing;
 pub use exam_model::Node;
 pub use fault::TreeFault;
 pub use reading::decode;
+pub use shape::{has_open_leaf, is_branch};
 pub use std::alloc::AllocError as Memory;
 pub use tree::Tree;
 pub use vector::Vector;

@@ -9,7 +9,7 @@ ghost use Rattle.search_paths.specs.States.{AreStates};
 use constraint_model::Problem;
 use exam_model::Node;
 use lagrange_bound::Cut;
-use proof_tree::Memory;
+use proof_tree::{Memory, is_branch};
 
 /// A path that waits for its subtree: how deep it is, and the place of the vector that the steps there begin with.
 #[derive(Debug, Drop)]
@@ -70,11 +70,6 @@ pub fn below(problem: &Problem, cut: &Cut, node: &Node, first: bool) -> Cut
 pub struct Sides {
     pub first: usize,
     pub other: usize,
-}
-
-/// Whether a node has two subtrees after it.
-fn is_branch(node: &Node) -> bool {
-    matches!(node, Node::BranchItem(_) | Node::BranchStimulus(_))
 }
 
 /// Lets the paths below a node wait, if it is a branch, the first side before the other.

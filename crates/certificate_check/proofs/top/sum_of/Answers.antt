@@ -1,26 +1,53 @@
-use Rattle.std.proofs.Common.{◌≡◌, ◌+◌, ◌*◌, ◌<◌, ℕ, arith, ◌∙◌, ap, w64, to_z, of_z, sym, subst, add-one, refl}
-use Rattle.std.specs.Prelude.{ℤ, ◌+ℤ◌}
+use Rattle.std.proofs.Common.{◌≡◌, ◌<◌, ◌≤◌, ℕ, true, false, not, ◌==◌, ◌&&◌, ◌∙◌, sym, ap, subst, arith, w64, to_z, refl}
+use Rattle.std.specs.Prelude.{ℤ, pos, ◌+ℤ◌}
 use Rattle.std.proofs.lemmas.Int.{ints}
-use Rattle.bank_tables.specs.Items.{has}
+use Rattle.std.proofs.lemmas.Bool.{eq-eqb, ne_eqb}
+use Rattle.std.proofs.Math.Bool.{true≢false}
+use Rattle.bank_tables.specs.Items.{Set, has}
 use Rattle.bank_tables.specs.Sums.{sum_in_z}
 use Rattle.exam_model.specs.Ranges.{IsWithin, at}
-use Rattle.certificate_check.specs.Weights.{item_top}
+use Rattle.certificate_check.proofs.MemberSums.{member_fits, one_summed, all_summed, sum_within}
+use Rattle.certificate_check.proofs.RowShares.{fewer}
 use Rattle.certificate_check.proofs.top.sum_of.Goals as goal
 
-step : (i : ℕ) (a b a' : ℤ) → i < 512 → a' ≡ a → IsWithin (i * 141835091722240) a → IsWithin item_top b → to_z w64 (of_z w64 (a' +ℤ to_z w64 (of_z w64 b))) ≡ a +ℤ b
-step i a b a' few e wa wb = omega (arith, ints)
+none_is_none : (z : ℤ) → pos 0 +ℤ z ≡ z
+none_is_none z = omega (arith, ints)
 
-more_within : (i : ℕ) (a b : ℤ) → IsWithin (i * 141835091722240) a → IsWithin item_top b → IsWithin ((i + 1) * 141835091722240) (a +ℤ b)
-more_within i a b wa wb = record { low = omega (arith, ints); high = omega (arith, ints) }
+pub loop-item-init : goal.loop-item-init
+loop-item-init c = none_is_none (sum_in_z c.args.n (has c.args.items.now) (at c.args.weights.now))
 
-pub loop-i-preserved : goal.loop-i-preserved
-loop-i-preserved c =
-    let i = c.loop-i.i in
-    let term : ℤ = c.weight_in-sum.result in
-    let few : i < 512 = omega (arith, c.requires.few) in
-    let sum : ℤ = to_z w64 c.loop-i.sum-bits in
-    let e-sum : to_z w64 (of_z w64 (sum +ℤ to_z w64 (of_z w64 term))) ≡ sum +ℤ term = step i sum term sum few refl c.loop-i.invariant.within c.weight_in-sum.ensures.within in
-    record {
-      value = rw add-one (e-sum ∙ ap (λ z. z +ℤ term) c.loop-i.invariant.value ∙ ap (λ z. sum_in_z i (has c.args.items.now) (at c.args.weights.now) +ℤ z) c.weight_in-sum.ensures.value);
-      within = subst (IsWithin ((i + 1) * 141835091722240)) (sym e-sum) (more_within i sum term c.loop-i.invariant.within c.weight_in-sum.ensures.within);
-    }
+pub loop-item-smaller : goal.loop-item-smaller
+loop-item-smaller c = fewer c.in-Some.item (has c.loop-item.rest) (has c.without-rest.result) c.in-Some.ensures.item c.in-Some.ensures.lowest.member c.without-rest.ensures
+
+pub overflow_add-sum : goal.overflow_add-sum
+overflow_add-sum c =
+    let i = c.in-Some.item in
+    let below : i < c.args.n = omega (arith, c.if-item-n.false) in
+    let rest : Set = λ h. not (h == i) && has c.loop-item.rest h in
+    member_fits c.args.n i (has c.args.items.now) (has c.loop-item.rest) rest (at c.args.weights.now) (to_z w64 c.loop-item.sum-bits) c.requires.few c.requires.within below c.in-Some.ensures.lowest.member (λ h. refl) c.loop-item.invariant
+
+pub loop-item-preserved : goal.loop-item-preserved
+loop-item-preserved c =
+    let i = c.in-Some.item in
+    let below : i < c.args.n = omega (arith, c.if-item-n.false) in
+    one_summed c.args.n i (has c.args.items.now) (has c.loop-item.rest) (has c.without-rest.result) (at c.args.weights.now) (to_z w64 c.loop-item.sum-bits) c.requires.few c.requires.within below c.in-Some.ensures.lowest.member c.without-rest.ensures c.loop-item.invariant
+
+pub returns-then-item-n-clause-value : goal.returns-then-item-n-clause-value
+returns-then-item-n-clause-value c =
+    all_summed c.args.n (has c.args.items.now) (has c.loop-item.rest) (at c.args.weights.now) (to_z w64 c.loop-item.sum-bits) (λ h w. c.in-Some.ensures.lowest.below h (omega (arith, c.if-item-n.true))) c.loop-item.invariant
+
+pub returns-then-item-n-clause-within : goal.returns-then-item-n-clause-within
+returns-then-item-n-clause-within c =
+    let all : to_z w64 c.loop-item.sum-bits ≡ sum_in_z c.args.n (has c.args.items.now) (at c.args.weights.now) =
+    all_summed c.args.n (has c.args.items.now) (has c.loop-item.rest) (at c.args.weights.now) (to_z w64 c.loop-item.sum-bits) (λ h w. c.in-Some.ensures.lowest.below h (omega (arith, c.if-item-n.true))) c.loop-item.invariant in
+    subst (IsWithin 72619566961786880) (sym all) (sum_within c.args.n (has c.args.items.now) (at c.args.weights.now) c.requires.few c.requires.within)
+
+pub returns-clause-value : goal.returns-clause-value
+returns-clause-value c =
+    all_summed c.args.n (has c.args.items.now) (has c.loop-item.rest) (at c.args.weights.now) (to_z w64 c.loop-item.sum-bits) (λ h w. c.in_default.ensures.lowest h) c.loop-item.invariant
+
+pub returns-clause-within : goal.returns-clause-within
+returns-clause-within c =
+    let all : to_z w64 c.loop-item.sum-bits ≡ sum_in_z c.args.n (has c.args.items.now) (at c.args.weights.now) =
+    all_summed c.args.n (has c.args.items.now) (has c.loop-item.rest) (at c.args.weights.now) (to_z w64 c.loop-item.sum-bits) (λ h w. c.in_default.ensures.lowest h) c.loop-item.invariant in
+    subst (IsWithin 72619566961786880) (sym all) (sum_within c.args.n (has c.args.items.now) (at c.args.weights.now) c.requires.few c.requires.within)

@@ -1,12 +1,13 @@
-use Rattle.std.proofs.Common.{◌≡◌, ◌*◌}
+use Rattle.std.proofs.Common.{◌≡◌}
+use Rattle.std.specs.Prelude.{◌+ℤ◌}
 use Rattle.bank_tables.specs.Items.{has}
-use Rattle.bank_tables.specs.Sums.{sum_in_z}
-use Rattle.exam_model.specs.Ranges.{IsWithin, at}
+use Rattle.bank_tables.specs.Sums.{sum_in_z, size_of}
+use Rattle.exam_model.specs.Ranges.{at}
 use Rattle.certificate_check.proofs.top.sum_of.Given as goal
 
-abbrev pub invariant-loop-i : goal.invariant-loop-i
-invariant-loop-i l =
-    record {
-      value : l.sum ≡ sum_in_z l.i (has l.items) (at l.weights);
-      within : IsWithin (l.i * 141835091722240) l.sum;
-    }
+-- the sum so far, and that of the members that are left
+abbrev pub invariant-loop-item : goal.invariant-loop-item
+invariant-loop-item l = l.sum +ℤ sum_in_z l.n (has l.rest) (at l.weights) ≡ sum_in_z l.n (has l.items) (at l.weights)
+
+abbrev pub decreases-loop-item : goal.decreases-loop-item
+decreases-loop-item l = size_of (has l.rest)

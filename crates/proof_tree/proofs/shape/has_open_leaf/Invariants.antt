@@ -1,6 +1,6 @@
 use Rattle.std.proofs.Common.{◌≡◌, drop}
 use Rattle.exam_model.specs.Spending.{open_leaves}
-use Rattle.branch_bound.proofs.fallback.has_open_leaf.Given as goal
+use Rattle.proof_tree.proofs.shape.has_open_leaf.Given as goal
 
 abbrev pub invariant-loop-node : goal.invariant-loop-node
 invariant-loop-node l = open_leaves l.nodes ≡ open_leaves (drop l.node-index l.nodes)

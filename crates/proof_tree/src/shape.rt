@@ -1,0 +1,28 @@
+//! What a tree's nodes are: branches and leaves.
+
+ghost use Rattle.std.specs.Prelude.{◌↔◌, ◌<◌, IsTrue};
+ghost use Rattle.exam_model.specs.Spending.{open_leaves, IsBranch};
+
+use exam_model::Node;
+
+/// Whether a node is a branch, which has two subtrees after it.
+pub fn is_branch(node: &Node) -> bool
+    ensures { IsTrue result ↔ IsBranch node.now }
+{
+    match node {
+        Node::BranchItem(_) | Node::BranchStimulus(_) => true,
+        Node::Bound(_) | Node::Ray(_) | Node::Count(_) | Node::Whole | Node::Open => false,
+    }
+}
+
+/// Whether a leaf is Open, so that the tree proves nothing there.
+pub fn has_open_leaf(nodes: &[Node]) -> bool
+    ensures { IsTrue result ↔ (0 < open_leaves nodes.now) }
+{
+    for node in nodes {
+        if let Node::Open = node {
+            return true;
+        }
+    }
+    false
+}
