@@ -1,12 +1,13 @@
 -- The words of sets, taken together.
-use Rattle.std.proofs.Common.{◌≡◌, ℕ, zero, suc, ◌+◌, ◌*◌, ◌/◌, ◌%◌, ◌^◌, ◌<◌, ◌≤◌, ◌==◌, ◌||◌, ◌&&◌, not, cond, Bool, true, false, List, length, get_or, set, refl, sym, ap, ap₂, ◌∙◌, arith, inl, inr, bit_and, bit_or, w64, ◌⊎◌, ◌≢◌, min, add_assoc, zero-add, add-zero, add-suc}
+use Rattle.std.proofs.Common.{◌≡◌, ℕ, zero, suc, ◌+◌, ◌-◌, ◌*◌, ◌/◌, ◌%◌, ◌^◌, ◌<◌, ◌≤◌, ◌==◌, ◌||◌, ◌&&◌, not, cond, Bool, true, false, List, length, get_or, set, refl, sym, ap, ap₂, ◌∙◌, arith, inl, inr, bit_and, bit_or, w64, ◌⊎◌, ◌≢◌, min, add_assoc, zero-add, add-zero, add-suc}
 use Rattle.std.proofs.lemmas.Bool.{cases_eq, eq-eqb, cases_Bool, eqb-true, cases_lt}
 use Rattle.std.proofs.lemmas.Bool.Decides.{eqb_tells}
 use Rattle.std.proofs.lemmas.List.{get_or-set_same, get_or-set_other}
 use Rattle.std.proofs.lemmas.Nat.Bits.{bit_at_clear_same, bit_at_clear_other, bit_at_or, bit_at_and, bit_at_not, bit_at-zero, bit_at-lt, bit_at_above, bit_at_lowest, bit_at-suc, bit_at-trailing_zeros, same_from_bits}
+use Rattle.std.proofs.lemmas.Nat.{shr-shr, shr_le}
 use Rattle.std.specs.Int.{bit_at, bit_not, trailing_zeros}
 use lib.Count.{ones, ones_step}
-use Rattle.bank_tables.specs.Items.{Set, has, IsLowest}
+use Rattle.bank_tables.specs.Items.{Set, has, IsLowest, IsLowestFrom}
 use Rattle.bank_tables.specs.Sums.{count_in}
 
 -- a bit is cleared in its word, and no other bit changes
@@ -114,6 +115,71 @@ first_in words k pos fits none =
 pub has_none : (words : List ℕ) (i : ℕ) → get_or words (i / 64) 0 ≡ 0 → has words i ≡ false
 unfolding has
 has_none words i e = rw (e, bit_at-zero (i % 64)) refl
+
+-- ---- from a number on
+shifted : (n k j : ℕ) → bit_at (n / 2 ^ k) j ≡ bit_at n (k + j)
+shifted n k j = ap (λ x. x % 2) (shr-shr n k j)
+
+-- the word of a number, shifted down to it
+abbrev pub word_from : List ℕ → ℕ → ℕ
+word_from words from = get_or words (from / 64) 0 / 2 ^ (from % 64)
+
+in_word : (words : List ℕ) (from i : ℕ) → from ≤ i → i / 64 ≡ from / 64 → has words i ≡ (bit_at (word_from words from) (i - from) == 1)
+unfolding has
+in_word words from i high same =
+    let bit : i % 64 ≡ from % 64 + (i - from) = omega arith in
+    ap (λ (m : ℕ). bit_at (get_or words m 0) (i % 64) == 1) same
+    ∙ ap (λ (j : ℕ). bit_at (get_or words (from / 64) 0) j == 1) bit
+    ∙ ap (λ (b : ℕ). b == 1) (sym (shifted (get_or words (from / 64) 0) (from % 64) (i - from)))
+
+pub none_from : (words : List ℕ) (from i : ℕ) → from ≤ i → word_from words from ≡ 0 → (from / 64 < i / 64 → get_or words (i / 64) 0 ≡ 0) → has words i ≡ false
+none_from words from i high none after =
+    elim (cases_lt (from / 64) (i / 64)) [
+      | inl later ↦ has_none words i (after later)
+      | inr here ↦
+          let same : i / 64 ≡ from / 64 = omega arith in
+          in_word words from i high same ∙ rw (none, bit_at-zero (i - from)) refl
+    ]
+
+-- the lowest bit of the word from the number on
+pub first_in_word : (words : List ℕ) (from : ℕ) → 0 < word_from words from → get_or words (from / 64) 0 < 2 ^ 64 → (from % 64 + trailing_zeros w64 (word_from words from) < 64) × IsLowestFrom (has words) from (from + trailing_zeros w64 (word_from words from))
+first_in_word words from some fits =
+    let x = word_from words from in
+    let small : x < 2 ^ 64 = omega (arith, shr_le (get_or words (from / 64) 0) (from % 64)) in
+    let t = bit_at-trailing_zeros w64 x some small in
+    let n = trailing_zeros w64 x in
+    let one : bit_at (get_or words (from / 64) 0) (from % 64 + n) ≡ 1 = sym (shifted (get_or words (from / 64) 0) (from % 64) n) ∙ t.1 in
+    let within : from % 64 + n < 64 = elim (cases_lt (from % 64 + n) 64) [ inl low ↦ low | inr past ↦ absurd (omega (arith, one, bit_at_above (get_or words (from / 64) 0) 64 (from % 64 + n) fits past)) ] in (
+      within,
+      record {
+        member =
+            let same : (from + n) / 64 ≡ from / 64 = omega (arith, within) in
+            let back : from + n - from ≡ n = omega arith in
+            in_word words from (from + n) (omega arith) same ∙ rw back (eq-eqb _ _ t.1);
+        high = omega arith;
+        below = λ i h w.
+            let same : i / 64 ≡ from / 64 = omega (arith, within) in
+            in_word words from i h same ∙ rw (t.2 (i - from) (omega arith)) refl;
+      },
+    )
+
+-- the lowest bit of the first word after it that isn't 0
+pub first_after : (words : List ℕ) (from k : ℕ) → from / 64 < k → 0 < get_or words k 0 → get_or words k 0 < 2 ^ 64 → word_from words from ≡ 0 → ((j : ℕ) → from / 64 < j → j < k → get_or words j 0 ≡ 0)
+    → (trailing_zeros w64 (get_or words k 0) < 64) × IsLowestFrom (has words) from (64 * k + trailing_zeros w64 (get_or words k 0))
+unfolding has
+first_after words from k later some fits none between =
+    let x = get_or words k 0 in
+    let t = bit_at-trailing_zeros w64 x some fits in (
+      t.0,
+      record {
+        member = at_word words k (trailing_zeros w64 x) t.0 ∙ eq-eqb _ _ t.1;
+        high = omega (arith, later);
+        below = λ i h w. elim (cases_lt (i / 64) k) [
+          | inl before ↦ none_from words from i h none (λ after. between (i / 64) after before)
+          | inr here ↦ (let e : i / 64 ≡ k = omega (arith, t.0) in let z = t.2 (i % 64) (omega (arith, t.0)) in rw (e, z) refl)
+        ];
+      },
+    )
 
 -- ---- counting word by word
 

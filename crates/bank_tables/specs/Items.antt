@@ -1,5 +1,5 @@
 -- Sets, as contracts see them.
-use Rattle.std.specs.Prelude.{◌≡◌, ℕ, ◌/◌, ◌%◌, ◌^◌, ◌<◌, Bool, false, List, length, get_or, ◌==◌, IsTrue}
+use Rattle.std.specs.Prelude.{◌≡◌, ℕ, ◌/◌, ◌%◌, ◌^◌, ◌<◌, ◌≤◌, Bool, false, List, length, get_or, ◌==◌, IsTrue}
 use Rattle.std.specs.Int.{bit_at}
 
 -- a set of numbers, as the test that its members pass
@@ -14,6 +14,12 @@ has words i = bit_at (get_or words (i / 64) 0) (i % 64) == 1
 pub record IsLowest (X : Set) (x : ℕ) : Type 0 where
   pub member : IsTrue (X x)
   pub below : (i : ℕ) → i < x → X i ≡ false
+
+-- x is the lowest member of X from a number on
+pub record IsLowestFrom (X : Set) (from x : ℕ) : Type 0 where
+  pub member : IsTrue (X x)
+  pub high : from ≤ x
+  pub below : (i : ℕ) → from ≤ i → i < x → X i ≡ false
 
 -- the words of a set of items: 8 of 64 bits
 pub record AreWords (words : List ℕ) : Type 0 where

@@ -1,7 +1,7 @@
 //! A set of items.
 
 ghost use Rattle.std.specs.Prelude.{◌≡◌, ℕ, ◌+◌, ◌<◌, ◌≤◌, ◌↔◌, ◌||◌, ◌&&◌, ◌==◌, not, true, false, length, IsTrue, IfSome, MatchOption};
-ghost use Rattle.bank_tables.specs.Items.{has, IsLowest, AreWords};
+ghost use Rattle.bank_tables.specs.Items.{has, IsLowest, IsLowestFrom, AreWords};
 ghost use Rattle.bank_tables.specs.Sums.{size_of};
 
 use crate::limits::ITEMS;
@@ -147,6 +147,28 @@ impl ItemSet {
     {
         for k in 0..8u16 {
             let word = self.words[k as usize];
+            if word != 0 {
+                return Some(64 * k + word.trailing_zeros() as u16);
+            }
+        }
+        None
+    }
+
+    /// The lowest member from a number on. A walk over the members by it looks at each word once.
+    pub fn first_from(&self, from: u16) -> Option<u16>
+        ensures lowest { MatchOption result ((i : ℕ) → from ≤ i → has self.now i ≡ false) (λ x. IsLowestFrom (has self.now) from x) }
+        ensures item { IfSome result (λ x. x < 512) }
+    {
+        let words = &self.words;
+        if from >= ITEMS {
+            return None;
+        }
+        let word = words[(from / 64) as usize] >> (from % 64);
+        if word != 0 {
+            return Some(from + word.trailing_zeros() as u16);
+        }
+        for k in from / 64 + 1..8 {
+            let word = words[k as usize];
             if word != 0 {
                 return Some(64 * k + word.trailing_zeros() as u16);
             }

@@ -29,7 +29,7 @@ most (suc n) X f within =
 pub sum_within : (n : ℕ) (X : Set) (f : ℕ → ℤ) → n ≤ 512 → ((i : ℕ) → i < n → IsWithin item_top (f i)) → IsWithin 72619566961786880 (sum_in_z n X f)
 sum_within n X f few within = let w = most n X f within in record { low = omega (arith, ints, w.low); high = omega (arith, ints, w.high) }
 
-same_below : (n : ℕ) (X Y : Set) (f : ℕ → ℤ) → ((i : ℕ) → i < n → X i ≡ Y i) → sum_in_z n X f ≡ sum_in_z n Y f
+pub same_below : (n : ℕ) (X Y : Set) (f : ℕ → ℤ) → ((i : ℕ) → i < n → X i ≡ Y i) → sum_in_z n X f ≡ sum_in_z n Y f
 same_below zero X Y f same = refl
 same_below (suc n) X Y f same = rw (same_below n X Y f (λ i w. same i (omega arith)), same n (omega arith)) refl
 

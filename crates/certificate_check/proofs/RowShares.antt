@@ -71,8 +71,8 @@ pub record MembersHave (net : ℤ) (X left : Set) (old new : List ℤ) : Type 0 
   pub kept : (h : ℕ) → left h ≡ true → at new h ≡ at old h
   pub members : (h : ℕ) → left h ≡ true → X h ≡ true
 
-pub none_has : (net : ℤ) (X : Set) (old : List ℤ) → MembersHave net X X old old
-none_has net X old = record { done = λ h e. nothing_added (at old h) (net *ℤ pos (cond (X h) 1 0)) (no_share net (X h) 1 e); kept = λ h e. refl; members = λ h e. e }
+pub none_has : (net : ℤ) (X left : Set) (old : List ℤ) → ((h : ℕ) → left h ≡ X h) → MembersHave net X left old old
+none_has net X left old same = record { done = λ h e. nothing_added (at old h) (net *ℤ pos (cond (X h) 1 0)) (no_share net (X h) 1 (sym (same h) ∙ e)); kept = λ h e. refl; members = λ h e. sym (same h) ∙ e }
 
 out : (a b : Bool) → (not a && b) ≡ false → (a ≡ true) ⊎ (b ≡ false)
 out true b e = inl refl
@@ -126,21 +126,3 @@ pub one_member : (net b : ℤ) (X left left' : Set) (old now : List ℤ) (i : �
 one_member net b X left left' old now i e few within top here without before =
     subst (λ (x : ℤ). MembersHave net X left' old (set now i (to_z w64 (of_z w64 (to_z w64 (of_z w64 (at now i)) +ℤ to_z w64 (of_z w64 x)))))) (sym e)
     (one_net net X left left' old now i (subst (IsWithin 16777216) e few) within top here without before)
-
--- one member less is left
-fewer_below : (n i : ℕ) (T T' : Set) → i < n → T i ≡ true → ((h : ℕ) → T' h ≡ (not (h == i) && T h)) → count_in n T' (λ _. true) < count_in n T (λ _. true)
-fewer_below n i T T' w here without = omega (arith, count_with n i T' T w gone again)
-  where
-    gone : T' i ≡ false
-    gone = without i ∙ ap (λ (b : Bool). not b && T i) (eq-eqb i i refl)
-
-    again : (h : ℕ) → T h ≡ (h == i || T' h)
-    again h =
-        elim (cases_eq h i) [
-          | inl this ↦ ap T this ∙ here ∙ sym (ap (λ (b : Bool). b || T' h) (eq-eqb h i this))
-          | inr ne ↦ sym (ap (λ (b : Bool). b || T' h) (ne_eqb h i ne) ∙ without h ∙ ap (λ (b : Bool). not b && T h) (ne_eqb h i ne))
-        ]
-
-pub fewer : (i : ℕ) (T T' : Set) → i < 512 → T i ≡ true → ((h : ℕ) → T' h ≡ (not (h == i) && T h)) → size_of T' < size_of T
-unfolding size_of
-fewer i T T' w here without = fewer_below 512 i T T' w here without

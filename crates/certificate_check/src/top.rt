@@ -20,13 +20,13 @@ pub fn sum_of(weights: &[i64; 512], n: u16, items: &ItemSet) -> i64
     ensures within { IsWithin (512 * item_top) result }
 {
     let mut sum = 0i64;
-    let mut rest = *items;
-    while let Some(item) = rest.first() {
+    let mut at = 0;
+    while let Some(item) = items.first_from(at) {
         if item >= n {
             return sum;
         }
         sum += weights[item as usize];
-        rest = rest.without(item);
+        at = item + 1;
     }
     sum
 }

@@ -101,10 +101,10 @@ fn add_to_members(bank: &Bank, set: &ItemSet, low: u32, high: u32, weights: &mut
         ((pos low -ℤ pos high) *ℤ pos (cond (has set.now i) 1 0)) (at weights.new i) }
 {
     let _items = bank.items();
-    let mut rest = *set;
-    while let Some(item) = rest.first() {
+    let mut at = 0;
+    while let Some(item) = set.first_from(at) {
         weights[item as usize] += net_of(low, high);
-        rest = rest.without(item);
+        at = item + 1;
     }
 }
 

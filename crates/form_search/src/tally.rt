@@ -55,12 +55,12 @@ impl Tally {
 
     /// Adds the items of a set, or with the sign -1 takes them off.
     fn add_all(&mut self, table: &Table, items: &ItemSet, sign: i64) {
-        let mut left = *items;
+        let mut next = 0;
         for _ in 0..512 {
-            let Some(item) = left.first() else {
+            let Some(item) = items.first_from(next) else {
                 break;
             };
-            left = left.without(item);
+            next = item + 1;
             if let Some(entry) = table.entries.get(item as usize) {
                 self.add(table, entry, sign);
             }

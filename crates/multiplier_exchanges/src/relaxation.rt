@@ -82,13 +82,13 @@ fn gain_of(problem: &Problem, item: u16) -> i64 {
 
 /// The sum of the gains of some items.
 fn gains_of(problem: &Problem, items: &ItemSet) -> i64 {
-    let mut left = *items;
+    let mut next = 0;
     let mut sum = 0i64;
     for _ in 0..512 {
-        let Some(item) = left.first() else {
+        let Some(item) = items.first_from(next) else {
             break;
         };
-        left = left.without(item);
+        next = item + 1;
         sum = sum.wrapping_add(gain_of(problem, item));
     }
     sum
@@ -130,13 +130,13 @@ fn amount_of(bank: &Bank, which: Option<u8>, item: u16) -> i64 {
 
 /// The sum of what some items add to a row that counts them.
 fn sum_of(bank: &Bank, which: Option<u8>, items: ItemSet) -> i64 {
-    let mut left = items;
+    let mut next = 0;
     let mut sum = 0i64;
     for _ in 0..512 {
-        let Some(item) = left.first() else {
+        let Some(item) = items.first_from(next) else {
             break;
         };
-        left = left.without(item);
+        next = item + 1;
         sum = sum.wrapping_add(amount_of(bank, which, item));
     }
     sum
@@ -148,12 +148,12 @@ type Members = [ItemSet; 65];
 /// The items of a set by their stimuli.
 fn members_of(bank: &Bank, items: &ItemSet) -> Members {
     let mut members = [ItemSet::empty(); 65];
-    let mut left = *items;
+    let mut next = 0;
     for _ in 0..512 {
-        let Some(item) = left.first() else {
+        let Some(item) = items.first_from(next) else {
             break;
         };
-        left = left.without(item);
+        next = item + 1;
         if item < bank.items() {
             if let Some(set) = members.get_mut(bank.stimulus(item) as usize) {
                 *set = set.with(item);
@@ -251,12 +251,12 @@ impl Relaxation {
     /// Adds the columns of the free items.
     fn add_items(&mut self, problem: &Problem, free: &ItemSet) -> Result<Places, Memory> {
         let mut places = [NO_SIDE; 512];
-        let mut left = *free;
+        let mut next = 0;
         for place in 0..512u16 {
-            let Some(item) = left.first() else {
+            let Some(item) = free.first_from(next) else {
                 break;
             };
-            left = left.without(item);
+            next = item + 1;
             self.items.push(item)?;
             self.gains.push(gain_of(problem, item))?;
             if let Some(slot) = places.get_mut(item as usize) {
@@ -287,12 +287,12 @@ impl Relaxation {
         which: Option<u8>,
         sign: i64,
     ) -> Result<(), Memory> {
-        let mut left = items;
+        let mut next = 0;
         for _ in 0..512 {
-            let Some(item) = left.first() else {
+            let Some(item) = items.first_from(next) else {
                 break;
             };
-            left = left.without(item);
+            next = item + 1;
             let place = places.get(item as usize).copied().unwrap_or(NO_SIDE);
             let amount = amount_of(bank, which, item).wrapping_mul(sign);
             if place != NO_SIDE && amount != 0 {
@@ -476,12 +476,12 @@ impl Relaxation {
 
     /// Links the items of one stimulus to its column.
     fn link_items(&mut self, places: &Places, members: ItemSet, column: u16) -> Result<(), Memory> {
-        let mut left = members;
+        let mut next = 0;
         for _ in 0..512 {
-            let Some(item) = left.first() else {
+            let Some(item) = members.first_from(next) else {
                 break;
             };
-            left = left.without(item);
+            next = item + 1;
             let place = places.get(item as usize).copied().unwrap_or(NO_SIDE);
             if let Some(link) = self.links.get_mut(place as usize) {
                 *link = column;

@@ -79,13 +79,13 @@ pub(crate) fn sum_over(bank: &Bank, which: Option<u8>, items: ItemSet) -> i64 {
     if which.is_none() {
         return items.count() as i64;
     }
-    let mut left = items;
+    let mut next = 0;
     let mut sum = 0i64;
     for _ in 0..512 {
-        let Some(item) = left.first() else {
+        let Some(item) = items.first_from(next) else {
             break;
         };
-        left = left.without(item);
+        next = item + 1;
         sum = sum.wrapping_add(coefficient(bank, which, item));
     }
     sum
@@ -124,12 +124,12 @@ impl Taken {
     pub(crate) fn of(problem: &Problem, items: ItemSet, ray: bool) -> Taken {
         let mut gain = 0i64;
         let mut of_stimulus = [0i64; 256];
-        let mut left = items;
+        let mut next = 0;
         for _ in 0..512 {
-            let Some(item) = left.first() else {
+            let Some(item) = items.first_from(next) else {
                 break;
             };
-            left = left.without(item);
+            next = item + 1;
             gain = gain.wrapping_add(gain_of(problem, ray, item));
             let count = &mut of_stimulus[stimulus_of(problem.bank, item) as usize];
             *count = count.wrapping_add(1);

@@ -243,13 +243,13 @@ fn add_few(
     measure: Measure,
     line: u16,
 ) -> Result<i64, Memory> {
-    let mut left = measure.set;
+    let mut next = 0;
     let mut sum = 0i64;
     for _ in 0..512 {
-        let Some(item) = left.first() else {
+        let Some(item) = measure.set.first_from(next) else {
             break;
         };
-        left = left.without(item);
+        next = item + 1;
         let part = coefficient(bank, measure.which, item);
         selection.add_entry(places[item as usize], line, part)?;
         sum = sum.wrapping_add(part);

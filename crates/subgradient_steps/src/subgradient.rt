@@ -42,12 +42,12 @@ fn push_cap(pairs: &mut Vec<(u16, u32)>, cap: i64) -> Result<(), Memory> {
 
 /// Gives the items of a set the share of those always selected.
 fn fill(shares: &mut [u16], items: ItemSet) {
-    let mut left = items;
+    let mut next = 0;
     for _ in 0..512 {
-        let Some(item) = left.first() else {
+        let Some(item) = items.first_from(next) else {
             break;
         };
-        left = left.without(item);
+        next = item + 1;
         if let Some(slot) = shares.get_mut(item as usize) {
             *slot = 4096;
         }

@@ -1,20 +1,24 @@
-use Rattle.std.proofs.Common.{◌≡◌, ◌<◌, true, length, arith}
+use Rattle.std.proofs.Common.{◌≡◌, ◌+◌, ◌<◌, true, length, arith}
 use Rattle.std.specs.Prelude.{pos, ◌-ℤ◌}
-use Rattle.bank_tables.specs.Items.{has}
+use Rattle.bank_tables.specs.Items.{Set, has}
 use Rattle.bank_tables.specs.Tables.{size}
-use Rattle.certificate_check.proofs.RowShares.{none_has, one_member, fewer}
+use Rattle.bank_tables.proofs.Walks.{rest_from, all_rest, none_rest, in_rest, next_rest}
+use Rattle.certificate_check.proofs.RowShares.{none_has, one_member}
 use Rattle.certificate_check.proofs.weights.add_to_members.Goals as goal
 
 pub loop-item-init : goal.loop-item-init
-loop-item-init c = none_has (pos c.args.low -ℤ pos c.args.high) (has c.args.set.now) c.args.weights.now
+loop-item-init c = none_has (pos c.args.low -ℤ pos c.args.high) (has c.args.set.now) (rest_from 0 (has c.args.set.now)) c.args.weights.now (all_rest (has c.args.set.now))
 
 pub loop-item-smaller : goal.loop-item-smaller
-loop-item-smaller c = fewer c.in-Some.item (has c.loop-item.rest) (has c.without-rest.result) c.in-Some.ensures.item c.in-Some.ensures.lowest.member c.without-rest.ensures
+loop-item-smaller c = omega (arith, c.in-Some.ensures.item, c.in-Some.ensures.lowest.high)
 
 pub loop-item-preserved : goal.loop-item-preserved
 loop-item-preserved c =
     let i = c.in-Some.item in
-    let here : has c.loop-item.rest i ≡ true = c.in-Some.ensures.lowest.member in
-    let below : i < size c.args.bank.now = c.requires.set i (c.loop-item.invariant.members i here) in
+    let X : Set = has c.args.set.now in
+    let below : i < size c.args.bank.now = c.requires.set i c.in-Some.ensures.lowest.member in
     let within : i < length c.loop-item.weights = omega (arith, c.requires.room, c.loop-item.auto.weights) in
-    one_member (pos c.args.low -ℤ pos c.args.high) c.net_of.result (has c.args.set.now) (has c.loop-item.rest) (has c.without-rest.result) c.args.weights.now c.loop-item.weights i c.net_of.ensures.value c.net_of.ensures.within within (c.requires.within i below) here c.without-rest.ensures c.loop-item.invariant
+    one_member (pos c.args.low -ℤ pos c.args.high) c.net_of.result X (rest_from c.loop-item.at X) (rest_from (i + 1) X) c.args.weights.now c.loop-item.weights i c.net_of.ensures.value c.net_of.ensures.within within (c.requires.within i below) (in_rest c.loop-item.at i X c.in-Some.ensures.lowest) (next_rest c.loop-item.at i X c.in-Some.ensures.lowest) c.loop-item.invariant
+
+pub returns : goal.returns
+returns c i w = c.loop-item.invariant.done i (none_rest c.loop-item.at (has c.args.set.now) c.in_default.ensures.lowest i)
