@@ -1,4 +1,4 @@
-use Rattle.std.proofs.Common.{◌≡◌, ◌≢◌, ◌<◌, ◌+◌, ◌⊎◌, inl, inr, ℕ, length, arith, get_or, set, w32, w64, sym, ◌∙◌, ap, to_z, of_z}
+use Rattle.std.proofs.Common.{rules, ◌≡◌, ◌≢◌, ◌<◌, ◌+◌, ◌⊎◌, inl, inr, ℕ, length, arith, get_or, set, w32, w64, sym, ◌∙◌, ap, to_z, of_z}
 use Rattle.std.specs.Prelude.{ℤ, pos, negsuc, ◌+ℤ◌, ◌≤ℤ◌}
 use Rattle.std.proofs.lemmas.Int.{ints}
 use Rattle.std.proofs.lemmas.List.{get_or-set_same, get_or-set_other}
@@ -38,3 +38,6 @@ loop-g-preserved c =
           ];
       rest = λ h w. let ne : h ≢ g = omega arith in get_or-set_other c.loop-g.values g h new (pos 0) ne ∙ c.loop-g.invariant.rest h (omega arith);
     }
+
+pub loop-g-init : goal.loop-g-init
+loop-g-init c = search rules

@@ -1,4 +1,4 @@
-use Rattle.std.proofs.Common.{◌≡◌, arith, inl, inr, ap, ◌∙◌}
+use Rattle.std.proofs.Common.{rules, ◌≡◌, arith, inl, inr, ap, ◌∙◌}
 use Rattle.bank_tables.specs.Items.{Set}
 use Rattle.exam_model.specs.Forms.{size_in}
 use Rattle.exam_model.specs.Paths.{Path, is_free}
@@ -19,3 +19,6 @@ returns-then-taken-free c =
     let p : Path = path_of c.args.standing.now.cut in
     let free : c.size_in-free.result ≡ size_in P.bank (is_free P p) = c.size_in-free.ensures.size ∙ ap (λ (X : Set). size_in P.bank X) c.requires.standing.free in
     no_maximum P p c.args.vector.now c.args.ray (inr (omega (arith, c.size_in-taken.ensures.size, c.length-length.ensures)))
+
+pub filled_maximum-requires-clause-enough : goal.filled_maximum-requires-clause-enough
+filled_maximum-requires-clause-enough c = search rules

@@ -1,4 +1,4 @@
-use Rattle.std.proofs.Common.{sym, inr, arith}
+use Rattle.std.proofs.Common.{rules, sym, inr, arith}
 use Rattle.std.proofs.lemmas.Result.{err_from_is_err_and}
 use Rattle.proof_tree.specs.Reading.{nodes_at}
 use Rattle.proof_tree.proofs.Shapes.{few_children}
@@ -35,3 +35,6 @@ pub returns : goal.returns
 returns c =
     let l = c.loop-waiting in
     nodes_done l.nodes.items l.room l.waiting c.args.bytes.now l.at (nodes_at 4095 1 c.args.bytes.now c.args.at) (omega (arith, c.loop-waiting-test.false)) l.invariant.read
+
+pub loop-waiting-init : goal.loop-waiting-init
+loop-waiting-init c = search rules

@@ -1,3 +1,4 @@
+use Rattle.std.proofs.Common.{rules}
 use Rattle.std.proofs.lemmas.Result.{err_from_is_err_and}
 use Rattle.proof_tree.specs.Reading.{vectors_at}
 use Rattle.proof_tree.proofs.Loops.{vectors_go_on, vectors_end, vectors_done}
@@ -14,3 +15,6 @@ loop-preserved c =
 
 pub returns-clause-vectors : goal.returns-clause-vectors
 returns-clause-vectors c = vectors_done c.loop.vectors.items c.loop.room c.args.count c.loop.counter c.args.bytes.now c.loop.at (vectors_at 12288 c.args.count c.args.bytes.now c.args.at) c.loop-test.false c.loop.invariant.1
+
+pub loop-init : goal.loop-init
+loop-init c = search rules

@@ -1,4 +1,4 @@
-use Rattle.std.proofs.Common.{◌≡◌, sym, ◌∙◌}
+use Rattle.std.proofs.Common.{rules, ◌≡◌, sym, ◌∙◌}
 use Rattle.wire_http.proofs.FieldLaws.{is_text, is_length_of, not_read}
 use Rattle.wire_http.proofs.fields.size_of.Goals as goal
 
@@ -12,3 +12,6 @@ pub returns-in-Err : goal.returns-in-Err
 returns-in-Err c =
     let l = is_length_of c.args.text.now c.requires (sym c.is_empty.ensures ∙ c.if-is_empty.false) in
     absurd (c.in-Err.ensures.cases.0 (is_text c.args.text.now l))
+
+pub returns-in-Ok-parse : goal.returns-in-Ok-parse
+returns-in-Ok-parse c = search rules

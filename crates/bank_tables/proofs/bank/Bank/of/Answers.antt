@@ -1,4 +1,4 @@
-use Rattle.std.proofs.Common.{sym, ◌∙◌, arith}
+use Rattle.std.proofs.Common.{rules, sym, ◌∙◌, arith}
 use Rattle.bank_tables.proofs.BankLaws.{bank_is}
 use Rattle.bank_tables.proofs.bank.Bank.of.Goals as goal
 
@@ -16,3 +16,6 @@ invariant_of-result c = record {
   bank = bank_is c.args.rows (sym c.first_fault.ensures ∙ c.in-None.is);
   stimuli = c.greatest_stimulus-stimuli.ensures;
 }
+
+pub returns-in-Some-clause-fault : goal.returns-in-Some-clause-fault
+returns-in-Some-clause-fault c = search rules
