@@ -1,4 +1,5 @@
-use Rattle.std.proofs.Common.{◌≡◌, ◌<◌, length, inl, inr, refl, ap, subst}
+use Rattle.std.proofs.Common.{◌≡◌, ◌<◌, length, inl, inr, refl, ap, subst, arith}
+use Rattle.std.proofs.lemmas.Grind.{common_steps}
 use Rattle.exam_model.specs.declared.node.Node.TheVariants.{BranchItem, Bound, Ray, Count, Whole, Open}
 use Rattle.exam_model.specs.Paths.{Path}
 use Rattle.exam_model.specs.Spending.{IsSpentNode}
@@ -35,3 +36,42 @@ returns-in-Bound t c =
                 ]
           ]
     ]
+
+pub bounds-nodes-at : goal.bounds-nodes-at
+bounds-nodes-at t c = grind (arith, common_steps)
+
+pub returns-then-not-is_spent_node : goal.returns-then-not-is_spent_node
+returns-then-not-is_spent_node t c = grind (arith, common_steps)
+
+pub overflow_add-at : goal.overflow_add-at
+overflow_add-at t c = grind (arith, common_steps)
+
+pub spent_to-requires : goal.spent_to-requires
+spent_to-requires t c = grind (arith, common_steps)
+
+pub returns-in_err-next-in-BranchItem : goal.returns-in_err-next-in-BranchItem
+returns-in_err-next-in-BranchItem t c = grind (arith, common_steps)
+
+pub spent_to-requires-in-BranchItem : goal.spent_to-requires-in-BranchItem
+spent_to-requires-in-BranchItem t c = grind (arith, common_steps)
+
+pub overflow_add-at-in-BranchStimulus : goal.overflow_add-at-in-BranchStimulus
+overflow_add-at-in-BranchStimulus t c = grind (arith, common_steps)
+
+pub spent_to-requires-in-BranchStimulus : goal.spent_to-requires-in-BranchStimulus
+spent_to-requires-in-BranchStimulus t c = grind (arith, common_steps)
+
+pub returns-in_err-next-in-BranchStimulus : goal.returns-in_err-next-in-BranchStimulus
+returns-in_err-next-in-BranchStimulus t c = grind (arith, common_steps)
+
+pub spent_to-requires-in-BranchStimulus-2 : goal.spent_to-requires-in-BranchStimulus-2
+spent_to-requires-in-BranchStimulus-2 t c = grind (arith, common_steps)
+
+pub overflow_add-result : goal.overflow_add-result
+overflow_add-result t c = grind (arith, common_steps)
+
+pub returns-in_ok-next-in-BranchItem : goal.returns-in_ok-next-in-BranchItem
+returns-in_ok-next-in-BranchItem t c = grind (arith, common_steps)
+
+pub returns-in_ok-next-in-BranchStimulus : goal.returns-in_ok-next-in-BranchStimulus
+returns-in_ok-next-in-BranchStimulus t c = grind (arith, common_steps)

@@ -90,3 +90,42 @@ returns-in-Bound t c =
                 ]
           ]
     ]
+
+pub bounds-nodes-at : goal.bounds-nodes-at
+bounds-nodes-at t c = grind (arith, common_steps)
+
+pub returns-in-Some : goal.returns-in-Some
+returns-in-Some t c = grind (arith, common_steps)
+
+pub overflow_add-at : goal.overflow_add-at
+overflow_add-at t c = grind (arith, common_steps)
+
+pub walk-requires : goal.walk-requires
+walk-requires t c = grind (arith, common_steps)
+
+pub walk-requires-in-BranchItem : goal.walk-requires-in-BranchItem
+walk-requires-in-BranchItem t c = grind (arith, common_steps)
+
+pub overflow_add-at-in-BranchStimulus : goal.overflow_add-at-in-BranchStimulus
+overflow_add-at-in-BranchStimulus t c = grind (arith, common_steps)
+
+pub walk-requires-in-BranchStimulus : goal.walk-requires-in-BranchStimulus
+walk-requires-in-BranchStimulus t c = grind (arith, common_steps)
+
+pub returns-in_err-walked-in-BranchStimulus : goal.returns-in_err-walked-in-BranchStimulus
+returns-in_err-walked-in-BranchStimulus t c = grind (arith, common_steps)
+
+pub walk-requires-in-BranchStimulus-2 : goal.walk-requires-in-BranchStimulus-2
+walk-requires-in-BranchStimulus-2 t c = grind (arith, common_steps)
+
+pub overflow_add-result : goal.overflow_add-result
+overflow_add-result t c = grind (arith, common_steps)
+
+pub overflow_add-result-in-Open : goal.overflow_add-result-in-Open
+overflow_add-result-in-Open t c = grind (arith, common_steps)
+
+pub overflow_add-result-in-Bound : goal.overflow_add-result-in-Bound
+overflow_add-result-in-Bound t c = grind (arith, common_steps)
+
+pub returns-in-Open : goal.returns-in-Open
+returns-in-Open t c = grind (arith, common_steps)

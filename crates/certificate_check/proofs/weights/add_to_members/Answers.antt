@@ -1,4 +1,4 @@
-use Rattle.std.proofs.Common.{◌≡◌, ◌+◌, ◌<◌, true, length, arith}
+use Rattle.std.proofs.Common.{◌≡◌, ◌+◌, ◌<◌, true, length, arith, rules}
 use Rattle.std.specs.Prelude.{pos, ◌-ℤ◌}
 use Rattle.bank_tables.specs.Items.{Set, has}
 use Rattle.bank_tables.specs.Tables.{size}
@@ -22,3 +22,6 @@ loop-item-preserved c =
 
 pub returns : goal.returns
 returns c i w = c.loop-item.invariant.done i (none_rest c.loop-item.at (has c.args.set.now) c.in_default.ensures.lowest i)
+
+pub overflow_add-weights : goal.overflow_add-weights
+overflow_add-weights c = search rules

@@ -1,4 +1,4 @@
-use Rattle.std.proofs.Common.{◌≡◌, ◌<◌, ◌+◌, ◌*◌, ℕ, ap, ◌∙◌, w64, to_z, of_z, add-one, sym, subst, refl}
+use Rattle.std.proofs.Common.{◌≡◌, ◌<◌, ◌+◌, ◌*◌, ℕ, ap, ◌∙◌, w64, to_z, of_z, add-one, sym, subst, refl, rules}
 use Rattle.std.specs.Prelude.{ℤ, pos, ◌+ℤ◌, ◌*ℤ◌, slice_index}
 use Rattle.bank_tables.specs.Sums.{total_z}
 use Rattle.exam_model.specs.declared.row.Row.{Row}
@@ -24,3 +24,21 @@ loop-r-preserved c =
       value = rw add-one (e-sum ∙ ap (λ z. z +ℤ c.net_times-sum.result) c.loop-r.invariant.value ∙ ap (λ z. total_z r (stimulus_share P M) +ℤ z) e-term);
       within = subst (IsWithin ((r + 1) * 1099494850560)) (sym e-sum) (item_within r sum c.net_times-sum.result c.loop-r.invariant.within c.net_times-sum.ensures.within);
     }
+
+pub loop-r-init : goal.loop-r-init
+loop-r-init c = search rules
+
+pub net_times-sum-requires-clause-part : goal.net_times-sum-requires-clause-part
+net_times-sum-requires-clause-part c = search rules
+
+pub overflow_add-sum : goal.overflow_add-sum
+overflow_add-sum c = search rules
+
+pub loop-r-smaller : goal.loop-r-smaller
+loop-r-smaller c = search rules
+
+pub returns-clause-value : goal.returns-clause-value
+returns-clause-value c = search rules
+
+pub returns-clause-within : goal.returns-clause-within
+returns-clause-within c = search rules
