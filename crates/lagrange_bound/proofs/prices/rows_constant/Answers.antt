@@ -1,4 +1,4 @@
-use Rattle.std.proofs.Common.{◌≡◌, ℕ, ◌+◌, ◌*◌, ◌<◌, List, length, w64, to_z, of_z, add-one, sym, ap, ◌∙◌, subst, arith}
+use Rattle.std.proofs.Common.{◌≡◌, ℕ, ◌+◌, ◌*◌, ◌<◌, List, length, w64, to_z, of_z, add-one, sym, ap, ◌∙◌, subst, arith, rules}
 use Rattle.std.specs.Prelude.{ℤ, ◌+ℤ◌, slice_index}
 use Rattle.bank_tables.specs.Sums.{total_z}
 use Rattle.exam_model.specs.declared.row.Row.{Row}
@@ -38,3 +38,12 @@ returns-clause-value c =
     let same : length c.rows-rows.result.now ≡ length P.plan.rows = ap (λ (xs : List Row). length xs) c.rows-rows.ensures in
     let all : c.loop-r.r ≡ length P.plan.rows = omega (arith, same) in
     c.loop-r.invariant.value ∙ ap (λ (n : ℕ). total_z n (constant_share P (slice_index c.args.sides.now))) all
+
+pub overflow_mul-r : goal.overflow_mul-r
+overflow_mul-r c = search rules
+
+pub overflow_add-sum : goal.overflow_add-sum
+overflow_add-sum c = search rules
+
+pub returns-clause-within : goal.returns-clause-within
+returns-clause-within c = search rules

@@ -1,4 +1,4 @@
-use Rattle.std.proofs.Common.{◌≡◌, ℕ, ◌+◌, ◌*◌, ◌<◌, w64, to_z, of_z, add-one, sym, ap, ◌∙◌, subst, arith}
+use Rattle.std.proofs.Common.{◌≡◌, ℕ, ◌+◌, ◌*◌, ◌<◌, w64, to_z, of_z, add-one, sym, ap, ◌∙◌, subst, arith, rules}
 use Rattle.std.specs.Prelude.{ℤ, pos, ◌+ℤ◌, ◌*ℤ◌, slice_index}
 use Rattle.bank_tables.specs.Sums.{total_z}
 use Rattle.exam_model.specs.declared.row.Row.{Row}
@@ -29,3 +29,15 @@ loop-r-preserved c =
           rw add-one (e-sum ∙ ap (λ z. z +ℤ term) c.loop-r.invariant.value ∙ ap (λ z. total_z r (stimulus_share P M) +ℤ z) e-term);
       within = subst (IsWithin ((r + 1) * 16777216)) (sym e-sum) (summed_within (r * 16777216) 16777216 ((r + 1) * 16777216) sum term (omega arith) c.loop-r.invariant.within c.price_of_stimuli-sum.ensures.within);
     }
+
+pub overflow_mul-r : goal.overflow_mul-r
+overflow_mul-r c = search rules
+
+pub overflow_add-sum : goal.overflow_add-sum
+overflow_add-sum c = search rules
+
+pub returns-clause-value : goal.returns-clause-value
+returns-clause-value c = search rules
+
+pub returns-clause-within : goal.returns-clause-within
+returns-clause-within c = search rules

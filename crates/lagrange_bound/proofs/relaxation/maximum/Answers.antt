@@ -1,4 +1,4 @@
-use Rattle.std.proofs.Common.{◌≡◌, ◌⊎◌, ℕ, suc, ◌+◌, ◌*◌, ◌<◌, ◌≤◌, List, length, inl, inr, sym, ap, ◌∙◌, subst, arith}
+use Rattle.std.proofs.Common.{◌≡◌, ◌⊎◌, ℕ, suc, ◌+◌, ◌*◌, ◌<◌, ◌≤◌, List, length, inl, inr, sym, ap, ◌∙◌, subst, arith, rules}
 use Rattle.std.specs.Prelude.{ℤ, pos, neg_ℤ, ◌-ℤ◌, slice_index, Option}
 use Rattle.std.proofs.lemmas.Int.{ints}
 use Rattle.bank_tables.specs.Items.{Set, has}
@@ -69,3 +69,27 @@ returns c p is =
     c.gains.ensures.value ∙ ap (λ (M : ℕ → ℕ). total_z (stimuli_of P.bank) (λ k. gain_on P c.args.cut.now M excesses (suc k))) sides in
     subst (IsRelaxedMaximum P p v c.args.ray) (sym (four_summed c.rows_constant.result c.sum_over-taken.result c.sum_of_greatest-filled.result c.gains.result c.rows_constant.ensures.within c.sum_over-taken.ensures.within c.sum_of_greatest-filled.ensures.within c.gains.ensures.within))
     (maximum_is P p c.args.cut.now is v c.args.ray weights lowered xs excesses weighed less (λ i w. c.mark_others.ensures.value i (omega (arith, items))) above few c.args.wanted c.requires.fills c.rows_constant.result c.sum_over-taken.result c.sum_of_greatest-filled.result c.gains.result filled constant taken gains)
+
+pub sum_over-taken-requires-clause-within : goal.sum_over-taken-requires-clause-within
+sum_over-taken-requires-clause-within c = search rules
+
+pub cap_weights-excesses-requires-clause-weights : goal.cap_weights-excesses-requires-clause-weights
+cap_weights-excesses-requires-clause-weights c = search rules
+
+pub mark_others-requires-clause-within : goal.mark_others-requires-clause-within
+mark_others-requires-clause-within c = search rules
+
+pub sum_of_greatest-filled-requires-clause-weights : goal.sum_of_greatest-filled-requires-clause-weights
+sum_of_greatest-filled-requires-clause-weights c = search rules
+
+pub overflow_add-result : goal.overflow_add-result
+overflow_add-result c = search rules
+
+pub gains-requires-clause-excesses : goal.gains-requires-clause-excesses
+gains-requires-clause-excesses c = search rules
+
+pub overflow_add-result-2 : goal.overflow_add-result-2
+overflow_add-result-2 c = search rules
+
+pub overflow_add-result-3 : goal.overflow_add-result-3
+overflow_add-result-3 c = search rules

@@ -1,4 +1,4 @@
-use Rattle.std.proofs.Common.{◌≡◌, ◌+◌, ◌*◌, ◌<◌, w64, to_z, of_z, add-one, sym, ap, ◌∙◌, subst, arith}
+use Rattle.std.proofs.Common.{◌≡◌, ◌+◌, ◌*◌, ◌<◌, w64, to_z, of_z, add-one, sym, ap, ◌∙◌, subst, arith, rules}
 use Rattle.std.specs.Prelude.{ℤ, ◌+ℤ◌}
 use Rattle.std.proofs.lemmas.Int.{ints}
 use Rattle.bank_tables.specs.Sums.{total_z}
@@ -23,3 +23,15 @@ loop-i-preserved c =
       value = rw add-one (e-sum ∙ ap (λ z. z +ℤ term) c.loop-i.invariant.value ∙ ap (λ z. total_z i (λ j. excess t (at c.args.weights.now j)) +ℤ z) e-term);
       within = subst (IsWithin ((i + 1) * 281474976710656)) (sym e-sum) (summed_within (i * 281474976710656) 281474976710656 ((i + 1) * 281474976710656) sum term (omega arith) c.loop-i.invariant.within c.excess_of-sum.ensures.within);
     }
+
+pub excess_of-sum-requires-clause-weight : goal.excess_of-sum-requires-clause-weight
+excess_of-sum-requires-clause-weight c = search rules
+
+pub overflow_add-sum : goal.overflow_add-sum
+overflow_add-sum c = search rules
+
+pub returns-clause-value : goal.returns-clause-value
+returns-clause-value c = search rules
+
+pub returns-clause-within : goal.returns-clause-within
+returns-clause-within c = search rules
