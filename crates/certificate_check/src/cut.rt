@@ -12,7 +12,7 @@ use bank_tables::{Bank, ItemSet};
 use constraint_model::Problem;
 
 /// The items taken and the items put out on a path, and the stimuli that a left branch chose.
-#[derive(Clone, Copy, Debug)]
+#[derive(Clone, Copy)]
 pub struct Cut {
     pub taken: ItemSet,
     pub out: ItemSet,

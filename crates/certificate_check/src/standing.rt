@@ -12,7 +12,7 @@ use constraint_model::Problem;
 use constraint_model::counts::stimuli_used;
 
 /// A path, the items free there, those taken or free, the stimuli chosen, open, and either.
-#[derive(Clone, Copy, Debug)]
+#[derive(Clone, Copy)]
 pub struct Standing {
     pub cut: Cut,
     pub free: ItemSet,

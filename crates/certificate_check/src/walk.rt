@@ -19,14 +19,14 @@ use exam_model::{Node, Reason};
 use proof_tree::Tree;
 
 /// Where a walk goes on: the number of the next node, and the Open leaves so far.
-#[derive(Clone, Copy, Debug)]
+#[derive(Clone, Copy)]
 pub struct Walked {
     pub next: u16,
     pub open_leaves: u16,
 }
 
 /// The first unsound node.
-#[derive(Clone, Copy, Debug)]
+#[derive(Clone, Copy)]
 pub struct Unsound {
     pub node: u16,
     pub reason: Reason,
