@@ -82,6 +82,11 @@ in_both : (a b : Bool) → (not a && b) ≡ true → (a ≡ false) × (b ≡ tru
 in_both true b e = absurd (true≢false (sym e))
 in_both false b e = (refl, e)
 
+-- what is not in the set stays
+pub kept_outside : (net : ℤ) (b : Bool) (old new : ℤ) → b ≡ false → IsAdded 1099494850560 old (net *ℤ pos (cond b 1 0)) new → new ≡ old
+kept_outside net true old new e added = absurd (true≢false e)
+kept_outside net false old new e added = added.sum ∙ sym (plus_none old (net *ℤ pos 0) (no_net net))
+
 one_times : (net : ℤ) (b : Bool) → b ≡ true → net ≡ net *ℤ pos (cond b 1 0)
 one_times net true e = omega (arith, ints)
 one_times net false e = absurd (true≢false (sym e))

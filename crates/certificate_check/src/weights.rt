@@ -96,9 +96,10 @@ fn add_to_members(bank: &Bank, set: &ItemSet, low: u32, high: u32, weights: &mut
     requires high { high ≤ 16777216 }
     requires room { size bank.now ≤ length weights.old }
     requires within { (i : ℕ) → i < size bank.now → IsWithin item_top (at weights.old i) }
-    ensures { (i : ℕ) → i < size bank.now →
+    ensures added { (i : ℕ) → i < size bank.now →
         IsAdded (16777216 * 65535) (at weights.old i)
         ((pos low -ℤ pos high) *ℤ pos (cond (has set.now i) 1 0)) (at weights.new i) }
+    ensures rest { (i : ℕ) → size bank.now ≤ i → at weights.new i ≡ at weights.old i }
 {
     let _items = bank.items();
     let mut at = 0;
@@ -122,10 +123,11 @@ fn add_values(
     requires values { (i : ℕ) → i < size bank.now → get_or values.now i 0 ≤ 65535 }
     requires room { size bank.now ≤ length weights.old }
     requires within { (i : ℕ) → i < size bank.now → IsWithin item_top (at weights.old i) }
-    ensures { (i : ℕ) → i < size bank.now →
+    ensures added { (i : ℕ) → i < size bank.now →
         IsAdded (16777216 * 65535) (at weights.old i)
         ((pos low -ℤ pos high) *ℤ pos (cond (has set.now i) (get_or values.now i 0) 0))
         (at weights.new i) }
+    ensures rest { (i : ℕ) → size bank.now ≤ i → at weights.new i ≡ at weights.old i }
 {
     for i in 0..bank.items() {
         weights[i as usize] += scaled(low, high, value_in(values, set, i));
@@ -154,6 +156,7 @@ fn add_quantity(
         IsAdded (16777216 * 65535) (at weights.old i)
         ((pos low -ℤ pos high) *ℤ pos (cond (has set.now i) (quantity bank.now i which) 0))
         (at weights.new i) }
+    ensures rest { (i : ℕ) → size bank.now ≤ i → at weights.new i ≡ at weights.old i }
 {
     read_column(bank, which, column);
     add_values(bank, set, &column.values, low, high, weights);
@@ -170,6 +173,7 @@ fn add_row(bank: &Bank, row: &Row, low: u32, high: u32, column: &mut Column, wei
     requires within { (i : ℕ) → i < size bank.now → IsWithin item_top (at weights.old i) }
     ensures column { IsColumn bank.now column.new }
     ensures added { (i : ℕ) → i < size bank.now → IsAdded (16777216 * 65535) (at weights.old i) ((pos low -ℤ pos high) *ℤ pos (item_activity bank.now row.now i)) (at weights.new i) }
+    ensures rest { (i : ℕ) → size bank.now ≤ i → at weights.new i ≡ at weights.old i }
 {
     match row {
         Row::Count { set, .. } | Row::Enemies { set } => {
@@ -198,6 +202,7 @@ fn add_row_at(
     requires within { (i : ℕ) → i < size problem.now.bank.now → IsWithin item_top (at weights.old i) }
     ensures column { IsColumn problem.now.bank.now column.new }
     ensures added { (i : ℕ) → i < size problem.now.bank.now → IsAdded (16777216 * 65535) (at weights.old i) (item_share (problem_of problem.now) (slice_index sides.now) i r) (at weights.new i) }
+    ensures rest { (i : ℕ) → size problem.now.bank.now ≤ i → at weights.new i ≡ at weights.old i }
 {
     let low = sides[2 * r];
     let high = sides[2 * r + 1];

@@ -18,5 +18,8 @@ loop-i-preserved c =
 pub overflow_add-weights : goal.overflow_add-weights
 overflow_add-weights c = search rules
 
-pub returns : goal.returns
-returns c = search rules
+pub returns-clause-added : goal.returns-clause-added
+returns-clause-added c = search rules
+
+pub returns-clause-rest : goal.returns-clause-rest
+returns-clause-rest c i past = c.loop-i.invariant.rest i (omega arith)
