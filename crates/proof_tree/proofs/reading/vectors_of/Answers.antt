@@ -18,3 +18,18 @@ returns-clause-vectors c = vectors_done c.loop.vectors.items c.loop.room c.args.
 
 pub loop-init : goal.loop-init
 loop-init c = search rules
+
+pub returns-in_err-vector-clause-there : goal.returns-in_err-vector-clause-there
+returns-in_err-vector-clause-there c = search rules
+
+pub overflow_sub-room : goal.overflow_sub-room
+overflow_sub-room c = search rules
+
+pub returns-in_err-push-clause-vectors : goal.returns-in_err-push-clause-vectors
+returns-in_err-push-clause-vectors c = search rules
+
+pub returns-in_err-push-clause-there : goal.returns-in_err-push-clause-there
+returns-in_err-push-clause-there c = search rules
+
+pub returns-clause-there : goal.returns-clause-there
+returns-clause-there c = search rules
