@@ -25,6 +25,10 @@ module _ (h : FileHeader) where
       joined P a0 a1 a2 (weaker (IsImage (latest a0)) P (λ file i. inl i) a0 a1 reading)
       (weaker (λ file. payloads h file ≡ payloads h between) P (λ file gives. inr (gives ∙ ap (payloads h) same)) a1 a2 finishing)
 
+  -- ---- while it is only read
+  pub left_moments : (content : List ℕ) (a0 a1 : List Account) → AtEachMoment a0 a1 (IsImage (latest a0)) → AtEachMoment a0 a1 (IsImageOrGives h (latest a0) content)
+  left_moments content a0 a1 reading = weaker (IsImage (latest a0)) (IsImageOrGives h (latest a0) content) (λ file i. inl i) a0 a1 reading
+
   -- where the disk was settled, each of these files gives the same payloads h
   pub settled_moments : (content : List ℕ) (a0 a1 : List Account) → AtEachMoment a0 a1 (IsImageOrGives h (latest a0) content) → IsSettled content a0 → AtEachMoment a0 a1 (λ file. payloads h file ≡ payloads h content)
   settled_moments content a0 a1 moments settles =
