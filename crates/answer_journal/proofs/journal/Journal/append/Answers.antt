@@ -1,4 +1,5 @@
 use Rattle.std.proofs.Common.{◌≡◌, ◌+◌, length, Some, refl, sym, ◌∙◌, ap, arith}
+use Rattle.std.proofs.lemmas.Grind.{common_steps}
 use Rattle.answer_journal.specs.Frames.{shadowj1}
 use Rattle.answer_journal.specs.StandingLaws.{images_give}
 use Rattle.answer_journal.proofs.Lasting.{length-frame_of, unchanged, lasting, in_doubt}
@@ -41,3 +42,21 @@ pub returns-in-Ok-clause-images : goal.returns-in-Ok-clause-images
 returns-in-Ok-clause-images g c =
     rw (← c.self.view_is)
     (λ told file i. images_give shadowj1 (g.D.Disk.content c.write_record.new.disk) (g.D.Disk.accounts c.write_record.new.disk) _ (c.in-Ok.ensures.rest told) file i ∙ ap Some (c.in-Ok.ensures.added told))
+
+pub returns-in-Ok-clause-ready : goal.returns-in-Ok-clause-ready
+returns-in-Ok-clause-ready g c = grind (arith, common_steps)
+
+pub returns-in-Ok-clause-length : goal.returns-in-Ok-clause-length
+returns-in-Ok-clause-length g c = grind (arith, common_steps)
+
+pub returns-in-Ok-clause-fits : goal.returns-in-Ok-clause-fits
+returns-in-Ok-clause-fits g c = grind (arith, common_steps)
+
+pub returns-in-Err-clause-fits : goal.returns-in-Err-clause-fits
+returns-in-Err-clause-fits g c = grind (arith, common_steps)
+
+pub returns-then-self-with_it-clause-full : goal.returns-then-self-with_it-clause-full
+returns-then-self-with_it-clause-full g c = grind (arith, common_steps)
+
+pub returns-then-self-with_it-clause-fits : goal.returns-then-self-with_it-clause-fits
+returns-then-self-with_it-clause-fits g c = grind (arith, common_steps)
