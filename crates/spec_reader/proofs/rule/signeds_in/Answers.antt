@@ -1,4 +1,5 @@
 use Rattle.std.proofs.Common.{◌≡◌, ◌<◌, ◌+◌, ◌-◌, ◌∙◌, ℕ, List, Bor, None, map, length, sym, ap, inr, ℤ, Option, Err, arith}
+use Rattle.std.proofs.lemmas.Grind.{common_steps}
 use Rattle.std.proofs.lemmas.List.{length-map}
 use Rattle.exam_text.specs.Numbers.{signed_of}
 use Rattle.exam_text.specs.First.{or_fault}
@@ -17,3 +18,9 @@ returns-in-None c =
     let none : signed_of 999999999 (word words (i + 1)) ≡ None = ap (signed_of 999999999) (sym c.word_at.ensures) ∙ sym c.in-None.ensures in
     let here : or_fault (signed_of 999999999 (word words (i + 1))) fault ≡ Err fault = ap (λ (o : Option ℤ). or_fault o fault) none in
     inr (each_fails (length words - 1) i (λ i. or_fault (signed_of 999999999 (word words (i + 1))) fault) c.loop-i.values.items fault c.loop-i.invariant here lt)
+
+pub loop-i-preserved : goal.loop-i-preserved
+loop-i-preserved c = grind (arith, common_steps)
+
+pub returns : goal.returns
+returns c = grind (arith, common_steps)

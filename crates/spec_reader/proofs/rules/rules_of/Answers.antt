@@ -1,4 +1,5 @@
-use Rattle.std.proofs.Common.{◌<◌, ◌+◌, ℕ, List, Bor, [], map, length, get_or, sym}
+use Rattle.std.proofs.Common.{◌<◌, ◌+◌, ℕ, List, Bor, [], map, length, get_or, sym, arith}
+use Rattle.std.proofs.lemmas.Grind.{common_steps}
 use Rattle.std.proofs.lemmas.Result.{err_from_is_err_and}
 use Rattle.std.proofs.lemmas.List.{length-map}
 use Rattle.exam_text.proofs.Firsts.{steps_fail_or}
@@ -15,3 +16,10 @@ returns-in_err-next_rule c =
     let i = c.loop-i.i in
     let lt : i < length lines = rw length-map c.loop-i-test.true in
     rw (p.1, p.2) (steps_fail_or Memory (length lines) i (λ i (rules : List Said). next_rule (i + 1) (get_or lines i []) rules) [] (map said c.loop-i.rules.items) c.in_err-next_rule.field-0.0 c.loop-i.invariant lt (rw (sym c.word_at.ensures) c.in_err-next_rule.ensures))
+
+pub loop-i-preserved : goal.loop-i-preserved
+loop-i-preserved c = grind (arith, common_steps)
+
+pub returns : goal.returns
+unfolding rules_of
+returns c = grind (arith, common_steps)
