@@ -8,6 +8,7 @@ ghost use Rattle.hex.specs.Hex.{encode_lower};
 ghost use Rattle.exam_text.specs.Words.{word, none_empty};
 ghost use Rattle.spec_reader.specs.Keywords.{fits_setting, fits_constraint, fits_count};
 ghost use Rattle.spec_reader.specs.Rules.{said, number_in, signeds_in, key_of, key_in, set_in, setting_said, constraint_said, rule_said, line_of};
+ghost use Rattle.spec_reader.specs.declared.keyword.Constraint.TheVariants as constraint;
 ghost use Rattle.spec_reader.specs.declared.line_fault.LineFault.TheVariants.{Memory};
 
 use crate::keyword::{Constraint, Keyword, Setting, fits_count, keyword_of};
@@ -126,36 +127,54 @@ fn setting_in(alloc: Global, at: u64, setting: Setting, words: &[&[u8]]) -> Resu
 }
 
 #[tactic(auto, unfolding(crate::specs::Rules::constraint_said))]
+fn count_in(at: u64, words: &[&[u8]]) -> Result<Rule, LineFault>
+    requires { 4 ≤ length words.now }
+    ensures { Gives Memory said result (constraint_said at constraint.Count (map (λ w. w.now) words.now)) }
+{
+    let low = number_in(at, MOST, 1, words)?;
+    let high = number_in(at, MOST, 2, words)?;
+    let set = set_in(at, 3, words)?;
+    Ok(Rule::Count(low, high, set))
+}
+
+#[tactic(auto, unfolding(crate::specs::Rules::constraint_said))]
+fn quantity_in(at: u64, words: &[&[u8]]) -> Result<Rule, LineFault>
+    requires { 5 ≤ length words.now }
+    ensures { Gives Memory said result (constraint_said at constraint.Quantity (map (λ w. w.now) words.now)) }
+{
+    let which = number_in(at, 255, 1, words)?;
+    let low = number_in(at, MOST, 2, words)?;
+    let high = number_in(at, MOST, 3, words)?;
+    let set = set_in(at, 4, words)?;
+    Ok(Rule::Quantity(which as u8, low, high, set))
+}
+
+#[tactic(auto, unfolding(crate::specs::Rules::constraint_said))]
+fn stimulus_in(at: u64, words: &[&[u8]]) -> Result<Rule, LineFault>
+    requires { 4 ≤ length words.now }
+    ensures { Gives Memory said result (constraint_said at constraint.Stimulus (map (λ w. w.now) words.now)) }
+{
+    let stimulus = number_in(at, 255, 1, words)?;
+    let low = number_in(at, MOST, 2, words)?;
+    let high = number_in(at, MOST, 3, words)?;
+    Ok(Rule::Stimulus(stimulus as u8, low, high))
+}
+
+#[tactic(auto, unfolding(crate::specs::Rules::constraint_said))]
 fn constraint_in(at: u64, constraint: Constraint, words: &[&[u8]]) -> Result<Rule, LineFault>
     requires { fits_constraint constraint (length words.now) ≡ true }
     ensures { Gives Memory said result (constraint_said at constraint (map (λ w. w.now) words.now)) }
 {
     match constraint {
-        Constraint::Count => {
-            let low = number_in(at, MOST, 1, words)?;
-            let high = number_in(at, MOST, 2, words)?;
-            let set = set_in(at, 3, words)?;
-            Ok(Rule::Count(low, high, set))
-        }
-        Constraint::Quantity => {
-            let which = number_in(at, 255, 1, words)?;
-            let low = number_in(at, MOST, 2, words)?;
-            let high = number_in(at, MOST, 3, words)?;
-            let set = set_in(at, 4, words)?;
-            Ok(Rule::Quantity(which as u8, low, high, set))
-        }
+        Constraint::Count => count_in(at, words),
+        Constraint::Quantity => quantity_in(at, words),
         Constraint::Enemies => Ok(Rule::Enemies(set_in(at, 1, words)?)),
         Constraint::Stimuli => {
             let low = number_in(at, MOST, 1, words)?;
             let high = number_in(at, MOST, 2, words)?;
             Ok(Rule::Stimuli(low, high))
         }
-        Constraint::Stimulus => {
-            let stimulus = number_in(at, 255, 1, words)?;
-            let low = number_in(at, MOST, 2, words)?;
-            let high = number_in(at, MOST, 3, words)?;
-            Ok(Rule::Stimulus(stimulus as u8, low, high))
-        }
+        Constraint::Stimulus => stimulus_in(at, words),
     }
 }
 
