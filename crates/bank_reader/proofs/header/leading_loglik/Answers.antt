@@ -1,4 +1,4 @@
-use Rattle.std.proofs.Common.{rules, ◌≡◌, ◌+◌, ◌∙◌, ◌*◌, ◌/◌, ◌%◌, ℕ, List, false, sym, ap}
+use Rattle.std.proofs.Common.{◌≡◌, ◌+◌, ◌∙◌, ◌*◌, ◌/◌, ◌%◌, ℕ, List, false, sym, ap}
 use Rattle.std.specs.Str.{bytes_eq}
 use Rattle.csv.specs.Records.{fields_of}
 use Rattle.bank_reader.specs.Columns.{loglik_name}
