@@ -4,7 +4,7 @@ ghost use Rattle.std.specs.Prelude.{◌≡◌};
 ghost use Rattle.spec_reader.specs.Keywords.{setting_of, constraint_of, keyword_of, fits_setting, fits_constraint, fits_count};
 
 /// The lines that may occur only once.
-#[derive(Clone, Copy, Debug, PartialEq, Eq)]
+#[derive(Clone, Copy, PartialEq, Eq)]
 pub enum Setting {
     Length,
     Prior,
@@ -18,7 +18,7 @@ pub enum Setting {
 }
 
 /// The lines that give a row, or the bounds of a stimulus.
-#[derive(Clone, Copy, Debug, PartialEq, Eq)]
+#[derive(Clone, Copy, PartialEq, Eq)]
 pub enum Constraint {
     Count,
     Quantity,
@@ -28,7 +28,7 @@ pub enum Constraint {
 }
 
 /// The kinds of line.
-#[derive(Clone, Copy, Debug, PartialEq, Eq)]
+#[derive(Clone, Copy, PartialEq, Eq)]
 pub enum Keyword {
     Setting(Setting),
     Constraint(Constraint),

@@ -19,7 +19,7 @@ pub enum Kind {
 }
 
 /// Why lines have no rules.
-#[derive(Clone, Copy, Debug, PartialEq, Eq)]
+#[derive(Clone, Copy, PartialEq, Eq)]
 pub enum LineFault {
     /// This line is ill-formed. Lines count from 1.
     Line(u64, Kind),
