@@ -15,10 +15,6 @@ pub returns-in_err-rule : goal.returns-in_err-rule
 unfolding next_rule
 returns-in_err-rule c = grind (arith, common_steps)
 
-pub returns-then-stands : goal.returns-then-stands
-unfolding next_rule
-returns-then-stands c = grind (arith, common_steps)
-
 pub returns : goal.returns
 unfolding next_rule
 returns c = grind (arith, common_steps)
