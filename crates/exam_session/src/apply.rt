@@ -31,11 +31,13 @@ impl<'a> Book<'a> {
         if self.entries.count() >= ENTRIES {
             return Err(Memory);
         }
-        if self.seats.len() < self.spec.sessions() as usize {
-            self.seats.reserve(1)?;
-            self.bookings.reserve()?;
-            make_spare(&mut self.spare, alloc, self.spec)?;
+        if self.seats.len() >= self.spec.sessions() as usize {
+            self.room = 1;
+            return Ok(());
         }
+        self.seats.reserve(1)?;
+        self.bookings.reserve()?;
+        make_spare(&mut self.spare, alloc, self.spec)?;
         self.room = 1;
         Ok(())
     }
