@@ -1,4 +1,4 @@
-use Rattle.std.proofs.Common.{◌≡◌, ◌≤◌, ◌∙◌, ℕ, Bool, List, length, IsTrue, refl, sym, ap, subst, arith}
+use Rattle.std.proofs.Common.{◌≡◌, ◌≤◌, ◌∙◌, ℕ, Bool, List, length, IsTrue, refl, sym, ap, subst, rules, arith}
 use Rattle.answer_journal.specs.Journal.{accounts_of, faults_of, tells_of, payloads_of}
 use Rattle.answer_journal.specs.Frames.{payloads, shadowj1}
 use Rattle.exam_edge.specs.Images.{Account, AtEachMoment, IsSettled}
@@ -26,6 +26,9 @@ returns-in-Err-take_all-clause-settled_err g c = λ told settled H stands.
     subst (λ (d : g.row.D.Denot). AtEachMoment a0 (g.D.Disk.accounts d) (Stands b plan H)) (sym c.stop.ensures)
     (subst (λ (a : List Account). AtEachMoment a0 a (Stands b plan H)) (sym same)
     (stands_while_read b plan H (g.D.Disk.content c.args.disk) a0 (g.D.Disk.accounts w0.disk) stands (c.in-Ok.ensures.settled told settled)))
+
+pub returns-in-Err-take_all-clause-untouched : goal.returns-in-Err-take_all-clause-untouched
+returns-in-Err-take_all-clause-untouched g c = search rules
 
 -- the disk fails
 pub returns-in-Err-finish-clause-settled_err : goal.returns-in-Err-finish-clause-settled_err

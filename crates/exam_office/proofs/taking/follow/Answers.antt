@@ -1,0 +1,5 @@
+use Rattle.std.proofs.Common.{rules}
+use Rattle.exam_office.proofs.taking.follow.Goals as goal
+
+pub apply-requires-clause-legal : goal.apply-requires-clause-legal
+apply-requires-clause-legal c = search (rules, c.may_is_legal.ensures)
