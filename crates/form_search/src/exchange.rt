@@ -5,7 +5,7 @@ use crate::tally::Tally;
 use bank_tables::ItemSet;
 
 /// One item that leaves for another.
-#[derive(Clone, Copy, Debug)]
+#[derive(Clone, Copy)]
 pub struct Swap {
     pub leaves: u16,
     pub comes: u16,

@@ -9,7 +9,7 @@ use bank_tables::ItemSet;
 use constraint_model::{Problem, is_form, objective};
 
 /// The best form known, with its objective.
-#[derive(Debug, Drop)]
+#[derive(Drop)]
 pub struct Incumbent {
     pub form: Option<ItemSet>,
     pub objective: u64,

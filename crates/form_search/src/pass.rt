@@ -28,7 +28,7 @@ const MOST_NODES: u32 = 4095;
 const PROBE_STEPS: u32 = 8;
 
 /// How far a pass may go.
-#[derive(Clone, Copy, Debug)]
+#[derive(Clone, Copy)]
 pub struct Limits {
     /// Branches, at most.
     pub branches: u32,
@@ -41,7 +41,7 @@ pub struct Limits {
 }
 
 /// What a pass has made so far.
-#[derive(Debug, Drop)]
+#[derive(Drop)]
 pub struct Pass {
     pub nodes: Vec<Node>,
     pub pool: Pool,

@@ -16,7 +16,7 @@ const MOST_VECTORS: usize = 255;
 const MOST_PAIRS: usize = 12_288;
 
 /// The vectors of a tree.
-#[derive(Debug, Drop)]
+#[derive(Drop)]
 pub struct Pool {
     vectors: Vec<Priced>,
     /// How many pairs they have in all.

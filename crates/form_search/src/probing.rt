@@ -24,14 +24,14 @@ const LEAST_COUNTS: i64 = 6;
 
 /// The vector that the steps on a side of a branch begin with, and its bound there: the greatest number where no steps were
 /// made there, the least where none are needed.
-#[derive(Debug, Drop)]
+#[derive(Drop)]
 pub struct Hand {
     pub vector: Vector,
     pub bound: i64,
 }
 
 /// A branch that was tried, and how good it is.
-#[derive(Debug, Drop)]
+#[derive(Drop)]
 pub struct Probe {
     node: Node,
     score: i64,

@@ -58,7 +58,7 @@ fn filled(table: &Table, weights: &[i64], begun: &ItemSet) -> ItemSet {
 }
 
 /// A swap with how it changes the violation, and what it loses in weight.
-#[derive(Clone, Copy, Debug)]
+#[derive(Clone, Copy)]
 struct Found {
     swap: Swap,
     change: i64,

@@ -13,7 +13,7 @@ use std::alloc::Global;
 
 /// The result of steps on a path: the best vector, for each item and stimulus its share, the items chosen last, and the
 /// vector's bound as the steps computed it.
-#[derive(Debug, Drop)]
+#[derive(Drop)]
 pub struct Stepped {
     pub vector: Vector,
     pub shares: Vec<u16>,

@@ -10,14 +10,14 @@ use std::alloc::Global;
 const FEW_STIMULI: usize = 24;
 
 /// What an item adds to a row of the plan.
-#[derive(Clone, Copy, Debug)]
+#[derive(Clone, Copy)]
 pub struct Part {
     pub row: u8,
     pub amount: u32,
 }
 
 /// The bounds of a row, whether it counts stimuli, and the mean of what the free items add to it.
-#[derive(Clone, Copy, Debug)]
+#[derive(Clone, Copy)]
 pub struct Limits {
     pub low: i64,
     pub high: i64,
@@ -27,7 +27,7 @@ pub struct Limits {
 
 /// An item: its information at the estimate, its stimulus (0 for none), whether it was given, whether it may be taken or
 /// left, and where what it adds to rows begins and ends.
-#[derive(Clone, Copy, Debug)]
+#[derive(Clone, Copy)]
 pub struct Entry {
     pub info: u32,
     pub stimulus: u8,
@@ -38,7 +38,7 @@ pub struct Entry {
 }
 
 /// The numbers of a problem.
-#[derive(Debug, Drop)]
+#[derive(Drop)]
 pub struct Table {
     pub length: u32,
     pub entries: Vec<Entry>,

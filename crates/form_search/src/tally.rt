@@ -5,7 +5,7 @@ use bank_tables::ItemSet;
 use lagrange_bound::Cut;
 
 /// The sums of a set of items.
-#[derive(Clone, Copy, Debug)]
+#[derive(Clone, Copy)]
 pub struct Tally {
     /// On each row that doesn't count stimuli.
     activity: [i64; 128],

@@ -37,7 +37,7 @@ const ROOT_MARGIN: i64 = 256;
 const FAR: i64 = 128;
 
 /// What a pass has made so far.
-#[derive(Debug, Drop)]
+#[derive(Drop)]
 pub struct VertexPass {
     pub nodes: Vec<Node>,
     pub pool: Pool,

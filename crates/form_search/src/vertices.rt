@@ -31,7 +31,7 @@ const RAY_LENGTHS: u32 = 4;
 const FIRST_LENGTH: i64 = 1_048_576;
 
 /// The relaxation of a problem, and room for exchanges.
-#[derive(Debug, Drop)]
+#[derive(Drop)]
 pub struct Solver {
     pub relaxation: Relaxation,
     pub room: Workspace,
