@@ -204,16 +204,15 @@ fn stimuli_on(
     Ok(stimuli)
 }
 
-/// The free items from a place on, in the order of their places.
-fn ranked_from(alloc: Global, gains: &[i64], alone: usize) -> Result<Vec<Weighed>, Memory> {
-    let mut ranked = Vec::new(alloc);
+/// Adds the free items from a place on, in the order of their places.
+fn push_ranked(ranked: &mut Vec<Weighed>, gains: &[i64], alone: usize) -> Result<(), Memory> {
     for (item, gain) in gains.iter().enumerate().skip(alone) {
         ranked.push(Weighed {
             weight: *gain,
             item,
         })?;
     }
-    Ok(ranked)
+    Ok(())
 }
 
 /// Adds what the free items of a large set add to a line, and gives the sum.
@@ -347,30 +346,52 @@ impl Flat {
         Ok(())
     }
 
-    /// The free items and the stimuli, with no lines and none chosen.
-    fn with_items(
-        alloc: Global,
-        free: &Free,
-        stimuli: Vec<Stimulus>,
-        alone: usize,
-    ) -> Result<Flat, Memory> {
-        let count = free.numbers.len();
-        Ok(Flat {
-            numbers: Vec::from_slice(alloc, &free.numbers)?,
-            gains: Vec::from_slice(alloc, &free.gains)?,
-            weights: Vec::from_slice(alloc, &free.gains)?,
-            shares: Vec::from_elem(alloc, 0, count)?,
+    /// No items and no lines yet, but some stimuli, and so many items of no stimulus to come.
+    fn empty(alloc: Global, selection: Selection, stimuli: Vec<Stimulus>, alone: usize) -> Flat {
+        Flat {
+            numbers: Vec::new(alloc),
+            gains: Vec::new(alloc),
+            weights: Vec::new(alloc),
+            shares: Vec::new(alloc),
             alone,
             top: Vec::new(alloc),
-            ranked: ranked_from(alloc, &free.gains, alone)?,
+            ranked: Vec::new(alloc),
             stimuli,
-            lines: Vec::with_capacity(alloc, 32)?,
-            selection: Selection::none(alloc, count)?,
+            lines: Vec::new(alloc),
+            selection,
             taken: 0,
             wanted: 0,
             threshold: 0,
             rest_is_met: true,
-        })
+        }
+    }
+
+    /// Adds the free items.
+    fn add_items(&mut self, free: &Free) -> Result<(), Memory> {
+        self.numbers.extend_from_slice(&free.numbers)?;
+        self.gains.extend_from_slice(&free.gains)?;
+        self.weights.extend_from_slice(&free.gains)?;
+        self.shares.resize(free.numbers.len(), 0)?;
+        self.lines.reserve(32)?;
+        push_ranked(&mut self.ranked, &free.gains, self.alone)
+    }
+
+    /// The free items and the stimuli on a path, with no lines and none chosen.
+    fn with_items(
+        alloc: Global,
+        problem: &Problem,
+        cut: &Cut,
+        free: &mut Free,
+        ray: bool,
+    ) -> Result<Flat, Memory> {
+        let taken = Taken::of(problem, cut.taken, ray);
+        let alone = free.numbers.len();
+        let stimuli = stimuli_on(alloc, problem, cut, free, &taken, ray)?;
+        let selection = Selection::none(alloc, free.numbers.len())?;
+        let mut flat = Flat::empty(alloc, selection, stimuli, alone);
+        flat.taken = taken.gain;
+        flat.add_items(free)?;
+        Ok(flat)
     }
 
     /// Moves the multipliers by a step of a length, and brings the weights to the new prices.
@@ -416,6 +437,23 @@ impl Flat {
             self.selection.mark(weighed.item, true);
         }
         Ok(())
+    }
+
+    /// Adds the rows, and begins with the multipliers of some sides.
+    fn begin(
+        &mut self,
+        problem: &Problem,
+        cut: &Cut,
+        free: &Free,
+        sides: &Sides,
+    ) -> Result<(), Memory> {
+        for (number, row) in problem.spec.rows().iter().enumerate() {
+            self.add_row(problem, cut, free, sides, number, row)?;
+        }
+        self.wanted = (problem.spec.length() as i64).wrapping_sub(cut.taken.count() as i64);
+        self.threshold = multiplier_at(sides, 384).wrapping_sub(multiplier_at(sides, 385));
+        self.step(0);
+        self.begin_top()
     }
 
     /// Puts an item of no stimulus among the heaviest, in place of the last of them.
@@ -464,19 +502,9 @@ impl Flat {
         ray: bool,
     ) -> Result<Flat, Memory> {
         let sides = sides_of(from);
-        let taken = Taken::of(problem, cut.taken, ray);
         let mut free = free_items(alloc, problem, &cut.free, ray)?;
-        let alone = free.numbers.len();
-        let stimuli = stimuli_on(alloc, problem, cut, &mut free, &taken, ray)?;
-        let mut flat = Flat::with_items(alloc, &free, stimuli, alone)?;
-        for (number, row) in problem.spec.rows().iter().enumerate() {
-            flat.add_row(problem, cut, &free, &sides, number, row)?;
-        }
-        flat.taken = taken.gain;
-        flat.wanted = (problem.spec.length() as i64).wrapping_sub(cut.taken.count() as i64);
-        flat.threshold = multiplier_at(&sides, 384).wrapping_sub(multiplier_at(&sides, 385));
-        flat.step(0);
-        flat.begin_top()?;
+        let mut flat = Flat::with_items(alloc, problem, cut, &mut free, ray)?;
+        flat.begin(problem, cut, &free, &sides)?;
         Ok(flat)
     }
 }

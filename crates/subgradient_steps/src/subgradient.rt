@@ -19,12 +19,17 @@ fn push_side(pairs: &mut Vec<(u16, u32)>, side: u16, multiplier: i64) -> Result<
     Ok(())
 }
 
+/// A side with its multiplier, and the next side with another one.
+fn push_sides(pairs: &mut Vec<(u16, u32)>, side: u16, low: i64, high: i64) -> Result<(), Memory> {
+    push_side(pairs, side, low)?;
+    push_side(pairs, side.wrapping_add(1), high)
+}
+
 /// The sides of the rows with the multipliers of the best bound.
 fn push_rows(pairs: &mut Vec<(u16, u32)>, lines: &[Line]) -> Result<(), Memory> {
     for line in lines {
         let best = line.multiplier.best;
-        push_side(pairs, line.side, best)?;
-        push_side(pairs, line.side.wrapping_add(1), best.wrapping_neg())?;
+        push_sides(pairs, line.side, best, best.wrapping_neg())?;
     }
     Ok(())
 }
@@ -36,8 +41,7 @@ fn push_cap(pairs: &mut Vec<(u16, u32)>, cap: i64) -> Result<(), Memory> {
         pairs.push((385, 1))?;
         return Ok(());
     }
-    push_side(pairs, 384, cap)?;
-    push_side(pairs, 385, cap.wrapping_neg())
+    push_sides(pairs, 384, cap, cap.wrapping_neg())
 }
 
 /// Gives the items of a set the share of those always selected.
@@ -61,8 +65,7 @@ impl Flat {
         let mut has_open = false;
         for stimulus in &self.stimuli {
             let (low, high) = stimulus.multipliers(&self.ranked, price, threshold);
-            push_side(pairs, stimulus.side, low)?;
-            push_side(pairs, stimulus.side.wrapping_add(1), high)?;
+            push_sides(pairs, stimulus.side, low, high)?;
             has_open = has_open || !stimulus.is_chosen;
         }
         if has_open {
@@ -124,6 +127,22 @@ struct Search {
 }
 
 impl Search {
+    /// A search from a vector, before its first step.
+    fn of(
+        alloc: Global,
+        problem: &Problem,
+        cut: &Cut,
+        from: &Vector,
+        aim: &Aim,
+    ) -> Result<Search, Memory> {
+        Ok(Search {
+            flat: Flat::of(alloc, problem, cut, from, aim.ray)?,
+            level: Level::of(aim.target.unwrap_or(i64::MIN / 4), 0, 1, 0),
+            threshold: 0,
+            form: None,
+        })
+    }
+
     /// Takes the items chosen if they are a form whose objective is above the target; the target
     /// rises to it.
     fn take_form(&mut self, cut: &Cut, ray: bool) {
@@ -208,6 +227,26 @@ impl Search {
         self.flat.step(0);
         self.flat.rank_members();
     }
+
+    /// What the steps led to.
+    fn ascent(
+        &mut self,
+        alloc: Global,
+        problem: &Problem,
+        cut: &Cut,
+        from: &Vector,
+    ) -> Result<Ascent, Memory> {
+        let choice = self.flat.chosen(cut.taken);
+        self.return_to_best();
+        Ok(Ascent {
+            vector: self.flat.vector(alloc, self.threshold, from)?,
+            bound: self.level.best,
+            shares: self.flat.all_shares(alloc, problem, cut.taken)?,
+            stimulus_shares: self.flat.stimulus_shares(alloc, problem)?,
+            choice,
+            form: self.form,
+        })
+    }
 }
 
 /// The part of the gap that the first step of a long search aims at, and of a short one.
@@ -228,22 +267,7 @@ pub fn steps_from(
     from: &Vector,
     aim: Aim,
 ) -> Result<Ascent, Memory> {
-    let target = aim.target.unwrap_or(i64::MIN / 4);
-    let mut search = Search {
-        flat: Flat::of(alloc, problem, cut, from, aim.ray)?,
-        level: Level::of(target, 0, 1, 0),
-        threshold: 0,
-        form: None,
-    };
+    let mut search = Search::of(alloc, problem, cut, from, &aim)?;
     search.run(cut, &aim);
-    let choice = search.flat.chosen(cut.taken);
-    search.return_to_best();
-    Ok(Ascent {
-        vector: search.flat.vector(alloc, search.threshold, from)?,
-        bound: search.level.best,
-        shares: search.flat.all_shares(alloc, problem, cut.taken)?,
-        stimulus_shares: search.flat.stimulus_shares(alloc, problem)?,
-        choice,
-        form: search.form,
-    })
+    search.ascent(alloc, problem, cut, from)
 }
