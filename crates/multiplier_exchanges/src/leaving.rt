@@ -13,14 +13,14 @@ const LEAST_COLUMN: i64 = 16_384;
 const LEAST_LINE: i64 = 262_144;
 
 /// What leaves: the basic column at a place, or a line that isn't tight.
-#[derive(Clone, Copy, Debug)]
+#[derive(Clone, Copy)]
 pub(crate) enum Part {
     Column(usize),
     Line(u16),
 }
 
 /// What leaves, the sign of its reduced weight or multiplier to come, and how far it is out.
-#[derive(Clone, Copy, Debug)]
+#[derive(Clone, Copy)]
 pub(crate) struct Leaver {
     pub part: Part,
     pub sign: i64,

@@ -5,6 +5,7 @@ use crate::inverse::{add_row, grow, replace_column, replace_line, shrink};
 use crate::leaving::{Leaver, Part};
 use crate::numbers::{ONE, at, product, quotient};
 use crate::relaxation::Relaxation;
+use crate::values::sum_of_products;
 use crate::vertex::{Hold, Stand, Tight, Vertex, stand_by};
 use crate::workspace::{Direction, Workspace};
 use proof_tree::Memory;
@@ -100,18 +101,14 @@ impl Vertex {
             let amount = self.amount(relaxation, column, tight.line);
             room.needs.push(amount)?;
         }
-        self.times_needs(room)
+        self.times_inverse(room.needs.as_slice(), &mut room.column)
     }
 
-    /// The needs times the inverse.
-    fn times_needs(&self, room: &mut Workspace) -> Result<(), Memory> {
-        room.column.clear();
+    /// Some numbers times the inverse.
+    fn times_inverse(&self, numbers: &[i64], made: &mut Vec<i64>) -> Result<(), Memory> {
+        made.clear();
         for place in 0..self.basic.len() {
-            let mut sum = 0i64;
-            for (number, amount) in self.inverse_row(place).iter().zip(room.needs.iter()) {
-                sum = sum.wrapping_add(number.wrapping_mul(*amount));
-            }
-            room.column.push(sum)?;
+            made.push(sum_of_products(self.inverse_row(place), numbers))?;
         }
         Ok(())
     }

@@ -568,30 +568,49 @@ impl Relaxation {
         Ok(())
     }
 
-    /// The relaxation of a problem at its root.
-    pub fn of(alloc: Global, problem: &Problem, root: &PathSets) -> Result<Relaxation, Memory> {
-        let free = root.free.count() as usize;
-        let mut relaxation = Relaxation {
-            gains: Vec::with_capacity(alloc, free)?,
+    /// The relaxation with no columns and no lines.
+    fn empty(alloc: Global, given: i64) -> Relaxation {
+        Relaxation {
+            gains: Vec::new(alloc),
             lines: Vec::new(alloc),
-            line_cells: Vec::with_capacity(alloc, free.saturating_mul(4))?,
-            starts: Vec::with_capacity(alloc, free)?,
+            line_cells: Vec::new(alloc),
+            starts: Vec::new(alloc),
             column_cells: Vec::new(alloc),
-            given: gains_of(problem, &root.taken),
-            items: Vec::with_capacity(alloc, free)?,
+            given,
+            items: Vec::new(alloc),
             stimuli: Vec::new(alloc),
             links: Vec::new(alloc),
             linked: Vec::new(alloc),
             link_starts: Vec::new(alloc),
-        };
-        let places = relaxation.add_items(problem, &root.free)?;
-        relaxation.add_stimuli(root)?;
+        }
+    }
+
+    /// Makes room for the columns of so many items.
+    fn make_room(&mut self, free: usize) -> Result<(), Memory> {
+        self.gains.reserve(free)?;
+        self.line_cells.reserve(free.saturating_mul(4))?;
+        self.starts.reserve(free)?;
+        self.items.reserve(free)?;
+        Ok(())
+    }
+
+    /// Adds the columns and the lines of a problem at its root.
+    fn fill(&mut self, alloc: Global, problem: &Problem, root: &PathSets) -> Result<(), Memory> {
+        self.make_room(root.free.count() as usize)?;
+        let places = self.add_items(problem, &root.free)?;
+        self.add_stimuli(root)?;
         let members = members_of(problem.bank, &root.free);
-        relaxation.add_links(root, &places, &members)?;
-        relaxation.add_length(problem, root)?;
-        relaxation.add_rows(problem, root, &places)?;
-        relaxation.add_all_bounds(problem, root, &places, &members)?;
-        relaxation.add_columns(alloc)?;
+        self.add_links(root, &places, &members)?;
+        self.add_length(problem, root)?;
+        self.add_rows(problem, root, &places)?;
+        self.add_all_bounds(problem, root, &places, &members)?;
+        self.add_columns(alloc)
+    }
+
+    /// The relaxation of a problem at its root.
+    pub fn of(alloc: Global, problem: &Problem, root: &PathSets) -> Result<Relaxation, Memory> {
+        let mut relaxation = Relaxation::empty(alloc, gains_of(problem, &root.taken));
+        relaxation.fill(alloc, problem, root)?;
         Ok(relaxation)
     }
 }

@@ -8,7 +8,7 @@ use proof_tree::Memory;
 
 /// The sum of the products of two lists of numbers.
 #[inline]
-fn sum_of_products(first: &[i64], second: &[i64]) -> i64 {
+pub(crate) fn sum_of_products(first: &[i64], second: &[i64]) -> i64 {
     let mut sum = 0i64;
     for (one, other) in first.iter().zip(second.iter()) {
         sum = sum.wrapping_add(one.wrapping_mul(*other));
