@@ -7,7 +7,7 @@ ghost use Rattle.lagrange_bound.specs.Cuts.{IsCut};
 use crate::branching::{Choice, choices};
 use crate::incumbent::Incumbent;
 use crate::leaves::settled;
-use crate::pool::{Pool, closes, empty_vector};
+use crate::pool::{Pool, empty_vector};
 use crate::priced::Priced;
 use crate::probing::{Hand, best_probed};
 use crate::steps::{Stepped, take_form};
@@ -136,27 +136,10 @@ impl Pass {
             Some(hand) if hand.bound <= target => hand.vector.again(alloc)?,
             _ => return Ok(None),
         };
-        self.closed_by(alloc, table, incumbent, place, vector)
-    }
-
-    /// The leaf of a vector, if that closes the path and there is room for it.
-    fn closed_by(
-        &mut self,
-        alloc: Global,
-        table: &Table,
-        incumbent: &Incumbent,
-        place: &Waiting,
-        vector: Vector,
-    ) -> Result<Option<Node>, Memory> {
-        if !self.pool.has_room() {
-            return Ok(None);
-        }
-        let priced = Priced::of(alloc, table, vector, incumbent.form.is_none())?;
-        if closes(&priced, table, incumbent, &place.cut) {
-            self.pool.store(priced)
-        } else {
-            Ok(None)
-        }
+        let ray = incumbent.form.is_none();
+        let cut = &place.cut;
+        self.pool
+            .closed_by(alloc, table, incumbent, cut, vector, ray)
     }
 
     /// Hands over what the steps on the sides of a branch begin with.
@@ -246,7 +229,9 @@ impl Pass {
         take_form(problem, table, incumbent, &ascent);
         if ascent.bound <= incumbent.top() {
             let vector = ascent.vector.again(alloc)?;
-            if let Some(leaf) = self.closed_by(alloc, table, incumbent, place, vector)? {
+            let (cut, ray) = (&place.cut, incumbent.form.is_none());
+            let pool = &mut self.pool;
+            if let Some(leaf) = pool.closed_by(alloc, table, incumbent, cut, vector, ray)? {
                 return Ok(leaf);
             }
         }

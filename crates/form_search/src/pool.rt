@@ -129,6 +129,27 @@ impl Pool {
             .any(|priced| closes(priced, table, incumbent, cut))
     }
 
+    /// The leaf of a vector, if that closes the path and there is room for it.
+    pub fn closed_by(
+        &mut self,
+        alloc: Global,
+        table: &Table,
+        incumbent: &Incumbent,
+        cut: &Cut,
+        vector: Vector,
+        ray: bool,
+    ) -> Result<Option<Node>, Memory> {
+        if !self.has_room() {
+            return Ok(None);
+        }
+        let priced = Priced::of(alloc, table, vector, ray)?;
+        if closes(&priced, table, incumbent, cut) {
+            self.store(priced)
+        } else {
+            Ok(None)
+        }
+    }
+
     /// Whether the empty vector closes the path and isn't among the others yet.
     fn plain_closes(
         &mut self,

@@ -4,8 +4,7 @@ ghost use Rattle.exam_model.specs.Validity.{IsWellMade};
 ghost use Rattle.constraint_model.specs.Views.{problem_of};
 
 use crate::incumbent::Incumbent;
-use crate::pool::{Pool, closes};
-use crate::priced::Priced;
+use crate::pool::Pool;
 use crate::table::Table;
 use constraint_model::Problem;
 use exam_model::Node;
@@ -55,27 +54,6 @@ pub fn target_of(incumbent: &Incumbent) -> i64 {
     }
 }
 
-/// The leaf of a vector, if that closes the path and there is room for it.
-fn closed_by(
-    alloc: Global,
-    table: &Table,
-    pool: &mut Pool,
-    incumbent: &Incumbent,
-    cut: &Cut,
-    vector: Vector,
-    ray: bool,
-) -> Result<Option<Node>, Memory> {
-    if !pool.has_room() {
-        return Ok(None);
-    }
-    let priced = Priced::of(alloc, table, vector, ray)?;
-    if closes(&priced, table, incumbent, cut) {
-        pool.store(priced)
-    } else {
-        Ok(None)
-    }
-}
-
 impl Solver {
     /// The solver of a problem.
     pub fn of(alloc: Global, problem: &Problem, root: &Cut) -> Result<Solver, Memory> {
@@ -106,7 +84,7 @@ impl Solver {
         vertex: &Vertex,
     ) -> Result<Option<Node>, Memory> {
         let vector = self.vector(alloc, vertex)?;
-        closed_by(alloc, table, pool, incumbent, cut, vector, false)
+        pool.closed_by(alloc, table, incumbent, cut, vector, false)
     }
 
     /// The leaf of the vector of a vertex whose bound closes the path; where the rounding to whole multipliers lost that, of
@@ -134,7 +112,7 @@ impl Solver {
         };
         let from = self.vector(alloc, vertex)?;
         let near = climb(alloc, problem, cut, &from, aim)?;
-        closed_by(alloc, table, pool, incumbent, cut, near.vector, false)
+        pool.closed_by(alloc, table, incumbent, cut, near.vector, false)
     }
 
     /// The leaf of a vertex of a bound that closes the path; where rounding lost it, of the best vertex.
@@ -155,7 +133,7 @@ impl Solver {
         if let Some(leaf) = self.leaf_of(alloc, table, pool, incumbent, cut, vertex)? {
             return Ok(Some(leaf));
         }
-        if let Some(leaf) = closed_by(alloc, table, pool, incumbent, cut, before, false)? {
+        if let Some(leaf) = pool.closed_by(alloc, table, incumbent, cut, before, false)? {
             return Ok(Some(leaf));
         }
         let _ = self.run(vertex, i64::MIN, MOST_EXCHANGES)?;
@@ -201,7 +179,7 @@ impl Solver {
         for _ in 0..RAY_LENGTHS {
             let (relaxation, room) = (&self.relaxation, &mut self.room);
             let vector = vector_towards(alloc, relaxation, vertex, room, length, alone)?;
-            let leaf = closed_by(alloc, table, pool, incumbent, cut, vector, alone)?;
+            let leaf = pool.closed_by(alloc, table, incumbent, cut, vector, alone)?;
             if leaf.is_some() {
                 return Ok(leaf);
             }
