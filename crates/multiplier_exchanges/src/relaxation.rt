@@ -17,7 +17,7 @@ pub struct PathSets {
 }
 
 /// A coefficient: its line or column, and what it is.
-#[derive(Clone, Copy, Debug)]
+#[derive(Clone, Copy)]
 pub(crate) struct Cell {
     pub place: u16,
     pub amount: i64,
@@ -28,7 +28,7 @@ pub(crate) const NO_SIDE: u16 = 65_535;
 
 /// A line: its bounds, what it is measured by, the sides of its positive and of its negative multiplier, and where its cells
 /// begin and end.
-#[derive(Clone, Copy, Debug)]
+#[derive(Clone, Copy)]
 pub(crate) struct Line {
     pub low: i64,
     pub high: i64,
@@ -40,7 +40,7 @@ pub(crate) struct Line {
 }
 
 /// The relaxation at the root: 65,536 times the information of what is chosen is to be greatest.
-#[derive(Debug, Drop)]
+#[derive(Drop)]
 pub struct Relaxation {
     /// 65,536 times the information of each column.
     pub(crate) gains: Vec<i64>,

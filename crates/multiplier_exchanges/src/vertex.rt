@@ -8,7 +8,7 @@ use proof_tree::Memory;
 use std::alloc::Global;
 
 /// Where a column stands.
-#[derive(Clone, Copy, Debug, PartialEq, Eq)]
+#[derive(Clone, Copy, PartialEq, Eq)]
 pub(crate) enum Stand {
     Zero,
     One,
@@ -16,7 +16,7 @@ pub(crate) enum Stand {
 }
 
 /// Where a path holds a column.
-#[derive(Clone, Copy, Debug, PartialEq, Eq)]
+#[derive(Clone, Copy, PartialEq, Eq)]
 pub(crate) enum Hold {
     Free,
     Zero,
@@ -26,7 +26,7 @@ pub(crate) enum Hold {
 /// A column: its reduced weight (0 for an item that is basic), where it stands, and where the path holds it. A linked item
 /// that stands at 1 is taken as far as its stimulus is. The weight of a stimulus is without those of its items. Linked are such
 /// items and their stimuli.
-#[derive(Clone, Copy, Debug)]
+#[derive(Clone, Copy)]
 pub(crate) struct Column {
     pub weight: i64,
     pub stand: Stand,
@@ -35,7 +35,7 @@ pub(crate) struct Column {
 }
 
 /// A tight line: its number, which bound it stands at, and its multiplier in units of 1/256.
-#[derive(Clone, Copy, Debug)]
+#[derive(Clone, Copy)]
 pub(crate) struct Tight {
     pub line: u16,
     pub is_high: bool,
@@ -43,7 +43,7 @@ pub(crate) struct Tight {
 }
 
 /// A vertex.
-#[derive(Debug, Drop)]
+#[derive(Drop)]
 pub struct Vertex {
     pub(crate) columns: Vec<Column>,
     pub(crate) tight: Vec<Tight>,

@@ -5,7 +5,7 @@ use std::alloc::Global;
 
 /// A direction of the multipliers: what is added to that of each tight line, the line that is to be tight, with the sign of
 /// its multiplier, and what is added to the reduced weight of each column.
-#[derive(Debug, Drop)]
+#[derive(Drop)]
 pub(crate) struct Direction {
     pub prices: Vec<i64>,
     pub line: Option<(u16, i64)>,
@@ -13,7 +13,7 @@ pub(crate) struct Direction {
 }
 
 /// Room for the numbers of an exchange.
-#[derive(Debug, Drop)]
+#[derive(Drop)]
 pub struct Workspace {
     pub(crate) direction: Direction,
     /// Where columns and lines reach 0 on the way.
