@@ -1,4 +1,4 @@
-use Rattle.std.proofs.Common.{◌∙◌, sym}
+use Rattle.std.proofs.Common.{rules, ◌∙◌, sym}
 use Rattle.exam_drill.proofs.DrillLaws.{script_there, plan_there, has_base}
 use Rattle.exam_drill.proofs.drill.run_drill.Goals as goal
 
@@ -16,3 +16,9 @@ unreachable-requires c =
     has_base c.args.number c.args.sessions c.in_ok-made.made c.in_ok-made.ensures c.in_ok-bank.bank (c.a_bank_is_read.ensures c.args.number)
     c.in_ok-bank.ensures.ok c.in_ok-spec.spec c.in_ok-spec.ensures.ok
     (c.a_plan_is_read.ensures.one c.args.number c.args.sessions c.in_ok-spec.spec c.requires.some c.requires.few) (sym c.base.ensures ∙ c.in_default.is)
+
+pub returns-clause-ok : goal.returns-clause-ok
+returns-clause-ok c = search rules
+
+pub returns-clause-err : goal.returns-clause-err
+returns-clause-err c = search rules
