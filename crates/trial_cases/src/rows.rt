@@ -1,6 +1,6 @@
 //! The rows of the worked banks. Each item has two response categories.
 
-ghost use Rattle.std.specs.Prelude.{◌≡◌, ◌<◌, IfOk, map};
+ghost use Rattle.std.specs.Prelude.{◌≡◌, ◌<◌, ◌++◌, [], ◌∷◌, IfOk, OnOk, map};
 ghost use Rattle.exam_model.proofs.BankA.{bank_a};
 ghost use Rattle.exam_model.proofs.BankS.{bank_s};
 ghost use Rattle.exam_model.proofs.BankE.{bank_e};
@@ -29,6 +29,22 @@ pub fn item(
     })
 }
 
+/// Adds an item of two response categories.
+fn push_item(
+    alloc: Global,
+    items: &mut Vec<ItemRow>,
+    stimulus: u32,
+    quantities: &[u32],
+    info: &[u32],
+    loglik: &[i32],
+) -> Result<(), AllocError>
+    ensures { OnOk result (items.new.items ≡ items.old.items
+        ++ two_categories stimulus quantities.now info.now loglik.now ∷ []) }
+{
+    items.push(item(alloc, stimulus, quantities, info, loglik)?)?;
+    Ok(())
+}
+
 /// The rows of items on a grid of so many points, with so many quantities.
 pub fn rows_of(grid: u32, quantities: u32, items: Vec<ItemRow>) -> Rows
     ensures { result ≡ record { grid = grid; quantities = quantities; items = items.items } }
@@ -47,12 +63,26 @@ pub fn rows_a(alloc: Global) -> Result<Rows, AllocError>
 {
     let flat = [-7i32, -7, -7, -7, -7, -7];
     let mut items = Vec::new(alloc);
-    items.push(item(alloc, 0, &[], &[9, 5, 1], &flat)?)?;
-    items.push(item(alloc, 0, &[], &[7, 8, 2], &flat)?)?;
-    items.push(item(alloc, 0, &[], &[4, 9, 3], &[-7, -7, -7, -30, -15, -1])?)?;
-    items.push(item(alloc, 0, &[], &[2, 6, 8], &flat)?)?;
-    items.push(item(alloc, 0, &[], &[1, 4, 9], &[0, -1, -20, -7, -7, -7])?)?;
-    items.push(item(alloc, 0, &[], &[3, 7, 5], &flat)?)?;
+    push_item(alloc, &mut items, 0, &[], &[9, 5, 1], &flat)?;
+    push_item(alloc, &mut items, 0, &[], &[7, 8, 2], &flat)?;
+    push_item(
+        alloc,
+        &mut items,
+        0,
+        &[],
+        &[4, 9, 3],
+        &[-7, -7, -7, -30, -15, -1],
+    )?;
+    push_item(alloc, &mut items, 0, &[], &[2, 6, 8], &flat)?;
+    push_item(
+        alloc,
+        &mut items,
+        0,
+        &[],
+        &[1, 4, 9],
+        &[0, -1, -20, -7, -7, -7],
+    )?;
+    push_item(alloc, &mut items, 0, &[], &[3, 7, 5], &flat)?;
     Ok(rows_of(3, 0, items))
 }
 
@@ -63,11 +93,11 @@ pub fn rows_s(alloc: Global) -> Result<Rows, AllocError>
 {
     let flat = [-1i32, -1, -1, -1];
     let mut items = Vec::new(alloc);
-    items.push(item(alloc, 1, &[], &[9, 1], &flat)?)?;
-    items.push(item(alloc, 1, &[], &[3, 1], &flat)?)?;
-    items.push(item(alloc, 1, &[], &[2, 90], &flat)?)?;
-    items.push(item(alloc, 0, &[], &[8, 1], &[-1, -1, -9, -1])?)?;
-    items.push(item(alloc, 0, &[], &[7, 1], &flat)?)?;
+    push_item(alloc, &mut items, 1, &[], &[9, 1], &flat)?;
+    push_item(alloc, &mut items, 1, &[], &[3, 1], &flat)?;
+    push_item(alloc, &mut items, 1, &[], &[2, 90], &flat)?;
+    push_item(alloc, &mut items, 0, &[], &[8, 1], &[-1, -1, -9, -1])?;
+    push_item(alloc, &mut items, 0, &[], &[7, 1], &flat)?;
     Ok(rows_of(2, 0, items))
 }
 
@@ -78,11 +108,11 @@ pub fn rows_e(alloc: Global) -> Result<Rows, AllocError>
 {
     let flat = [-1i32, -1];
     let mut items = Vec::new(alloc);
-    items.push(item(alloc, 0, &[], &[10], &flat)?)?;
-    items.push(item(alloc, 0, &[], &[9], &flat)?)?;
-    items.push(item(alloc, 0, &[], &[8], &flat)?)?;
-    items.push(item(alloc, 0, &[], &[2], &flat)?)?;
-    items.push(item(alloc, 0, &[], &[1], &flat)?)?;
+    push_item(alloc, &mut items, 0, &[], &[10], &flat)?;
+    push_item(alloc, &mut items, 0, &[], &[9], &flat)?;
+    push_item(alloc, &mut items, 0, &[], &[8], &flat)?;
+    push_item(alloc, &mut items, 0, &[], &[2], &flat)?;
+    push_item(alloc, &mut items, 0, &[], &[1], &flat)?;
     Ok(rows_of(1, 0, items))
 }
 
@@ -93,10 +123,10 @@ pub fn rows_q(alloc: Global) -> Result<Rows, AllocError>
 {
     let flat = [-1i32, -1];
     let mut items = Vec::new(alloc);
-    items.push(item(alloc, 0, &[10], &[5], &flat)?)?;
-    items.push(item(alloc, 0, &[10], &[5], &flat)?)?;
-    items.push(item(alloc, 0, &[10], &[5], &flat)?)?;
-    items.push(item(alloc, 0, &[10], &[5], &flat)?)?;
+    push_item(alloc, &mut items, 0, &[10], &[5], &flat)?;
+    push_item(alloc, &mut items, 0, &[10], &[5], &flat)?;
+    push_item(alloc, &mut items, 0, &[10], &[5], &flat)?;
+    push_item(alloc, &mut items, 0, &[10], &[5], &flat)?;
     Ok(rows_of(1, 1, items))
 }
 
