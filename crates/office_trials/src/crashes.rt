@@ -83,32 +83,45 @@ fn goes_on<R: Abort>(rt: &R, file: &[u8], before: &[u8]) {
     assert!(rt; file.starts_with(before));
 }
 
-/// Before the write, after it, and after its sync.
-fn opens_before_the_gate<R: Abort>(rt: &R, alloc: Global, case: &Case) -> Result<(), Fail> {
+/// Before the write.
+fn opens_unwritten<R: Abort>(rt: &R, alloc: Global, case: &Case) -> Result<(), Fail> {
     let none = stopped(alloc, case, 0)?;
     leaves(rt, &none, &case.bytes);
-    opens(rt, alloc, &none, case.before)?;
+    opens(rt, alloc, &none, case.before)
+}
+
+/// After the write.
+fn opens_written<R: Abort>(rt: &R, alloc: Global, case: &Case) -> Result<(), Fail> {
     let staged = stopped(alloc, case, 1)?;
     is_longer(rt, &staged, &case.bytes);
     goes_on(rt, &staged, &case.bytes);
     opens_torn(rt, alloc, case, &staged)?;
+    opens_synced(rt, alloc, case, &staged)
+}
+
+/// After the sync of what was written.
+fn opens_synced<R: Abort>(rt: &R, alloc: Global, case: &Case, staged: &[u8]) -> Result<(), Fail> {
     let synced = stopped(alloc, case, 2)?;
-    leaves(rt, &synced, &staged);
+    leaves(rt, &synced, staged);
     opens(rt, alloc, &synced, case.before)
 }
 
-/// After the gate was written, and after its sync.
+/// After the gate was written.
 fn opens_after_the_gate<R: Abort>(rt: &R, alloc: Global, case: &Case) -> Result<(), Fail> {
     let gated = stopped(alloc, case, 3)?;
     is_longer(rt, &gated, &case.bytes);
     opens_gated(rt, alloc, case, &gated)?;
+    opens_whole(rt, alloc, case, &gated)
+}
+
+/// After the gate's sync.
+fn opens_whole<R: Abort>(rt: &R, alloc: Global, case: &Case, gated: &[u8]) -> Result<(), Fail> {
     let whole = stopped(alloc, case, 4)?;
-    leaves(rt, &whole, &gated);
-    opens(rt, alloc, &whole, case.after)?;
+    leaves(rt, &whole, gated);
     if let Some(bytes) = &case.longer {
         leaves(rt, &whole, bytes);
     }
-    Ok(())
+    opens(rt, alloc, &whole, case.after)
 }
 
 #[test]
@@ -116,9 +129,21 @@ fn each_image_of_each_call_is_opened(rt: HostRuntime) -> Result<(), Fail> {
     let alloc = rt.alloc();
     let cases = cases(alloc)?;
     for case in &cases {
-        opens_before_the_gate(&rt, alloc, case)?;
+        opens_unwritten(&rt, alloc, case)?;
+        opens_written(&rt, alloc, case)?;
         opens_after_the_gate(&rt, alloc, case)?;
     }
+    Ok(())
+}
+
+/// What is after the last gate is cut.
+fn is_cut<R: Abort>(rt: &R, alloc: Global) -> Result<(), Fail> {
+    let before = served_journal(alloc)?;
+    let mut staged = before.to_vec(alloc)?;
+    staged.extend_from_slice(&[0, 0, 0, 8, 4, 0])?;
+    let replies = [Reply::At(waiting(0, 2))];
+    let found = gives(rt, alloc, (&staged, &[]), &[Call::Look(0)], &replies, 2)?;
+    leaves(rt, &found.bytes, &before);
     Ok(())
 }
 
@@ -126,12 +151,7 @@ fn each_image_of_each_call_is_opened(rt: HostRuntime) -> Result<(), Fail> {
 #[test]
 fn a_session_goes_on_after_a_crash(rt: HostRuntime) -> Result<(), Fail> {
     let alloc = rt.alloc();
-    let before = served_journal(alloc)?;
-    let mut staged = before.to_vec(alloc)?;
-    staged.extend_from_slice(&[0, 0, 0, 8, 4, 0])?;
-    let replies = [Reply::At(waiting(0, 2))];
-    let found = gives(&rt, alloc, (&staged, &[]), &[Call::Look(0)], &replies, 2)?;
-    leaves(&rt, &found.bytes, &before);
+    is_cut(&rt, alloc)?;
     let after = third_journal(alloc, &ANSWERED)?;
     let calls = [Call::Look(0), Call::Serve(0)];
     let replies = [Reply::At(Place::Pending(1)), Reply::At(waiting(1, 4))];

@@ -22,21 +22,53 @@ fn staged_journal(alloc: Global) -> Result<Vec<u8>, Fail> {
     Ok(staged)
 }
 
+/// This call of the disk fails in the answer, after which so many were made and the file has these
+/// bytes.
+fn answers_once<R: Abort>(
+    rt: &R,
+    alloc: Global,
+    fail: u64,
+    calls: u64,
+    bytes: &[u8],
+) -> Result<(), Fail> {
+    let before = served_journal(alloc)?;
+    let once = gives(rt, alloc, (&before, &[fail]), &[ANSWER], &[FAILED], 2)?;
+    counts(rt, once.count, calls, 1);
+    leaves(rt, &once.bytes, bytes);
+    Ok(())
+}
+
+/// The same where the answer is given again.
+fn answers_twice<R: Abort>(
+    rt: &R,
+    alloc: Global,
+    fail: u64,
+    calls: u64,
+    bytes: &[u8],
+) -> Result<(), Fail> {
+    let before = served_journal(alloc)?;
+    let replies = [FAILED, ANSWERED_REPLY];
+    let twice = gives(
+        rt,
+        alloc,
+        (&before, &[fail]),
+        &[ANSWER, ANSWER],
+        &replies,
+        3,
+    )?;
+    counts(rt, twice.count, calls, 1);
+    leaves(rt, &twice.bytes, bytes);
+    Ok(())
+}
+
 /// The first sync of the answer fails: call 13, after twelve of opening. The record is on the disk after a closed gate, and
 /// the history lacks it. The next answer drops it by four calls (sync, read, cut, sync) and adds it
 /// by four.
 #[test]
 fn a_record_that_is_dropped(rt: HostRuntime) -> Result<(), Fail> {
     let alloc = rt.alloc();
-    let before = served_journal(alloc)?;
-    let once = gives(&rt, alloc, (&before, &[13]), &[ANSWER], &[FAILED], 2)?;
-    counts(&rt, once.count, 14, 1);
-    leaves(&rt, &once.bytes, &staged_journal(alloc)?);
-    let replies = [FAILED, ANSWERED_REPLY];
-    let twice = gives(&rt, alloc, (&before, &[13]), &[ANSWER, ANSWER], &replies, 3)?;
-    counts(&rt, twice.count, 22, 1);
-    leaves(&rt, &twice.bytes, &third_journal(alloc, &ANSWERED)?);
-    Ok(())
+    answers_once(&rt, alloc, 13, 14, &staged_journal(alloc)?)?;
+    answers_twice(&rt, alloc, 13, 22, &third_journal(alloc, &ANSWERED)?)
 }
 
 /// Its last sync fails: call 15. The gate is open. The next answer keeps the record by two calls
@@ -44,16 +76,9 @@ fn a_record_that_is_dropped(rt: HostRuntime) -> Result<(), Fail> {
 #[test]
 fn a_record_that_is_kept(rt: HostRuntime) -> Result<(), Fail> {
     let alloc = rt.alloc();
-    let before = served_journal(alloc)?;
     let after = third_journal(alloc, &ANSWERED)?;
-    let once = gives(&rt, alloc, (&before, &[15]), &[ANSWER], &[FAILED], 2)?;
-    counts(&rt, once.count, 16, 1);
-    leaves(&rt, &once.bytes, &after);
-    let replies = [FAILED, ANSWERED_REPLY];
-    let twice = gives(&rt, alloc, (&before, &[15]), &[ANSWER, ANSWER], &replies, 3)?;
-    counts(&rt, twice.count, 18, 1);
-    leaves(&rt, &twice.bytes, &after);
-    Ok(())
+    answers_once(&rt, alloc, 15, 16, &after)?;
+    answers_twice(&rt, alloc, 15, 18, &after)
 }
 
 /// A call of whose adding this call of the disk fails; 4 is none of them.
@@ -168,19 +193,28 @@ fn each_call_of_opening_fails(rt: HostRuntime) -> Result<(), Fail> {
     Ok(())
 }
 
+/// This call of the disk fails in the answer. Another answer has this reply, and leaves the journal
+/// with this third record.
+fn another_follows<R: Abort>(
+    rt: &R,
+    alloc: Global,
+    fail: u64,
+    reply: Reply,
+    third: &[u8],
+) -> Result<(), Fail> {
+    let before = served_journal(alloc)?;
+    let calls = [ANSWER, Call::Answer(0, 0, 0)];
+    let left = gives(rt, alloc, (&before, &[fail]), &calls, &[FAILED, reply], 3)?;
+    leaves(rt, &left.bytes, &third_journal(alloc, third)?);
+    Ok(())
+}
+
 /// The entry in doubt was kept, and the call in hand is refused by the history with it; or it was
 /// dropped, and the call in hand is added.
 #[test]
 fn a_refused_call_keeps_the_entry_in_doubt(rt: HostRuntime) -> Result<(), Fail> {
     let alloc = rt.alloc();
-    let before = served_journal(alloc)?;
-    let calls = [ANSWER, Call::Answer(0, 0, 0)];
-    let replies = [FAILED, Reply::Refused(Refusal::Other(1))];
-    let kept = gives(&rt, alloc, (&before, &[15]), &calls, &replies, 3)?;
-    leaves(&rt, &kept.bytes, &third_journal(alloc, &ANSWERED)?);
-    let replies = [FAILED, ANSWERED_REPLY];
-    let dropped = gives(&rt, alloc, (&before, &[13]), &calls, &replies, 3)?;
-    let other = third_journal(alloc, &[4, 0, 0, 0, 0, 0, 0, 0])?;
-    leaves(&rt, &dropped.bytes, &other);
-    Ok(())
+    let refused = Reply::Refused(Refusal::Other(1));
+    another_follows(&rt, alloc, 15, refused, &ANSWERED)?;
+    another_follows(&rt, alloc, 13, ANSWERED_REPLY, &[4, 0, 0, 0, 0, 0, 0, 0])
 }

@@ -57,21 +57,22 @@ struct Refused {
     fault: OpenFault,
 }
 
+/// The first bytes of a file.
+fn cut_to(alloc: Global, whole: &[u8], length: usize) -> Result<Vec<u8>, Fail> {
+    let mut bytes = whole.to_vec(alloc)?;
+    bytes.truncate(length);
+    Ok(bytes)
+}
+
 /// Those whose frames are at fault. The journal has gates at 8, 90 and 182.
 fn bad_frames(alloc: Global) -> Result<Vec<Refused>, Fail> {
     let whole = served_journal(alloc)?;
     let mut refused = Vec::new(alloc);
-    refused.push(Refused {
-        bytes: vec![in alloc; 1; 10]?,
-        fault: OpenFault::Journal(JournalFault::Header),
-    })?;
+    let header = OpenFault::Journal(JournalFault::Header);
+    push_file(&mut refused, Ok(vec![in alloc; 1; 10]?), header)?;
     for (length, place) in [(10usize, 8u64), (90, 8), (91, 90), (182, 90)] {
-        let mut bytes = whole.to_vec(alloc)?;
-        bytes.truncate(length);
-        refused.push(Refused {
-            bytes,
-            fault: OpenFault::Journal(JournalFault::Cut(place)),
-        })?;
+        let fault = OpenFault::Journal(JournalFault::Cut(place));
+        push_file(&mut refused, cut_to(alloc, &whole, length), fault)?;
     }
     Ok(refused)
 }
@@ -85,19 +86,32 @@ fn changed(alloc: Global, bytes: &[u8], at: usize, value: u8) -> Result<Vec<u8>,
     Ok(copy)
 }
 
-/// A length of 0, and one of 131,073, which is 0x020001.
+/// Adds a file that is no history.
+fn push_file(
+    refused: &mut Vec<Refused>,
+    bytes: Result<Vec<u8>, Fail>,
+    fault: OpenFault,
+) -> Result<(), Fail> {
+    refused.push(Refused {
+        bytes: bytes?,
+        fault,
+    })?;
+    Ok(())
+}
+
+/// The journal with a length of 131,073, which is 0x020001.
+fn long_length(alloc: Global, whole: &[u8]) -> Result<Vec<u8>, Fail> {
+    let high = changed(alloc, whole, 92, 2)?;
+    changed(alloc, &high, 94, 1)
+}
+
+/// A length of 0, and one of 131,073.
 fn bad_lengths(alloc: Global) -> Result<Vec<Refused>, Fail> {
     let whole = served_journal(alloc)?;
     let mut refused = Vec::new(alloc);
-    refused.push(Refused {
-        bytes: changed(alloc, &whole, 94, 0)?,
-        fault: OpenFault::Journal(JournalFault::Length(90)),
-    })?;
-    let high = changed(alloc, &whole, 92, 2)?;
-    refused.push(Refused {
-        bytes: changed(alloc, &high, 94, 1)?,
-        fault: OpenFault::Journal(JournalFault::Length(90)),
-    })?;
+    let fault = OpenFault::Journal(JournalFault::Length(90));
+    push_file(&mut refused, changed(alloc, &whole, 94, 0), fault)?;
+    push_file(&mut refused, long_length(alloc, &whole), fault)?;
     Ok(refused)
 }
 
@@ -107,9 +121,25 @@ fn push_second(
     second: &[u8],
     fault: OpenFault,
 ) -> Result<(), Fail> {
-    let bytes = second_journal(alloc, second)?;
-    refused.push(Refused { bytes, fault })?;
-    Ok(())
+    push_file(refused, second_journal(alloc, second), fault)
+}
+
+/// The same where the record is of a served item, with this mark and this tree.
+fn push_served(
+    alloc: Global,
+    refused: &mut Vec<Refused>,
+    mark: u8,
+    tree: &[u8],
+) -> Result<(), Fail> {
+    let second = served(alloc, mark, tree)?;
+    push_second(alloc, refused, &second, OpenFault::BadTree(90))
+}
+
+/// The same where the record is of a session started for the booking of session 0.
+fn push_booked(alloc: Global, refused: &mut Vec<Refused>) -> Result<(), Fail> {
+    let second = started(alloc, 1, 70)?;
+    let booked = OpenFault::Illegal(90, Illegal::Booked(0));
+    push_second(alloc, refused, &second, booked)
 }
 
 /// A second record that is none, or may not follow. Where a form isn't marked proved its tree has
@@ -124,40 +154,45 @@ fn bad_records(alloc: Global) -> Result<Vec<Refused>, Fail> {
     push_second(alloc, &mut refused, &[5, 0, 0, 0, 0, 0], extra)?;
     let none = OpenFault::Illegal(90, Illegal::NoSession(1));
     push_second(alloc, &mut refused, &[5, 0, 0, 0, 1], none)?;
-    let booked = OpenFault::Illegal(90, Illegal::Booked(0));
-    push_second(alloc, &mut refused, &started(alloc, 1, 70)?, booked)?;
-    let tree = OpenFault::BadTree(90);
-    push_second(alloc, &mut refused, &served(alloc, 1, &TOO_HIGH)?, tree)?;
-    push_second(alloc, &mut refused, &served(alloc, 0, &BEST)?, tree)?;
+    push_booked(alloc, &mut refused)?;
+    push_served(alloc, &mut refused, 1, &TOO_HIGH)?;
+    push_served(alloc, &mut refused, 0, &BEST)?;
     Ok(refused)
+}
+
+/// Gates at 8, 14 and 20, and the last one is cut.
+fn cut_journal(alloc: Global) -> Result<Vec<u8>, Fail> {
+    let mut cut = journal(alloc, &[&[6], &[6]])?;
+    cut.truncate(20);
+    Ok(cut)
+}
+
+/// Gates at 8, 18 and 24.
+fn unlawful_journal(alloc: Global) -> Result<Vec<u8>, Fail> {
+    journal(alloc, &[&[5, 0, 0, 0, 0], &[6]])
+}
+
+/// The same with a second length of 0.
+fn unlawful_length(alloc: Global) -> Result<Vec<u8>, Fail> {
+    changed(alloc, &unlawful_journal(alloc)?, 22, 0)
 }
 
 /// Files with two faults: that of a frame comes before that of a record, and that of a record
 /// before that of the next.
 fn first_faults(alloc: Global) -> Result<Vec<Refused>, Fail> {
     let mut refused = Vec::new(alloc);
-    let mut cut = journal(alloc, &[&[6], &[6]])?;
-    // Gates at 8, 14 and 20.
-    cut.truncate(20);
-    refused.push(Refused {
-        bytes: cut,
-        fault: OpenFault::Journal(JournalFault::Cut(14)),
-    })?;
-    let unlawful = journal(alloc, &[&[5, 0, 0, 0, 0], &[6]])?;
-    // Gates at 8, 18 and 24.
-    let length = changed(alloc, &unlawful, 22, 0)?;
-    refused.push(Refused {
-        bytes: length,
-        fault: OpenFault::Journal(JournalFault::Length(18)),
-    })?;
-    refused.push(Refused {
-        bytes: unlawful,
-        fault: OpenFault::Illegal(8, Illegal::NoSession(0)),
-    })?;
-    refused.push(Refused {
-        bytes: journal(alloc, &[&[6], &[5, 0, 0, 0, 0]])?,
-        fault: OpenFault::BadRecord(8, RecordFault::Kind(0)),
-    })?;
+    let cut = OpenFault::Journal(JournalFault::Cut(14));
+    push_file(&mut refused, cut_journal(alloc), cut)?;
+    let length = OpenFault::Journal(JournalFault::Length(18));
+    push_file(&mut refused, unlawful_length(alloc), length)?;
+    let none = OpenFault::Illegal(8, Illegal::NoSession(0));
+    push_file(&mut refused, unlawful_journal(alloc), none)?;
+    let kind = OpenFault::BadRecord(8, RecordFault::Kind(0));
+    push_file(
+        &mut refused,
+        journal(alloc, &[&[6], &[5, 0, 0, 0, 0]]),
+        kind,
+    )?;
     Ok(refused)
 }
 

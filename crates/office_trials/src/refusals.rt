@@ -115,31 +115,25 @@ fn places_without_an_answer(rt: HostRuntime) -> Result<(), Fail> {
     Ok(())
 }
 
+/// What was assembled is stale once the session was served.
+fn is_stale_once_served<R: Abort>(rt: &R, alloc: Global, started: &[u8]) -> Result<(), Fail> {
+    let stale = Reply::Refused(Refusal::Stale(waiting(0, 2), false));
+    let calls = [Call::ServeAgain(0)];
+    let again = gives(rt, alloc, (started, &[]), &calls, &[stale], 2)?;
+    let served = asked(alloc, &WORKED, started, &[], &[Call::Serve(0)])?;
+    leaves(rt, &again.bytes, &served.bytes);
+    Ok(())
+}
+
 /// What was assembled is stale once the session was served, or closed.
 #[test]
 fn a_place_that_moved_on(rt: HostRuntime) -> Result<(), Fail> {
     let alloc = rt.alloc();
     let started = started_journal(alloc)?;
-    let stale = Reply::Refused(Refusal::Stale(waiting(0, 2), false));
-    let again = gives(
-        &rt,
-        alloc,
-        (&started, &[]),
-        &[Call::ServeAgain(0)],
-        &[stale],
-        2,
-    )?;
-    let served = asked(alloc, &WORKED, &started, &[], &[Call::Serve(0)])?;
-    leaves(&rt, &again.bytes, &served.bytes);
+    is_stale_once_served(&rt, alloc, &started)?;
     let stale = Reply::Refused(Refusal::Stale(Place::Closed, false));
-    gives(
-        &rt,
-        alloc,
-        (&started, &[]),
-        &[Call::ServeLate(0)],
-        &[stale],
-        2,
-    )?;
+    let calls = [Call::ServeLate(0)];
+    gives(&rt, alloc, (&started, &[]), &calls, &[stale], 2)?;
     Ok(())
 }
 
@@ -206,18 +200,28 @@ fn has_no_room_for_an_item<R: Abort>(rt: &R, found: &Found) -> Result<(), Fail> 
     Ok(())
 }
 
-/// With the length after the entry as the limit it is added.
-#[test]
-fn a_journal_that_is_just_long_enough(rt: HostRuntime) -> Result<(), Fail> {
-    let alloc = rt.alloc();
+/// The session is started at the limit of 91 bytes.
+fn starts_at_the_limit<R: Abort>(rt: &R, alloc: Global) -> Result<(), Fail> {
     let calls = [Call::Begin(70), Call::Serve(0)];
     let begun = asked(alloc, &limited(91), &[], &[], &calls)?;
-    has_no_room_for_an_item(&rt, &begun.found)?;
-    leaves(&rt, &begun.bytes, &started_journal(alloc)?);
+    has_no_room_for_an_item(rt, &begun.found)?;
+    leaves(rt, &begun.bytes, &started_journal(alloc)?);
+    Ok(())
+}
+
+/// The first item is answered at the limit of 196 bytes.
+fn answers_at_the_limit<R: Abort>(rt: &R, alloc: Global) -> Result<(), Fail> {
     let served = served_journal(alloc)?;
     let answer = [Call::Answer(0, 0, 1)];
     let answered = asked(alloc, &limited(196), &served, &[], &answer)?;
-    shows(&rt, &answered.found, &[Reply::At(Place::Pending(1))], 3);
-    leaves(&rt, &answered.bytes, &third_journal(alloc, &ANSWERED)?);
+    shows(rt, &answered.found, &[Reply::At(Place::Pending(1))], 3);
+    leaves(rt, &answered.bytes, &third_journal(alloc, &ANSWERED)?);
     Ok(())
+}
+
+/// With the length after the entry as the limit it is added.
+#[test]
+fn a_journal_that_is_just_long_enough(rt: HostRuntime) -> Result<(), Fail> {
+    starts_at_the_limit(&rt, rt.alloc())?;
+    answers_at_the_limit(&rt, rt.alloc())
 }
