@@ -1,13 +1,16 @@
 //! The worked rows of the work.
 
+use crate::equal::is_equal;
 use crate::meeting::Meeting;
 use crate::work::{Told, doors, serve_bank_a, texts_of};
 use exam_edge::{MemoryDoor, OpenGate};
+use exam_office::Summary;
 use exam_serve::End;
 use host_edge::HostDoor;
 use std::alloc::Global;
 use std::io::{Read, Write};
 use std::net::{Net, Shutdown, TcpListener, TcpStream};
+use std::process::Abort;
 use std::test::Fail;
 use std::thread;
 
@@ -22,30 +25,59 @@ fn created(alloc: Global, session: u32) -> Result<String, Fail> {
     )?)
 }
 
+// Whether a link got the response of a booking whose session was started.
+fn is_created(alloc: Global, got: &[u8], session: u32) -> Result<bool, Fail> {
+    Ok(got == created(alloc, session)?.as_bytes())
+}
+
+// Whether the links of two doors got those of these sessions.
+fn are_created(alloc: Global, doors: &[MemoryDoor], first: u32, second: u32) -> Result<bool, Fail> {
+    let texts = texts_of(alloc, doors)?;
+    Ok(
+        texts.len() == 2
+            && is_created(alloc, texts[0].as_slice(), first)?
+            && is_created(alloc, texts[1].as_slice(), second)?,
+    )
+}
+
+// Whether two sessions were started and served an item, and no more.
+fn is_of_two(s: &Summary) -> bool {
+    let two = s.entries == 4 && s.sessions == 2 && s.finished == 0;
+    two && s.proved == 2 && s.unproved == 0 && s.aside == 0
+}
+
 // Whether the two bookings are the two sessions of the journal, and each link got the response of its booking's session.
 fn is_served(alloc: Global, told: &Told<MemoryDoor>) -> Result<bool, Fail> {
     let (Some(first), Some(second)) = told.sessions else {
         return Ok(false);
     };
-    let s = told.summary;
-    let two = s.entries == 4 && s.sessions == 2 && s.finished == 0;
-    let all = s.proved == 2 && s.unproved == 0 && s.aside == 0;
     let apart = first != second && first < 2 && second < 2;
-    let texts = texts_of(alloc, &told.doors)?;
-    let got = texts.len() == 2
-        && texts[0].as_slice() == created(alloc, first)?.as_bytes()
-        && texts[1].as_slice() == created(alloc, second)?.as_bytes();
-    Ok(told.end == End::Done && two && all && apart && got)
+    let got = are_created(alloc, &told.doors, first, second)?;
+    Ok(told.end == End::Done && is_of_two(&told.summary) && apart && got)
+}
+
+// The summary of no entry.
+const NOTHING: Summary = Summary {
+    entries: 0,
+    sessions: 0,
+    finished: 0,
+    proved: 0,
+    unproved: 0,
+    aside: 0,
+    nodes: 0,
+};
+
+// The work ended, with no doors and no entry.
+fn is_idle<R: Abort>(rt: &R, told: &Told<MemoryDoor>) {
+    assert!(rt; told.end == End::Done && told.doors.is_empty());
+    is_equal(rt, &told.summary, &NOTHING);
+    is_equal(rt, &told.sessions, &(None, None));
 }
 
 #[test]
 fn with_no_doors_nothing_is_done(rt: HostRuntime) -> Result<(), Fail> {
     let told = serve_bank_a(&rt, rt.alloc(), doors(rt.alloc(), None)?, &OpenGate)?;
-    let s = told.summary;
-    assert!(rt; told.end == End::Done && told.doors.is_empty());
-    assert!(rt; s.entries == 0 && s.sessions == 0 && s.finished == 0);
-    assert!(rt; s.proved == 0 && s.unproved == 0 && s.aside == 0 && s.nodes == 0);
-    assert!(rt; told.sessions == (None, None));
+    is_idle(&rt, &told);
     Ok(())
 }
 
@@ -89,6 +121,6 @@ fn a_client_on_the_loopback_address_is_answered(rt: HostRuntime) -> Result<(), F
     let told = serve_bank_a(&rt, alloc, doors, &OpenGate)?;
     let got = client.join(&rt);
     assert!(rt; told.end == End::Done && told.sessions == (Some(0), None));
-    assert!(rt; got.as_slice() == created(alloc, 0)?.as_bytes());
+    assert!(rt; is_created(alloc, got.as_slice(), 0)?);
     Ok(())
 }

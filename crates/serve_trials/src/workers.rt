@@ -3,9 +3,11 @@
 ghost use Rattle.std.specs.Prelude.{IfSome, false, ◌≡◌, ◌+◌, ◌^◌, ◌%◌};
 ghost use Rattle.exam_edge.specs.MemoryDoor.{out_of};
 
+use crate::equal::is_equal;
 use exam_edge::{Link, MemoryDoor, MemoryLink};
 use exam_workers::{Service, Station, run_workers};
 use std::alloc::Global;
+use std::process::Abort;
 use std::sync::Wait;
 use std::test::Fail;
 
@@ -49,6 +51,21 @@ fn station(door: MemoryDoor, links: u64) -> Station<MemoryDoor, u64>
     }
 }
 
+// The station has these links, this token and whether it failed, and so many links went back.
+fn ended<R: Abort>(
+    rt: &R,
+    station: &Station<MemoryDoor, u64>,
+    expected: (u64, u64, bool),
+    returned: usize,
+) {
+    is_equal(
+        rt,
+        &(station.links, station.token, station.failed),
+        &expected,
+    );
+    is_equal(rt, &station.door.returned().len(), &returned);
+}
+
 #[test]
 fn each_link_goes_back_and_a_failure_shows(rt: HostRuntime) -> Result<(), Fail> {
     let alloc = rt.alloc();
@@ -57,9 +74,7 @@ fn each_link_goes_back_and_a_failure_shows(rt: HostRuntime) -> Result<(), Fail> 
     };
     let mut stations = [station(whole, 0), station(failing, u64::MAX)];
     run_workers(&rt, alloc, &mut stations, &Count);
-    assert!(rt; stations[0].links == 3 && stations[0].token == 3 && !stations[0].failed);
-    assert!(rt; stations[0].door.returned().len() == 3);
-    assert!(rt; stations[1].links == u64::MAX && stations[1].token == 1 && stations[1].failed);
-    assert!(rt; stations[1].door.returned().len() == 1);
+    ended(&rt, &stations[0], (3, 3, false), 3);
+    ended(&rt, &stations[1], (u64::MAX, 1, true), 1);
     Ok(())
 }
