@@ -31,10 +31,15 @@ fn lines_l(alloc: Global) -> Result<String, AllocError> {
     Ok(text)
 }
 
+/// The text of bank L.
+fn text_l(alloc: Global) -> Result<String, AllocError> {
+    bank_text(alloc, &rows_l(alloc)?)
+}
+
 #[test]
 fn bank_l_is_served_to_its_end(rt: HostRuntime) -> Result<(), Fail> {
     let alloc = rt.alloc();
-    let bank = bank_text(alloc, &rows_l(alloc)?)?;
+    let bank = text_l(alloc)?;
     let script = script_l(alloc)?;
     let lines = lines_l(alloc)?;
     let texts = [bank.as_str(), PLAN_L, script.as_str()];

@@ -35,17 +35,20 @@ const NONE: Fails<'static> = Fails {
     link: &[],
 };
 
+/// One link, which gives this text; these calls of it fail.
+fn links_of(alloc: Global, text: &str, fails: &[u64]) -> Result<Vec<MemoryLink>, Fail> {
+    let text = text.as_bytes().to_vec(alloc)?;
+    let link = MemoryLink::of(alloc, text, fails.to_vec(alloc)?);
+    let mut links = Vec::new(alloc);
+    links.push(link)?;
+    Ok(links)
+}
+
 /// A door with one link, which gives this text; these calls of them fail.
 fn door(alloc: Global, text: &str, fails: Fails<'_>) -> Result<MemoryDoor, Fail>
     ensures { IfOk result (λ d. out_of d ≡ false) }
 {
-    let link = MemoryLink::of(
-        alloc,
-        text.as_bytes().to_vec(alloc)?,
-        fails.link.to_vec(alloc)?,
-    );
-    let mut links = Vec::new(alloc);
-    links.push(link)?;
+    let links = links_of(alloc, text, fails.link)?;
     Ok(MemoryDoor::of(alloc, links, fails.door.to_vec(alloc)?)?)
 }
 

@@ -13,7 +13,7 @@ use std::thread::Threads;
 use trial_cases::{BANK_A, PLAN_A};
 
 /// What the program does on this script over this journal.
-fn replayed<R: AllocGlobal + Threads + Wait + Sync>(
+pub fn replayed<R: AllocGlobal + Threads + Wait + Sync>(
     rt: &R,
     script: &str,
     journal: &[u8],
@@ -23,7 +23,7 @@ fn replayed<R: AllocGlobal + Threads + Wait + Sync>(
 }
 
 /// The run ended with this status, printed this text and left this journal.
-fn ends<R: Abort>(rt: &R, ran: &Ran, status: u8, text: &[u8], journal: &[u8]) {
+pub fn ends<R: Abort>(rt: &R, ran: &Ran, status: u8, text: &[u8], journal: &[u8]) {
     are_equal(rt, ran.text.as_slice(), text);
     is_equal(rt, &ran.status, &status);
     are_equal(rt, ran.journal.as_slice(), journal);

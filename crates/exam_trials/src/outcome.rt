@@ -65,17 +65,50 @@ fn files_of(alloc: Global, texts: &[&str; 3]) -> Result<Vec<(String, Vec<u8>)>, 
     Ok(files)
 }
 
+/// The files with these texts; these calls of them fail.
+fn memory_files(
+    alloc: Global,
+    texts: &[&str; 3],
+    fails: &[u64],
+) -> Result<MemoryFiles, AllocError> {
+    let files = files_of(alloc, texts)?;
+    Ok(MemoryFiles::of(files, fails.to_vec(alloc)?))
+}
+
+/// A sink of which these calls fail.
+fn sink_of(alloc: Global, fails: &[u64]) -> Result<MemorySink, AllocError> {
+    Ok(MemorySink::of(alloc, Vec::new(alloc), fails.to_vec(alloc)?))
+}
+
+/// A disk with this journal; these calls of it fail.
+fn disk_of(alloc: Global, journal: &[u8], fails: &[u64]) -> Result<MemoryDisk, AllocError> {
+    let journal = journal.to_vec(alloc)?;
+    Ok(MemoryDisk::of(alloc, journal, fails.to_vec(alloc)?))
+}
+
 pub fn tools_of(
     alloc: Global,
     texts: &[&str; 3],
     given: &Given<'_>,
 ) -> Result<Tools<MemoryFiles, MemorySink, MemoryDisk>, AllocError> {
-    let files = files_of(alloc, texts)?;
-    let journal = given.journal.to_vec(alloc)?;
     Ok(Tools {
-        files: MemoryFiles::of(files, given.files.to_vec(alloc)?),
-        out: MemorySink::of(alloc, Vec::new(alloc), given.sink.to_vec(alloc)?),
-        disk: MemoryDisk::of(alloc, journal, given.disk.to_vec(alloc)?),
+        files: memory_files(alloc, texts, given.files)?,
+        out: sink_of(alloc, given.sink)?,
+        disk: disk_of(alloc, given.journal, given.disk)?,
+    })
+}
+
+/// The status that the program ended with, and copies of what it wrote and left.
+fn ran_of(
+    alloc: Global,
+    status: u8,
+    out: &MemorySink,
+    disk: &MemoryDisk,
+) -> Result<Ran, AllocError> {
+    Ok(Ran {
+        status,
+        text: out.bytes().to_vec(alloc)?,
+        journal: disk.bytes().to_vec(alloc)?,
     })
 }
 
@@ -98,11 +131,7 @@ pub fn outcome<R: AllocGlobal + Threads + Wait + Sync>(
         gate: OpenGate,
     };
     let finish = run(rt, alloc, &words, world);
-    Ok(Ran {
-        status: finish.status,
-        text: finish.out.bytes().to_vec(alloc)?,
-        journal: finish.disk.bytes().to_vec(alloc)?,
-    })
+    ran_of(alloc, finish.status, &finish.out, &finish.disk)
 }
 
 /// Over an empty journal, and where no call fails, the program ends with this status and prints this text.

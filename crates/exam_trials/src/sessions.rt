@@ -1,7 +1,7 @@
 //! Sessions that are served from a script.
 
 use crate::outcome::{REPLAY, goes_on, prints};
-use crate::texts::{BANK_E, BANK_S, BANK_TIE, LINES_A, SCRIPT_A};
+use crate::texts::{BANK_E, BANK_S, BANK_TIE, LINES_A, SCRIPT_A, joined};
 use std::test::Fail;
 use trial_cases::{BANK_A, PLAN_A, PLAN_E};
 
@@ -36,10 +36,9 @@ fn of_equal_items_the_lowest_is_served(rt: HostRuntime) -> Result<(), Fail> {
 /// One node isn't enough to prove the form {0, 3}, which no exchange of one item betters; {2, 4} is such a form's worse.
 #[test]
 fn a_spent_budget(rt: HostRuntime) -> Result<(), Fail> {
-    let mut based = String::from_str(rt.alloc(), PLAN_E)?;
-    based.push_str("base 2 4\n")?;
     let line = "session 0 step 0 item 0 unproved\n";
     prints(&rt, &REPLAY, &[BANK_E, PLAN_E, "begin 1\n"], 0, line)?;
+    let based = joined(rt.alloc(), PLAN_E, "base 2 4\n")?;
     prints(
         &rt,
         &REPLAY,
@@ -49,22 +48,24 @@ fn a_spent_budget(rt: HostRuntime) -> Result<(), Fail> {
     )
 }
 
-/// The key of zeros.
-const KEY: &str = "0000000000000000000000000000000000000000000000000000000000000000\n";
+/// The rate 1 in 65,535, and the key of zeros.
+const RARE: &str =
+    "rate 1 65535\nkey 0000000000000000000000000000000000000000000000000000000000000000\n";
 
 /// The counts of finished sessions draw which items the next one may be shown; a session that no form is left for is served
 /// with all of them.
 #[test]
 fn counts_draw_the_eligible_items(rt: HostRuntime) -> Result<(), Fail> {
-    let mut plan = String::from_str(rt.alloc(), PLAN_A)?;
-    plan.push_str("rate 1 65535\nkey ")?;
-    plan.push_str(KEY)?;
-    let mut script = String::from_str(rt.alloc(), SCRIPT_A)?;
-    script.push_str(
+    let alloc = rt.alloc();
+    let plan = joined(alloc, PLAN_A, RARE)?;
+    let script = joined(
+        alloc,
+        SCRIPT_A,
         "begin 71\nanswer 1 0 0\nanswer 1 1 0\nanswer 1 2 0\nbegin 72\nclose 2\nexposure\n",
     )?;
-    let mut lines = String::from_str(rt.alloc(), LINES_A)?;
-    lines.push_str(
+    let lines = joined(
+        alloc,
+        LINES_A,
         "session 1 step 0 item 5 proved
 session 1 step 1 item 3 proved
 session 1 step 2 item 0 proved

@@ -1,10 +1,13 @@
 //! The statuses with their texts.
 
-use crate::equal::{are_equal, is_equal};
-use crate::outcome::{ASSEMBLE, CHECK, Given, REPLAY, begins, outcome, prints};
-use crate::texts::{BANK_E, BANK_ODD, SCRIPT_A};
-use std::alloc::{AllocError, Global};
+use crate::journals::{ends, replayed};
+use crate::outcome::{ASSEMBLE, CHECK, REPLAY, begins, prints};
+use crate::texts::{BANK_E, BANK_ODD, SCRIPT_A, joined};
+use std::alloc::AllocGlobal;
+use std::process::Abort;
+use std::sync::Wait;
 use std::test::Fail;
+use std::thread::Threads;
 use trial_cases::{BANK_A, PLAN_A};
 
 #[test]
@@ -77,23 +80,23 @@ enemies 2 5
     prints(&rt, &CHECK, &[BANK_A, PLAN_A, ""], 0, text)
 }
 
-/// A plan A with one line more.
-fn plan_with(alloc: Global, line: &str) -> Result<String, AllocError> {
-    let mut plan = String::from_str(alloc, PLAN_A)?;
-    plan.push_str(line)?;
-    Ok(plan)
+/// Under plan A with this line more the script ends with status 13 and prints this text.
+fn is_limited<R: Abort + AllocGlobal + Threads + Wait + Sync>(
+    rt: &R,
+    line: &str,
+    script: &str,
+    text: &str,
+) -> Result<(), Fail> {
+    let plan = joined(rt.alloc(), PLAN_A, line)?;
+    prints(rt, &REPLAY, &[BANK_A, plan.as_str(), script], 13, text)
 }
 
 #[test]
 fn limits(rt: HostRuntime) -> Result<(), Fail> {
-    let alloc = rt.alloc();
-    let small = plan_with(alloc, "journal 90\n")?;
-    let texts = [BANK_A, small.as_str(), "begin 70\n"];
-    prints(&rt, &REPLAY, &texts, 13, "limit journal 91 of 90\n")?;
-    let one = plan_with(alloc, "sessions 1\n")?;
-    let texts = [BANK_A, one.as_str(), "begin 70\nbegin 71\n"];
+    let full = "limit journal 91 of 90\n";
+    is_limited(&rt, "journal 90\n", "begin 70\n", full)?;
     let lines = "session 0 step 0 item 2 proved\nlimit sessions 1 of 1\n";
-    prints(&rt, &REPLAY, &texts, 13, lines)
+    is_limited(&rt, "sessions 1\n", "begin 70\nbegin 71\n", lines)
 }
 
 /// A file that is refused is left as it was.
@@ -104,16 +107,8 @@ fn refused_journals(rt: HostRuntime) -> Result<(), Fail> {
         ("SHADOWJ1\u{1}\0\0\0\u{1}\u{9}\0", "journal: record at 8\n"),
         ("SHADOWJ1\u{1}\0\0\0\0\0", "journal: length at 8\n"),
     ] {
-        let given = Given {
-            journal: journal.as_bytes(),
-            files: &[],
-            sink: &[],
-            disk: &[],
-        };
-        let ran = outcome(&rt, &REPLAY, &[BANK_A, PLAN_A, SCRIPT_A], &given)?;
-        are_equal(&rt, ran.text.as_slice(), text.as_bytes());
-        is_equal(&rt, &ran.status, &6);
-        are_equal(&rt, ran.journal.as_slice(), journal.as_bytes());
+        let ran = replayed(&rt, SCRIPT_A, journal.as_bytes())?;
+        ends(&rt, &ran, 6, text.as_bytes(), journal.as_bytes());
     }
     Ok(())
 }
