@@ -1,12 +1,18 @@
 //! Tests of the program as a whole over files and a sink in memory: worked sessions, the statuses and their texts, and each
-//! failing call. What is expected is in the worked cases, or was worked out by hand. It promises nothing upward and holds no
-//! code of the product.
+//! failing call. What is expected is in the worked cases, or was worked out by hand. And of the drill: its texts against those
+//! of a second source, its summary, and the lines that it prints. It promises nothing upward and holds no code of the product.
 #![tactic(auto)]
 
 #[cfg(test)]
 mod bank_l;
 #[cfg(test)]
 mod doors;
+#[cfg(test)]
+mod drill_lines;
+#[cfg(test)]
+mod drill_summaries;
+#[cfg(test)]
+mod drill_texts;
 #[cfg(test)]
 mod equal;
 #[cfg(test)]

@@ -1,6 +1,7 @@
-//! Tests of the office over a disk in memory: what is found after a call of the disk has failed and
-//! after a crash at each moment, each refusal with its value, and each fault of a file. It promises
-//! nothing upward and holds no code of the product.
+//! Tests of the office and of its journal over a disk in memory. The journal: tables of stops and of
+//! failing calls. The office: what is found after a call of the disk has failed and after a crash at
+//! each moment, each refusal with its value, and each fault of a file. It promises nothing upward
+//! and holds no code of the product.
 #![tactic(auto)]
 
 #[cfg(test)]
@@ -17,6 +18,7 @@ mod expected;
 mod failures;
 #[cfg(test)]
 mod files;
+mod journal;
 #[cfg(test)]
 mod openings;
 #[cfg(test)]

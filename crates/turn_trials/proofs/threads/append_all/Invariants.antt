@@ -1,6 +1,0 @@
-use Rattle.turn_trials.specs.Own.{AppendsOwn}
-use Rattle.turn_trials.proofs.threads.append_all.Given as goal
-
--- the turns so far
-abbrev pub invariant-loop-taken : goal.invariant-loop-taken
-invariant-loop-taken g l = AppendsOwn l.turn l.taken l.fn.pass l.pass l.all
