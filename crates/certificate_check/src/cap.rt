@@ -3,7 +3,7 @@
 ghost use Rattle.std.specs.Prelude.{◌≡◌, ℕ, suc, ◌+◌, ◌<◌, ◌==◌, cond, ◌+ℤ◌, ◌-ℤ◌, ◌≤ℤ◌, pos, Some, slice_index};
 ghost use Rattle.bank_tables.specs.Sums.{sum_in_z};
 ghost use Rattle.bank_tables.specs.Tables.{size, stimulus};
-ghost use Rattle.exam_model.specs.Relaxed.{cap_side, excess_over};
+ghost use Rattle.exam_model.specs.Relaxed.{cap_side, excess_over, is_linked};
 ghost use Rattle.exam_model.specs.Weights.{price};
 ghost use Rattle.exam_model.specs.Ranges.{AreMultipliers, IsWithin, at};
 ghost use Rattle.exam_model.specs.Validity.{IsWellMade};
@@ -42,6 +42,17 @@ fn above(weight: i64, cap: i64) -> i64
     if weight > cap { weight - cap } else { 0 }
 }
 
+/// Whether an item is a free item of an open stimulus.
+fn is_linked(problem: &Problem, standing: &Standing, item: u16) -> bool
+    requires well_made { IsWellMade (problem_of problem.now) }
+    requires standing { IsStanding (problem_of problem.now) standing.now }
+    requires item { item < size problem.now.bank.now }
+    ensures { result ≡ is_linked (problem_of problem.now) (path_of standing.now.cut) item }
+{
+    let stimulus = problem.bank.stimulus(item);
+    stimulus != 0 && standing.free.has(item) && standing.opened.has(stimulus as u16)
+}
+
 /// What an item has above the cap, where it is a free item of an open stimulus.
 fn excess(
     problem: &Problem,
@@ -59,8 +70,7 @@ fn excess(
     ensures within { IsWithin (item_top + 16777216) result }
     ensures rest { IsWithin item_top (at weights.now item -ℤ result) }
 {
-    let stimulus = problem.bank.stimulus(item);
-    if stimulus != 0 && standing.free.has(item) && standing.opened.has(stimulus as u16) {
+    if is_linked(problem, standing, item) {
         above(weights[item as usize], cap(sides))
     } else {
         0

@@ -1,5 +1,0 @@
-use Rattle.std.proofs.Common.{rules}
-use Rattle.certificate_check.proofs.cap.excess.Goals as goal
-
-pub returns-then-has-2-clause-value : goal.returns-then-has-2-clause-value
-returns-then-has-2-clause-value c = search rules
