@@ -1,13 +1,15 @@
 -- A branch and the walks through its two subtrees make one walk.
-use Rattle.std.proofs.Common.{◌≡◌, ℕ, zero, suc, ◌+◌, ◌<◌, List, [], ◌∷◌, length, drop, get_or, Option, Result, Ok, Err, sym, ap, ◌∙◌, arith, add-zero, add-one, drop-cons, inl}
+use Rattle.std.proofs.Common.{◌≡◌, ℕ, zero, suc, ◌+◌, ◌<◌, List, [], ◌∷◌, length, drop, get_or, Option, Result, Ok, Err, sym, ap, ◌∙◌, arith, add-zero, add-one, drop-cons, inl, inr, refl, ◌≤◌}
 use Rattle.bank_tables.specs.Items.{Set}
 use Rattle.exam_model.specs.declared.node.Node.{Node}
+use Rattle.exam_model.specs.declared.node.Node.TheVariants.{Open}
+use Rattle.exam_model.specs.declared.verdict.Reason.{Reason}
 use Rattle.exam_model.specs.declared.verdict.Verdict.{Verdict}
 use Rattle.exam_model.specs.declared.verdict.Verdict.TheVariants.{Bad}
 use Rattle.exam_model.specs.Problem.{Problem}
 use Rattle.exam_model.specs.Paths.{Path}
 use Rattle.exam_model.specs.ProofTrees.{ProofTree, AreTrees}
-use Rattle.exam_model.specs.Verdicts.{IsSound, below, open_leaf, GivesFrom}
+use Rattle.exam_model.specs.Verdicts.{IsSound, IsUnsound, below, open_leaf, GivesFrom}
 use Rattle.certificate_check.specs.declared.walk.Walked.{Walked}
 use Rattle.certificate_check.specs.declared.walk.Unsound.{Unsound}
 use Rattle.certificate_check.specs.Walks.{Passes, IsWalk}
@@ -68,6 +70,29 @@ leaf_passes P X T at met p node here within none closed makes sound =
           let e : met + open_leaf node ≡ met = ap (λ (k : ℕ). met + k) closed ∙ add-zero met in
           rw here (inl (sound, rw (e, none) gives));
     }
+
+-- an open leaf
+pub open_leaf_passes : (P : Problem) (X : Option Set) (T : ProofTree) (at met : ℕ) (p : Path)
+    → drop at T.nodes ≡ Open ∷ drop (at + 1) T.nodes
+    → at < length T.nodes
+    → met ≤ at
+    → IsSound P X T p Open
+    → Passes P X T at met p (at + 1) (met + 1)
+open_leaf_passes P X T at met p here within few sound =
+    record {
+      on = omega arith;
+      within = omega arith;
+      makes = λ wait h. rw here at h;
+      few = omega arith;
+      gives = λ paths verdict gives. rw here (inl (sound, gives));
+    }
+
+-- the node is unsound
+pub fails_here : (P : Problem) (X : Option Set) (T : ProofTree) (at met : ℕ) (p : Path) (node : Node) (reason : Reason)
+    → drop at T.nodes ≡ node ∷ drop (at + 1) T.nodes
+    → IsUnsound P X T p node reason
+    → IsWalk P X T at met p (Err (record { node = at; reason = reason }))
+fails_here P X T at met p node reason here unsound = λ paths. rw here (inr (reason, unsound, refl))
 
 -- the left subtree has an unsound node
 pub left_fails : (P : Problem) (X : Option Set) (T : ProofTree) (at met : ℕ) (p left right : Path) (node : Node) (unsound : Unsound)

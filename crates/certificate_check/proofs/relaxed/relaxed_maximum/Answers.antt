@@ -1,4 +1,4 @@
-use Rattle.std.proofs.Common.{rules, ◌≡◌, arith, inl, inr, ap, ◌∙◌}
+use Rattle.std.proofs.Common.{◌≡◌, arith, inl, inr, ap, ◌∙◌}
 use Rattle.bank_tables.specs.Items.{Set}
 use Rattle.exam_model.specs.Forms.{size_in}
 use Rattle.exam_model.specs.Paths.{Path, is_free}
@@ -21,4 +21,7 @@ returns-then-taken-free c =
     no_maximum P p c.args.vector.now c.args.ray (inr (omega (arith, c.size_in-taken.ensures.size, c.length-length.ensures)))
 
 pub filled_maximum-requires-clause-enough : goal.filled_maximum-requires-clause-enough
-filled_maximum-requires-clause-enough c = search rules
+filled_maximum-requires-clause-enough c = omega (arith, c.size_in-free.ensures.size)
+
+pub filled_maximum-requires-clause-fills : goal.filled_maximum-requires-clause-fills
+filled_maximum-requires-clause-fills c = omega arith

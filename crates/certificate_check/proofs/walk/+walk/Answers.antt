@@ -1,16 +1,17 @@
-use Rattle.std.proofs.Common.{◌≡◌, ◌+◌, ◌<◌, true, false, [], ◌∷◌, length, drop, Err, refl, inl, inr, arith, ap, subst}
+use Rattle.std.proofs.Common.{◌≡◌, ◌+◌, ◌<◌, true, false, [], ◌∷◌, length, drop, get_or, Err, refl, inl, inr, arith, ap, subst}
 use Rattle.std.specs.Option.{option_map}
 use Rattle.bank_tables.specs.Items.{has}
-use Rattle.exam_model.specs.declared.node.Node.TheVariants.{BranchItem, BranchStimulus, Bound, Ray, Count, Whole}
+use Rattle.exam_model.specs.declared.node.Node.TheVariants.{BranchItem, BranchStimulus, Bound, Ray, Count, Whole, Open}
+use Rattle.exam_model.specs.declared.node.Node.{Node}
 use Rattle.exam_model.specs.Paths.{Path, with_item, with_stimulus}
-use Rattle.exam_model.specs.Verdicts.{IsSound, below}
+use Rattle.exam_model.specs.Verdicts.{IsSound, IsUnsound, below}
 use Rattle.constraint_model.specs.Views.{problem_of}
 use Rattle.certificate_check.specs.declared.cut.Cut.{Cut}
 use Rattle.certificate_check.specs.declared.walk.Unsound.{Unsound}
 use Rattle.certificate_check.specs.Walks.{IsWalk}
 use Rattle.std.proofs.lemmas.Grind.{common_steps}
 use Rattle.certificate_check.specs.Cuts.{path_of}
-use Rattle.certificate_check.proofs.WalkSteps.{read_here, begins_within, both_walks, leaf_passes, left_fails}
+use Rattle.certificate_check.proofs.WalkSteps.{read_here, begins_within, both_walks, leaf_passes, open_leaf_passes, left_fails, fails_here}
 use Rattle.certificate_check.proofs.walk.+walk.Goals as goal
 
 pub returns-in_err-walked-in-BranchItem : goal.returns-in_err-walked-in-BranchItem
@@ -95,7 +96,16 @@ pub bounds-nodes-at : goal.bounds-nodes-at
 bounds-nodes-at t c = grind (arith, common_steps)
 
 pub returns-in-Some : goal.returns-in-Some
-returns-in-Some t c = grind (arith, common_steps)
+returns-in-Some t c =
+    let P = problem_of c.args.problem.now in
+    let X = option_map has c.args.form.now in
+    let T = c.args.tree.now in
+    let p : Path = path_of c.args.cut.now in
+    let node : Node = get_or c.nodes.result.now c.args.at (BranchItem 0) in
+    let same : path_of c.standing_on-standing.result.cut ≡ p = ap (λ (cut : Cut). path_of cut) c.standing_on-standing.ensures.cut in
+    let within : c.args.at < length T.nodes = begins_within T.nodes c.args.at c.requires.tree.0 c.requires.tree.1 in
+    let here : drop c.args.at T.nodes ≡ node ∷ drop (c.args.at + 1) T.nodes = read_here c.nodes.result.now T.nodes c.args.at (BranchItem 0) node c.nodes.ensures.nodes refl within in
+    fails_here P X T c.args.at c.args.open_leaves p node c.in-Some.reason here (subst (λ (q : Path). IsUnsound P X T q node c.in-Some.reason) same c.in-Some.ensures)
 
 pub overflow_add-at : goal.overflow_add-at
 overflow_add-at t c = grind (arith, common_steps)
@@ -113,7 +123,22 @@ pub walk-requires-in-BranchStimulus : goal.walk-requires-in-BranchStimulus
 walk-requires-in-BranchStimulus t c = grind (arith, common_steps)
 
 pub returns-in_err-walked-in-BranchStimulus : goal.returns-in_err-walked-in-BranchStimulus
-returns-in_err-walked-in-BranchStimulus t c = grind (arith, common_steps)
+returns-in_err-walked-in-BranchStimulus t c =
+    let P = problem_of c.args.problem.now in
+    let X = option_map has c.args.form.now in
+    let T = c.args.tree.now in
+    let p : Path = path_of c.args.cut.now in
+    let left : Path = path_of c.below_stimulus-left.result in
+    let s = c.in-BranchStimulus.which in
+    let same : path_of c.standing_on-standing.result.cut ≡ p = ap (λ (cut : Cut). path_of cut) c.standing_on-standing.ensures.cut in
+    let l : left ≡ with_stimulus P p s true = subst (λ (q : Path). left ≡ with_stimulus P q s true) same c.below_stimulus-left.ensures in
+    let two : below P p (BranchStimulus s) ≡ left ∷ with_stimulus P p s false ∷ [] = rw l refl in
+    let within : c.args.at < length T.nodes = begins_within T.nodes c.args.at c.requires.tree.0 c.requires.tree.1 in
+    let here : drop c.args.at T.nodes ≡ BranchStimulus s ∷ drop (c.args.at + 1) T.nodes = read_here c.nodes.result.now T.nodes c.args.at (BranchItem 0) (BranchStimulus s) c.nodes.ensures.nodes c.in-BranchStimulus.is within in
+    let sound : IsSound P X T p (BranchStimulus s) = subst (λ (q : Path). IsSound P X T q (BranchStimulus s)) same (subst (IsSound P X T (path_of c.standing_on-standing.result.cut)) c.in-BranchStimulus.is c.in_default.ensures) in
+    let u : Unsound = c.in_err-walked-in-BranchStimulus.field-0.0 in
+    let fails : IsWalk P X T c.args.at c.args.open_leaves p (Err u) = left_fails P X T c.args.at c.args.open_leaves p left (with_stimulus P p s false) (BranchStimulus s) u here two refl sound c.in_err-walked-in-BranchStimulus.ensures in
+    grind (arith, common_steps)
 
 pub walk-requires-in-BranchStimulus-2 : goal.walk-requires-in-BranchStimulus-2
 walk-requires-in-BranchStimulus-2 t c = grind (arith, common_steps)
@@ -128,4 +153,13 @@ pub overflow_add-result-in-Bound : goal.overflow_add-result-in-Bound
 overflow_add-result-in-Bound t c = grind (arith, common_steps)
 
 pub returns-in-Open : goal.returns-in-Open
-returns-in-Open t c = grind (arith, common_steps)
+returns-in-Open t c =
+    let P = problem_of c.args.problem.now in
+    let X = option_map has c.args.form.now in
+    let T = c.args.tree.now in
+    let p : Path = path_of c.args.cut.now in
+    let same : path_of c.standing_on-standing.result.cut ≡ p = ap (λ (cut : Cut). path_of cut) c.standing_on-standing.ensures.cut in
+    let within : c.args.at < length T.nodes = begins_within T.nodes c.args.at c.requires.tree.0 c.requires.tree.1 in
+    let here : drop c.args.at T.nodes ≡ Open ∷ drop (c.args.at + 1) T.nodes = read_here c.nodes.result.now T.nodes c.args.at (BranchItem 0) Open c.nodes.ensures.nodes c.in-Open.is within in
+    let sound : IsSound P X T p Open = subst (λ (q : Path). IsSound P X T q Open) same (subst (IsSound P X T (path_of c.standing_on-standing.result.cut)) c.in-Open.is c.in_default.ensures) in
+    open_leaf_passes P X T c.args.at c.args.open_leaves p here within c.requires.few sound
