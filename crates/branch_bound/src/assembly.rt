@@ -92,7 +92,7 @@ impl<'a> Assembled<'a> {
 }
 
 /// A tree, the outcome that it shows, and whether the fallback search made it.
-#[derive(Debug, Drop)]
+#[derive(Drop)]
 struct Made {
     tree: Tree,
     outcome: Outcome,

@@ -32,7 +32,7 @@ use proof_tree::{Memory, Tree, Vector, has_open_leaf};
 use std::alloc::Global;
 
 /// What the search keeps: the best form known, the branches that the node budget leaves, and the nodes so far.
-#[derive(Debug, Drop)]
+#[derive(Drop)]
 struct SearchState {
     best: Option<ItemSet>,
     branches: u16,
@@ -194,7 +194,7 @@ fn outcome_of(problem: &Problem, form: Option<ItemSet>, nodes: &[Node]) -> Outco
 }
 
 /// A tree and the outcome that it shows.
-#[derive(Debug, Drop)]
+#[derive(Drop)]
 pub struct Fallback {
     pub tree: Tree,
     pub outcome: Outcome,
