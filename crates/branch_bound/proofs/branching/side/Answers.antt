@@ -1,4 +1,4 @@
-use Rattle.std.proofs.Common.{◌∙◌, ap, subst}
+use Rattle.std.proofs.Common.{rules, ◌∙◌, ap, subst}
 use Rattle.bank_tables.specs.Items.{Set}
 use Rattle.exam_model.specs.declared.node.Node.TheVariants.{BranchItem, BranchStimulus}
 use Rattle.exam_model.specs.Paths.{with_item, with_stimulus}
@@ -29,3 +29,6 @@ pub returns-in-BranchStimulus-clause-cut : goal.returns-in-BranchStimulus-clause
 returns-in-BranchStimulus-clause-cut c =
     let cut = c.requires.cut in
     record { path = with_stimulus (problem_of c.args.problem.now) cut.path c.in-BranchStimulus.stimulus c.args.with; is = c.with_stimulus.ensures cut.path cut.is }
+
+pub returns-in-BranchStimulus-clause-paths : goal.returns-in-BranchStimulus-clause-paths
+returns-in-BranchStimulus-clause-paths c = search rules steps 1000000
