@@ -6,6 +6,21 @@ use Rattle.exam_program.specs.Outside.{outside, disk_seen}
 use Rattle.exam_program.proofs.OutcomeLaws.{as_it_is, halts_without_memory, leaves_journal, is_8, is_10, also}
 use Rattle.exam_program.proofs.program.run_alone.Goals as goal
 
+pub returns-in-Ok-clause-answers : goal.returns-in-Ok-clause-answers
+returns-in-Ok-clause-answers g c = λ told. c.status_of-disk.ensures.answers told _ c.in-Ok.ensures.command
+
+pub returns-in-Ok-clause-failed : goal.returns-in-Ok-clause-failed
+returns-in-Ok-clause-failed g c = c.status_of-disk.ensures.failed
+
+pub returns-in-Ok-clause-kept : goal.returns-in-Ok-clause-kept
+returns-in-Ok-clause-kept g c = c.status_of-disk.ensures.kept
+
+pub returns-in-Ok-clause-unused : goal.returns-in-Ok-clause-unused
+returns-in-Ok-clause-unused g c = rw (← c.in-Ok.ensures.command) c.status_of-disk.ensures.unused
+
+pub returns-in-Ok-clause-disk : goal.returns-in-Ok-clause-disk
+returns-in-Ok-clause-disk g c = c.status_of-disk.ensures.disk
+
 pub returns-in-Ok-clause-journal : goal.returns-in-Ok-clause-journal
 returns-in-Ok-clause-journal g c = λ told.
     let words : List (List ℕ) = map (λ w. string_bytes w) c.args.words.now in
