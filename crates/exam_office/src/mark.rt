@@ -7,7 +7,7 @@ use history_log::Counted;
 use history_model::Entry;
 
 /// What an office notes, one after another. A length is that of the journal in bytes.
-#[derive(Clone, Copy, Debug, PartialEq, Eq)]
+#[derive(Clone, Copy)]
 pub enum Mark {
     /// An entry that was found at opening.
     Old(Entry),

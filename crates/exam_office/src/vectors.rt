@@ -13,7 +13,7 @@ use proof_tree::{Memory, Tree, Vector};
 use std::alloc::Global;
 
 /// What the record of an item that is served makes the vector of its session.
-#[derive(Debug, Drop)]
+#[derive(Drop)]
 pub(crate) struct NewVector {
     pub session: u32,
     pub vector: Option<Vector>,
@@ -75,7 +75,7 @@ fn new_vector(
 
 /// The vectors of the sessions: for each the first of the tree in the last record that serves an
 /// item in it, if each side that it names is one of the plan's, or of the cap.
-#[derive(Debug, Drop)]
+#[derive(Drop)]
 pub(crate) struct Vectors {
     /// One for each session up to the last for which a serving was tried.
     pub each: Vec<Option<Vector>>,
