@@ -35,7 +35,7 @@ use std::alloc::Global;
 use std::marker::Model;
 
 /// The entries of an examination, which always are a legal run for its bank and plan.
-#[derive(Debug, Drop)]
+#[derive(Drop)]
 pub struct Book<'a> {
     pub(crate) bank: &'a Bank,
     pub(crate) spec: &'a Spec,

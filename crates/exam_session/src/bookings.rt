@@ -14,7 +14,7 @@ use history_model::Entry;
 use std::alloc::Global;
 
 /// The booking of each session, and the sessions in ascending order of them.
-#[derive(Debug, Drop)]
+#[derive(Drop)]
 pub(crate) struct Bookings {
     pub(crate) each: Vec<u64>,
     pub(crate) order: Vec<u32>,

@@ -20,7 +20,7 @@ use std::alloc::Global;
 
 /// The content of a `Seat`, in lists that have room for the items of a test and no more, and the sums
 /// of the plan's prior and its answers.
-#[derive(Debug, Drop)]
+#[derive(Drop)]
 pub(crate) struct KeptSeat {
     pub(crate) shown: Vec<u16>,
     pub(crate) responses: Vec<u8>,

@@ -7,7 +7,7 @@ ghost use Rattle.exam_session.specs.Totals.{HaveRoom, totals_with};
 use history_model::Entry;
 
 /// The items served, by their marks; the sessions for which eligibility was set aside; and the nodes of the trees of both.
-#[derive(Clone, Copy, Debug, PartialEq, Eq)]
+#[derive(Clone, Copy)]
 pub(crate) struct Totals {
     pub(crate) proved: u64,
     pub(crate) unproved: u64,

@@ -1,4 +1,4 @@
-use Rattle.std.proofs.Common.{◌≡◌, ◌∙◌, ℕ, List, length, get_or, slice_get, Some, sym, ap, subst}
+use Rattle.std.proofs.Common.{rules, ◌≡◌, ◌∙◌, ℕ, List, length, get_or, slice_get, Some, sym, ap, subst}
 use Rattle.std.specs.List.{zip}
 use Rattle.std.proofs.lemmas.Option.{get_or_from_slice_get}
 use Rattle.exam_model.specs.Ability.{AnswerList}
@@ -26,3 +26,6 @@ returns-in-Answered-clause-sums c = λ plan sums.
     let waits : slice_get kept.shown.items (length kept.responses.items) ≡ Some item = takes.waits ∙ ap (λ (k : ℕ). Some k) (sym same) in
     let more = ap (zip kept.shown.items) c.push_reserved-in-Answered.ensures.items ∙ answer_more kept.shown.items kept.responses.items item c.in-Answered.response waits in
     subst (λ (list : AnswerList). IsSumsOf b plan.prior list c.add.new.self) (sym more) (c.add.ensures.sums plan.prior (answers (seat_kept kept)) sums)
+
+pub add-requires-clause-few : goal.add-requires-clause-few
+add-requires-clause-few c = search rules
