@@ -1,4 +1,5 @@
-use Rattle.std.proofs.Common.{◌≡◌, ◌+◌, ◌++◌, [], ◌∷◌, ◌||◌, rules, sym, ap, subst, ◌∙◌}
+use Rattle.std.proofs.Common.{◌≡◌, ◌+◌, ◌++◌, [], ◌∷◌, ◌||◌, rules, arith, sym, ap, subst, ◌∙◌}
+use Rattle.std.proofs.lemmas.Grind.{common_steps}
 use Rattle.std.proofs.lemmas.List.Elements.{All-pop}
 use Rattle.exam_serve.specs.Joining.{IsUnseated}
 use Rattle.exam_serve.proofs.Joins.{starts_through, sees_old, unseated_more}
@@ -29,3 +30,15 @@ loop-preserved g c =
           (unseated_more l.pass c.unseat-now.new.pass c.args.stations.now.items l.stations.items c.pop.new.self.items s
           l.doors.items l.failed last c.unseat-now.ensures.joined l.invariant.unseated));
     }
+
+pub returns-clause-doors : goal.returns-clause-doors
+returns-clause-doors g c = grind (arith, common_steps)
+
+pub returns-clause-joined : goal.returns-clause-joined
+returns-clause-joined g c = grind (arith, common_steps)
+
+pub returns-clause-none : goal.returns-clause-none
+returns-clause-none g c = grind (arith, common_steps)
+
+pub returns-clause-failed : goal.returns-clause-failed
+returns-clause-failed g c = grind (arith, common_steps)
