@@ -33,9 +33,22 @@ pub fn dive(
     requires { IsWellMade (problem_of problem.now) }
 {
     let mut vertex = from.again(alloc)?;
+    dive_with(problem, table, solver, incumbent, &mut vertex)
+}
+
+/// Dives with a vertex, which is moved to each path on the way.
+fn dive_with(
+    problem: &Problem,
+    table: &Table,
+    solver: &mut Solver,
+    incumbent: &mut Incumbent,
+    vertex: &mut Vertex,
+) -> Result<(), Memory>
+    requires { IsWellMade (problem_of problem.now) }
+{
     let mut cut = Cut::root(problem);
     for _ in 0..DEEPEST {
-        if solver.run(&mut vertex, target_of(incumbent), MOST_EXCHANGES)? != Reached::Best {
+        if solver.run(vertex, target_of(incumbent), MOST_EXCHANGES)? != Reached::Best {
             break;
         }
         let Some((column, is_taken)) = vertex.greatest(&solver.relaxation) else {

@@ -59,34 +59,31 @@ pub struct Pass {
 }
 
 impl Pass {
-    /// A pass with the root's vector.
-    fn new(
-        alloc: Global,
-        table: &Table,
-        incumbent: &Incumbent,
-        at_root: &Stepped,
-        limits: Limits,
-    ) -> Result<Pass, Memory> {
-        let mut pool = Pool::new(alloc);
-        if !at_root.vector.pairs().is_empty() && pool.has_room() {
-            let vector = at_root.vector.again(alloc)?;
-            let _ = pool.store(Priced::of(alloc, table, vector, false)?)?;
-        }
-        let mut hands = Vec::new(alloc);
-        hands.push(Hand {
-            vector: at_root.vector.again(alloc)?,
-            bound: i64::MAX,
-        })?;
-        Ok(Pass {
+    /// A pass without vectors: `begin` gives it the root's, and then `grow` its nodes.
+    fn new(alloc: Global, incumbent: &Incumbent, limits: Limits) -> Pass {
+        Pass {
             nodes: Vec::new(alloc),
-            pool,
-            hands,
+            pool: Pool::new(alloc),
+            hands: Vec::new(alloc),
             branches: limits.branches,
             is_spent: false,
             is_whole: false,
             begun: incumbent.objective,
             limits,
-        })
+        }
+    }
+
+    /// Begins with the root's vector.
+    fn begin(&mut self, alloc: Global, table: &Table, root: &Vector) -> Result<(), Memory> {
+        if !root.pairs().is_empty() && self.pool.has_room() {
+            let priced = Priced::of(alloc, table, root.again(alloc)?, false)?;
+            let _ = self.pool.store(priced)?;
+        }
+        self.hands.push(Hand {
+            vector: root.again(alloc)?,
+            bound: i64::MAX,
+        })?;
+        Ok(())
     }
 
     /// What steps aim at: somewhat less than what closes a path, as the limits have it.
@@ -210,6 +207,24 @@ impl Pass {
         }
     }
 
+    /// The leaf of the vector that steps led to, if that closes the path.
+    fn leaf_after_steps(
+        &mut self,
+        alloc: Global,
+        table: &Table,
+        incumbent: &Incumbent,
+        cut: &Cut,
+        ascent: &Ascent,
+    ) -> Result<Option<Node>, Memory> {
+        if ascent.bound > incumbent.top() {
+            return Ok(None);
+        }
+        let vector = ascent.vector.again(alloc)?;
+        let ray = incumbent.form.is_none();
+        self.pool
+            .closed_by(alloc, table, incumbent, cut, vector, ray)
+    }
+
     /// The node at a path that no vector of the pool closes, after steps there.
     fn node_after_steps(
         &mut self,
@@ -227,13 +242,9 @@ impl Pass {
         }
         let ascent = self.steps(alloc, problem, incumbent, place)?;
         take_form(problem, table, incumbent, &ascent);
-        if ascent.bound <= incumbent.top() {
-            let vector = ascent.vector.again(alloc)?;
-            let (cut, ray) = (&place.cut, incumbent.form.is_none());
-            let pool = &mut self.pool;
-            if let Some(leaf) = pool.closed_by(alloc, table, incumbent, cut, vector, ray)? {
-                return Ok(leaf);
-            }
+        let cut = &place.cut;
+        if let Some(leaf) = self.leaf_after_steps(alloc, table, incumbent, cut, &ascent)? {
+            return Ok(leaf);
         }
         self.branch_or_open(alloc, problem, table, incumbent, place, Stepped::of(ascent))
     }
@@ -307,7 +318,23 @@ impl Pass {
     ) -> Result<Pass, Memory>
         requires { IsWellMade (problem_of problem.now) }
     {
-        let mut pass = Pass::new(alloc, table, incumbent, at_root, limits)?;
+        let mut pass = Pass::new(alloc, incumbent, limits);
+        pass.begin(alloc, table, &at_root.vector)?;
+        pass.grow(alloc, problem, table, incumbent, at_root)?;
+        Ok(pass)
+    }
+
+    /// Adds the nodes of the paths from the root on.
+    fn grow(
+        &mut self,
+        alloc: Global,
+        problem: &Problem,
+        table: &Table,
+        incumbent: &mut Incumbent,
+        at_root: &Stepped,
+    ) -> Result<(), Memory>
+        requires { IsWellMade (problem_of problem.now) }
+    {
         let mut waiting = Vec::new(alloc);
         let first = Waiting {
             cut: Cut::root(problem),
@@ -319,19 +346,19 @@ impl Pass {
             let Some(place) = next_path(problem, &mut waiting) else {
                 break;
             };
-            let node = pass.node_at(alloc, problem, table, incumbent, at_root, &place)?;
-            pass.nodes.push(node)?;
-            let last = pass.hands.len().saturating_sub(1);
+            let node = self.node_at(alloc, problem, table, incumbent, at_root, &place)?;
+            self.nodes.push(node)?;
+            let last = self.hands.len().saturating_sub(1);
             let hands = Sides {
                 first: last.saturating_sub(1),
                 other: last,
             };
             push_below(problem, &mut waiting, &place, &node, hands)?;
-            if limits.restarts && pass.is_stale(incumbent) {
+            if self.limits.restarts && self.is_stale(incumbent) {
                 break;
             }
         }
-        pass.is_whole = waiting.is_empty();
-        Ok(pass)
+        self.is_whole = waiting.is_empty();
+        Ok(())
     }
 }

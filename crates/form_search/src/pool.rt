@@ -40,7 +40,7 @@ pub fn wanted(table: &Table, cut: &Cut) -> u32 {
 }
 
 /// Whether a vector closes the path: no form there is better than the incumbent, or, by a ray, there is none.
-pub fn closes(priced: &Priced, table: &Table, incumbent: &Incumbent, cut: &Cut) -> bool {
+fn closes(priced: &Priced, table: &Table, incumbent: &Incumbent, cut: &Cut) -> bool {
     if !priced.ray && incumbent.form.is_none() {
         return false;
     }
@@ -188,8 +188,8 @@ impl Pool {
         }
     }
 
-    /// The vectors.
-    pub fn into_vectors(self, alloc: Global) -> Result<Vec<Vector>, Memory> {
+    /// The vectors once more.
+    pub fn copied_vectors(&self, alloc: Global) -> Result<Vec<Vector>, Memory> {
         let mut vectors = Vec::new(alloc);
         for priced in self.vectors.as_slice() {
             vectors.push(priced.vector.again(alloc)?)?;

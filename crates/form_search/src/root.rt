@@ -51,6 +51,31 @@ fn no_steps(alloc: Global, vector: Vector) -> Stepped {
     }
 }
 
+/// A piece of steps at the root, and a form near to where they lead if there is none yet.
+fn piece(
+    alloc: Global,
+    problem: &Problem,
+    table: &Table,
+    incumbent: &mut Incumbent,
+    cut: &Cut,
+    from: &Vector,
+) -> Result<Stepped, Memory>
+    requires { IsWellMade (problem_of problem.now) }
+{
+    let aim = Aim {
+        ray: false,
+        target: target_of(incumbent),
+        steps: PIECE,
+    };
+    let ascent = climb(alloc, problem, cut, from, aim)?;
+    take_form(problem, table, incumbent, &ascent);
+    if incumbent.form.is_none() {
+        let items = nearby_form(alloc, table, &ascent.vector, &ascent.choice)?;
+        incumbent.offer(problem, table, &items);
+    }
+    Ok(Stepped::of(ascent))
+}
+
 /// Steps at the root, piece by piece, and a form near to where they lead if there is none yet. The
 /// first piece begins with the warm vector, if there is one.
 pub fn steps_at_root(
@@ -65,19 +90,9 @@ pub fn steps_at_root(
 {
     let mut stepped = no_steps(alloc, first_vector(alloc, warm)?);
     for _ in 0..PIECES {
-        let aim = Aim {
-            ray: false,
-            target: target_of(incumbent),
-            steps: PIECE,
-        };
-        let ascent = climb(alloc, problem, cut, &stepped.vector, aim)?;
-        take_form(problem, table, incumbent, &ascent);
-        let gained = stepped.bound.saturating_sub(ascent.bound);
-        stepped = Stepped::of(ascent);
-        if incumbent.form.is_none() {
-            let items = nearby_form(alloc, table, &stepped.vector, &stepped.choice)?;
-            incumbent.offer(problem, table, &items);
-        }
+        let next = piece(alloc, problem, table, incumbent, cut, &stepped.vector)?;
+        let gained = stepped.bound.saturating_sub(next.bound);
+        stepped = next;
         if gained < LEAST_GAIN || stepped.bound <= incumbent.top() {
             break;
         }

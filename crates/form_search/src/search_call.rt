@@ -9,14 +9,12 @@ ghost use Rattle.lagrange_bound.specs.Cuts.{IsCut};
 
 use crate::incumbent::Incumbent;
 use crate::pass::{Limits, Pass};
-use crate::pool::{Pool, closes, empty_vector};
-use crate::priced::Priced;
+use crate::pool::{Pool, empty_vector};
 use crate::repair::nearby_form;
 use crate::root::steps_at_root;
 use crate::steps::Stepped;
 use crate::table::Table;
-use crate::vertex_pass::{vertex_of_root, vertex_passes};
-use crate::vertices::Solver;
+use crate::vertex_pass::passes_by_exchanges;
 use bank_tables::{ItemSet, List};
 use constraint_model::Problem;
 use exam_model::Node;
@@ -38,7 +36,7 @@ const LAST_PROBES: usize = 4;
 const MOST_PASSES: u32 = 8;
 
 /// The result of a search: a form, if it met one, and a tree, if what it built is one.
-#[derive(Debug, Drop)]
+#[derive(Drop)]
 pub struct Searched {
     pub form: Option<ItemSet>,
     pub tree: Option<Tree>,
@@ -80,9 +78,9 @@ fn names_vector(nodes: &[Node]) -> bool {
 }
 
 /// The tree of some nodes, without vectors where no leaf names one.
-fn tree_with(alloc: Global, nodes: Vec<Node>, pool: Pool) -> Result<Option<Tree>, Memory> {
+fn tree_with(alloc: Global, nodes: Vec<Node>, pool: &Pool) -> Result<Option<Tree>, Memory> {
     let vectors = if names_vector(&nodes) {
-        pool.into_vectors(alloc)?
+        pool.copied_vectors(alloc)?
     } else {
         Vec::new(alloc)
     };
@@ -94,7 +92,7 @@ fn tree_of(alloc: Global, pass: Pass) -> Result<Option<Tree>, Memory> {
     if !pass.is_whole {
         return Ok(None);
     }
-    tree_with(alloc, pass.nodes, pass.pool)
+    tree_with(alloc, pass.nodes, &pass.pool)
 }
 
 /// The tree of passes by exchanges, if one is whole within the budget.
@@ -109,26 +107,38 @@ fn tree_by_exchanges(
     requires well_made { IsWellMade (problem_of problem.now) }
     requires root { IsCut (problem_of problem.now) root.now }
 {
-    let mut solver = Solver::of(alloc, problem, root)?;
-    let vertex = vertex_of_root(alloc, problem, table, &mut solver, incumbent, root)?;
     let branches = (budget as u32).saturating_sub(1) / 2;
-    match vertex_passes(
-        alloc,
-        problem,
-        table,
-        &mut solver,
-        incumbent,
-        root,
-        &vertex,
-        branches,
-    )? {
-        Some(pass) => tree_with(alloc, pass.nodes, pass.pool),
+    match passes_by_exchanges(alloc, problem, table, incumbent, root, branches)? {
+        Some(pass) => tree_with(alloc, pass.nodes, &pass.pool),
         None => Ok(None),
     }
 }
 
-/// Passes until one is whole, and no better form was met while it grew large. Its tree is taken if the budget is not spent.
-/// Else one more pass tries more branches at each path.
+/// Passes until one is whole, and no better form was met while it grew large. None where a whole one has spent the budget, or
+/// no pass is so.
+fn first_passes(
+    alloc: Global,
+    problem: &Problem,
+    table: &Table,
+    incumbent: &mut Incumbent,
+    at_root: &Stepped,
+    limits: Limits,
+) -> Result<Option<Pass>, Memory>
+    requires { IsWellMade (problem_of problem.now) }
+{
+    for _ in 0..MOST_PASSES {
+        let pass = Pass::over(alloc, problem, table, incumbent, at_root, limits)?;
+        if pass.is_whole && pass.is_spent {
+            return Ok(None);
+        }
+        if pass.is_whole && !pass.is_late(incumbent) {
+            return Ok(Some(pass));
+        }
+    }
+    Ok(None)
+}
+
+/// The tree of the first passes, if the budget is not spent. Else one more pass tries more branches at each path.
 fn passes(
     alloc: Global,
     problem: &Problem,
@@ -146,16 +156,8 @@ fn passes(
         margin: 0,
         probes: FIRST_PROBES,
     };
-    for _ in 0..MOST_PASSES {
-        let pass = Pass::over(alloc, problem, table, incumbent, at_root, limits)?;
-        if pass.is_whole {
-            if pass.is_spent {
-                break;
-            }
-            if !pass.is_late(incumbent) {
-                return tree_of(alloc, pass);
-            }
-        }
+    if let Some(pass) = first_passes(alloc, problem, table, incumbent, at_root, limits)? {
+        return tree_of(alloc, pass);
     }
     limits.restarts = false;
     limits.probes = LAST_PROBES;
@@ -175,16 +177,12 @@ fn tree_of_warm(
     let Some(known) = warm else {
         return Ok(None);
     };
-    let priced = Priced::of(alloc, table, known.again(alloc)?, false)?;
-    if !closes(&priced, table, incumbent, root) {
-        return Ok(None);
-    }
     let mut pool = Pool::new(alloc);
-    let mut nodes = Vec::new(alloc);
-    if let Some(leaf) = pool.store(priced)? {
-        nodes.push(leaf)?;
+    let vector = known.again(alloc)?;
+    match pool.closed_by(alloc, table, incumbent, root, vector, false)? {
+        Some(leaf) => tree_with(alloc, vec![in alloc; leaf]?, &pool),
+        None => Ok(None),
     }
-    tree_with(alloc, nodes, pool)
 }
 
 /// The tree where steps at the root begin the search: one node if they close it; else that of exchanges, where these may be
@@ -213,6 +211,58 @@ fn tree_by_steps(
     passes(alloc, problem, table, incumbent, &stepped, budget)
 }
 
+/// The tree of the warm vector alone, else that of exchanges.
+fn exact_tree(
+    alloc: Global,
+    problem: &Problem,
+    table: &Table,
+    incumbent: &mut Incumbent,
+    root: &Cut,
+    budget: u16,
+    warm: Option<&Vector>,
+) -> Result<Option<Tree>, Memory>
+    requires well_made { IsWellMade (problem_of problem.now) }
+    requires root { IsCut (problem_of problem.now) root.now }
+{
+    let tree = tree_of_warm(alloc, table, incumbent, root, warm)?;
+    if tree.is_some() {
+        return Ok(tree);
+    }
+    tree_by_exchanges(alloc, problem, table, incumbent, root, budget)
+}
+
+/// The tree of a search: it begins without steps where items are linked and a form is known.
+fn tree_of_search(
+    alloc: Global,
+    problem: &Problem,
+    table: &Table,
+    incumbent: &mut Incumbent,
+    budget: u16,
+    warm: Option<&Vector>,
+) -> Result<Option<Tree>, Memory>
+    requires { IsWellMade (problem_of problem.now) }
+{
+    let root = Cut::root(problem);
+    let begins_exact = table.has_links() && incumbent.form.is_some();
+    if begins_exact {
+        let tree = exact_tree(alloc, problem, table, incumbent, &root, budget, warm)?;
+        if tree.is_some() {
+            return Ok(tree);
+        }
+    }
+    let may_exchange = !begins_exact && !table.is_of_passages();
+    tree_by_steps(
+        alloc,
+        problem,
+        table,
+        incumbent,
+        &root,
+        budget,
+        warm,
+        may_exchange,
+    )
+}
+
 /// Looks for a form of the problem, and for a tree within a budget of nodes, which is odd and at most 4,095, that shows it
 /// best, or that no set is a form, or that spends the budget; the hint may be a form. The tree is to be tested. Where the
 /// warm vector, if there is one, closes the root, the tree is one node.
@@ -229,29 +279,7 @@ pub fn search(
 {
     let table = Table::of(alloc, problem)?;
     let mut incumbent = known(alloc, problem, &table, hint)?;
-    let root = Cut::root(problem);
-    let begins_exact = table.has_links() && incumbent.form.is_some();
-    let mut tree = None;
-    if begins_exact {
-        tree = tree_of_warm(alloc, &table, &incumbent, &root, warm)?;
-        if tree.is_none() {
-            tree = tree_by_exchanges(alloc, problem, &table, &mut incumbent, &root, budget)?;
-        }
-    }
-    if tree.is_none() {
-        let may_exchange = !begins_exact && !table.is_of_passages();
-        let known = &mut incumbent;
-        tree = tree_by_steps(
-            alloc,
-            problem,
-            &table,
-            known,
-            &root,
-            budget,
-            warm,
-            may_exchange,
-        )?;
-    }
+    let tree = tree_of_search(alloc, problem, &table, &mut incumbent, budget, warm)?;
     Ok(Searched {
         form: tested_form(problem, &incumbent.form),
         tree,

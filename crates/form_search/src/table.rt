@@ -149,9 +149,23 @@ fn limits_of(table: &Table, row: u8, given: &Row) -> Limits {
     }
 }
 
-/// The bounds of the stimuli.
-fn stimuli_of(alloc: Global, problem: &Problem) -> Result<Vec<Limits>, Memory> {
-    let mut stimuli = Vec::new(alloc);
+/// Adds the items of the bank.
+fn add_entries(
+    entries: &mut Vec<Entry>,
+    parts: &mut Vec<Part>,
+    problem: &Problem,
+) -> Result<(), Memory> {
+    for item in 0..problem.bank.items() {
+        let mut entry = entry_of(problem, item, parts.len());
+        add_parts(parts, problem, item)?;
+        entry.end = parts.len();
+        entries.push(entry)?;
+    }
+    Ok(())
+}
+
+/// Adds the bounds of the stimuli.
+fn add_stimuli(stimuli: &mut Vec<Limits>, problem: &Problem) -> Result<(), Memory> {
     for bound in problem.spec.bounds() {
         let limits = Limits {
             low: bound.low as i64,
@@ -161,7 +175,7 @@ fn stimuli_of(alloc: Global, problem: &Problem) -> Result<Vec<Limits>, Memory> {
         };
         stimuli.push(limits)?;
     }
-    Ok(stimuli)
+    Ok(())
 }
 
 /// The sum of the parts on a row.
@@ -217,17 +231,6 @@ impl Table {
         items
     }
 
-    /// Adds the items of the bank.
-    fn add_entries(&mut self, problem: &Problem) -> Result<(), Memory> {
-        for item in 0..problem.bank.items() {
-            let mut entry = entry_of(problem, item, self.parts.len());
-            add_parts(&mut self.parts, problem, item)?;
-            entry.end = self.parts.len();
-            self.entries.push(entry)?;
-        }
-        Ok(())
-    }
-
     /// Adds the rows of the plan.
     fn add_rows(&mut self, problem: &Problem) -> Result<(), Memory> {
         let mut row = 0u8;
@@ -239,22 +242,28 @@ impl Table {
         Ok(())
     }
 
+    /// Adds the numbers of a problem.
+    fn fill(&mut self, problem: &Problem) -> Result<(), Memory> {
+        add_entries(&mut self.entries, &mut self.parts, problem)?;
+        self.add_rows(problem)?;
+        add_stimuli(&mut self.stimuli, problem)?;
+        self.usable = self.usable_items();
+        self.most = Tally::of(self, &self.usable);
+        Ok(())
+    }
+
     /// The numbers of a problem.
     pub fn of(alloc: Global, problem: &Problem) -> Result<Table, Memory> {
-        let items = problem.bank.items() as usize;
         let mut table = Table {
             length: problem.spec.length(),
-            entries: Vec::with_capacity(alloc, items)?,
-            parts: Vec::with_capacity(alloc, items.saturating_mul(4))?,
+            entries: Vec::new(alloc),
+            parts: Vec::new(alloc),
             rows: Vec::new(alloc),
-            stimuli: stimuli_of(alloc, problem)?,
+            stimuli: Vec::new(alloc),
             usable: ItemSet::empty(),
             most: Tally::none(),
         };
-        table.add_entries(problem)?;
-        table.add_rows(problem)?;
-        table.usable = table.usable_items();
-        table.most = Tally::of(&table, &table.usable);
+        table.fill(problem)?;
         Ok(table)
     }
 }

@@ -1,4 +1,4 @@
-//! The sum of a set of items on each row and stimulus, and how far it is from the bounds.
+//! The sum of a set of items on each row and stimulus, and the violation: how far these are from the bounds, in all.
 
 use crate::table::{Entry, Limits, Table, amount_in};
 use bank_tables::ItemSet;
@@ -70,17 +70,21 @@ impl Tally {
     /// Adds an item, or with the sign -1 takes it off.
     fn add(&mut self, table: &Table, entry: &Entry, sign: i64) {
         for part in table.parts_of(entry) {
-            let row = part.row as usize;
-            if row < 128 {
-                let more = sign.wrapping_mul(part.amount as i64);
-                self.activity[row] = self.activity[row].wrapping_add(more);
+            if let Some(sum) = self.activity.get_mut(part.row as usize) {
+                *sum = sum.wrapping_add(sign.wrapping_mul(part.amount as i64));
             }
         }
-        let stimulus = entry.stimulus as usize;
-        if 0 < stimulus && stimulus < 65 {
-            let before = self.members[stimulus];
+        if entry.stimulus > 0 {
+            self.count(entry.stimulus, sign);
+        }
+    }
+
+    /// Adds an item of a stimulus, or takes it off.
+    fn count(&mut self, stimulus: u8, sign: i64) {
+        if let Some(members) = self.members.get_mut(stimulus as usize) {
+            let before = *members;
             let after = before.wrapping_add(sign);
-            self.members[stimulus] = after;
+            *members = after;
             let more = (after != 0) as i64 - (before != 0) as i64;
             self.used = self.used.wrapping_add(more);
         }
@@ -88,18 +92,12 @@ impl Tally {
 
     /// The sum of the set on a row that doesn't count stimuli.
     fn on_row(&self, row: u8) -> i64 {
-        let row = row as usize;
-        if row < 128 { self.activity[row] } else { 0 }
+        self.activity.get(row as usize).copied().unwrap_or(0)
     }
 
     /// How many of its items have the stimulus.
     fn on_stimulus(&self, stimulus: u8) -> i64 {
-        let stimulus = stimulus as usize;
-        if stimulus < 65 {
-            self.members[stimulus]
-        } else {
-            0
-        }
+        self.members.get(stimulus as usize).copied().unwrap_or(0)
     }
 
     /// Whether one more item opens no stimulus, and fills none beyond its bound.
@@ -112,27 +110,6 @@ impl Tally {
             Some(limits) => 0 < found && found < limits.high,
             None => false,
         }
-    }
-
-    /// How far the set is from the bounds of all rows and stimuli; 0 exactly where it meets them.
-    pub fn violation(&self, table: &Table) -> i64 {
-        let mut sum = 0i64;
-        let mut row = 0u8;
-        for limits in table.rows.as_slice() {
-            let found = if limits.of_stimuli {
-                self.used
-            } else {
-                self.on_row(row)
-            };
-            sum = sum.wrapping_add(excess(limits, found));
-            row = row.saturating_add(1);
-        }
-        let mut stimulus = 1u8;
-        for limits in table.stimuli.as_slice() {
-            sum = sum.wrapping_add(stimulus_excess(limits, self.on_stimulus(stimulus)));
-            stimulus = stimulus.saturating_add(1);
-        }
-        sum
     }
 
     /// Whether a row or stimulus has too much in this set, or too little in the other, which has all that may come.

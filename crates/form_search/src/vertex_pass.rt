@@ -63,7 +63,7 @@ fn is_far(vertex: &Vertex, incumbent: &Incumbent) -> bool {
 }
 
 /// The vertex of the root, and a first form or a better one where the root isn't closed.
-pub fn vertex_of_root(
+fn vertex_of_root(
     alloc: Global,
     problem: &Problem,
     table: &Table,
@@ -76,17 +76,33 @@ pub fn vertex_of_root(
     let mut vertex = Vertex::first(alloc, &solver.relaxation, &sets_of(root))?;
     let target = target_of(incumbent).saturating_sub(ROOT_MARGIN);
     match solver.run(&mut vertex, target, ROOT_EXCHANGES)? {
-        Reached::Target | Reached::Ray => return Ok(vertex),
-        Reached::Best | Reached::Limit => {}
+        Reached::Target | Reached::Ray => {}
+        Reached::Best | Reached::Limit => {
+            offer_form(alloc, problem, table, solver, incumbent, &vertex)?;
+        }
     }
+    Ok(vertex)
+}
+
+/// Offers forms that are found from the vertex of the root.
+fn offer_form(
+    alloc: Global,
+    problem: &Problem,
+    table: &Table,
+    solver: &mut Solver,
+    incumbent: &mut Incumbent,
+    vertex: &Vertex,
+) -> Result<(), Memory>
+    requires { IsWellMade (problem_of problem.now) }
+{
     let known = incumbent.objective;
-    dive(alloc, problem, table, solver, incumbent, &vertex)?;
-    if incumbent.objective == known && is_far(&vertex, incumbent) {
-        let vector = solver.vector(alloc, &vertex)?;
+    dive(alloc, problem, table, solver, incumbent, vertex)?;
+    if incumbent.objective == known && is_far(vertex, incumbent) {
+        let vector = solver.vector(alloc, vertex)?;
         let items = nearby_form(alloc, table, &vector, &problem.given)?;
         incumbent.offer(problem, table, &items);
     }
-    Ok(vertex)
+    Ok(())
 }
 
 impl VertexPass {
@@ -201,8 +217,47 @@ impl VertexPass {
         requires well_made { IsWellMade (problem_of problem.now) }
         requires root { IsCut (problem_of problem.now) root.now }
     {
-        let begun = incumbent.objective;
         let mut pass = VertexPass::new(alloc, at_root, branches)?;
+        pass.grow(alloc, problem, table, solver, incumbent, root, restart)?;
+        Ok(pass)
+    }
+
+    /// Adds the node of a path, whose vertex is the last; None where there is no vertex.
+    fn add_node(
+        &mut self,
+        alloc: Global,
+        problem: &Problem,
+        table: &Table,
+        solver: &mut Solver,
+        incumbent: &mut Incumbent,
+        cut: &Cut,
+    ) -> Result<Option<Node>, Memory>
+        requires well_made { IsWellMade (problem_of problem.now) }
+        requires cut { IsCut (problem_of problem.now) cut.now }
+    {
+        let Some(mut vertex) = self.vertices.pop() else {
+            return Ok(None);
+        };
+        let node = self.node_at(alloc, problem, table, solver, incumbent, cut, &mut vertex)?;
+        self.nodes.push(node)?;
+        Ok(Some(node))
+    }
+
+    /// Adds the nodes of the paths from the root on. A pass that ends early is not whole.
+    fn grow(
+        &mut self,
+        alloc: Global,
+        problem: &Problem,
+        table: &Table,
+        solver: &mut Solver,
+        incumbent: &mut Incumbent,
+        root: &Cut,
+        restart: usize,
+    ) -> Result<(), Memory>
+        requires well_made { IsWellMade (problem_of problem.now) }
+        requires root { IsCut (problem_of problem.now) root.now }
+    {
+        let begun = incumbent.objective;
         let mut waiting = Vec::new(alloc);
         let first = Waiting {
             cut: *root,
@@ -214,25 +269,49 @@ impl VertexPass {
             let Some(place) = next_path(problem, &mut waiting) else {
                 break;
             };
-            let Some(mut vertex) = pass.vertices.pop() else {
-                return Ok(pass);
-            };
             let cut = &place.cut;
-            let node = pass.node_at(alloc, problem, table, solver, incumbent, cut, &mut vertex)?;
-            pass.nodes.push(node)?;
+            let Some(node) = self.add_node(alloc, problem, table, solver, incumbent, cut)? else {
+                return Ok(());
+            };
             let hands = Sides { first: 0, other: 0 };
             push_below(problem, &mut waiting, &place, &node, hands)?;
-            if pass.nodes.len() >= restart && incumbent.objective > begun {
+            if self.nodes.len() >= restart && incumbent.objective > begun {
                 break;
             }
         }
-        pass.is_whole = waiting.is_empty();
-        Ok(pass)
+        self.is_whole = waiting.is_empty();
+        Ok(())
     }
 }
 
+/// Passes from the vertex of the root, until one is whole; None where that one has spent its branches, or none is.
+pub fn passes_by_exchanges(
+    alloc: Global,
+    problem: &Problem,
+    table: &Table,
+    incumbent: &mut Incumbent,
+    root: &Cut,
+    branches: u32,
+) -> Result<Option<VertexPass>, Memory>
+    requires well_made { IsWellMade (problem_of problem.now) }
+    requires root { IsCut (problem_of problem.now) root.now }
+{
+    let mut solver = Solver::of(alloc, problem, root)?;
+    let vertex = vertex_of_root(alloc, problem, table, &mut solver, incumbent, root)?;
+    vertex_passes(
+        alloc,
+        problem,
+        table,
+        &mut solver,
+        incumbent,
+        root,
+        &vertex,
+        branches,
+    )
+}
+
 /// Passes until one is whole; each may have twice as many nodes before it begins anew as the one before.
-pub fn vertex_passes(
+fn vertex_passes(
     alloc: Global,
     problem: &Problem,
     table: &Table,

@@ -4,19 +4,10 @@ use crate::table::{Entry, Table};
 use proof_tree::{Memory, Vector};
 use std::alloc::Global;
 
-/// So many zeros.
-fn zeros(alloc: Global, count: usize) -> Result<Vec<i64>, Memory> {
-    let mut numbers = Vec::new(alloc);
-    for _ in 0..count {
-        numbers.push(0i64)?;
-    }
-    Ok(numbers)
-}
-
 /// The multipliers of low sides less those of high sides, by row and then by stimulus.
 fn prices_of(alloc: Global, table: &Table, vector: &Vector) -> Result<Vec<i64>, Memory> {
     let count = table.rows.len().saturating_add(table.stimuli.len());
-    let mut prices = zeros(alloc, count)?;
+    let mut prices = Vec::from_elem(alloc, 0i64, count)?;
     for pair in vector.pairs() {
         if let Some(price) = prices.get_mut((pair.0 / 2) as usize) {
             let multiplier = pair.1 as i64;
@@ -102,10 +93,7 @@ fn counted_price(table: &Table, vector: &Vector) -> i64 {
 /// The reduced weight of each stimulus: the price of its bounds, and of each row that counts stimuli.
 pub fn stimulus_weights(alloc: Global, table: &Table, vector: &Vector) -> Result<Vec<i64>, Memory> {
     let counted = counted_price(table, vector);
-    let mut weights = Vec::new(alloc);
-    for _ in 0..table.stimuli.len() {
-        weights.push(counted)?;
-    }
+    let mut weights = Vec::from_elem(alloc, counted, table.stimuli.len())?;
     for pair in vector.pairs() {
         let at = ((pair.0 / 2) as usize).wrapping_sub(table.rows.len());
         if let Some(limits) = table.stimuli.get(at) {
