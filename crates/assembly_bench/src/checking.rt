@@ -38,15 +38,14 @@ fn report<R: Print, A: Debug + Drop>(
     call: &str,
     nodes: u64,
     answer: A,
-    took: Option<u64>,
+    took: u64,
+    quiet: bool,
 ) -> io::Result<()> {
-    match took {
-        Some(took) => {
-            let pace = pace(nodes, took);
-            println!(rt; "{call} {nodes} nodes {answer:?} microseconds {took} a second {pace}")
-        }
-        None => println!(rt; "{call} {nodes} nodes {answer:?}"),
+    if quiet {
+        return println!(rt; "{call} {nodes} nodes {answer:?}");
     }
+    let pace = pace(nodes, took);
+    println!(rt; "{call} {nodes} nodes {answer:?} microseconds {took} a second {pace}")
 }
 
 fn time_check<R: Print + Clock>(
@@ -62,13 +61,7 @@ fn time_check<R: Print + Clock>(
     let verdict = check(problem, Some(form), tree);
     let took = microseconds(start.elapsed(rt)?);
     let nodes = tree.nodes().len() as u64;
-    report(
-        rt,
-        "check",
-        nodes,
-        verdict,
-        if quiet { None } else { Some(took) },
-    )?;
+    report(rt, "check", nodes, verdict, took, quiet)?;
     Ok(())
 }
 
@@ -79,13 +72,7 @@ fn time_spent<R: Print + Clock>(rt: &R, problem: &Problem, tree: &Tree, quiet: b
     let start = Instant::now(rt)?;
     let is_spent = spent(problem, tree, nodes as u16);
     let took = microseconds(start.elapsed(rt)?);
-    report(
-        rt,
-        "spent",
-        nodes as u64,
-        is_spent,
-        if quiet { None } else { Some(took) },
-    )?;
+    report(rt, "spent", nodes as u64, is_spent, took, quiet)?;
     Ok(())
 }
 

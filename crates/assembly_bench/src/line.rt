@@ -3,11 +3,10 @@
 ghost use Rattle.exam_model.specs.Validity.{IsWellMade};
 ghost use Rattle.constraint_model.specs.Views.{problem_of};
 
-use anyhow::Result;
 use bank_tables::ItemSet;
 use branch_bound::{Assembled, Outcome};
 use constraint_model::{Problem, objective};
-use proof_tree::encode;
+use proof_tree::{Tree, encode};
 use std::alloc::{AllocError, Global};
 use std::fmt::Write;
 
@@ -26,32 +25,25 @@ fn mark(outcome: &Outcome) -> &'static str {
     }
 }
 
-fn form_of(outcome: &Outcome) -> Option<ItemSet> {
-    match outcome {
-        Outcome::Found { form, proved: _ } => Some(*form),
-        Outcome::NoForm | Outcome::NoneFound => None,
-    }
-}
-
-/// The time, size and outcome of an assembly.
+/// The time, size and outcome of an assembly with this form.
 pub fn outcome_words(
     alloc: Global,
     problem: &Problem,
     assembled: &Assembled,
+    form: &Option<ItemSet>,
     microseconds: u64,
 ) -> Result<String, AllocError>
     requires { IsWellMade (problem_of problem.now) }
 {
-    let outcome = assembled.outcome();
     let nodes = assembled.tree().nodes().len();
-    let mark = mark(&outcome);
+    let mark = mark(&assembled.outcome());
     let search = if assembled.used_fallback() {
         "fallback"
     } else {
         "search"
     };
-    let best = match form_of(&outcome) {
-        Some(form) => objective(problem, &form),
+    let best = match form {
+        Some(form) => objective(problem, form),
         None => 0,
     };
     format!(in alloc;
@@ -59,9 +51,9 @@ pub fn outcome_words(
     )
 }
 
-/// The members parted by commas, or `-` for none.
-fn set_words(alloc: Global, set: &Option<ItemSet>) -> Result<String, AllocError> {
-    let mut words = String::new(alloc);
+/// Adds a name, and the members of its set parted by commas, or `-` for none.
+fn add_set(words: &mut String, name: &str, set: &Option<ItemSet>) -> Result<(), AllocError> {
+    write!(words, " {name} ")?;
     let mut before = "";
     if let Some(items) = set {
         for i in 0..512u16 {
@@ -74,22 +66,40 @@ fn set_words(alloc: Global, set: &Option<ItemSet>) -> Result<String, AllocError>
     if before.is_empty() {
         words.push('-')?;
     }
-    Ok(words)
+    Ok(())
+}
+
+/// Adds the sets of the problem, and the form.
+fn add_sets(
+    words: &mut String,
+    problem: &Problem,
+    form: &Option<ItemSet>,
+) -> Result<(), AllocError> {
+    add_set(words, "given", &Some(problem.given))?;
+    add_set(words, "barred", &Some(problem.barred))?;
+    add_set(words, "start", &problem.start)?;
+    add_set(words, "form", form)
+}
+
+/// The bytes of the tree in hexadecimal.
+fn tree_words(alloc: Global, tree: &Tree) -> Result<String, AllocError> {
+    match encode(alloc, tree) {
+        Ok(bytes) => hex::encode(alloc, bytes),
+        Err(_) => Err(AllocError),
+    }
 }
 
 /// What rebuilds the problem, the form, and the tree.
-pub fn rebuilding_words(alloc: Global, problem: &Problem, assembled: &Assembled) -> Result<String> {
-    let given = set_words(alloc, &Some(problem.given))?;
-    let barred = set_words(alloc, &Some(problem.barred))?;
-    let start = set_words(alloc, &problem.start)?;
-    let form = set_words(alloc, &form_of(&assembled.outcome()))?;
-    let Ok(bytes) = encode(alloc, assembled.tree()) else {
-        return Err(AllocError.into());
-    };
-    let tree = hex::encode(alloc, bytes)?;
+pub fn rebuilding_words(
+    alloc: Global,
+    problem: &Problem,
+    form: &Option<ItemSet>,
+    tree: &Tree,
+) -> Result<String, AllocError> {
     let theta = problem.theta;
-    let words = format!(in alloc;
-        "theta {theta} given {given} barred {barred} start {start} form {form} tree {tree}"
-    )?;
+    let mut words = format!(in alloc; "theta {theta}")?;
+    add_sets(&mut words, problem, form)?;
+    let tree = tree_words(alloc, tree)?;
+    write!(words, " tree {tree}")?;
     Ok(words)
 }

@@ -97,15 +97,16 @@ fn tell<R: Print + AllocGlobal>(
     rt: &R,
     problem: &Problem,
     assembled: &Assembled,
+    form: &Option<ItemSet>,
     took: u64,
     trees: bool,
 ) -> Result<()>
     requires { IsWellMade (problem_of problem.now) }
 {
-    let words = outcome_words(rt.alloc(), problem, assembled, took)?;
+    let words = outcome_words(rt.alloc(), problem, assembled, form, took)?;
     print!(rt; "{words}")?;
     if trees {
-        let words = rebuilding_words(rt.alloc(), problem, assembled)?;
+        let words = rebuilding_words(rt.alloc(), problem, form, assembled.tree())?;
         print!(rt; " {words}")?;
     }
     Ok(())
@@ -126,12 +127,10 @@ fn form_of<'a, R: Print + Clock + AllocGlobal>(
         IfSome found.form (λ form. Form (problem_of problem.now) (has form))) }
 {
     let (assembled, took) = timed(rt, problem, hint, budget, warm)?;
-    tell(rt, problem, &assembled, took, options.trees)?;
+    let form = found_form(problem, assembled.outcome());
+    tell(rt, problem, &assembled, &form, took, options.trees)?;
     let vector = first_vector(rt.alloc(), assembled.tree(), options.warm)?;
-    Ok(Found {
-        form: found_form(problem, assembled.outcome()),
-        vector,
-    })
+    Ok(Found { form, vector })
 }
 
 /// The base form of the plan. If the plan names none, it is assembled and printed.

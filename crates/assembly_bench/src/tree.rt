@@ -13,7 +13,7 @@ use std::alloc::{AllocError, Global};
 const VECTORS: u8 = 32;
 
 /// A subtree that is still to be written: how many branches it has, and how many are above it.
-#[derive(Clone, Copy, Debug)]
+#[derive(Clone, Copy)]
 struct Subtree {
     branches: u16,
     depth: u16,
@@ -52,6 +52,22 @@ fn below(subtree: Subtree) -> (Subtree, Subtree)
     )
 }
 
+/// Adds a branch, whose two subtrees are then to be written.
+fn add_branch(
+    nodes: &mut Vec<Node>,
+    waiting: &mut Vec<Subtree>,
+    branch: Node,
+    subtree: Subtree,
+) -> Result<(), AllocError>
+    requires { 0 < subtree.branches }
+{
+    let (left, right) = below(subtree);
+    nodes.push(branch)?;
+    waiting.push(right)?;
+    waiting.push(left)?;
+    Ok(())
+}
+
 /// The nodes of a tree in preorder; each leaf is a Bound leaf, of the vectors in turn.
 fn nodes(alloc: Global, order: &[Node], count: u16) -> Result<Vec<Node>, AllocError> {
     let mut nodes = Vec::new(alloc);
@@ -67,10 +83,7 @@ fn nodes(alloc: Global, order: &[Node], count: u16) -> Result<Vec<Node>, AllocEr
         };
         match order.get(subtree.depth as usize) {
             Some(branch) if subtree.branches > 0 => {
-                let (left, right) = below(subtree);
-                nodes.push(*branch)?;
-                waiting.push(right)?;
-                waiting.push(left)?;
+                add_branch(&mut nodes, &mut waiting, *branch, subtree)?;
             }
             _ => nodes.push(Node::Bound((n % VECTORS as u16) as u8))?,
         }
