@@ -165,8 +165,22 @@ fn time_plan<R: Print + Clock + AllocGlobal>(
     let spec = made_spec(rt.alloc(), bank, size)?;
     let form = made_form(bank, size)?;
     let problem = with_start(&Problem::whole(bank, &spec), &form);
-    time_closed(rt, &problem, &form, size, nodes, quiet)?;
-    time_open(rt, &problem, size, nodes, quiet)
+    time_trees(rt, &problem, &form, size, nodes, quiet)
+}
+
+/// Times the checker on trees of these sizes.
+fn time_trees<R: Print + Clock + AllocGlobal>(
+    rt: &R,
+    problem: &Problem,
+    form: &ItemSet,
+    size: &Size,
+    nodes: u16,
+    quiet: bool,
+) -> Result<()>
+    requires { IsWellMade (problem_of problem.now) }
+{
+    time_closed(rt, problem, form, size, nodes, quiet)?;
+    time_open(rt, problem, size, nodes, quiet)
 }
 
 /// Makes a problem and trees of these sizes, times the checker on them, and prints a line for each call.

@@ -112,6 +112,25 @@ fn tell<R: Print + AllocGlobal>(
     Ok(())
 }
 
+/// Prints the outcome of an assembly, and gives the form if there is one, and a vector.
+fn found_in<R: Print + AllocGlobal>(
+    rt: &R,
+    problem: &Problem,
+    assembled: &Assembled,
+    took: u64,
+    options: Options,
+) -> Result<Found>
+    requires well_made { IsWellMade (problem_of problem.now) }
+    requires outcome { IsTrueOutcome (problem_of problem.now) assembled.now.outcome }
+    ensures { IfOk result (λ found.
+        IfSome found.form (λ form. Form (problem_of problem.now) (has form))) }
+{
+    let form = found_form(problem, assembled.outcome());
+    tell(rt, problem, assembled, &form, took, options.trees)?;
+    let vector = first_vector(rt.alloc(), assembled.tree(), options.warm)?;
+    Ok(Found { form, vector })
+}
+
 /// Assembles a form, prints the outcome, and gives the form if there is one, and a vector.
 fn form_of<'a, R: Print + Clock + AllocGlobal>(
     rt: &R,
@@ -127,10 +146,7 @@ fn form_of<'a, R: Print + Clock + AllocGlobal>(
         IfSome found.form (λ form. Form (problem_of problem.now) (has form))) }
 {
     let (assembled, took) = timed(rt, problem, hint, budget, warm)?;
-    let form = found_form(problem, assembled.outcome());
-    tell(rt, problem, &assembled, &form, took, options.trees)?;
-    let vector = first_vector(rt.alloc(), assembled.tree(), options.warm)?;
-    Ok(Found { form, vector })
+    found_in(rt, problem, &assembled, took, options)
 }
 
 /// The base form of the plan. If the plan names none, it is assembled and printed.
@@ -238,15 +254,36 @@ fn serve<R: Print + Clock + AllocGlobal>(
 /// Serves a session, and prints a line for its base form, if that is assembled, and for each step.
 pub fn time_steps<R: Print + Clock + Files + AllocGlobal>(rt: &R, order: &Order<'_>) -> Result<()> {
     let bank = bank_in(rt, order.bank)?;
-    let spec = plan_in(rt, &bank, order.plan)?;
+    time_steps_on(rt, &bank, order)
+}
+
+/// The same on a bank.
+fn time_steps_on<R: Print + Clock + Files + AllocGlobal>(
+    rt: &R,
+    bank: &Bank,
+    order: &Order<'_>,
+) -> Result<()> {
+    let spec = plan_in(rt, bank, order.plan)?;
+    serve_order(rt, bank, &spec, order)
+}
+
+/// The same on a bank and its plan.
+fn serve_order<R: Print + Clock + AllocGlobal>(
+    rt: &R,
+    bank: &Bank,
+    spec: &Spec,
+    order: &Order<'_>,
+) -> Result<()>
+    requires { IsPlanFor bank.now spec.now }
+{
     let options = Options {
         trees: order.trees,
         warm: order.warm,
     };
-    let base = base_form(rt, &bank, &spec, options)?;
+    let base = base_form(rt, bank, spec, options)?;
     let session = Session {
-        bank: &bank,
-        spec: &spec,
+        bank,
+        spec,
         base,
         options,
     };
