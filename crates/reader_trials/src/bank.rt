@@ -38,25 +38,61 @@ fn changed(alloc: Global, text: &str, old: &str, new: &str) -> Result<String, Al
     }
 }
 
-/// The bank is bank A. What the calls after it require is compared here.
+/// The information of an item at a point; none where the bank has no such item or point.
+fn info(bank: &Bank, item: u16, point: u8) -> Option<u32> {
+    if item < bank.items() && point < bank.grid() {
+        Some(bank.info(item, point))
+    } else {
+        None
+    }
+}
+
+/// The log-likelihood of a response to an item at a point, in the same way.
+fn loglik(bank: &Bank, item: u16, response: u8, point: u8) -> Option<i32> {
+    if item < bank.items() && response < bank.categories(item) && point < bank.grid() {
+        Some(bank.loglik(item, response, point))
+    } else {
+        None
+    }
+}
+
+/// The number of response categories of an item, in the same way.
+fn categories(bank: &Bank, item: u16) -> Option<u8> {
+    if item < bank.items() {
+        Some(bank.categories(item))
+    } else {
+        None
+    }
+}
+
+/// How many items, grid points, quantities and stimuli the bank has.
+fn sizes(bank: &Bank) -> (u16, u8, u8, u8) {
+    (bank.items(), bank.grid(), bank.quantities(), bank.stimuli())
+}
+
+/// The bank is bank A.
 fn shows_bank_a<R: Abort>(rt: &R, bank: &Bank) {
-    assert_eq!(rt; bank.items(), 6);
-    assert_eq!(rt; bank.grid(), 3);
-    is_equal(rt, &(bank.quantities(), bank.stimuli()), &(0, 0));
-    assert_eq!(rt; bank.categories(2), 2);
-    is_equal(rt, &bank.info(2, 1), &9);
-    let at_two = (bank.loglik(2, 1, 0), bank.loglik(2, 1, 2));
-    is_equal(rt, &at_two, &(-30, -1));
-    let at_four = (bank.loglik(4, 0, 0), bank.loglik(4, 0, 2));
-    is_equal(rt, &at_four, &(0, -20));
+    is_equal(rt, &sizes(bank), &(6, 3, 0, 0));
+    is_equal(rt, &categories(bank, 2), &Some(2));
+    is_equal(rt, &info(bank, 2, 1), &Some(9));
+    is_equal(rt, &loglik(bank, 2, 1, 0), &Some(-30));
+    is_equal(rt, &loglik(bank, 2, 1, 2), &Some(-1));
+    is_equal(rt, &categories(bank, 4), &Some(2));
+    is_equal(rt, &loglik(bank, 4, 0, 0), &Some(0));
+    is_equal(rt, &loglik(bank, 4, 0, 2), &Some(-20));
+}
+
+/// The bank of a text that describes one.
+fn bank_of(alloc: Global, text: &str) -> Result<Bank, Fail> {
+    match read(alloc, text.as_bytes()) {
+        Ok(bank) => Ok(bank),
+        Err(_) => Err(Fail::from("a bank")),
+    }
 }
 
 #[test]
 fn bank_a_is_what_its_text_says(rt: HostRuntime) -> Result<(), Fail> {
-    let bank = read(rt.alloc(), BANK_A.as_bytes())
-        .ok()
-        .ok_or("bank A is a bank")?;
-    shows_bank_a(&rt, &bank);
+    shows_bank_a(&rt, &bank_of(rt.alloc(), BANK_A)?);
     Ok(())
 }
 
@@ -64,29 +100,39 @@ fn bank_a_is_what_its_text_says(rt: HostRuntime) -> Result<(), Fail> {
 const WIDE: &str =
     "item,stimulus,categories,q0,q1,i0,l0_0,l1_0,l2_0\n0,3,2,60,1,5,-1,-2,\n1,1,3,0,65535,1000000,-10000000,0,-3\n";
 
-/// The bank is that of `WIDE`. What the calls after it require is compared here.
+/// A quantity of an item; none where the bank has no such item or quantity.
+fn quantity(bank: &Bank, item: u16, which: u8) -> Option<u32> {
+    if item < bank.items() && which < bank.quantities() {
+        Some(bank.quantity(item, which))
+    } else {
+        None
+    }
+}
+
+/// The stimulus of an item; none where the bank has no such item.
+fn stimulus(bank: &Bank, item: u16) -> Option<u8> {
+    if item < bank.items() {
+        Some(bank.stimulus(item))
+    } else {
+        None
+    }
+}
+
+/// The bank is that of `WIDE`.
 fn shows_wide<R: Abort>(rt: &R, bank: &Bank) {
-    assert_eq!(rt; bank.items(), 2);
-    assert_eq!(rt; bank.quantities(), 2);
-    is_equal(rt, &(bank.stimuli(), bank.stimulus(1)), &(3, 1));
-    assert_eq!(rt; bank.categories(1), 3);
-    is_equal(
-        rt,
-        &(bank.quantity(0, 0), bank.quantity(1, 1)),
-        &(60, 65535),
-    );
-    is_equal(rt, &bank.info(1, 0), &1000000);
-    is_equal(
-        rt,
-        &(bank.loglik(1, 0, 0), bank.loglik(1, 2, 0)),
-        &(-10000000, -3),
-    );
+    is_equal(rt, &sizes(bank), &(2, 1, 2, 3));
+    is_equal(rt, &stimulus(bank, 1), &Some(1));
+    is_equal(rt, &categories(bank, 1), &Some(3));
+    is_equal(rt, &quantity(bank, 0, 0), &Some(60));
+    is_equal(rt, &quantity(bank, 1, 1), &Some(65_535));
+    is_equal(rt, &info(bank, 1, 0), &Some(1_000_000));
+    is_equal(rt, &loglik(bank, 1, 0, 0), &Some(-10_000_000));
+    is_equal(rt, &loglik(bank, 1, 2, 0), &Some(-3));
 }
 
 #[test]
 fn quantities_stimuli_and_unused_responses(rt: HostRuntime) -> Result<(), Fail> {
-    let bank = read(rt.alloc(), WIDE.as_bytes()).ok().ok_or("a bank")?;
-    shows_wide(&rt, &bank);
+    shows_wide(&rt, &bank_of(rt.alloc(), WIDE)?);
     Ok(())
 }
 
@@ -99,15 +145,15 @@ const SPELLINGS: [&str; 4] = [
 ];
 
 fn shows_small<R: Abort>(rt: &R, bank: &Bank) {
-    assert_eq!(rt; bank.items(), 1);
-    is_equal(rt, &(bank.info(0, 0), bank.loglik(0, 0, 0)), &(9, -7));
+    is_equal(rt, &bank.items(), &1);
+    is_equal(rt, &info(bank, 0, 0), &Some(9));
+    is_equal(rt, &loglik(bank, 0, 0, 0), &Some(-7));
 }
 
 #[test]
 fn other_spellings(rt: HostRuntime) -> Result<(), Fail> {
-    for text in SPELLINGS {
-        let bank = read(rt.alloc(), text.as_bytes()).ok().ok_or("a bank")?;
-        shows_small(&rt, &bank);
+    for text in &SPELLINGS {
+        shows_small(&rt, &bank_of(rt.alloc(), text)?);
     }
     Ok(())
 }
@@ -162,9 +208,9 @@ fn is_fault<R: Abort>(rt: &R, text: &str, found: Option<ReadFault>, fault: ReadF
 
 #[test]
 fn changes_of_bank_a(rt: HostRuntime) -> Result<(), Fail> {
-    for (old, new, want) in CHANGES {
+    for (old, new, want) in &CHANGES {
         let found = fault_of_change(rt.alloc(), old, new)?;
-        is_fault(&rt, new, found, want);
+        is_fault(&rt, new, found, *want);
     }
     Ok(())
 }
@@ -202,9 +248,9 @@ const SEVERAL: [(&str, ReadFault); 9] = [
 
 #[test]
 fn first_of_several(rt: HostRuntime) {
-    for (text, want) in SEVERAL {
+    for (text, want) in &SEVERAL {
         let found = read(rt.alloc(), text.as_bytes()).err();
-        is_fault(&rt, text, found, want);
+        is_fault(&rt, text, found, *want);
     }
 }
 
@@ -240,12 +286,10 @@ fn items_of_length<R: Abort + AllocGlobal>(
 
 #[test]
 fn longest_text(rt: HostRuntime) -> Result<(), Fail> {
-    is_equal(&rt, &items_of_length(&rt, 4_194_304)?, &Ok(1));
-    is_equal(
-        &rt,
-        &items_of_length(&rt, 4_194_305)?,
-        &Err(ReadFault::TooLong),
-    );
+    let longest = items_of_length(&rt, 4_194_304)?;
+    is_equal(&rt, &longest, &Ok(1));
+    let longer = items_of_length(&rt, 4_194_305)?;
+    is_equal(&rt, &longer, &Err(ReadFault::TooLong));
     Ok(())
 }
 
@@ -285,16 +329,23 @@ fn rows(
 }
 
 fn shows_widest<R: Abort>(rt: &R, bank: &Bank) {
-    assert_eq!(rt; bank.items(), 1);
+    is_equal(rt, &bank.items(), &1);
     is_equal(rt, &bank.stimuli(), &64);
-    is_equal(rt, &bank.loglik(0, 0, 0), &-10_000_000);
+    is_equal(rt, &loglik(bank, 0, 0, 0), &Some(-10_000_000));
+}
+
+/// The bank of rows that have no fault.
+fn bank_of_rows(alloc: Global, rows: Rows) -> Result<Bank, Fail> {
+    match Bank::of(alloc, rows) {
+        Ok(bank) => Ok(bank),
+        Err(_) => Err(Fail::from("a bank")),
+    }
 }
 
 #[test]
 fn the_widest_bank_of_rows(rt: HostRuntime) -> Result<(), Fail> {
     let widest = rows(rt.alloc(), 64, 65_535, 1_000_000, -10_000_000)?;
-    let bank = Bank::of(rt.alloc(), widest).ok().ok_or("a bank")?;
-    shows_widest(&rt, &bank);
+    shows_widest(&rt, &bank_of_rows(rt.alloc(), widest)?);
     Ok(())
 }
 
@@ -308,16 +359,19 @@ fn fault_of(
     Ok(Bank::of(alloc, rows).err())
 }
 
+/// A stimulus, a quantity and an information of the rows, each with the first fault.
+const ROW_FAULTS: [((u32, u32, u32), BankFault); 4] = [
+    ((65, 65_536, 1_000_001), BankFault::BadStimulus(0)),
+    ((0, 65_536, 1_000_001), BankFault::BadQuantity(0)),
+    ((0, 0, 1_000_001), BankFault::BadInfo(0)),
+    ((0, 0, 0), BankFault::BadLogLik(0)),
+];
+
 #[test]
 fn faults_of_rows(rt: HostRuntime) -> Result<(), Fail> {
-    for (stimulus, quantity, info, fault) in [
-        (65, 65_536, 1_000_001, BankFault::BadStimulus(0)),
-        (0, 65_536, 1_000_001, BankFault::BadQuantity(0)),
-        (0, 0, 1_000_001, BankFault::BadInfo(0)),
-        (0, 0, 0, BankFault::BadLogLik(0)),
-    ] {
-        let found = fault_of(rt.alloc(), (stimulus, quantity, info), 1)?;
-        is_equal(&rt, &found, &Some(fault));
+    for (numbers, fault) in &ROW_FAULTS {
+        let found = fault_of(rt.alloc(), *numbers, 1)?;
+        is_equal(&rt, &found, &Some(*fault));
     }
     Ok(())
 }

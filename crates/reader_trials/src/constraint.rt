@@ -6,7 +6,7 @@ ghost use Rattle.exam_model.specs.Validity.{IsPlanFor};
 #[cfg(test)]
 mod tests {
     use crate::equal::{are_equal, is_equal};
-    use bank_tables::{Bank, ItemSet};
+    use bank_tables::{Bank, ItemRow, ItemSet};
     use constraint_model::{
         Breach, Draft, Problem, Rate, Row, Spec, SpecFault, StimulusBound, front_fault, meets,
         objective,
@@ -17,11 +17,16 @@ mod tests {
     use trial_cases::{bank_a, draft_a, draft_of, item, rows_of, set_of};
 
     // Items 0 and 1 of stimulus 1, items 2 and 3 of stimulus 2, item 4 of none; each has 10 of the one quantity.
-    fn mixed_bank(alloc: Global) -> Result<Bank, Fail> {
+    fn mixed_items(alloc: Global) -> Result<Vec<ItemRow>, AllocError> {
         let mut items = Vec::new(alloc);
-        for stimulus in [1u32, 1, 2, 2, 0] {
-            items.push(item(alloc, stimulus, &[10], &[5], &[-1, -1])?)?;
+        for stimulus in &[1, 1, 2, 2, 0] {
+            items.push(item(alloc, *stimulus, &[10], &[5], &[-1, -1])?)?;
         }
+        Ok(items)
+    }
+
+    fn mixed_bank(alloc: Global) -> Result<Bank, Fail> {
+        let items = mixed_items(alloc)?;
         Ok(Bank::of(alloc, rows_of(1, 1, items))?)
     }
 
@@ -30,10 +35,6 @@ mod tests {
         StimulusBound { low: 1, high: 2 },
         StimulusBound { low: 2, high: 2 },
     ];
-
-    fn bound(low: u32, high: u32) -> StimulusBound {
-        StimulusBound { low, high }
-    }
 
     fn count(set: ItemSet, low: u32, high: u32) -> Row {
         Row::Count { set, low, high }
@@ -88,40 +89,50 @@ mod tests {
         is_equal(rt, &spec.base(), &None);
     }
 
+    fn shows_plan<R: Abort>(rt: &R, spec: &Spec) {
+        shows_rows(rt, spec);
+        shows_numbers(rt, spec);
+    }
+
+    // The plan of the draft is taken over the bank.
+    fn is_taken<R: Abort>(rt: &R, alloc: Global, bank: &Bank, draft: Draft) -> Result<(), Fail> {
+        match Spec::of(alloc, bank, draft) {
+            Ok(spec) => {
+                shows_plan(rt, &spec);
+                Ok(())
+            }
+            Err(_) => Err(Fail::from("a plan")),
+        }
+    }
+
     #[test]
     fn a_plan_is_taken(rt: HostRuntime) -> Result<(), Fail> {
         let alloc = rt.alloc();
         let bank = mixed_bank(alloc)?;
-        let spec = Spec::of(alloc, &bank, mixed_plan(alloc)?)?;
-        shows_rows(&rt, &spec);
-        shows_numbers(&rt, &spec);
-        Ok(())
+        is_taken(&rt, alloc, &bank, mixed_plan(alloc)?)
     }
 
     fn front_faults(alloc: Global, length: u32, prior: &[i32]) -> Result<Faults, Fail> {
         faults_of(alloc, draft_of(alloc, length, prior, &[], &BOUNDS)?)
     }
 
-    #[test]
-    fn lengths(rt: HostRuntime) -> Result<(), Fail> {
-        let fault = Some(SpecFault::Length);
-        for length in [0, 6] {
-            let found = front_faults(rt.alloc(), length, &[1])?;
-            is_equal(&rt, &found, &(fault, fault));
-        }
-        Ok(())
-    }
+    // Lengths and priors, each with its fault.
+    const FRONTS: [(u32, &[i32], Option<SpecFault>); 7] = [
+        (0, &[1], Some(SpecFault::Length)),
+        (6, &[1], Some(SpecFault::Length)),
+        (2, &[], Some(SpecFault::BadPrior)),
+        (2, &[0, 0], Some(SpecFault::BadPrior)),
+        (2, &[1], Some(SpecFault::BadPrior)),
+        (2, &[-10_000_001], Some(SpecFault::BadPrior)),
+        (5, &[-10_000_000], None),
+    ];
 
     #[test]
-    fn priors(rt: HostRuntime) -> Result<(), Fail> {
-        let fault = Some(SpecFault::BadPrior);
-        let none: &[i32] = &[];
-        for prior in [none, &[0, 0], &[1], &[-10_000_001]] {
-            let found = front_faults(rt.alloc(), 2, prior)?;
-            is_equal(&rt, &found, &(fault, fault));
+    fn lengths_and_priors(rt: HostRuntime) -> Result<(), Fail> {
+        for (length, prior, fault) in &FRONTS {
+            let found = front_faults(rt.alloc(), *length, prior)?;
+            is_equal(&rt, &found, &(*fault, *fault));
         }
-        let lowest = front_faults(rt.alloc(), 5, &[-10_000_000])?;
-        is_equal(&rt, &lowest, &(None, None));
         Ok(())
     }
 
@@ -129,12 +140,18 @@ mod tests {
         faults_of(alloc, with_rows(alloc, rows)?)
     }
 
+    // The first fault of a draft that has so many times one row.
+    fn fault_of_many_rows(alloc: Global, count: usize) -> Result<Option<SpecFault>, Fail> {
+        let row = Row::Enemies { set: set_of(&[0]) };
+        let rows = vec![in alloc; row; count]?;
+        fault_of(alloc, with_rows(alloc, &rows)?)
+    }
+
     #[test]
     fn numbers_of_rows(rt: HostRuntime) -> Result<(), Fail> {
-        let row = Row::Enemies { set: set_of(&[0]) };
-        let (_, most) = rows_faults(rt.alloc(), [row; 128].as_slice())?;
+        let most = fault_of_many_rows(rt.alloc(), 128)?;
         is_equal(&rt, &most, &None);
-        let (_, too_many) = rows_faults(rt.alloc(), [row; 129].as_slice())?;
+        let too_many = fault_of_many_rows(rt.alloc(), 129)?;
         is_equal(&rt, &too_many, &Some(SpecFault::TooManyRows));
         Ok(())
     }
@@ -168,28 +185,30 @@ mod tests {
 
     #[test]
     fn rows(rt: HostRuntime) -> Result<(), Fail> {
-        for (row, fault) in faulty_rows() {
-            let found = second_row_faults(rt.alloc(), row)?;
-            is_equal(&rt, &found, &(Some(fault), Some(fault)));
+        for (row, fault) in &faulty_rows() {
+            let found = second_row_faults(rt.alloc(), *row)?;
+            is_equal(&rt, &found, &(Some(*fault), Some(*fault)));
         }
         Ok(())
     }
 
-    #[test]
-    fn widest_rows(rt: HostRuntime) -> Result<(), Fail> {
-        let most = words(0, set_of(&[0]), 0, 33_553_920);
-        let (_, found) = rows_faults(rt.alloc(), &[most, Row::Stimuli { low: 0, high: 64 }])?;
-        is_equal(&rt, &found, &None);
-        Ok(())
+    // The widest rows, and two rows each of which has a fault: the earlier comes first, whatever the kinds of fault.
+    fn pairs_of_rows() -> [([Row; 2], Option<SpecFault>); 2] {
+        let one = set_of(&[0]);
+        let most = words(0, one, 0, 33_553_920);
+        let faulty = [words(1, one, 0, 1), count(one, 2, 1)];
+        [
+            ([most, Row::Stimuli { low: 0, high: 64 }], None),
+            (faulty, Some(SpecFault::BadQuantity(0))),
+        ]
     }
 
-    /// The earlier row comes first, whatever the kinds of fault.
     #[test]
-    fn the_earlier_row(rt: HostRuntime) -> Result<(), Fail> {
-        let one = set_of(&[0]);
-        let both = [words(1, one, 0, 1), count(one, 2, 1)];
-        let (_, found) = rows_faults(rt.alloc(), &both)?;
-        is_equal(&rt, &found, &Some(SpecFault::BadQuantity(0)));
+    fn pairs_of_rows_with_their_first_fault(rt: HostRuntime) -> Result<(), Fail> {
+        for (rows, fault) in &pairs_of_rows() {
+            let (_, found) = rows_faults(rt.alloc(), rows)?;
+            is_equal(&rt, &found, fault);
+        }
         Ok(())
     }
 
@@ -197,100 +216,129 @@ mod tests {
         faults_of(alloc, draft_of(alloc, 2, &[0], &[], bounds)?)
     }
 
+    // Bounds of stimuli, each with the stimulus whose bounds are faulty; the last are the widest.
+    const STIMULI: [(&[StimulusBound], Option<u8>); 8] = [
+        (&[], Some(1)),
+        (&[StimulusBound { low: 1, high: 2 }], Some(2)),
+        (&[StimulusBound { low: 0, high: 2 }], Some(2)),
+        (
+            &[
+                StimulusBound { low: 1, high: 2 },
+                StimulusBound { low: 2, high: 2 },
+                StimulusBound { low: 1, high: 1 },
+            ],
+            Some(3),
+        ),
+        (
+            &[
+                StimulusBound { low: 0, high: 2 },
+                StimulusBound { low: 0, high: 2 },
+            ],
+            Some(1),
+        ),
+        (
+            &[
+                StimulusBound { low: 1, high: 2 },
+                StimulusBound { low: 3, high: 2 },
+            ],
+            Some(2),
+        ),
+        (
+            &[
+                StimulusBound { low: 1, high: 513 },
+                StimulusBound { low: 2, high: 2 },
+            ],
+            Some(1),
+        ),
+        (
+            &[
+                StimulusBound { low: 1, high: 512 },
+                StimulusBound {
+                    low: 512,
+                    high: 512,
+                },
+            ],
+            None,
+        ),
+    ];
+
     #[test]
     fn bounds_of_stimuli(rt: HostRuntime) -> Result<(), Fail> {
-        let nothing: &[StimulusBound] = &[];
-        let cases: [(&[StimulusBound], u8); 7] = [
-            (nothing, 1),
-            (&[bound(1, 2)], 2),
-            (&[bound(0, 2)], 2),
-            (&[bound(1, 2), bound(2, 2), bound(1, 1)], 3),
-            (&[bound(0, 2), bound(0, 2)], 1),
-            (&[bound(1, 2), bound(3, 2)], 2),
-            (&[bound(1, 513), bound(2, 2)], 1),
-        ];
-        for (bounds, stimulus) in cases {
+        for (bounds, stimulus) in &STIMULI {
             let found = bounds_faults(rt.alloc(), bounds)?;
-            is_equal(&rt, &found, &(None, Some(SpecFault::BadStimulus(stimulus))));
+            is_equal(&rt, &found, &(None, stimulus.map(SpecFault::BadStimulus)));
         }
         Ok(())
     }
 
-    #[test]
-    fn widest_bounds_of_stimuli(rt: HostRuntime) -> Result<(), Fail> {
-        let (_, most) = bounds_faults(rt.alloc(), &[bound(1, 512), bound(512, 512)])?;
-        is_equal(&rt, &most, &None);
-        Ok(())
-    }
+    // The numbers of a draft: the rate, the budget of a step and of the base form, and the limits of sessions and of the
+    // journal.
+    type Numbers = ((u32, u32), (u32, u32), (u32, u64));
 
-    // The fault of the mixed plan with this rate, and a budget that no plan may have.
-    fn rate_fault(alloc: Global, num: u32, den: u32) -> Result<Option<SpecFault>, Fail> {
-        let mut draft = mixed_plan(alloc)?;
-        draft.rate = Rate { num, den };
-        draft.budget = 4;
-        fault_of(alloc, draft)
-    }
-
-    #[test]
-    fn rates(rt: HostRuntime) -> Result<(), Fail> {
-        for (num, den) in [(0, 1), (2, 1), (1, 65_536)] {
-            let found = rate_fault(rt.alloc(), num, den)?;
-            is_equal(&rt, &found, &Some(SpecFault::BadRate));
-        }
-        Ok(())
-    }
-
-    // The same with these budgets, and a number of sessions that no plan may have.
-    fn budget_fault(alloc: Global, budget: u32, base: u32) -> Result<Option<SpecFault>, Fail> {
-        let mut draft = mixed_plan(alloc)?;
-        draft.budget = budget;
-        draft.base_budget = base;
-        draft.sessions = 0;
-        fault_of(alloc, draft)
-    }
-
-    #[test]
-    fn budgets(rt: HostRuntime) -> Result<(), Fail> {
-        for (budget, base) in [(0, 1), (4, 1), (4_097, 1), (1, 0), (1, 2), (1, 4_097)] {
-            let found = budget_fault(rt.alloc(), budget, base)?;
-            is_equal(&rt, &found, &Some(SpecFault::BadBudget));
-        }
-        Ok(())
-    }
-
-    // The same with these limits, and a base that is no form.
-    fn limit_fault(alloc: Global, sessions: u32, journal: u64) -> Result<Option<SpecFault>, Fail> {
-        let mut draft = mixed_plan(alloc)?;
-        draft.sessions = sessions;
-        draft.journal = journal;
-        draft.base = Some(ItemSet::empty());
-        fault_of(alloc, draft)
-    }
-
-    #[test]
-    fn limits(rt: HostRuntime) -> Result<(), Fail> {
-        for (sessions, journal) in [(0, 64), (65_537, 64), (1, 63), (1, 536_870_913)] {
-            let found = limit_fault(rt.alloc(), sessions, journal)?;
-            is_equal(&rt, &found, &Some(SpecFault::BadLimit));
-        }
-        Ok(())
-    }
-
-    fn widest_plan(alloc: Global) -> Result<Draft, AllocError> {
-        let mut widest = mixed_plan(alloc)?;
-        widest.rate = Rate {
-            num: 65_535,
-            den: 65_535,
+    // The fault of the mixed plan with these numbers and this base.
+    fn fault_of_numbers(
+        alloc: Global,
+        ((num, den), (budget, base_budget), (sessions, journal)): Numbers,
+        base: Option<ItemSet>,
+    ) -> Result<Option<SpecFault>, Fail> {
+        let draft = Draft {
+            rate: Rate { num, den },
+            budget,
+            base_budget,
+            sessions,
+            journal,
+            base,
+            ..mixed_plan(alloc)?
         };
-        widest.budget = 1;
-        widest.sessions = 65_536;
-        widest.journal = 536_870_912;
-        Ok(widest)
+        fault_of(alloc, draft)
+    }
+
+    // The first fault is that of the rate, of the budgets or of the limits. A wrong rate has a wrong budget after it, and wrong
+    // budgets have a wrong limit.
+    const NUMBERS: [(Numbers, SpecFault); 13] = [
+        (
+            ((0, 1), (4, 4_095), (1_000, 67_108_864)),
+            SpecFault::BadRate,
+        ),
+        (
+            ((2, 1), (4, 4_095), (1_000, 67_108_864)),
+            SpecFault::BadRate,
+        ),
+        (
+            ((1, 65_536), (4, 4_095), (1_000, 67_108_864)),
+            SpecFault::BadRate,
+        ),
+        (((1, 1), (0, 1), (0, 67_108_864)), SpecFault::BadBudget),
+        (((1, 1), (4, 1), (0, 67_108_864)), SpecFault::BadBudget),
+        (((1, 1), (4_097, 1), (0, 67_108_864)), SpecFault::BadBudget),
+        (((1, 1), (1, 0), (0, 67_108_864)), SpecFault::BadBudget),
+        (((1, 1), (1, 2), (0, 67_108_864)), SpecFault::BadBudget),
+        (((1, 1), (1, 4_097), (0, 67_108_864)), SpecFault::BadBudget),
+        (((1, 1), (2_001, 4_095), (0, 64)), SpecFault::BadLimit),
+        (((1, 1), (2_001, 4_095), (65_537, 64)), SpecFault::BadLimit),
+        (((1, 1), (2_001, 4_095), (1, 63)), SpecFault::BadLimit),
+        (
+            ((1, 1), (2_001, 4_095), (1, 536_870_913)),
+            SpecFault::BadLimit,
+        ),
+    ];
+
+    // A base that is no form comes after all of them, and without a base they are the same.
+    #[test]
+    fn rates_budgets_and_limits(rt: HostRuntime) -> Result<(), Fail> {
+        for (numbers, fault) in &NUMBERS {
+            let found = fault_of_numbers(rt.alloc(), *numbers, None)?;
+            is_equal(&rt, &found, &Some(*fault));
+            let with_base = fault_of_numbers(rt.alloc(), *numbers, Some(ItemSet::empty()))?;
+            is_equal(&rt, &with_base, &Some(*fault));
+        }
+        Ok(())
     }
 
     #[test]
     fn widest_rate_and_limits(rt: HostRuntime) -> Result<(), Fail> {
-        let found = fault_of(rt.alloc(), widest_plan(rt.alloc())?)?;
+        let widest = ((65_535, 65_535), (1, 4_095), (65_536, 536_870_912));
+        let found = fault_of_numbers(rt.alloc(), widest, None)?;
         is_equal(&rt, &found, &None);
         Ok(())
     }
@@ -303,16 +351,18 @@ mod tests {
         Ok(Spec::of(alloc, &bank, draft).err())
     }
 
+    // Sets of items, each with its breach as the base of plan A.
+    const BASES_OF_A: [(&[u16], Option<Breach>); 5] = [
+        (&[1, 2, 3], None),
+        (&[1, 2], Some(Breach::Length(2))),
+        (&[1, 2, 6], Some(Breach::Length(3))),
+        (&[0, 1, 2], Some(Breach::Row(0, 2))),
+        (&[1, 2, 5], Some(Breach::Row(1, 2))),
+    ];
+
     #[test]
     fn bases_of_bank_a(rt: HostRuntime) -> Result<(), Fail> {
-        let cases: [(&[u16], Option<Breach>); 5] = [
-            (&[1, 2, 3], None),
-            (&[1, 2], Some(Breach::Length(2))),
-            (&[1, 2, 6], Some(Breach::Length(3))),
-            (&[0, 1, 2], Some(Breach::Row(0, 2))),
-            (&[1, 2, 5], Some(Breach::Row(1, 2))),
-        ];
-        for (items, breach) in cases {
+        for (items, breach) in &BASES_OF_A {
             let found = base_fault_of_a(rt.alloc(), items)?;
             is_equal(&rt, &found, &breach.map(SpecFault::BadBase));
         }
@@ -326,14 +376,16 @@ mod tests {
         fault_of(alloc, draft)
     }
 
+    // Sets of items, each with its breach as the base of the mixed plan.
+    const MIXED_BASES: [(&[u16], Option<Breach>); 3] = [
+        (&[2, 3], None),
+        (&[0, 4], None),
+        (&[0, 2], Some(Breach::Stimulus(2, 1))),
+    ];
+
     #[test]
     fn bases_of_the_mixed_bank(rt: HostRuntime) -> Result<(), Fail> {
-        let cases: [(&[u16], Option<Breach>); 3] = [
-            (&[2, 3], None),
-            (&[0, 4], None),
-            (&[0, 2], Some(Breach::Stimulus(2, 1))),
-        ];
-        for (items, breach) in cases {
+        for (items, breach) in &MIXED_BASES {
             let found = base_fault(rt.alloc(), items)?;
             is_equal(&rt, &found, &breach.map(SpecFault::BadBase));
         }
@@ -355,11 +407,18 @@ mod tests {
         )
     }
 
+    // The same over a bank, of the plan of a draft.
+    fn found_of(alloc: Global, bank: &Bank, draft: Draft, items: &[u16]) -> Result<FoundOf, Fail> {
+        match Spec::of(alloc, bank, draft) {
+            Ok(spec) => Ok(found_on(bank, &spec, &set_of(items))),
+            Err(_) => Err(Fail::from("a plan")),
+        }
+    }
+
     // The same for plan A.
     fn found_on_a(alloc: Global, items: &[u16]) -> Result<FoundOf, Fail> {
         let bank = bank_a(alloc)?;
-        let spec = Spec::of(alloc, &bank, draft_a(alloc)?)?;
-        Ok(found_on(&bank, &spec, &set_of(items)))
+        found_of(alloc, &bank, draft_a(alloc)?, items)
     }
 
     #[test]
@@ -379,30 +438,26 @@ mod tests {
         Ok(draft)
     }
 
-    fn breach_on(bank: &Bank, spec: &Spec, set: &ItemSet) -> Option<Breach>
-        requires { IsPlanFor bank.now spec.now }
-    {
-        meets(&Problem::whole(bank, spec), set)
+    // The same for the narrow plan.
+    fn found_narrow(alloc: Global, items: &[u16]) -> Result<FoundOf, Fail> {
+        let bank = mixed_bank(alloc)?;
+        found_of(alloc, &bank, narrow_plan(alloc)?, items)
     }
 
-    fn narrow_breach(alloc: Global, items: &[u16]) -> Result<Option<Breach>, Fail> {
-        let bank = mixed_bank(alloc)?;
-        let spec = Spec::of(alloc, &bank, narrow_plan(alloc)?)?;
-        Ok(breach_on(&bank, &spec, &set_of(items)))
-    }
+    // Sets of items, each with its breach of the narrow plan.
+    const SETS: [(&[u16], Option<Breach>); 5] = [
+        (&[0, 2, 3], None),
+        (&[2, 3, 4], Some(Breach::Row(0, 0))),
+        (&[0, 1, 2], Some(Breach::Row(0, 20))),
+        (&[0, 2, 4], Some(Breach::Stimulus(2, 1))),
+        (&[], Some(Breach::Length(0))),
+    ];
 
     #[test]
     fn sets_of_the_mixed_bank(rt: HostRuntime) -> Result<(), Fail> {
-        let cases: [(&[u16], Option<Breach>); 5] = [
-            (&[0, 2, 3], None),
-            (&[2, 3, 4], Some(Breach::Row(0, 0))),
-            (&[0, 1, 2], Some(Breach::Row(0, 20))),
-            (&[0, 2, 4], Some(Breach::Stimulus(2, 1))),
-            (&[], Some(Breach::Length(0))),
-        ];
-        for (items, breach) in cases {
-            let found = narrow_breach(rt.alloc(), items)?;
-            is_equal(&rt, &found, &breach);
+        for (items, breach) in &SETS {
+            let (_, found, _) = found_narrow(rt.alloc(), items)?;
+            is_equal(&rt, &found, breach);
         }
         Ok(())
     }

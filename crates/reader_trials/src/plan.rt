@@ -21,34 +21,44 @@ mod tests {
         bank: &Bank,
         text: &[u8],
         fails: Vec<u64>,
-    ) -> Result<Result<Spec, PlanFault>, AllocError> {
-        let mut source = MemorySource::of(text.to_vec(alloc)?, fails);
-        Ok(read_plan(alloc, bank, &mut source))
+    ) -> Result<Spec, PlanFault> {
+        match text.to_vec(alloc) {
+            Ok(bytes) => read_plan(alloc, bank, &mut MemorySource::of(bytes, fails)),
+            Err(AllocError) => Err(PlanFault::Memory),
+        }
     }
 
-    fn read(
-        alloc: Global,
-        bank: &Bank,
-        text: &[u8],
-    ) -> Result<Result<Spec, PlanFault>, AllocError> {
+    fn read(alloc: Global, bank: &Bank, text: &[u8]) -> Result<Spec, PlanFault> {
         read_failing(alloc, bank, text, Vec::new(alloc))
     }
 
     // The fault of a text over a bank, and over banks A, Q and S.
-    fn fault_of(alloc: Global, bank: &Bank, text: &str) -> Result<Option<PlanFault>, Fail> {
-        Ok(read(alloc, bank, text.as_bytes())?.err())
+    fn fault_of(alloc: Global, bank: &Bank, text: &str) -> Option<PlanFault> {
+        match read(alloc, bank, text.as_bytes()) {
+            Ok(_) => None,
+            Err(fault) => Some(fault),
+        }
     }
 
-    fn fault_over_a(alloc: Global, text: &str) -> Result<Option<PlanFault>, Fail> {
-        fault_of(alloc, &bank_a(alloc)?, text)
+    fn fault_over_a(alloc: Global, text: &str) -> Result<Option<PlanFault>, BankFault> {
+        match bank_a(alloc) {
+            Ok(bank) => Ok(fault_of(alloc, &bank, text)),
+            Err(fault) => Err(fault),
+        }
     }
 
-    fn fault_over_q(alloc: Global, text: &str) -> Result<Option<PlanFault>, Fail> {
-        fault_of(alloc, &bank_q(alloc)?, text)
+    fn fault_over_q(alloc: Global, text: &str) -> Result<Option<PlanFault>, BankFault> {
+        match bank_q(alloc) {
+            Ok(bank) => Ok(fault_of(alloc, &bank, text)),
+            Err(fault) => Err(fault),
+        }
     }
 
-    fn fault_over_s(alloc: Global, text: &str) -> Result<Option<PlanFault>, Fail> {
-        fault_of(alloc, &bank_s(alloc)?, text)
+    fn fault_over_s(alloc: Global, text: &str) -> Result<Option<PlanFault>, BankFault> {
+        match bank_s(alloc) {
+            Ok(bank) => Ok(fault_of(alloc, &bank, text)),
+            Err(fault) => Err(fault),
+        }
     }
 
     const PRINTED_A: &str =
@@ -63,32 +73,54 @@ mod tests {
         is_equal_at(rt, text, &found, &Some(fault));
     }
 
+    fn print(alloc: Global, spec: &Spec) -> Result<Vec<u8>, Fail> {
+        Ok(print_plan(alloc, spec)?)
+    }
+
     // What the plan of a text is printed as.
     fn printed(alloc: Global, bank: &Bank, text: &[u8]) -> Result<Vec<u8>, Fail> {
-        let spec = read(alloc, bank, text)??;
-        Ok(print_plan(alloc, &spec)?)
+        match read(alloc, bank, text) {
+            Ok(spec) => print(alloc, &spec),
+            Err(_) => Err(Fail::from("a plan")),
+        }
+    }
+
+    // The same over bank A.
+    fn printed_over_a(alloc: Global, text: &str) -> Result<Vec<u8>, Fail> {
+        let bank = bank_a(alloc)?;
+        printed(alloc, &bank, text.as_bytes())
     }
 
     #[test]
     fn a_plan_is_printed_with_its_defaults(rt: HostRuntime) -> Result<(), Fail> {
-        let text = printed(rt.alloc(), &bank_a(rt.alloc())?, PLAN_A.as_bytes())?;
+        let text = printed_over_a(rt.alloc(), PLAN_A)?;
         are_equal(&rt, &text, PRINTED_A.as_bytes());
         Ok(())
     }
 
-    // The text that a plan is printed as reads to a plan that is printed the same. The bank is handed over as it was made: a
-    // test that owns several is dear to prove.
+    // The text that a plan is printed as is longer, and reads to a plan that is printed the same.
+    fn is_printed_again<R: Abort + AllocGlobal>(
+        rt: &R,
+        bank: &Bank,
+        text: &str,
+    ) -> Result<(), Fail> {
+        let first = printed(rt.alloc(), bank, text.as_bytes())?;
+        is_longer(rt, &first, text);
+        let again = printed(rt.alloc(), bank, &first)?;
+        are_equal(rt, &again, &first);
+        Ok(())
+    }
+
+    // The same over a bank that is handed over as it was made.
     fn is_printed_twice<R: Abort + AllocGlobal>(
         rt: &R,
         bank: Result<Bank, BankFault>,
         text: &str,
     ) -> Result<(), Fail> {
-        let bank = bank?;
-        let first = printed(rt.alloc(), &bank, text.as_bytes())?;
-        is_longer(rt, &first, text);
-        let again = printed(rt.alloc(), &bank, &first)?;
-        are_equal(rt, &again, &first);
-        Ok(())
+        match bank {
+            Ok(bank) => is_printed_again(rt, &bank, text),
+            Err(_) => Err(Fail::from("a bank")),
+        }
     }
 
     #[test]
@@ -103,14 +135,14 @@ mod tests {
     #[test]
     fn the_runs_of_a_set_are_joined(rt: HostRuntime) -> Result<(), Fail> {
         let text = "# joined\n\nlength 3\nprior 0 0 0\ncount 0 3 0 1-2 4 5\nbase 0-1 3";
-        let found = printed(rt.alloc(), &bank_a(rt.alloc())?, text.as_bytes())?;
+        let found = printed_over_a(rt.alloc(), text)?;
         let end = b"journal 67108864\ncount 0 3 0-2 4-5\nbase 0-1 3\n".as_slice();
         assert!(rt; found.as_slice().ends_with(end));
         Ok(())
     }
 
-    // Texts of which a line is faulty, or one comes twice.
-    const LINES: [(&str, PlanFault); 20] = [
+    // Texts of which a line is faulty, or one comes twice; then those that lack a line.
+    const LINES: [(&str, PlanFault); 24] = [
         ("length 2\nwidth 3\n", PlanFault::Line(2, Kind::Word)),
         (" length 2\n", PlanFault::Line(1, Kind::Word)),
         ("length  2\n", PlanFault::Line(1, Kind::Shape)),
@@ -137,18 +169,6 @@ mod tests {
             "stimulus 1 1 2\nstimulus 2 1 2\nstimulus 1 1 3\n",
             PlanFault::Twice(3),
         ),
-    ];
-
-    #[test]
-    fn the_first_faulty_line_is_named(rt: HostRuntime) -> Result<(), Fail> {
-        for (text, fault) in &LINES {
-            let found = fault_over_q(rt.alloc(), text)?;
-            is_fault(&rt, text, found, *fault);
-        }
-        Ok(())
-    }
-
-    const LACKING: [(&str, PlanFault); 4] = [
         ("", PlanFault::Missing(Name::Length)),
         ("prior 0\n", PlanFault::Missing(Name::Length)),
         ("length 2\n", PlanFault::Missing(Name::Prior)),
@@ -159,10 +179,12 @@ mod tests {
     ];
 
     #[test]
-    fn what_is_missing_comes_next(rt: HostRuntime) -> Result<(), Fail> {
-        for (text, fault) in LACKING {
+    fn the_first_faulty_line_is_named_and_then_the_missing_one(
+        rt: HostRuntime,
+    ) -> Result<(), Fail> {
+        for (text, fault) in &LINES {
             let found = fault_over_q(rt.alloc(), text)?;
-            is_fault(&rt, text, found, fault);
+            is_fault(&rt, text, found, *fault);
         }
         Ok(())
     }
@@ -191,35 +213,47 @@ mod tests {
 
     #[test]
     fn faults_of_the_plan_come_in_order(rt: HostRuntime) -> Result<(), Fail> {
-        for (text, fault) in REFUSED {
+        for (text, fault) in &REFUSED {
             let found = fault_over_a(rt.alloc(), text)?;
+            is_fault(&rt, text, found, PlanFault::Spec(*fault));
+        }
+        Ok(())
+    }
+
+    // Texts over bank S, each with its first faulty stimulus.
+    const STIMULI: [(&str, u8); 2] = [
+        ("length 4\nprior 0 -1\nstimulus 1 0 3\n", 1),
+        ("length 4\nprior 0 -1\nstimulus 1 0 3\nstimulus 2 1 3\n", 2),
+    ];
+
+    #[test]
+    fn the_first_faulty_stimulus(rt: HostRuntime) -> Result<(), Fail> {
+        for (text, stimulus) in &STIMULI {
+            let found = fault_over_s(rt.alloc(), text)?;
+            let fault = SpecFault::BadStimulus(*stimulus);
             is_fault(&rt, text, found, PlanFault::Spec(fault));
         }
         Ok(())
     }
 
-    #[test]
-    fn the_first_faulty_stimulus(rt: HostRuntime) -> Result<(), Fail> {
-        for (text, stimulus) in [
-            ("length 4\nprior 0 -1\nstimulus 1 0 3\n", 1),
-            ("length 4\nprior 0 -1\nstimulus 1 0 3\nstimulus 2 1 3\n", 2),
-        ] {
-            let found = fault_over_s(rt.alloc(), text)?;
-            let fault = SpecFault::BadStimulus(stimulus);
-            is_equal(&rt, &found, &Some(PlanFault::Spec(fault)));
+    // The fault of plan A's text over a bank, from a source whose first call fails.
+    fn fault_of_a_source(alloc: Global, bank: &Bank) -> Result<Option<PlanFault>, Fail> {
+        let fails = vec![in alloc; 0]?;
+        match read_failing(alloc, bank, PLAN_A.as_bytes(), fails) {
+            Ok(_) => Ok(None),
+            Err(fault) => Ok(Some(fault)),
         }
-        Ok(())
     }
 
-    // The fault of plan A's text over bank A, from a source whose first call fails.
-    fn fault_of_a_source(alloc: Global) -> Result<Option<PlanFault>, Fail> {
+    // The same over bank A.
+    fn fault_of_a_source_of_a(alloc: Global) -> Result<Option<PlanFault>, Fail> {
         let bank = bank_a(alloc)?;
-        Ok(read_failing(alloc, &bank, PLAN_A.as_bytes(), vec![in alloc; 0]?)?.err())
+        fault_of_a_source(alloc, &bank)
     }
 
     #[test]
     fn a_failing_source_is_a_fault(rt: HostRuntime) -> Result<(), Fail> {
-        let fault = fault_of_a_source(rt.alloc())?;
+        let fault = fault_of_a_source_of_a(rt.alloc())?;
         is_equal(&rt, &fault, &Some(PlanFault::Source));
         Ok(())
     }

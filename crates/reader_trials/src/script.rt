@@ -62,41 +62,46 @@ mod tests {
         reads(&rt, alloc, "", &[])
     }
 
+    // Texts, each with the number of the first line that is out of form.
+    const OUT_OF_FORM: [(&str, u64); 21] = [
+        ("answer 0 0\n", 1),
+        ("\n", 1),
+        ("exposure\n\n", 2),
+        ("begin 1\n\nbegin 2\n", 2),
+        ("begin 1\nbegin 2\nlook\nlook -1\n", 3),
+        ("begin 18446744073709551616\n", 1),
+        ("begin 1\nbegin 01\n", 2),
+        ("answer 4294967296 0 0\n", 1),
+        ("answer 0 65536 0\n", 1),
+        ("answer 0 0 256\n", 1),
+        ("answer 0 0 0 0\n", 1),
+        ("close 4294967296\n", 1),
+        ("look 4294967296\n", 1),
+        ("exposure 1\n", 1),
+        ("begin  1\n", 1),
+        (" begin 1\n", 1),
+        ("begin 1 \n", 1),
+        ("begin +1\n", 1),
+        ("begin 1\r\n", 1),
+        ("Begin 1\n", 1),
+        ("# begin 1\n", 1),
+    ];
+
     #[test]
     fn the_first_line_out_of_form_is_named(rt: HostRuntime) -> Result<(), Fail> {
         let alloc = rt.alloc();
-        for (text, line) in [
-            ("answer 0 0\n", 1),
-            ("\n", 1),
-            ("exposure\n\n", 2),
-            ("begin 1\n\nbegin 2\n", 2),
-            ("begin 1\nbegin 2\nlook\nlook -1\n", 3),
-            ("begin 18446744073709551616\n", 1),
-            ("begin 1\nbegin 01\n", 2),
-            ("answer 4294967296 0 0\n", 1),
-            ("answer 0 65536 0\n", 1),
-            ("answer 0 0 256\n", 1),
-            ("answer 0 0 0 0\n", 1),
-            ("close 4294967296\n", 1),
-            ("look 4294967296\n", 1),
-            ("exposure 1\n", 1),
-            ("begin  1\n", 1),
-            (" begin 1\n", 1),
-            ("begin 1 \n", 1),
-            ("begin +1\n", 1),
-            ("begin 1\r\n", 1),
-            ("Begin 1\n", 1),
-            ("# begin 1\n", 1),
-        ] {
-            let expected = Some(ScriptFault::Line(line));
+        for (text, line) in &OUT_OF_FORM {
+            let expected = Some(ScriptFault::Line(*line));
             is_equal_at(&rt, text, &fault_of(alloc, text)?, &expected);
         }
         Ok(())
     }
 
-    // The text is this line.
-    fn is_line<R: Abort>(rt: &R, found: &[u8], line: &str) {
-        is_equal_at(rt, line, &found, &line.as_bytes());
+    // The reply is printed as this line.
+    fn has_line<R: Abort>(rt: &R, alloc: Global, reply: &Reply, line: &str) -> Result<(), Fail> {
+        let found = reply_line(alloc, reply)?;
+        is_equal_at(rt, line, &found.as_slice(), &line.as_bytes());
+        Ok(())
     }
 
     // What is read of so many bytes `x`, where the calls of the source of these numbers fail.
@@ -130,16 +135,18 @@ mod tests {
         Ok(())
     }
 
+    const FAULTS: [(ScriptFault, &str); 4] = [
+        (ScriptFault::TooLong, "script: too long\n"),
+        (ScriptFault::Line(12), "script: line 12\n"),
+        (ScriptFault::Source, "files failed\n"),
+        (ScriptFault::Memory, "no memory\n"),
+    ];
+
     #[test]
     fn a_fault_has_its_text(rt: HostRuntime) -> Result<(), Fail> {
         let alloc = rt.alloc();
-        for (fault, text) in [
-            (ScriptFault::TooLong, "script: too long\n"),
-            (ScriptFault::Line(12), "script: line 12\n"),
-            (ScriptFault::Source, "files failed\n"),
-            (ScriptFault::Memory, "no memory\n"),
-        ] {
-            is_equal(&rt, &fault.text(alloc)?.as_str(), &text);
+        for (fault, text) in &FAULTS {
+            is_equal(&rt, &fault.text(alloc)?.as_str(), text);
         }
         Ok(())
     }
@@ -152,79 +159,97 @@ mod tests {
         }
     }
 
-    fn waiting(step: u16, item: u16, proved: bool) -> Place {
-        Place::Waiting { step, item, proved }
-    }
+    // Sessions and their places, each with its line.
+    const PLACES: [(u32, Place, &str); 6] = [
+        (
+            0,
+            Place::Waiting {
+                step: 0,
+                item: 2,
+                proved: true,
+            },
+            "session 0 step 0 item 2 proved\n",
+        ),
+        (
+            0,
+            Place::Waiting {
+                step: 0,
+                item: 0,
+                proved: false,
+            },
+            "session 0 step 0 item 0 unproved\n",
+        ),
+        (
+            70,
+            Place::Waiting {
+                step: 19,
+                item: 110,
+                proved: true,
+            },
+            "session 70 step 19 item 110 proved\n",
+        ),
+        (0, Place::Complete, "session 0 complete\n"),
+        (2, Place::Closed, "session 2 closed\n"),
+        (3, Place::Pending(1), "session 3 pending 1\n"),
+    ];
 
     #[test]
     fn a_place_has_its_line(rt: HostRuntime) -> Result<(), Fail> {
         let alloc = rt.alloc();
-        for (session, place, line) in [
-            (0, waiting(0, 2, true), "session 0 step 0 item 2 proved\n"),
-            (
-                0,
-                waiting(0, 0, false),
-                "session 0 step 0 item 0 unproved\n",
-            ),
-            (
-                70,
-                waiting(19, 110, true),
-                "session 70 step 19 item 110 proved\n",
-            ),
-            (0, Place::Complete, "session 0 complete\n"),
-            (2, Place::Closed, "session 2 closed\n"),
-            (3, Place::Pending(1), "session 3 pending 1\n"),
-        ] {
-            let printed = reply_line(alloc, &at(session, place))?;
-            is_line(&rt, &printed, line);
+        for (session, place, line) in &PLACES {
+            has_line(&rt, alloc, &at(*session, *place), line)?;
         }
         Ok(())
     }
+
+    const REFUSALS: [(Refusal, &str); 12] = [
+        (Refusal::NoSession(2), "refused no-session 2\n"),
+        (Refusal::WrongStep(1), "refused wrong-step 1\n"),
+        (Refusal::Other(1), "refused other 1\n"),
+        (Refusal::BadResponse(2), "refused bad-response 2\n"),
+        (
+            Refusal::IsClosed(Place::Complete),
+            "refused is-closed complete\n",
+        ),
+        (
+            Refusal::IsClosed(Place::Closed),
+            "refused is-closed closed\n",
+        ),
+        (Refusal::IsClosed(Place::Pending(1)), ""),
+        (Refusal::Stale(Place::Complete, true), ""),
+        (Refusal::SessionsFull(1), ""),
+        (Refusal::JournalFull(91), ""),
+        (Refusal::Disk, ""),
+        (Refusal::Memory, ""),
+    ];
 
     #[test]
     fn a_refusal_has_its_line(rt: HostRuntime) -> Result<(), Fail> {
         let alloc = rt.alloc();
-        for (refusal, line) in [
-            (Refusal::NoSession(2), "refused no-session 2\n"),
-            (Refusal::WrongStep(1), "refused wrong-step 1\n"),
-            (Refusal::Other(1), "refused other 1\n"),
-            (Refusal::BadResponse(2), "refused bad-response 2\n"),
-            (
-                Refusal::IsClosed(Place::Complete),
-                "refused is-closed complete\n",
-            ),
-            (
-                Refusal::IsClosed(Place::Closed),
-                "refused is-closed closed\n",
-            ),
-            (Refusal::IsClosed(Place::Pending(1)), ""),
-            (Refusal::Stale(Place::Complete, true), ""),
-            (Refusal::SessionsFull(1), ""),
-            (Refusal::JournalFull(91), ""),
-            (Refusal::Disk, ""),
-            (Refusal::Memory, ""),
-        ] {
-            let printed = reply_line(alloc, &Reply::Refused(refusal))?;
-            is_line(&rt, &printed, line);
+        for (refusal, line) in &REFUSALS {
+            has_line(&rt, alloc, &Reply::Refused(*refusal), line)?;
         }
         Ok(())
     }
 
+    const COUNTS: [Counts; 6] = [
+        Counts { alpha: 1, eps: 3 },
+        Counts { alpha: 1, eps: 2 },
+        Counts { alpha: 2, eps: 2 },
+        Counts { alpha: 1, eps: 3 },
+        Counts { alpha: 1, eps: 2 },
+        Counts { alpha: 1, eps: 3 },
+    ];
+
     #[test]
     fn exposure_has_a_line_for_each_item(rt: HostRuntime) -> Result<(), Fail> {
         let alloc = rt.alloc();
-        let mut rows = Vec::new(alloc);
-        for (alpha, eps) in [(1, 3), (1, 2), (2, 2), (1, 3), (1, 2), (1, 3)] {
-            rows.push(Counts { alpha, eps })?;
-        }
         let exposure = Exposure {
             finished: 3,
-            rows: List::of(rows),
+            rows: List::of(COUNTS.to_vec(alloc)?),
         };
-        let printed = reply_line(alloc, &Reply::Exposure(exposure))?;
         let expected =
             "exposure finished 3\nitem 0 shown 1 eligible 3\nitem 1 shown 1 eligible 2\nitem 2 shown 2 eligible 2\nitem 3 shown 1 eligible 3\nitem 4 shown 1 eligible 2\nitem 5 shown 1 eligible 3\n";
-        is_line(&rt, &printed, expected);
-        Ok(())
+        has_line(&rt, alloc, &Reply::Exposure(exposure), expected)
     }
 }
