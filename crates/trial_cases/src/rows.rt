@@ -29,20 +29,20 @@ pub fn item(
     })
 }
 
-/// Adds an item of two response categories.
-fn push_item(
-    alloc: Global,
-    items: &mut Vec<ItemRow>,
-    stimulus: u32,
-    quantities: &[u32],
-    info: &[u32],
-    loglik: &[i32],
-) -> Result<(), AllocError>
-    ensures { OnOk result (items.new.items ≡ items.old.items
-        ++ two_categories stimulus quantities.now info.now loglik.now ∷ []) }
+/// What is written down of an item of two response categories: its stimulus, quantities, information and log-likelihoods.
+type Line<'a> = (u32, &'a [u32], &'a [u32], &'a [i32]);
+
+/// The items that these lines describe.
+fn items_of(alloc: Global, lines: &[Line<'_>]) -> Result<Vec<ItemRow>, AllocError>
+    ensures { IfOk result (λ v. v.items ≡ map (λ line.
+        two_categories line.0 line.1.now line.2.now line.3.now) lines.now) }
 {
-    items.push(item(alloc, stimulus, quantities, info, loglik)?)?;
-    Ok(())
+    let mut items = Vec::new(alloc);
+    for line in lines {
+        let (stimulus, quantities, info, loglik) = *line;
+        items.push(item(alloc, stimulus, quantities, info, loglik)?)?;
+    }
+    Ok(items)
 }
 
 /// The rows of items on a grid of so many points, with so many quantities.
@@ -56,78 +56,73 @@ pub fn rows_of(grid: u32, quantities: u32, items: Vec<ItemRow>) -> Rows
     }
 }
 
+const FLAT_A: [i32; 6] = [-7, -7, -7, -7, -7, -7];
+
+/// The items of bank A.
+const LINES_A: [Line<'static>; 6] = [
+    (0, &[], &[9, 5, 1], &FLAT_A),
+    (0, &[], &[7, 8, 2], &FLAT_A),
+    (0, &[], &[4, 9, 3], &[-7, -7, -7, -30, -15, -1]),
+    (0, &[], &[2, 6, 8], &FLAT_A),
+    (0, &[], &[1, 4, 9], &[0, -1, -20, -7, -7, -7]),
+    (0, &[], &[3, 7, 5], &FLAT_A),
+];
+
 /// Bank A: six items without stimulus, three points.
 #[tactic(auto, unfolding(exam_model::proofs::BankA::bank_a, exam_model::proofs::BankA::item_a, exam_model::proofs::BankA::sevens))]
 pub fn rows_a(alloc: Global) -> Result<Rows, AllocError>
     ensures { IfOk result (λ b. b ≡ bank_a) }
 {
-    let flat = [-7i32, -7, -7, -7, -7, -7];
-    let mut items = Vec::new(alloc);
-    push_item(alloc, &mut items, 0, &[], &[9, 5, 1], &flat)?;
-    push_item(alloc, &mut items, 0, &[], &[7, 8, 2], &flat)?;
-    push_item(
-        alloc,
-        &mut items,
-        0,
-        &[],
-        &[4, 9, 3],
-        &[-7, -7, -7, -30, -15, -1],
-    )?;
-    push_item(alloc, &mut items, 0, &[], &[2, 6, 8], &flat)?;
-    push_item(
-        alloc,
-        &mut items,
-        0,
-        &[],
-        &[1, 4, 9],
-        &[0, -1, -20, -7, -7, -7],
-    )?;
-    push_item(alloc, &mut items, 0, &[], &[3, 7, 5], &flat)?;
-    Ok(rows_of(3, 0, items))
+    Ok(rows_of(3, 0, items_of(alloc, &LINES_A)?))
 }
+
+const FLAT_S: [i32; 4] = [-1, -1, -1, -1];
+
+/// The items of bank S.
+const LINES_S: [Line<'static>; 5] = [
+    (1, &[], &[9, 1], &FLAT_S),
+    (1, &[], &[3, 1], &FLAT_S),
+    (1, &[], &[2, 90], &FLAT_S),
+    (0, &[], &[8, 1], &[-1, -1, -9, -1]),
+    (0, &[], &[7, 1], &FLAT_S),
+];
 
 /// Bank S: five items, two points; items 0, 1 and 2 have stimulus 1.
 #[tactic(auto, unfolding(exam_model::proofs::BankS::bank_s, exam_model::proofs::BankS::item_s, exam_model::proofs::BankS::ones))]
 pub fn rows_s(alloc: Global) -> Result<Rows, AllocError>
     ensures { IfOk result (λ b. b ≡ bank_s) }
 {
-    let flat = [-1i32, -1, -1, -1];
-    let mut items = Vec::new(alloc);
-    push_item(alloc, &mut items, 1, &[], &[9, 1], &flat)?;
-    push_item(alloc, &mut items, 1, &[], &[3, 1], &flat)?;
-    push_item(alloc, &mut items, 1, &[], &[2, 90], &flat)?;
-    push_item(alloc, &mut items, 0, &[], &[8, 1], &[-1, -1, -9, -1])?;
-    push_item(alloc, &mut items, 0, &[], &[7, 1], &flat)?;
-    Ok(rows_of(2, 0, items))
+    Ok(rows_of(2, 0, items_of(alloc, &LINES_S)?))
 }
+
+const FLAT_E: [i32; 2] = [-1, -1];
+
+/// The items of bank E.
+const LINES_E: [Line<'static>; 5] = [
+    (0, &[], &[10], &FLAT_E),
+    (0, &[], &[9], &FLAT_E),
+    (0, &[], &[8], &FLAT_E),
+    (0, &[], &[2], &FLAT_E),
+    (0, &[], &[1], &FLAT_E),
+];
 
 /// Bank E: five items without stimulus, one point.
 #[tactic(auto, unfolding(exam_model::proofs::BankE::bank_e, exam_model::proofs::BankE::item_e))]
 pub fn rows_e(alloc: Global) -> Result<Rows, AllocError>
     ensures { IfOk result (λ b. b ≡ bank_e) }
 {
-    let flat = [-1i32, -1];
-    let mut items = Vec::new(alloc);
-    push_item(alloc, &mut items, 0, &[], &[10], &flat)?;
-    push_item(alloc, &mut items, 0, &[], &[9], &flat)?;
-    push_item(alloc, &mut items, 0, &[], &[8], &flat)?;
-    push_item(alloc, &mut items, 0, &[], &[2], &flat)?;
-    push_item(alloc, &mut items, 0, &[], &[1], &flat)?;
-    Ok(rows_of(1, 0, items))
+    Ok(rows_of(1, 0, items_of(alloc, &LINES_E)?))
 }
+
+/// The items of bank Q.
+const LINES_Q: [Line<'static>; 4] = [(0, &[10], &[5], &[-1, -1]); 4];
 
 /// Bank Q: four items without stimulus, one point; each has 10 of the one quantity.
 #[tactic(auto, unfolding(exam_model::proofs::BankQ::bank_q, exam_model::proofs::BankQ::item_q))]
 pub fn rows_q(alloc: Global) -> Result<Rows, AllocError>
     ensures { IfOk result (λ b. b ≡ bank_q) }
 {
-    let flat = [-1i32, -1];
-    let mut items = Vec::new(alloc);
-    push_item(alloc, &mut items, 0, &[10], &[5], &flat)?;
-    push_item(alloc, &mut items, 0, &[10], &[5], &flat)?;
-    push_item(alloc, &mut items, 0, &[10], &[5], &flat)?;
-    push_item(alloc, &mut items, 0, &[10], &[5], &flat)?;
-    Ok(rows_of(1, 1, items))
+    Ok(rows_of(1, 1, items_of(alloc, &LINES_Q)?))
 }
 
 /// The stimulus of an item of bank L.
