@@ -4,11 +4,9 @@
 ghost use Rattle.exam_model.specs.Validity.{IsPlanFor};
 
 use crate::equal::{are_equal, is_equal};
-use crate::worked::{
-    ALL, FIRST_BEST, SECOND_BEST, answered, closed, plan, served, set_aside, started, tree_of,
-};
+use crate::worked::{ALL, Line, Shape, plan, record};
 use bank_tables::{Bank, Short};
-use constraint_model::{Breach, Spec};
+use constraint_model::{Breach, Draft, Spec};
 use exam_model::{Reason, Seat, Verdict};
 use exam_records::Record;
 use exam_session::{Book, Counters, Illegal, Place};
@@ -17,210 +15,27 @@ use std::alloc::{AllocError, Global};
 use std::test::Fail;
 use trial_cases::{bank_a, set_of};
 
-/// The tree for the best form at first, with 4,096 in place of 1: it gives 8,960, which is above 6,143.
-const TOO_HIGH: [u8; 11] = [1, 0, 1, 0, 3, 0, 0, 0x10, 0, 3, 0];
-
-/// Takes the record into the book where it may follow, else gives the reason.
-fn follow(book: &mut Book, alloc: Global, rec: &Record) -> Result<Option<Illegal>, Fail> {
+/// Takes a record that has to follow.
+fn follow(book: &mut Book, alloc: Global, rec: &Record) -> Result<(), Fail> {
     book.reserve(alloc)?;
-    if let Err(reason) = book.judge(rec) {
-        return Ok(Some(reason));
+    if let Err(_) = book.judge(rec) {
+        return Err(Fail::from("refused"));
     }
     may_is_legal();
     book.apply(rec.entry);
-    Ok(None)
+    Ok(())
 }
 
-/// Takes a record that has to follow.
-pub(crate) fn take(book: &mut Book, alloc: Global, rec: &Record) -> Result<(), Fail> {
-    match follow(book, alloc, rec)? {
-        None => Ok(()),
-        Some(_) => Err(Fail::from("refused")),
-    }
+/// The same of the record of a line.
+pub(crate) fn take(book: &mut Book, alloc: Global, line: &Line) -> Result<(), Fail> {
+    follow(book, alloc, &record(alloc, line)?)
 }
 
 /// Takes records each of which has to follow.
-fn take_all(book: &mut Book, alloc: Global, records: &[Record]) -> Result<(), Fail> {
-    for rec in records {
-        take(book, alloc, rec)?;
+fn take_all(book: &mut Book, alloc: Global, lines: &[Line]) -> Result<(), Fail> {
+    for line in lines {
+        take(book, alloc, line)?;
     }
-    Ok(())
-}
-
-/// Why a record may not follow these records; none where it may. What owns a bank is a function of its own, since one that
-/// also makes a book of it is dear to prove.
-fn reason_in(
-    alloc: Global,
-    bank: &Bank,
-    spec: &Spec,
-    records: &[Record],
-    rec: &Record,
-) -> Result<Option<Illegal>, Fail>
-    requires { IsPlanFor bank.now spec.now }
-{
-    let mut book = Book::new(alloc, bank, spec)?;
-    take_all(&mut book, alloc, records)?;
-    Ok(book.judge(rec).err())
-}
-
-/// The same under the worked plan with this budget of nodes.
-fn reason(
-    alloc: Global,
-    budget: u32,
-    records: &[Record],
-    rec: &Record,
-) -> Result<Option<Illegal>, Fail> {
-    let bank = bank_a(alloc)?;
-    let spec = Spec::of(alloc, &bank, plan(alloc, budget)?)?;
-    reason_in(alloc, &bank, &spec, records, rec)
-}
-
-/// The item of the first step of session 0 is served.
-fn served_first(alloc: Global, item: u16, form: &[u16], tree: &[u8]) -> Result<Record, Fail> {
-    served(alloc, 0, (0, item), form, tree)
-}
-
-/// Session 0, after its first item was served.
-fn first_served(alloc: Global) -> Result<Vec<Record>, Fail> {
-    let mut records = Vec::new(alloc);
-    records.push(started(0, 70, &ALL))?;
-    records.push(served_first(alloc, 2, &[1, 2, 3], &FIRST_BEST)?)?;
-    Ok(records)
-}
-
-/// Why a record may not follow the first serving; none where it may.
-fn reason_then(alloc: Global, rec: Record) -> Result<Option<Illegal>, Fail> {
-    reason(alloc, 2_001, &first_served(alloc)?, &rec)
-}
-
-#[test]
-fn after_a_serving(rt: HostRuntime) -> Result<(), Fail> {
-    let waiting = Place::Waiting {
-        step: 0,
-        item: 2,
-        proved: true,
-    };
-    let found = reason_then(rt.alloc(), started(2, 71, &ALL))?;
-    is_equal(&rt, &found, &Some(Illegal::NotNumber(1)));
-    let found = reason_then(rt.alloc(), started(1, 70, &ALL))?;
-    is_equal(&rt, &found, &Some(Illegal::Booked(0)));
-    let found = reason_then(rt.alloc(), answered(0, 1, 0))?;
-    is_equal(&rt, &found, &Some(Illegal::NotWaiting(waiting)));
-    Ok(())
-}
-
-#[test]
-fn a_response_after_a_serving(rt: HostRuntime) -> Result<(), Fail> {
-    let found = reason_then(rt.alloc(), answered(0, 0, 2))?;
-    is_equal(&rt, &found, &Some(Illegal::BadResponse(2)));
-    Ok(())
-}
-
-#[test]
-fn closing_after_a_serving(rt: HostRuntime) -> Result<(), Fail> {
-    let found = reason_then(rt.alloc(), closed(5))?;
-    is_equal(&rt, &found, &Some(Illegal::NoSession(1)));
-    is_equal(&rt, &reason_then(rt.alloc(), closed(0))?, &None);
-    Ok(())
-}
-
-/// Why a start may not follow that of session 0; none where it may.
-fn start_reason(alloc: Global, booking: u64, items: &[u16]) -> Result<Option<Illegal>, Fail> {
-    let records = [started(0, 70, &ALL)];
-    reason(alloc, 2_001, &records, &started(1, booking, items))
-}
-
-/// The reasons of a start, in their order.
-#[test]
-fn reasons_of_a_start(rt: HostRuntime) -> Result<(), Fail> {
-    let found = reason(rt.alloc(), 2_001, &[], &started(1, 70, &ALL))?;
-    is_equal(&rt, &found, &Some(Illegal::NotNumber(0)));
-    let found = start_reason(rt.alloc(), 70, &ALL)?;
-    is_equal(&rt, &found, &Some(Illegal::Booked(0)));
-    let found = start_reason(rt.alloc(), 71, &[0, 1, 2, 4, 5])?;
-    is_equal(&rt, &found, &Some(Illegal::NotDrawn(3)));
-    let found = start_reason(rt.alloc(), 71, &[0, 1, 2, 3, 4, 5, 6])?;
-    is_equal(&rt, &found, &Some(Illegal::NotDrawn(6)));
-    Ok(())
-}
-
-/// Why a record may not follow where session 0 was set aside under a budget of one node; none where it may.
-fn reason_aside(alloc: Global, rec: Record) -> Result<Option<Illegal>, Fail> {
-    let records = [started(0, 70, &ALL), set_aside(alloc, 0)?];
-    reason(alloc, 1, &records, &rec)
-}
-
-/// Those of setting aside, in their order; the last after it was set aside once.
-#[test]
-fn reasons_of_setting_aside(rt: HostRuntime) -> Result<(), Fail> {
-    let alloc = rt.alloc();
-    let found = reason_aside(alloc, set_aside(alloc, 1)?)?;
-    is_equal(&rt, &found, &Some(Illegal::NoSession(1)));
-    let late = served(alloc, 0, (1, 2), &[1, 2, 3], &FIRST_BEST)?;
-    let found = reason_aside(alloc, late)?;
-    is_equal(&rt, &found, &Some(Illegal::NotPending(Place::Pending(0))));
-    let found = reason_aside(alloc, set_aside(alloc, 0)?)?;
-    is_equal(&rt, &found, &Some(Illegal::IsAside));
-    Ok(())
-}
-
-/// Why a record may not follow the start of session 0; none where it may.
-fn reason_begun(alloc: Global, rec: Record) -> Result<Option<Illegal>, Fail> {
-    let records = [started(0, 70, &ALL)];
-    reason(alloc, 2_001, &records, &rec)
-}
-
-/// Why a first serving may not follow the start; none where it may.
-fn serving_reason(
-    alloc: Global,
-    item: u16,
-    form: &[u16],
-    tree: &[u8],
-) -> Result<Option<Illegal>, Fail> {
-    reason_begun(alloc, served_first(alloc, item, form, tree)?)
-}
-
-/// Those of a serving, in their order. Of the items 0, 1 and 2 two are of the row that needs
-/// exactly one of 0 and 1.
-#[test]
-fn reasons_of_a_serving(rt: HostRuntime) -> Result<(), Fail> {
-    let found = serving_reason(rt.alloc(), 2, &[0, 1, 2], &FIRST_BEST)?;
-    is_equal(&rt, &found, &Some(Illegal::NotForm(Breach::Row(0, 2))));
-    let found = serving_reason(rt.alloc(), 1, &[1, 2, 3], &FIRST_BEST)?;
-    is_equal(&rt, &found, &Some(Illegal::NotItem(2)));
-    let found = serving_reason(rt.alloc(), 2, &[1, 2, 3], &[])?;
-    is_equal(&rt, &found, &Some(Illegal::NotSpent(1)));
-    let found = serving_reason(rt.alloc(), 2, &[1, 2, 3], &TOO_HIGH)?;
-    let not_closed = Verdict::Bad(0, Reason::NotClosed);
-    is_equal(&rt, &found, &Some(Illegal::Tree(not_closed)));
-    Ok(())
-}
-
-/// A record of an answer with a tree, which it isn't to have.
-fn answered_with_tree(alloc: Global) -> Result<Record, Fail> {
-    Ok(Record {
-        tree: tree_of(alloc, &FIRST_BEST)?,
-        ..answered(0, 0, 1)
-    })
-}
-
-/// Why a record may not follow where session 0 was closed; none where it may.
-fn reason_over(alloc: Global, rec: Record) -> Result<Option<Illegal>, Fail> {
-    let records = [started(0, 70, &ALL), closed(0)];
-    reason(alloc, 2_001, &records, &rec)
-}
-
-/// Those of an answer and of closing, in their order.
-#[test]
-fn reasons_of_an_answer(rt: HostRuntime) -> Result<(), Fail> {
-    let found = reason_begun(rt.alloc(), answered_with_tree(rt.alloc())?)?;
-    is_equal(&rt, &found, &Some(Illegal::NotSpent(0)));
-    let found = reason_begun(rt.alloc(), answered(0, 0, 1))?;
-    is_equal(&rt, &found, &Some(Illegal::NotWaiting(Place::Pending(0))));
-    let found = reason_then(rt.alloc(), answered(0, 0, 2))?;
-    is_equal(&rt, &found, &Some(Illegal::BadResponse(2)));
-    let found = reason_over(rt.alloc(), closed(0))?;
-    is_equal(&rt, &found, &Some(Illegal::Ended(Place::Closed)));
     Ok(())
 }
 
@@ -232,55 +47,6 @@ pub(crate) fn counts_of(alloc: Global, counters: &Counters) -> Result<Vec<(u32, 
         pairs.push((counts.alpha, counts.eps))?;
     }
     Ok(pairs)
-}
-
-/// Session 0 was served two items and waits for the second answer, session 1 for the first.
-fn two_sessions(alloc: Global) -> Result<Vec<Record>, Fail> {
-    let mut records = first_served(alloc)?;
-    records.push(started(1, 71, &ALL))?;
-    records.push(served(alloc, 1, (0, 2), &[1, 2, 3], &FIRST_BEST)?)?;
-    records.push(answered(0, 0, 1))?;
-    records.push(served(alloc, 0, (1, 4), &[1, 2, 4], &SECOND_BEST)?)?;
-    Ok(records)
-}
-
-/// The exposure counts after these records.
-fn counts_in(
-    alloc: Global,
-    bank: &Bank,
-    spec: &Spec,
-    records: &[Record],
-) -> Result<Vec<(u32, u32)>, Fail>
-    requires { IsPlanFor bank.now spec.now }
-{
-    let mut book = Book::new(alloc, bank, spec)?;
-    take_all(&mut book, alloc, records)?;
-    counts_of(alloc, book.counters())
-}
-
-/// The same under the worked plan.
-fn counts_after(alloc: Global, records: &[Record]) -> Result<Vec<(u32, u32)>, Fail> {
-    let bank = bank_a(alloc)?;
-    let spec = Spec::of(alloc, &bank, plan(alloc, 2_001)?)?;
-    counts_in(alloc, &bank, &spec, records)
-}
-
-/// The same, where session 1 was closed then.
-fn one_closed(alloc: Global) -> Result<Vec<Record>, Fail> {
-    let mut records = two_sessions(alloc)?;
-    records.push(closed(1))?;
-    Ok(records)
-}
-
-#[test]
-fn counts_of_a_closed_session(rt: HostRuntime) -> Result<(), Fail> {
-    let alloc = rt.alloc();
-    let before = counts_after(alloc, &two_sessions(alloc)?)?;
-    are_equal(&rt, before.as_slice(), &[(0, 0); 6]);
-    let after = counts_after(alloc, &one_closed(alloc)?)?;
-    let expected = [(0, 1), (0, 1), (1, 1), (0, 1), (0, 1), (0, 1)];
-    are_equal(&rt, after.as_slice(), expected.as_slice());
-    Ok(())
 }
 
 /// What a book reports.
@@ -306,20 +72,275 @@ fn told_by(book: &Book) -> Told {
     }
 }
 
-/// The same after these records.
-fn told_in(alloc: Global, bank: &Bank, spec: &Spec, records: &[Record]) -> Result<Told, Fail>
-    requires { IsPlanFor bank.now spec.now }
-{
-    let mut book = Book::new(alloc, bank, spec)?;
-    take_all(&mut book, alloc, records)?;
-    Ok(told_by(&book))
+/// What a book shows after some records: what it reports, its exposure counts, and why one more record may not follow; none
+/// where it may.
+#[derive(Drop)]
+struct Shown {
+    told: Told,
+    counts: Vec<(u32, u32)>,
+    reason: Option<Illegal>,
 }
 
-/// The same under the worked plan.
-fn what_is_told(alloc: Global, records: &[Record]) -> Result<Told, Fail> {
+/// What a book shows after these records, and of this one more.
+fn shown_by(book: &mut Book, alloc: Global, lines: &[Line], more: &Line) -> Result<Shown, Fail> {
+    take_all(book, alloc, lines)?;
+    let more = record(alloc, more)?;
+    Ok(Shown {
+        told: told_by(book),
+        counts: counts_of(alloc, book.counters())?,
+        reason: book.judge(&more).err(),
+    })
+}
+
+/// The same of a new book. What owns a bank is a function of its own, since one that also makes a book of it is dear to prove.
+fn shown_in(
+    alloc: Global,
+    bank: &Bank,
+    spec: &Spec,
+    lines: &[Line],
+    more: &Line,
+) -> Result<Shown, Fail>
+    requires { IsPlanFor bank.now spec.now }
+{
+    match Book::new(alloc, bank, spec) {
+        Ok(book) => {
+            let mut book = book;
+            shown_by(&mut book, alloc, lines, more)
+        }
+        Err(AllocError) => Err(Fail::from("out of memory")),
+    }
+}
+
+/// The same over a bank and the plan of a draft.
+fn shown_over(
+    alloc: Global,
+    bank: &Bank,
+    draft: Draft,
+    lines: &[Line],
+    more: &Line,
+) -> Result<Shown, Fail> {
+    match Spec::of(alloc, bank, draft) {
+        Ok(spec) => shown_in(alloc, bank, &spec, lines, more),
+        Err(_) => Err(Fail::from("a plan")),
+    }
+}
+
+/// The same under the worked plan with this budget of nodes.
+fn shown_on_a(alloc: Global, budget: u32, lines: &[Line], more: &Line) -> Result<Shown, Fail> {
     let bank = bank_a(alloc)?;
-    let spec = Spec::of(alloc, &bank, plan(alloc, 2_001)?)?;
-    told_in(alloc, &bank, &spec, records)
+    shown_over(alloc, &bank, plan(alloc, budget)?, lines, more)
+}
+
+/// The eligible items are all of them.
+const EACH: u8 = 0x3f;
+
+/// Records that a book has before one more.
+#[derive(Clone, Copy)]
+enum Before {
+    Nothing,
+    /// Session 0 is started.
+    Begun,
+    /// The same, and its first item is served.
+    Served,
+    /// Session 0 is started, and eligibility is set aside.
+    Aside,
+    /// Session 0 is started and closed.
+    Over,
+}
+
+const BEGUN: [Line; 1] = [Line::Started(0, 70, EACH)];
+
+const SERVED: [Line; 2] = [
+    Line::Started(0, 70, EACH),
+    Line::Served(0, (0, 2), 0x0e, Shape::FirstBest),
+];
+
+const ASIDE: [Line; 2] = [Line::Started(0, 70, EACH), Line::SetAside(0)];
+
+const OVER: [Line; 2] = [Line::Started(0, 70, EACH), Line::Closed(0)];
+
+fn lines_of(before: Before) -> &'static [Line] {
+    match before {
+        Before::Nothing => &[],
+        Before::Begun => &BEGUN,
+        Before::Served => &SERVED,
+        Before::Aside => &ASIDE,
+        Before::Over => &OVER,
+    }
+}
+
+/// Why a record may not follow these under the plan with this budget of nodes; none where it may.
+fn reason(
+    alloc: Global,
+    budget: u32,
+    before: Before,
+    more: &Line,
+) -> Result<Option<Illegal>, Fail> {
+    Ok(shown_on_a(alloc, budget, lines_of(before), more)?.reason)
+}
+
+/// What session 0 waits for after its first serving.
+const WAITING: Place = Place::Waiting {
+    step: 0,
+    item: 2,
+    proved: true,
+};
+
+/// Records, one more, and why it may not follow them; None where it may. Those of one kind are in the order of their reasons.
+const REASONS: [(Before, Line, Option<Illegal>); 17] = [
+    // A start: the book has another number of sessions, the booking has one, and item 3 is missing or item 6 is more.
+    (
+        Before::Nothing,
+        Line::Started(1, 70, EACH),
+        Some(Illegal::NotNumber(0)),
+    ),
+    (
+        Before::Begun,
+        Line::Started(1, 70, EACH),
+        Some(Illegal::Booked(0)),
+    ),
+    (
+        Before::Begun,
+        Line::Started(1, 71, 0x37),
+        Some(Illegal::NotDrawn(3)),
+    ),
+    (
+        Before::Begun,
+        Line::Started(1, 71, 0x7f),
+        Some(Illegal::NotDrawn(6)),
+    ),
+    // A serving. Of the items 0, 1 and 2 two are of the row that needs exactly one of 0 and 1.
+    (
+        Before::Begun,
+        Line::Served(0, (0, 2), 0x07, Shape::FirstBest),
+        Some(Illegal::NotForm(Breach::Row(0, 2))),
+    ),
+    (
+        Before::Begun,
+        Line::Served(0, (0, 1), 0x0e, Shape::FirstBest),
+        Some(Illegal::NotItem(2)),
+    ),
+    (
+        Before::Begun,
+        Line::Served(0, (0, 2), 0x0e, Shape::NoTree),
+        Some(Illegal::NotSpent(1)),
+    ),
+    (
+        Before::Begun,
+        Line::Served(0, (0, 2), 0x0e, Shape::TooHigh),
+        Some(Illegal::Tree(Verdict::Bad(0, Reason::NotClosed))),
+    ),
+    // An answer, also one with a tree.
+    (
+        Before::Begun,
+        Line::Answered(0, (0, 1), Shape::FirstBest),
+        Some(Illegal::NotSpent(0)),
+    ),
+    (
+        Before::Begun,
+        Line::Answered(0, (0, 1), Shape::NoTree),
+        Some(Illegal::NotWaiting(Place::Pending(0))),
+    ),
+    // After a serving.
+    (
+        Before::Served,
+        Line::Started(2, 71, EACH),
+        Some(Illegal::NotNumber(1)),
+    ),
+    (
+        Before::Served,
+        Line::Started(1, 70, EACH),
+        Some(Illegal::Booked(0)),
+    ),
+    (
+        Before::Served,
+        Line::Answered(0, (1, 0), Shape::NoTree),
+        Some(Illegal::NotWaiting(WAITING)),
+    ),
+    (
+        Before::Served,
+        Line::Answered(0, (0, 2), Shape::NoTree),
+        Some(Illegal::BadResponse(2)),
+    ),
+    (Before::Served, Line::Closed(5), Some(Illegal::NoSession(1))),
+    (Before::Served, Line::Closed(0), None),
+    // After a close.
+    (
+        Before::Over,
+        Line::Closed(0),
+        Some(Illegal::Ended(Place::Closed)),
+    ),
+];
+
+#[test]
+fn reasons(rt: HostRuntime) -> Result<(), Fail> {
+    for (before, more, expected) in &REASONS {
+        let found = reason(rt.alloc(), 2_001, *before, more)?;
+        is_equal(&rt, &found, expected);
+    }
+    Ok(())
+}
+
+/// Records that may not follow under a budget of one node where eligibility was set aside, each with its reason; the last is
+/// a second setting aside.
+const ASIDE_REASONS: [(Line, Illegal); 3] = [
+    (Line::SetAside(1), Illegal::NoSession(1)),
+    (
+        Line::Served(0, (1, 2), 0x0e, Shape::FirstBest),
+        Illegal::NotPending(Place::Pending(0)),
+    ),
+    (Line::SetAside(0), Illegal::IsAside),
+];
+
+#[test]
+fn reasons_of_setting_aside(rt: HostRuntime) -> Result<(), Fail> {
+    for (more, expected) in &ASIDE_REASONS {
+        let found = reason(rt.alloc(), 1, Before::Aside, more)?;
+        is_equal(&rt, &found, &Some(*expected));
+    }
+    Ok(())
+}
+
+/// Session 0 was served two items and waits for the second answer, session 1 for the first.
+const TWO_SESSIONS: [Line; 6] = [
+    Line::Started(0, 70, EACH),
+    Line::Served(0, (0, 2), 0x0e, Shape::FirstBest),
+    Line::Started(1, 71, EACH),
+    Line::Served(1, (0, 2), 0x0e, Shape::FirstBest),
+    Line::Answered(0, (0, 1), Shape::NoTree),
+    Line::Served(0, (1, 4), 0x16, Shape::SecondBest),
+];
+
+/// The same, and session 1 is closed then.
+const ONE_CLOSED: [Line; 7] = [
+    Line::Started(0, 70, EACH),
+    Line::Served(0, (0, 2), 0x0e, Shape::FirstBest),
+    Line::Started(1, 71, EACH),
+    Line::Served(1, (0, 2), 0x0e, Shape::FirstBest),
+    Line::Answered(0, (0, 1), Shape::NoTree),
+    Line::Served(0, (1, 4), 0x16, Shape::SecondBest),
+    Line::Closed(1),
+];
+
+/// The exposure counts after these records; the verdict on the line that is shown after them is left out.
+fn counts_after(alloc: Global, lines: &[Line]) -> Result<Vec<(u32, u32)>, Fail> {
+    Ok(shown_on_a(alloc, 2_001, lines, &Line::Closed(1))?.counts)
+}
+
+#[test]
+fn counts_of_a_closed_session(rt: HostRuntime) -> Result<(), Fail> {
+    let alloc = rt.alloc();
+    let before = counts_after(alloc, &TWO_SESSIONS)?;
+    are_equal(&rt, before.as_slice(), &[(0, 0); 6]);
+    let after = counts_after(alloc, &ONE_CLOSED)?;
+    let expected = [(0, 1), (0, 1), (1, 1), (0, 1), (0, 1), (0, 1)];
+    are_equal(&rt, after.as_slice(), expected.as_slice());
+    Ok(())
+}
+
+/// What a book reports after these records; the verdict on the line that is shown after them is left out.
+fn what_is_told(alloc: Global, lines: &[Line]) -> Result<Told, Fail> {
+    Ok(shown_on_a(alloc, 2_001, lines, &Line::Closed(1))?.told)
 }
 
 /// A short list of these numbers.
@@ -362,6 +383,6 @@ fn what_a_book_tells(rt: HostRuntime) -> Result<(), Fail> {
         places: (Some(waiting), None),
         seat: Some(seat_told()),
     };
-    is_equal(&rt, &what_is_told(alloc, &two_sessions(alloc)?)?, &expected);
+    is_equal(&rt, &what_is_told(alloc, &TWO_SESSIONS)?, &expected);
     Ok(())
 }

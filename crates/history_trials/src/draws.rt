@@ -9,52 +9,40 @@ use std::alloc::Global;
 use std::test::Fail;
 use trial_cases::set_of;
 
-/// What the inequality gives for a word at a rate and these counts.
-#[derive(Drop)]
-struct Edge {
-    word: u32,
-    rate: (u32, u32),
-    counts: (u32, u32),
-    admitted: bool,
-}
+/// A word, a rate, the counts of an item, and whether the inequality admits the word.
+const EDGES: [(u32, (u32, u32), (u32, u32), bool); 9] = [
+    // 16 w < 2^34.
+    (1_073_741_823, (1, 4), (4, 4), true),
+    (1_073_741_824, (1, 4), (4, 4), false),
+    // An item that was never shown.
+    (HIGHEST, (1, 4), (0, 4), true),
+    (HIGHEST, (1, 1), (3, 3), true),
+    // 65,535 w < 2^32 n, where 65,535 * 65,537 is 2^32 - 1. On both sides there is a factor 65,536 besides.
+    (65_537, (1, 65_535), (65_536, 65_536), true),
+    (65_538, (1, 65_535), (65_536, 65_536), false),
+    // At the highest word the left side is 65,535 below 2^32 * 65,535.
+    (HIGHEST, (65_535, 65_535), (65_536, 65_536), true),
+    (HIGHEST, (65_534, 65_535), (65_536, 65_536), false),
+    (HIGHEST, (1, 65_535), (65_536, 65_536), false),
+];
 
-fn make_edge(word: u32, rate: (u32, u32), counts: (u32, u32), admitted: bool) -> Edge {
-    Edge {
-        word,
-        rate,
-        counts,
-        admitted,
-    }
-}
+/// The highest word.
+const HIGHEST: u32 = 4_294_967_295;
 
 #[test]
 fn words_at_the_edge(rt: HostRuntime) {
-    let highest = 4_294_967_295;
-    let edges = [
-        // 16 w < 2^34.
-        make_edge(1_073_741_823, (1, 4), (4, 4), true),
-        make_edge(1_073_741_824, (1, 4), (4, 4), false),
-        // An item that was never shown.
-        make_edge(highest, (1, 4), (0, 4), true),
-        make_edge(highest, (1, 1), (3, 3), true),
-        // 65,535 w < 2^32 n, where 65,535 * 65,537 is 2^32 - 1. On both sides there is a factor 65,536 besides.
-        make_edge(65_537, (1, 65_535), (65_536, 65_536), true),
-        make_edge(65_538, (1, 65_535), (65_536, 65_536), false),
-        // At the highest word the left side is 65,535 below 2^32 * 65,535.
-        make_edge(highest, (65_535, 65_535), (65_536, 65_536), true),
-        make_edge(highest, (65_534, 65_535), (65_536, 65_536), false),
-        make_edge(highest, (1, 65_535), (65_536, 65_536), false),
-    ];
-    for Edge {
-        word,
-        rate: (num, den),
-        counts: (alpha, eps),
-        admitted,
-    } in edges {
-        let found = admits(word, Rate { num, den }, Counts { alpha, eps });
+    for (word, (num, den), (alpha, eps), admitted) in &EDGES {
+        let rate = Rate {
+            num: *num,
+            den: *den,
+        };
+        let counts = Counts {
+            alpha: *alpha,
+            eps: *eps,
+        };
         assert_eq!(rt;
-            found,
-            admitted,
+            admits(*word, rate, counts),
+            *admitted,
             "word {word} rate {num}/{den} counts {alpha} {eps}"
         );
     }

@@ -4,17 +4,14 @@ ghost use Rattle.exam_model.specs.Validity.{IsPlanFor};
 
 use crate::books::{counts_of, take};
 use crate::equal::{are_equal, is_equal};
-use crate::worked::{answered, served, started};
+use crate::worked::{Line, Shape};
 use bank_tables::Bank;
 use constraint_model::{Draft, Spec};
 use exam_session::Book;
-use std::alloc::Global;
+use std::alloc::{AllocError, Global};
 use std::process::Abort;
 use std::test::Fail;
 use trial_cases::{draft_of, item, rows_of};
-
-/// A tree of one node, Whole: there is one set of as many items as the test has.
-const WHOLE: [u8; 2] = [0, 6];
 
 /// A bank of one item of two categories.
 fn bank_of_one(alloc: Global) -> Result<Bank, Fail> {
@@ -41,9 +38,9 @@ fn booking_of(session: u32) -> u64 {
 
 /// A session is started, served its item and answered, so that it is complete.
 fn take_session(book: &mut Book, alloc: Global, session: u32) -> Result<(), Fail> {
-    take(book, alloc, &started(session, booking_of(session), &[0]))?;
-    take(book, alloc, &served(alloc, session, (0, 0), &[0], &WHOLE)?)?;
-    take(book, alloc, &answered(session, 0, 1))
+    take(book, alloc, &Line::Started(session, booking_of(session), 1))?;
+    take(book, alloc, &Line::Served(session, (0, 0), 1, Shape::Whole))?;
+    take(book, alloc, &Line::Answered(session, (0, 1), Shape::NoTree))
 }
 
 fn take_sessions(book: &mut Book, alloc: Global) -> Result<(), Fail> {
@@ -66,20 +63,47 @@ fn shows_counts<R: Abort>(rt: &R, alloc: Global, book: &Book) -> Result<(), Fail
     Ok(())
 }
 
-/// Takes the sessions into a book over this bank and its plan.
-fn keeps_sessions<R: Abort>(rt: &R, alloc: Global, bank: &Bank, spec: &Spec) -> Result<(), Fail>
+/// Takes the sessions into a book.
+fn keeps_sessions<R: Abort>(rt: &R, alloc: Global, book: &mut Book) -> Result<(), Fail> {
+    take_sessions(book, alloc)?;
+    shows_sessions(rt, book);
+    shows_counts(rt, alloc, book)
+}
+
+/// The same for a new book over this bank and its plan.
+fn keeps_sessions_over<R: Abort>(
+    rt: &R,
+    alloc: Global,
+    bank: &Bank,
+    spec: &Spec,
+) -> Result<(), Fail>
     requires { IsPlanFor bank.now spec.now }
 {
-    let mut book = Book::new(alloc, bank, spec)?;
-    take_sessions(&mut book, alloc)?;
-    shows_sessions(rt, &book);
-    shows_counts(rt, alloc, &book)
+    match Book::new(alloc, bank, spec) {
+        Ok(book) => {
+            let mut book = book;
+            keeps_sessions(rt, alloc, &mut book)
+        }
+        Err(AllocError) => Err(Fail::from("out of memory")),
+    }
+}
+
+/// The same for the plan of a draft.
+fn keeps_sessions_of<R: Abort>(
+    rt: &R,
+    alloc: Global,
+    bank: &Bank,
+    draft: Draft,
+) -> Result<(), Fail> {
+    match Spec::of(alloc, bank, draft) {
+        Ok(spec) => keeps_sessions_over(rt, alloc, bank, &spec),
+        Err(_) => Err(Fail::from("a plan")),
+    }
 }
 
 #[test]
 fn ten_thousand_sessions(rt: HostRuntime) -> Result<(), Fail> {
     let alloc = rt.alloc();
     let bank = bank_of_one(alloc)?;
-    let spec = Spec::of(alloc, &bank, plan_of_one(alloc)?)?;
-    keeps_sessions(&rt, alloc, &bank, &spec)
+    keeps_sessions_of(&rt, alloc, &bank, plan_of_one(alloc)?)
 }

@@ -35,42 +35,66 @@ fn served(alloc: Global, mark: u8, nodes: u8) -> Result<Vec<u8>, AllocError> {
     payload(alloc, &SERVED, 0x0e, &rest)
 }
 
-/// The record has this entry.
-fn has_entry<R: Abort>(rt: &R, rec: &Record, entry: Entry) {
-    is_equal(rt, &rec.entry, &entry);
+/// The bytes of the record's tree; none where it has no tree.
+fn tree_bytes(alloc: Global, rec: &Record) -> Result<Vec<u8>, Fail> {
+    match &rec.tree {
+        Some(tree) => Ok(proof_tree::encode(alloc, tree)?),
+        None => Ok(Vec::new(alloc)),
+    }
+}
+
+/// The record's tree has these bytes; it has none where there are no bytes.
+fn has_tree<R: Abort>(rt: &R, alloc: Global, rec: &Record, bytes: &[u8]) -> Result<(), Fail> {
+    are_equal(rt, tree_bytes(alloc, rec)?.as_slice(), bytes);
+    Ok(())
 }
 
 /// The record is spelled with these bytes.
 fn is_spelled<R: Abort>(rt: &R, alloc: Global, rec: &Record, bytes: &[u8]) -> Result<(), Fail>
     requires { GoesWith rec.now.entry rec.now.tree }
 {
-    let found = encode(alloc, rec)?;
-    are_equal(rt, found.as_slice(), bytes);
+    are_equal(rt, encode(alloc, rec)?.as_slice(), bytes);
     Ok(())
 }
 
-/// The record has a tree that is spelled with these bytes.
-fn has_tree<R: Abort>(rt: &R, alloc: Global, rec: &Record, bytes: &[u8]) -> Result<(), Fail> {
-    let Some(tree) = &rec.tree else {
-        return Err(Fail::from("a tree"));
-    };
-    let found = proof_tree::encode(alloc, tree)?;
-    are_equal(rt, found.as_slice(), bytes);
-    Ok(())
+/// The record has this entry and this tree, and is spelled with these bytes.
+fn shows<R: Abort>(
+    rt: &R,
+    alloc: Global,
+    rec: &Record,
+    entry: &Entry,
+    tree: &[u8],
+    bytes: &[u8],
+) -> Result<(), Fail>
+    requires { GoesWith rec.now.entry rec.now.tree }
+{
+    is_equal(rt, &rec.entry, entry);
+    has_tree(rt, alloc, rec, tree)?;
+    is_spelled(rt, alloc, rec, bytes)
+}
+
+/// The bytes read to a record with this entry and this tree, which is spelled with them.
+fn reads<R: Abort>(
+    rt: &R,
+    alloc: Global,
+    bytes: &[u8],
+    entry: &Entry,
+    tree: &[u8],
+) -> Result<(), Fail> {
+    match decode(alloc, bytes) {
+        Ok(rec) => shows(rt, alloc, &rec, entry, tree, bytes),
+        Err(_) => Err(Fail::from("a record")),
+    }
 }
 
 #[test]
 fn an_answer(rt: HostRuntime) -> Result<(), Fail> {
-    let alloc = rt.alloc();
-    let rec = decode(alloc, &ANSWERED)?;
     let entry = Entry::Answered {
         session: 0,
         step: 0,
         response: 1,
     };
-    has_entry(&rt, &rec, entry);
-    assert!(rt; rec.tree.is_none());
-    is_spelled(&rt, alloc, &rec, &ANSWERED)
+    reads(&rt, rt.alloc(), &ANSWERED, &entry, &[])
 }
 
 #[test]
@@ -87,8 +111,8 @@ fn faults(rt: HostRuntime) -> Result<(), Fail> {
         (&mark, RecordFault::Field(73)),
         (&nodes, RecordFault::Field(74)),
     ];
-    for (bytes, fault) in cases {
-        is_equal(&rt, &decode(alloc, bytes).err(), &Some(fault));
+    for (bytes, fault) in &cases {
+        is_equal(&rt, &decode(alloc, bytes).err(), &Some(*fault));
     }
     Ok(())
 }
@@ -96,23 +120,18 @@ fn faults(rt: HostRuntime) -> Result<(), Fail> {
 #[test]
 fn a_start(rt: HostRuntime) -> Result<(), Fail> {
     let alloc = rt.alloc();
-    let rec = decode(alloc, &payload(alloc, &STARTED, 0x3f, &[])?)?;
     let entry = Entry::Started {
         session: 0,
         booking: 70,
         eligible: set_of(&ALL),
     };
-    has_entry(&rt, &rec, entry);
-    assert!(rt; rec.tree.is_none());
-    Ok(())
+    let spelled = payload(alloc, &STARTED, 0x3f, &[])?;
+    reads(&rt, alloc, &spelled, &entry, &[])
 }
 
 #[test]
 fn a_serving(rt: HostRuntime) -> Result<(), Fail> {
     let alloc = rt.alloc();
-    let spelled = served(alloc, 1, 1)?;
-    is_equal(&rt, &spelled.len(), &87);
-    let rec = decode(alloc, &spelled)?;
     let entry = Entry::Served {
         session: 0,
         step: 0,
@@ -121,7 +140,7 @@ fn a_serving(rt: HostRuntime) -> Result<(), Fail> {
         proved: true,
         nodes: 1,
     };
-    has_entry(&rt, &rec, entry);
-    is_spelled(&rt, alloc, &rec, &spelled)?;
-    has_tree(&rt, alloc, &rec, &FIRST_BEST)
+    let spelled = served(alloc, 1, 1)?;
+    is_equal(&rt, &spelled.len(), &87);
+    reads(&rt, alloc, &spelled, &entry, &FIRST_BEST)
 }

@@ -1,11 +1,12 @@
 //! The worked examination over bank A: its plan, and what its records are made of.
 
+use bank_tables::ItemSet;
 use constraint_model::Draft;
 use exam_records::{Cause, Entry, Record};
 use proof_tree::{Tree, decode};
 use std::alloc::{AllocError, Global};
 use std::test::Fail;
-use trial_cases::{draft_a, set_of};
+use trial_cases::draft_a;
 
 /// Plan A, in which each item is always eligible. A step has this budget of nodes.
 pub(crate) fn plan(alloc: Global, budget: u32) -> Result<Draft, AllocError> {
@@ -19,81 +20,125 @@ pub(crate) fn plan(alloc: Global, budget: u32) -> Result<Draft, AllocError> {
 pub(crate) const ALL: [u16; 6] = [0, 1, 2, 3, 4, 5];
 
 /// A tree of one node, Open.
-pub(crate) const OPEN: [u8; 2] = [0, 7];
+const OPEN: [u8; 2] = [0, 7];
 
 /// It shows that {1, 2, 3} is best at first: side 3, the high side of the enemies, at 1 gives 6,143, which is 256 * 23 + 255.
 pub(crate) const FIRST_BEST: [u8; 11] = [1, 0, 1, 0, 3, 0, 0, 0, 1, 3, 0];
 
 /// It shows that {1, 2, 4} is best once item 2 was answered with 1, and the estimate is the third point: side 0, the low
 /// side of the count, at 1,536 gives -1,536 + 768 + 2,304 + 2,048, which is 256 * 14.
-pub(crate) const SECOND_BEST: [u8; 11] = [1, 0, 1, 0, 0, 0, 0, 6, 0, 3, 0];
+const SECOND_BEST: [u8; 11] = [1, 0, 1, 0, 0, 0, 0, 6, 0, 3, 0];
+
+/// That for the best form at first, with 4,096 in place of 1: it gives 8,960, which is above 6,143.
+const TOO_HIGH: [u8; 11] = [1, 0, 1, 0, 3, 0, 0, 0x10, 0, 3, 0];
+
+/// A tree of one node, Whole: there is one set of as many items as the test has.
+const WHOLE: [u8; 2] = [0, 6];
+
+/// The tree of a record.
+#[derive(Clone, Copy)]
+pub(crate) enum Shape {
+    NoTree,
+    Open,
+    FirstBest,
+    SecondBest,
+    TooHigh,
+    Whole,
+}
+
+/// Its bytes; none where there is no tree.
+fn bytes_of(shape: Shape) -> &'static [u8] {
+    match shape {
+        Shape::NoTree => &[],
+        Shape::Open => &OPEN,
+        Shape::FirstBest => &FIRST_BEST,
+        Shape::SecondBest => &SECOND_BEST,
+        Shape::TooHigh => &TOO_HIGH,
+        Shape::Whole => &WHOLE,
+    }
+}
+
+/// A record, as a test writes it. A set of items is given as bits, of which the lowest is item 0.
+#[derive(Clone, Copy)]
+pub(crate) enum Line {
+    /// A session starts for a booking, with these eligible items.
+    Started(u32, u64, u8),
+    /// Eligibility is set aside since a budget of one node was spent on an Open tree.
+    SetAside(u32),
+    /// At a step an item is served from a form, which is marked proved by a tree of one node.
+    Served(u32, (u16, u16), u8, Shape),
+    /// A step is answered with a response. The entry is to have no tree.
+    Answered(u32, (u16, u8), Shape),
+    Closed(u32),
+}
+
+/// The items of these bits.
+fn items_of(bits: u8) -> ItemSet {
+    let mut items = ItemSet::empty();
+    for item in 0..8u16 {
+        if bits >> item & 1 == 1 {
+            items = items.with(item);
+        }
+    }
+    items
+}
+
+/// Its entry.
+fn entry_of(line: &Line) -> Entry {
+    match *line {
+        Line::Started(session, booking, eligible) => Entry::Started {
+            session,
+            booking,
+            eligible: items_of(eligible),
+        },
+        Line::SetAside(session) => Entry::SetAside {
+            session,
+            cause: Cause::Spent,
+            nodes: 1,
+        },
+        Line::Served(session, (step, item), form, _) => Entry::Served {
+            session,
+            step,
+            item,
+            form: items_of(form),
+            proved: true,
+            nodes: 1,
+        },
+        Line::Answered(session, (step, response), _) => Entry::Answered {
+            session,
+            step,
+            response,
+        },
+        Line::Closed(session) => Entry::Closed { session },
+    }
+}
+
+/// Its tree.
+fn shape_of(line: &Line) -> Shape {
+    match *line {
+        Line::SetAside(_) => Shape::Open,
+        Line::Served(_, _, _, shape) => shape,
+        Line::Answered(_, _, shape) => shape,
+        _ => Shape::NoTree,
+    }
+}
 
 /// The tree of these bytes, none where there are no bytes.
-pub(crate) fn tree_of(alloc: Global, bytes: &[u8]) -> Result<Option<Tree>, Fail> {
+fn tree_of(alloc: Global, bytes: &[u8]) -> Result<Option<Tree>, Fail> {
     if bytes.is_empty() {
         return Ok(None);
     }
-    let (tree, _) = decode(alloc, bytes).ok().ok_or("a tree")?;
-    Ok(Some(tree))
-}
-
-pub(crate) fn started(session: u32, booking: u64, eligible: &[u16]) -> Record {
-    let eligible = set_of(eligible);
-    let entry = Entry::Started {
-        session,
-        booking,
-        eligible,
-    };
-    Record { entry, tree: None }
-}
-
-/// Eligibility is set aside since a budget of one node was spent on an Open tree.
-pub(crate) fn set_aside(alloc: Global, session: u32) -> Result<Record, Fail> {
-    let entry = Entry::SetAside {
-        session,
-        cause: Cause::Spent,
-        nodes: 1,
-    };
-    Ok(Record {
-        entry,
-        tree: tree_of(alloc, &OPEN)?,
-    })
-}
-
-/// An item is served at a step from a form, which is marked proved by a tree of one node, or none where there are no bytes.
-pub(crate) fn served(
-    alloc: Global,
-    session: u32,
-    (step, item): (u16, u16),
-    form: &[u16],
-    tree: &[u8],
-) -> Result<Record, Fail> {
-    let entry = Entry::Served {
-        session,
-        step,
-        item,
-        form: set_of(form),
-        proved: true,
-        nodes: 1,
-    };
-    Ok(Record {
-        entry,
-        tree: tree_of(alloc, tree)?,
-    })
-}
-
-pub(crate) fn answered(session: u32, step: u16, response: u8) -> Record {
-    let entry = Entry::Answered {
-        session,
-        step,
-        response,
-    };
-    Record { entry, tree: None }
-}
-
-pub(crate) fn closed(session: u32) -> Record {
-    Record {
-        entry: Entry::Closed { session },
-        tree: None,
+    match decode(alloc, bytes) {
+        Ok((tree, _)) => Ok(Some(tree)),
+        Err(_) => Err(Fail::from("a tree")),
     }
+}
+
+/// The record of a line.
+pub(crate) fn record(alloc: Global, line: &Line) -> Result<Record, Fail> {
+    let tree = tree_of(alloc, bytes_of(shape_of(line)))?;
+    Ok(Record {
+        entry: entry_of(line),
+        tree,
+    })
 }
