@@ -4,14 +4,16 @@
 use crate::files::{
     ANSWERED, CLOSED, empty_journal, served_journal, started, started_journal, third_journal,
 };
-use crate::outcome::{Call, Reply, WORKED, begun, gives, run, waiting};
+use crate::outcome::{
+    Call, FIRST, FOUND, Reply, SECOND, SESSION, STARTED, THIRD, WORKED, gives, run,
+};
 use exam_office::{Place, Refusal};
 use std::alloc::Global;
 use std::process::Abort;
 use std::test::Fail;
 
 /// How many entries a history has, and where session 0 is.
-#[derive(Clone, Copy, Debug, PartialEq, Eq)]
+#[derive(Clone, Copy)]
 pub(crate) struct State {
     pub entries: u64,
     pub place: Reply,
@@ -68,21 +70,20 @@ fn begin_case(alloc: Global) -> Result<Case, Fail> {
         longer: Some(started_journal(alloc)?),
         before,
         after: state_at(1, Place::Pending(0)),
-        reply: begun(0, true),
-        again: begun(0, false),
+        reply: STARTED,
+        again: FOUND,
     })
 }
 
 fn serve_case(alloc: Global) -> Result<Case, Fail> {
-    let served = waiting(0, 2);
     Ok(Case {
         call: Call::Serve(0),
         bytes: started_journal(alloc)?,
         longer: None,
         before: state_at(1, Place::Pending(0)),
-        after: state_at(2, served),
-        reply: Reply::At(served),
-        again: Reply::Refused(Refusal::Stale(served, false)),
+        after: state_at(2, FIRST),
+        reply: Reply::At(FIRST),
+        again: Reply::Refused(Refusal::Stale(FIRST, false)),
     })
 }
 
@@ -92,7 +93,7 @@ fn answer_case(alloc: Global) -> Result<Case, Fail> {
         call: Call::Answer(0, 0, 1),
         bytes: served_journal(alloc)?,
         longer: Some(third_journal(alloc, &ANSWERED)?),
-        before: state_at(2, waiting(0, 2)),
+        before: state_at(2, FIRST),
         after: state_at(3, answered),
         reply: Reply::At(answered),
         again: Reply::At(answered),
@@ -105,7 +106,7 @@ fn close_case(alloc: Global) -> Result<Case, Fail> {
         call: Call::Close(0),
         bytes: served_journal(alloc)?,
         longer: Some(third_journal(alloc, &CLOSED)?),
-        before: state_at(2, waiting(0, 2)),
+        before: state_at(2, FIRST),
         after: state_at(3, closed),
         reply: Reply::At(closed),
         again: Reply::Refused(Refusal::IsClosed(closed)),
@@ -130,30 +131,25 @@ pub(crate) fn opens<R: Abort>(
     Ok(())
 }
 
-/// The calls of the worked session, each of which adds an entry.
-const SESSION: [Call; 7] = [
-    Call::Begin(70),
-    Call::Serve(0),
-    Call::Answer(0, 0, 1),
-    Call::Serve(0),
-    Call::Answer(0, 1, 0),
-    Call::Serve(0),
-    Call::Answer(0, 2, 1),
-];
-
-/// Where the session is after so many of them, three at least.
+/// Where the session is after so many entries of the worked session, three at least.
 fn place_after(entries: u64) -> Place {
     match entries {
         3 => Place::Pending(1),
-        4 => waiting(1, 4),
+        4 => SECOND,
         5 => Place::Pending(2),
-        6 => waiting(2, 1),
+        6 => THIRD,
         _ => Place::Complete,
     }
 }
 
+/// The journal after these calls.
+fn bytes_after(alloc: Global, calls: &[Call]) -> Result<Vec<u8>, Fail> {
+    Ok(run(alloc, &WORKED, &[], &[], calls)?.left.bytes)
+}
+
 /// The call of the worked session after so many, from the fourth on.
 fn later_case(alloc: Global, call: Call, earlier: &[Call]) -> Result<Case, Fail> {
+    let bytes = bytes_after(alloc, earlier)?;
     let entries = earlier.len() as u64;
     let place = place_after(entries.saturating_add(1));
     let again = match call {
@@ -162,7 +158,7 @@ fn later_case(alloc: Global, call: Call, earlier: &[Call]) -> Result<Case, Fail>
     };
     Ok(Case {
         call,
-        bytes: run(alloc, &WORKED, &[], &[], earlier)?.bytes,
+        bytes,
         longer: None,
         before: state_at(entries, place_after(entries)),
         after: state_at(entries.saturating_add(1), place),
@@ -171,15 +167,20 @@ fn later_case(alloc: Global, call: Call, earlier: &[Call]) -> Result<Case, Fail>
     })
 }
 
+/// The number of cases.
+pub(crate) const CASES: usize = 8;
+
 /// Each call of the worked session, and one that closes it.
-pub(crate) fn cases(alloc: Global) -> Result<Vec<Case>, Fail> {
-    let mut cases = Vec::new(alloc);
-    cases.push(begin_case(alloc)?)?;
-    cases.push(serve_case(alloc)?)?;
-    cases.push(answer_case(alloc)?)?;
-    cases.push(close_case(alloc)?)?;
-    for entries in 3..7usize {
-        cases.push(later_case(alloc, SESSION[entries], &SESSION[..entries])?)?;
+pub(crate) fn case_of(alloc: Global, number: usize) -> Result<Case, Fail> {
+    match number {
+        0 => begin_case(alloc),
+        1 => serve_case(alloc),
+        2 => answer_case(alloc),
+        3 => later_case(alloc, SESSION[3], &SESSION[..3]),
+        4 => later_case(alloc, SESSION[4], &SESSION[..4]),
+        5 => later_case(alloc, SESSION[5], &SESSION[..5]),
+        6 => later_case(alloc, SESSION[6], &SESSION[..6]),
+        7 => close_case(alloc),
+        _ => Err(Fail::from("a case")),
     }
-    Ok(cases)
 }

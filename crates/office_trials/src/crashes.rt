@@ -4,10 +4,10 @@
 //! any bytes. After its gate was written it leaves the whole record, and at the gate any value.
 //! After each sync, and before the first call, it leaves what a read gives.
 
-use crate::cases::{Case, adding_call, cases, opens};
+use crate::cases::{CASES, Case, adding_call, case_of, opens};
 use crate::expected::leaves;
 use crate::files::{ANSWERED, served_journal, third_journal};
-use crate::outcome::{Call, Reply, WORKED, gives, run, waiting};
+use crate::outcome::{Call, FIRST, Reply, SECOND, WORKED, gives, run};
 use exam_office::Place;
 use std::alloc::Global;
 use std::process::Abort;
@@ -16,8 +16,11 @@ use std::test::Fail;
 /// What a read gives after so many calls of adding an entry: the next call of the disk fails.
 fn stopped(alloc: Global, case: &Case, done: u64) -> Result<Vec<u8>, Fail> {
     let fail = adding_call(case, done);
-    let outcome = run(alloc, &WORKED, &case.bytes, &[fail], &[case.call])?;
-    Ok(outcome.bytes)
+    Ok(
+        run(alloc, &WORKED, &case.bytes, &[fail], &[case.call])?
+            .left
+            .bytes,
+    )
 }
 
 /// Each byte from this place on gets this value.
@@ -27,23 +30,32 @@ fn fill(bytes: &mut [u8], from: usize, value: u8) {
     }
 }
 
+/// A file whose bytes after the old ones are each this one.
+fn opens_filled_with<R: Abort>(
+    rt: &R,
+    alloc: Global,
+    case: &Case,
+    torn: &[u8],
+    value: u8,
+) -> Result<(), Fail> {
+    let mut filled = torn.to_vec(alloc)?;
+    fill(&mut filled, case.bytes.len(), value);
+    opens(rt, alloc, &filled, case.before)
+}
+
 /// A file whose bytes after the old ones are each of one value.
 fn opens_filled<R: Abort>(rt: &R, alloc: Global, case: &Case, torn: &[u8]) -> Result<(), Fail> {
-    for value in [0u8, 1, 255] {
-        let mut filled = torn.to_vec(alloc)?;
-        fill(&mut filled, case.bytes.len(), value);
-        opens(rt, alloc, &filled, case.before)?;
-    }
-    Ok(())
+    opens_filled_with(rt, alloc, case, torn, 0)?;
+    opens_filled_with(rt, alloc, case, torn, 1)?;
+    opens_filled_with(rt, alloc, case, torn, 255)
 }
 
 /// Of a record that was written the bytes up to a length, as they are or each of one value.
 fn opens_torn<R: Abort>(rt: &R, alloc: Global, case: &Case, staged: &[u8]) -> Result<(), Fail> {
     for length in case.bytes.len()..staged.len() {
-        let mut torn = staged.to_vec(alloc)?;
-        torn.truncate(length + 1);
-        opens(rt, alloc, &torn, case.before)?;
-        opens_filled(rt, alloc, case, &torn)?;
+        let torn = &staged[..length + 1];
+        opens(rt, alloc, torn, case.before)?;
+        opens_filled(rt, alloc, case, torn)?;
     }
     Ok(())
 }
@@ -124,14 +136,24 @@ fn opens_whole<R: Abort>(rt: &R, alloc: Global, case: &Case, gated: &[u8]) -> Re
     opens(rt, alloc, &whole, case.after)
 }
 
+/// The images of a case.
+fn opens_each<R: Abort>(rt: &R, alloc: Global, case: &Case) -> Result<(), Fail> {
+    opens_unwritten(rt, alloc, case)?;
+    opens_written(rt, alloc, case)?;
+    opens_after_the_gate(rt, alloc, case)
+}
+
+fn opens_each_of<R: Abort>(rt: &R, alloc: Global, number: usize) -> Result<(), Fail> {
+    match case_of(alloc, number) {
+        Ok(case) => opens_each(rt, alloc, &case),
+        Err(fail) => Err(fail),
+    }
+}
+
 #[test]
 fn each_image_of_each_call_is_opened(rt: HostRuntime) -> Result<(), Fail> {
-    let alloc = rt.alloc();
-    let cases = cases(alloc)?;
-    for case in &cases {
-        opens_unwritten(&rt, alloc, case)?;
-        opens_written(&rt, alloc, case)?;
-        opens_after_the_gate(&rt, alloc, case)?;
+    for number in 0..CASES {
+        opens_each_of(&rt, rt.alloc(), number)?;
     }
     Ok(())
 }
@@ -141,9 +163,9 @@ fn is_cut<R: Abort>(rt: &R, alloc: Global) -> Result<(), Fail> {
     let before = served_journal(alloc)?;
     let mut staged = before.to_vec(alloc)?;
     staged.extend_from_slice(&[0, 0, 0, 8, 4, 0])?;
-    let replies = [Reply::At(waiting(0, 2))];
-    let found = gives(rt, alloc, (&staged, &[]), &[Call::Look(0)], &replies, 2)?;
-    leaves(rt, &found.bytes, &before);
+    let replies = [Reply::At(FIRST)];
+    let left = gives(rt, alloc, (&staged, &[]), &[Call::Look(0)], &replies, 2)?;
+    leaves(rt, &left.bytes, &before);
     Ok(())
 }
 
@@ -154,7 +176,7 @@ fn a_session_goes_on_after_a_crash(rt: HostRuntime) -> Result<(), Fail> {
     is_cut(&rt, alloc)?;
     let after = third_journal(alloc, &ANSWERED)?;
     let calls = [Call::Look(0), Call::Serve(0)];
-    let replies = [Reply::At(Place::Pending(1)), Reply::At(waiting(1, 4))];
+    let replies = [Reply::At(Place::Pending(1)), Reply::At(SECOND)];
     gives(&rt, alloc, (&after, &[]), &calls, &replies, 4)?;
     Ok(())
 }

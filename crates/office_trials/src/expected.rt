@@ -2,12 +2,22 @@
 
 use crate::counted_disk::Count;
 use crate::equal::{are_equal, is_equal};
-use crate::outcome::{After, Found, Outcome, Reply};
+use crate::outcome::{Found, Outcome, Reply};
 use exam_office::{OpenFault, Summary};
+use history_model::Counts;
 use std::process::Abort;
 
+/// What was found, where the file was opened.
+pub(crate) fn found_in<'a, R: Abort>(rt: &R, outcome: &'a Outcome) -> &'a Found {
+    match &outcome.found {
+        Ok(found) => found,
+        Err(_) => panic!(rt; "not opened"),
+    }
+}
+
 /// The calls gave these replies, and the history has so many entries after them.
-pub(crate) fn shows<R: Abort>(rt: &R, found: &Found, replies: &[Reply], entries: u64) {
+pub(crate) fn shows<R: Abort>(rt: &R, outcome: &Outcome, replies: &[Reply], entries: u64) {
+    let found = found_in(rt, outcome);
     are_equal(rt, found.replies.as_slice(), replies);
     is_equal(rt, &found.summary.entries, &entries);
 }
@@ -37,17 +47,16 @@ pub(crate) fn sums_up<R: Abort>(rt: &R, found: &Summary, summary: &Summary) {
     is_equal(rt, found, summary);
 }
 
-/// Each item was shown and was eligible in so many finished sessions.
-pub(crate) fn exposes<R: Abort>(rt: &R, found: &Found, shown: &[u32], eligible: &[u32]) {
-    are_equal(rt, found.shown.as_slice(), shown);
-    are_equal(rt, found.eligible.as_slice(), eligible);
+/// In how many finished sessions each item was shown, and was eligible.
+pub(crate) fn exposes<R: Abort>(rt: &R, found: &Found, rows: &[Counts]) {
+    are_equal(rt, found.exposure.rows.as_slice(), rows);
 }
 
 /// The history, the file and the count of the disk's calls are the same.
-pub(crate) fn is_same<R: Abort>(rt: &R, now: &After, was: &After) {
-    sums_up(rt, &now.found.summary, &was.found.summary);
-    leaves(rt, &now.bytes, &was.bytes);
-    counts(rt, now.count, was.count.calls, was.count.faults);
+pub(crate) fn is_same<R: Abort>(rt: &R, now: &Outcome, was: &Outcome) {
+    sums_up(rt, &found_in(rt, now).summary, &found_in(rt, was).summary);
+    leaves(rt, &now.left.bytes, &was.left.bytes);
+    is_equal(rt, &now.left.count, &was.left.count);
 }
 
 /// Why the file was not opened; none where it was.
@@ -61,5 +70,5 @@ fn fault_of(outcome: &Outcome) -> Option<OpenFault> {
 /// The file was refused with this fault, or opened where there is none, and has these bytes then.
 pub(crate) fn ends<R: Abort>(rt: &R, outcome: &Outcome, fault: Option<OpenFault>, bytes: &[u8]) {
     is_equal(rt, &fault_of(outcome), &fault);
-    are_equal(rt, outcome.bytes.as_slice(), bytes);
+    are_equal(rt, outcome.left.bytes.as_slice(), bytes);
 }

@@ -1,9 +1,9 @@
 //! What an office does after a call of the disk has failed.
 
-use crate::cases::{Case, adding_call, cases, opens};
+use crate::cases::{CASES, Case, adding_call, case_of, opens};
 use crate::expected::{counts, ends, fails, leaves};
-use crate::files::{ANSWERED, served_journal, third_journal};
-use crate::outcome::{Call, Reply, WORKED, gives, run};
+use crate::files::{ANSWERED, longer, served_journal, third_journal};
+use crate::outcome::{Call, Left, Reply, WORKED, gives, run};
 use exam_office::{OpenFault, Place, Refusal};
 use std::alloc::Global;
 use std::process::Abort;
@@ -22,6 +22,20 @@ fn staged_journal(alloc: Global) -> Result<Vec<u8>, Fail> {
     Ok(staged)
 }
 
+/// These answers give these replies over the journal of the served session, where these calls of the disk fail. The history
+/// has so many entries then.
+fn answers<R: Abort>(
+    rt: &R,
+    alloc: Global,
+    fails: &[u64],
+    calls: &[Call],
+    replies: &[Reply],
+    entries: u64,
+) -> Result<Left, Fail> {
+    let before = served_journal(alloc)?;
+    gives(rt, alloc, (&before, fails), calls, replies, entries)
+}
+
 /// This call of the disk fails in the answer, after which so many were made and the file has these
 /// bytes.
 fn answers_once<R: Abort>(
@@ -31,10 +45,9 @@ fn answers_once<R: Abort>(
     calls: u64,
     bytes: &[u8],
 ) -> Result<(), Fail> {
-    let before = served_journal(alloc)?;
-    let once = gives(rt, alloc, (&before, &[fail]), &[ANSWER], &[FAILED], 2)?;
-    counts(rt, once.count, calls, 1);
-    leaves(rt, &once.bytes, bytes);
+    let left = answers(rt, alloc, &[fail], &[ANSWER], &[FAILED], 2)?;
+    counts(rt, left.count, calls, 1);
+    leaves(rt, &left.bytes, bytes);
     Ok(())
 }
 
@@ -46,18 +59,10 @@ fn answers_twice<R: Abort>(
     calls: u64,
     bytes: &[u8],
 ) -> Result<(), Fail> {
-    let before = served_journal(alloc)?;
     let replies = [FAILED, ANSWERED_REPLY];
-    let twice = gives(
-        rt,
-        alloc,
-        (&before, &[fail]),
-        &[ANSWER, ANSWER],
-        &replies,
-        3,
-    )?;
-    counts(rt, twice.count, calls, 1);
-    leaves(rt, &twice.bytes, bytes);
+    let left = answers(rt, alloc, &[fail], &[ANSWER, ANSWER], &replies, 3)?;
+    counts(rt, left.count, calls, 1);
+    leaves(rt, &left.bytes, bytes);
     Ok(())
 }
 
@@ -127,41 +132,40 @@ fn fail_each<R: Abort>(rt: &R, alloc: Global, case: &Case) -> Result<(), Fail> {
     Ok(())
 }
 
+fn fail_each_of<R: Abort>(rt: &R, alloc: Global, number: usize) -> Result<(), Fail> {
+    match case_of(alloc, number) {
+        Ok(case) => fail_each(rt, alloc, &case),
+        Err(fail) => Err(fail),
+    }
+}
+
 #[test]
 fn each_call_of_the_disk_fails(rt: HostRuntime) -> Result<(), Fail> {
-    let alloc = rt.alloc();
-    let cases = cases(alloc)?;
-    for case in &cases {
-        fail_each(&rt, alloc, case)?;
+    for number in 0..CASES {
+        fail_each_of(&rt, rt.alloc(), number)?;
     }
     Ok(())
 }
 
 /// A call of the disk fails in the first answer, and one in the second. The third answer keeps or
 /// drops the record.
-fn fail_twice<R: Abort>(rt: &R, alloc: Global, two: &[u64]) -> Result<(), Fail> {
-    let before = served_journal(alloc)?;
-    let calls = [ANSWER, ANSWER, ANSWER];
+fn fail_twice<R: Abort>(rt: &R, alloc: Global, two: &[u64], third: &[u8]) -> Result<(), Fail> {
     let replies = [FAILED, FAILED, ANSWERED_REPLY];
-    let left = gives(rt, alloc, (&before, two), &calls, &replies, 3)?;
+    let left = answers(rt, alloc, two, &[ANSWER; 3], &replies, 3)?;
     fails(rt, left.count, 2);
-    leaves(rt, &left.bytes, &third_journal(alloc, &ANSWERED)?);
+    leaves(rt, &left.bytes, third);
     Ok(())
 }
 
 /// After the first sync of the answer failed, mending is calls 14 to 17: sync, read, cut, sync.
 /// After the last one failed, it is calls 16 and 17: sync, read.
+const MENDING: [[u64; 2]; 6] = [[13, 14], [13, 15], [13, 16], [13, 17], [15, 16], [15, 17]];
+
 #[test]
 fn each_call_of_mending_fails(rt: HostRuntime) -> Result<(), Fail> {
-    for two in [
-        [13u64, 14],
-        [13, 15],
-        [13, 16],
-        [13, 17],
-        [15, 16],
-        [15, 17],
-    ] {
-        fail_twice(&rt, rt.alloc(), &two)?;
+    let third = third_journal(rt.alloc(), &ANSWERED)?;
+    for two in &MENDING {
+        fail_twice(&rt, rt.alloc(), two, &third)?;
     }
     Ok(())
 }
@@ -169,26 +173,30 @@ fn each_call_of_mending_fails(rt: HostRuntime) -> Result<(), Fail> {
 /// A journal of two records with two bytes after its last gate is opened by 13 calls: sync, length,
 /// header, each gate, the last one twice, two for each record, cut, sync. The one of this number
 /// fails; 13 is none of them.
-fn fail_opening<R: Abort>(rt: &R, alloc: Global, fail: u64) -> Result<(), Fail> {
-    let whole = served_journal(alloc)?;
-    let mut longer = whole.to_vec(alloc)?;
-    longer.extend_from_slice(&[1, 1])?;
-    let outcome = run(alloc, &WORKED, &longer, &[fail], &[])?;
+fn fail_opening<R: Abort>(
+    rt: &R,
+    alloc: Global,
+    (whole, longer): (&[u8], &[u8]),
+    fail: u64,
+) -> Result<(), Fail> {
+    let outcome = run(alloc, &WORKED, longer, &[fail], &[])?;
     let (fault, faults) = if fail < 13 {
         (Some(OpenFault::Disk), 1)
     } else {
         (None, 0)
     };
-    let left = if fail < 12 { &longer } else { &whole };
-    ends(rt, &outcome, fault, left);
-    counts(rt, outcome.count, fail.min(12) + 1, faults);
+    let bytes = if fail < 12 { longer } else { whole };
+    ends(rt, &outcome, fault, bytes);
+    counts(rt, outcome.left.count, fail.min(12) + 1, faults);
     Ok(())
 }
 
 #[test]
 fn each_call_of_opening_fails(rt: HostRuntime) -> Result<(), Fail> {
+    let whole = served_journal(rt.alloc())?;
+    let longer = longer(rt.alloc(), &whole)?;
     for fail in 0..14u64 {
-        fail_opening(&rt, rt.alloc(), fail)?;
+        fail_opening(&rt, rt.alloc(), (&whole, &longer), fail)?;
     }
     Ok(())
 }
@@ -202,9 +210,8 @@ fn another_follows<R: Abort>(
     reply: Reply,
     third: &[u8],
 ) -> Result<(), Fail> {
-    let before = served_journal(alloc)?;
     let calls = [ANSWER, Call::Answer(0, 0, 0)];
-    let left = gives(rt, alloc, (&before, &[fail]), &calls, &[FAILED, reply], 3)?;
+    let left = answers(rt, alloc, &[fail], &calls, &[FAILED, reply], 3)?;
     leaves(rt, &left.bytes, &third_journal(alloc, third)?);
     Ok(())
 }

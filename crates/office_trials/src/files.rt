@@ -85,3 +85,10 @@ pub(crate) fn third_journal(alloc: Global, third: &[u8]) -> Result<Vec<u8>, Fail
     let second = served(alloc, 1, &BEST)?;
     journal(alloc, &[&first, &second, third])
 }
+
+/// The same bytes and two more.
+pub(crate) fn longer(alloc: Global, bytes: &[u8]) -> Result<Vec<u8>, Fail> {
+    let mut longer = bytes.to_vec(alloc)?;
+    longer.extend_from_slice(&[1, 1])?;
+    Ok(longer)
+}

@@ -317,14 +317,20 @@ mod tests {
     }
 
     // Adding stopped after none, one, two, three and four of its calls.
+    const STOPS: [(u64, &[u8]); 5] = [
+        (4, &EMPTY),
+        (5, &STAGED),
+        (6, &STAGED),
+        (7, &ADDED),
+        (8, &ADDED),
+    ];
+
     #[test]
     fn a_record_stopped_after_each_call(rt: HostRuntime) -> Result<(), Fail> {
-        let alloc = rt.alloc();
-        stops(&rt, alloc, 4, &EMPTY)?;
-        stops(&rt, alloc, 5, &STAGED)?;
-        stops(&rt, alloc, 6, &STAGED)?;
-        stops(&rt, alloc, 7, &ADDED)?;
-        stops(&rt, alloc, 8, &ADDED)
+        for (call, bytes) in &STOPS {
+            stops(&rt, rt.alloc(), *call, bytes)?;
+        }
+        Ok(())
     }
 
     // A part of the file, and the same where each byte after the ninth is 1.
@@ -386,6 +392,17 @@ mod tests {
         Ok(())
     }
 
+    // The three records with these values at these places.
+    fn altered(changes: &[(usize, u8)]) -> [u8; 30] {
+        let mut bytes = THREE;
+        for (at, value) in changes {
+            if *at < 30 {
+                bytes[*at] = *value;
+            }
+        }
+        bytes
+    }
+
     // The gates of the three records and the last one, and how many records end there.
     const GATES: [(usize, (usize, u64)); 4] = [
         (8, (0, 9)),
@@ -395,44 +412,41 @@ mod tests {
     ];
 
     // A closed gate ends the journal, whatever value it has.
-    #[test]
-    fn a_byte_of_each_gate_altered(rt: HostRuntime) -> Result<(), Fail> {
-        for gate in [0u8, 2, 3, 129, 255] {
-            for (at, records) in GATES {
-                let mut bytes = THREE;
-                if at < 30 {
-                    bytes[at] = gate;
-                }
-                finds(&rt, rt.alloc(), &bytes, Ok(records));
-            }
+    fn ends_at_each_gate<R: Abort>(rt: &R, alloc: Global, gate: u8) {
+        for (at, records) in &GATES {
+            finds(rt, alloc, &altered(&[(*at, gate)]), Ok(*records));
         }
-        Ok(())
     }
 
-    // An open gate at the end has no record after it.
     #[test]
-    fn an_open_gate_at_the_end(rt: HostRuntime) {
-        let mut bytes = THREE;
-        bytes[29] = 1;
-        finds(&rt, rt.alloc(), &bytes, Err(OpenFault::Cut(29)));
+    fn a_byte_of_each_gate_altered(rt: HostRuntime) {
+        for gate in &[0u8, 2, 3, 129, 255] {
+            ends_at_each_gate(&rt, rt.alloc(), *gate);
+        }
     }
 
-    // The faults of opening, the first that holds: the limit, the header, then frame by frame the length and the cut.
+    // Changes of the three records, each with the first fault that holds: frame by frame the length and the cut. An open gate at
+    // the end has no record after it.
+    const CHANGES: [(&[(usize, u8)], OpenFault); 5] = [
+        (&[(29, 1)], OpenFault::Cut(29)),
+        (&[(18, 0)], OpenFault::Length(14)),
+        (&[(18, 0), (16, 2)], OpenFault::Cut(14)),
+        (&[(18, 1), (16, 2)], OpenFault::Length(14)),
+        (&[(18, 1), (16, 2), (12, 200)], OpenFault::Cut(8)),
+    ];
+
     #[test]
-    fn the_first_fault_is_given(rt: HostRuntime) -> Result<(), Fail> {
-        let alloc = rt.alloc();
-        finds(&rt, alloc, &[0u8; 101], Err(OpenFault::TooLong(101)));
-        finds(&rt, alloc, &[1u8; 100], Err(OpenFault::Header));
-        let mut bytes = THREE;
-        bytes[18] = 0;
-        finds(&rt, alloc, &bytes, Err(OpenFault::Length(14)));
-        bytes[16] = 2;
-        finds(&rt, alloc, &bytes, Err(OpenFault::Cut(14)));
-        bytes[18] = 1;
-        finds(&rt, alloc, &bytes, Err(OpenFault::Length(14)));
-        bytes[12] = 200;
-        finds(&rt, alloc, &bytes, Err(OpenFault::Cut(8)));
-        Ok(())
+    fn the_first_fault_of_the_frames(rt: HostRuntime) {
+        for (changes, fault) in &CHANGES {
+            finds(&rt, rt.alloc(), &altered(changes), Err(*fault));
+        }
+    }
+
+    // The limit comes first, and then the header.
+    #[test]
+    fn the_limit_and_the_header(rt: HostRuntime) {
+        finds(&rt, rt.alloc(), &[0; 101], Err(OpenFault::TooLong(101)));
+        finds(&rt, rt.alloc(), &[1; 100], Err(OpenFault::Header));
     }
 
     // The payload of this number, and the place of its gate.

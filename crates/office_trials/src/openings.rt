@@ -1,11 +1,11 @@
 //! Files that an office opens, and each fault of one.
 
 use crate::equal::is_equal;
-use crate::expected::{counts, ends, leaves};
+use crate::expected::{counts, ends, found_in, leaves, shows};
 use crate::files::{
-    BEST, TOO_HIGH, empty_journal, journal, second_journal, served, served_journal, started,
+    BEST, TOO_HIGH, empty_journal, journal, longer, second_journal, served, served_journal, started,
 };
-use crate::outcome::{Call, Numbers, Reply, WORKED, gives, run, waiting};
+use crate::outcome::{Call, FIRST, Numbers, Reply, WORKED, gives, run};
 use answer_journal::OpenFault as JournalFault;
 use exam_office::{OpenFault, Refusal, Summary};
 use exam_records::RecordFault;
@@ -24,19 +24,19 @@ fn is_proved_by_one_node<R: Abort>(rt: &R, summary: &Summary) {
 fn a_served_item_with_its_tree(rt: HostRuntime) -> Result<(), Fail> {
     let alloc = rt.alloc();
     let bytes = served_journal(alloc)?;
-    let replies = [Reply::At(waiting(0, 2))];
-    let found = gives(&rt, alloc, (&bytes, &[]), &[Call::Look(0)], &replies, 2)?;
-    is_proved_by_one_node(&rt, &found.found.summary);
-    leaves(&rt, &found.bytes, &bytes);
-    counts(&rt, found.count, 12, 0);
+    let outcome = run(alloc, &WORKED, &bytes, &[], &[Call::Look(0)])?;
+    shows(&rt, &outcome, &[Reply::At(FIRST)], 2);
+    is_proved_by_one_node(&rt, &found_in(&rt, &outcome).summary);
+    leaves(&rt, &outcome.left.bytes, &bytes);
+    counts(&rt, outcome.left.count, 12, 0);
     Ok(())
 }
 
 /// The file becomes the empty journal of nine bytes.
 fn opens_as_empty<R: Abort>(rt: &R, alloc: Global, bytes: &[u8]) -> Result<(), Fail> {
     let replies = [Reply::Refused(Refusal::NoSession(0))];
-    let found = gives(rt, alloc, (bytes, &[]), &[Call::Look(0)], &replies, 0)?;
-    leaves(rt, &found.bytes, &empty_journal(alloc)?);
+    let left = gives(rt, alloc, (bytes, &[]), &[Call::Look(0)], &replies, 0)?;
+    leaves(rt, &left.bytes, &empty_journal(alloc)?);
     Ok(())
 }
 
@@ -50,31 +50,46 @@ fn files_of_no_record(rt: HostRuntime) -> Result<(), Fail> {
     opens_as_empty(&rt, alloc, &empty)
 }
 
-/// A file that is no history, and its fault.
-#[derive(Drop)]
-struct Refused {
-    bytes: Vec<u8>,
-    fault: OpenFault,
+/// The file is refused with this fault, and left as it was.
+fn refuses<R: Abort>(rt: &R, alloc: Global, bytes: &[u8], fault: OpenFault) -> Result<(), Fail> {
+    let outcome = run(alloc, &WORKED, bytes, &[], &[])?;
+    ends(rt, &outcome, Some(fault), bytes);
+    Ok(())
 }
 
-/// The first bytes of a file.
-fn cut_to(alloc: Global, whole: &[u8], length: usize) -> Result<Vec<u8>, Fail> {
-    let mut bytes = whole.to_vec(alloc)?;
-    bytes.truncate(length);
-    Ok(bytes)
+/// Lengths to which the journal with gates at 8, 90 and 182 is cut, each with the place of the record that is cut.
+const CUTS: [(usize, u64); 4] = [(10, 8), (90, 8), (91, 90), (182, 90)];
+
+/// A front of the journal, which is refused as cut.
+fn refuses_cut<R: Abort>(
+    rt: &R,
+    alloc: Global,
+    whole: &[u8],
+    (length, place): (usize, u64),
+) -> Result<(), Fail> {
+    let front = whole.get(..length).ok_or("a file as long as its front")?;
+    refuses(
+        rt,
+        alloc,
+        front,
+        OpenFault::Journal(JournalFault::Cut(place)),
+    )
 }
 
-/// Those whose frames are at fault. The journal has gates at 8, 90 and 182.
-fn bad_frames(alloc: Global) -> Result<Vec<Refused>, Fail> {
+#[test]
+fn frames_at_fault(rt: HostRuntime) -> Result<(), Fail> {
+    let alloc = rt.alloc();
+    refuses(
+        &rt,
+        alloc,
+        &[1; 10],
+        OpenFault::Journal(JournalFault::Header),
+    )?;
     let whole = served_journal(alloc)?;
-    let mut refused = Vec::new(alloc);
-    let header = OpenFault::Journal(JournalFault::Header);
-    push_file(&mut refused, Ok(vec![in alloc; 1; 10]?), header)?;
-    for (length, place) in [(10usize, 8u64), (90, 8), (91, 90), (182, 90)] {
-        let fault = OpenFault::Journal(JournalFault::Cut(place));
-        push_file(&mut refused, cut_to(alloc, &whole, length), fault)?;
+    for cut in &CUTS {
+        refuses_cut(&rt, alloc, &whole, *cut)?;
     }
-    Ok(refused)
+    Ok(())
 }
 
 fn changed(alloc: Global, bytes: &[u8], at: usize, value: u8) -> Result<Vec<u8>, Fail> {
@@ -86,150 +101,161 @@ fn changed(alloc: Global, bytes: &[u8], at: usize, value: u8) -> Result<Vec<u8>,
     Ok(copy)
 }
 
-/// Adds a file that is no history.
-fn push_file(
-    refused: &mut Vec<Refused>,
-    bytes: Result<Vec<u8>, Fail>,
+/// The file with this byte is refused with this fault.
+fn refuses_changed<R: Abort>(
+    rt: &R,
+    alloc: Global,
+    whole: &[u8],
+    (at, value): (usize, u8),
     fault: OpenFault,
 ) -> Result<(), Fail> {
-    refused.push(Refused {
-        bytes: bytes?,
-        fault,
-    })?;
-    Ok(())
+    let file = changed(alloc, whole, at, value)?;
+    refuses(rt, alloc, &file, fault)
 }
 
-/// The journal with a length of 131,073, which is 0x020001.
-fn long_length(alloc: Global, whole: &[u8]) -> Result<Vec<u8>, Fail> {
-    let high = changed(alloc, whole, 92, 2)?;
-    changed(alloc, &high, 94, 1)
-}
-
-/// A length of 0, and one of 131,073.
-fn bad_lengths(alloc: Global) -> Result<Vec<Refused>, Fail> {
-    let whole = served_journal(alloc)?;
-    let mut refused = Vec::new(alloc);
+/// A length of 0, and one of 131,073, which is 0x020001.
+#[test]
+fn lengths_at_fault(rt: HostRuntime) -> Result<(), Fail> {
+    let alloc = rt.alloc();
     let fault = OpenFault::Journal(JournalFault::Length(90));
-    push_file(&mut refused, changed(alloc, &whole, 94, 0), fault)?;
-    push_file(&mut refused, long_length(alloc, &whole), fault)?;
-    Ok(refused)
+    let whole = served_journal(alloc)?;
+    refuses_changed(&rt, alloc, &whole, (94, 0), fault)?;
+    let high = changed(alloc, &whole, 92, 2)?;
+    refuses_changed(&rt, alloc, &high, (94, 1), fault)
 }
 
-fn push_second(
+/// The file is refused with this fault, and so it is with two bytes more: what is after the last gate is cut once each record
+/// was taken, and not before.
+fn refuses_longer<R: Abort>(
+    rt: &R,
     alloc: Global,
-    refused: &mut Vec<Refused>,
+    bytes: &[u8],
+    fault: OpenFault,
+) -> Result<(), Fail> {
+    refuses(rt, alloc, bytes, fault)?;
+    let longer = longer(alloc, bytes)?;
+    refuses(rt, alloc, &longer, fault)
+}
+
+/// The same of the journal with this second record.
+fn refuses_second<R: Abort>(
+    rt: &R,
+    alloc: Global,
     second: &[u8],
     fault: OpenFault,
 ) -> Result<(), Fail> {
-    push_file(refused, second_journal(alloc, second), fault)
+    let bytes = second_journal(alloc, second)?;
+    refuses_longer(rt, alloc, &bytes, fault)
 }
 
-/// The same where the record is of a served item, with this mark and this tree.
-fn push_served(
-    alloc: Global,
-    refused: &mut Vec<Refused>,
-    mark: u8,
-    tree: &[u8],
-) -> Result<(), Fail> {
-    let second = served(alloc, mark, tree)?;
-    push_second(alloc, refused, &second, OpenFault::BadTree(90))
-}
+/// Second records that are none or may not follow, each with the fault.
+const SECONDS: [(&[u8], OpenFault); 4] = [
+    (&[6], OpenFault::BadRecord(90, RecordFault::Kind(0))),
+    (
+        &[4, 0, 0, 0, 0, 0, 0],
+        OpenFault::BadRecord(90, RecordFault::Short),
+    ),
+    (
+        &[5, 0, 0, 0, 0, 0],
+        OpenFault::BadRecord(90, RecordFault::Extra(5)),
+    ),
+    (
+        &[5, 0, 0, 0, 1],
+        OpenFault::Illegal(90, Illegal::NoSession(1)),
+    ),
+];
 
-/// The same where the record is of a session started for the booking of session 0.
-fn push_booked(alloc: Global, refused: &mut Vec<Refused>) -> Result<(), Fail> {
-    let second = started(alloc, 1, 70)?;
-    let booked = OpenFault::Illegal(90, Illegal::Booked(0));
-    push_second(alloc, refused, &second, booked)
-}
-
-/// A second record that is none, or may not follow. Where a form isn't marked proved its tree has
-/// to be spent, and a tree without an open leaf isn't.
-fn bad_records(alloc: Global) -> Result<Vec<Refused>, Fail> {
-    let mut refused = Vec::new(alloc);
-    let kind = OpenFault::BadRecord(90, RecordFault::Kind(0));
-    push_second(alloc, &mut refused, &[6], kind)?;
-    let short = OpenFault::BadRecord(90, RecordFault::Short);
-    push_second(alloc, &mut refused, &[4, 0, 0, 0, 0, 0, 0], short)?;
-    let extra = OpenFault::BadRecord(90, RecordFault::Extra(5));
-    push_second(alloc, &mut refused, &[5, 0, 0, 0, 0, 0], extra)?;
-    let none = OpenFault::Illegal(90, Illegal::NoSession(1));
-    push_second(alloc, &mut refused, &[5, 0, 0, 0, 1], none)?;
-    push_booked(alloc, &mut refused)?;
-    push_served(alloc, &mut refused, 1, &TOO_HIGH)?;
-    push_served(alloc, &mut refused, 0, &BEST)?;
-    Ok(refused)
-}
-
-/// Gates at 8, 14 and 20, and the last one is cut.
-fn cut_journal(alloc: Global) -> Result<Vec<u8>, Fail> {
-    let mut cut = journal(alloc, &[&[6], &[6]])?;
-    cut.truncate(20);
-    Ok(cut)
-}
-
-/// Gates at 8, 18 and 24.
-fn unlawful_journal(alloc: Global) -> Result<Vec<u8>, Fail> {
-    journal(alloc, &[&[5, 0, 0, 0, 0], &[6]])
-}
-
-/// The same with a second length of 0.
-fn unlawful_length(alloc: Global) -> Result<Vec<u8>, Fail> {
-    changed(alloc, &unlawful_journal(alloc)?, 22, 0)
-}
-
-/// Files with two faults: that of a frame comes before that of a record, and that of a record
-/// before that of the next.
-fn first_faults(alloc: Global) -> Result<Vec<Refused>, Fail> {
-    let mut refused = Vec::new(alloc);
-    let cut = OpenFault::Journal(JournalFault::Cut(14));
-    push_file(&mut refused, cut_journal(alloc), cut)?;
-    let length = OpenFault::Journal(JournalFault::Length(18));
-    push_file(&mut refused, unlawful_length(alloc), length)?;
-    let none = OpenFault::Illegal(8, Illegal::NoSession(0));
-    push_file(&mut refused, unlawful_journal(alloc), none)?;
-    let kind = OpenFault::BadRecord(8, RecordFault::Kind(0));
-    push_file(
-        &mut refused,
-        journal(alloc, &[&[6], &[5, 0, 0, 0, 0]]),
-        kind,
-    )?;
-    Ok(refused)
-}
-
-/// Each file is refused with its fault, and left as it was.
-fn refuses<R: Abort>(rt: &R, alloc: Global, group: &[Refused]) -> Result<(), Fail> {
-    for refused in group {
-        let outcome = run(alloc, &WORKED, &refused.bytes, &[], &[])?;
-        ends(rt, &outcome, Some(refused.fault), &refused.bytes);
+#[test]
+fn second_records_at_fault(rt: HostRuntime) -> Result<(), Fail> {
+    for (second, fault) in &SECONDS {
+        refuses_second(&rt, rt.alloc(), second, *fault)?;
     }
     Ok(())
 }
 
+/// A session is started for the booking of session 0.
 #[test]
-fn each_fault_of_a_file(rt: HostRuntime) -> Result<(), Fail> {
-    let alloc = rt.alloc();
-    refuses(&rt, alloc, &bad_frames(alloc)?)?;
-    refuses(&rt, alloc, &bad_lengths(alloc)?)?;
-    refuses(&rt, alloc, &bad_records(alloc)?)?;
-    refuses(&rt, alloc, &first_faults(alloc)?)
+fn a_booking_twice(rt: HostRuntime) -> Result<(), Fail> {
+    let second = started(rt.alloc(), 1, 70)?;
+    let booked = OpenFault::Illegal(90, Illegal::Booked(0));
+    refuses_second(&rt, rt.alloc(), &second, booked)
 }
 
-/// The file with two bytes more is refused with the same fault, and left as it was.
-fn refuses_longer<R: Abort>(rt: &R, alloc: Global, refused: &Refused) -> Result<(), Fail> {
-    let mut longer = refused.bytes.to_vec(alloc)?;
-    longer.extend_from_slice(&[1, 1])?;
-    let outcome = run(alloc, &WORKED, &longer, &[], &[])?;
-    ends(rt, &outcome, Some(refused.fault), &longer);
-    Ok(())
+/// The second record is of a served item, with this mark and this tree.
+fn refuses_tree<R: Abort>(rt: &R, alloc: Global, mark: u8, tree: &[u8]) -> Result<(), Fail> {
+    let second = served(alloc, mark, tree)?;
+    refuses_second(rt, alloc, &second, OpenFault::BadTree(90))
 }
 
-/// What is after the last gate is cut once each record was taken, and not before.
+/// Where a form isn't marked proved its tree has to be spent, and a tree without an open leaf isn't.
 #[test]
-fn a_refused_file_is_not_cut(rt: HostRuntime) -> Result<(), Fail> {
-    let alloc = rt.alloc();
-    let group = bad_records(alloc)?;
-    for refused in &group {
-        refuses_longer(&rt, alloc, refused)?;
+fn trees_at_fault(rt: HostRuntime) -> Result<(), Fail> {
+    refuses_tree(&rt, rt.alloc(), 1, &TOO_HIGH)?;
+    refuses_tree(&rt, rt.alloc(), 0, &BEST)
+}
+
+/// Records of files with two faults, a place and the byte that is put there (8 and 1 change nothing), the length, and the first
+/// fault: that of a frame comes before that of a record, and that of a record before that of the next.
+const TWO_FAULTS: [([&[u8]; 2], (usize, u8), usize, OpenFault); 4] = [
+    // Gates at 8, 14 and 20, and the last one is cut.
+    (
+        [&[6], &[6]],
+        (8, 1),
+        20,
+        OpenFault::Journal(JournalFault::Cut(14)),
+    ),
+    // Gates at 8, 18 and 24; the second length is 0.
+    (
+        [&[5, 0, 0, 0, 0], &[6]],
+        (22, 0),
+        25,
+        OpenFault::Journal(JournalFault::Length(18)),
+    ),
+    (
+        [&[5, 0, 0, 0, 0], &[6]],
+        (8, 1),
+        25,
+        OpenFault::Illegal(8, Illegal::NoSession(0)),
+    ),
+    (
+        [&[6], &[5, 0, 0, 0, 0]],
+        (8, 1),
+        25,
+        OpenFault::BadRecord(8, RecordFault::Kind(0)),
+    ),
+];
+
+/// A journal of these records with this byte, cut to this length.
+fn altered(
+    alloc: Global,
+    records: &[&[u8]],
+    (at, value): (usize, u8),
+    length: usize,
+) -> Result<Vec<u8>, Fail> {
+    let whole = journal(alloc, records)?;
+    let mut file = changed(alloc, &whole, at, value)?;
+    file.truncate(length);
+    Ok(file)
+}
+
+/// Such a file is refused with its fault.
+fn refuses_altered<R: Abort>(
+    rt: &R,
+    alloc: Global,
+    records: &[&[u8]],
+    byte: (usize, u8),
+    length: usize,
+    fault: OpenFault,
+) -> Result<(), Fail> {
+    let file = altered(alloc, records, byte, length)?;
+    is_equal(rt, &file.len(), &length);
+    refuses(rt, alloc, &file, fault)
+}
+
+#[test]
+fn the_first_of_two_faults(rt: HostRuntime) -> Result<(), Fail> {
+    for (records, byte, length, fault) in &TWO_FAULTS {
+        refuses_altered(&rt, rt.alloc(), records, *byte, *length, *fault)?;
     }
     Ok(())
 }

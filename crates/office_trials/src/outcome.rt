@@ -10,13 +10,14 @@ use constraint_model::Spec;
 use exam_edge::{Disk, MemoryDisk};
 use exam_model::{Draft, Rate};
 use exam_office::{Begun, Office, OpenFault, Place, Refusal, Summary};
+use history_model::Exposure;
 use std::alloc::{AllocError, Global};
 use std::process::Abort;
 use std::test::Fail;
 use trial_cases::{bank_a, draft_a, set_of};
 
 /// The numbers of a plan in which the trials differ from the worked one.
-#[derive(Clone, Copy, Debug, PartialEq, Eq)]
+#[derive(Clone, Copy)]
 pub(crate) struct Numbers {
     pub rate: Rate,
     pub sessions: u32,
@@ -31,7 +32,7 @@ pub(crate) const WORKED: Numbers = Numbers {
 };
 
 /// A call of an office.
-#[derive(Clone, Copy, Debug, PartialEq, Eq)]
+#[derive(Clone, Copy)]
 pub(crate) enum Call {
     Begin(u64),
     /// What is assembled for a session is committed.
@@ -54,37 +55,70 @@ pub(crate) enum Reply {
     Refused(Refusal),
 }
 
-/// A started session of this number.
-pub(crate) fn begun(session: u32, fresh: bool) -> Reply {
-    Reply::Begun(Begun { session, fresh })
-}
+/// Session 0 is started by the call.
+pub(crate) const STARTED: Reply = Reply::Begun(Begun {
+    session: 0,
+    fresh: true,
+});
 
-/// The item of a step was served from a form that is proved best.
-pub(crate) fn waiting(step: u16, item: u16) -> Place {
-    Place::Waiting {
-        step,
-        item,
-        proved: true,
-    }
-}
+/// Session 0 was started before.
+pub(crate) const FOUND: Reply = Reply::Begun(Begun {
+    session: 0,
+    fresh: false,
+});
 
-/// What the calls gave, the history after them, and in how many finished sessions each item was
-/// shown and was eligible.
-#[derive(Debug, Drop)]
+/// The first item of the worked session waits for an answer. It was served from a form that is proved best.
+pub(crate) const FIRST: Place = Place::Waiting {
+    step: 0,
+    item: 2,
+    proved: true,
+};
+
+/// The same of the second item.
+pub(crate) const SECOND: Place = Place::Waiting {
+    step: 1,
+    item: 4,
+    proved: true,
+};
+
+/// The same of the third item.
+pub(crate) const THIRD: Place = Place::Waiting {
+    step: 2,
+    item: 1,
+    proved: true,
+};
+
+/// The calls of the worked session, each of which adds an entry.
+pub(crate) const SESSION: [Call; 7] = [
+    Call::Begin(70),
+    Call::Serve(0),
+    Call::Answer(0, 0, 1),
+    Call::Serve(0),
+    Call::Answer(0, 1, 0),
+    Call::Serve(0),
+    Call::Answer(0, 2, 1),
+];
+
+/// What the calls gave, and the history and the exposure counts after them.
+#[derive(Drop)]
 pub(crate) struct Found {
     pub replies: Vec<Reply>,
     pub summary: Summary,
-    pub shown: Vec<u32>,
-    pub eligible: Vec<u32>,
+    pub exposure: Exposure,
 }
 
-/// Why a file was not opened, or what was found; the bytes of the disk in the end, and the count of
-/// its calls.
-#[derive(Debug, Drop)]
-pub(crate) struct Outcome {
-    pub found: Result<Found, OpenFault>,
+/// The bytes of the disk in the end, and the count of its calls.
+#[derive(Drop)]
+pub(crate) struct Left {
     pub bytes: Vec<u8>,
     pub count: Count,
+}
+
+/// Why a file was not opened, or what was found; and what is left on the disk.
+#[derive(Drop)]
+pub(crate) struct Outcome {
+    pub found: Result<Found, OpenFault>,
+    pub left: Left,
 }
 
 fn at(answer: Result<Place, Refusal>) -> Reply {
@@ -115,31 +149,38 @@ fn ask<D: Disk>(alloc: Global, office: &mut Office<D>, call: &Call) -> Result<Re
     }
 }
 
-/// In how many finished sessions each item was shown, and was eligible.
-fn exposed<D: Disk>(alloc: Global, office: &Office<D>) -> Result<(Vec<u32>, Vec<u32>), Fail> {
-    let Ok(exposure) = office.exposure(alloc) else {
-        return Err(Fail::from("no exposure"));
-    };
-    let mut shown = Vec::new(alloc);
-    let mut eligible = Vec::new(alloc);
-    for counts in exposure.rows.as_slice() {
-        shown.push(counts.alpha)?;
-        eligible.push(counts.eps)?;
+fn exposure_of<D: Disk>(alloc: Global, office: &Office<D>) -> Result<Exposure, Fail> {
+    match office.exposure(alloc) {
+        Ok(exposure) => Ok(exposure),
+        Err(_) => Err(Fail::from("no exposure")),
     }
-    Ok((shown, eligible))
 }
 
-fn ask_all<D: Disk>(alloc: Global, office: &mut Office<D>, calls: &[Call]) -> Result<Found, Fail> {
+fn replies_to<D: Disk>(
+    alloc: Global,
+    office: &mut Office<D>,
+    calls: &[Call],
+) -> Result<Vec<Reply>, Fail> {
     let mut replies = Vec::new(alloc);
     for call in calls {
         replies.push(ask(alloc, office, call)?)?;
     }
-    let (shown, eligible) = exposed(alloc, office)?;
+    Ok(replies)
+}
+
+fn ask_all<D: Disk>(alloc: Global, office: &mut Office<D>, calls: &[Call]) -> Result<Found, Fail> {
+    let replies = replies_to(alloc, office, calls)?;
     Ok(Found {
-        replies,
+        exposure: exposure_of(alloc, office)?,
         summary: office.summary(),
-        shown,
-        eligible,
+        replies,
+    })
+}
+
+fn left_on(alloc: Global, disk: &CountedDisk<MemoryDisk>) -> Result<Left, Fail> {
+    Ok(Left {
+        bytes: disk.disk.bytes().to_vec(alloc)?,
+        count: disk.count,
     })
 }
 
@@ -149,11 +190,10 @@ fn outcome_of(
     found: Result<Found, OpenFault>,
     disk: &CountedDisk<MemoryDisk>,
 ) -> Result<Outcome, Fail> {
-    Ok(Outcome {
-        found,
-        bytes: disk.disk.bytes().to_vec(alloc)?,
-        count: disk.count,
-    })
+    match left_on(alloc, disk) {
+        Ok(left) => Ok(Outcome { found, left }),
+        Err(fail) => Err(fail),
+    }
 }
 
 fn run_over<'a>(
@@ -173,7 +213,10 @@ fn run_over<'a>(
             let mut office = office;
             let asked = ask_all(alloc, &mut office, calls);
             let disk = office.into_disk();
-            outcome_of(alloc, Ok(asked?), &disk)
+            match asked {
+                Ok(found) => outcome_of(alloc, Ok(found), &disk),
+                Err(fail) => Err(fail),
+            }
         }
         Err((disk, fault)) => outcome_of(alloc, Err(fault), &disk),
     }
@@ -189,6 +232,17 @@ pub(crate) fn draft(alloc: Global, numbers: &Numbers) -> Result<Draft, AllocErro
     Ok(draft)
 }
 
+/// A disk with a file of these bytes. Its calls that have these numbers fail.
+pub(crate) fn disk_of(alloc: Global, bytes: &[u8], fails: &[u64]) -> Result<MemoryDisk, Fail> {
+    let bytes = bytes.to_vec(alloc)?;
+    let disk = MemoryDisk::of(alloc, bytes, fails.to_vec(alloc)?);
+    // There is room for each call that fails, so a crash leaves what the model of a disk has.
+    if disk.room() < fails.len() {
+        return Err(Fail::from("no room"));
+    }
+    Ok(disk)
+}
+
 /// An office is opened over a file of these bytes, and these calls are made. The calls of the disk
 /// that have these numbers fail. What owns a bank is a function of its own, since one that also
 /// owns a disk is dear to prove.
@@ -202,12 +256,25 @@ fn run_on(
 ) -> Result<Outcome, Fail>
     requires { IsPlanFor bank.now spec.now }
 {
-    let disk = MemoryDisk::of(alloc, bytes.to_vec(alloc)?, fails.to_vec(alloc)?);
-    // There is room for each call that fails, so a crash leaves what the model of a disk has.
-    if disk.room() < fails.len() {
-        return Err(Fail::from("no room"));
+    match disk_of(alloc, bytes, fails) {
+        Ok(disk) => run_over(alloc, bank, spec, CountedDisk::of(disk), calls),
+        Err(fail) => Err(fail),
     }
-    run_over(alloc, bank, spec, CountedDisk::of(disk), calls)
+}
+
+/// The same over a bank and the plan of a draft.
+fn run_by(
+    alloc: Global,
+    bank: &Bank,
+    draft: Draft,
+    bytes: &[u8],
+    fails: &[u64],
+    calls: &[Call],
+) -> Result<Outcome, Fail> {
+    match Spec::of(alloc, bank, draft) {
+        Ok(spec) => run_on(alloc, bank, &spec, bytes, fails, calls),
+        Err(_) => Err(Fail::from("a plan")),
+    }
 }
 
 /// The same under the worked plan with these numbers.
@@ -219,44 +286,11 @@ pub(crate) fn run(
     calls: &[Call],
 ) -> Result<Outcome, Fail> {
     let bank = bank_a(alloc)?;
-    let spec = Spec::of(alloc, &bank, draft(alloc, numbers)?)?;
-    run_on(alloc, &bank, &spec, bytes, fails, calls)
-}
-
-/// What calls gave over a file that was opened, the bytes of the disk in the end, and the count of
-/// its calls.
-#[derive(Debug, Drop)]
-pub(crate) struct After {
-    pub found: Found,
-    pub bytes: Vec<u8>,
-    pub count: Count,
-}
-
-/// The same where the office has to be opened.
-pub(crate) fn asked(
-    alloc: Global,
-    numbers: &Numbers,
-    bytes: &[u8],
-    fails: &[u64],
-    calls: &[Call],
-) -> Result<After, Fail> {
-    let Outcome {
-        found,
-        bytes: left,
-        count,
-    } = run(alloc, numbers, bytes, fails, calls)?;
-    match found {
-        Ok(found) => Ok(After {
-            found,
-            bytes: left,
-            count,
-        }),
-        Err(_) => Err(Fail::from("not opened")),
-    }
+    run_by(alloc, &bank, draft(alloc, numbers)?, bytes, fails, calls)
 }
 
 /// The same under the worked plan, where the calls have to give these replies, and the history has
-/// to have so many entries after them.
+/// to have so many entries after them; what is left then.
 pub(crate) fn gives<R: Abort>(
     rt: &R,
     alloc: Global,
@@ -264,8 +298,8 @@ pub(crate) fn gives<R: Abort>(
     calls: &[Call],
     replies: &[Reply],
     entries: u64,
-) -> Result<After, Fail> {
-    let asked = asked(alloc, &WORKED, bytes, fails, calls)?;
-    shows(rt, &asked.found, replies, entries);
-    Ok(asked)
+) -> Result<Left, Fail> {
+    let outcome = run(alloc, &WORKED, bytes, fails, calls)?;
+    shows(rt, &outcome, replies, entries);
+    Ok(outcome.left)
 }

@@ -2,10 +2,13 @@
 //! disk.
 
 use crate::cases::opening_calls;
-use crate::expected::{counts, is_same, leaves, replies_at, shows};
+use crate::expected::{counts, found_in, is_same, leaves, replies_at, shows};
 use crate::files::{ANSWERED, empty_journal, served_journal, started_journal, third_journal};
-use crate::outcome::{After, Call, Found, Numbers, Reply, WORKED, asked, begun, gives, waiting};
-use exam_office::{Place, Refusal};
+use crate::outcome::{
+    Call, FIRST, FOUND, Found, Left, Numbers, Outcome, Reply, SECOND, STARTED, THIRD, WORKED,
+    gives, run,
+};
+use exam_office::{Begun, Place, Refusal};
 use std::alloc::Global;
 use std::process::Abort;
 use std::test::Fail;
@@ -21,28 +24,55 @@ const TWO_SESSIONS: [Call; 7] = [
     Call::Close(1),
 ];
 
+/// What they give.
+const TWO_REPLIES: [Reply; 7] = [
+    STARTED,
+    Reply::At(FIRST),
+    Reply::Begun(Begun {
+        session: 1,
+        fresh: true,
+    }),
+    Reply::At(FIRST),
+    Reply::At(Place::Pending(1)),
+    Reply::At(SECOND),
+    Reply::At(Place::Closed),
+];
+
+const IS_CLOSED: Reply = Reply::Refused(Refusal::IsClosed(Place::Closed));
+
+const NO_SESSION: Reply = Reply::Refused(Refusal::NoSession(2));
+
 /// Calls that add nothing then, and what they give.
-fn calls_after() -> [(Call, Reply); 13] {
-    let closed = Reply::Refused(Refusal::IsClosed(Place::Closed));
-    let no_session = Reply::Refused(Refusal::NoSession(2));
-    [
-        (Call::Answer(0, 0, 1), Reply::At(waiting(1, 4))),
-        (Call::Answer(0, 0, 0), Reply::Refused(Refusal::Other(1))),
-        (Call::Answer(0, 2, 1), Reply::Refused(Refusal::WrongStep(1))),
-        (
-            Call::Answer(0, 1, 2),
-            Reply::Refused(Refusal::BadResponse(2)),
-        ),
-        (Call::Begin(1), begun(0, false)),
-        (Call::Begin(2), begun(1, false)),
-        (Call::Answer(9, 0, 0), no_session),
-        (Call::Answer(1, 0, 0), closed),
-        (Call::Close(1), closed),
-        (Call::Close(2), no_session),
-        (Call::Look(2), no_session),
-        (Call::Look(0), Reply::At(waiting(1, 4))),
-        (Call::Look(1), Reply::At(Place::Closed)),
-    ]
+const CALLS_AFTER: [(Call, Reply); 13] = [
+    (Call::Answer(0, 0, 1), Reply::At(SECOND)),
+    (Call::Answer(0, 0, 0), Reply::Refused(Refusal::Other(1))),
+    (Call::Answer(0, 2, 1), Reply::Refused(Refusal::WrongStep(1))),
+    (
+        Call::Answer(0, 1, 2),
+        Reply::Refused(Refusal::BadResponse(2)),
+    ),
+    (Call::Begin(1), FOUND),
+    (
+        Call::Begin(2),
+        Reply::Begun(Begun {
+            session: 1,
+            fresh: false,
+        }),
+    ),
+    (Call::Answer(9, 0, 0), NO_SESSION),
+    (Call::Answer(1, 0, 0), IS_CLOSED),
+    (Call::Close(1), IS_CLOSED),
+    (Call::Close(2), NO_SESSION),
+    (Call::Look(2), NO_SESSION),
+    (Call::Look(0), Reply::At(SECOND)),
+    (Call::Look(1), Reply::At(Place::Closed)),
+];
+
+/// What becomes of one call more.
+fn after_two_sessions(alloc: Global, call: Call) -> Result<Outcome, Fail> {
+    let mut calls = TWO_SESSIONS.to_vec(alloc)?;
+    calls.push(call)?;
+    run(alloc, &WORKED, &[], &[], &calls)
 }
 
 /// One call more gives this reply, and leaves the history, the file and the count of the disk's
@@ -50,110 +80,107 @@ fn calls_after() -> [(Call, Reply); 13] {
 fn adds_nothing<R: Abort>(
     rt: &R,
     alloc: Global,
-    was: &After,
-    (call, reply): (Call, Reply),
+    was: &Outcome,
+    call: Call,
+    reply: Reply,
 ) -> Result<(), Fail> {
-    let mut calls = TWO_SESSIONS.to_vec(alloc)?;
-    calls.push(call)?;
-    let now = asked(alloc, &WORKED, &[], &[], &calls)?;
-    replies_at(rt, &now.found, 7, reply);
+    let now = after_two_sessions(alloc, call)?;
+    replies_at(rt, found_in(rt, &now), 7, reply);
     is_same(rt, &now, was);
     Ok(())
 }
 
 #[test]
 fn calls_that_add_nothing(rt: HostRuntime) -> Result<(), Fail> {
-    let alloc = rt.alloc();
-    let replies = [
-        begun(0, true),
-        Reply::At(waiting(0, 2)),
-        begun(1, true),
-        Reply::At(waiting(0, 2)),
-        Reply::At(Place::Pending(1)),
-        Reply::At(waiting(1, 4)),
-        Reply::At(Place::Closed),
-    ];
-    let was = gives(&rt, alloc, (&[], &[]), &TWO_SESSIONS, &replies, 7)?;
-    for pair in calls_after() {
-        adds_nothing(&rt, alloc, &was, pair)?;
+    let was = run(rt.alloc(), &WORKED, &[], &[], &TWO_SESSIONS)?;
+    shows(&rt, &was, &TWO_REPLIES, 7);
+    for (call, reply) in &CALLS_AFTER {
+        adds_nothing(&rt, rt.alloc(), &was, *call, *reply)?;
     }
     Ok(())
 }
 
+const IS_COMPLETE: Reply = Reply::Refused(Refusal::IsClosed(Place::Complete));
+
+/// Calls of one session, some of which come too soon, and the last two too late.
+const TOO_SOON: [Call; 11] = [
+    Call::Begin(70),
+    Call::Answer(0, 0, 0),
+    Call::Serve(0),
+    Call::Answer(0, 0, 1),
+    Call::Answer(0, 1, 0),
+    Call::Serve(0),
+    Call::Answer(0, 1, 0),
+    Call::Serve(0),
+    Call::Answer(0, 2, 1),
+    Call::Answer(0, 3, 0),
+    Call::Close(0),
+];
+
+const TOO_SOON_REPLIES: [Reply; 11] = [
+    STARTED,
+    Reply::Refused(Refusal::WrongStep(0)),
+    Reply::At(FIRST),
+    Reply::At(Place::Pending(1)),
+    Reply::Refused(Refusal::WrongStep(1)),
+    Reply::At(SECOND),
+    Reply::At(Place::Pending(2)),
+    Reply::At(THIRD),
+    Reply::At(Place::Complete),
+    IS_COMPLETE,
+    IS_COMPLETE,
+];
+
 /// A session that waits for an item takes no answer, and one that is complete is not closed.
 #[test]
 fn places_without_an_answer(rt: HostRuntime) -> Result<(), Fail> {
-    let alloc = rt.alloc();
-    let calls = [
-        Call::Begin(70),
-        Call::Answer(0, 0, 0),
-        Call::Serve(0),
-        Call::Answer(0, 0, 1),
-        Call::Answer(0, 1, 0),
-        Call::Serve(0),
-        Call::Answer(0, 1, 0),
-        Call::Serve(0),
-        Call::Answer(0, 2, 1),
-        Call::Answer(0, 3, 0),
-        Call::Close(0),
-    ];
-    let complete = Reply::Refused(Refusal::IsClosed(Place::Complete));
-    let replies = [
-        begun(0, true),
-        Reply::Refused(Refusal::WrongStep(0)),
-        Reply::At(waiting(0, 2)),
-        Reply::At(Place::Pending(1)),
-        Reply::Refused(Refusal::WrongStep(1)),
-        Reply::At(waiting(1, 4)),
-        Reply::At(Place::Pending(2)),
-        Reply::At(waiting(2, 1)),
-        Reply::At(Place::Complete),
-        complete,
-        complete,
-    ];
-    gives(&rt, alloc, (&[], &[]), &calls, &replies, 7)?;
+    gives(&rt, rt.alloc(), (&[], &[]), &TOO_SOON, &TOO_SOON_REPLIES, 7)?;
     Ok(())
 }
 
-/// What was assembled is stale once the session was served.
-fn is_stale_once_served<R: Abort>(rt: &R, alloc: Global, started: &[u8]) -> Result<(), Fail> {
-    let stale = Reply::Refused(Refusal::Stale(waiting(0, 2), false));
-    let calls = [Call::ServeAgain(0)];
-    let again = gives(rt, alloc, (started, &[]), &calls, &[stale], 2)?;
-    let served = asked(alloc, &WORKED, started, &[], &[Call::Serve(0)])?;
-    leaves(rt, &again.bytes, &served.bytes);
-    Ok(())
+/// What is assembled for the started session gives this reply where it is committed by this call, and the journal has two
+/// entries then; what is left.
+fn is_stale<R: Abort>(rt: &R, alloc: Global, call: Call, place: Place) -> Result<Left, Fail> {
+    let started = started_journal(alloc)?;
+    let stale = Reply::Refused(Refusal::Stale(place, false));
+    gives(rt, alloc, (&started, &[]), &[call], &[stale], 2)
 }
 
 /// What was assembled is stale once the session was served, or closed.
 #[test]
 fn a_place_that_moved_on(rt: HostRuntime) -> Result<(), Fail> {
     let alloc = rt.alloc();
-    let started = started_journal(alloc)?;
-    is_stale_once_served(&rt, alloc, &started)?;
-    let stale = Reply::Refused(Refusal::Stale(Place::Closed, false));
-    let calls = [Call::ServeLate(0)];
-    gives(&rt, alloc, (&started, &[]), &calls, &[stale], 2)?;
+    let again = is_stale(&rt, alloc, Call::ServeAgain(0), FIRST)?;
+    leaves(&rt, &again.bytes, &served_by_office(alloc)?);
+    is_stale(&rt, alloc, Call::ServeLate(0), Place::Closed)?;
     Ok(())
 }
+
+/// The journal of the session once the office has served its first item.
+fn served_by_office(alloc: Global) -> Result<Vec<u8>, Fail> {
+    let started = started_journal(alloc)?;
+    Ok(
+        run(alloc, &WORKED, &started, &[], &[Call::Serve(0)])?
+            .left
+            .bytes,
+    )
+}
+
+const ONE_SESSION: Numbers = Numbers {
+    sessions: 1,
+    ..WORKED
+};
+
+const FULL_REPLIES: [Reply; 3] = [STARTED, Reply::Refused(Refusal::SessionsFull(1)), FOUND];
 
 /// With one session allowed a second booking is refused, and the first has its session.
 #[test]
 fn no_more_sessions(rt: HostRuntime) -> Result<(), Fail> {
     let alloc = rt.alloc();
-    let one = Numbers {
-        sessions: 1,
-        ..WORKED
-    };
     let calls = [Call::Begin(70), Call::Begin(71), Call::Begin(70)];
-    let asked = asked(alloc, &one, &[], &[], &calls)?;
-    let replies = [
-        begun(0, true),
-        Reply::Refused(Refusal::SessionsFull(1)),
-        begun(0, false),
-    ];
-    shows(&rt, &asked.found, &replies, 1);
-    leaves(&rt, &asked.bytes, &started_journal(alloc)?);
+    let outcome = run(alloc, &ONE_SESSION, &[], &[], &calls)?;
+    shows(&rt, &outcome, &FULL_REPLIES, 1);
+    leaves(&rt, &outcome.left.bytes, &started_journal(alloc)?);
     Ok(())
 }
 
@@ -172,11 +199,11 @@ fn is_full<R: Abort>(
     (full, entries): (u64, u64),
 ) -> Result<(), Fail> {
     let low = limited(full.saturating_sub(1));
-    let asked = asked(alloc, &low, before, &[], &[call, call])?;
+    let outcome = run(alloc, &low, before, &[], &[call, call])?;
     let refused = Reply::Refused(Refusal::JournalFull(full));
-    shows(rt, &asked.found, &[refused, refused], entries);
-    leaves(rt, &asked.bytes, before);
-    counts(rt, asked.count, opening_calls(entries), 0);
+    shows(rt, &outcome, &[refused, refused], entries);
+    leaves(rt, &outcome.left.bytes, before);
+    counts(rt, outcome.left.count, opening_calls(entries), 0);
     Ok(())
 }
 
@@ -192,7 +219,7 @@ fn a_full_journal(rt: HostRuntime) -> Result<(), Fail> {
 /// The session is started, and a served item makes the journal at least 173 bytes long: 91, then 5,
 /// 76 of the entry, and those of the tree.
 fn has_no_room_for_an_item<R: Abort>(rt: &R, found: &Found) -> Result<(), Fail> {
-    replies_at(rt, found, 0, begun(0, true));
+    replies_at(rt, found, 0, STARTED);
     let Some(Reply::Refused(Refusal::JournalFull(length))) = found.replies.get(1) else {
         return Err(Fail::from("room for a served item"));
     };
@@ -203,9 +230,9 @@ fn has_no_room_for_an_item<R: Abort>(rt: &R, found: &Found) -> Result<(), Fail> 
 /// The session is started at the limit of 91 bytes.
 fn starts_at_the_limit<R: Abort>(rt: &R, alloc: Global) -> Result<(), Fail> {
     let calls = [Call::Begin(70), Call::Serve(0)];
-    let begun = asked(alloc, &limited(91), &[], &[], &calls)?;
-    has_no_room_for_an_item(rt, &begun.found)?;
-    leaves(rt, &begun.bytes, &started_journal(alloc)?);
+    let outcome = run(alloc, &limited(91), &[], &[], &calls)?;
+    has_no_room_for_an_item(rt, found_in(rt, &outcome))?;
+    leaves(rt, &outcome.left.bytes, &started_journal(alloc)?);
     Ok(())
 }
 
@@ -213,9 +240,9 @@ fn starts_at_the_limit<R: Abort>(rt: &R, alloc: Global) -> Result<(), Fail> {
 fn answers_at_the_limit<R: Abort>(rt: &R, alloc: Global) -> Result<(), Fail> {
     let served = served_journal(alloc)?;
     let answer = [Call::Answer(0, 0, 1)];
-    let answered = asked(alloc, &limited(196), &served, &[], &answer)?;
-    shows(rt, &answered.found, &[Reply::At(Place::Pending(1))], 3);
-    leaves(rt, &answered.bytes, &third_journal(alloc, &ANSWERED)?);
+    let outcome = run(alloc, &limited(196), &served, &[], &answer)?;
+    shows(rt, &outcome, &[Reply::At(Place::Pending(1))], 3);
+    leaves(rt, &outcome.left.bytes, &third_journal(alloc, &ANSWERED)?);
     Ok(())
 }
 

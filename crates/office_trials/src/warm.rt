@@ -5,11 +5,12 @@ ghost use Rattle.exam_model.specs.Validity.{IsPlanFor};
 use crate::cases::opening_calls;
 use crate::equal::{are_equal, is_equal};
 use crate::files::{served_journal, started_journal};
-use crate::outcome::{WORKED, draft};
+use crate::outcome::{WORKED, disk_of, draft};
 use crate::serving::serve;
 use bank_tables::Bank;
 use constraint_model::Spec;
 use exam_edge::{Disk, MemoryDisk};
+use exam_model::Draft;
 use exam_office::{Office, Refusal};
 use std::alloc::Global;
 use std::test::Fail;
@@ -88,32 +89,50 @@ fn answers_over<'a>(
 ) -> Result<[Both; 3], Fail>
     requires { IsPlanFor bank.now spec.now }
 {
-    let disk = MemoryDisk::of(alloc, bytes.to_vec(alloc)?, fails.to_vec(alloc)?);
-    over(alloc, bank, spec, disk, serves)
+    match disk_of(alloc, bytes, fails) {
+        Ok(disk) => over(alloc, bank, spec, disk, serves),
+        Err(fail) => Err(fail),
+    }
+}
+
+/// The same over a bank and the plan of a draft.
+fn answers_by(
+    alloc: Global,
+    bank: &Bank,
+    draft: Draft,
+    bytes: &[u8],
+    fails: &[u64],
+    serves: bool,
+) -> Result<[Both; 3], Fail> {
+    match Spec::of(alloc, bank, draft) {
+        Ok(spec) => answers_over(alloc, bank, &spec, bytes, fails, serves),
+        Err(_) => Err(Fail::from("a plan")),
+    }
 }
 
 /// The same under the worked plan.
 fn answers(alloc: Global, bytes: &[u8], fails: &[u64], serves: bool) -> Result<[Both; 3], Fail> {
     let bank = bank_a(alloc)?;
-    let spec = Spec::of(alloc, &bank, draft(alloc, &WORKED)?)?;
-    answers_over(alloc, &bank, &spec, bytes, fails, serves)
+    answers_by(alloc, &bank, draft(alloc, &WORKED)?, bytes, fails, serves)
 }
 
 /// There is no second session.
 const NO_SECOND: SessionVector = SessionVector::Refused(Refusal::NoSession(1));
 
+/// No session has a vector.
+const COLD: Both = (SessionVector::Cold, NO_SECOND);
+
+/// The vector of session 0 has one pair.
+const ONE_PAIR: Both = (SessionVector::Pairs(1, Some((3, 1))), NO_SECOND);
+
 /// The tree's one vector has side 3 with multiplier 1.
 #[test]
 fn the_vector_of_a_journal(rt: HostRuntime) -> Result<(), Fail> {
     let alloc = rt.alloc();
-    let found = answers(alloc, &served_journal(alloc)?, &[], false)?;
-    is_equal(
-        &rt,
-        &found[0],
-        &(SessionVector::Pairs(1, Some((3, 1))), NO_SECOND),
-    );
-    let started = answers(alloc, &started_journal(alloc)?, &[], false)?;
-    is_equal(&rt, &started[0], &(SessionVector::Cold, NO_SECOND));
+    let [found, _, _] = answers(alloc, &served_journal(alloc)?, &[], false)?;
+    is_equal(&rt, &found, &ONE_PAIR);
+    let [started, _, _] = answers(alloc, &started_journal(alloc)?, &[], false)?;
+    is_equal(&rt, &started, &COLD);
     Ok(())
 }
 
@@ -123,15 +142,14 @@ fn the_vector_of_a_journal(rt: HostRuntime) -> Result<(), Fail> {
 fn the_vector_of_a_record_in_doubt(rt: HostRuntime) -> Result<(), Fail> {
     let alloc = rt.alloc();
     let bytes = started_journal(alloc)?;
-    let cold = (SessionVector::Cold, NO_SECOND);
     let whole = answers(alloc, &bytes, &[], true)?;
     let [_, _, after] = whole;
-    assert_ne!(rt; after, cold);
-    are_equal(&rt, &whole, &[cold, after, after]);
+    is_equal(&rt, &(after == COLD), &false);
+    are_equal(&rt, &whole, &[COLD, after, after]);
     let first = opening_calls(1);
     let dropped = answers(alloc, &bytes, &[first], true)?;
-    are_equal(&rt, &dropped, &[cold; 3]);
+    are_equal(&rt, &dropped, &[COLD; 3]);
     let kept = answers(alloc, &bytes, &[first.saturating_add(3)], true)?;
-    are_equal(&rt, &kept, &[cold, cold, after]);
+    are_equal(&rt, &kept, &[COLD, COLD, after]);
     Ok(())
 }
