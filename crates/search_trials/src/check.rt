@@ -9,10 +9,10 @@ ghost use Rattle.constraint_model.specs.Views.{problem_of};
 #[cfg(test)]
 mod tests {
     use crate::equal::is_equal;
-    use crate::tree::read;
     use bank_tables::{Bank, ItemSet};
     use certificate_check::{Reason, Verdict, check, spent};
     use constraint_model::{Draft, Problem, Row, Spec, StimulusBound};
+    use proof_tree::{Tree, decode};
     use std::alloc::{AllocError, Global};
     use std::test::Fail;
     use trial_cases::{bank_a, bank_q, draft_of, item, rows_of, set_of};
@@ -32,42 +32,63 @@ mod tests {
         draft_of(alloc, 3, &[-10, 0, -10], &rows, &[])
     }
 
-    /// The verdict on a tree over a bank and its plan. What owns a bank is a function of its own, since one that also makes a
-    /// problem of it is dear to prove.
+    /// A set of items is given as bits, of which the lowest is item 0. No bit stands for no set.
+    fn set_of_bits(bits: u8) -> Option<ItemSet> {
+        if bits == 0 {
+            return None;
+        }
+        let mut items = ItemSet::empty();
+        for item in 0..8u16 {
+            if bits >> item & 1 == 1 {
+                items = items.with(item);
+            }
+        }
+        Some(items)
+    }
+
+    /// The verdict on a tree over a bank and its plan, with the form of these bits. What owns a bank is a function of its own,
+    /// since one that also makes a problem of it is dear to prove.
+    fn judged(bank: &Bank, spec: &Spec, form: u8, tree: &Tree) -> Verdict
+        requires { IsPlanFor bank.now spec.now }
+    {
+        let form = set_of_bits(form);
+        check(&Problem::whole(bank, spec), form.as_ref(), tree)
+    }
+
+    /// The same for the bytes of a tree.
     fn verdict_of(
         alloc: Global,
         bank: &Bank,
         spec: &Spec,
-        form: Option<&ItemSet>,
+        form: u8,
         bytes: &[u8],
     ) -> Result<Verdict, Fail>
         requires { IsPlanFor bank.now spec.now }
     {
-        let (tree, _) = read(alloc, bytes)?;
-        Ok(check(&Problem::whole(bank, spec), form, &tree))
+        match decode(alloc, bytes) {
+            Ok((tree, _)) => Ok(judged(bank, spec, form, &tree)),
+            Err(_) => Err(Fail::from("a tree")),
+        }
     }
 
-    /// The verdict on a tree over a bank and the plan of a draft.
+    /// The same over a bank and the plan of a draft.
     fn verdict_on(
         alloc: Global,
         bank: &Bank,
         draft: Draft,
-        form: Option<&ItemSet>,
+        form: u8,
         bytes: &[u8],
     ) -> Result<Verdict, Fail> {
-        let spec = Spec::of(alloc, bank, draft)?;
-        verdict_of(alloc, bank, &spec, form, bytes)
+        match Spec::of(alloc, bank, draft) {
+            Ok(spec) => verdict_of(alloc, bank, &spec, form, bytes),
+            Err(_) => Err(Fail::from("a plan")),
+        }
     }
 
     /// The verdict on a tree over the plain bank, with so many of items 0 and 1 in a form.
-    fn plain_verdict(
-        alloc: Global,
-        count: u32,
-        form: Option<ItemSet>,
-        bytes: &[u8],
-    ) -> Result<Verdict, Fail> {
-        let plan = plain_plan(alloc, count)?;
-        verdict_on(alloc, &bank_a(alloc)?, plan, form.as_ref(), bytes)
+    fn plain_verdict(alloc: Global, count: u32, form: u8, bytes: &[u8]) -> Result<Verdict, Fail> {
+        let bank = bank_a(alloc)?;
+        verdict_on(alloc, &bank, plain_plan(alloc, count)?, form, bytes)
     }
 
     /// Two items with at most 15 of the quantity.
@@ -83,30 +104,28 @@ mod tests {
 
     /// The verdict on a tree over the bank with a quantity: each pair of items has 20 of it, and 15 are allowed.
     fn quantity_verdict(alloc: Global, bytes: &[u8]) -> Result<Verdict, Fail> {
-        let plan = quantity_plan(alloc)?;
-        verdict_on(alloc, &bank_q(alloc)?, plan, None, bytes)
+        let bank = bank_q(alloc)?;
+        verdict_on(alloc, &bank, quantity_plan(alloc)?, 0, bytes)
     }
 
     /// The passage of items 0, 1 and 2, of 9, 1 and 1, and items 3, 4 and 5, of 5, 4 and 4, which have no passage.
     fn passage_bank(alloc: Global) -> Result<Bank, Fail> {
         let mut items = Vec::new(alloc);
-        for (stimulus, info) in [(1, 9), (1, 1), (1, 1), (0, 5), (0, 4), (0, 4)] {
-            items.push(item(alloc, stimulus, &[], &[info], &[-1, -1])?)?;
+        for (stimulus, info) in &[(1, 9), (1, 1), (1, 1), (0, 5), (0, 4), (0, 4)] {
+            items.push(item(alloc, *stimulus, &[], &[*info], &[-1, -1])?)?;
         }
         Ok(Bank::of(alloc, rows_of(1, 0, items))?)
     }
 
-    /// The verdict on a tree with the form {3, 4, 5}, of 13. The passage is in a form whole or not at all.
+    /// Three items. The passage is in a form whole or not at all.
+    fn passage_plan(alloc: Global) -> Result<Draft, AllocError> {
+        draft_of(alloc, 3, &[0], &[], &[StimulusBound { low: 3, high: 3 }])
+    }
+
+    /// The verdict on a tree with the form {3, 4, 5}, of 13.
     fn passage_verdict(alloc: Global, bytes: &[u8]) -> Result<Verdict, Fail> {
-        let bounds = [StimulusBound { low: 3, high: 3 }];
-        let plan = draft_of(alloc, 3, &[0], &[], &bounds)?;
-        verdict_on(
-            alloc,
-            &passage_bank(alloc)?,
-            plan,
-            Some(&set_of(&[3, 4, 5])),
-            bytes,
-        )
+        let bank = passage_bank(alloc)?;
+        verdict_on(alloc, &bank, passage_plan(alloc)?, 0x38, bytes)
     }
 
     /// Trees with the multiplier 768 on side 0, the low one of the passage, whose items then weigh 12, 4 and 4 units of 256
@@ -159,32 +178,11 @@ mod tests {
 
     #[test]
     fn caps(rt: HostRuntime) -> Result<(), Fail> {
-        for (bytes, verdict) in CAPPED {
+        for (bytes, verdict) in &CAPPED {
             let found = passage_verdict(rt.alloc(), bytes)?;
-            is_equal(&rt, &found, &verdict);
+            is_equal(&rt, &found, verdict);
         }
         Ok(())
-    }
-
-    /// Whether a tree over a bank and its plan spends a budget.
-    fn spent_of(
-        alloc: Global,
-        bank: &Bank,
-        spec: &Spec,
-        bytes: &[u8],
-        budget: u16,
-    ) -> Result<bool, Fail>
-        requires { IsPlanFor bank.now spec.now }
-    {
-        let (tree, _) = read(alloc, bytes)?;
-        Ok(spent(&Problem::whole(bank, spec), &tree, budget))
-    }
-
-    /// Whether a tree over the plain bank spends a budget.
-    fn plain_spent(alloc: Global, bytes: &[u8], budget: u16) -> Result<bool, Fail> {
-        let bank = bank_a(alloc)?;
-        let spec = Spec::of(alloc, &bank, plain_plan(alloc, 1)?)?;
-        spent_of(alloc, &bank, &spec, bytes, budget)
     }
 
     /// The problem of a session that was last served from this form.
@@ -199,101 +197,113 @@ mod tests {
         }
     }
 
-    /// Whether a tree over a bank and its plan spends a budget, where this form was served from before.
-    fn spent_from(
+    /// Whether a tree over a bank and its plan spends a budget; where a start is given, it was served from before.
+    fn spends(bank: &Bank, spec: &Spec, start: u8, tree: &Tree, budget: u16) -> Result<bool, Fail>
+        requires { IsPlanFor bank.now spec.now }
+    {
+        let whole = Problem::whole(bank, spec);
+        let Some(start) = set_of_bits(start) else {
+            return Ok(spent(&whole, tree, budget));
+        };
+        if !start.all_below(bank.items()) {
+            return Err(Fail::from("a start"));
+        }
+        Ok(spent(&with_start(&whole, &start), tree, budget))
+    }
+
+    /// The same for the bytes of a tree.
+    fn spent_of(
         alloc: Global,
         bank: &Bank,
         spec: &Spec,
-        start: &ItemSet,
+        start: u8,
         bytes: &[u8],
         budget: u16,
     ) -> Result<bool, Fail>
         requires { IsPlanFor bank.now spec.now }
     {
-        if !start.all_below(bank.items()) {
-            return Err(Fail::from("a start"));
+        match decode(alloc, bytes) {
+            Ok((tree, _)) => spends(bank, spec, start, &tree, budget),
+            Err(_) => Err(Fail::from("a tree")),
         }
-        let (tree, _) = read(alloc, bytes)?;
-        let problem = with_start(&Problem::whole(bank, spec), start);
-        Ok(spent(&problem, &tree, budget))
     }
 
-    /// Whether a tree over the plain bank spends a budget, where a form was served from before.
-    fn started_spent(
+    /// The same over a bank and the plan of a draft.
+    fn spent_on(
         alloc: Global,
-        start: &[u16],
+        bank: &Bank,
+        draft: Draft,
+        start: u8,
         bytes: &[u8],
         budget: u16,
     ) -> Result<bool, Fail> {
-        let bank = bank_a(alloc)?;
-        let spec = Spec::of(alloc, &bank, plain_plan(alloc, 1)?)?;
-        spent_from(alloc, &bank, &spec, &set_of(start), bytes, budget)
+        match Spec::of(alloc, bank, draft) {
+            Ok(spec) => spent_of(alloc, bank, &spec, start, bytes, budget),
+            Err(_) => Err(Fail::from("a plan")),
+        }
     }
 
-    /// Trees of one node.
-    const SMALL: [(&[u8], Verdict); 8] = [
-        (&[0, 7], Verdict::Partial(1)),
-        (&[0, 6], Verdict::Bad(0, Reason::NotWhole)),
-        (&[0, 3, 0], Verdict::Bad(0, Reason::NoVector)),
-        (&[0, 5, 0], Verdict::Bad(0, Reason::RowPossible)),
+    /// The same over the plain bank.
+    fn plain_spent(alloc: Global, start: u8, bytes: &[u8], budget: u16) -> Result<bool, Fail> {
+        let bank = bank_a(alloc)?;
+        spent_on(alloc, &bank, plain_plan(alloc, 1)?, start, bytes, budget)
+    }
+
+    /// The form {1, 2, 3}, of 23, which is best.
+    const BEST: u8 = 0x0e;
+
+    /// Items 1, 2 and 3 in: one set is left, of 23.
+    const LEFT: &[u8] = &[0, 1, 0, 1, 1, 0, 2, 1, 0, 3, 6, 7, 7, 7];
+
+    /// Forms and trees over the plain bank, each with the verdict: first trees of one node, then those with branches.
+    const VERDICTS: [(u8, &[u8], Verdict); 14] = [
+        (BEST, &[0, 7], Verdict::Partial(1)),
+        (BEST, &[0, 6], Verdict::Bad(0, Reason::NotWhole)),
+        (BEST, &[0, 3, 0], Verdict::Bad(0, Reason::NoVector)),
+        (BEST, &[0, 5, 0], Verdict::Bad(0, Reason::RowPossible)),
         // The high side of the enemies at 1 gives 6,143, which is 256 * 23 + 255; at 4,096 it gives 8,960.
-        (&[1, 0, 1, 0, 3, 0, 0, 0, 1, 3, 0], Verdict::Optimal),
+        (BEST, &[1, 0, 1, 0, 3, 0, 0, 0, 1, 3, 0], Verdict::Optimal),
         (
+            BEST,
             &[1, 0, 1, 0, 3, 0, 0, 0x10, 0, 3, 0],
             Verdict::Bad(0, Reason::NotClosed),
         ),
         // Two rows have sides 0 to 3.
         (
+            BEST,
             &[1, 0, 1, 0, 4, 0, 0, 0, 1, 3, 0],
             Verdict::Bad(0, Reason::NoSide),
         ),
         // As a ray it gives 1.
         (
+            BEST,
             &[1, 0, 1, 0, 3, 0, 0, 0, 1, 4, 0],
             Verdict::Bad(0, Reason::NotNegative),
         ),
+        (0x26, &[0, 7], Verdict::Bad(0, Reason::NotForm)),
+        (BEST, LEFT, Verdict::Partial(3)),
+        // The set {1, 3, 4} has 18.
+        (0x1a, LEFT, Verdict::Bad(3, Reason::Better)),
+        (0, LEFT, Verdict::Bad(3, Reason::Better)),
+        (
+            BEST,
+            &[0, 1, 0, 1, 1, 0, 2, 1, 0, 3, 7, 7, 7, 7],
+            Verdict::Bad(3, Reason::OpenWhole),
+        ),
+        // A branch on an item twice.
+        (
+            BEST,
+            &[0, 1, 0, 1, 7, 1, 0, 1, 7, 7],
+            Verdict::Bad(2, Reason::Determined),
+        ),
     ];
 
-    /// The verdict on a tree over the plain bank with the form of these items.
-    fn form_verdict(alloc: Global, items: &[u16], bytes: &[u8]) -> Result<Verdict, Fail> {
-        plain_verdict(alloc, 1, Some(set_of(items)), bytes)
-    }
-
-    /// The verdicts on the form {1, 2, 3}, of 23.
     #[test]
-    fn verdicts_of_one_node(rt: HostRuntime) -> Result<(), Fail> {
-        for (bytes, verdict) in SMALL {
-            let found = form_verdict(rt.alloc(), &[1, 2, 3], bytes)?;
-            is_equal(&rt, &found, &verdict);
+    fn verdicts_on_forms(rt: HostRuntime) -> Result<(), Fail> {
+        for (form, bytes, verdict) in &VERDICTS {
+            let found = plain_verdict(rt.alloc(), 1, *form, bytes)?;
+            is_equal(&rt, &found, verdict);
         }
-        Ok(())
-    }
-
-    /// Items 1, 2 and 3 in: one set is left, of 23.
-    const LEFT: &[u8] = &[0, 1, 0, 1, 1, 0, 2, 1, 0, 3, 6, 7, 7, 7];
-
-    /// The set {1, 3, 4} has 18.
-    #[test]
-    fn verdicts_without_a_better_form(rt: HostRuntime) -> Result<(), Fail> {
-        let no_form = form_verdict(rt.alloc(), &[1, 2, 5], &[0, 7])?;
-        is_equal(&rt, &no_form, &Verdict::Bad(0, Reason::NotForm));
-        let best = form_verdict(rt.alloc(), &[1, 2, 3], LEFT)?;
-        is_equal(&rt, &best, &Verdict::Partial(3));
-        let lesser = form_verdict(rt.alloc(), &[1, 3, 4], LEFT)?;
-        is_equal(&rt, &lesser, &Verdict::Bad(3, Reason::Better));
-        let none = plain_verdict(rt.alloc(), 1, None, LEFT)?;
-        is_equal(&rt, &none, &Verdict::Bad(3, Reason::Better));
-        Ok(())
-    }
-
-    #[test]
-    fn verdicts_of_branches(rt: HostRuntime) -> Result<(), Fail> {
-        let open: &[u8] = &[0, 1, 0, 1, 1, 0, 2, 1, 0, 3, 7, 7, 7, 7];
-        let found = form_verdict(rt.alloc(), &[1, 2, 3], open)?;
-        is_equal(&rt, &found, &Verdict::Bad(3, Reason::OpenWhole));
-        let twice: &[u8] = &[0, 1, 0, 1, 7, 1, 0, 1, 7, 7];
-        let found = form_verdict(rt.alloc(), &[1, 2, 3], twice)?;
-        is_equal(&rt, &found, &Verdict::Bad(2, Reason::Determined));
         Ok(())
     }
 
@@ -304,57 +314,44 @@ mod tests {
         let ray = quantity_verdict(alloc, &[1, 0, 1, 0, 1, 0, 0, 0, 1, 4, 0])?;
         is_equal(&rt, &ray, &Verdict::NoForm);
         // Three of two items: the row after the length is impossible by counting.
-        let count = plain_verdict(alloc, 3, None, &[0, 5, 1])?;
+        let count = plain_verdict(alloc, 3, 0, &[0, 5, 1])?;
         is_equal(&rt, &count, &Verdict::NoForm);
-        Ok(())
-    }
-
-    /// Trees with a budget, and whether they spend it.
-    const SPENT: [(&[u8], u16, bool); 7] = [
-        (&[0, 1, 0, 3, 1, 0, 4, 7, 7, 7], 5, true),
-        // Another number of nodes.
-        (&[0, 1, 0, 3, 1, 0, 4, 7, 7, 7], 7, false),
-        // No Open leaf.
-        (&[0, 6], 1, false),
-        // A branch after an Open leaf.
-        (&[0, 1, 0, 3, 7, 1, 0, 4, 7, 7], 5, false),
-        // A branch on an item that is in.
-        (&[0, 1, 0, 3, 1, 0, 3, 7, 7, 7], 5, false),
-        // Items 0 and 1 in: a row is impossible at an Open leaf, and at a branch.
-        (&[0, 1, 0, 0, 1, 0, 1, 7, 7, 7], 5, false),
-        (&[0, 1, 0, 0, 1, 0, 1, 1, 0, 2, 7, 7, 7, 7], 7, false),
-    ];
-
-    #[test]
-    fn spent_trees(rt: HostRuntime) -> Result<(), Fail> {
-        for (bytes, budget, expected) in SPENT {
-            let found = plain_spent(rt.alloc(), bytes, budget)?;
-            is_equal(&rt, &found, &expected);
-        }
         Ok(())
     }
 
     /// Items 3 and 4 branched on.
     const BRANCHES: &[u8] = &[0, 1, 0, 3, 1, 0, 4, 7, 7, 7];
 
-    /// The same with a start. The plain bound at the root is 256 * 24, with item 3 in 256 * 23, and with items 3 and 4 in
-    /// 256 * 19.
-    const STARTED: [(&[u16], &[u8], u16, bool); 5] = [
+    /// Trees with a budget, and whether they spend it; the last five where a form was served from before. The plain bound at
+    /// the root is 256 * 24, with item 3 in 256 * 23, and with items 3 and 4 in 256 * 19.
+    const SPENT: [(u8, &[u8], u16, bool); 12] = [
+        (0, BRANCHES, 5, true),
+        // Another number of nodes.
+        (0, BRANCHES, 7, false),
+        // No Open leaf.
+        (0, &[0, 6], 1, false),
+        // A branch after an Open leaf.
+        (0, &[0, 1, 0, 3, 7, 1, 0, 4, 7, 7], 5, false),
+        // A branch on an item that is in.
+        (0, &[0, 1, 0, 3, 1, 0, 3, 7, 7, 7], 5, false),
+        // Items 0 and 1 in: a row is impossible at an Open leaf, and at a branch.
+        (0, &[0, 1, 0, 0, 1, 0, 1, 7, 7, 7], 5, false),
+        (0, &[0, 1, 0, 0, 1, 0, 1, 1, 0, 2, 7, 7, 7, 7], 7, false),
         // The start {1, 2, 3} has 23.
-        (&[1, 2, 3], &[0, 7], 1, true),
-        (&[1, 2, 3], BRANCHES, 5, false),
+        (BEST, &[0, 7], 1, true),
+        (BEST, BRANCHES, 5, false),
         // {1, 3, 4} has 18, and {0, 2, 3} has 20: the bound with items 3 and 4 in leaves no room above it.
-        (&[1, 3, 4], BRANCHES, 5, true),
-        (&[0, 2, 3], BRANCHES, 5, false),
+        (0x1a, BRANCHES, 5, true),
+        (0x0d, BRANCHES, 5, false),
         // {1, 2, 5} has 24, but it is no form.
-        (&[1, 2, 5], BRANCHES, 5, true),
+        (0x26, BRANCHES, 5, true),
     ];
 
     #[test]
-    fn spent_trees_beyond_a_start(rt: HostRuntime) -> Result<(), Fail> {
-        for (start, bytes, budget, expected) in STARTED {
-            let found = started_spent(rt.alloc(), start, bytes, budget)?;
-            is_equal(&rt, &found, &expected);
+    fn spent_trees(rt: HostRuntime) -> Result<(), Fail> {
+        for (start, bytes, budget, expected) in &SPENT {
+            let found = plain_spent(rt.alloc(), *start, bytes, *budget)?;
+            is_equal(&rt, &found, expected);
         }
         Ok(())
     }

@@ -7,11 +7,6 @@ use std::alloc::{AllocError, Global};
 use std::process::Abort;
 use std::test::Fail;
 
-/// The fault of these bytes.
-fn fault_of(alloc: Global, bytes: &[u8]) -> Option<TreeFault> {
-    decode(alloc, bytes).err()
-}
-
 /// Bytes of no tree, each with its fault.
 const NO_TREES: [(&[u8], TreeFault); 24] = [
     (&[], TreeFault::Short),
@@ -55,19 +50,22 @@ const NO_TREES: [(&[u8], TreeFault); 24] = [
 
 /// These bytes have this fault.
 fn has_fault<R: Abort>(rt: &R, alloc: Global, bytes: &[u8], fault: TreeFault) {
-    is_equal(rt, &fault_of(alloc, bytes), &Some(fault));
+    is_equal(rt, &decode(alloc, bytes).err(), &Some(fault));
 }
 
 #[test]
 fn faults(rt: HostRuntime) {
-    for (bytes, fault) in NO_TREES {
-        has_fault(&rt, rt.alloc(), bytes, fault);
+    for (bytes, fault) in &NO_TREES {
+        has_fault(&rt, rt.alloc(), bytes, *fault);
     }
 }
 
 /// The tree with which these bytes begin, and how many bytes it takes.
-pub(crate) fn read(alloc: Global, bytes: &[u8]) -> Result<(Tree, usize), Fail> {
-    Ok(decode(alloc, bytes).ok().ok_or("a tree")?)
+fn read(alloc: Global, bytes: &[u8]) -> Result<(Tree, usize), Fail> {
+    match decode(alloc, bytes) {
+        Ok(read) => Ok(read),
+        Err(_) => Err(Fail::from("a tree")),
+    }
 }
 
 /// The bytes begin with a tree of so many vectors, which takes so many bytes.
@@ -91,15 +89,21 @@ fn is_spelled<R: Abort>(rt: &R, alloc: Global, tree: &Tree, bytes: &[u8]) -> Res
     Ok(())
 }
 
+/// Adds a vector of 384 pairs, with the multiplier 1 on each side.
+fn push_vector(bytes: &mut Vec<u8>) -> Result<(), AllocError> {
+    bytes.extend_from_slice(&[1, 0x80])?;
+    for side in 0..384u16 {
+        bytes.extend_from_slice(&side.to_be_bytes())?;
+        bytes.extend_from_slice(&[0, 0, 0, 1])?;
+    }
+    Ok(())
+}
+
 /// 33 vectors: 32 of 384 pairs, which are all that a tree may have, and the number of pairs of one more.
 fn many_pairs(alloc: Global, last: u8) -> Result<Vec<u8>, AllocError> {
     let mut bytes = vec![in alloc; 33]?;
     for _ in 0..32 {
-        bytes.extend_from_slice(&[1, 0x80])?;
-        for side in 0..384u16 {
-            bytes.extend_from_slice(&side.to_be_bytes())?;
-            bytes.extend_from_slice(&[0, 0, 0, 1])?;
-        }
+        push_vector(&mut bytes)?;
     }
     bytes.extend_from_slice(&[0, last])?;
     Ok(bytes)
@@ -184,6 +188,11 @@ const MADE: [u8; 25] = [
     1, 0, 2, 0, 0, 0, 0, 0, 1, 1, 0x81, 1, 0, 0, 0, 1, 1, 0xff, 2, 64, 3, 255, 5, 192, 7,
 ];
 
+/// The same and two bytes more, which aren't read.
+const MADE_AND_MORE: [u8; 27] = [
+    1, 0, 2, 0, 0, 0, 0, 0, 1, 1, 0x81, 1, 0, 0, 0, 1, 1, 0xff, 2, 64, 3, 255, 5, 192, 7, 9, 9,
+];
+
 /// The bytes begin with a tree of the same nodes, which takes so many bytes.
 fn reads_again<R: Abort>(
     rt: &R,
@@ -203,10 +212,7 @@ fn made_and_read_again(rt: HostRuntime) -> Result<(), Fail> {
     let alloc = rt.alloc();
     let tree = made(alloc)?;
     is_spelled(&rt, alloc, &tree, &MADE)?;
-    // What follows isn't read.
-    let mut bytes = MADE.to_vec(alloc)?;
-    bytes.extend_from_slice(&[9, 9])?;
-    reads_again(&rt, alloc, &bytes, 25, &tree)
+    reads_again(&rt, alloc, &MADE_AND_MORE, 25, &tree)
 }
 
 /// These pairs are no vector.
