@@ -2,10 +2,11 @@
 //! `tools/drill_texts.py` writes, which shares no text with the product.
 
 use crate::equal::are_equal;
-use bank_maker::make;
+use bank_maker::{Made, make};
 use exam_text::push_hex;
 use sha2::{Digest, Sha256};
 use std::alloc::Global;
+use std::process::Abort;
 use std::test::Fail;
 
 fn digest(alloc: Global, text: &[u8]) -> Result<Vec<u8>, Fail> {
@@ -14,37 +15,47 @@ fn digest(alloc: Global, text: &[u8]) -> Result<Vec<u8>, Fail> {
     Ok(out)
 }
 
-#[test]
-fn texts_of_seven(rt: HostRuntime) -> Result<(), Fail> {
-    let alloc = rt.alloc();
-    let made = make(alloc, 7, 2)?;
-    let bank = b"b8b7efa88670100a29846cc57af5033c909009628bc019f8563a2fb3c59b67aa";
-    let plan = b"3a10f13101b39f7edf3f1067c7038d426a8282c1d5e8d4df51d3b4aee98f29bc";
-    let script = b"53bee78e4ead1abe44fedd79467b8da426619141181269b68fa1feceabfa572a";
-    are_equal(&rt, digest(alloc, &made.bank)?.as_slice(), bank.as_slice());
-    are_equal(&rt, digest(alloc, &made.plan)?.as_slice(), plan.as_slice());
-    are_equal(
-        &rt,
-        digest(alloc, &made.script)?.as_slice(),
-        script.as_slice(),
-    );
+/// The text has this digest.
+fn has_digest<R: Abort>(rt: &R, alloc: Global, text: &[u8], expected: &[u8]) -> Result<(), Fail> {
+    let found = digest(alloc, text)?;
+    are_equal(rt, found.as_slice(), expected);
     Ok(())
 }
 
-/// The greatest number, and a second group of sessions.
+/// The bank, the plan and the script have these digests.
+fn has_digests<R: Abort>(
+    rt: &R,
+    alloc: Global,
+    made: &Made,
+    digests: &[&[u8]; 3],
+) -> Result<(), Fail> {
+    has_digest(rt, alloc, &made.bank, digests[0])?;
+    has_digest(rt, alloc, &made.plan, digests[1])?;
+    has_digest(rt, alloc, &made.script, digests[2])
+}
+
+/// The digests of the texts of the drill of number 7 with two sessions.
+const SEVEN: [&[u8]; 3] = [
+    b"b8b7efa88670100a29846cc57af5033c909009628bc019f8563a2fb3c59b67aa",
+    b"3a10f13101b39f7edf3f1067c7038d426a8282c1d5e8d4df51d3b4aee98f29bc",
+    b"53bee78e4ead1abe44fedd79467b8da426619141181269b68fa1feceabfa572a",
+];
+
+#[test]
+fn texts_of_seven(rt: HostRuntime) -> Result<(), Fail> {
+    let made = make(rt.alloc(), 7, 2)?;
+    has_digests(&rt, rt.alloc(), &made, &SEVEN)
+}
+
+/// Those of the greatest number, and of a second group of sessions.
+const GREATEST: [&[u8]; 3] = [
+    b"905ded1c604a7404872346f5b6fd3c8e160cd821ae30305e7abe5f0415274dfc",
+    b"636089bc6550df2ef9af473494a814f24a777bc59d0dfdddc206eba45ebbd94a",
+    b"c10bfeecad7887683db7cc3f3548d7dabd1b303333c2cc06e789fde588fd576c",
+];
+
 #[test]
 fn texts_of_the_greatest_number(rt: HostRuntime) -> Result<(), Fail> {
-    let alloc = rt.alloc();
-    let made = make(alloc, 4_294_967_295, 13)?;
-    let bank = b"905ded1c604a7404872346f5b6fd3c8e160cd821ae30305e7abe5f0415274dfc";
-    let plan = b"636089bc6550df2ef9af473494a814f24a777bc59d0dfdddc206eba45ebbd94a";
-    let script = b"c10bfeecad7887683db7cc3f3548d7dabd1b303333c2cc06e789fde588fd576c";
-    are_equal(&rt, digest(alloc, &made.bank)?.as_slice(), bank.as_slice());
-    are_equal(&rt, digest(alloc, &made.plan)?.as_slice(), plan.as_slice());
-    are_equal(
-        &rt,
-        digest(alloc, &made.script)?.as_slice(),
-        script.as_slice(),
-    );
-    Ok(())
+    let made = make(rt.alloc(), 4_294_967_295, 13)?;
+    has_digests(&rt, rt.alloc(), &made, &GREATEST)
 }

@@ -18,7 +18,7 @@ pub const ASSEMBLE: [&str; 3] = ["assemble", "bank", "plan"];
 pub const SERVE: [&str; 3] = ["serve", "bank", "plan"];
 
 /// The journal that the program finds, and the numbers of the calls that fail.
-#[derive(Clone, Copy, Debug)]
+#[derive(Clone, Copy)]
 pub struct Given<'a> {
     pub journal: &'a [u8],
     pub files: &'a [u64],
@@ -35,7 +35,7 @@ pub const CALM: Given<'static> = Given {
 };
 
 /// The status, what is written, and the journal that is left.
-#[derive(Debug, Drop)]
+#[derive(Drop)]
 pub struct Ran {
     pub status: u8,
     pub text: Vec<u8>,
@@ -57,11 +57,14 @@ fn file(alloc: Global, name: &str, text: &str) -> Result<(String, Vec<u8>), Allo
     ))
 }
 
+/// The names of the files.
+const NAMES: [&str; 3] = ["bank", "plan", "script"];
+
 fn files_of(alloc: Global, texts: &[&str; 3]) -> Result<Vec<(String, Vec<u8>)>, AllocError> {
     let mut files = Vec::new(alloc);
-    files.push(file(alloc, "bank", texts[0])?)?;
-    files.push(file(alloc, "plan", texts[1])?)?;
-    files.push(file(alloc, "script", texts[2])?)?;
+    for i in 0..3usize {
+        files.push(file(alloc, NAMES[i], texts[i])?)?;
+    }
     Ok(files)
 }
 
@@ -162,6 +165,19 @@ pub fn begins<R: Abort + AllocGlobal + Threads + Wait + Sync>(
     Ok(())
 }
 
+/// A run over this journal prints this.
+fn prints_over<R: Abort + AllocGlobal + Threads + Wait + Sync>(
+    rt: &R,
+    journal: &[u8],
+    texts: &[&str; 3],
+    text: &str,
+) -> Result<(), Fail> {
+    let ran = outcome(rt, &REPLAY, texts, &Given { journal, ..CALM })?;
+    are_equal(rt, ran.text.as_slice(), text.as_bytes());
+    is_equal(rt, &ran.status, &0);
+    Ok(())
+}
+
 /// A second run over the journal that the first left prints this.
 pub fn goes_on<R: Abort + AllocGlobal + Threads + Wait + Sync>(
     rt: &R,
@@ -170,14 +186,5 @@ pub fn goes_on<R: Abort + AllocGlobal + Threads + Wait + Sync>(
     text: &str,
 ) -> Result<(), Fail> {
     let ran = outcome(rt, &REPLAY, first, &CALM)?;
-    let given = Given {
-        journal: &ran.journal,
-        files: &[],
-        sink: &[],
-        disk: &[],
-    };
-    let again = outcome(rt, &REPLAY, second, &given)?;
-    are_equal(rt, again.text.as_slice(), text.as_bytes());
-    is_equal(rt, &again.status, &0);
-    Ok(())
+    prints_over(rt, &ran.journal, second, text)
 }

@@ -1,72 +1,65 @@
 //! Sessions that are served from a script.
 
 use crate::outcome::{REPLAY, goes_on, prints};
-use crate::texts::{BANK_E, BANK_S, BANK_TIE, LINES_A, SCRIPT_A, joined};
+use crate::texts::{BANK_E, BANK_S, BANK_TIE, LINES_A, SCRIPT_A};
 use std::test::Fail;
 use trial_cases::{BANK_A, PLAN_A, PLAN_E};
 
-#[test]
-fn a_session_of_bank_a(rt: HostRuntime) -> Result<(), Fail> {
-    let first = "length 3\nprior -10 0 -10\ncount 1 1 0-1\ncount 0 1 2 5\n";
-    for plan in [PLAN_A, first] {
-        prints(&rt, &REPLAY, &[BANK_A, plan, SCRIPT_A], 0, LINES_A)?;
-    }
-    Ok(())
-}
+/// The first item of bank E is served, and its form is not proved best.
+const UNPROVED: &str = "session 0 step 0 item 0 unproved\n";
 
-#[test]
-fn a_passage_that_is_left_is_not_entered_again(rt: HostRuntime) -> Result<(), Fail> {
-    let plan = "length 4\nprior 0 -1\nstimulus 1 2 3\n";
-    let script = "begin 1\nanswer 0 0 0\nanswer 0 1 0\nanswer 0 2 1\n";
-    let lines = "session 0 step 0 item 0 proved
+/// Banks, plans and scripts, each with the lines that are printed.
+const SESSIONS: [([&str; 3], &str); 8] = [
+    ([BANK_A, PLAN_A, SCRIPT_A], LINES_A),
+    (
+        [
+            BANK_A,
+            "length 3\nprior -10 0 -10\ncount 1 1 0-1\ncount 0 1 2 5\n",
+            SCRIPT_A,
+        ],
+        LINES_A,
+    ),
+    // A passage that is left is not entered again.
+    (
+        [
+            BANK_S,
+            "length 4\nprior 0 -1\nstimulus 1 2 3\n",
+            "begin 1\nanswer 0 0 0\nanswer 0 1 0\nanswer 0 2 1\n",
+        ],
+        "session 0 step 0 item 0 proved
 session 0 step 1 item 1 proved
 session 0 step 2 item 3 proved
 session 0 step 3 item 4 proved
-";
-    prints(&rt, &REPLAY, &[BANK_S, plan, script], 0, lines)
-}
-
-#[test]
-fn of_equal_items_the_lowest_is_served(rt: HostRuntime) -> Result<(), Fail> {
-    let plan = "length 2\nprior 0\ncount 1 1 0\n";
-    let line = "session 0 step 0 item 0 proved\n";
-    prints(&rt, &REPLAY, &[BANK_TIE, plan, "begin 1\n"], 0, line)
-}
-
-/// One node isn't enough to prove the form {0, 3}, which no exchange of one item betters; {2, 4} is such a form's worse.
-#[test]
-fn a_spent_budget(rt: HostRuntime) -> Result<(), Fail> {
-    let line = "session 0 step 0 item 0 unproved\n";
-    prints(&rt, &REPLAY, &[BANK_E, PLAN_E, "begin 1\n"], 0, line)?;
-    let based = joined(rt.alloc(), PLAN_E, "base 2 4\n")?;
-    prints(
-        &rt,
-        &REPLAY,
-        &[BANK_E, based.as_str(), "begin 1\n"],
-        0,
-        line,
-    )
-}
-
-/// The rate 1 in 65,535, and the key of zeros.
-const RARE: &str =
-    "rate 1 65535\nkey 0000000000000000000000000000000000000000000000000000000000000000\n";
-
-/// The counts of finished sessions draw which items the next one may be shown; a session that no form is left for is served
-/// with all of them.
-#[test]
-fn counts_draw_the_eligible_items(rt: HostRuntime) -> Result<(), Fail> {
-    let alloc = rt.alloc();
-    let plan = joined(alloc, PLAN_A, RARE)?;
-    let script = joined(
-        alloc,
-        SCRIPT_A,
-        "begin 71\nanswer 1 0 0\nanswer 1 1 0\nanswer 1 2 0\nbegin 72\nclose 2\nexposure\n",
-    )?;
-    let lines = joined(
-        alloc,
-        LINES_A,
-        "session 1 step 0 item 5 proved
+",
+    ),
+    // Of equal items the lowest is served.
+    (
+        [BANK_TIE, "length 2\nprior 0\ncount 1 1 0\n", "begin 1\n"],
+        "session 0 step 0 item 0 proved\n",
+    ),
+    // One node isn't enough to prove the form {0, 3}, which no exchange of one item betters; {2, 4} is such a form's worse.
+    ([BANK_E, PLAN_E, "begin 1\n"], UNPROVED),
+    (
+        [
+            BANK_E,
+            "length 2\nprior 0\nbudget 1\nenemies 0 1\nenemies 1 2\nenemies 0 2\nbase 2 4\n",
+            "begin 1\n",
+        ],
+        UNPROVED,
+    ),
+    // At the rate 1 in 65,535, and with the key of zeros, the counts of finished sessions draw which items the next one may be
+    // shown; a session that no form is left for is served with all of them.
+    (
+        [
+            BANK_A,
+            "length 3\nprior -10 0 -10\ncount 1 1 0-1\nenemies 2 5\nrate 1 65535\nkey 0000000000000000000000000000000000000000000000000000000000000000\n",
+            "begin 70\nanswer 0 0 1\nanswer 0 1 0\nanswer 0 2 1\nbegin 71\nanswer 1 0 0\nanswer 1 1 0\nanswer 1 2 0\nbegin 72\nclose 2\nexposure\n",
+        ],
+        "session 0 step 0 item 2 proved
+session 0 step 1 item 4 proved
+session 0 step 2 item 1 proved
+session 0 complete
+session 1 step 0 item 5 proved
 session 1 step 1 item 3 proved
 session 1 step 2 item 0 proved
 session 1 complete
@@ -80,22 +73,11 @@ item 3 shown 1 eligible 3
 item 4 shown 1 eligible 2
 item 5 shown 1 eligible 3
 ",
-    )?;
-    prints(
-        &rt,
-        &REPLAY,
-        &[BANK_A, plan.as_str(), script.as_str()],
-        0,
-        lines.as_str(),
-    )
-}
-
-const TWO_BEGUN: &str = "begin 1\nbegin 2\nanswer 0 0 1\nclose 1\n";
-
-#[test]
-fn an_item_that_was_shown_and_not_answered_counts(rt: HostRuntime) -> Result<(), Fail> {
-    let script = "begin 1\nbegin 2\nclose 1\nexposure\n";
-    let lines = "session 0 step 0 item 2 proved
+    ),
+    // An item that was shown and not answered counts.
+    (
+        [BANK_A, PLAN_A, "begin 1\nbegin 2\nclose 1\nexposure\n"],
+        "session 0 step 0 item 2 proved
 session 1 step 0 item 2 proved
 session 1 closed
 exposure finished 1
@@ -105,9 +87,19 @@ item 2 shown 1 eligible 1
 item 3 shown 0 eligible 1
 item 4 shown 0 eligible 1
 item 5 shown 0 eligible 1
-";
-    prints(&rt, &REPLAY, &[BANK_A, PLAN_A, script], 0, lines)
+",
+    ),
+];
+
+#[test]
+fn sessions(rt: HostRuntime) -> Result<(), Fail> {
+    for (texts, lines) in &SESSIONS {
+        prints(&rt, &REPLAY, texts, 0, lines)?;
+    }
+    Ok(())
 }
+
+const TWO_BEGUN: &str = "begin 1\nbegin 2\nanswer 0 0 1\nclose 1\n";
 
 /// A second run goes on from the journal of the first. A refused request prints its refusal, and the run goes on.
 #[test]

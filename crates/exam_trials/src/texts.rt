@@ -1,14 +1,5 @@
 //! Banks, plans and scripts of the worked cases.
 
-use std::alloc::{AllocError, Global};
-
-/// A text, and what follows it.
-pub fn joined(alloc: Global, text: &str, rest: &str) -> Result<String, AllocError> {
-    let mut both = String::from_str(alloc, text)?;
-    both.push_str(rest)?;
-    Ok(both)
-}
-
 pub const SCRIPT_A: &str = "begin 70\nanswer 0 0 1\nanswer 0 1 0\nanswer 0 2 1\n";
 
 pub const LINES_A: &str = "session 0 step 0 item 2 proved
