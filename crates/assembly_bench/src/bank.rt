@@ -13,7 +13,7 @@ use std::alloc::{AllocError, Global};
 fn quantity_rows(size: &Size) -> u32 {
     let mut n = 0u32;
     for r in 0..size.rows {
-        if kind_of(size, r) == Kind::Quantity {
+        if let Kind::Quantity = kind_of(size, r) {
             n = n.saturating_add(1);
         }
     }

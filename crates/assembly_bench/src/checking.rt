@@ -7,6 +7,7 @@ ghost use Rattle.exam_model.specs.Validity.{IsPlanFor, IsWellMade};
 ghost use Rattle.constraint_model.specs.Views.{problem_of};
 
 use crate::bank::rows;
+use crate::command::Trial;
 use crate::form::best_form;
 use crate::plan::draft;
 use crate::size::Size;
@@ -16,9 +17,8 @@ use bank_tables::{Bank, ItemSet};
 use certificate_check::{check, spent};
 use constraint_model::{Problem, Spec};
 use proof_tree::Tree;
-use std::alloc::Global;
+use std::fmt;
 use std::fmt::Debug;
-use std::io;
 use std::rt::Clock;
 use std::time::{Duration, Instant};
 
@@ -27,25 +27,43 @@ pub fn microseconds(time: Duration) -> u64 {
     u64::try_from(time.as_micros()).unwrap_or(u64::MAX)
 }
 
-/// Nodes a second.
-fn pace(nodes: u64, microseconds: u64) -> u64 {
-    nodes.saturating_mul(1_000_000) / microseconds.max(1)
+/// The end of a line: the time that a call took and, from it, nodes a second; nothing if quiet.
+#[derive(Clone, Copy)]
+struct Pace {
+    nodes: u64,
+    microseconds: u64,
+    quiet: bool,
 }
 
-/// Prints a line for a call: what it answered and, unless quiet, what it took.
-fn report<R: Print, A: Debug + Drop>(
+impl fmt::Display for Pace {
+    fn fmt<W: fmt::Write>(&self, f: &mut fmt::Formatter<W>) -> fmt::Result {
+        if self.quiet {
+            return Ok(());
+        }
+        let microseconds = self.microseconds;
+        let pace = self.nodes.saturating_mul(1_000_000) / microseconds.max(1);
+        write!(f, " microseconds {microseconds} a second {pace}")
+    }
+}
+
+/// Prints a line for a call that has just ended: what it answered and, unless quiet, what it took.
+fn report<R: Print + Clock, A: Debug>(
     rt: &R,
     call: &str,
-    nodes: u64,
-    answer: A,
-    took: u64,
+    tree: &Tree,
+    answer: &A,
+    start: &Instant,
     quiet: bool,
-) -> io::Result<()> {
-    if quiet {
-        return println!(rt; "{call} {nodes} nodes {answer:?}");
-    }
-    let pace = pace(nodes, took);
-    println!(rt; "{call} {nodes} nodes {answer:?} microseconds {took} a second {pace}")
+) -> Result<()> {
+    let microseconds = microseconds(start.elapsed(rt)?);
+    let nodes = tree.nodes().len() as u64;
+    let pace = Pace {
+        nodes,
+        microseconds,
+        quiet,
+    };
+    println!(rt; "{call} {nodes} nodes {answer:?}{pace}")?;
+    Ok(())
 }
 
 fn time_check<R: Print + Clock>(
@@ -59,10 +77,7 @@ fn time_check<R: Print + Clock>(
 {
     let start = Instant::now(rt)?;
     let verdict = check(problem, Some(form), tree);
-    let took = microseconds(start.elapsed(rt)?);
-    let nodes = tree.nodes().len() as u64;
-    report(rt, "check", nodes, verdict, took, quiet)?;
-    Ok(())
+    report(rt, "check", tree, &verdict, &start, quiet)
 }
 
 fn time_spent<R: Print + Clock>(rt: &R, problem: &Problem, tree: &Tree, quiet: bool) -> Result<()>
@@ -71,9 +86,7 @@ fn time_spent<R: Print + Clock>(rt: &R, problem: &Problem, tree: &Tree, quiet: b
     let nodes = tree.nodes().len();
     let start = Instant::now(rt)?;
     let is_spent = spent(problem, tree, nodes as u16);
-    let took = microseconds(start.elapsed(rt)?);
-    report(rt, "spent", nodes as u64, is_spent, took, quiet)?;
-    Ok(())
+    report(rt, "spent", tree, &is_spent, &start, quiet)
 }
 
 /// The problem of a session that was last served from this form.
@@ -88,24 +101,6 @@ fn with_start<'a>(problem: &Problem<'a>, form: &ItemSet) -> Problem<'a>
     }
 }
 
-/// A bank of these sizes.
-fn made_bank(alloc: Global, size: &Size) -> Result<Bank> {
-    match Bank::of(alloc, rows(alloc, size)?) {
-        Ok(bank) => Ok(bank),
-        Err(_) => bail!("no bank of these sizes"),
-    }
-}
-
-/// A plan of these sizes for the bank.
-fn made_spec(alloc: Global, bank: &Bank, size: &Size) -> Result<Spec>
-    ensures { IfOk result (IsPlanFor bank.now) }
-{
-    match Spec::of(alloc, bank, draft(alloc, size)?) {
-        Ok(spec) => Ok(spec),
-        Err(_) => bail!("no plan of these sizes"),
-    }
-}
-
 /// The best form, of items of the bank.
 fn made_form(bank: &Bank, size: &Size) -> Result<ItemSet>
     ensures { IfOk result (λ form. HoldsItems bank.now (has form)) }
@@ -117,79 +112,52 @@ fn made_form(bank: &Bank, size: &Size) -> Result<ItemSet>
     Ok(form)
 }
 
-/// A tree of these sizes.
-fn made_tree(alloc: Global, size: &Size, nodes: u16, open: bool) -> Result<Tree> {
-    match tree(alloc, size, nodes, open)? {
-        Some(tree) => Ok(tree),
+/// Times the checker on a tree: `spent` on one with an open leaf, `check` on one without.
+fn time_tree<R: Print + Clock + AllocGlobal>(
+    rt: &R,
+    problem: &Problem,
+    form: &ItemSet,
+    trial: &Trial,
+    open: bool,
+) -> Result<()>
+    requires { IsWellMade (problem_of problem.now) }
+{
+    match tree(rt.alloc(), &trial.size, trial.nodes, open)? {
+        Some(tree) if open => time_spent(rt, problem, &tree, trial.quiet),
+        Some(tree) => time_check(rt, problem, form, &tree, trial.quiet),
         None => bail!("no tree of these sizes"),
     }
 }
 
-/// Times the checker on a tree without an open leaf.
-fn time_closed<R: Print + Clock + AllocGlobal>(
-    rt: &R,
-    problem: &Problem,
-    form: &ItemSet,
-    size: &Size,
-    nodes: u16,
-    quiet: bool,
-) -> Result<()>
-    requires { IsWellMade (problem_of problem.now) }
-{
-    let tree = made_tree(rt.alloc(), size, nodes, false)?;
-    time_check(rt, problem, form, &tree, quiet)
-}
-
-/// Times the checker on a tree with an open leaf.
-fn time_open<R: Print + Clock + AllocGlobal>(
-    rt: &R,
-    problem: &Problem,
-    size: &Size,
-    nodes: u16,
-    quiet: bool,
-) -> Result<()>
-    requires { IsWellMade (problem_of problem.now) }
-{
-    let tree = made_tree(rt.alloc(), size, nodes, true)?;
-    time_spent(rt, problem, &tree, quiet)
-}
-
-/// Times the checker on a plan and trees of these sizes.
-fn time_plan<R: Print + Clock + AllocGlobal>(
-    rt: &R,
-    bank: &Bank,
-    size: &Size,
-    nodes: u16,
-    quiet: bool,
-) -> Result<()> {
-    let spec = made_spec(rt.alloc(), bank, size)?;
-    let form = made_form(bank, size)?;
-    let problem = with_start(&Problem::whole(bank, &spec), &form);
-    time_trees(rt, &problem, &form, size, nodes, quiet)
-}
-
-/// Times the checker on trees of these sizes.
+/// Times the checker on trees for the best form of a plan.
 fn time_trees<R: Print + Clock + AllocGlobal>(
     rt: &R,
-    problem: &Problem,
-    form: &ItemSet,
-    size: &Size,
-    nodes: u16,
-    quiet: bool,
+    bank: &Bank,
+    spec: &Spec,
+    trial: &Trial,
 ) -> Result<()>
-    requires { IsWellMade (problem_of problem.now) }
+    requires { IsPlanFor bank.now spec.now }
 {
-    time_closed(rt, problem, form, size, nodes, quiet)?;
-    time_open(rt, problem, size, nodes, quiet)
+    let form = made_form(bank, &trial.size)?;
+    let problem = with_start(&Problem::whole(bank, spec), &form);
+    time_tree(rt, &problem, &form, trial, false)?;
+    time_tree(rt, &problem, &form, trial, true)
 }
 
-/// Makes a problem and trees of these sizes, times the checker on them, and prints a line for each call.
-pub fn time_checks<R: Print + Clock + AllocGlobal>(
-    rt: &R,
-    size: Size,
-    nodes: u16,
-    quiet: bool,
-) -> Result<()> {
-    let bank = made_bank(rt.alloc(), &size)?;
-    time_plan(rt, &bank, &size, nodes, quiet)
+/// Times the checker on a plan and trees for a bank.
+fn time_plan<R: Print + Clock + AllocGlobal>(rt: &R, bank: &Bank, trial: &Trial) -> Result<()> {
+    let draft = draft(rt.alloc(), &trial.size)?;
+    match Spec::of(rt.alloc(), bank, draft) {
+        Ok(spec) => time_trees(rt, bank, &spec, trial),
+        Err(_) => bail!("no plan of these sizes"),
+    }
+}
+
+/// Makes a problem and trees, times the checker on them, and prints a line for each call.
+pub fn time_checks<R: Print + Clock + AllocGlobal>(rt: &R, trial: &Trial) -> Result<()> {
+    let rows = rows(rt.alloc(), &trial.size)?;
+    match Bank::of(rt.alloc(), rows) {
+        Ok(bank) => time_plan(rt, &bank, trial),
+        Err(_) => bail!("no bank of these sizes"),
+    }
 }

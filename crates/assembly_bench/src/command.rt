@@ -20,29 +20,36 @@ pub struct Order<'a> {
     pub warm: bool,
 }
 
+/// A made problem and tree, on which the checker is timed.
+#[derive(Clone, Copy)]
+pub struct Trial {
+    /// The sizes of the problem.
+    pub size: Size,
+    /// The nodes of the tree, an odd number.
+    pub nodes: u16,
+    /// Whether no times are printed.
+    pub quiet: bool,
+}
+
 /// What the words after the program's name ask for.
 #[derive(Clone, Copy)]
 pub enum Command<'a> {
-    /// To time the checker on a made problem and tree.
-    Check { size: Size, nodes: u16, quiet: bool },
+    /// To time the checker.
+    Check(Trial),
     /// To time the steps of a session.
     Steps(Order<'a>),
 }
 
-fn size_of(items: &str, rows: &str, stimuli: &str) -> Option<Size> {
-    let items = items.parse::<u16>().ok()?;
-    let rows = rows.parse::<u8>().ok()?;
-    let stimuli = stimuli.parse::<u8>().ok()?;
-    Size::of(items, rows, stimuli)
+/// The word at a place, if it is a number.
+fn number_at(words: &[String], at: usize) -> Option<u16> {
+    words.get(at)?.as_str().parse::<u16>().ok()
 }
 
-fn nodes_of(word: &str) -> Option<u16> {
-    let nodes = word.parse::<u16>().ok()?;
-    if nodes % 2 == 1 && nodes <= 4_095 {
-        Some(nodes)
-    } else {
-        None
-    }
+fn size_of(words: &[String]) -> Option<Size> {
+    let items = number_at(words, 1)?;
+    let rows = number_at(words, 2)?;
+    let stimuli = number_at(words, 3)?;
+    Size::of(items, rows, stimuli)
 }
 
 fn check_of(words: &[String]) -> Option<Command<'_>> {
@@ -51,9 +58,12 @@ fn check_of(words: &[String]) -> Option<Command<'_>> {
         6 if words[5].as_str() == "quiet" => true,
         _ => return None,
     };
-    let size = size_of(words[1].as_str(), words[2].as_str(), words[3].as_str())?;
-    let nodes = nodes_of(words[4].as_str())?;
-    Some(Command::Check { size, nodes, quiet })
+    let size = size_of(words)?;
+    let nodes = number_at(words, 4)?;
+    if nodes % 2 == 0 || nodes > 4_095 {
+        return None;
+    }
+    Some(Command::Check(Trial { size, nodes, quiet }))
 }
 
 /// The items of a list parted by commas.
@@ -69,20 +79,19 @@ fn items_of(text: &str) -> Option<ItemSet> {
     Some(items)
 }
 
-fn left_out_of(words: &[String]) -> Option<(bool, ItemSet)> {
+/// The items that are left out by the words after `trees`.
+fn left_out_of(words: &[String]) -> Option<ItemSet> {
     match words.len() {
-        4 => Some((false, ItemSet::empty())),
-        5 if words[4].as_str() == "trees" => Some((true, ItemSet::empty())),
-        7 if words[4].as_str() == "trees" && words[5].as_str() == "without" => {
-            Some((true, items_of(words[6].as_str())?))
-        }
+        4 | 5 => Some(ItemSet::empty()),
+        7 if words[5].as_str() == "without" => items_of(words[6].as_str()),
         _ => None,
     }
 }
 
 fn steps_of(words: &[String], warm: bool) -> Option<Command<'_>> {
-    let (trees, left_out) = left_out_of(words)?;
-    if words.len() < 4 {
+    let left_out = left_out_of(words)?;
+    let trees = words.len() > 4;
+    if words.len() < 4 || trees && words[4].as_str() != "trees" {
         return None;
     }
     Some(Command::Steps(Order {

@@ -3,12 +3,13 @@
 ghost use Rattle.exam_model.specs.Validity.{IsWellMade};
 ghost use Rattle.constraint_model.specs.Views.{problem_of};
 
+use anyhow::Result;
 use bank_tables::ItemSet;
 use branch_bound::{Assembled, Outcome};
 use constraint_model::{Problem, objective};
 use proof_tree::{Tree, encode};
 use std::alloc::{AllocError, Global};
-use std::fmt::Write;
+use std::{fmt, io};
 
 fn mark(outcome: &Outcome) -> &'static str {
     match outcome {
@@ -25,14 +26,14 @@ fn mark(outcome: &Outcome) -> &'static str {
     }
 }
 
-/// The time, size and outcome of an assembly with this form.
-pub fn outcome_words(
-    alloc: Global,
+/// Prints the time, size and outcome of an assembly with this form.
+pub fn print_outcome<R: Print>(
+    rt: &R,
     problem: &Problem,
     assembled: &Assembled,
     form: &Option<ItemSet>,
     microseconds: u64,
-) -> Result<String, AllocError>
+) -> io::Result<()>
     requires { IsWellMade (problem_of problem.now) }
 {
     let nodes = assembled.tree().nodes().len();
@@ -46,39 +47,33 @@ pub fn outcome_words(
         Some(form) => objective(problem, form),
         None => 0,
     };
-    format!(in alloc;
+    print!(rt;
         "microseconds {microseconds} nodes {nodes} mark {mark} search {search} objective {best}"
     )
 }
 
-/// Adds a name, and the members of its set parted by commas, or `-` for none.
-fn add_set(words: &mut String, name: &str, set: &Option<ItemSet>) -> Result<(), AllocError> {
-    write!(words, " {name} ")?;
-    let mut before = "";
-    if let Some(items) = set {
-        for i in 0..512u16 {
-            if items.has(i) {
-                write!(words, "{before}{i}")?;
-                before = ",";
-            }
-        }
-    }
-    if before.is_empty() {
-        words.push('-')?;
-    }
-    Ok(())
+/// A set, printed as its members parted by commas, or `-` for none.
+#[derive(Clone, Copy)]
+struct Members {
+    set: Option<ItemSet>,
 }
 
-/// Adds the sets of the problem, and the form.
-fn add_sets(
-    words: &mut String,
-    problem: &Problem,
-    form: &Option<ItemSet>,
-) -> Result<(), AllocError> {
-    add_set(words, "given", &Some(problem.given))?;
-    add_set(words, "barred", &Some(problem.barred))?;
-    add_set(words, "start", &problem.start)?;
-    add_set(words, "form", form)
+impl fmt::Display for Members {
+    fn fmt<W: fmt::Write>(&self, f: &mut fmt::Formatter<W>) -> fmt::Result {
+        let mut before = "";
+        if let Some(items) = &self.set {
+            for i in 0..512u16 {
+                if items.has(i) {
+                    write!(f, "{before}{i}")?;
+                    before = ",";
+                }
+            }
+        }
+        if before.is_empty() {
+            return write!(f, "-");
+        }
+        Ok(())
+    }
 }
 
 /// The bytes of the tree in hexadecimal.
@@ -89,17 +84,25 @@ fn tree_words(alloc: Global, tree: &Tree) -> Result<String, AllocError> {
     }
 }
 
-/// What rebuilds the problem, the form, and the tree.
-pub fn rebuilding_words(
-    alloc: Global,
+/// Prints what rebuilds the problem, the form, and the tree.
+pub fn print_rebuilding<R: Print + AllocGlobal>(
+    rt: &R,
     problem: &Problem,
     form: &Option<ItemSet>,
     tree: &Tree,
-) -> Result<String, AllocError> {
+) -> Result<()> {
     let theta = problem.theta;
-    let mut words = format!(in alloc; "theta {theta}")?;
-    add_sets(&mut words, problem, form)?;
-    let tree = tree_words(alloc, tree)?;
-    write!(words, " tree {tree}")?;
-    Ok(words)
+    let given = Members {
+        set: Some(problem.given),
+    };
+    let barred = Members {
+        set: Some(problem.barred),
+    };
+    let start = Members { set: problem.start };
+    let form = Members { set: *form };
+    let tree = tree_words(rt.alloc(), tree)?;
+    print!(rt;
+        " theta {theta} given {given} barred {barred} start {start} form {form} tree {tree}"
+    )?;
+    Ok(())
 }

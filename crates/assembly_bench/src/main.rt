@@ -30,7 +30,7 @@ use steps::time_steps;
 fn main(rt: HostRuntime) -> Result<()> {
     let words: Vec<String> = env::args(&rt)?.skip(1).collect(rt.alloc())?;
     match Command::of(&words) {
-        Some(Command::Check { size, nodes, quiet }) => time_checks(&rt, size, nodes, quiet),
+        Some(Command::Check(trial)) => time_checks(&rt, &trial),
         Some(Command::Steps(order)) => time_steps(&rt, &order),
         None => {
             bail!(

@@ -9,7 +9,7 @@ use constraint_model::{Draft, Rate, Row, StimulusBound};
 use std::alloc::{AllocError, Global};
 
 /// The kinds of row that a plan has in turn, with one row on the number of stimuli at its end.
-#[derive(Clone, Copy, PartialEq, Eq)]
+#[derive(Clone, Copy)]
 pub enum Kind {
     Count,
     Quantity,

@@ -3,36 +3,31 @@
 ghost use Rattle.std.specs.Prelude.{IfOk};
 ghost use Rattle.exam_model.specs.Validity.{IsPlanFor};
 
-use anyhow::{Context, Result, bail};
-use bank_reader::read_bank;
+use anyhow::{Context, Result};
+use bank_reader::{ReadFault, read_bank};
 use bank_tables::Bank;
 use constraint_model::Spec;
 use exam_edge::MemorySource;
-use spec_reader::read_plan;
+use spec_reader::{PlanFault, read_plan};
+use std::alloc::Global;
 use std::fs;
 use std::rt::Files;
 
-fn source_in<R: Files + AllocGlobal>(rt: &R, name: &str) -> Result<MemorySource> {
-    let bytes = fs::read(rt, name).context(format_args!("reading {name}"))?;
-    Ok(MemorySource::of(bytes, Vec::new(rt.alloc())))
+/// The bytes of the file of this name.
+pub fn bytes_in<R: Files + AllocGlobal>(rt: &R, name: &str) -> Result<Vec<u8>> {
+    fs::read(rt, name).context(format_args!("reading {name}"))
 }
 
-/// The bank in the file of this name.
-pub fn bank_in<R: Files + AllocGlobal>(rt: &R, name: &str) -> Result<Bank> {
-    let mut source = source_in(rt, name)?;
-    match read_bank(rt.alloc(), &mut source) {
-        Ok(bank) => Ok(bank),
-        Err(fault) => bail!("{name}: {fault:?}"),
-    }
+/// The bank that the bytes are.
+pub fn bank_of(alloc: Global, bytes: Vec<u8>) -> Result<Bank, ReadFault> {
+    let mut source = MemorySource::of(bytes, Vec::new(alloc));
+    read_bank(alloc, &mut source)
 }
 
-/// The plan in the file of this name.
-pub fn plan_in<R: Files + AllocGlobal>(rt: &R, bank: &Bank, name: &str) -> Result<Spec>
+/// The plan that the bytes are.
+pub fn plan_of(alloc: Global, bank: &Bank, bytes: Vec<u8>) -> Result<Spec, PlanFault>
     ensures { IfOk result (IsPlanFor bank.now) }
 {
-    let mut source = source_in(rt, name)?;
-    match read_plan(rt.alloc(), bank, &mut source) {
-        Ok(spec) => Ok(spec),
-        Err(fault) => bail!("{name}: {fault:?}"),
-    }
+    let mut source = MemorySource::of(bytes, Vec::new(alloc));
+    read_plan(alloc, bank, &mut source)
 }

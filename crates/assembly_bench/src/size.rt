@@ -19,14 +19,14 @@ pub struct Size {
 
 impl Size {
     /// The sizes; none where one is out of its range.
-    pub fn of(items: u16, rows: u8, stimuli: u8) -> Option<Size> {
+    pub fn of(items: u16, rows: u16, stimuli: u16) -> Option<Size> {
         if items < 60 || items > 512 || rows > 128 || stimuli > 64 {
             return None;
         }
         Some(Size {
             items,
-            rows,
-            stimuli,
+            rows: rows as u8,
+            stimuli: stimuli as u8,
         })
     }
 

@@ -11,8 +11,8 @@ ghost use Rattle.shadow_select.specs.Next.{HasFreeItem};
 
 use crate::checking::microseconds;
 use crate::command::Order;
-use crate::line::{outcome_words, rebuilding_words};
-use crate::reading::{bank_in, plan_in};
+use crate::line::{print_outcome, print_rebuilding};
+use crate::reading::{bank_of, bytes_in, plan_of};
 use crate::seat::{Service, new_seat, seat_after};
 use crate::warm::{first_vector, fitting};
 use anyhow::{Result, bail};
@@ -44,43 +44,6 @@ struct Options {
     warm: bool,
 }
 
-/// What a step leaves to the next one: the seat, and a vector that its search may begin with.
-#[derive(Drop)]
-struct After {
-    seat: Seat,
-    warm: Option<Vector>,
-}
-
-/// What an assembly gives.
-#[derive(Drop)]
-struct Found {
-    form: Option<ItemSet>,
-    /// A copy of the tree's first vector.
-    vector: Option<Vector>,
-}
-
-/// Assembles a form, and measures the time that it took.
-fn timed<'a, R: Clock + AllocGlobal>(
-    rt: &R,
-    problem: &Problem<'a>,
-    hint: Option<&ItemSet>,
-    budget: u16,
-    warm: Option<&Vector>,
-) -> Result<(Assembled<'a>, u64)>
-    requires well_made { IsWellMade (problem_of problem.now) }
-    requires budget { IsBudget budget }
-    ensures { IfOk result (λ a. IsTrueOutcome (problem_of problem.now) a.0.outcome) }
-{
-    let copy = problem.again();
-    let warm = fitting(problem, warm);
-    let start = Instant::now(rt)?;
-    let Ok(assembled) = assemble_from(rt.alloc(), copy, hint, budget, warm) else {
-        bail!("out of memory");
-    };
-    let took = microseconds(start.elapsed(rt)?);
-    Ok((assembled, took))
-}
-
 /// The form of an outcome, if it has one.
 fn found_form(problem: &Problem, outcome: Outcome) -> Option<ItemSet>
     requires { IsTrueOutcome (problem_of problem.now) outcome }
@@ -92,61 +55,53 @@ fn found_form(problem: &Problem, outcome: Outcome) -> Option<ItemSet>
     }
 }
 
-/// Prints the outcome of an assembly, and with `trees` what rebuilds it.
-fn tell<R: Print + AllocGlobal>(
+/// Prints the outcome of an assembly that has just ended, and with `trees` what rebuilds it. Gives
+/// the form if there is one, and leaves a vector that the next search may begin with.
+fn found_in<R: Print + Clock + AllocGlobal>(
     rt: &R,
     problem: &Problem,
     assembled: &Assembled,
-    form: &Option<ItemSet>,
-    took: u64,
-    trees: bool,
-) -> Result<()>
-    requires { IsWellMade (problem_of problem.now) }
-{
-    let words = outcome_words(rt.alloc(), problem, assembled, form, took)?;
-    print!(rt; "{words}")?;
-    if trees {
-        let words = rebuilding_words(rt.alloc(), problem, form, assembled.tree())?;
-        print!(rt; " {words}")?;
-    }
-    Ok(())
-}
-
-/// Prints the outcome of an assembly, and gives the form if there is one, and a vector.
-fn found_in<R: Print + AllocGlobal>(
-    rt: &R,
-    problem: &Problem,
-    assembled: &Assembled,
-    took: u64,
+    start: &Instant,
+    vector: &mut Option<Vector>,
     options: Options,
-) -> Result<Found>
+) -> Result<Option<ItemSet>>
     requires well_made { IsWellMade (problem_of problem.now) }
     requires outcome { IsTrueOutcome (problem_of problem.now) assembled.now.outcome }
     ensures { IfOk result (λ found.
-        IfSome found.form (λ form. Form (problem_of problem.now) (has form))) }
+        IfSome found (λ form. Form (problem_of problem.now) (has form))) }
 {
+    let took = microseconds(start.elapsed(rt)?);
     let form = found_form(problem, assembled.outcome());
-    tell(rt, problem, assembled, &form, took, options.trees)?;
-    let vector = first_vector(rt.alloc(), assembled.tree(), options.warm)?;
-    Ok(Found { form, vector })
+    print_outcome(rt, problem, assembled, &form, took)?;
+    if options.trees {
+        print_rebuilding(rt, problem, &form, assembled.tree())?;
+    }
+    *vector = first_vector(rt.alloc(), assembled.tree(), options.warm)?;
+    Ok(form)
 }
 
-/// Assembles a form, prints the outcome, and gives the form if there is one, and a vector.
+/// Assembles a form, prints the outcome, and gives the form if there is one. The search may begin
+/// with the vector, and leaves one for the next search.
 fn form_of<'a, R: Print + Clock + AllocGlobal>(
     rt: &R,
     problem: &Problem<'a>,
     hint: Option<&ItemSet>,
     budget: u16,
-    warm: Option<&Vector>,
+    vector: &mut Option<Vector>,
     options: Options,
-) -> Result<Found>
+) -> Result<Option<ItemSet>>
     requires well_made { IsWellMade (problem_of problem.now) }
     requires budget { IsBudget budget }
     ensures { IfOk result (λ found.
-        IfSome found.form (λ form. Form (problem_of problem.now) (has form))) }
+        IfSome found (λ form. Form (problem_of problem.now) (has form))) }
 {
-    let (assembled, took) = timed(rt, problem, hint, budget, warm)?;
-    found_in(rt, problem, &assembled, took, options)
+    let copy = problem.again();
+    let warm = fitting(problem, vector.as_ref());
+    let start = Instant::now(rt)?;
+    let Ok(assembled) = assemble_from(rt.alloc(), copy, hint, budget, warm) else {
+        bail!("out of memory");
+    };
+    found_in(rt, problem, &assembled, &start, vector, options)
 }
 
 /// The base form of the plan. If the plan names none, it is assembled and printed.
@@ -163,9 +118,10 @@ fn base_form<'a, R: Print + Clock + AllocGlobal>(
     }
     let problem = Problem::whole(bank, spec);
     print!(rt; "base ")?;
-    let found = form_of(rt, &problem, None, spec.base_budget() as u16, None, options)?;
+    let budget = spec.base_budget() as u16;
+    let found = form_of(rt, &problem, None, budget, &mut None, options)?;
     println!(rt; "")?;
-    match found.form {
+    match found {
         Some(form) => Ok(form),
         None => bail!("no base form"),
     }
@@ -203,17 +159,17 @@ fn serve_item<R: Print + AllocGlobal>(
     Ok(seat_after(problem, session.bank, session.spec, seat, &service))
 }
 
-/// Serves one step and prints it. Its search begins with the warm vector, if there is one.
+/// Serves one step and prints it. Its search may begin with the vector, and leaves one for the next.
 fn step<R: Print + Clock + AllocGlobal>(
     rt: &R,
     session: &Session,
     seat: &Seat,
-    warm: Option<&Vector>,
+    vector: &mut Option<Vector>,
     response: u8,
-) -> Result<After>
+) -> Result<Seat>
     requires plan { IsPlanFor session.now.bank.now session.now.spec.now }
     requires seat { IsSeat session.now.bank.now session.now.spec.now seat.now }
-    ensures { IfOk result (λ after. IsSeat session.now.bank.now session.now.spec.now after.seat) }
+    ensures { IfOk result (IsSeat session.now.bank.now session.now.spec.now) }
 {
     let Some(problem) = next_problem(session.bank, session.spec, 0, seat) else {
         bail!("more responses than steps");
@@ -222,14 +178,13 @@ fn step<R: Print + Clock + AllocGlobal>(
     let budget = session.spec.budget() as u16;
     let number = problem.step;
     print!(rt; "step {number} ")?;
-    let Found { form, vector } = form_of(rt, &problem, Some(&base), budget, warm, session.options)?;
-    let Some(form) = form else {
+    let found = form_of(rt, &problem, Some(&base), budget, vector, session.options)?;
+    let Some(form) = found else {
         println!(rt; " item -")?;
         bail!("no form");
     };
     a_free_item_is_left();
-    let seat = serve_item(rt, session, &problem, seat, form, response)?;
-    Ok(After { seat, warm: vector })
+    serve_item(rt, session, &problem, seat, form, response)
 }
 
 fn serve<R: Print + Clock + AllocGlobal>(
@@ -243,18 +198,18 @@ fn serve<R: Print + Clock + AllocGlobal>(
     let mut seat = new_seat(session.bank, left_out);
     let mut vector = None;
     for digit in responses {
-        let response = digit.wrapping_sub(b'0');
-        let After { seat: next, warm } = step(rt, session, &seat, vector.as_ref(), response)?;
-        seat = next;
-        vector = warm;
+        seat = step(rt, session, &seat, &mut vector, digit.wrapping_sub(b'0'))?;
     }
     Ok(())
 }
 
 /// Serves a session, and prints a line for its base form, if that is assembled, and for each step.
 pub fn time_steps<R: Print + Clock + Files + AllocGlobal>(rt: &R, order: &Order<'_>) -> Result<()> {
-    let bank = bank_in(rt, order.bank)?;
-    time_steps_on(rt, &bank, order)
+    let name = order.bank;
+    match bank_of(rt.alloc(), bytes_in(rt, name)?) {
+        Ok(bank) => time_steps_on(rt, &bank, order),
+        Err(fault) => bail!("{name}: {fault:?}"),
+    }
 }
 
 /// The same on a bank.
@@ -263,8 +218,11 @@ fn time_steps_on<R: Print + Clock + Files + AllocGlobal>(
     bank: &Bank,
     order: &Order<'_>,
 ) -> Result<()> {
-    let spec = plan_in(rt, bank, order.plan)?;
-    serve_order(rt, bank, &spec, order)
+    let name = order.plan;
+    match plan_of(rt.alloc(), bank, bytes_in(rt, name)?) {
+        Ok(spec) => serve_order(rt, bank, &spec, order),
+        Err(fault) => bail!("{name}: {fault:?}"),
+    }
 }
 
 /// The same on a bank and its plan.
