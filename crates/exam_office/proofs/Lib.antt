@@ -5,6 +5,7 @@ pub mod Moments
 pub mod Sessions
 pub mod Calling
 pub mod Opened
+pub mod Refused
 pub mod MomentsLaws
 pub mod FileLaws
 pub mod Written

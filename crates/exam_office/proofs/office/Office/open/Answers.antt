@@ -1,7 +1,10 @@
 use Rattle.std.proofs.Common.{◌≡◌, ◌≤◌, ◌∙◌, ℕ, Bool, List, length, IsTrue, refl, sym, ap, subst, rules, arith}
 use Rattle.answer_journal.specs.Journal.{accounts_of, faults_of, tells_of, payloads_of}
 use Rattle.answer_journal.specs.Frames.{payloads, shadowj1}
-use Rattle.exam_edge.specs.Images.{Account, AtEachMoment, IsSettled}
+use Rattle.answer_journal.specs.OpenFault.{IsAnswerTo}
+use Rattle.exam_edge.specs.Faults.{Rose}
+use Rattle.exam_edge.specs.Lent.{IsLent}
+use Rattle.exam_edge.specs.Images.{Account, AtEachMoment, IsImage, IsSettled, latest}
 use Rattle.history_model.specs.declared.entry.Entry.{Entry}
 use Rattle.history_model.specs.Legality.{LegalRun}
 use Rattle.history_model.proofs.JudgingLaws.{backed_is_legal_run}
@@ -12,7 +15,33 @@ use Rattle.exam_office.specs.declared.vectors.Vectors.{Vectors}
 use Rattle.exam_office.specs.KeptVectors.{AreTakenWith}
 use Rattle.exam_office.specs.Running.{handed}
 use Rattle.exam_office.proofs.Opened.{history_is, marks_told, kept_open, vectors_open, stands_too, stands_while_read, stands_while_opened, short_so, given_by}
+use Rattle.exam_office.specs.Opening.{journal_fault, IsOpenAnswer}
+use Rattle.exam_office.proofs.Refused.{journal_answer, disk_failed, lent_on, rose_later}
 use Rattle.exam_office.proofs.office.Office.open.Goals as goal
+
+-- the file is no journal
+pub returns-in-Err-clause-settled_err : goal.returns-in-Err-clause-settled_err
+returns-in-Err-clause-settled_err g c = λ told settled H stands.
+    stands_while_read c.args.bank.now c.args.spec.now H (g.D.Disk.content c.args.disk) (g.D.Disk.accounts c.args.disk) (g.D.Disk.accounts c.in-Err.disk) stands (c.in-Err.ensures.settled_err told settled)
+
+pub returns-in-Err-clause-why : goal.returns-in-Err-clause-why
+returns-in-Err-clause-why g c = λ told.
+    let file = g.D.Disk.content c.args.disk in
+    subst (IsOpenAnswer c.args.bank.now c.args.spec.now file) (sym c.journal_fault.ensures)
+    (journal_answer c.args.bank.now c.args.spec.now file c.in-Err.fault
+    (subst (λ (limit : ℕ). IsAnswerTo shadowj1 limit file c.in-Err.fault) c.journal.ensures (c.in-Err.ensures.why told)))
+
+pub returns-in-Err-clause-cause : goal.returns-in-Err-clause-cause
+returns-in-Err-clause-cause g c = λ is. c.in-Err.ensures.cause (disk_failed c.in-Err.fault (sym c.journal_fault.ensures ∙ is))
+
+pub returns-in-Err-clause-untouched : goal.returns-in-Err-clause-untouched
+returns-in-Err-clause-untouched g c = λ other told. c.in-Err.ensures.untouched_err told
+
+pub returns-in-Err-clause-unwritten : goal.returns-in-Err-clause-unwritten
+returns-in-Err-clause-unwritten g c = λ other told. c.in-Err.ensures.moments_err told
+
+pub returns-in-Err-clause-frame_err : goal.returns-in-Err-clause-frame_err
+returns-in-Err-clause-frame_err g c = c.in-Err.ensures.frame_err
 
 -- a record is refused
 pub returns-in-Err-take_all-clause-settled_err : goal.returns-in-Err-take_all-clause-settled_err
@@ -27,8 +56,32 @@ returns-in-Err-take_all-clause-settled_err g c = λ told settled H stands.
     (subst (λ (a : List Account). AtEachMoment a0 a (Stands b plan H)) (sym same)
     (stands_while_read b plan H (g.D.Disk.content c.args.disk) a0 (g.D.Disk.accounts w0.disk) stands (c.in-Ok.ensures.settled told settled)))
 
+pub returns-in-Err-take_all-clause-why : goal.returns-in-Err-take_all-clause-why
+returns-in-Err-take_all-clause-why g c = λ told.
+    subst (λ (file : List ℕ). IsOpenAnswer c.args.bank.now c.args.spec.now file c.in-Err-take_all.fault) (c.in-Ok.ensures.untouched told)
+    (c.in-Err-take_all.ensures.why (c.in-Ok.ensures.frame.tells ∙ told))
+
+pub returns-in-Err-take_all-clause-cause : goal.returns-in-Err-take_all-clause-cause
+returns-in-Err-take_all-clause-cause g c = λ is.
+    let w0 = c.in-Ok.walk in
+    let w1 = c.take_all.new.walk in
+    let count = g.D.Disk.faults in
+    subst (λ (d : g.row.D.Denot). Rose (count c.args.disk) (count d)) (sym c.stop.ensures)
+    (rose_later (count c.args.disk) (count w0.disk) (count w1.disk) c.in-Ok.ensures.frame.grows (c.in-Err-take_all.ensures.cause is))
+
 pub returns-in-Err-take_all-clause-untouched : goal.returns-in-Err-take_all-clause-untouched
 returns-in-Err-take_all-clause-untouched g c = search rules
+
+pub returns-in-Err-take_all-clause-unwritten : goal.returns-in-Err-take_all-clause-unwritten
+returns-in-Err-take_all-clause-unwritten g c = λ other told.
+    let a0 = g.D.Disk.accounts c.args.disk in
+    subst (λ (d : g.row.D.Denot). AtEachMoment a0 (g.D.Disk.accounts d) (IsImage (latest a0))) (sym c.stop.ensures)
+    (subst (λ (a : List Account). AtEachMoment a0 a (IsImage (latest a0))) (sym (c.take_all.ensures.accounts (c.in-Ok.ensures.frame.tells ∙ told))) (c.in-Ok.ensures.moments told))
+
+pub returns-in-Err-take_all-clause-frame_err : goal.returns-in-Err-take_all-clause-frame_err
+returns-in-Err-take_all-clause-frame_err g c =
+    subst (λ (d : g.row.D.Denot). IsLent g.D.Disk.tells g.D.Disk.identity g.D.Disk.faults c.args.disk d) (sym c.stop.ensures)
+    (lent_on g.D.Disk.tells g.D.Disk.identity g.D.Disk.faults c.args.disk c.in-Ok.walk.disk c.take_all.new.walk.disk c.in-Ok.ensures.frame c.take_all.ensures.frame)
 
 -- the disk fails
 pub returns-in-Err-finish-clause-settled_err : goal.returns-in-Err-finish-clause-settled_err
@@ -43,6 +96,41 @@ returns-in-Err-finish-clause-settled_err g c = λ told settled H stands.
     let reading = subst (λ (a : List Account). AtEachMoment a0 a (λ file. file ≡ g.D.Disk.content c.args.disk)) (sym (c.take_all.ensures.accounts told0)) (c.in-Ok.ensures.settled told settled) in
     stands_while_opened b plan H (g.D.Disk.content c.args.disk) (g.D.Disk.content w1.disk) a0 (g.D.Disk.accounts w1.disk) (g.D.Disk.accounts c.in-Err-finish.disk) stands reading same
     (c.in-Err-finish.ensures.moments_err (c.take_all.ensures.frame.tells ∙ told0))
+
+pub returns-in-Err-finish-clause-why : goal.returns-in-Err-finish-clause-why
+returns-in-Err-finish-clause-why g c = λ told.
+    let told1 = c.take_all.ensures.frame.tells ∙ (c.in-Ok.ensures.frame.tells ∙ told) in
+    subst (IsOpenAnswer c.args.bank.now c.args.spec.now (g.D.Disk.content c.args.disk))
+    (sym (c.journal_fault-in-Err-finish.ensures ∙ ap journal_fault (c.in-Err-finish.ensures.why told1))) tt
+
+pub returns-in-Err-finish-clause-cause : goal.returns-in-Err-finish-clause-cause
+returns-in-Err-finish-clause-cause g c = λ is.
+    let count = g.D.Disk.faults in
+    let w0 = c.in-Ok.walk in
+    let w1 = c.take_all.new.walk in
+    let later = c.in-Err-finish.disk in
+    rose_later (count c.args.disk) (count w0.disk) (count later) c.in-Ok.ensures.frame.grows
+    (rose_later (count w0.disk) (count w1.disk) (count later) c.take_all.ensures.frame.grows
+    (c.in-Err-finish.ensures.cause (disk_failed c.in-Err-finish.fault (sym c.journal_fault-in-Err-finish.ensures ∙ is))))
+
+-- a disk that reports its content gives no other fault
+pub returns-in-Err-finish-clause-untouched : goal.returns-in-Err-finish-clause-untouched
+returns-in-Err-finish-clause-untouched g c = λ other told.
+    absurd (other (c.journal_fault-in-Err-finish.ensures ∙ ap journal_fault (c.in-Err-finish.ensures.why (c.take_all.ensures.frame.tells ∙ (c.in-Ok.ensures.frame.tells ∙ told)))))
+
+pub returns-in-Err-finish-clause-unwritten : goal.returns-in-Err-finish-clause-unwritten
+returns-in-Err-finish-clause-unwritten g c = λ other told.
+    absurd (other (c.journal_fault-in-Err-finish.ensures ∙ ap journal_fault (c.in-Err-finish.ensures.why (c.take_all.ensures.frame.tells ∙ (c.in-Ok.ensures.frame.tells ∙ told)))))
+
+pub returns-in-Err-finish-clause-frame_err : goal.returns-in-Err-finish-clause-frame_err
+returns-in-Err-finish-clause-frame_err g c =
+    let tells = g.D.Disk.tells in
+    let name = g.D.Disk.identity in
+    let count = g.D.Disk.faults in
+    let w0 = c.in-Ok.walk in
+    let w1 = c.take_all.new.walk in
+    lent_on tells name count c.args.disk w0.disk c.in-Err-finish.disk c.in-Ok.ensures.frame
+    (lent_on tells name count w0.disk w1.disk c.in-Err-finish.disk c.take_all.ensures.frame c.in-Err-finish.ensures.frame_err)
 
 pub invariant_of-result : goal.invariant_of-result
 invariant_of-result g c =
