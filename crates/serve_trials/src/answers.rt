@@ -2,36 +2,17 @@
 
 ghost use Rattle.exam_model.specs.Validity.{IsPlanFor};
 
+use crate::office::{Numbers, opened, planned};
+use crate::requests::{Told, told};
 use bank_tables::Bank;
-use constraint_model::{Draft, Rate, Spec};
+use constraint_model::Spec;
 use exam_edge::MemoryDisk;
-use exam_office::{Alone, Office, Place, Refusal, Reply, Request};
-use std::alloc::{AllocError, Global};
+use exam_office::{Alone, Office, Reply, Request};
+use std::alloc::Global;
 use std::test::Fail;
-use trial_cases::{bank_a, draft_a, set_of};
 
-// The session, where it is, and whether it was started; or a refusal.
-pub(crate) type Told = Result<(u32, Place, bool), Refusal>;
-
-// A reply without its exposure counts; these are written to a list.
-fn told(reply: Reply, counts: &mut Vec<(u32, u32)>) -> Result<Told, Fail> {
-    match reply {
-        Reply::At {
-            session,
-            place,
-            fresh,
-        } => Ok(Ok((session, place, fresh))),
-        Reply::Refused(refusal) => Ok(Err(refusal)),
-        Reply::Exposure(exposure) => {
-            for row in exposure.rows.as_slice() {
-                counts.push((row.alpha, row.eps))?;
-            }
-            Ok(Ok((exposure.finished, Place::Complete, false)))
-        }
-    }
-}
-
-// What an office answered: the replies, the exposure counts that were asked for, and the length of the journal.
+/// What an office answered: the replies, the exposure counts that were asked for, and the length of
+/// the journal.
 #[derive(Drop)]
 pub(crate) struct Answered {
     pub(crate) replies: Vec<Told>,
@@ -39,60 +20,74 @@ pub(crate) struct Answered {
     pub(crate) length: usize,
 }
 
+fn note_counts(counts: &mut Vec<(u32, u32)>, reply: &Reply) -> Result<(), Fail> {
+    if let Reply::Exposure(exposure) = reply {
+        for row in exposure.rows.as_slice() {
+            counts.push((row.alpha, row.eps))?;
+        }
+    }
+    Ok(())
+}
+
+fn note(answered: &mut Answered, reply: &Reply) -> Result<(), Fail> {
+    answered.replies.push(told(reply))?;
+    note_counts(&mut answered.counts, reply)
+}
+
 fn ask_all(
     alloc: Global,
     alone: &mut Alone<MemoryDisk>,
     requests: &[Request],
-    counts: &mut Vec<(u32, u32)>,
-) -> Result<Vec<Told>, Fail> {
-    let mut replies = Vec::new(alloc);
+    answered: &mut Answered,
+) -> Result<(), Fail> {
     for request in requests {
-        let reply = alone.ask(alloc, request);
-        replies.push(told(reply, counts)?)?;
+        note(answered, &alone.ask(alloc, request))?;
     }
-    Ok(replies)
+    Ok(())
 }
 
-fn ask_over<'a>(
+fn answers_in(
     alloc: Global,
-    bank: &'a Bank,
-    spec: &'a Spec,
+    office: Office<MemoryDisk>,
+    requests: &[Request],
+) -> Result<Answered, Fail> {
+    let mut alone = Alone { office };
+    let mut answered = Answered {
+        replies: Vec::new(alloc),
+        counts: Vec::new(alloc),
+        length: 0,
+    };
+    let asked = ask_all(alloc, &mut alone, requests, &mut answered);
+    let Alone { office } = alone;
+    answered.length = office.into_disk().bytes().len();
+    match asked {
+        Ok(()) => Ok(answered),
+        Err(fail) => Err(fail),
+    }
+}
+
+// A disk with an empty file, of which these calls fail.
+fn disk_of(alloc: Global, fails: &[u64]) -> Result<MemoryDisk, Fail> {
+    let fails = fails.to_vec(alloc)?;
+    Ok(MemoryDisk::of(alloc, Vec::new(alloc), fails))
+}
+
+fn answers_on(
+    alloc: Global,
+    bank: &Bank,
+    spec: &Spec,
     disk: MemoryDisk,
     requests: &[Request],
 ) -> Result<Answered, Fail>
     requires { IsPlanFor bank.now spec.now }
 {
-    let Some(base) = spec.base() else {
-        return Err(Fail::from("no base"));
-    };
-    match Office::open(alloc, bank, spec, base, disk) {
-        Ok(office) => {
-            let mut alone = Alone { office };
-            let mut counts = Vec::new(alloc);
-            let replies = ask_all(alloc, &mut alone, requests, &mut counts);
-            let Alone { office } = alone;
-            let length = office.into_disk().bytes().len();
-            Ok(Answered {
-                replies: replies?,
-                counts,
-                length,
-            })
-        }
-        Err(_) => Err(Fail::from("not opened")),
+    match opened(alloc, bank, spec, disk) {
+        Ok(office) => answers_in(alloc, office, requests),
+        Err(fail) => Err(fail),
     }
 }
 
-// The worked plan with this rate and this limit of the journal.
-fn draft(alloc: Global, rate: Rate, journal: u64) -> Result<Draft, AllocError> {
-    let mut draft = draft_a(alloc)?;
-    draft.rate = rate;
-    draft.journal = journal;
-    draft.base = Some(set_of(&[1, 2, 3]));
-    Ok(draft)
-}
-
-// The answers over an empty journal. These calls of the disk fail. What owns a bank is a function of its own, since one that also
-// owns a disk is dear to prove.
+// What owns a bank is a function of its own, since one that also owns a disk is dear to prove.
 fn answers_over(
     alloc: Global,
     bank: &Bank,
@@ -102,19 +97,21 @@ fn answers_over(
 ) -> Result<Answered, Fail>
     requires { IsPlanFor bank.now spec.now }
 {
-    let disk = MemoryDisk::of(alloc, Vec::new(alloc), fails.to_vec(alloc)?);
-    ask_over(alloc, bank, spec, disk, requests)
+    match disk_of(alloc, fails) {
+        Ok(disk) => answers_on(alloc, bank, spec, disk, requests),
+        Err(fail) => Err(fail),
+    }
 }
 
-// The same on bank A at this rate and this limit of the journal.
+/// The answers over an empty journal, where these calls of the disk fail.
 pub(crate) fn answers(
     alloc: Global,
-    rate: Rate,
-    journal: u64,
+    numbers: &Numbers,
     fails: &[u64],
     requests: &[Request],
 ) -> Result<Answered, Fail> {
-    let bank = bank_a(alloc)?;
-    let spec = Spec::of(alloc, &bank, draft(alloc, rate, journal)?)?;
-    answers_over(alloc, &bank, &spec, fails, requests)
+    match planned(alloc, numbers) {
+        Ok((bank, spec)) => answers_over(alloc, &bank, &spec, fails, requests),
+        Err(fail) => Err(fail),
+    }
 }

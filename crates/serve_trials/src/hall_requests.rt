@@ -1,24 +1,110 @@
-//! Requests of one caller on bank A: the replies are those of an office of one thread, which were worked out by hand.
+//! Requests of one caller on bank A: the replies are those of an office of one thread, which were
+//! worked out by hand.
 
 ghost use Rattle.exam_model.specs.Validity.{IsPlanFor};
+ghost use Rattle.exam_hall.specs.Known.{IsOf};
 
-use crate::equal::{are_equal, is_equal};
-use crate::halls::{Told, ask_all, hall_over, office_of, plan_of, waiting};
+use crate::equal::is_equal;
+use crate::halls::{ask_all, hall_on};
+use crate::office::{EVEN, Numbers, RARE, planned};
+use crate::requests::{
+    FIRST, FIRST_ANSWER, LATER_FIRST, LATER_FIRST_ANSWER, LATER_SECOND, LATER_SECOND_ANSWER,
+    LATER_THIRD, LATER_THIRD_ANSWER, OTHER_ANSWER, SECOND, SECOND_ANSWER, THIRD, THIRD_ANSWER,
+    Told,
+};
 use bank_tables::Bank;
-use constraint_model::{Rate, Spec};
-use exam_edge::OpenGate;
-use exam_office::{Place, Refusal, Request};
+use constraint_model::Spec;
+use exam_edge::{MemoryDisk, OpenGate};
+use exam_hall::Hall;
+use exam_office::{Office, Place, Refusal, Request};
 use std::alloc::Global;
+use std::process::Abort;
 use std::sync::Wait;
 use std::test::Fail;
-use trial_cases::bank_a;
+use turn_lock::Pass;
 
-const fn answer(session: u32, step: u16, response: u8) -> Request {
-    Request::Answer {
-        session,
-        step,
-        response,
-    }
+// Requests, and their replies.
+struct Case {
+    numbers: Numbers,
+    requests: &'static [Request],
+    replies: &'static [Told],
+}
+
+const CASES: [Case; 2] = [
+    // One session to its end. The same answer again, and the same booking again, add nothing; and
+    // what is refused.
+    Case {
+        numbers: EVEN,
+        requests: &[
+            Request::Begin(70),
+            FIRST_ANSWER,
+            FIRST_ANSWER,
+            OTHER_ANSWER,
+            SECOND_ANSWER,
+            Request::Look(0),
+            Request::Begin(70),
+            THIRD_ANSWER,
+            Request::Close(0),
+            Request::Look(1),
+            Request::Exposure,
+        ],
+        replies: &[
+            Ok((0, FIRST, true)),
+            Ok((0, SECOND, false)),
+            Ok((0, SECOND, false)),
+            Err(Refusal::Other(1)),
+            Ok((0, THIRD, false)),
+            Ok((0, THIRD, false)),
+            Ok((0, THIRD, false)),
+            Ok((0, Place::Complete, false)),
+            Err(Refusal::IsClosed(Place::Complete)),
+            Err(Refusal::NoSession(1)),
+            Ok((1, Place::Complete, false)),
+        ],
+    },
+    // The items shown in session 0 are ineligible in session 1, and in session 2 eligibility is set
+    // aside, so that its first item takes two assemblies.
+    Case {
+        numbers: RARE,
+        requests: &[
+            Request::Begin(70),
+            FIRST_ANSWER,
+            SECOND_ANSWER,
+            THIRD_ANSWER,
+            Request::Begin(71),
+            LATER_FIRST_ANSWER,
+            LATER_SECOND_ANSWER,
+            LATER_THIRD_ANSWER,
+            Request::Begin(72),
+            Request::Close(2),
+        ],
+        replies: &[
+            Ok((0, FIRST, true)),
+            Ok((0, SECOND, false)),
+            Ok((0, THIRD, false)),
+            Ok((0, Place::Complete, false)),
+            Ok((1, LATER_FIRST, true)),
+            Ok((1, LATER_SECOND, false)),
+            Ok((1, LATER_THIRD, false)),
+            Ok((1, Place::Complete, false)),
+            Ok((2, FIRST, true)),
+            Ok((2, Place::Closed, false)),
+        ],
+    },
+];
+
+fn replies_in<'a, R: Wait + Sync>(
+    rt: &R,
+    alloc: Global,
+    hall: Hall<'a, MemoryDisk>,
+    pass: Pass<Office<'a, MemoryDisk>>,
+    requests: &[Request],
+) -> Vec<Told>
+    requires { IsOf pass hall }
+{
+    let (pass, replies) = ask_all(rt, alloc, &hall, &OpenGate, pass, requests);
+    let _ = hall.close(rt, pass).into_disk();
+    replies
 }
 
 fn replies_over<'a, R: Wait + Sync>(
@@ -30,87 +116,29 @@ fn replies_over<'a, R: Wait + Sync>(
 ) -> Result<Vec<Told>, Fail>
     requires { IsPlanFor bank.now spec.now }
 {
-    let office = office_of(alloc, bank, spec)?;
-    let (hall, pass) = hall_over(alloc, office)?;
-    let (pass, replies) = ask_all(rt, alloc, &hall, &OpenGate, pass, requests);
-    let _ = hall.close(rt, pass).into_disk();
-    Ok(replies)
+    match hall_on(alloc, bank, spec) {
+        Ok((hall, pass)) => Ok(replies_in(rt, alloc, hall, pass, requests)),
+        Err(fail) => Err(fail),
+    }
 }
 
-fn replies_of<R: Wait + Sync>(
-    rt: &R,
-    alloc: Global,
-    rate: Rate,
-    requests: &[Request],
-) -> Result<Vec<Told>, Fail> {
-    let bank = bank_a(alloc)?;
-    let spec = plan_of(alloc, &bank, rate)?;
-    replies_over(rt, alloc, &bank, &spec, requests)
+fn replies_of<R: Wait + Sync>(rt: &R, alloc: Global, case: &Case) -> Result<Vec<Told>, Fail> {
+    match planned(alloc, &case.numbers) {
+        Ok((bank, spec)) => replies_over(rt, alloc, &bank, &spec, case.requests),
+        Err(fail) => Err(fail),
+    }
 }
 
-// One session to its end. The same answer again, and the same booking again, add nothing; and what is refused.
-#[test]
-fn a_session_to_its_end(rt: HostRuntime) -> Result<(), Fail> {
-    let requests = [
-        Request::Begin(70),
-        answer(0, 0, 1),
-        answer(0, 0, 1),
-        answer(0, 0, 0),
-        answer(0, 1, 0),
-        Request::Look(0),
-        Request::Begin(70),
-        answer(0, 2, 1),
-        Request::Close(0),
-        Request::Look(1),
-        Request::Exposure,
-    ];
-    let replies = replies_of(&rt, rt.alloc(), Rate { num: 1, den: 1 }, &requests)?;
-    let expected = [
-        waiting(0, 0, 2, true),
-        waiting(0, 1, 4, false),
-        waiting(0, 1, 4, false),
-        Err(Refusal::Other(1)),
-        waiting(0, 2, 1, false),
-        waiting(0, 2, 1, false),
-        waiting(0, 2, 1, false),
-        Ok((0, Place::Complete, false)),
-        Err(Refusal::IsClosed(Place::Complete)),
-        Err(Refusal::NoSession(1)),
-        Ok((1, Place::Complete, false)),
-    ];
-    are_equal(&rt, replies.as_slice(), expected.as_slice());
+fn gives<R: Abort + Wait + Sync>(rt: &R, alloc: Global, case: &Case) -> Result<(), Fail> {
+    let replies = replies_of(rt, alloc, case)?;
+    is_equal(rt, &replies.as_slice(), &case.replies);
     Ok(())
 }
 
-// At a rate of 1 in 65,535 the items shown in session 0 are ineligible in session 1, and in session 2 eligibility is set
-// aside, so that its first item takes two assemblies.
 #[test]
-fn eligibility_is_set_aside(rt: HostRuntime) -> Result<(), Fail> {
-    let rate = Rate {
-        num: 1,
-        den: 65_535,
-    };
-    let requests = [
-        Request::Begin(70),
-        answer(0, 0, 1),
-        answer(0, 1, 0),
-        answer(0, 2, 1),
-        Request::Begin(71),
-        answer(1, 0, 0),
-        answer(1, 1, 0),
-        answer(1, 2, 0),
-        Request::Begin(72),
-        Request::Close(2),
-    ];
-    let replies = replies_of(&rt, rt.alloc(), rate, &requests)?;
-    let expected = [
-        waiting(1, 0, 5, true),
-        waiting(1, 1, 3, false),
-        waiting(1, 2, 0, false),
-        Ok((1, Place::Complete, false)),
-        waiting(2, 0, 2, true),
-        Ok((2, Place::Closed, false)),
-    ];
-    is_equal(&rt, &replies.get(4..), &Some(expected.as_slice()));
+fn sessions(rt: HostRuntime) -> Result<(), Fail> {
+    for case in &CASES {
+        gives(&rt, rt.alloc(), case)?;
+    }
     Ok(())
 }

@@ -4,80 +4,22 @@ ghost use Rattle.std.specs.Prelude.{◌≡◌, IfOk};
 ghost use Rattle.exam_model.specs.Validity.{IsPlanFor};
 ghost use Rattle.exam_hall.specs.Known.{IsOf};
 
+use crate::office::{empty_disk, opened};
+use crate::requests::{Told, told};
 use bank_tables::Bank;
-use constraint_model::{Draft, Rate, Spec};
+use constraint_model::Spec;
 use exam_edge::{Gate, MemoryDisk};
 use exam_hall::{Caller, Hall};
-use exam_office::{Handler, Office, Place, Refusal, Reply, Request};
+use exam_office::{Handler, Office, Request};
 use std::alloc::Global;
 use std::sync::Wait;
 use std::test::Fail;
-use trial_cases::{draft_a, set_of};
 use turn_lock::Pass;
-
-// The session, where it is, and whether it was started; or a refusal.
-pub(crate) type Told = Result<(u32, Place, bool), Refusal>;
-
-// A reply without its exposure counts.
-pub(crate) fn told(reply: &Reply) -> Told {
-    match reply {
-        Reply::At {
-            session,
-            place,
-            fresh,
-        } => Ok((*session, *place, *fresh)),
-        Reply::Refused(refusal) => Err(*refusal),
-        Reply::Exposure(exposure) => Ok((exposure.finished, Place::Complete, false)),
-    }
-}
-
-// The session waits for the answer to this item.
-pub(crate) fn waiting(session: u32, step: u16, item: u16, fresh: bool) -> Told {
-    let place = Place::Waiting {
-        step,
-        item,
-        proved: true,
-    };
-    Ok((session, place, fresh))
-}
-
-// Plan A at this rate.
-pub(crate) fn plan_of(alloc: Global, bank: &Bank, rate: Rate) -> Result<Spec, Fail>
-    ensures { IfOk result (λ spec. IsPlanFor bank.now spec) }
-{
-    let draft = Draft {
-        rate,
-        base: Some(set_of(&[1, 2, 3])),
-        ..draft_a(alloc)?
-    };
-    Ok(Spec::of(alloc, bank, draft)?)
-}
-
-// An office with an empty journal.
-pub(crate) fn office_of<'a>(
-    alloc: Global,
-    bank: &'a Bank,
-    spec: &'a Spec,
-) -> Result<Office<'a, MemoryDisk>, Fail>
-    requires { IsPlanFor bank.now spec.now }
-{
-    let Some(base) = spec.base() else {
-        return Err(Fail::from("no base"));
-    };
-    let disk = MemoryDisk::of(alloc, Vec::new(alloc), Vec::new(alloc));
-    match Office::open(alloc, bank, spec, base, disk) {
-        Ok(office) => Ok(office),
-        Err(_) => Err(Fail::from("not opened")),
-    }
-}
 
 type Opened<'a> = (Hall<'a, MemoryDisk>, Pass<Office<'a, MemoryDisk>>);
 
 // A hall over an office, and its first pass.
-pub(crate) fn hall_over<'a>(
-    alloc: Global,
-    office: Office<'a, MemoryDisk>,
-) -> Result<Opened<'a>, Fail>
+fn hall_over<'a>(alloc: Global, office: Office<'a, MemoryDisk>) -> Result<Opened<'a>, Fail>
     ensures { IfOk result (λ r. IsOf r.1 r.0 × (r.1.number ≡ 0) × (r.1.splits ≡ 0)) }
 {
     match Hall::new(alloc, office) {
@@ -89,7 +31,18 @@ pub(crate) fn hall_over<'a>(
     }
 }
 
-// The replies to requests, one after another, and the pass that they were asked with.
+/// A hall over an office with an empty journal, and its first pass.
+pub(crate) fn hall_on<'a>(alloc: Global, bank: &'a Bank, spec: &'a Spec) -> Result<Opened<'a>, Fail>
+    requires { IsPlanFor bank.now spec.now }
+    ensures { IfOk result (λ r. IsOf r.1 r.0 × (r.1.number ≡ 0) × (r.1.splits ≡ 0)) }
+{
+    match opened(alloc, bank, spec, empty_disk(alloc)) {
+        Ok(office) => hall_over(alloc, office),
+        Err(fail) => Err(fail),
+    }
+}
+
+/// The replies to requests, one after another, and the pass that they were asked with.
 pub(crate) fn ask_all<'a, G: Gate, R: Wait + Sync>(
     rt: &R,
     alloc: Global,

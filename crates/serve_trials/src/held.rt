@@ -5,9 +5,11 @@ ghost use Rattle.exam_model.specs.Validity.{IsPlanFor};
 ghost use Rattle.exam_hall.specs.Known.{IsOf};
 
 use crate::equal::is_equal;
-use crate::halls::{Told, hall_over, office_of, plan_of, told, waiting};
+use crate::halls::hall_on;
+use crate::office::{EVEN, planned};
+use crate::requests::{FIRST, Told, told};
 use bank_tables::Bank;
-use constraint_model::{Rate, Spec};
+use constraint_model::Spec;
 use exam_edge::{Gate, MemoryDisk, Point};
 use exam_hall::{Caller, Hall};
 use exam_office::{Handler, Office, Request};
@@ -17,7 +19,6 @@ use std::sync::atomic::{AtomicBool, Ordering};
 use std::test::Fail;
 use std::thread;
 use std::thread::Threads;
-use trial_cases::bank_a;
 use turn_lock::Pass;
 
 // How many turns a caller waits for the other, before it gives up.
@@ -74,74 +75,70 @@ impl Gate for Hold {
     }
 }
 
-// A request, and what it was answered.
-#[derive(Drop)]
-struct Asking<H> {
-    handler: H,
-    request: Request,
-    // The second waits until the first is held, and lets it go after its own reply.
-    is_second: bool,
-    reply: Option<Told>,
+// The first begins a session, and is held.
+fn ask_first<H: Handler, R: Wait + Sync>(rt: &R, alloc: Global, handler: &mut H) -> Told {
+    told(&handler.handle(rt, alloc, &Request::Begin(70)))
 }
 
-fn ask<H: Handler, R: Wait + Sync>(rt: &R, alloc: Global, gate: &Hold, asking: &mut Asking<H>) {
-    if asking.is_second {
-        gate.wait();
-    }
-    let reply = asking.handler.handle(rt, alloc, &asking.request);
-    asking.reply = Some(told(&reply));
-    if asking.is_second {
-        gate.let_go();
-    }
+// The second begins one once the first is held, and lets it go after its own reply.
+fn ask_second<H: Handler, R: Wait + Sync>(
+    rt: &R,
+    alloc: Global,
+    gate: &Hold,
+    handler: &mut H,
+) -> Told {
+    gate.wait();
+    let reply = told(&handler.handle(rt, alloc, &Request::Begin(71)));
+    gate.let_go();
+    reply
 }
 
-// Each in a thread of its own.
+// Each in a thread of its own. Gives what both were answered.
 fn ask_each<H: Handler + Send, R: Threads + Wait + Sync>(
     rt: &R,
     alloc: Global,
     gate: &Hold,
-    both: &mut [Asking<H>],
-) {
-    let count = both.len();
-    if count == 0 {
-        return;
-    }
-    thread::for_each_mut(
+    first: &mut H,
+    second: &mut H,
+) -> (Told, Told) {
+    thread::join(
         rt,
-        both,
-        count,
-        &|_: usize, asking: &mut Asking<H>| { ask(rt, alloc, gate, asking) },
-    );
+        || ask_first(rt, alloc, first),
+        || ask_second(rt, alloc, gate, second),
+    )
 }
 
-// The caller with pass 1 begins a session, and is held. The other begins one meanwhile. Gives what both were answered.
+// The callers have passes 1 and 2.
 fn ask_both<'a, R: Threads + Wait + Sync>(
     rt: &R,
     alloc: Global,
     hall: &Hall<'a, MemoryDisk>,
     gate: &Hold,
     pass: &mut Pass<Office<'a, MemoryDisk>>,
-) -> (Option<Told>, Option<Told>)
+) -> (Told, Told)
     requires of { IsOf pass.old hall.now }
     requires new { (pass.old.number ≡ 0) × (pass.old.splits ≡ 0) }
     ensures { IsOf pass.new hall.now }
 {
-    let mut both = [
-        Asking {
-            handler: Caller::new(hall, gate, hall.split(pass)),
-            request: Request::Begin(70),
-            is_second: false,
-            reply: None,
-        },
-        Asking {
-            handler: Caller::new(hall, gate, hall.split(pass)),
-            request: Request::Begin(71),
-            is_second: true,
-            reply: None,
-        },
-    ];
-    ask_each(rt, alloc, gate, &mut both);
-    (both[0].reply, both[1].reply)
+    let mut first = Caller::new(hall, gate, hall.split(pass));
+    let mut second = Caller::new(hall, gate, hall.split(pass));
+    ask_each(rt, alloc, gate, &mut first, &mut second)
+}
+
+fn replies_in<'a, R: Threads + Wait + Sync>(
+    rt: &R,
+    alloc: Global,
+    hall: Hall<'a, MemoryDisk>,
+    pass: Pass<Office<'a, MemoryDisk>>,
+    gate: &Hold,
+) -> (Told, Told)
+    requires of { IsOf pass hall }
+    requires new { (pass.number ≡ 0) × (pass.splits ≡ 0) }
+{
+    let mut pass = pass;
+    let replies = ask_both(rt, alloc, &hall, gate, &mut pass);
+    let _ = hall.close(rt, pass).into_disk();
+    replies
 }
 
 fn replies_over<'a, R: Threads + Wait + Sync>(
@@ -150,25 +147,25 @@ fn replies_over<'a, R: Threads + Wait + Sync>(
     bank: &'a Bank,
     spec: &'a Spec,
     gate: &Hold,
-) -> Result<(Option<Told>, Option<Told>), Fail>
+) -> Result<(Told, Told), Fail>
     requires { IsPlanFor bank.now spec.now }
 {
-    let office = office_of(alloc, bank, spec)?;
-    let (hall, mut pass) = hall_over(alloc, office)?;
-    let replies = ask_both(rt, alloc, &hall, gate, &mut pass);
-    let _ = hall.close(rt, pass).into_disk();
-    Ok(replies)
+    match hall_on(alloc, bank, spec) {
+        Ok((hall, pass)) => Ok(replies_in(rt, alloc, hall, pass, gate)),
+        Err(fail) => Err(fail),
+    }
 }
 
-// The same on bank A. What owns a bank is a function of its own, since a test that does and compares is dear to prove.
+// What owns a bank is a function of its own, since a test that does and compares is dear to prove.
 fn replies_on_a<R: Threads + Wait + Sync>(
     rt: &R,
     alloc: Global,
     gate: &Hold,
-) -> Result<(Option<Told>, Option<Told>), Fail> {
-    let bank = bank_a(alloc)?;
-    let spec = plan_of(alloc, &bank, Rate { num: 1, den: 1 })?;
-    replies_over(rt, alloc, &bank, &spec, gate)
+) -> Result<(Told, Told), Fail> {
+    match planned(alloc, &EVEN) {
+        Ok((bank, spec)) => replies_over(rt, alloc, &bank, &spec, gate),
+        Err(fail) => Err(fail),
+    }
 }
 
 // Session 0 is started first, and session 1 is served before it. No session has ended, so both have the same first item.
@@ -177,7 +174,7 @@ fn one_is_held_while_the_other_is_answered(rt: HostRuntime) -> Result<(), Fail> 
     let gate = Hold::new();
     let (held, meanwhile) = replies_on_a(&rt, rt.alloc(), &gate)?;
     assert!(rt; !gate.given_up());
-    is_equal(&rt, &meanwhile, &Some(waiting(1, 0, 2, true)));
-    is_equal(&rt, &held, &Some(waiting(0, 0, 2, true)));
+    is_equal(&rt, &meanwhile, &Ok((1, FIRST, true)));
+    is_equal(&rt, &held, &Ok((0, FIRST, true)));
     Ok(())
 }

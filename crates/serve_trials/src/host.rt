@@ -1,145 +1,238 @@
 // The host's objects on files of a temporary folder and on a socket of the loopback address.
-use exam_edge::{Disk, Door, Files, Link, Sink};
-use host_edge::{HostDisk, HostDoor, HostFiles, HostSink};
-use std::io::{ErrorKind, Read, Write};
-use std::net::{Net, SocketAddr, TcpListener, TcpStream};
+use crate::equal::is_equal;
+use exam_edge::{Disk, Door, Failed, Files, Link, Sink};
+use host_edge::{HostDisk, HostDoor, HostFiles, HostLink, HostSink};
+use std::alloc::Global;
+use std::io::{Error, ErrorKind, Read, Write};
+use std::net::{Ipv4Addr, Net, SocketAddr, TcpListener, TcpStream};
 use std::process::Abort;
 use std::test::Fail;
 use std::{env, fs, process, thread};
 
-// A new folder, and the path of a file in it.
-fn new_folder(rt: &HostRuntime) -> Result<(String, String), Fail> {
-    let alloc = rt.alloc();
-    let temporary = env::temp_dir(rt)?;
-    let place = temporary.as_path().as_str();
-    let number = process::id(rt.process());
-    let folder = format!(in alloc; "{place}/host_edge_{number}")?;
-    fs::create_dir(rt, folder.as_str())?;
-    let path = format!(in alloc; "{place}/host_edge_{number}/journal")?;
-    Ok((folder, path))
+// The cause of a fault has this kind; none where nothing failed.
+fn has_kind<R: Abort>(rt: &R, cause: Option<Error>, kind: Option<ErrorKind>) {
+    is_equal(rt, &cause.map(|e| e.kind()), &kind);
+}
+
+// At this place so many bytes are read into the buffer, which has these then.
+fn reads<R: Abort>(
+    rt: &R,
+    disk: &mut HostDisk,
+    at: u64,
+    buffer: &mut [u8; 4],
+    count: usize,
+    bytes: &[u8; 4],
+) {
+    is_equal(rt, &disk.read(at, buffer), &Ok(count));
+    is_equal(rt, buffer, bytes);
 }
 
 // What is written, cut and synced is read back.
 fn writes_and_reads<R: Abort>(rt: &R, disk: &mut HostDisk) {
+    is_equal(rt, &disk.write_at(0, b"abcdef"), &Ok(()));
+    is_equal(rt, &disk.write_at(4, b"xyz"), &Ok(()));
+    is_equal(rt, &disk.cut(6), &Ok(()));
+    is_equal(rt, &disk.sync(), &Ok(()));
+    is_equal(rt, &disk.len(), &Ok(6));
     let mut buffer = [0u8; 4];
-    let wrote = disk.write_at(0, b"abcdef").is_ok() && disk.write_at(4, b"xyz").is_ok();
-    let cut = disk.cut(6).is_ok() && disk.sync().is_ok();
-    assert!(rt; wrote && cut && disk.len() == Ok(6) && disk.read(3, &mut buffer) == Ok(3));
-    assert!(rt;
-        buffer == *b"dxy\0" && disk.read(6, &mut buffer) == Ok(0) && disk.cause().is_none()
-    );
+    reads(rt, disk, 3, &mut buffer, 3, b"dxy\0");
+    reads(rt, disk, 6, &mut buffer, 0, b"dxy\0");
+    has_kind(rt, disk.cause(), None);
 }
 
-// Each call of the disk fails, from this cause.
+// Each call of the disk fails, from a cause of this kind.
 fn fails<R: Abort>(rt: &R, disk: &mut HostDisk, kind: ErrorKind) {
-    assert!(rt; disk.sync().is_err() && disk.len().is_err());
-    assert!(rt; disk.cause().is_some_and(|e| e.kind() == kind));
+    is_equal(rt, &disk.sync(), &Err(Failed));
+    is_equal(rt, &disk.len(), &Err(Failed));
+    has_kind(rt, disk.cause(), Some(kind));
 }
 
-// The front of the file of this name is read.
-fn reads_front<R: Abort>(rt: &R, files: &mut HostFiles, path: &str) {
-    let mut buffer = [0u8; 4];
-    assert!(rt; files.read(path, 0, &mut buffer) == Ok(4) && buffer == *b"abcd");
+// At this place of a file so many bytes are read into the buffer, which has these then.
+fn reads_file<R: Abort>(
+    rt: &R,
+    files: &mut HostFiles,
+    (path, at): (&str, u64),
+    buffer: &mut [u8; 4],
+    count: usize,
+    bytes: &[u8; 4],
+) {
+    is_equal(rt, &files.read(path, at, buffer), &Ok(count));
+    is_equal(rt, buffer, bytes);
 }
 
-// The rest of the file that had this name is read to its end.
-fn reads_rest<R: Abort>(rt: &R, files: &mut HostFiles, path: &str) {
-    let mut buffer = *b"abcd";
-    assert!(rt; files.read(path, 4, &mut buffer) == Ok(2) && buffer == *b"xycd");
-    assert!(rt; files.read(path, 6, &mut buffer) == Ok(0) && files.cause().is_none());
+fn disk_of(rt: &HostRuntime, path: &str) -> Result<HostDisk, Fail> {
+    let path = String::from_str(rt.alloc(), path)?;
+    Ok(HostDisk::of(rt.clone()?, path))
+}
+
+// The file of this path is no journal's, for this reason.
+fn is_refused<R: Abort>(
+    rt: &R,
+    host: &HostRuntime,
+    path: &str,
+    kind: ErrorKind,
+) -> Result<(), Fail> {
+    match disk_of(host, path) {
+        Ok(mut disk) => Ok(fails(rt, &mut disk, kind)),
+        Err(fail) => Err(fail),
+    }
 }
 
 fn reads_no_folder<R: Abort>(rt: &R, files: &mut HostFiles, folder: &str) {
     let mut buffer = [0u8; 4];
-    assert!(rt; files.read(folder, 0, &mut buffer).is_err());
-    assert!(rt;
-        files
-            .cause()
-            .is_some_and(|e| e.kind() == ErrorKind::IsADirectory)
-    );
+    is_equal(rt, &files.read(folder, 0, &mut buffer), &Err(Failed));
+    has_kind(rt, files.cause(), Some(ErrorKind::IsADirectory));
 }
 
-fn disk_of(rt: &HostRuntime, path: &str) -> Result<HostDisk, Fail> {
-    Ok(HostDisk::of(rt.clone()?, String::from_str(rt.alloc(), path)?))
+// The front of the file is read. The file is removed, and its rest is read to its end.
+fn reads_what_is_removed<R: Abort>(
+    rt: &R,
+    host: &HostRuntime,
+    files: &mut HostFiles,
+    path: &str,
+) -> Result<(), Fail> {
+    let mut buffer = [0u8; 4];
+    reads_file(rt, files, (path, 0), &mut buffer, 4, b"abcd");
+    fs::remove_file(host, path)?;
+    reads_file(rt, files, (path, 4), &mut buffer, 2, b"xycd");
+    reads_file(rt, files, (path, 6), &mut buffer, 0, b"xycd");
+    has_kind(rt, files.cause(), None);
+    Ok(())
 }
 
-// The file with what was written, which stays locked. What is done with a file is a function of its own, since a test that owns
-// several is dear to prove.
-fn written<R: Abort>(rt: &R, disk: HostDisk) -> HostDisk {
+fn reads_in<R: Abort>(rt: &R, host: &HostRuntime, folder: &str, path: &str) -> Result<(), Fail> {
+    let mut files = HostFiles::of(host.clone()?);
+    reads_what_is_removed(rt, host, &mut files, path)?;
+    reads_no_folder(rt, &mut files, folder);
+    Ok(())
+}
+
+// The file is locked while a disk has it. It is read, and removed with its folder.
+fn goes<R: Abort>(rt: &R, host: &HostRuntime, folder: &str, path: &str) -> Result<(), Fail> {
+    is_refused(rt, host, path, ErrorKind::WouldBlock)?;
+    reads_in(rt, host, folder, path)?;
+    fs::remove_dir(host, folder)?;
+    is_refused(rt, host, path, ErrorKind::NotFound)
+}
+
+// The disk has the file to the end. What owns a disk has one call that may fail, since more are
+// dear to prove.
+fn keeps<R: Abort>(
+    rt: &R,
+    host: &HostRuntime,
+    folder: &str,
+    path: &str,
+    disk: HostDisk,
+) -> Result<(), Fail> {
     let mut disk = disk;
     writes_and_reads(rt, &mut disk);
-    disk
+    goes(rt, host, folder, path)
 }
 
-fn is_refused<R: Abort>(rt: &R, disk: HostDisk, kind: ErrorKind) {
-    let mut disk = disk;
-    fails(rt, &mut disk, kind);
+fn keeps_in<R: Abort>(rt: &R, host: &HostRuntime, folder: &str, path: &str) -> Result<(), Fail> {
+    match disk_of(host, path) {
+        Ok(disk) => keeps(rt, host, folder, path, disk),
+        Err(fail) => Err(fail),
+    }
+}
+
+fn path_in(alloc: Global, place: &str, name: &str, number: u32) -> Result<String, Fail> {
+    Ok(format!(in alloc; "{place}/{name}_{number}")?)
+}
+
+// The path in the temporary folder that has this name and the number of the process.
+fn own_path(host: &HostRuntime, name: &str) -> Result<String, Fail> {
+    let place = env::temp_dir(host)?;
+    let number = process::id(host.process());
+    path_in(host.alloc(), place.as_path().as_str(), name, number)
+}
+
+// A new folder.
+fn new_folder(rt: &HostRuntime) -> Result<String, Fail> {
+    let folder = own_path(rt, "host_edge")?;
+    fs::create_dir(rt, folder.as_str())?;
+    Ok(folder)
 }
 
 #[test]
 fn files_keep_what_was_written(rt: HostRuntime) -> Result<(), Fail> {
-    let (folder, path) = new_folder(&rt)?;
-    let _first = written(&rt, disk_of(&rt, path.as_str())?);
-    is_refused(&rt, disk_of(&rt, path.as_str())?, ErrorKind::WouldBlock);
-    let mut files = HostFiles::of(rt.clone()?);
-    reads_front(&rt, &mut files, path.as_str());
-    fs::remove_file(&rt, path.as_str())?;
-    reads_rest(&rt, &mut files, path.as_str());
-    reads_no_folder(&rt, &mut files, folder.as_str());
-    fs::remove_dir(&rt, folder.as_str())?;
-    is_refused(&rt, disk_of(&rt, path.as_str())?, ErrorKind::NotFound);
-    Ok(())
+    let folder = new_folder(&rt)?;
+    let path = format!(in rt.alloc(); "{folder}/journal")?;
+    keeps_in(&rt, &rt, folder.as_str(), path.as_str())
 }
 
 #[test]
 fn standard_output_takes_bytes(rt: HostRuntime) {
     let mut sink = HostSink::of(rt.stdout());
-    assert!(rt; sink.write(b"") == Ok(0) && sink.write(b"x") == Ok(1) && sink.cause().is_none());
-}
-
-fn path_to_read(rt: &HostRuntime) -> Result<String, Fail> {
-    let temporary = env::temp_dir(rt)?;
-    let place = temporary.as_path().as_str();
-    let number = process::id(rt.process());
-    Ok(format!(in rt.alloc(); "{place}/host_edge_read_{number}")?)
+    is_equal(&rt, &sink.write(b""), &Ok(0));
+    is_equal(&rt, &sink.write(b"x"), &Ok(1));
+    has_kind(&rt, sink.cause(), None);
 }
 
 fn to_read(rt: &HostRuntime, path: &str) -> Result<HostDisk, Fail> {
-    Ok(HostDisk::to_read(rt.clone()?, String::from_str(rt.alloc(), path)?))
+    let path = String::from_str(rt.alloc(), path)?;
+    Ok(HostDisk::to_read(rt.clone()?, path))
 }
 
-fn is_only_read<R: Abort>(rt: &R, disk: HostDisk) {
-    let mut there = disk;
-    let mut buffer = [0u8; 4];
-    assert!(rt;
-        there.sync().is_ok() && there.read(1, &mut buffer) == Ok(2) && buffer == *b"bc\0\0"
-    );
-    assert!(rt; there.write_at(0, b"x").is_err() && there.cut(1).is_err() && there.len() == Ok(3));
+fn is_not_made<R: Abort>(rt: &R, host: &HostRuntime, path: &str) -> Result<(), Fail> {
+    match to_read(host, path) {
+        Ok(mut disk) => Ok(fails(rt, &mut disk, ErrorKind::NotFound)),
+        Err(fail) => Err(fail),
+    }
+}
+
+// The file is read, and not written.
+fn reads_alone<R: Abort>(rt: &R, disk: &mut HostDisk) {
+    is_equal(rt, &disk.sync(), &Ok(()));
+    reads(rt, disk, 1, &mut [0u8; 4], 2, b"bc\0\0");
+    is_equal(rt, &disk.write_at(0, b"x"), &Err(Failed));
+    is_equal(rt, &disk.cut(1), &Err(Failed));
+    is_equal(rt, &disk.len(), &Ok(3));
+}
+
+fn is_only_read<R: Abort>(rt: &R, host: &HostRuntime, path: &str) -> Result<(), Fail> {
+    match to_read(host, path) {
+        Ok(mut disk) => Ok(reads_alone(rt, &mut disk)),
+        Err(fail) => Err(fail),
+    }
+}
+
+fn is_neither_made_nor_changed<R: Abort>(
+    rt: &R,
+    host: &HostRuntime,
+    path: &str,
+) -> Result<(), Fail> {
+    is_not_made(rt, host, path)?;
+    fs::write(host, path, b"abc")?;
+    is_only_read(rt, host, path)?;
+    fs::remove_file(host, path)?;
+    Ok(())
 }
 
 #[test]
 fn a_file_to_read_is_neither_made_nor_changed(rt: HostRuntime) -> Result<(), Fail> {
-    let path = path_to_read(&rt)?;
-    is_refused(&rt, to_read(&rt, path.as_str())?, ErrorKind::NotFound);
-    fs::write(&rt, path.as_str(), b"abc")?;
-    is_only_read(&rt, to_read(&rt, path.as_str())?);
-    fs::remove_file(&rt, path.as_str())?;
-    Ok(())
+    let path = own_path(&rt, "host_edge_read")?;
+    is_neither_made_nor_changed(&rt, &rt, path.as_str())
+}
+
+// The disk has no length, however often it is asked for.
+fn has_no_length<R: Abort>(rt: &R, disk: &mut HostDisk) {
+    is_equal(rt, &disk.len(), &Err(Failed));
+    is_equal(rt, &disk.len(), &Err(Failed));
+    has_kind(rt, disk.cause(), Some(ErrorKind::IsADirectory));
+}
+
+fn is_no_file<R: Abort>(rt: &R, host: &HostRuntime, path: &str) -> Result<(), Fail> {
+    match to_read(host, path) {
+        Ok(mut disk) => Ok(has_no_length(rt, &mut disk)),
+        Err(fail) => Err(fail),
+    }
 }
 
 #[test]
 fn a_folder_is_no_file_to_read(rt: HostRuntime) -> Result<(), Fail> {
-    let alloc = rt.alloc();
-    let temporary = env::temp_dir(&rt)?;
-    let place = temporary.as_path().as_str();
-    let mut folder = HostDisk::to_read(rt.clone()?, format!(in alloc; "{place}")?);
-    assert!(rt; folder.len().is_err() && folder.len().is_err());
-    assert!(rt;
-        folder
-            .cause()
-            .is_some_and(|e| e.kind() == ErrorKind::IsADirectory)
-    );
-    Ok(())
+    let place = env::temp_dir(&rt)?;
+    is_no_file(&rt, &rt, place.as_path().as_str())
 }
 
 // What a client is answered to "ping": so many bytes.
@@ -153,37 +246,41 @@ fn answer_at(rt: &HostRuntime, address: SocketAddr) -> (usize, [u8; 8]) {
     (count, got)
 }
 
+fn answers<R: Abort>(rt: &R, link: &mut HostLink) {
+    let mut buffer = [0u8; 16];
+    is_equal(rt, &link.read(&mut buffer), &Ok(4));
+    is_equal(rt, &buffer, b"ping\0\0\0\0\0\0\0\0\0\0\0\0");
+    is_equal(rt, &link.write(b""), &Ok(0));
+    is_equal(rt, &link.write(b"pong!"), &Ok(5));
+}
+
 // A door gives the client's link, and no other.
 fn gives_its_link<R: Abort>(rt: &R, listener: TcpListener) -> Result<(), Fail> {
     let mut door = HostDoor::of(Some(listener), Some(1));
-    let mut buffer = [0u8; 16];
-    let Ok(Some(mut link)) = door.accept() else {
-        return Err(Fail::new("no link"));
-    };
-    assert!(rt; link.read(&mut buffer) == Ok(4) && buffer.starts_with(b"ping"));
-    assert!(rt; link.write(b"") == Ok(0) && link.write(b"pong!") == Ok(5));
-    door.back(link);
-    assert!(rt; matches!(door.accept(), Ok(None)) && door.cause().is_none());
-    Ok(())
+    match door.accept() {
+        Ok(Some(mut link)) => {
+            answers(rt, &mut link);
+            door.back(link);
+            assert!(rt; matches!(door.accept(), Ok(None)));
+            Ok(has_kind(rt, door.cause(), None))
+        }
+        _ => Err(Fail::new("no link")),
+    }
 }
 
 fn is_deaf<R: Abort>(rt: &R) {
-    let mut deaf = HostDoor::of(None, Some(0));
-    assert!(rt; deaf.accept().is_err());
-    assert!(rt;
-        deaf.cause()
-            .is_some_and(|e| e.kind() == ErrorKind::NotConnected)
-    );
+    let mut door = HostDoor::of(None, Some(0));
+    assert!(rt; door.accept().is_err());
+    has_kind(rt, door.cause(), Some(ErrorKind::NotConnected));
 }
 
 #[test]
 fn a_door_gives_its_links(rt: HostRuntime) -> Result<(), Fail> {
-    let listener = TcpListener::bind(&rt, "127.0.0.1:0")?;
+    is_deaf(&rt);
+    let listener = TcpListener::bind(&rt, (Ipv4Addr::LOCALHOST, 0))?;
     let address = listener.local_addr()?;
     let client = thread::spawn(&rt, move || answer_at(&rt, address))?;
-    gives_its_link(&rt, listener)?;
-    let (count, got) = client.join(&rt);
-    assert!(rt; count == 5 && got.starts_with(b"pong!"));
-    is_deaf(&rt);
-    Ok(())
+    let given = gives_its_link(&rt, listener);
+    is_equal(&rt, &client.join(&rt), &(5, *b"pong!\0\0\0"));
+    given
 }

@@ -33,7 +33,13 @@ mod meeting;
 #[cfg(test)]
 mod numbers;
 #[cfg(test)]
+mod office;
+#[cfg(test)]
 mod pieces;
+#[cfg(test)]
+mod requests;
+#[cfg(test)]
+mod responses;
 #[cfg(test)]
 mod rows;
 #[cfg(test)]

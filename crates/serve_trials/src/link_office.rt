@@ -2,60 +2,57 @@
 
 ghost use Rattle.exam_model.specs.Validity.{IsPlanFor};
 
+use crate::equal::is_equal;
+use crate::office::{EVEN, empty_disk, opened, planned};
 use crate::pieces::Pieces;
 use bank_tables::Bank;
-use constraint_model::{Draft, Spec};
+use constraint_model::Spec;
 use exam_edge::{Link, MemoryDisk, MemoryLink};
 use exam_http::{Ended, serve_connection};
 use exam_office::{Alone, Office};
 use rand_pcg::Pcg32;
-use std::alloc::{AllocError, Global};
+use std::alloc::Global;
+use std::process::Abort;
+use std::str;
 use std::sync::Wait;
 use std::test::Fail;
-use trial_cases::{bank_a, draft_a, set_of};
 
-// Serves one connection by an office over an empty disk.
-fn serve<'a, R: Wait + Sync, K: Link>(
+// Serves one connection by this office.
+fn serve_in<R: Wait + Sync, K: Link>(
     rt: &R,
     alloc: Global,
-    bank: &'a Bank,
-    spec: &'a Spec,
+    office: Office<MemoryDisk>,
+    link: &mut K,
+) -> Ended {
+    let mut alone = Alone { office };
+    let ended = serve_connection(rt, alloc, &mut alone, link);
+    let Alone { office } = alone;
+    let _disk = office.into_disk();
+    ended
+}
+
+// The same by an office over an empty disk.
+fn serve_over<R: Wait + Sync, K: Link>(
+    rt: &R,
+    alloc: Global,
+    bank: &Bank,
+    spec: &Spec,
     link: &mut K,
 ) -> Result<Ended, Fail>
     requires { IsPlanFor bank.now spec.now }
 {
-    let Some(base) = spec.base() else {
-        return Err(Fail::from("no base"));
-    };
-    let disk = MemoryDisk::of(alloc, Vec::new(alloc), Vec::new(alloc));
-    match Office::open(alloc, bank, spec, base, disk) {
-        Ok(office) => {
-            let mut alone = Alone { office };
-            let ended = serve_connection(rt, alloc, &mut alone, link);
-            let Alone { office } = alone;
-            let _disk = office.into_disk();
-            Ok(ended)
-        }
-        Err(_) => Err(Fail::from("not opened")),
+    match opened(alloc, bank, spec, empty_disk(alloc)) {
+        Ok(office) => Ok(serve_in(rt, alloc, office, link)),
+        Err(fail) => Err(fail),
     }
 }
 
-// Plan A with a base form.
-fn plan(alloc: Global) -> Result<Draft, AllocError> {
-    let mut draft = draft_a(alloc)?;
-    draft.base = Some(set_of(&[1, 2, 3]));
-    Ok(draft)
-}
-
-// Serves one connection on bank A, whose plan is plan A.
-fn serve_bank_a<R: Wait + Sync, K: Link>(
-    rt: &R,
-    alloc: Global,
-    link: &mut K,
-) -> Result<Ended, Fail> {
-    let bank = bank_a(alloc)?;
-    let spec = Spec::of(alloc, &bank, plan(alloc)?)?;
-    serve(rt, alloc, &bank, &spec, link)
+// The same on bank A.
+fn serve<R: Wait + Sync, K: Link>(rt: &R, alloc: Global, link: &mut K) -> Result<Ended, Fail> {
+    match planned(alloc, &EVEN) {
+        Ok((bank, spec)) => serve_over(rt, alloc, &bank, &spec, link),
+        Err(fail) => Err(fail),
+    }
 }
 
 /// In which pieces bytes go both ways: each has from 1 to `1 + spread` bytes, drawn from this seed.
@@ -65,44 +62,72 @@ pub(crate) struct Cutting {
     pub(crate) seed: u64,
 }
 
-/// What a client got: a text, and how the connection ended.
-#[derive(Drop)]
-pub(crate) struct Heard {
-    pub(crate) text: String,
-    pub(crate) ended: Ended,
-}
-
-// The text that the client of this link has.
-fn heard_by(alloc: Global, link: &MemoryLink, ended: Ended) -> Result<Heard, Fail> {
-    match std::str::from_utf8(link.bytes()) {
-        Ok(text) => Ok(Heard {
-            text: String::from_str(alloc, text)?,
-            ended,
-        }),
-        Err(_) => Err(Fail::from("no text")),
-    }
-}
-
-/// What a client gets who sends these bytes, at once unless they are cut. These calls of the link fail.
-pub(crate) fn serve_bytes<R: Wait + Sync>(
+// The same with the bytes cut, or at once.
+fn serve_cut<R: Wait + Sync>(
     rt: &R,
     alloc: Global,
-    sent: &[u8],
+    link: &mut MemoryLink,
     cutting: Option<Cutting>,
-    fails: &[u64],
-) -> Result<Heard, Fail> {
-    let mut link = MemoryLink::of(alloc, sent.to_vec(alloc)?, fails.to_vec(alloc)?);
-    let ended = match cutting {
-        None => serve_bank_a(rt, alloc, &mut link)?,
+) -> Result<Ended, Fail> {
+    match cutting {
+        None => serve(rt, alloc, link),
         Some(Cutting { spread, seed }) => {
             let draws = Pcg32::new(seed, 0);
             let mut pieces = Pieces {
-                link: &mut link,
+                link,
                 spread,
                 draws,
             };
-            serve_bank_a(rt, alloc, &mut pieces)?
+            serve(rt, alloc, &mut pieces)
         }
-    };
-    heard_by(alloc, &link, ended)
+    }
+}
+
+/// The link that a client got a text on, and how the connection ended.
+#[derive(Drop)]
+pub(crate) struct Heard {
+    pub(crate) link: MemoryLink,
+    pub(crate) ended: Ended,
+}
+
+// A link with these bytes, of which these calls fail.
+fn link_of(alloc: Global, sent: &[u8], fails: &[u64]) -> Result<MemoryLink, Fail> {
+    let fails = fails.to_vec(alloc)?;
+    Ok(MemoryLink::of(alloc, sent.to_vec(alloc)?, fails))
+}
+
+/// What a client gets who sends these bytes, at once unless they are cut. These calls of the link
+/// fail.
+pub(crate) fn serve_bytes<R: Wait + Sync>(
+    rt: &R,
+    alloc: Global,
+    sent: &str,
+    cutting: Option<Cutting>,
+    fails: &[u64],
+) -> Result<Heard, Fail> {
+    let mut link = link_of(alloc, sent.as_bytes(), fails)?;
+    match serve_cut(rt, alloc, &mut link, cutting) {
+        Ok(ended) => Ok(Heard { link, ended }),
+        Err(fail) => Err(fail),
+    }
+}
+
+/// The client got this text, and the connection ended so.
+pub(crate) fn is_heard<R: Abort>(rt: &R, heard: &Heard, text: &str, ended: Ended) {
+    is_equal(rt, &str::from_utf8(heard.link.bytes()), &Ok(text));
+    is_equal(rt, &heard.ended, &ended);
+}
+
+/// The client who sends these bytes gets this text, and the connection ends so.
+pub(crate) fn gets<R: Wait + Sync + Abort>(
+    rt: &R,
+    alloc: Global,
+    sent: &str,
+    cutting: Option<Cutting>,
+    text: &str,
+    ended: Ended,
+) -> Result<(), Fail> {
+    let heard = serve_bytes(rt, alloc, sent, cutting, &[])?;
+    is_heard(rt, &heard, text, ended);
+    Ok(())
 }

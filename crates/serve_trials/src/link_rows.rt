@@ -2,9 +2,10 @@
 
 use crate::equal::is_equal;
 use crate::exchanges::{
-    Exchange, a_body_too_long, a_head_cut_off, a_message_of_version_1_0, eight_messages,
+    A_BODY_TOO_LONG, A_HEAD_CUT_OFF, A_MESSAGE_OF_VERSION_1_0, EIGHT_MESSAGES, Exchange, Whole,
+    whole_of,
 };
-use crate::link_office::{Cutting, serve_bytes};
+use crate::link_office::{Cutting, Heard, gets, is_heard, serve_bytes};
 use exam_http::Ended;
 use std::alloc::Global;
 use std::process::Abort;
@@ -28,58 +29,97 @@ const CUTTINGS: [Option<Cutting>; 5] = [
 ];
 
 // The client gets the same bytes in whatever pieces they go.
-fn expect<R: Wait + Sync + Abort>(rt: &R, alloc: Global, exchange: &Exchange) -> Result<(), Fail> {
-    for cutting in CUTTINGS {
-        let got = serve_bytes(rt, alloc, exchange.sent.as_bytes(), cutting, &[])?;
-        is_equal(rt, &got.text.as_str(), &exchange.text.as_str());
-        is_equal(rt, &got.ended, &exchange.ended);
+fn gets_in_any_pieces<R: Wait + Sync + Abort>(
+    rt: &R,
+    alloc: Global,
+    all: &Whole,
+) -> Result<(), Fail> {
+    for cutting in &CUTTINGS {
+        gets(rt, alloc, &all.sent, *cutting, &all.text, all.ended)?;
     }
     Ok(())
 }
 
-#[test]
-fn exchanges_in_any_pieces(rt: HostRuntime) -> Result<(), Fail> {
-    let alloc = rt.alloc();
-    expect(&rt, alloc, &eight_messages(alloc)?)?;
-    expect(&rt, alloc, &a_body_too_long(alloc)?)?;
-    expect(&rt, alloc, &a_head_cut_off(alloc)?)?;
-    expect(&rt, alloc, &a_message_of_version_1_0(alloc)?)?;
-    Ok(())
+fn expect<R: Wait + Sync + Abort>(rt: &R, alloc: Global, exchange: &Exchange) -> Result<(), Fail> {
+    match whole_of(alloc, exchange) {
+        Ok(all) => gets_in_any_pieces(rt, alloc, &all),
+        Err(fail) => Err(fail),
+    }
 }
 
-// Each call of the link fails once, until none has the number: each time the client gets a beginning of the whole text.
-// Returns how many different beginnings there were.
+#[test]
+fn exchanges_in_any_pieces(rt: HostRuntime) -> Result<(), Fail> {
+    expect(&rt, rt.alloc(), &EIGHT_MESSAGES)?;
+    expect(&rt, rt.alloc(), &A_BODY_TOO_LONG)?;
+    expect(&rt, rt.alloc(), &A_HEAD_CUT_OFF)?;
+    expect(&rt, rt.alloc(), &A_MESSAGE_OF_VERSION_1_0)
+}
+
+// The length of what the client got, which is a beginning of the whole text. None where no call
+// failed: it is the whole text then.
+fn length_of<R: Abort>(rt: &R, heard: &Heard, all: &Whole, call: u64) -> Option<usize> {
+    if heard.ended != Ended::Link {
+        is_heard(rt, heard, &all.text, all.ended);
+        return None;
+    }
+    let got = heard.link.bytes();
+    assert!(rt; all.text.as_bytes().starts_with(got), "call {call}");
+    Some(got.len())
+}
+
+// The same where this call of the link fails.
+fn length_at<R: Wait + Sync + Abort>(
+    rt: &R,
+    alloc: Global,
+    all: &Whole,
+    cutting: Option<Cutting>,
+    call: u64,
+) -> Result<Option<usize>, Fail> {
+    let heard = serve_bytes(rt, alloc, &all.sent, cutting, &[call])?;
+    Ok(length_of(rt, &heard, all, call))
+}
+
+// Each call of the link fails once, until none has the number. Returns how many different
+// beginnings there were.
 fn beginnings<R: Wait + Sync + Abort>(
     rt: &R,
     alloc: Global,
-    exchange: &Exchange,
+    all: &Whole,
     cutting: Option<Cutting>,
 ) -> Result<usize, Fail> {
-    let mut lengths = Vec::new(alloc);
+    let mut count = 0usize;
+    let mut last = None;
     for call in 0..1000u64 {
-        let got = serve_bytes(rt, alloc, exchange.sent.as_bytes(), cutting, &[call])?;
-        if got.ended != Ended::Link {
-            is_equal(rt, &got.text.as_str(), &exchange.text.as_str());
-            is_equal(rt, &got.ended, &exchange.ended);
-            return Ok(lengths.len());
+        let length = length_at(rt, alloc, all, cutting, call)?;
+        if length.is_none() {
+            return Ok(count);
         }
-        assert!(rt; exchange.text.starts_with(got.text.as_str()), "call {call}");
-        if lengths.last() != Some(&got.text.len()) {
-            lengths.push(got.text.len())?;
+        if length != last {
+            count = count.saturating_add(1);
+            last = length;
         }
     }
     Err(Fail::from("more calls than bytes"))
 }
 
-// With eight responses, each written at once, there are eight beginnings. Byte by byte each beginning comes once, the whole
-// text too, since the end of what was sent is found by one more call.
+// With eight responses, each written at once, there are eight beginnings.
+fn eight_beginnings<R: Wait + Sync + Abort>(rt: &R, alloc: Global) -> Result<(), Fail> {
+    let eight = whole_of(alloc, &EIGHT_MESSAGES)?;
+    is_equal(rt, &beginnings(rt, alloc, &eight, None)?, &8);
+    Ok(())
+}
+
+// Byte by byte each beginning comes once, the whole text too, since the end of what was sent is
+// found by one more call.
+fn each_beginning<R: Wait + Sync + Abort>(rt: &R, alloc: Global) -> Result<(), Fail> {
+    let cut_off = whole_of(alloc, &A_HEAD_CUT_OFF)?;
+    let found = beginnings(rt, alloc, &cut_off, Some(BYTE_BY_BYTE))?;
+    is_equal(rt, &found, &(cut_off.text.len() + 1));
+    Ok(())
+}
+
 #[test]
 fn each_call_of_the_link_fails(rt: HostRuntime) -> Result<(), Fail> {
-    let alloc = rt.alloc();
-    let eight = eight_messages(alloc)?;
-    is_equal(&rt, &beginnings(&rt, alloc, &eight, None)?, &8);
-    let cut_off = a_head_cut_off(alloc)?;
-    let found = beginnings(&rt, alloc, &cut_off, Some(BYTE_BY_BYTE))?;
-    is_equal(&rt, &found, &(cut_off.text.len() + 1));
-    Ok(())
+    eight_beginnings(&rt, rt.alloc())?;
+    each_beginning(&rt, rt.alloc())
 }

@@ -1,27 +1,46 @@
 // What comes of passes in threads.
+use crate::equal::is_equal;
 use crate::threads::{many_threads, two_threads};
+use std::process::Abort;
 use std::test::Fail;
+
+// How often a number is in a list.
+fn count_of(items: &[u32], number: u32) -> usize {
+    let mut count = 0usize;
+    for item in items {
+        if *item == number {
+            count = count.saturating_add(1);
+        }
+    }
+    count
+}
+
+// The list has so many numbers: those from the first to before the last, each so often.
+fn has_each<R: Abort>(
+    rt: &R,
+    items: &[u32],
+    length: usize,
+    (first, last): (u32, u32),
+    times: usize,
+) {
+    is_equal(rt, &items.len(), &length);
+    for number in first..last {
+        is_equal(rt, &count_of(items, number), &times);
+    }
+}
 
 #[test]
 fn each_of_two_threads_finds_its_own(rt: HostRuntime) -> Result<(), Fail> {
-    let Some(items) = two_threads(&rt, rt.alloc()) else {
-        panic!(rt; "out of memory")
-    };
-    assert!(rt; items.len() == 2000);
-    for number in 0..2u32 {
-        assert!(rt; items.iter().filter(|n| **n == number).count() == 1000);
+    match two_threads(&rt, rt.alloc()) {
+        Some(items) => Ok(has_each(&rt, &items, 2000, (0, 2), 1000)),
+        None => Err(Fail::from("out of memory")),
     }
-    Ok(())
 }
 
 #[test]
 fn sixteen_threads_append_each_number(rt: HostRuntime) -> Result<(), Fail> {
-    let Some(items) = many_threads(&rt, rt.alloc(), 16, 100) else {
-        panic!(rt; "out of memory")
-    };
-    assert!(rt; items.len() == 1600);
-    for number in 1..17u32 {
-        assert!(rt; items.iter().filter(|n| **n == number).count() == 100);
+    match many_threads(&rt, rt.alloc(), 16, 100) {
+        Some(items) => Ok(has_each(&rt, &items, 1600, (1, 17), 100)),
+        None => Err(Fail::from("out of memory")),
     }
-    Ok(())
 }

@@ -5,20 +5,20 @@ ghost use Rattle.std.specs.List.{All};
 ghost use Rattle.exam_edge.specs.MemoryDoor.{out_of};
 ghost use Rattle.exam_model.specs.Validity.{IsPlanFor};
 
+use crate::office::{EVEN, empty_disk, opened, planned};
 use bank_tables::Bank;
-use constraint_model::{Draft, Spec};
+use constraint_model::Spec;
 use exam_edge::{Door, Gate, MemoryDisk, MemoryDoor, MemoryLink};
 use exam_office::{Alone, Office, Reply, Request, Summary};
 use exam_serve::{End, Served, serve_doors};
-use std::alloc::{AllocError, Global};
+use std::alloc::Global;
 use std::sync::Wait;
 use std::test::Fail;
 use std::thread::Threads;
-use trial_cases::{bank_a, draft_a, set_of};
 
 /// What came of the work.
 #[derive(Drop)]
-pub(crate) struct Told<L> {
+pub(crate) struct Worked<L> {
     pub(crate) end: End,
     pub(crate) summary: Summary,
     pub(crate) doors: Vec<L>,
@@ -26,57 +26,29 @@ pub(crate) struct Told<L> {
     pub(crate) sessions: (Option<u32>, Option<u32>),
 }
 
+fn link_of(alloc: Global, text: &str) -> Result<MemoryLink, Fail> {
+    let sent = text.as_bytes().to_vec(alloc)?;
+    Ok(MemoryLink::of(alloc, sent, Vec::new(alloc)))
+}
+
 // A door with one link, which gives this text.
 fn door(alloc: Global, text: &str) -> Result<MemoryDoor, Fail>
     ensures { IfOk result (λ d. out_of d ≡ false) }
 {
-    let link = MemoryLink::of(alloc, text.as_bytes().to_vec(alloc)?, Vec::new(alloc));
     let mut links = Vec::new(alloc);
-    links.push(link)?;
+    links.push(link_of(alloc, text)?)?;
     Ok(MemoryDoor::of(alloc, links, Vec::new(alloc))?)
 }
 
-/// No doors, or a door for each of two texts.
-pub(crate) fn doors(alloc: Global, texts: Option<(&str, &str)>) -> Result<Vec<MemoryDoor>, Fail>
+/// A door for each of these texts.
+pub(crate) fn two_doors(alloc: Global, first: &str, second: &str) -> Result<Vec<MemoryDoor>, Fail>
     ensures few { IfOk result (λ doors. vec_len doors ≤ 2) }
     ensures home { IfOk result (λ doors. All (λ d. out_of d ≡ false) doors.items) }
 {
     let mut doors = Vec::new(alloc);
-    if let Some((first, second)) = texts {
-        doors.push(door(alloc, first)?)?;
-        doors.push(door(alloc, second)?)?;
-    }
+    doors.push(door(alloc, first)?)?;
+    doors.push(door(alloc, second)?)?;
     Ok(doors)
-}
-
-/// What the first link of each door got; nothing where none came back.
-pub(crate) fn texts_of(alloc: Global, doors: &[MemoryDoor]) -> Result<Vec<Vec<u8>>, Fail> {
-    let mut texts = Vec::new(alloc);
-    for door in doors {
-        let text = match door.returned().first() {
-            Some(link) => link.bytes().to_vec(alloc)?,
-            None => Vec::new(alloc),
-        };
-        texts.push(text)?;
-    }
-    Ok(texts)
-}
-
-fn open<'a>(
-    alloc: Global,
-    bank: &'a Bank,
-    spec: &'a Spec,
-    disk: MemoryDisk,
-) -> Result<Office<'a, MemoryDisk>, Fail>
-    requires { IsPlanFor bank.now spec.now }
-{
-    let Some(base) = spec.base() else {
-        return Err(Fail::from("no base"));
-    };
-    match Office::open(alloc, bank, spec, base, disk) {
-        Ok(office) => Ok(office),
-        Err(_) => Err(Fail::from("not opened")),
-    }
 }
 
 // The session of a booking that was started before.
@@ -103,36 +75,63 @@ fn sessions_of(alloc: Global, office: Office<MemoryDisk>) -> (Option<u32>, Optio
     sessions
 }
 
-fn serve<'a, L: Door + Send + Drop, G: Gate + Sync, R: Threads + Wait + Sync>(
+// The same on a disk with a journal.
+fn sessions_on(
+    alloc: Global,
+    bank: &Bank,
+    spec: &Spec,
+    disk: MemoryDisk,
+) -> Result<(Option<u32>, Option<u32>), Fail>
+    requires { IsPlanFor bank.now spec.now }
+{
+    match opened(alloc, bank, spec, disk) {
+        Ok(office) => Ok(sessions_of(alloc, office)),
+        Err(fail) => Err(fail),
+    }
+}
+
+fn worked_by<'a, L: Door + Drop>(
+    alloc: Global,
+    bank: &'a Bank,
+    spec: &'a Spec,
+    served: Served<'a, MemoryDisk, L>,
+) -> Result<Worked<L>, Fail>
+    requires { IsPlanFor bank.now spec.now }
+{
+    let Served { office, doors, end } = served;
+    let summary = office.summary();
+    match sessions_on(alloc, bank, spec, office.into_disk()) {
+        Ok(sessions) => Ok(Worked {
+            end,
+            summary,
+            doors,
+            sessions,
+        }),
+        Err(fail) => Err(fail),
+    }
+}
+
+fn serve_over<'a, L: Door + Send + Drop, G: Gate + Sync, R: Threads + Wait + Sync>(
     rt: &R,
     alloc: Global,
     bank: &'a Bank,
     spec: &'a Spec,
     doors: Vec<L>,
     gate: &G,
-) -> Result<Told<L>, Fail>
+) -> Result<Worked<L>, Fail>
     requires plan { IsPlanFor bank.now spec.now }
     requires few { vec_len doors ≤ 65535 }
     requires home { All (λ d. L.is_out d ≡ false) doors.items }
 {
-    let empty = MemoryDisk::of(alloc, Vec::new(alloc), Vec::new(alloc));
-    let office = open(alloc, bank, spec, empty)?;
-    let Served { office, doors, end } = serve_doors(rt, alloc, office, gate, doors);
-    let summary = office.summary();
-    let office = open(alloc, bank, spec, office.into_disk())?;
-    let sessions = sessions_of(alloc, office);
-    Ok(Told {
-        end,
-        summary,
-        doors,
-        sessions,
-    })
-}
-
-fn plan(alloc: Global) -> Result<Draft, AllocError> {
-    let mut draft = draft_a(alloc)?;
-    draft.base = Some(set_of(&[1, 2, 3]));
-    Ok(draft)
+    match opened(alloc, bank, spec, empty_disk(alloc)) {
+        Ok(office) => worked_by(
+            alloc,
+            bank,
+            spec,
+            serve_doors(rt, alloc, office, gate, doors),
+        ),
+        Err(fail) => Err(fail),
+    }
 }
 
 /// What comes of the work on bank A with these doors.
@@ -141,11 +140,12 @@ pub(crate) fn serve_bank_a<L: Door + Send + Drop, G: Gate + Sync, R: Threads + W
     alloc: Global,
     doors: Vec<L>,
     gate: &G,
-) -> Result<Told<L>, Fail>
+) -> Result<Worked<L>, Fail>
     requires few { vec_len doors ≤ 65535 }
     requires home { All (λ d. L.is_out d ≡ false) doors.items }
 {
-    let bank = bank_a(alloc)?;
-    let spec = Spec::of(alloc, &bank, plan(alloc)?)?;
-    serve(rt, alloc, &bank, &spec, doors, gate)
+    match planned(alloc, &EVEN) {
+        Ok((bank, spec)) => serve_over(rt, alloc, &bank, &spec, doors, gate),
+        Err(fail) => Err(fail),
+    }
 }

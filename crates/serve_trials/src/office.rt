@@ -1,0 +1,84 @@
+//! An office on bank A, whose plan is plan A with a base form.
+
+ghost use Rattle.std.specs.Prelude.{IfOk};
+ghost use Rattle.exam_model.specs.Validity.{IsPlanFor};
+
+use bank_tables::Bank;
+use constraint_model::{Draft, Rate, Spec};
+use exam_edge::MemoryDisk;
+use exam_office::Office;
+use std::alloc::{AllocError, Global};
+use std::test::Fail;
+use trial_cases::{bank_a, draft_a, set_of};
+
+/// The numbers of a plan in which the trials differ from plan A.
+#[derive(Clone, Copy)]
+pub(crate) struct Numbers {
+    pub(crate) rate: Rate,
+    /// The most bytes of the journal.
+    pub(crate) journal: u64,
+}
+
+/// Those of plan A.
+pub(crate) const EVEN: Numbers = Numbers {
+    rate: Rate { num: 1, den: 1 },
+    journal: 67_108_864,
+};
+
+/// At this rate the items shown in one session are ineligible in the next.
+pub(crate) const RARE: Numbers = Numbers {
+    rate: Rate {
+        num: 1,
+        den: 65_535,
+    },
+    ..EVEN
+};
+
+// Plan A with these numbers, and a base form.
+fn draft(alloc: Global, numbers: &Numbers) -> Result<Draft, AllocError> {
+    let mut draft = draft_a(alloc)?;
+    draft.rate = numbers.rate;
+    draft.journal = numbers.journal;
+    draft.base = Some(set_of(&[1, 2, 3]));
+    Ok(draft)
+}
+
+fn planned_over(alloc: Global, bank: Bank, draft: Draft) -> Result<(Bank, Spec), Fail>
+    ensures { IfOk result (λ r. IsPlanFor r.0 r.1) }
+{
+    match Spec::of(alloc, &bank, draft) {
+        Ok(spec) => Ok((bank, spec)),
+        Err(_) => Err(Fail::from("no plan")),
+    }
+}
+
+/// Bank A, and the plan of these numbers.
+pub(crate) fn planned(alloc: Global, numbers: &Numbers) -> Result<(Bank, Spec), Fail>
+    ensures { IfOk result (λ r. IsPlanFor r.0 r.1) }
+{
+    let draft = draft(alloc, numbers)?;
+    planned_over(alloc, bank_a(alloc)?, draft)
+}
+
+/// A disk with an empty file.
+pub(crate) fn empty_disk(alloc: Global) -> MemoryDisk {
+    MemoryDisk::of(alloc, Vec::new(alloc), Vec::new(alloc))
+}
+
+/// The office over this disk.
+pub(crate) fn opened<'a>(
+    alloc: Global,
+    bank: &'a Bank,
+    spec: &'a Spec,
+    disk: MemoryDisk,
+) -> Result<Office<'a, MemoryDisk>, Fail>
+    requires { IsPlanFor bank.now spec.now }
+{
+    let Some(base) = spec.base() else {
+        return Err(Fail::from("no base"));
+    };
+    match Office::open(alloc, bank, spec, base, disk) {
+        Ok(office) => Ok(office),
+        Err(_) => Err(Fail::from("not opened")),
+    }
+}

@@ -1,0 +1,105 @@
+//! Requests on bank A, and what the trials compare of their replies.
+
+use exam_office::{Place, Refusal, Reply, Request};
+
+/// The session, where it is, and whether it was started; or a refusal. Of an exposure, in place of
+/// the session, how many are finished.
+pub(crate) type Told = Result<(u32, Place, bool), Refusal>;
+
+/// What is compared of a reply. Its exposure counts are compared apart.
+pub(crate) fn told(reply: &Reply) -> Told {
+    match reply {
+        Reply::At {
+            session,
+            place,
+            fresh,
+        } => Ok((*session, *place, *fresh)),
+        Reply::Refused(refusal) => Err(*refusal),
+        Reply::Exposure(exposure) => Ok((exposure.finished, Place::Complete, false)),
+    }
+}
+
+/// The right answer to the first item of session 0.
+pub(crate) const FIRST_ANSWER: Request = Request::Answer {
+    session: 0,
+    step: 0,
+    response: 1,
+};
+
+/// The wrong answer to its second item.
+pub(crate) const SECOND_ANSWER: Request = Request::Answer {
+    session: 0,
+    step: 1,
+    response: 0,
+};
+
+/// The right answer to its third item.
+pub(crate) const THIRD_ANSWER: Request = Request::Answer {
+    session: 0,
+    step: 2,
+    response: 1,
+};
+
+/// The wrong answer to the first item of session 0.
+pub(crate) const OTHER_ANSWER: Request = Request::Answer {
+    session: 0,
+    step: 0,
+    response: 0,
+};
+
+/// The wrong answers to the items of session 1.
+pub(crate) const LATER_FIRST_ANSWER: Request = Request::Answer {
+    session: 1,
+    step: 0,
+    response: 0,
+};
+
+pub(crate) const LATER_SECOND_ANSWER: Request = Request::Answer {
+    session: 1,
+    step: 1,
+    response: 0,
+};
+
+pub(crate) const LATER_THIRD_ANSWER: Request = Request::Answer {
+    session: 1,
+    step: 2,
+    response: 0,
+};
+
+/// The first item of a session with these answers, where each item is eligible.
+pub(crate) const FIRST: Place = Place::Waiting {
+    step: 0,
+    item: 2,
+    proved: true,
+};
+
+pub(crate) const SECOND: Place = Place::Waiting {
+    step: 1,
+    item: 4,
+    proved: true,
+};
+
+pub(crate) const THIRD: Place = Place::Waiting {
+    step: 2,
+    item: 1,
+    proved: true,
+};
+
+/// The first item of a session in which those three are ineligible.
+pub(crate) const LATER_FIRST: Place = Place::Waiting {
+    step: 0,
+    item: 5,
+    proved: true,
+};
+
+pub(crate) const LATER_SECOND: Place = Place::Waiting {
+    step: 1,
+    item: 3,
+    proved: true,
+};
+
+pub(crate) const LATER_THIRD: Place = Place::Waiting {
+    step: 2,
+    item: 0,
+    proved: true,
+};

@@ -1,0 +1,60 @@
+//! Responses, which are written out from the rules.
+
+/// Session 0 is started, and waits for the answer to its first item.
+pub(crate) const CREATED: &str = "HTTP/1.1 201 Created\r\n\
+    Content-Type: application/json\r\nContent-Length: 63\r\n\r\n\
+    {\"item\":2,\"proved\":true,\"session\":0,\"state\":\"waiting\",\"step\":0}";
+
+/// The same of session 1.
+pub(crate) const SECOND_CREATED: &str = "HTTP/1.1 201 Created\r\n\
+    Content-Type: application/json\r\nContent-Length: 63\r\n\r\n\
+    {\"item\":2,\"proved\":true,\"session\":1,\"state\":\"waiting\",\"step\":0}";
+
+/// Session 0 was started before.
+pub(crate) const FOUND: &str = "HTTP/1.1 200 OK\r\n\
+    Content-Type: application/json\r\nContent-Length: 63\r\n\r\n\
+    {\"item\":2,\"proved\":true,\"session\":0,\"state\":\"waiting\",\"step\":0}";
+
+/// There is one session.
+pub(crate) const NO_SESSION: &str = "HTTP/1.1 404 Not Found\r\n\
+    Content-Type: application/json\r\nContent-Length: 32\r\n\r\n\
+    {\"error\":\"no-session\",\"value\":1}";
+
+pub(crate) const NO_ROUTE: &str = "HTTP/1.1 404 Not Found\r\n\
+    Content-Type: application/json\r\nContent-Length: 20\r\n\r\n\
+    {\"error\":\"no-route\"}";
+
+pub(crate) const NO_METHOD: &str = "HTTP/1.1 405 Method Not Allowed\r\n\
+    Content-Type: application/json\r\nContent-Length: 21\r\n\r\n\
+    {\"error\":\"no-method\"}";
+
+/// The item has two responses.
+pub(crate) const BAD_RESPONSE: &str = "HTTP/1.1 422 Unprocessable Entity\r\n\
+    Content-Type: application/json\r\nContent-Length: 34\r\n\r\n\
+    {\"error\":\"bad-response\",\"value\":2}";
+
+pub(crate) const BAD_BODY: &str = "HTTP/1.1 422 Unprocessable Entity\r\n\
+    Content-Type: application/json\r\nContent-Length: 20\r\n\r\n\
+    {\"error\":\"bad-body\"}";
+
+pub(crate) const BAD_JSON: &str = "HTTP/1.1 400 Bad Request\r\n\
+    Content-Type: application/json\r\nContent-Length: 20\r\n\r\n\
+    {\"error\":\"bad-json\"}";
+
+/// The connection ends after this one and those below.
+pub(crate) const BAD_HEAD: &str = "HTTP/1.1 400 Bad Request\r\n\
+    Content-Type: application/json\r\nContent-Length: 20\r\nConnection: close\r\n\r\n\
+    {\"error\":\"bad-head\"}";
+
+pub(crate) const NO_LENGTH: &str = "HTTP/1.1 411 Length Required\r\n\
+    Content-Type: application/json\r\nContent-Length: 21\r\nConnection: close\r\n\r\n\
+    {\"error\":\"no-length\"}";
+
+pub(crate) const TOO_LONG: &str = "HTTP/1.1 413 Payload Too Large\r\n\
+    Content-Type: application/json\r\nContent-Length: 20\r\nConnection: close\r\n\r\n\
+    {\"error\":\"too-long\"}";
+
+/// The counts of bank A before a session is finished.
+pub(crate) const NO_COUNTS: &str = "HTTP/1.1 200 OK\r\n\
+    Content-Type: application/json\r\nContent-Length: 59\r\nConnection: close\r\n\r\n\
+    {\"finished\":0,\"rows\":[[0,0],[0,0],[0,0],[0,0],[0,0],[0,0]]}";
