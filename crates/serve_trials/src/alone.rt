@@ -15,8 +15,8 @@ use std::test::Fail;
 
 const START: Request = Request::Begin(70);
 
-// Requests over an empty journal, where these calls of the disk fail; and the replies, and the
-// exposure counts that are asked for.
+// Requests over an empty journal, the calls of the disk that fail, the replies, and the exposure
+// counts in them.
 struct Case {
     numbers: Numbers,
     fails: &'static [u64],
@@ -25,13 +25,14 @@ struct Case {
     counts: &'static [(u32, u32)],
 }
 
-// An answer with a response that its item has not, and one to a session that is not there.
+// An answer with a response that its item does not have.
 const BAD_RESPONSE: Request = Request::Answer {
     session: 0,
     step: 1,
     response: 2,
 };
 
+// An answer to a session that does not exist.
 const NO_SESSION: Request = Request::Answer {
     session: 9,
     step: 0,
@@ -220,7 +221,7 @@ const FULL: [Told; 3] = [
     Err(Refusal::NoSession(0)),
 ];
 
-// What is answered to them at this limit of the journal.
+// The replies to these requests at this limit of the journal.
 fn filled(alloc: Global, journal: u64) -> Result<Answered, Fail> {
     let numbers = Numbers { journal, ..EVEN };
     answers(alloc, &numbers, &[], &FILLING)

@@ -15,15 +15,15 @@ pub(crate) const START: &str =
 /// A message that ends the connection, since its version is 1.0.
 pub(crate) const LAST: &str = "GET /exposure HTTP/1.0\r\n\r\n";
 
-/// The messages of one connection, and how it ends. Each message has so many spaces after it, and
-/// its response, if it gets one.
+/// The messages of one connection, and how the connection ends. A row is a message, the number of
+/// spaces after it, and its response, which is empty if it gets none.
 pub(crate) struct Exchange {
     messages: &'static [(&'static str, usize, &'static str)],
     ended: Ended,
 }
 
-/// A session is started, and found twice, the second time by the longest body; four messages are
-/// refused, and one without a length ends the connection.
+/// The first message starts a session. The next two find it, the second of them with the longest
+/// body. Four messages are refused. The last has no length, and ends the connection.
 pub(crate) const EIGHT_MESSAGES: Exchange = Exchange {
     messages: &[
         (START, 0, CREATED),
@@ -113,6 +113,7 @@ fn text_of(alloc: Global, exchange: &Exchange) -> Result<String, Fail> {
     Ok(text)
 }
 
+/// What is sent, the text of all responses, and how the connection ends.
 pub(crate) fn whole_of(alloc: Global, exchange: &Exchange) -> Result<Whole, Fail> {
     let sent = sent_in(alloc, exchange)?;
     Ok(Whole {

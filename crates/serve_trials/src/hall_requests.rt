@@ -31,8 +31,8 @@ struct Case {
 }
 
 const CASES: [Case; 2] = [
-    // One session to its end. The same answer again, and the same booking again, add nothing; and
-    // what is refused.
+    // One session to its end. The same answer again, and the same booking again, add nothing.
+    // Three requests are refused.
     Case {
         numbers: EVEN,
         requests: &[

@@ -75,12 +75,13 @@ impl Gate for Hold {
     }
 }
 
-// The first begins a session, and is held.
+// The first caller begins a session, and is held.
 fn ask_first<H: Handler, R: Wait + Sync>(rt: &R, alloc: Global, handler: &mut H) -> Told {
     told(&handler.handle(rt, alloc, &Request::Begin(70)))
 }
 
-// The second begins one once the first is held, and lets it go after its own reply.
+// The second caller waits until the first is held. It begins a session, and lets the first go
+// after its own reply.
 fn ask_second<H: Handler, R: Wait + Sync>(
     rt: &R,
     alloc: Global,
@@ -93,7 +94,7 @@ fn ask_second<H: Handler, R: Wait + Sync>(
     reply
 }
 
-// Each in a thread of its own. Gives what both were answered.
+// Each caller asks in a thread of its own. Returns both replies.
 fn ask_each<H: Handler + Send, R: Threads + Wait + Sync>(
     rt: &R,
     alloc: Global,

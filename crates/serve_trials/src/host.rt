@@ -9,12 +9,12 @@ use std::process::Abort;
 use std::test::Fail;
 use std::{env, fs, process, thread};
 
-// The cause of a fault has this kind; none where nothing failed.
+// The cause has this kind. It is `None` if nothing failed.
 fn has_kind<R: Abort>(rt: &R, cause: Option<Error>, kind: Option<ErrorKind>) {
-    is_equal(rt, &cause.map(|e| e.kind()), &kind);
+    is_equal(rt, &cause.map(|error| error.kind()), &kind);
 }
 
-// At this place so many bytes are read into the buffer, which has these then.
+// A read at this place gives this count. The buffer has these bytes after it.
 fn reads<R: Abort>(
     rt: &R,
     disk: &mut HostDisk,
@@ -47,7 +47,7 @@ fn fails<R: Abort>(rt: &R, disk: &mut HostDisk, kind: ErrorKind) {
     has_kind(rt, disk.cause(), Some(kind));
 }
 
-// At this place of a file so many bytes are read into the buffer, which has these then.
+// A read at this place of a file gives this count. The buffer has these bytes after it.
 fn reads_file<R: Abort>(
     rt: &R,
     files: &mut HostFiles,
@@ -65,7 +65,7 @@ fn disk_of(rt: &HostRuntime, path: &str) -> Result<HostDisk, Fail> {
     Ok(HostDisk::of(rt.clone()?, path))
 }
 
-// The file of this path is no journal's, for this reason.
+// A disk over the file of this path fails, with a cause of this kind.
 fn is_refused<R: Abort>(
     rt: &R,
     host: &HostRuntime,
@@ -107,7 +107,7 @@ fn reads_in<R: Abort>(rt: &R, host: &HostRuntime, folder: &str, path: &str) -> R
     Ok(())
 }
 
-// The file is locked while a disk has it. It is read, and removed with its folder.
+// The file is locked as long as a disk has it. The file is read and removed, and then its folder.
 fn goes<R: Abort>(rt: &R, host: &HostRuntime, folder: &str, path: &str) -> Result<(), Fail> {
     is_refused(rt, host, path, ErrorKind::WouldBlock)?;
     reads_in(rt, host, folder, path)?;
@@ -115,8 +115,8 @@ fn goes<R: Abort>(rt: &R, host: &HostRuntime, folder: &str, path: &str) -> Resul
     is_refused(rt, host, path, ErrorKind::NotFound)
 }
 
-// The disk has the file to the end. What owns a disk has one call that may fail, since more are
-// dear to prove.
+// The disk keeps the file open until the function ends. What owns a disk has one call that may
+// fail, since more are dear to prove.
 fn keeps<R: Abort>(
     rt: &R,
     host: &HostRuntime,

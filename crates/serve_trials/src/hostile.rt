@@ -11,8 +11,8 @@ use std::sync::Wait;
 use std::test::Fail;
 use wire_http::WireFault;
 
-// A message, its response, if it gets one, and how the connection ends. It goes on where it ends
-// with `Done`.
+// A message, its response, and how the connection ends. The response is empty if there is none.
+// The connection goes on if `ended` is `Done`.
 #[derive(Clone, Copy)]
 struct Row<'a> {
     message: &'a str,
@@ -62,7 +62,7 @@ fn joined(alloc: Global, first: &str, second: &str) -> Result<String, Fail> {
     Ok(format!(in alloc; "{first}{second}")?)
 }
 
-// What is sent after the message is answered where the connection goes on, and else not.
+// A message after this one is answered only if the connection goes on.
 fn is_followed<R: Wait + Sync + Abort>(rt: &R, alloc: Global, row: &Row<'_>) -> Result<(), Fail> {
     let more = if row.ended == Ended::Done {
         NO_COUNTS
@@ -91,8 +91,8 @@ fn hostile_messages(rt: HostRuntime) -> Result<(), Fail> {
     Ok(())
 }
 
-// A head: how it begins, what is in it so many times, how it ends, and its length; and what comes
-// of it.
+// A head: its front, a text and how often it is repeated, its end and its length. The response
+// follows, and how the connection ends.
 struct Head {
     front: &'static str,
     repeated: &'static str,
@@ -114,7 +114,7 @@ const HEADS: [Head; 2] = [
         response: TOO_LONG,
         ended: Ended::BadInput(WireFault::HeadTooLong),
     },
-    // Fields, one too many.
+    // 65 fields, one more than a head may have.
     Head {
         front: "GET /exposure HTTP/1.1\r\n",
         repeated: "a: b\r\n",

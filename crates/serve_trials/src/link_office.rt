@@ -62,7 +62,7 @@ pub(crate) struct Cutting {
     pub(crate) seed: u64,
 }
 
-// The same with the bytes cut, or at once.
+// The same, with the bytes cut into pieces or sent at once.
 fn serve_cut<R: Wait + Sync>(
     rt: &R,
     alloc: Global,
@@ -83,14 +83,14 @@ fn serve_cut<R: Wait + Sync>(
     }
 }
 
-/// The link that a client got a text on, and how the connection ended.
+/// The link, which has the text that the client got, and how the connection ended.
 #[derive(Drop)]
 pub(crate) struct Heard {
     pub(crate) link: MemoryLink,
     pub(crate) ended: Ended,
 }
 
-// A link with these bytes, of which these calls fail.
+// A link with these bytes to read. These of its calls fail.
 fn link_of(alloc: Global, sent: &[u8], fails: &[u64]) -> Result<MemoryLink, Fail> {
     let fails = fails.to_vec(alloc)?;
     Ok(MemoryLink::of(alloc, sent.to_vec(alloc)?, fails))
@@ -112,13 +112,13 @@ pub(crate) fn serve_bytes<R: Wait + Sync>(
     }
 }
 
-/// The client got this text, and the connection ended so.
+/// The client got this text, and the connection ended in this way.
 pub(crate) fn is_heard<R: Abort>(rt: &R, heard: &Heard, text: &str, ended: Ended) {
     is_equal(rt, &str::from_utf8(heard.link.bytes()), &Ok(text));
     is_equal(rt, &heard.ended, &ended);
 }
 
-/// The client who sends these bytes gets this text, and the connection ends so.
+/// The client who sends these bytes gets this text, and the connection ends in this way.
 pub(crate) fn gets<R: Wait + Sync + Abort>(
     rt: &R,
     alloc: Global,

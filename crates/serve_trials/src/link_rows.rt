@@ -55,8 +55,8 @@ fn exchanges_in_any_pieces(rt: HostRuntime) -> Result<(), Fail> {
     expect(&rt, rt.alloc(), &A_MESSAGE_OF_VERSION_1_0)
 }
 
-// The length of what the client got, which is a beginning of the whole text. None where no call
-// failed: it is the whole text then.
+// The length of the text that the client got, which is a beginning of the whole text. It is `None`
+// if no call failed; the client then has the whole text.
 fn length_of<R: Abort>(rt: &R, heard: &Heard, all: &Whole, call: u64) -> Option<usize> {
     if heard.ended != Ended::Link {
         is_heard(rt, heard, &all.text, all.ended);
@@ -79,8 +79,8 @@ fn length_at<R: Wait + Sync + Abort>(
     Ok(length_of(rt, &heard, all, call))
 }
 
-// Each call of the link fails once, until none has the number. Returns how many different
-// beginnings there were.
+// Each call of the link fails once, until the link has no call of that number. Returns how many
+// different beginnings there were.
 fn beginnings<R: Wait + Sync + Abort>(
     rt: &R,
     alloc: Global,

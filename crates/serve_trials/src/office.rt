@@ -11,7 +11,7 @@ use std::alloc::{AllocError, Global};
 use std::test::Fail;
 use trial_cases::{bank_a, draft_a, set_of};
 
-/// The numbers of a plan in which the trials differ from plan A.
+/// The numbers in which a plan of the trials differs from plan A.
 #[derive(Clone, Copy)]
 pub(crate) struct Numbers {
     pub(crate) rate: Rate,
@@ -19,13 +19,13 @@ pub(crate) struct Numbers {
     pub(crate) journal: u64,
 }
 
-/// Those of plan A.
+/// The numbers of plan A.
 pub(crate) const EVEN: Numbers = Numbers {
     rate: Rate { num: 1, den: 1 },
     journal: 67_108_864,
 };
 
-/// At this rate the items shown in one session are ineligible in the next.
+/// At this rate the items shown in session 0 are ineligible in session 1.
 pub(crate) const RARE: Numbers = Numbers {
     rate: Rate {
         num: 1,

@@ -2,11 +2,11 @@
 
 use exam_office::{Place, Refusal, Reply, Request};
 
-/// The session, where it is, and whether it was started; or a refusal. Of an exposure, in place of
-/// the session, how many are finished.
+/// A reply without its exposure counts: the session, its place, and whether the session was
+/// started; or a refusal. An exposure has the number of finished sessions in place of the session.
 pub(crate) type Told = Result<(u32, Place, bool), Refusal>;
 
-/// What is compared of a reply. Its exposure counts are compared apart.
+/// The part of a reply that the trials compare. Its exposure counts are compared separately.
 pub(crate) fn told(reply: &Reply) -> Told {
     match reply {
         Reply::At {
@@ -26,14 +26,14 @@ pub(crate) const FIRST_ANSWER: Request = Request::Answer {
     response: 1,
 };
 
-/// The wrong answer to its second item.
+/// The wrong answer to the second item of session 0.
 pub(crate) const SECOND_ANSWER: Request = Request::Answer {
     session: 0,
     step: 1,
     response: 0,
 };
 
-/// The right answer to its third item.
+/// The right answer to the third item of session 0.
 pub(crate) const THIRD_ANSWER: Request = Request::Answer {
     session: 0,
     step: 2,
@@ -47,26 +47,28 @@ pub(crate) const OTHER_ANSWER: Request = Request::Answer {
     response: 0,
 };
 
-/// The wrong answers to the items of session 1.
+/// The wrong answer to the first item of session 1.
 pub(crate) const LATER_FIRST_ANSWER: Request = Request::Answer {
     session: 1,
     step: 0,
     response: 0,
 };
 
+/// The wrong answer to the second item of session 1.
 pub(crate) const LATER_SECOND_ANSWER: Request = Request::Answer {
     session: 1,
     step: 1,
     response: 0,
 };
 
+/// The wrong answer to the third item of session 1.
 pub(crate) const LATER_THIRD_ANSWER: Request = Request::Answer {
     session: 1,
     step: 2,
     response: 0,
 };
 
-/// The first item of a session with these answers, where each item is eligible.
+/// The first item of a session in which no item is ineligible, or eligibility is set aside.
 pub(crate) const FIRST: Place = Place::Waiting {
     step: 0,
     item: 2,

@@ -5,7 +5,7 @@ pub(crate) const CREATED: &str = "HTTP/1.1 201 Created\r\n\
     Content-Type: application/json\r\nContent-Length: 63\r\n\r\n\
     {\"item\":2,\"proved\":true,\"session\":0,\"state\":\"waiting\",\"step\":0}";
 
-/// The same of session 1.
+/// The same response for session 1.
 pub(crate) const SECOND_CREATED: &str = "HTTP/1.1 201 Created\r\n\
     Content-Type: application/json\r\nContent-Length: 63\r\n\r\n\
     {\"item\":2,\"proved\":true,\"session\":1,\"state\":\"waiting\",\"step\":0}";
@@ -15,7 +15,7 @@ pub(crate) const FOUND: &str = "HTTP/1.1 200 OK\r\n\
     Content-Type: application/json\r\nContent-Length: 63\r\n\r\n\
     {\"item\":2,\"proved\":true,\"session\":0,\"state\":\"waiting\",\"step\":0}";
 
-/// There is one session.
+/// The session does not exist. The office has one session.
 pub(crate) const NO_SESSION: &str = "HTTP/1.1 404 Not Found\r\n\
     Content-Type: application/json\r\nContent-Length: 32\r\n\r\n\
     {\"error\":\"no-session\",\"value\":1}";
@@ -41,7 +41,7 @@ pub(crate) const BAD_JSON: &str = "HTTP/1.1 400 Bad Request\r\n\
     Content-Type: application/json\r\nContent-Length: 20\r\n\r\n\
     {\"error\":\"bad-json\"}";
 
-/// The connection ends after this one and those below.
+/// The connection ends after this response and after each one below.
 pub(crate) const BAD_HEAD: &str = "HTTP/1.1 400 Bad Request\r\n\
     Content-Type: application/json\r\nContent-Length: 20\r\nConnection: close\r\n\r\n\
     {\"error\":\"bad-head\"}";

@@ -1,4 +1,4 @@
-// What comes of passes in threads.
+// The lists that passes in threads leave.
 use crate::equal::is_equal;
 use crate::threads::{many_threads, two_threads};
 use std::process::Abort;
@@ -15,7 +15,7 @@ fn count_of(items: &[u32], number: u32) -> usize {
     count
 }
 
-// The list has so many numbers: those from the first to before the last, each so often.
+// The list has this length. Each number from `first` to below `last` is in it this many times.
 fn has_each<R: Abort>(
     rt: &R,
     items: &[u32],
