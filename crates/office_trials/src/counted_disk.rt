@@ -3,7 +3,7 @@
 use exam_edge::{Disk, Failed};
 
 /// How many calls were made, and how many of them failed. Both counts stay at their last value.
-#[derive(Clone, Copy, Debug, PartialEq, Eq)]
+#[derive(Clone, Copy)]
 pub(crate) struct Count {
     pub calls: u64,
     pub faults: u64,

@@ -18,6 +18,7 @@ mod expected;
 mod failures;
 #[cfg(test)]
 mod files;
+#[cfg(test)]
 mod journal;
 #[cfg(test)]
 mod openings;
@@ -25,6 +26,8 @@ mod openings;
 mod outcome;
 #[cfg(test)]
 mod refusals;
+#[cfg(test)]
+mod rows;
 #[cfg(test)]
 mod serving;
 #[cfg(test)]

@@ -3,17 +3,16 @@
 ghost use Rattle.exam_model.specs.Validity.{IsPlanFor};
 
 use crate::counted_disk::{Count, CountedDisk};
-use crate::expected::shows;
+use crate::files::{Parts, joined};
 use crate::serving::{serve, serve_again, serve_late};
 use bank_tables::Bank;
 use constraint_model::Spec;
 use exam_edge::{Disk, MemoryDisk};
 use exam_model::{Draft, Rate};
 use exam_office::{Begun, Office, OpenFault, Place, Refusal, Summary};
-use history_model::Exposure;
-use std::alloc::{AllocError, Global};
+use history_model::Counts;
+use std::alloc::Global;
 use std::process::Abort;
-use std::test::Fail;
 use trial_cases::{bank_a, draft_a, set_of};
 
 /// The numbers of a plan in which the trials differ from the worked one.
@@ -45,18 +44,33 @@ pub(crate) enum Call {
     Answer(u32, u16, u8),
     Close(u32),
     Look(u32),
+    /// The vector that the search for a session's next form may begin with.
+    Warm(u32),
+    /// The exposure counts of an item.
+    Exposure(usize),
 }
 
-/// What a call gave.
-#[derive(Clone, Copy, Debug, PartialEq, Eq)]
+/// What a call gives.
+#[derive(Clone, Copy, PartialEq)]
 pub(crate) enum Reply {
     Begun(Begun),
     At(Place),
     Refused(Refusal),
+    /// A vector of so many pairs, and the first of them.
+    Vector(usize, Option<(u16, u32)>),
+    /// A session without a vector.
+    Cold,
+    /// None where there is no such item.
+    Exposed(Option<Counts>),
+    /// No call gives it. It expects that the journal is full: it would have this length at least.
+    Full(u64),
 }
 
+/// A call, and what it has to give.
+pub(crate) type Step = (Call, Reply);
+
 /// Session 0 is started by the call.
-pub(crate) const STARTED: Reply = Reply::Begun(Begun {
+pub(crate) const BEGUN: Reply = Reply::Begun(Begun {
     session: 0,
     fresh: true,
 });
@@ -88,37 +102,67 @@ pub(crate) const THIRD: Place = Place::Waiting {
     proved: true,
 };
 
-/// The calls of the worked session, each of which adds an entry.
-pub(crate) const SESSION: [Call; 7] = [
-    Call::Begin(70),
-    Call::Serve(0),
-    Call::Answer(0, 0, 1),
-    Call::Serve(0),
-    Call::Answer(0, 1, 0),
-    Call::Serve(0),
-    Call::Answer(0, 2, 1),
+/// A call of the disk failed.
+pub(crate) const FAILED: Reply = Reply::Refused(Refusal::Disk);
+
+/// The worked session. Each call adds an entry.
+pub(crate) const SESSION: [Step; 7] = [
+    (Call::Begin(70), BEGUN),
+    (Call::Serve(0), Reply::At(FIRST)),
+    (Call::Answer(0, 0, 1), Reply::At(Place::Pending(1))),
+    (Call::Serve(0), Reply::At(SECOND)),
+    (Call::Answer(0, 1, 0), Reply::At(Place::Pending(2))),
+    (Call::Serve(0), Reply::At(THIRD)),
+    (Call::Answer(0, 2, 1), Reply::At(Place::Complete)),
 ];
 
-/// What the calls gave, and the history and the exposure counts after them.
-#[derive(Drop)]
+/// The summary of a history without an entry.
+pub(crate) const NOTHING: Summary = Summary {
+    entries: 0,
+    sessions: 0,
+    finished: 0,
+    proved: 0,
+    unproved: 0,
+    aside: 0,
+    nodes: 0,
+};
+
+/// An office is opened over a file of these parts under the worked plan with these numbers. Calls
+/// of the disk fail that have the numbers of `fails`, counted from 0. Then calls of the office are
+/// made, one list after another.
+#[derive(Clone, Copy)]
+pub(crate) struct Trial<'a> {
+    pub numbers: Numbers,
+    pub file: Parts<'a>,
+    pub fails: &'a [u64],
+    pub steps: &'a [&'a [Step]],
+}
+
+/// The trial under the worked plan in which no call of the disk fails.
+pub(crate) fn calm<'a>(file: Parts<'a>, steps: &'a [&'a [Step]]) -> Trial<'a> {
+    Trial {
+        numbers: WORKED,
+        file,
+        fails: &[],
+        steps,
+    }
+}
+
+/// Why the file was not opened, or else the summary of the history and the vector of session 0
+/// after the calls.
+#[derive(Clone, Copy)]
 pub(crate) struct Found {
-    pub replies: Vec<Reply>,
+    pub fault: Option<OpenFault>,
     pub summary: Summary,
-    pub exposure: Exposure,
+    pub vector: Reply,
 }
 
-/// The bytes of the disk in the end, and the count of its calls.
-#[derive(Drop)]
-pub(crate) struct Left {
-    pub bytes: Vec<u8>,
-    pub count: Count,
-}
-
-/// Why a file was not opened, or what was found; and what is left on the disk.
+/// What was found; and the bytes of the disk in the end, and the count of its calls.
 #[derive(Drop)]
 pub(crate) struct Outcome {
-    pub found: Result<Found, OpenFault>,
-    pub left: Left,
+    pub found: Found,
+    pub bytes: Vec<u8>,
+    pub count: Count,
 }
 
 fn at(answer: Result<Place, Refusal>) -> Reply {
@@ -135,171 +179,186 @@ fn begin<D: Disk>(alloc: Global, office: &mut Office<D>, booking: u64) -> Reply 
     }
 }
 
-fn ask<D: Disk>(alloc: Global, office: &mut Office<D>, call: &Call) -> Result<Reply, Fail> {
-    match *call {
-        Call::Begin(booking) => Ok(begin(alloc, office, booking)),
-        Call::Serve(session) => Ok(at(serve(alloc, office, session)?)),
-        Call::ServeAgain(session) => Ok(at(serve_again(alloc, office, session)?)),
-        Call::ServeLate(session) => Ok(at(serve_late(alloc, office, session)?)),
-        Call::Answer(session, step, response) => {
-            Ok(at(office.answer(alloc, session, step, response)))
+fn vector_of<D: Disk>(alloc: Global, office: &Office<D>, session: u32) -> Reply {
+    match office.warm(alloc, session) {
+        Ok(Some(vector)) => {
+            let pairs = vector.pairs();
+            Reply::Vector(pairs.len(), pairs.first().copied())
         }
-        Call::Close(session) => Ok(at(office.close(alloc, session))),
-        Call::Look(session) => Ok(at(office.look(session))),
+        Ok(None) => Reply::Cold,
+        Err(refusal) => Reply::Refused(refusal),
     }
 }
 
-fn exposure_of<D: Disk>(alloc: Global, office: &Office<D>) -> Result<Exposure, Fail> {
+fn exposure_of<D: Disk>(alloc: Global, office: &Office<D>, item: usize) -> Reply {
     match office.exposure(alloc) {
-        Ok(exposure) => Ok(exposure),
-        Err(_) => Err(Fail::from("no exposure")),
+        Ok(exposure) => Reply::Exposed(exposure.rows.as_slice().get(item).copied()),
+        Err(refusal) => Reply::Refused(refusal),
     }
 }
 
-fn replies_to<D: Disk>(
+/// What a call gives that has the place of a session.
+fn place_by<R: Abort, D: Disk>(
+    rt: &R,
     alloc: Global,
     office: &mut Office<D>,
-    calls: &[Call],
-) -> Result<Vec<Reply>, Fail> {
-    let mut replies = Vec::new(alloc);
-    for call in calls {
-        replies.push(ask(alloc, office, call)?)?;
+    call: &Call,
+) -> Result<Place, Refusal> {
+    match *call {
+        Call::Serve(session) => serve(rt, alloc, office, session),
+        Call::ServeAgain(session) => serve_again(rt, alloc, office, session),
+        Call::ServeLate(session) => serve_late(rt, alloc, office, session),
+        Call::Answer(session, step, response) => office.answer(alloc, session, step, response),
+        Call::Close(session) => office.close(alloc, session),
+        Call::Look(session) => office.look(session),
+        _ => panic!(rt; "another call"),
     }
-    Ok(replies)
 }
 
-fn ask_all<D: Disk>(alloc: Global, office: &mut Office<D>, calls: &[Call]) -> Result<Found, Fail> {
-    let replies = replies_to(alloc, office, calls)?;
-    Ok(Found {
-        exposure: exposure_of(alloc, office)?,
+fn ask<R: Abort, D: Disk>(rt: &R, alloc: Global, office: &mut Office<D>, call: &Call) -> Reply {
+    match *call {
+        Call::Begin(booking) => begin(alloc, office, booking),
+        Call::Warm(session) => vector_of(alloc, office, session),
+        Call::Exposure(item) => exposure_of(alloc, office, item),
+        _ => at(place_by(rt, alloc, office, call)),
+    }
+}
+
+/// A call gave what it had to give.
+fn is_reply<R: Abort>(rt: &R, found: Reply, expected: Reply) {
+    match (found, expected) {
+        (Reply::Refused(Refusal::JournalFull(length)), Reply::Full(least)) => {
+            assert!(rt; length >= least);
+        }
+        _ => assert!(rt; found == expected),
+    }
+}
+
+/// Each call gives its reply.
+fn ask_each<R: Abort, D: Disk>(rt: &R, alloc: Global, office: &mut Office<D>, steps: &[Step]) {
+    for (call, reply) in steps {
+        is_reply(rt, ask(rt, alloc, office, call), *reply);
+    }
+}
+
+/// The same of one list of calls after another, and what is found then.
+fn ask_all<R: Abort, D: Disk>(
+    rt: &R,
+    alloc: Global,
+    office: &mut Office<D>,
+    lists: &[&[Step]],
+) -> Found {
+    for steps in lists {
+        ask_each(rt, alloc, office, steps);
+    }
+    Found {
+        fault: None,
         summary: office.summary(),
-        replies,
-    })
-}
-
-fn left_on(alloc: Global, disk: &CountedDisk<MemoryDisk>) -> Result<Left, Fail> {
-    Ok(Left {
-        bytes: disk.disk.bytes().to_vec(alloc)?,
-        count: disk.count,
-    })
+        vector: vector_of(alloc, office, 0),
+    }
 }
 
 /// What was found, and what is on the disk then.
-fn outcome_of(
+fn outcome_of<R: Abort>(
+    rt: &R,
     alloc: Global,
-    found: Result<Found, OpenFault>,
-    disk: &CountedDisk<MemoryDisk>,
-) -> Result<Outcome, Fail> {
-    match left_on(alloc, disk) {
-        Ok(left) => Ok(Outcome { found, left }),
-        Err(fail) => Err(fail),
+    found: Found,
+    disk: CountedDisk<MemoryDisk>,
+) -> Outcome {
+    Outcome {
+        found,
+        bytes: disk.disk.bytes().to_vec(alloc).expect(rt, "the file"),
+        count: disk.count,
     }
 }
 
-fn run_over<'a>(
+/// The same where the file was not opened.
+fn unopened<R: Abort>(
+    rt: &R,
+    alloc: Global,
+    fault: OpenFault,
+    disk: CountedDisk<MemoryDisk>,
+) -> Outcome {
+    let found = Found {
+        fault: Some(fault),
+        summary: NOTHING,
+        vector: Reply::Cold,
+    };
+    outcome_of(rt, alloc, found, disk)
+}
+
+fn run_over<'a, R: Abort>(
+    rt: &R,
     alloc: Global,
     bank: &'a Bank,
     spec: &'a Spec,
     disk: CountedDisk<MemoryDisk>,
-    calls: &[Call],
-) -> Result<Outcome, Fail>
+    lists: &[&[Step]],
+) -> Outcome
     requires { IsPlanFor bank.now spec.now }
 {
     let Some(base) = spec.base() else {
-        return Err(Fail::from("no base"));
+        panic!(rt; "no base");
     };
     match Office::open(alloc, bank, spec, base, disk) {
         Ok(office) => {
             let mut office = office;
-            let asked = ask_all(alloc, &mut office, calls);
-            let disk = office.into_disk();
-            match asked {
-                Ok(found) => outcome_of(alloc, Ok(found), &disk),
-                Err(fail) => Err(fail),
-            }
+            let found = ask_all(rt, alloc, &mut office, lists);
+            outcome_of(rt, alloc, found, office.into_disk())
         }
-        Err((disk, fault)) => outcome_of(alloc, Err(fault), &disk),
+        Err((disk, fault)) => unopened(rt, alloc, fault, disk),
     }
 }
 
 /// The worked plan with these numbers, and a base form.
-pub(crate) fn draft(alloc: Global, numbers: &Numbers) -> Result<Draft, AllocError> {
-    let mut draft = draft_a(alloc)?;
+fn draft<R: Abort>(rt: &R, alloc: Global, numbers: &Numbers) -> Draft {
+    let mut draft = draft_a(alloc).expect(rt, "a draft");
     draft.rate = numbers.rate;
     draft.sessions = numbers.sessions;
     draft.journal = numbers.journal;
     draft.base = Some(set_of(&[1, 2, 3]));
-    Ok(draft)
+    draft
 }
 
-/// A disk with a file of these bytes. Its calls that have these numbers fail.
-pub(crate) fn disk_of(alloc: Global, bytes: &[u8], fails: &[u64]) -> Result<MemoryDisk, Fail> {
-    let bytes = bytes.to_vec(alloc)?;
-    let disk = MemoryDisk::of(alloc, bytes, fails.to_vec(alloc)?);
-    // There is room for each call that fails, so a crash leaves what the model of a disk has.
-    if disk.room() < fails.len() {
-        return Err(Fail::from("no room"));
-    }
-    Ok(disk)
-}
-
-/// An office is opened over a file of these bytes, and these calls are made. The calls of the disk
-/// that have these numbers fail. What owns a bank is a function of its own, since one that also
-/// owns a disk is dear to prove.
-fn run_on(
+/// A disk with a file of these parts. Its calls that have these numbers fail.
+pub(crate) fn disk_of<R: Abort>(
+    rt: &R,
     alloc: Global,
-    bank: &Bank,
-    spec: &Spec,
-    bytes: &[u8],
+    file: Parts<'_>,
     fails: &[u64],
-    calls: &[Call],
-) -> Result<Outcome, Fail>
+) -> MemoryDisk {
+    let numbers = fails.to_vec(alloc).expect(rt, "numbers");
+    let disk = MemoryDisk::of(alloc, joined(rt, alloc, file), numbers);
+    // There is room for each call that fails, so a crash leaves what the model of a disk has.
+    assert!(rt; disk.room() == fails.len());
+    disk
+}
+
+/// The trial over a bank and a plan for it. What owns a bank is a function of its own, since one
+/// that also owns a disk is dear to prove.
+fn run_on<R: Abort>(rt: &R, alloc: Global, bank: &Bank, spec: &Spec, trial: &Trial<'_>) -> Outcome
     requires { IsPlanFor bank.now spec.now }
 {
-    match disk_of(alloc, bytes, fails) {
-        Ok(disk) => run_over(alloc, bank, spec, CountedDisk::of(disk), calls),
-        Err(fail) => Err(fail),
-    }
+    let disk = CountedDisk::of(disk_of(rt, alloc, trial.file, trial.fails));
+    run_over(rt, alloc, bank, spec, disk, trial.steps)
 }
 
 /// The same over a bank and the plan of a draft.
-fn run_by(
+fn run_by<R: Abort>(
+    rt: &R,
     alloc: Global,
     bank: &Bank,
     draft: Draft,
-    bytes: &[u8],
-    fails: &[u64],
-    calls: &[Call],
-) -> Result<Outcome, Fail> {
+    trial: &Trial<'_>,
+) -> Outcome {
     match Spec::of(alloc, bank, draft) {
-        Ok(spec) => run_on(alloc, bank, &spec, bytes, fails, calls),
-        Err(_) => Err(Fail::from("a plan")),
+        Ok(spec) => run_on(rt, alloc, bank, &spec, trial),
+        Err(_) => panic!(rt; "no plan"),
     }
 }
 
-/// The same under the worked plan with these numbers.
-pub(crate) fn run(
-    alloc: Global,
-    numbers: &Numbers,
-    bytes: &[u8],
-    fails: &[u64],
-    calls: &[Call],
-) -> Result<Outcome, Fail> {
-    let bank = bank_a(alloc)?;
-    run_by(alloc, &bank, draft(alloc, numbers)?, bytes, fails, calls)
-}
-
-/// The same under the worked plan, where the calls have to give these replies, and the history has
-/// to have so many entries after them; what is left then.
-pub(crate) fn gives<R: Abort>(
-    rt: &R,
-    alloc: Global,
-    (bytes, fails): (&[u8], &[u64]),
-    calls: &[Call],
-    replies: &[Reply],
-    entries: u64,
-) -> Result<Left, Fail> {
-    let outcome = run(alloc, &WORKED, bytes, fails, calls)?;
-    shows(rt, &outcome, replies, entries);
-    Ok(outcome.left)
+/// What becomes of a trial. Each call gives its reply.
+pub(crate) fn run<R: Abort>(rt: &R, alloc: Global, trial: &Trial<'_>) -> Outcome {
+    let bank = bank_a(alloc).expect(rt, "a bank");
+    run_by(rt, alloc, &bank, draft(rt, alloc, &trial.numbers), trial)
 }

@@ -1,49 +1,29 @@
 //! Each refusal of a call with its value. A refused call adds no entry, and makes no call of the
 //! disk.
 
-use crate::cases::opening_calls;
-use crate::expected::{counts, found_in, is_same, leaves, replies_at, shows};
-use crate::files::{ANSWERED, empty_journal, served_journal, started_journal, third_journal};
+use crate::expected::{has_entries, is_same};
+use crate::files::{ANSWERED, CLOSE, EMPTY, END, HEADER, Parts, REST, SERVED, START, STARTED};
 use crate::outcome::{
-    Call, FIRST, FOUND, Found, Left, Numbers, Outcome, Reply, SECOND, STARTED, THIRD, WORKED,
-    gives, run,
+    BEGUN, Call, FIRST, FOUND, NOTHING, Numbers, Reply, SECOND, SESSION, Step, THIRD, Trial,
+    WORKED, calm, run,
 };
-use exam_office::{Begun, Place, Refusal};
+use crate::rows::{ONE_ANSWERED, ONE_SERVED, ONE_STARTED, Row, holds};
+use crate::sessions::TWO_SESSIONS;
+use exam_office::{Begun, Place, Refusal, Summary};
 use std::alloc::Global;
 use std::process::Abort;
-use std::test::Fail;
-
-/// Two sessions: the first waits for its second answer, and the second is closed.
-const TWO_SESSIONS: [Call; 7] = [
-    Call::Begin(1),
-    Call::Serve(0),
-    Call::Begin(2),
-    Call::Serve(1),
-    Call::Answer(0, 0, 1),
-    Call::Serve(0),
-    Call::Close(1),
-];
-
-/// What they give.
-const TWO_REPLIES: [Reply; 7] = [
-    STARTED,
-    Reply::At(FIRST),
-    Reply::Begun(Begun {
-        session: 1,
-        fresh: true,
-    }),
-    Reply::At(FIRST),
-    Reply::At(Place::Pending(1)),
-    Reply::At(SECOND),
-    Reply::At(Place::Closed),
-];
 
 const IS_CLOSED: Reply = Reply::Refused(Refusal::IsClosed(Place::Closed));
 
 const NO_SESSION: Reply = Reply::Refused(Refusal::NoSession(2));
 
-/// Calls that add nothing then, and what they give.
-const CALLS_AFTER: [(Call, Reply); 13] = [
+const SECOND_FOUND: Reply = Reply::Begun(Begun {
+    session: 1,
+    fresh: false,
+});
+
+/// Calls that add nothing after the two sessions, and what they give.
+const CALLS_AFTER: [Step; 13] = [
     (Call::Answer(0, 0, 1), Reply::At(SECOND)),
     (Call::Answer(0, 0, 0), Reply::Refused(Refusal::Other(1))),
     (Call::Answer(0, 2, 1), Reply::Refused(Refusal::WrongStep(1))),
@@ -52,13 +32,7 @@ const CALLS_AFTER: [(Call, Reply); 13] = [
         Reply::Refused(Refusal::BadResponse(2)),
     ),
     (Call::Begin(1), FOUND),
-    (
-        Call::Begin(2),
-        Reply::Begun(Begun {
-            session: 1,
-            fresh: false,
-        }),
-    ),
+    (Call::Begin(2), SECOND_FOUND),
     (Call::Answer(9, 0, 0), NO_SESSION),
     (Call::Answer(1, 0, 0), IS_CLOSED),
     (Call::Close(1), IS_CLOSED),
@@ -68,187 +42,180 @@ const CALLS_AFTER: [(Call, Reply); 13] = [
     (Call::Look(1), Reply::At(Place::Closed)),
 ];
 
-/// What becomes of one call more.
-fn after_two_sessions(alloc: Global, call: Call) -> Result<Outcome, Fail> {
-    let mut calls = TWO_SESSIONS.to_vec(alloc)?;
-    calls.push(call)?;
-    run(alloc, &WORKED, &[], &[], &calls)
-}
-
-/// One call more gives this reply, and leaves the history, the file and the count of the disk's
-/// calls as they were.
-fn adds_nothing<R: Abort>(
+/// Over this file the calls leave the history, the file and the count of the disk's calls as the
+/// first ones do. The history has so many entries then.
+fn adds_no_more<R: Abort>(
     rt: &R,
     alloc: Global,
-    was: &Outcome,
-    call: Call,
-    reply: Reply,
-) -> Result<(), Fail> {
-    let now = after_two_sessions(alloc, call)?;
-    replies_at(rt, found_in(rt, &now), 7, reply);
-    is_same(rt, &now, was);
-    Ok(())
+    file: Parts<'_>,
+    (first, steps): (&[&[Step]], &[&[Step]]),
+    entries: u64,
+) {
+    let was = run(rt, alloc, &calm(file, first));
+    let now = run(rt, alloc, &calm(file, steps));
+    has_entries(rt, &was, entries);
+    is_same(rt, &now, &was);
 }
 
 #[test]
-fn calls_that_add_nothing(rt: HostRuntime) -> Result<(), Fail> {
-    let was = run(rt.alloc(), &WORKED, &[], &[], &TWO_SESSIONS)?;
-    shows(&rt, &was, &TWO_REPLIES, 7);
-    for (call, reply) in &CALLS_AFTER {
-        adds_nothing(&rt, rt.alloc(), &was, *call, *reply)?;
+fn calls_that_add_nothing(rt: HostRuntime) {
+    for step in &CALLS_AFTER {
+        let steps: [&[Step]; 2] = [&TWO_SESSIONS, &[*step]];
+        adds_no_more(&rt, rt.alloc(), &[], (&[&TWO_SESSIONS], &steps), 7);
     }
-    Ok(())
 }
+
+/// The worked session with calls that come too soon, and at the end too late. A session that waits
+/// for an item takes no answer, and one that is complete is not closed.
+const TOO_SOON: [Step; 11] = [
+    (Call::Begin(70), BEGUN),
+    (Call::Answer(0, 0, 0), Reply::Refused(Refusal::WrongStep(0))),
+    (Call::Serve(0), Reply::At(FIRST)),
+    (Call::Answer(0, 0, 1), Reply::At(Place::Pending(1))),
+    (Call::Answer(0, 1, 0), Reply::Refused(Refusal::WrongStep(1))),
+    (Call::Serve(0), Reply::At(SECOND)),
+    (Call::Answer(0, 1, 0), Reply::At(Place::Pending(2))),
+    (Call::Serve(0), Reply::At(THIRD)),
+    (Call::Answer(0, 2, 1), Reply::At(Place::Complete)),
+    (Call::Answer(0, 3, 0), IS_COMPLETE),
+    (Call::Close(0), IS_COMPLETE),
+];
 
 const IS_COMPLETE: Reply = Reply::Refused(Refusal::IsClosed(Place::Complete));
 
-/// Calls of one session, some of which come too soon, and the last two too late.
-const TOO_SOON: [Call; 11] = [
-    Call::Begin(70),
-    Call::Answer(0, 0, 0),
-    Call::Serve(0),
+/// The first item of the started session is served; or it is committed twice, and stale once the
+/// session was served.
+const SERVED_ONCE: &[Step] = &[(Call::Serve(0), Reply::At(FIRST))];
+
+const SERVED_TWICE: &[Step] = &[(
+    Call::ServeAgain(0),
+    Reply::Refused(Refusal::Stale(FIRST, false)),
+)];
+
+#[test]
+fn calls_among_others(rt: HostRuntime) {
+    let alloc = rt.alloc();
+    adds_no_more(&rt, alloc, &[], (&[&SESSION], &[&TOO_SOON]), 7);
+    adds_no_more(&rt, alloc, STARTED, (&[SERVED_ONCE], &[SERVED_TWICE]), 2);
+}
+
+const FULL_AT_91: Step = (Call::Begin(70), Reply::Refused(Refusal::JournalFull(91)));
+
+const FULL_AT_196: Step = (
     Call::Answer(0, 0, 1),
-    Call::Answer(0, 1, 0),
-    Call::Serve(0),
-    Call::Answer(0, 1, 0),
-    Call::Serve(0),
-    Call::Answer(0, 2, 1),
-    Call::Answer(0, 3, 0),
-    Call::Close(0),
+    Reply::Refused(Refusal::JournalFull(196)),
+);
+
+const REFUSALS: [Row<'static>; 6] = [
+    // What was assembled is stale once the session was closed.
+    Row {
+        trial: Trial {
+            numbers: WORKED,
+            file: STARTED,
+            fails: &[],
+            steps: &[&[(
+                Call::ServeLate(0),
+                Reply::Refused(Refusal::Stale(Place::Closed, false)),
+            )]],
+        },
+        summary: Summary {
+            entries: 2,
+            finished: 1,
+            ..ONE_STARTED
+        },
+        calls: 13,
+        faults: 0,
+        left: &[HEADER, START, REST, CLOSE, END],
+    },
+    // With one session allowed a second booking is refused, and the first has its session.
+    Row {
+        trial: Trial {
+            numbers: Numbers {
+                sessions: 1,
+                ..WORKED
+            },
+            file: &[],
+            fails: &[],
+            steps: &[&[
+                (Call::Begin(70), BEGUN),
+                (Call::Begin(71), Reply::Refused(Refusal::SessionsFull(1))),
+                (Call::Begin(70), FOUND),
+            ]],
+        },
+        summary: ONE_STARTED,
+        calls: 8,
+        faults: 0,
+        left: STARTED,
+    },
+    // A start makes the journal 91 bytes long, and the first answer 196. One byte less is too few,
+    // and so it is once more.
+    Row {
+        trial: Trial {
+            numbers: Numbers {
+                journal: 90,
+                ..WORKED
+            },
+            file: EMPTY,
+            fails: &[],
+            steps: &[&[FULL_AT_91, FULL_AT_91]],
+        },
+        summary: NOTHING,
+        calls: 4,
+        faults: 0,
+        left: EMPTY,
+    },
+    Row {
+        trial: Trial {
+            numbers: Numbers {
+                journal: 195,
+                ..WORKED
+            },
+            file: SERVED,
+            fails: &[],
+            steps: &[&[FULL_AT_196, FULL_AT_196]],
+        },
+        summary: ONE_SERVED,
+        calls: 12,
+        faults: 0,
+        left: SERVED,
+    },
+    // With the length after the entry as the limit it is added. A served item makes the journal at
+    // least 173 bytes long: 91, then 5, 76 of the entry, and those of the tree.
+    Row {
+        trial: Trial {
+            numbers: Numbers {
+                journal: 91,
+                ..WORKED
+            },
+            file: &[],
+            fails: &[],
+            steps: &[&[(Call::Begin(70), BEGUN), (Call::Serve(0), Reply::Full(173))]],
+        },
+        summary: ONE_STARTED,
+        calls: 8,
+        faults: 0,
+        left: STARTED,
+    },
+    Row {
+        trial: Trial {
+            numbers: Numbers {
+                journal: 196,
+                ..WORKED
+            },
+            file: SERVED,
+            fails: &[],
+            steps: &[&[(Call::Answer(0, 0, 1), Reply::At(Place::Pending(1)))]],
+        },
+        summary: ONE_ANSWERED,
+        calls: 16,
+        faults: 0,
+        left: ANSWERED,
+    },
 ];
 
-const TOO_SOON_REPLIES: [Reply; 11] = [
-    STARTED,
-    Reply::Refused(Refusal::WrongStep(0)),
-    Reply::At(FIRST),
-    Reply::At(Place::Pending(1)),
-    Reply::Refused(Refusal::WrongStep(1)),
-    Reply::At(SECOND),
-    Reply::At(Place::Pending(2)),
-    Reply::At(THIRD),
-    Reply::At(Place::Complete),
-    IS_COMPLETE,
-    IS_COMPLETE,
-];
-
-/// A session that waits for an item takes no answer, and one that is complete is not closed.
 #[test]
-fn places_without_an_answer(rt: HostRuntime) -> Result<(), Fail> {
-    gives(&rt, rt.alloc(), (&[], &[]), &TOO_SOON, &TOO_SOON_REPLIES, 7)?;
-    Ok(())
-}
-
-/// What is assembled for the started session gives this reply where it is committed by this call, and the journal has two
-/// entries then; what is left.
-fn is_stale<R: Abort>(rt: &R, alloc: Global, call: Call, place: Place) -> Result<Left, Fail> {
-    let started = started_journal(alloc)?;
-    let stale = Reply::Refused(Refusal::Stale(place, false));
-    gives(rt, alloc, (&started, &[]), &[call], &[stale], 2)
-}
-
-/// What was assembled is stale once the session was served, or closed.
-#[test]
-fn a_place_that_moved_on(rt: HostRuntime) -> Result<(), Fail> {
-    let alloc = rt.alloc();
-    let again = is_stale(&rt, alloc, Call::ServeAgain(0), FIRST)?;
-    leaves(&rt, &again.bytes, &served_by_office(alloc)?);
-    is_stale(&rt, alloc, Call::ServeLate(0), Place::Closed)?;
-    Ok(())
-}
-
-/// The journal of the session once the office has served its first item.
-fn served_by_office(alloc: Global) -> Result<Vec<u8>, Fail> {
-    let started = started_journal(alloc)?;
-    Ok(
-        run(alloc, &WORKED, &started, &[], &[Call::Serve(0)])?
-            .left
-            .bytes,
-    )
-}
-
-const ONE_SESSION: Numbers = Numbers {
-    sessions: 1,
-    ..WORKED
-};
-
-const FULL_REPLIES: [Reply; 3] = [STARTED, Reply::Refused(Refusal::SessionsFull(1)), FOUND];
-
-/// With one session allowed a second booking is refused, and the first has its session.
-#[test]
-fn no_more_sessions(rt: HostRuntime) -> Result<(), Fail> {
-    let alloc = rt.alloc();
-    let calls = [Call::Begin(70), Call::Begin(71), Call::Begin(70)];
-    let outcome = run(alloc, &ONE_SESSION, &[], &[], &calls)?;
-    shows(&rt, &outcome, &FULL_REPLIES, 1);
-    leaves(&rt, &outcome.left.bytes, &started_journal(alloc)?);
-    Ok(())
-}
-
-/// The worked plan with this limit of the journal.
-fn limited(journal: u64) -> Numbers {
-    Numbers { journal, ..WORKED }
-}
-
-/// A call that would make the journal this long is refused where one byte less is allowed, and so
-/// it is once more. The history has so many entries then.
-fn is_full<R: Abort>(
-    rt: &R,
-    alloc: Global,
-    before: &[u8],
-    call: Call,
-    (full, entries): (u64, u64),
-) -> Result<(), Fail> {
-    let low = limited(full.saturating_sub(1));
-    let outcome = run(alloc, &low, before, &[], &[call, call])?;
-    let refused = Reply::Refused(Refusal::JournalFull(full));
-    shows(rt, &outcome, &[refused, refused], entries);
-    leaves(rt, &outcome.left.bytes, before);
-    counts(rt, outcome.left.count, opening_calls(entries), 0);
-    Ok(())
-}
-
-/// A start makes the journal 91 bytes long, and the first answer 196. One byte less is too few.
-#[test]
-fn a_full_journal(rt: HostRuntime) -> Result<(), Fail> {
-    let alloc = rt.alloc();
-    is_full(&rt, alloc, &empty_journal(alloc)?, Call::Begin(70), (91, 0))?;
-    let answer = Call::Answer(0, 0, 1);
-    is_full(&rt, alloc, &served_journal(alloc)?, answer, (196, 2))
-}
-
-/// The session is started, and a served item makes the journal at least 173 bytes long: 91, then 5,
-/// 76 of the entry, and those of the tree.
-fn has_no_room_for_an_item<R: Abort>(rt: &R, found: &Found) -> Result<(), Fail> {
-    replies_at(rt, found, 0, STARTED);
-    let Some(Reply::Refused(Refusal::JournalFull(length))) = found.replies.get(1) else {
-        return Err(Fail::from("room for a served item"));
-    };
-    assert!(rt; *length >= 173);
-    Ok(())
-}
-
-/// The session is started at the limit of 91 bytes.
-fn starts_at_the_limit<R: Abort>(rt: &R, alloc: Global) -> Result<(), Fail> {
-    let calls = [Call::Begin(70), Call::Serve(0)];
-    let outcome = run(alloc, &limited(91), &[], &[], &calls)?;
-    has_no_room_for_an_item(rt, found_in(rt, &outcome))?;
-    leaves(rt, &outcome.left.bytes, &started_journal(alloc)?);
-    Ok(())
-}
-
-/// The first item is answered at the limit of 196 bytes.
-fn answers_at_the_limit<R: Abort>(rt: &R, alloc: Global) -> Result<(), Fail> {
-    let served = served_journal(alloc)?;
-    let answer = [Call::Answer(0, 0, 1)];
-    let outcome = run(alloc, &limited(196), &served, &[], &answer)?;
-    shows(rt, &outcome, &[Reply::At(Place::Pending(1))], 3);
-    leaves(rt, &outcome.left.bytes, &third_journal(alloc, &ANSWERED)?);
-    Ok(())
-}
-
-/// With the length after the entry as the limit it is added.
-#[test]
-fn a_journal_that_is_just_long_enough(rt: HostRuntime) -> Result<(), Fail> {
-    starts_at_the_limit(&rt, rt.alloc())?;
-    answers_at_the_limit(&rt, rt.alloc())
+fn calls_refused_by_the_plan(rt: HostRuntime) {
+    for row in &REFUSALS {
+        holds(&rt, rt.alloc(), row);
+    }
 }

@@ -1,6 +1,6 @@
 //! What is assembled for a session, and committed.
 
-ghost use Rattle.std.specs.Prelude.{ℕ, List, IsTrue, IfOk};
+ghost use Rattle.std.specs.Prelude.{ℕ, List, IsTrue};
 ghost use Rattle.constraint_model.specs.Views.{problem_of};
 ghost use Rattle.exam_office.specs.Commits.{IsOfStart, MayBeCommitted};
 ghost use Rattle.exam_office.specs.Marks.{history};
@@ -10,7 +10,7 @@ use exam_edge::Disk;
 use exam_office::laws::may_be_committed;
 use exam_office::{Office, Place, Refusal};
 use std::alloc::Global;
-use std::test::Fail;
+use std::process::Abort;
 
 /// Whether a form was found, or there is none at the first step with ineligible items barred.
 fn is_of_start(assembled: &Assembled) -> bool
@@ -27,54 +27,62 @@ fn is_of_start(assembled: &Assembled) -> bool
 }
 
 /// What is assembled for a session that waits for an item, with the base form as the hint.
-fn assembled_for<'a, D: Disk>(
+fn assembled_for<'a, R: Abort, D: Disk>(
+    rt: &R,
     alloc: Global,
     office: &Office<'a, D>,
     session: u32,
-) -> Result<Assembled<'a>, Fail>
-    ensures { IfOk result (λ assembled. MayBeCommitted office.now.bank office.now.plan
-        office.now.base (history office.now.marks) assembled) }
+) -> Assembled<'a>
+    ensures { MayBeCommitted office.now.bank office.now.plan office.now.base
+        (history office.now.marks) result }
 {
     may_be_committed();
     let Some(problem) = office.problem(session) else {
-        return Err(Fail::from("no problem"));
+        panic!(rt; "no problem");
     };
     let base = office.base();
-    let assembled = assemble(alloc, problem, Some(&base), office.spec().budget() as u16)?;
-    if !is_of_start(&assembled) {
-        return Err(Fail::from("no form was found"));
+    match assemble(alloc, problem, Some(&base), office.spec().budget() as u16) {
+        Ok(assembled) => {
+            if !is_of_start(&assembled) {
+                panic!(rt; "no form was found");
+            }
+            assembled
+        }
+        Err(_) => panic!(rt; "nothing was assembled"),
     }
-    Ok(assembled)
 }
 
 /// What is assembled for a session is committed.
-pub(crate) fn serve<D: Disk>(
+pub(crate) fn serve<R: Abort, D: Disk>(
+    rt: &R,
     alloc: Global,
     office: &mut Office<D>,
     session: u32,
-) -> Result<Result<Place, Refusal>, Fail> {
-    let assembled = assembled_for(alloc, office, session)?;
-    Ok(office.commit(alloc, &assembled))
+) -> Result<Place, Refusal> {
+    let assembled = assembled_for(rt, alloc, office, session);
+    office.commit(alloc, &assembled)
 }
 
 /// What is assembled for a session is committed once it was committed before.
-pub(crate) fn serve_again<D: Disk>(
+pub(crate) fn serve_again<R: Abort, D: Disk>(
+    rt: &R,
     alloc: Global,
     office: &mut Office<D>,
     session: u32,
-) -> Result<Result<Place, Refusal>, Fail> {
-    let assembled = assembled_for(alloc, office, session)?;
+) -> Result<Place, Refusal> {
+    let assembled = assembled_for(rt, alloc, office, session);
     let _first = office.commit(alloc, &assembled);
-    Ok(office.commit(alloc, &assembled))
+    office.commit(alloc, &assembled)
 }
 
 /// What is assembled for a session is committed once the session was closed.
-pub(crate) fn serve_late<D: Disk>(
+pub(crate) fn serve_late<R: Abort, D: Disk>(
+    rt: &R,
     alloc: Global,
     office: &mut Office<D>,
     session: u32,
-) -> Result<Result<Place, Refusal>, Fail> {
-    let assembled = assembled_for(alloc, office, session)?;
+) -> Result<Place, Refusal> {
+    let assembled = assembled_for(rt, alloc, office, session);
     let _closed = office.close(alloc, session);
-    Ok(office.commit(alloc, &assembled))
+    office.commit(alloc, &assembled)
 }

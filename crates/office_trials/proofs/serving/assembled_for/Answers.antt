@@ -10,8 +10,8 @@ pub returns : goal.returns
 returns g c =
     let o = c.args.office.now in
     let H = history o.marks in
-    let made = c.in_ok-assembled.ensures in
-    c.may_be_committed.ensures o.bank o.plan o.base H c.args.session c.in_ok-assembled.assembled
+    let made = c.in-Ok.ensures in
+    c.may_be_committed.ensures o.bank o.plan o.base H c.args.session c.in-Ok.assembled
     (subst (λ (p : Given). IsProblemOf o.bank o.plan H c.args.session p.step (problem_of p)) (sym made.problem) c.in-Some.ensures.problem)
     (made.budget ∙ (c.budget.ensures ∙ ap (λ (p : Plan). p.budget) c.spec.ensures))
     (c.is_of_start.ensures c.if-not-is_of_start.false o.base)

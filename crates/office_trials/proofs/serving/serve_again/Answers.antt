@@ -3,5 +3,5 @@ use Rattle.office_trials.proofs.serving.serve_again.Goals as goal
 
 pub commit-requires : goal.commit-requires
 commit-requires g c =
-    may_later c.args.office.now c.commit-first.new.self c.in_ok-assembled.assembled _ _
-    c.commit-first.ensures.same c.commit-first.ensures.call c.in_ok-assembled.ensures
+    may_later c.args.office.now c.commit-first.new.self _ _ _
+    c.commit-first.ensures.same c.commit-first.ensures.call c.assembled_for-assembled.ensures

@@ -3,5 +3,5 @@ use Rattle.office_trials.proofs.serving.serve_late.Goals as goal
 
 pub commit-requires : goal.commit-requires
 commit-requires g c =
-    may_later c.args.office.now c.close-closed.new.self c.in_ok-assembled.assembled _ _
-    c.close-closed.ensures.same c.close-closed.ensures.call c.in_ok-assembled.ensures
+    may_later c.args.office.now c.close-closed.new.self _ _ _
+    c.close-closed.ensures.same c.close-closed.ensures.call c.assembled_for-assembled.ensures
