@@ -6,7 +6,7 @@
 //! sync, length, write, sync.
 
 use crate::expected::{counts, has_entries};
-use crate::files::{ANSWERED, CLOSED, EMPTY, Parts, SERVED, STARTED};
+use crate::files::{ANSWERED, CLOSED, EMPTY, Parts, SERVED, STARTED, joined};
 use crate::outcome::{
     BEGUN, Call, FAILED, FIRST, FOUND, Reply, SECOND, SESSION, THIRD, Trial, WORKED, run,
 };
@@ -25,8 +25,9 @@ pub(crate) struct Case {
     pub reply: Reply,
     /// What it gives where its entry is there already.
     pub again: Reply,
-    /// The journal before it is what so many calls of the worked session leave of this file.
+    /// A file. The journal before the call is what the earlier calls leave of it.
     pub file: Parts<'static>,
+    /// How many calls of the worked session are made first.
     pub earlier: usize,
     /// The journal with its entry; no part where the entry has a tree.
     pub longer: Parts<'static>,
@@ -130,6 +131,9 @@ pub(crate) const CASES: [Case; 8] = [
 
 /// The journal before the call.
 pub(crate) fn bytes_before<R: Abort>(rt: &R, alloc: Global, case: &Case) -> Vec<u8> {
+    if case.earlier == 0 {
+        return joined(rt, alloc, case.file);
+    }
     let earlier = SESSION.get(..case.earlier).expect(rt, "earlier calls");
     let trial = Trial {
         numbers: WORKED,

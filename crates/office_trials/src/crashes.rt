@@ -3,8 +3,8 @@
 //!
 //! After the record was written a crash leaves the file as it was, and of the record any length and
 //! any bytes. After its gate was written it leaves the whole record, and at the gate any value.
-//! After each sync, and before the first call, it leaves what a read gives. The next call of the
-//! disk fails there.
+//! After each sync, and before the first call, it leaves what a read gives. A trial stops the
+//! adding at such a moment: the next call of the disk fails.
 
 use crate::cases::{CASES, Case, added, bytes_before, opens_at};
 use crate::equal::is_equal;
@@ -16,7 +16,7 @@ use exam_office::Place;
 use std::alloc::Global;
 use std::process::Abort;
 
-/// With this call of the disk failing the adding leaves these bytes.
+/// If this call of the disk fails, the adding leaves these bytes.
 fn adds_to<R: Abort>(
     rt: &R,
     alloc: Global,
@@ -135,10 +135,10 @@ fn each_image_of_each_call_is_opened(rt: HostRuntime) {
 /// The session goes on from where it is.
 #[test]
 fn a_session_goes_on_after_a_crash(rt: HostRuntime) {
-    opens(&rt, rt.alloc(), ANSWERED, &GOES_ON, 4);
+    opens(&rt, rt.alloc(), ANSWERED, &AFTER_THE_ANSWER, 4);
 }
 
-const GOES_ON: [Step; 2] = [
+const AFTER_THE_ANSWER: [Step; 2] = [
     (Call::Look(0), Reply::At(Place::Pending(1))),
     (Call::Serve(0), Reply::At(SECOND)),
 ];

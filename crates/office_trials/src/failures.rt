@@ -56,8 +56,8 @@ type Failing = (
 );
 
 /// Opening is twelve calls, and the first answer is calls 12 to 15: write, sync, open the gate,
-/// sync. If call 13 fails, the record is on the disk after a closed gate, and the history lacks
-/// it: the next call of the office drops it by four calls (sync, read, cut, sync). If call 15
+/// sync. If call 13 fails, the record is on the disk after a closed gate, and the history does not
+/// have it: the next call of the office drops it by four calls (sync, read, cut, sync). If call 15
 /// fails, the gate is open: the next call of the office keeps the record by two (sync, read).
 const FAILING: [Failing; 12] = [
     (&[13], &[FAILS], ONE_SERVED, (14, 1), STAGED),
@@ -119,7 +119,8 @@ const FAILING: [Failing; 12] = [
     (&[13], &[FAILS, ADDS_OTHER], ONE_ANSWERED, (22, 1), OTHER),
 ];
 
-fn fails<R: Abort>(
+/// The answers end with what their row has.
+fn end_as_their_row<R: Abort>(
     rt: &R,
     alloc: Global,
     (fails, steps, summary, (calls, faults), left): &Failing,
@@ -142,7 +143,7 @@ fn fails<R: Abort>(
 #[test]
 fn answers_in_which_a_call_fails(rt: HostRuntime) {
     for row in &FAILING {
-        fails(&rt, rt.alloc(), row);
+        end_as_their_row(&rt, rt.alloc(), row);
     }
 }
 

@@ -19,7 +19,7 @@ pub(crate) const MORE: &[u8] = &[1, 1];
 /// the last byte here is the first of a set of items.
 pub(crate) const START: &[u8] = &[1, 0, 0, 0, 77, 1, 0, 0, 0, 0, 0, 0, 0, 0, 0, 0, 0, 70, 0x3f];
 
-/// The other 63 bytes of a set of items, in which none of their items is.
+/// The other 63 bytes of a set of items. No item of theirs is in the set.
 pub(crate) const REST: &[u8] = &[0; 63];
 
 /// An open gate and the length 87. Item 2 is served at step 0 of session 0, from the form {1, 2,
@@ -54,7 +54,7 @@ pub(crate) const SERVED: Parts<'static> = &[HEADER, START, REST, SERVE, REST, BE
 /// The same after the item was answered: 196 bytes.
 pub(crate) const ANSWERED: Parts<'static> = &[HEADER, START, REST, SERVE, REST, BEST, ANSWER, END];
 
-/// The same after the session was closed in place of that: 193 bytes.
+/// The journal of session 0 after its first item was served and the session was closed: 193 bytes.
 pub(crate) const CLOSED: Parts<'static> = &[HEADER, START, REST, SERVE, REST, BEST, CLOSE, END];
 
 /// The journal of the served session and two bytes more.

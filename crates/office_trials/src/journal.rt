@@ -310,8 +310,8 @@ fn a_byte_of_each_gate_altered(rt: HostRuntime) {
     }
 }
 
-/// Changes of the three records, each with the first fault that holds: frame by frame the length and
-/// the cut. An open gate at the end has no record after it.
+/// Changes of the three records, each with the first fault that holds: frame by frame the length,
+/// and the cut. An open gate at the end has no record after it.
 const CHANGES: [(&[(usize, u8)], OpenFault); 5] = [
     (&[(29, 1)], OpenFault::Cut(29)),
     (&[(18, 0)], OpenFault::Length(14)),

@@ -171,7 +171,7 @@ const FAULTY: [(Parts<'static>, usize, u64, OpenFault); 14] = [
         LIMIT,
         OpenFault::Journal(JournalFault::Length(90)),
     ),
-    // Two faults. Gates at 8 and 14, and the last one is cut.
+    // Two faults. Gates are at 8 and 14. The last gate, at 20, is cut off.
     (
         &[HEADER, &[1, 0, 0, 0, 1, 6], &[1, 0, 0, 0, 1, 6]],
         20,

@@ -46,7 +46,7 @@ pub(crate) enum Call {
     Look(u32),
     /// The vector that the search for a session's next form may begin with.
     Warm(u32),
-    /// The exposure counts of an item.
+    /// The exposure counts of an item; none if there is no such item.
     Exposure(usize),
 }
 
@@ -62,7 +62,7 @@ pub(crate) enum Reply {
     Cold,
     /// None where there is no such item.
     Exposed(Option<Counts>),
-    /// No call gives it. It expects that the journal is full: it would have this length at least.
+    /// No call gives this. It is expected where `JournalFull` has this length at least.
     Full(u64),
 }
 
@@ -272,7 +272,7 @@ fn outcome_of<R: Abort>(
     }
 }
 
-/// The same where the file was not opened.
+/// The same if the file was not opened. Only a trial without calls may end so.
 fn unopened<R: Abort>(
     rt: &R,
     alloc: Global,
@@ -306,7 +306,10 @@ fn run_over<'a, R: Abort>(
             let found = ask_all(rt, alloc, &mut office, lists);
             outcome_of(rt, alloc, found, office.into_disk())
         }
-        Err((disk, fault)) => unopened(rt, alloc, fault, disk),
+        Err((disk, fault)) => {
+            assert!(rt; lists.is_empty());
+            unopened(rt, alloc, fault, disk)
+        }
     }
 }
 

@@ -1,4 +1,4 @@
-//! Trials of which all is known that is found in the end.
+//! Trials, each with all that is found after it.
 
 use crate::expected::{counts, has_entries, is_made_of, sums_up};
 use crate::files::Parts;

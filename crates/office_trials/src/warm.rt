@@ -36,8 +36,8 @@ const COLD_FIRST: &[Step] = &[COLD, NO_SECOND];
 
 const COLD_STILL: &[Step] = &[COLD, NO_SECOND, FAILS, COLD, NO_SECOND, SETTLES];
 
-/// The vector of session 0 after its first item was served. Which one it is is the assembler's
-/// matter.
+/// The vector of session 0 after its first item was served. The assembler
+/// decides which vector this is.
 fn vector_then<R: Abort>(rt: &R, alloc: Global) -> Reply {
     run(rt, alloc, &calm(STARTED, &[&[SERVES]])).found.vector
 }
@@ -54,8 +54,8 @@ fn gives<R: Abort>(rt: &R, alloc: Global, fails: &[u64], steps: &[&[Step]]) {
     run(rt, alloc, &trial);
 }
 
-/// Opening is nine calls of the disk. The first call after them writes the record: it fails, and
-/// the record is dropped; or the last one does, and it is kept.
+/// Opening is nine calls of the disk, 0 to 8. If call 9 fails, the record is dropped. If call 12
+/// fails, it is kept.
 #[test]
 fn the_vector_of_a_record_in_doubt(rt: HostRuntime) {
     let alloc = rt.alloc();
