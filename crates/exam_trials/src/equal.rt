@@ -10,7 +10,7 @@ pub(crate) fn is_equal<R: Abort, T: PartialEq + Debug>(rt: &R, found: &T, expect
     assert_eq!(rt; *found, *expected);
 }
 
-/// The lists are the same.
-pub(crate) fn are_equal<R: Abort, T: PartialEq + Debug>(rt: &R, found: &[T], expected: &[T]) {
-    assert_eq!(rt; found, expected);
+/// The bytes are the same.
+pub(crate) fn has_bytes<R: Abort>(rt: &R, found: &[u8], expected: &[u8]) {
+    is_equal(rt, &found, &expected);
 }

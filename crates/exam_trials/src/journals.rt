@@ -2,31 +2,30 @@
 
 ghost use Rattle.std.specs.Prelude.{◌≤◌, length};
 
-use crate::equal::{are_equal, is_equal};
+use crate::equal::{has_bytes, is_equal};
 use crate::outcome::{CALM, Given, REPLAY, Ran, outcome};
 use crate::texts::SCRIPT_A;
-use std::alloc::{AllocError, AllocGlobal};
+use std::alloc::AllocGlobal;
 use std::process::Abort;
 use std::sync::Wait;
-use std::test::Fail;
 use std::thread::Threads;
 use trial_cases::{BANK_A, PLAN_A};
 
 /// What the program does on this script over this journal.
-pub fn replayed<R: AllocGlobal + Threads + Wait + Sync>(
+pub fn replayed<R: Abort + AllocGlobal + Threads + Wait + Sync>(
     rt: &R,
     script: &str,
     journal: &[u8],
-) -> Result<Ran, AllocError> {
+) -> Ran {
     let given = Given { journal, ..CALM };
     outcome(rt, &REPLAY, &[BANK_A, PLAN_A, script], &given)
 }
 
 /// The run ended with this status, printed this text and left this journal.
 pub fn ends<R: Abort>(rt: &R, ran: &Ran, status: u8, text: &[u8], journal: &[u8]) {
-    are_equal(rt, ran.text.as_slice(), text);
+    has_bytes(rt, &ran.text, text);
     is_equal(rt, &ran.status, &status);
-    are_equal(rt, ran.journal.as_slice(), journal);
+    has_bytes(rt, &ran.journal, journal);
 }
 
 /// The length of the payload after a gate: the four bytes there, the most significant first.
@@ -53,45 +52,44 @@ fn last_gate(journal: &[u8], size: usize) -> usize {
     gate
 }
 
-/// The front of a journal is the empty journal where it has at most nine bytes, and else it is refused, and left as it was.
-fn ends_cut<R: Abort + AllocGlobal + Threads + Wait + Sync>(
-    rt: &R,
-    whole: &[u8],
-    size: usize,
-) -> Result<(), Fail>
+/// The front of a journal is refused, and left as it was.
+fn ends_cut<R: Abort + AllocGlobal + Threads + Wait + Sync>(rt: &R, whole: &[u8], size: usize)
     requires { size ≤ length whole.now }
 {
+    let gate = last_gate(whole, size);
+    let text = format!(in rt.alloc(); "journal: cut at {gate}\n").expect(rt, "a line");
     let front = &whole[..size];
-    let ran = replayed(rt, "", front)?;
+    ends(rt, &replayed(rt, "", front), 6, text.as_bytes(), front);
+}
+
+/// The front of a journal is the empty journal if it has at most nine bytes.
+fn ends_front<R: Abort + AllocGlobal + Threads + Wait + Sync>(rt: &R, whole: &[u8], size: usize)
+    requires { size ≤ length whole.now }
+{
     if size <= 9 {
-        ends(rt, &ran, 0, b"", b"SHADOWJ1\0");
+        ends(rt, &replayed(rt, "", &whole[..size]), 0, b"", b"SHADOWJ1\0");
     } else {
-        let gate = last_gate(whole, size);
-        let text = format!(in rt.alloc(); "journal: cut at {gate}\n")?;
-        ends(rt, &ran, 6, text.as_bytes(), front);
+        ends_cut(rt, whole, size);
     }
-    Ok(())
 }
 
 #[test]
-fn the_journal_cut_to_each_length(rt: HostRuntime) -> Result<(), Fail> {
-    let whole = replayed(&rt, SCRIPT_A, &[])?.journal;
+fn the_journal_cut_to_each_length(rt: HostRuntime) {
+    let ran = replayed(&rt, SCRIPT_A, &[]);
+    let whole = ran.journal.as_slice();
     for size in 0..whole.len() {
-        ends_cut(&rt, &whole, size)?;
+        ends_front(&rt, whole, size);
     }
-    let ran = replayed(&rt, "", &whole)?;
-    ends(&rt, &ran, 0, b"", &whole);
-    Ok(())
+    ends(&rt, &replayed(&rt, "", whole), 0, b"", whole);
 }
 
 /// A gate of any value but 1 is closed: nothing after it is a record, and it keeps its value.
 #[test]
-fn an_altered_gate_is_closed(rt: HostRuntime) -> Result<(), Fail> {
-    let mut journal = replayed(&rt, SCRIPT_A, &[])?.journal;
-    for gate in journal.iter_mut().skip(8).take(1) {
-        *gate = 0x81;
+fn an_altered_gate_is_closed(rt: HostRuntime) {
+    let mut ran = replayed(&rt, SCRIPT_A, &[]);
+    if ran.journal.len() > 8 {
+        ran.journal[8] = 0x81;
     }
-    let ran = replayed(&rt, "look 0\n", &journal)?;
+    let ran = replayed(&rt, "look 0\n", &ran.journal);
     ends(&rt, &ran, 0, b"refused no-session 0\n", b"SHADOWJ1\x81");
-    Ok(())
 }

@@ -1,12 +1,11 @@
 //! The program over files, a sink and a disk in memory.
 
-use crate::equal::{are_equal, is_equal};
+use crate::equal::{has_bytes, is_equal};
 use exam_edge::{MemoryDisk, MemoryDoor, MemoryFiles, MemorySink, OpenGate};
 use exam_program::{Tools, World, run};
-use std::alloc::{AllocError, AllocGlobal, Global};
+use std::alloc::{AllocGlobal, Global};
 use std::process::Abort;
 use std::sync::Wait;
-use std::test::Fail;
 use std::thread::Threads;
 
 pub const REPLAY: [&str; 4] = ["replay", "bank", "plan", "script"];
@@ -42,89 +41,89 @@ pub struct Ran {
     pub journal: Vec<u8>,
 }
 
-pub fn words_of(alloc: Global, words: &[&str]) -> Result<Vec<String>, AllocError> {
-    let mut given = Vec::new(alloc);
-    for word in words {
-        given.push(String::from_str(alloc, word)?)?;
-    }
-    Ok(given)
+fn text_of<R: Abort>(rt: &R, alloc: Global, text: &str) -> String {
+    String::from_str(alloc, text).expect(rt, "a text")
 }
 
-fn file(alloc: Global, name: &str, text: &str) -> Result<(String, Vec<u8>), AllocError> {
-    Ok((
-        String::from_str(alloc, name)?,
-        text.as_bytes().to_vec(alloc)?,
-    ))
+pub fn words_of<R: Abort>(rt: &R, alloc: Global, words: &[&str]) -> Vec<String> {
+    let mut given = Vec::new(alloc);
+    for word in words {
+        given.push(text_of(rt, alloc, word)).expect(rt, "a word");
+    }
+    given
+}
+
+pub fn bytes_of<R: Abort>(rt: &R, alloc: Global, bytes: &[u8]) -> Vec<u8> {
+    bytes.to_vec(alloc).expect(rt, "bytes")
+}
+
+/// The numbers of calls that fail.
+pub fn numbers_of<R: Abort>(rt: &R, alloc: Global, fails: &[u64]) -> Vec<u64> {
+    fails.to_vec(alloc).expect(rt, "numbers")
 }
 
 /// The names of the files.
 const NAMES: [&str; 3] = ["bank", "plan", "script"];
 
-fn files_of(alloc: Global, texts: &[&str; 3]) -> Result<Vec<(String, Vec<u8>)>, AllocError> {
+fn files_of<R: Abort>(rt: &R, alloc: Global, texts: &[&str; 3]) -> Vec<(String, Vec<u8>)> {
     let mut files = Vec::new(alloc);
     for i in 0..3usize {
-        files.push(file(alloc, NAMES[i], texts[i])?)?;
+        let text = bytes_of(rt, alloc, texts[i].as_bytes());
+        files
+            .push((text_of(rt, alloc, NAMES[i]), text))
+            .expect(rt, "a file");
     }
-    Ok(files)
+    files
 }
 
 /// The files with these texts; these calls of them fail.
-fn memory_files(
-    alloc: Global,
-    texts: &[&str; 3],
-    fails: &[u64],
-) -> Result<MemoryFiles, AllocError> {
-    let files = files_of(alloc, texts)?;
-    Ok(MemoryFiles::of(files, fails.to_vec(alloc)?))
+fn memory_files<R: Abort>(rt: &R, alloc: Global, texts: &[&str; 3], fails: &[u64]) -> MemoryFiles {
+    MemoryFiles::of(files_of(rt, alloc, texts), numbers_of(rt, alloc, fails))
 }
 
 /// A sink of which these calls fail.
-fn sink_of(alloc: Global, fails: &[u64]) -> Result<MemorySink, AllocError> {
-    Ok(MemorySink::of(alloc, Vec::new(alloc), fails.to_vec(alloc)?))
+fn sink_of<R: Abort>(rt: &R, alloc: Global, fails: &[u64]) -> MemorySink {
+    MemorySink::of(alloc, Vec::new(alloc), numbers_of(rt, alloc, fails))
 }
 
 /// A disk with this journal; these calls of it fail.
-fn disk_of(alloc: Global, journal: &[u8], fails: &[u64]) -> Result<MemoryDisk, AllocError> {
-    let journal = journal.to_vec(alloc)?;
-    Ok(MemoryDisk::of(alloc, journal, fails.to_vec(alloc)?))
+fn disk_of<R: Abort>(rt: &R, alloc: Global, journal: &[u8], fails: &[u64]) -> MemoryDisk {
+    let journal = bytes_of(rt, alloc, journal);
+    MemoryDisk::of(alloc, journal, numbers_of(rt, alloc, fails))
 }
 
-pub fn tools_of(
+pub fn tools_of<R: Abort>(
+    rt: &R,
     alloc: Global,
     texts: &[&str; 3],
     given: &Given<'_>,
-) -> Result<Tools<MemoryFiles, MemorySink, MemoryDisk>, AllocError> {
-    Ok(Tools {
-        files: memory_files(alloc, texts, given.files)?,
-        out: sink_of(alloc, given.sink)?,
-        disk: disk_of(alloc, given.journal, given.disk)?,
-    })
+) -> Tools<MemoryFiles, MemorySink, MemoryDisk> {
+    Tools {
+        files: memory_files(rt, alloc, texts, given.files),
+        out: sink_of(rt, alloc, given.sink),
+        disk: disk_of(rt, alloc, given.journal, given.disk),
+    }
 }
 
 /// The status that the program ended with, and copies of what it wrote and left.
-fn ran_of(
-    alloc: Global,
-    status: u8,
-    out: &MemorySink,
-    disk: &MemoryDisk,
-) -> Result<Ran, AllocError> {
-    Ok(Ran {
+fn ran_of<R: Abort>(rt: &R, alloc: Global, status: u8, out: &MemorySink, disk: &MemoryDisk) -> Ran {
+    Ran {
         status,
-        text: out.bytes().to_vec(alloc)?,
-        journal: disk.bytes().to_vec(alloc)?,
-    })
+        text: bytes_of(rt, alloc, out.bytes()),
+        journal: bytes_of(rt, alloc, disk.bytes()),
+    }
 }
 
 /// What the program does on these words and files, with no doors.
-pub fn outcome<R: AllocGlobal + Threads + Wait + Sync>(
+pub fn outcome<R: Abort + AllocGlobal + Threads + Wait + Sync>(
     rt: &R,
     words: &[&str],
     texts: &[&str; 3],
     given: &Given<'_>,
-) -> Result<Ran, AllocError> {
+) -> Ran {
     let alloc = rt.alloc();
-    let words = words_of(alloc, words)?;
-    let Tools { files, out, disk } = tools_of(alloc, texts, given)?;
+    let words = words_of(rt, alloc, words);
+    let Tools { files, out, disk } = tools_of(rt, alloc, texts, given);
     let doors: Vec<MemoryDoor> = Vec::new(alloc);
     let world = World {
         files,
@@ -134,7 +133,7 @@ pub fn outcome<R: AllocGlobal + Threads + Wait + Sync>(
         gate: OpenGate,
     };
     let finish = run(rt, alloc, &words, world);
-    ran_of(alloc, finish.status, &finish.out, &finish.disk)
+    ran_of(rt, alloc, finish.status, &finish.out, &finish.disk)
 }
 
 /// Over an empty journal, and where no call fails, the program ends with this status and prints this text.
@@ -144,11 +143,10 @@ pub fn prints<R: Abort + AllocGlobal + Threads + Wait + Sync>(
     texts: &[&str; 3],
     status: u8,
     text: &str,
-) -> Result<(), Fail> {
-    let ran = outcome(rt, words, texts, &CALM)?;
-    are_equal(rt, ran.text.as_slice(), text.as_bytes());
+) {
+    let ran = outcome(rt, words, texts, &CALM);
+    has_bytes(rt, &ran.text, text.as_bytes());
     is_equal(rt, &ran.status, &status);
-    Ok(())
 }
 
 /// Over an empty journal, and where no call fails, the program ends with this status and prints a text that begins so.
@@ -158,11 +156,10 @@ pub fn begins<R: Abort + AllocGlobal + Threads + Wait + Sync>(
     texts: &[&str; 3],
     status: u8,
     front: &str,
-) -> Result<(), Fail> {
-    let ran = outcome(rt, words, texts, &CALM)?;
+) {
+    let ran = outcome(rt, words, texts, &CALM);
     assert!(rt; ran.text.starts_with(front.as_bytes()));
     is_equal(rt, &ran.status, &status);
-    Ok(())
 }
 
 /// A run over this journal prints this.
@@ -171,11 +168,10 @@ fn prints_over<R: Abort + AllocGlobal + Threads + Wait + Sync>(
     journal: &[u8],
     texts: &[&str; 3],
     text: &str,
-) -> Result<(), Fail> {
-    let ran = outcome(rt, &REPLAY, texts, &Given { journal, ..CALM })?;
-    are_equal(rt, ran.text.as_slice(), text.as_bytes());
+) {
+    let ran = outcome(rt, &REPLAY, texts, &Given { journal, ..CALM });
+    has_bytes(rt, &ran.text, text.as_bytes());
     is_equal(rt, &ran.status, &0);
-    Ok(())
 }
 
 /// A second run over the journal that the first left prints this.
@@ -184,7 +180,7 @@ pub fn goes_on<R: Abort + AllocGlobal + Threads + Wait + Sync>(
     first: &[&str; 3],
     second: &[&str; 3],
     text: &str,
-) -> Result<(), Fail> {
-    let ran = outcome(rt, &REPLAY, first, &CALM)?;
-    prints_over(rt, &ran.journal, second, text)
+) {
+    let ran = outcome(rt, &REPLAY, first, &CALM);
+    prints_over(rt, &ran.journal, second, text);
 }

@@ -6,7 +6,6 @@ use crate::texts::{BANK_E, BANK_ODD, SCRIPT_A};
 use std::alloc::AllocGlobal;
 use std::process::Abort;
 use std::sync::Wait;
-use std::test::Fail;
 use std::thread::Threads;
 use trial_cases::{BANK_A, PLAN_A};
 
@@ -28,27 +27,26 @@ const ASSEMBLED: [(&str, &str, u8, &str); 3] = [
 ];
 
 #[test]
-fn what_is_assembled(rt: HostRuntime) -> Result<(), Fail> {
+fn what_is_assembled(rt: HostRuntime) {
     for (bank, plan, status, front) in &ASSEMBLED {
-        begins(&rt, &ASSEMBLE, &[bank, plan, ""], *status, front)?;
+        begins(&rt, &ASSEMBLE, &[bank, plan, ""], *status, front);
     }
-    Ok(())
 }
 
 #[test]
-fn a_plan_without_a_form(rt: HostRuntime) -> Result<(), Fail> {
+fn a_plan_without_a_form(rt: HostRuntime) {
     let none = "length 3\nprior -10 0 -10\ncount 3 3 0-1\nenemies 2 5\n";
     let texts = [BANK_A, none, SCRIPT_A];
-    prints(&rt, &ASSEMBLE, &texts, 11, "no form 000501\n")?;
-    prints(&rt, &REPLAY, &texts, 11, "no form 000501\n")
+    prints(&rt, &ASSEMBLE, &texts, 11, "no form 000501\n");
+    prints(&rt, &REPLAY, &texts, 11, "no form 000501\n");
 }
 
 #[test]
-fn a_base_budget_that_is_spent(rt: HostRuntime) -> Result<(), Fail> {
+fn a_base_budget_that_is_spent(rt: HostRuntime) {
     let short = "length 2\nprior 0\nbase-budget 1\nquantity 0 3 3 0-3\n";
     let texts = [BANK_ODD, short, "begin 1\n"];
-    begins(&rt, &ASSEMBLE, &texts, 12, "no base form in 1 nodes ")?;
-    begins(&rt, &REPLAY, &texts, 12, "no base form in 1 nodes ")
+    begins(&rt, &ASSEMBLE, &texts, 12, "no base form in 1 nodes ");
+    begins(&rt, &REPLAY, &texts, 12, "no base form in 1 nodes ");
 }
 
 /// Words that ask for nothing.
@@ -62,13 +60,12 @@ const USAGE: &str =
     "usage: shadowd check BANK PLAN | assemble BANK PLAN | replay BANK PLAN SCRIPT | serve BANK PLAN | audit BANK PLAN | drill NUMBER SESSIONS\n";
 
 #[test]
-fn faulty_words(rt: HostRuntime) -> Result<(), Fail> {
+fn faulty_words(rt: HostRuntime) {
     let texts = [BANK_A, PLAN_A, SCRIPT_A];
-    prints(&rt, &["replay", "a"], &texts, 2, USAGE)?;
+    prints(&rt, &["replay", "a"], &texts, 2, USAGE);
     for words in &FAULTY {
-        prints(&rt, words, &texts, 2, USAGE)?;
+        prints(&rt, words, &texts, 2, USAGE);
     }
-    Ok(())
 }
 
 /// Texts of a bank and a plan, each with the status and the text that `check` prints.
@@ -100,11 +97,10 @@ enemies 2 5
 ];
 
 #[test]
-fn what_check_prints(rt: HostRuntime) -> Result<(), Fail> {
+fn what_check_prints(rt: HostRuntime) {
     for (bank, plan, status, text) in &CHECKED {
-        prints(&rt, &CHECK, &[bank, plan, ""], *status, text)?;
+        prints(&rt, &CHECK, &[bank, plan, ""], *status, text);
     }
-    Ok(())
 }
 
 /// Texts of a plan and a script, each with the status and the text that `replay` prints over bank A.
@@ -127,11 +123,10 @@ const REPLAYED: [(&str, &str, u8, &str); 4] = [
 ];
 
 #[test]
-fn what_replay_prints(rt: HostRuntime) -> Result<(), Fail> {
+fn what_replay_prints(rt: HostRuntime) {
     for (plan, script, status, text) in &REPLAYED {
-        prints(&rt, &REPLAY, &[BANK_A, plan, script], *status, text)?;
+        prints(&rt, &REPLAY, &[BANK_A, plan, script], *status, text);
     }
-    Ok(())
 }
 
 /// Files that are no journal, each with the text of its fault.
@@ -142,20 +137,14 @@ const NO_JOURNALS: [(&str, &str); 3] = [
 ];
 
 /// A file that is refused is left as it was.
-fn refuses<R: Abort + AllocGlobal + Threads + Wait + Sync>(
-    rt: &R,
-    journal: &str,
-    text: &str,
-) -> Result<(), Fail> {
-    let ran = replayed(rt, SCRIPT_A, journal.as_bytes())?;
+fn refuses<R: Abort + AllocGlobal + Threads + Wait + Sync>(rt: &R, journal: &str, text: &str) {
+    let ran = replayed(rt, SCRIPT_A, journal.as_bytes());
     ends(rt, &ran, 6, text.as_bytes(), journal.as_bytes());
-    Ok(())
 }
 
 #[test]
-fn refused_journals(rt: HostRuntime) -> Result<(), Fail> {
+fn refused_journals(rt: HostRuntime) {
     for (journal, text) in &NO_JOURNALS {
-        refuses(&rt, journal, text)?;
+        refuses(&rt, journal, text);
     }
-    Ok(())
 }
