@@ -8,5 +8,6 @@ pub mod RunLaws
 pub mod ScriptLaws
 pub mod ServeLaws
 pub mod SessionLaws
+pub mod StatusLaws
 pub mod TreeTexts
 mod RowsOfA

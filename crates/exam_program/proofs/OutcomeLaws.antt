@@ -1,7 +1,6 @@
 -- The outcome of a command, from the outcomes of its parts.
 use Rattle.std.proofs.Common.{◌≡◌, ℕ, ◌≤◌, Bool, List, [], ◌∷◌, ◌++◌, IsTrue, inl, inr, Option, Some, None, arith, refl, sym, ◌∙◌, ap, subst, append_assoc, length-append}
 use Rattle.std.proofs.lemmas.List.{append-nil}
-use Rattle.std.proofs.lemmas.Bool.{false≢true}
 use Rattle.bank_tables.specs.Tables.{Tables}
 use Rattle.spec_reader.specs.Canonical.{canonical}
 use Rattle.exam_edge.specs.Faults.{Rose}
@@ -24,7 +23,7 @@ use Rattle.exam_program.specs.Replays.{IsLeftAt, IsJournalRefused}
 use Rattle.exam_program.specs.Stopping.{opening_halt, IsUnprinted, IsUnopened, refused, failed, out_of_memory, Stops, by_sessions, by_journal, by_disk, by_memory, by_sink, Finishes, IsReplayed, Halted}
 use Rattle.exam_program.specs.Texts.{bank_line, journal_text, usage}
 use Rattle.exam_program.specs.Writing.{IsWritten, WritesPart}
-use Rattle.exam_program.specs.Outcomes.{IsOver, IsReady, IsReplayOf, Outcome, faulty_words, bank_refused, plan_refused, script_refused, checked, form_found, without_form, without_base_form, journal_refused, replayed, sessions_full, journal_full, without_files, without_journal, without_disk, without_memory, without_more_memory, server_refused, server_without_journal, server_without_memory, IsAuditOf, audited, audit_refused, without_audit, drilled, drill_full, Prints, PrintsPart, PrintsBefore, PrintsBeforeText, Ends, LeavesJournal, as_found, at_opening, after_requests, server_at_opening, after_opening, Halts, EndsBy, IsStatus, IsStatusBefore}
+use Rattle.exam_program.specs.Outcomes.{IsOver, IsReady, IsReplayOf, Outcome, faulty_words, bank_refused, plan_refused, script_refused, checked, form_found, without_form, without_base_form, journal_refused, replayed, sessions_full, journal_full, without_files, without_journal, without_disk, without_memory, without_more_memory, server_refused, server_without_journal, server_without_memory, IsAuditOf, audited, audit_refused, without_audit, drilled, drill_full, Prints, PrintsPart, PrintsBefore, PrintsBeforeText, Ends, LeavesJournal, as_found, at_opening, after_requests, server_at_opening, after_opening, Halts, EndsBy, IsStatus}
 
 -- a count that rose later, rose
 pub rose_later : (before now after : ℕ) → before ≤ now → Rose now after → Rose before after
@@ -248,111 +247,6 @@ ends_by halt.Files status e = also 7 status e (6, omega arith, refl)
 ends_by halt.Disk status e = also 9 status e (8, omega arith, refl)
 ends_by halt.Sink status e = also 8 status e is_8
 ends_by halt.Memory status e = also 10 status e is_10
-
--- a status of a run that ends before the journal is opened is that of such a halt
-not_before : (n status : ℕ) → status ≡ n → IsStatusBefore status → IsStatusBefore n
-not_before n status e before = subst (λ (s : ℕ). IsStatusBefore s) e before
-
-pub before_so : (h : Halt) (status : ℕ) → EndsBy h status → IsStatusBefore status → IsBeforeJournal h
-before_so (halt.Bank fault) status e before = tt
-before_so (halt.Plan fault) status e before = tt
-before_so (halt.Script fault) status e before = tt
-before_so (halt.NoForm text) status e before = tt
-before_so (halt.NoBaseForm text) status e before = tt
-before_so (halt.Journal fault) status (inl e) before = absurd (false≢true (not_before 6 status e before))
-before_so (halt.Journal fault) status (inr e) before = absurd (false≢true (not_before 10 status e before))
-before_so (halt.Sessions count most) status (inl e) before = absurd (false≢true (not_before 13 status e before))
-before_so (halt.Sessions count most) status (inr e) before = absurd (false≢true (not_before 10 status e before))
-before_so (halt.JournalFull size most) status (inl e) before = absurd (false≢true (not_before 13 status e before))
-before_so (halt.JournalFull size most) status (inr e) before = absurd (false≢true (not_before 10 status e before))
-before_so halt.Files status e before = tt
-before_so halt.Disk status e before = absurd (false≢true (not_before 9 status e before))
-before_so halt.Memory status e before = absurd (false≢true (not_before 10 status e before))
-before_so halt.Sink status e before = absurd (false≢true (not_before 8 status e before))
-
--- status 7 is that of the files alone
-pub of_files : (h : Halt) (status : ℕ) → EndsBy h status → status ≡ 7 → h ≡ halt.Files
-of_files (halt.Bank fault) status (inl e) is = absurd (omega (arith, e, is))
-of_files (halt.Bank fault) status (inr e) is = absurd (omega (arith, e, is))
-of_files (halt.Plan fault) status (inl e) is = absurd (omega (arith, e, is))
-of_files (halt.Plan fault) status (inr e) is = absurd (omega (arith, e, is))
-of_files (halt.Script fault) status (inl e) is = absurd (omega (arith, e, is))
-of_files (halt.Script fault) status (inr e) is = absurd (omega (arith, e, is))
-of_files (halt.NoForm text) status e is = absurd (omega (arith, e, is))
-of_files (halt.NoBaseForm text) status e is = absurd (omega (arith, e, is))
-of_files (halt.Journal fault) status (inl e) is = absurd (omega (arith, e, is))
-of_files (halt.Journal fault) status (inr e) is = absurd (omega (arith, e, is))
-of_files (halt.Sessions count most) status (inl e) is = absurd (omega (arith, e, is))
-of_files (halt.Sessions count most) status (inr e) is = absurd (omega (arith, e, is))
-of_files (halt.JournalFull size most) status (inl e) is = absurd (omega (arith, e, is))
-of_files (halt.JournalFull size most) status (inr e) is = absurd (omega (arith, e, is))
-of_files halt.Files status e is = refl
-of_files halt.Disk status e is = absurd (omega (arith, e, is))
-of_files halt.Memory status e is = absurd (omega (arith, e, is))
-of_files halt.Sink status e is = absurd (omega (arith, e, is))
-
--- status 8 is that of the sink alone
-pub of_sink : (h : Halt) (status : ℕ) → EndsBy h status → status ≡ 8 → h ≡ halt.Sink
-of_sink (halt.Bank fault) status (inl e) is = absurd (omega (arith, e, is))
-of_sink (halt.Bank fault) status (inr e) is = absurd (omega (arith, e, is))
-of_sink (halt.Plan fault) status (inl e) is = absurd (omega (arith, e, is))
-of_sink (halt.Plan fault) status (inr e) is = absurd (omega (arith, e, is))
-of_sink (halt.Script fault) status (inl e) is = absurd (omega (arith, e, is))
-of_sink (halt.Script fault) status (inr e) is = absurd (omega (arith, e, is))
-of_sink (halt.NoForm text) status e is = absurd (omega (arith, e, is))
-of_sink (halt.NoBaseForm text) status e is = absurd (omega (arith, e, is))
-of_sink (halt.Journal fault) status (inl e) is = absurd (omega (arith, e, is))
-of_sink (halt.Journal fault) status (inr e) is = absurd (omega (arith, e, is))
-of_sink (halt.Sessions count most) status (inl e) is = absurd (omega (arith, e, is))
-of_sink (halt.Sessions count most) status (inr e) is = absurd (omega (arith, e, is))
-of_sink (halt.JournalFull size most) status (inl e) is = absurd (omega (arith, e, is))
-of_sink (halt.JournalFull size most) status (inr e) is = absurd (omega (arith, e, is))
-of_sink halt.Files status e is = absurd (omega (arith, e, is))
-of_sink halt.Disk status e is = absurd (omega (arith, e, is))
-of_sink halt.Memory status e is = absurd (omega (arith, e, is))
-of_sink halt.Sink status e is = refl
-
--- status 9 is that of the disk alone
-pub of_disk : (h : Halt) (status : ℕ) → EndsBy h status → status ≡ 9 → h ≡ halt.Disk
-of_disk (halt.Bank fault) status (inl e) is = absurd (omega (arith, e, is))
-of_disk (halt.Bank fault) status (inr e) is = absurd (omega (arith, e, is))
-of_disk (halt.Plan fault) status (inl e) is = absurd (omega (arith, e, is))
-of_disk (halt.Plan fault) status (inr e) is = absurd (omega (arith, e, is))
-of_disk (halt.Script fault) status (inl e) is = absurd (omega (arith, e, is))
-of_disk (halt.Script fault) status (inr e) is = absurd (omega (arith, e, is))
-of_disk (halt.NoForm text) status e is = absurd (omega (arith, e, is))
-of_disk (halt.NoBaseForm text) status e is = absurd (omega (arith, e, is))
-of_disk (halt.Journal fault) status (inl e) is = absurd (omega (arith, e, is))
-of_disk (halt.Journal fault) status (inr e) is = absurd (omega (arith, e, is))
-of_disk (halt.Sessions count most) status (inl e) is = absurd (omega (arith, e, is))
-of_disk (halt.Sessions count most) status (inr e) is = absurd (omega (arith, e, is))
-of_disk (halt.JournalFull size most) status (inl e) is = absurd (omega (arith, e, is))
-of_disk (halt.JournalFull size most) status (inr e) is = absurd (omega (arith, e, is))
-of_disk halt.Files status e is = absurd (omega (arith, e, is))
-of_disk halt.Disk status e is = refl
-of_disk halt.Memory status e is = absurd (omega (arith, e, is))
-of_disk halt.Sink status e is = absurd (omega (arith, e, is))
-
--- no halt ends with status 2
-pub no_usage : (h : Halt) (status : ℕ) → EndsBy h status → status ≡ 2 → ⊥
-no_usage (halt.Bank fault) status (inl e) is = omega (arith, e, is)
-no_usage (halt.Bank fault) status (inr e) is = omega (arith, e, is)
-no_usage (halt.Plan fault) status (inl e) is = omega (arith, e, is)
-no_usage (halt.Plan fault) status (inr e) is = omega (arith, e, is)
-no_usage (halt.Script fault) status (inl e) is = omega (arith, e, is)
-no_usage (halt.Script fault) status (inr e) is = omega (arith, e, is)
-no_usage (halt.NoForm text) status e is = omega (arith, e, is)
-no_usage (halt.NoBaseForm text) status e is = omega (arith, e, is)
-no_usage (halt.Journal fault) status (inl e) is = omega (arith, e, is)
-no_usage (halt.Journal fault) status (inr e) is = omega (arith, e, is)
-no_usage (halt.Sessions count most) status (inl e) is = omega (arith, e, is)
-no_usage (halt.Sessions count most) status (inr e) is = omega (arith, e, is)
-no_usage (halt.JournalFull size most) status (inl e) is = omega (arith, e, is)
-no_usage (halt.JournalFull size most) status (inr e) is = omega (arith, e, is)
-no_usage halt.Files status e is = omega (arith, e, is)
-no_usage halt.Disk status e is = omega (arith, e, is)
-no_usage halt.Memory status e is = omega (arith, e, is)
-no_usage halt.Sink status e is = omega (arith, e, is)
 
 -- ---- a journal was asked for
 -- the disk failed in a replay

@@ -16,9 +16,11 @@ use Rattle.exam_program.specs.Outside.{DiskSeen, disk_seen}
 use Rattle.exam_program.specs.Runs.{idle}
 use Rattle.exam_program.specs.Serves.{IsExamined}
 use Rattle.exam_program.specs.Stopping.{IsUnopened, opening_halt}
-use Rattle.exam_program.proofs.ReplayLaws.{failing_so, unwritten_so, unopened_so}
+use Rattle.exam_program.specs.Halts.{IsBeforeJournal}
+use Rattle.exam_program.proofs.ReplayLaws.{failing_so, unwritten_so, unopened_so, no_sink}
 use Rattle.exam_program.proofs.RequestLaws.{nothing_written}
 use Rattle.exam_program.proofs.ServeLaws.{server_unopened, IsClosed, same_plan, examined_so, ends_serving, halt_status, serving_status, failed_door_so}
+use Rattle.exam_program.proofs.StatusLaws.{at_sink, at_disk, at_before, not_door, disk_fault, late_fault, serving_unprinted, serving_not_9, serving_late}
 use Rattle.exam_program.proofs.serving.serve_over.Goals as goal
 
 -- ---- the journal was not opened
@@ -117,3 +119,26 @@ returns-clause-disk g c =
       tells = gone.tells ∙ (ap (λ (w : OpenedWith). w.tells) done.same ∙ opened.tells);
       identity = gone.identity ∙ (ap (λ (w : OpenedWith). w.identity) done.same ∙ opened.identity);
     }
+
+-- ---- what each status shows
+pub returns-in-Err-clause-door : goal.returns-in-Err-clause-door
+returns-in-Err-clause-door g c = λ is. absurd (not_door c.halt_of_opening.result c.report-status.result c.report-status.ensures.status is)
+
+pub returns-in-Err-clause-sink : goal.returns-in-Err-clause-sink
+returns-in-Err-clause-sink g c = at_sink c.halt_of_opening.result c.report-status.result c.report-status.ensures.status (λ is. absurd (no_sink c.in-Err.fault (sym c.halt_of_opening.ensures ∙ is)))
+
+pub returns-in-Err-clause-failed : goal.returns-in-Err-clause-failed
+returns-in-Err-clause-failed g c = at_disk c.halt_of_opening.result c.report-status.result c.report-status.ensures.status (λ is. c.in-Err.ensures.cause (disk_fault c.in-Err.fault (sym c.halt_of_opening.ensures ∙ is)))
+
+pub returns-in-Err-clause-opened : goal.returns-in-Err-clause-opened
+returns-in-Err-clause-opened g c = λ before.
+    late_fault c.in-Err.fault (subst (λ (h : Halt). IsBeforeJournal h) c.halt_of_opening.ensures (at_before c.halt_of_opening.result c.report-status.result c.report-status.ensures.status before))
+
+pub returns-clause-sink : goal.returns-clause-sink
+returns-clause-sink g c = serving_unprinted c.serve_doors-office.result.end c.end_with.result c.end_with.ensures.status
+
+pub returns-clause-failed : goal.returns-clause-failed
+returns-clause-failed g c = λ is. absurd (serving_not_9 c.serve_doors-office.result.end c.end_with.result c.end_with.ensures.status is)
+
+pub returns-clause-opened : goal.returns-clause-opened
+returns-clause-opened g c = serving_late c.serve_doors-office.result.end c.end_with.result c.end_with.ensures.status
