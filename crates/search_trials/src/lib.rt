@@ -6,10 +6,15 @@
 
 #[cfg(test)]
 mod agreement;
-mod check;
 #[cfg(test)]
 mod equal;
 #[cfg(test)]
 mod improving;
 #[cfg(test)]
+mod judging;
+#[cfg(test)]
+mod settings;
+#[cfg(test)]
 mod tree;
+#[cfg(test)]
+mod trials;

@@ -1,14 +1,13 @@
 //! Proof trees in bytes: each fault at its place, and the worked trees.
 
-use crate::equal::{are_equal, is_equal};
+use crate::equal::is_equal;
 use bank_tables::List;
 use proof_tree::{Node, Tree, TreeFault, Vector, decode, encode};
-use std::alloc::{AllocError, Global};
+use std::alloc::Global;
 use std::process::Abort;
-use std::test::Fail;
 
 /// Bytes of no tree, each with its fault.
-const NO_TREES: [(&[u8], TreeFault); 24] = [
+const NO_TREES: [(&[u8], TreeFault); 25] = [
     (&[], TreeFault::Short),
     (&[0], TreeFault::Unfinished(1)),
     (&[0, 8], TreeFault::BadKind(1)),
@@ -46,6 +45,8 @@ const NO_TREES: [(&[u8], TreeFault); 24] = [
     (&[0, 2, 1, 6, 5, 193], TreeFault::BadKind(4)),
     (&[0, 2, 1, 6], TreeFault::Unfinished(4)),
     (&[0, 2, 1, 6, 3], TreeFault::Short),
+    // A ray without its vector.
+    (&[1, 0, 1, 0, 1, 0, 0, 0, 1, 4], TreeFault::Short),
 ];
 
 /// These bytes have this fault.
@@ -60,92 +61,87 @@ fn faults(rt: HostRuntime) {
     }
 }
 
-/// The tree with which these bytes begin, and how many bytes it takes.
-fn read(alloc: Global, bytes: &[u8]) -> Result<(Tree, usize), Fail> {
-    match decode(alloc, bytes) {
-        Ok(read) => Ok(read),
-        Err(_) => Err(Fail::from("a tree")),
-    }
-}
-
 /// The bytes begin with a tree of so many vectors, which takes so many bytes.
-fn reads<R: Abort>(
-    rt: &R,
-    alloc: Global,
-    bytes: &[u8],
-    expected: usize,
-    vectors: usize,
-) -> Result<(), Fail> {
-    let (tree, used) = read(alloc, bytes)?;
+fn reads<R: Abort>(rt: &R, alloc: Global, bytes: &[u8], expected: usize, vectors: usize) {
+    let (tree, used) = decode(alloc, bytes).expect(rt, "a tree");
     is_equal(rt, &used, &expected);
     is_equal(rt, &tree.vectors().len(), &vectors);
-    Ok(())
 }
 
 /// The tree is spelled with these bytes.
-fn is_spelled<R: Abort>(rt: &R, alloc: Global, tree: &Tree, bytes: &[u8]) -> Result<(), Fail> {
-    let found = encode(alloc, tree).ok().ok_or("memory")?;
-    are_equal(rt, found.as_slice(), bytes);
-    Ok(())
+fn is_spelled<R: Abort>(rt: &R, alloc: Global, tree: &Tree, bytes: &[u8]) {
+    let found = encode(alloc, tree).expect(rt, "the bytes");
+    is_equal(rt, &found.as_slice(), &bytes);
 }
 
 /// Adds a vector of 384 pairs, with the multiplier 1 on each side.
-fn push_vector(bytes: &mut Vec<u8>) -> Result<(), AllocError> {
-    bytes.extend_from_slice(&[1, 0x80])?;
+fn push_vector<R: Abort>(rt: &R, bytes: &mut Vec<u8>) {
+    push(rt, bytes, &[1, 0x80]);
     for side in 0..384u16 {
-        bytes.extend_from_slice(&side.to_be_bytes())?;
-        bytes.extend_from_slice(&[0, 0, 0, 1])?;
+        let [high, low] = side.to_be_bytes();
+        push(rt, bytes, &[high, low, 0, 0, 0, 1]);
     }
-    Ok(())
 }
 
-/// 33 vectors: 32 of 384 pairs, which are all that a tree may have, and the number of pairs of one more.
-fn many_pairs(alloc: Global, last: u8) -> Result<Vec<u8>, AllocError> {
-    let mut bytes = vec![in alloc; 33]?;
+fn push<R: Abort>(rt: &R, bytes: &mut Vec<u8>, more: &[u8]) {
+    bytes.extend_from_slice(more).expect(rt, "bytes");
+}
+
+/// 33 vectors: 32 of 384 pairs, which are all that a tree may have, and then these bytes.
+fn many_pairs<R: Abort>(rt: &R, alloc: Global, last: &[u8]) -> Vec<u8> {
+    let mut bytes = Vec::new(alloc);
+    push(rt, &mut bytes, &[33]);
     for _ in 0..32 {
-        push_vector(&mut bytes)?;
+        push_vector(rt, &mut bytes);
     }
-    bytes.extend_from_slice(&[0, last])?;
-    Ok(bytes)
+    push(rt, &mut bytes, last);
+    bytes
 }
 
 #[test]
-fn most_pairs(rt: HostRuntime) -> Result<(), Fail> {
+fn most_pairs(rt: HostRuntime) {
     let alloc = rt.alloc();
-    let mut bytes = many_pairs(alloc, 0)?;
-    bytes.push(7)?;
-    reads(&rt, alloc, &bytes, 73_796, 33)?;
+    // A vector of no pair, and one node.
+    reads(&rt, alloc, &many_pairs(&rt, alloc, &[0, 0, 7]), 73_796, 33);
     // The 12,289th pair.
-    let over = many_pairs(alloc, 1)?;
-    has_fault(&rt, alloc, &over, TreeFault::BadVector(73_793));
-    Ok(())
+    let fault = TreeFault::BadVector(73_793);
+    has_fault(&rt, alloc, &many_pairs(&rt, alloc, &[0, 1]), fault);
 }
 
-/// A byte, and so many times two bytes.
-fn repeated(alloc: Global, first: u8, times: u16, two: [u8; 2]) -> Result<Vec<u8>, AllocError> {
-    let mut bytes = vec![in alloc; first]?;
+/// A byte, so many times two bytes, and then these bytes.
+fn repeated<R: Abort>(
+    rt: &R,
+    alloc: Global,
+    first: u8,
+    (times, two): (u16, [u8; 2]),
+    last: &[u8],
+) -> Vec<u8> {
+    let mut bytes = Vec::new(alloc);
+    push(rt, &mut bytes, &[first]);
     for _ in 0..times {
-        bytes.extend_from_slice(&two)?;
+        push(rt, &mut bytes, &two);
     }
-    Ok(bytes)
+    push(rt, &mut bytes, last);
+    bytes
 }
 
 #[test]
-fn most_vectors(rt: HostRuntime) -> Result<(), Fail> {
+fn most_vectors(rt: HostRuntime) {
     let alloc = rt.alloc();
-    let mut bytes = repeated(alloc, 255, 255, [0, 0])?;
-    bytes.push(7)?;
-    reads(&rt, alloc, &bytes, 512, 255)
+    let bytes = repeated(&rt, alloc, 255, (255, [0, 0]), &[7]);
+    reads(&rt, alloc, &bytes, 512, 255);
+}
+
+/// A tree of 4,095 branches and then these bytes has this fault.
+fn branches_have_fault<R: Abort>(rt: &R, alloc: Global, last: &[u8], fault: TreeFault) {
+    let bytes = repeated(rt, alloc, 0, (4095, [2, 1]), last);
+    has_fault(rt, alloc, &bytes, fault);
 }
 
 #[test]
-fn most_nodes(rt: HostRuntime) -> Result<(), Fail> {
-    let alloc = rt.alloc();
-    let mut bytes = repeated(alloc, 0, 4095, [2, 1])?;
-    has_fault(&rt, alloc, &bytes, TreeFault::Unfinished(8191));
-    bytes.push(7)?;
-    has_fault(&rt, alloc, &bytes, TreeFault::TooLong(8191));
-    Ok(())
+fn most_nodes(rt: HostRuntime) {
+    branches_have_fault(&rt, rt.alloc(), &[], TreeFault::Unfinished(8191));
+    branches_have_fault(&rt, rt.alloc(), &[7], TreeFault::TooLong(8191));
 }
 
 /// One vector of one pair, side 1 with multiplier 1, and one node, a ray of it.
@@ -153,37 +149,51 @@ const RAY: [u8; 11] = [1, 0, 1, 0, 1, 0, 0, 0, 1, 4, 0];
 
 /// The tree is that of `RAY`.
 fn is_ray<R: Abort>(rt: &R, tree: &Tree) {
-    assert_eq!(rt; tree.vectors().len(), 1);
-    are_equal(rt, tree.vectors()[0].pairs(), &[(1, 1)]);
-    are_equal(rt, tree.nodes(), &[Node::Ray(0)]);
+    let [vector] = tree.vectors() else {
+        panic!(rt; "another number of vectors");
+    };
+    is_equal(rt, &vector.pairs(), &[(1, 1)].as_slice());
+    is_equal(rt, &tree.nodes(), &[Node::Ray(0)].as_slice());
 }
 
 #[test]
-fn eleven_bytes(rt: HostRuntime) -> Result<(), Fail> {
-    let alloc = rt.alloc();
-    has_fault(&rt, alloc, &RAY[..10], TreeFault::Short);
-    let (tree, used) = read(alloc, &RAY)?;
+fn eleven_bytes(rt: HostRuntime) {
+    let (tree, used) = decode(rt.alloc(), &RAY).expect(&rt, "a tree");
     is_equal(&rt, &used, &11);
     is_ray(&rt, &tree);
-    is_spelled(&rt, alloc, &tree, &RAY)
+    is_spelled(&rt, rt.alloc(), &tree, &RAY);
 }
 
-/// A tree of one vector, with a node of each kind but two.
-fn made(alloc: Global) -> Result<Tree, Fail> {
-    let pairs = vec![in alloc; (0, 1), (385, 16_777_216)]?;
-    let vector = Vector::of(List::of(pairs)).ok_or("a vector")?;
-    let nodes = vec![in alloc;
-        Node::BranchItem(511),
-        Node::BranchStimulus(64),
-        Node::Bound(255),
-        Node::Count(192),
-        Node::Open,
-    ]?;
-    let vectors = List::of(vec![in alloc; vector]?);
-    Ok(Tree::of(vectors, List::of(nodes)).ok_or("a tree")?)
+/// The pairs of the made vector: the lowest and the highest side and multiplier.
+const PAIRS: [(u16, u32); 2] = [(0, 1), (385, 16_777_216)];
+
+/// The nodes of the made tree: one of each kind but two.
+const NODES: [Node; 5] = [
+    Node::BranchItem(511),
+    Node::BranchStimulus(64),
+    Node::Bound(255),
+    Node::Count(192),
+    Node::Open,
+];
+
+/// The vector of these pairs; None where they are no vector.
+fn vector_of<R: Abort>(rt: &R, alloc: Global, pairs: &[(u16, u32)]) -> Option<Vector> {
+    Vector::of(List::of(pairs.to_vec(alloc).expect(rt, "pairs")))
 }
 
-/// Its bytes.
+/// The tree of these vectors and nodes; None where they are no tree.
+fn tree_of<R: Abort>(rt: &R, alloc: Global, vectors: Vec<Vector>, nodes: &[Node]) -> Option<Tree> {
+    let nodes = nodes.to_vec(alloc).expect(rt, "nodes");
+    Tree::of(List::of(vectors), List::of(nodes))
+}
+
+fn made<R: Abort>(rt: &R, alloc: Global) -> Tree {
+    let vector = vector_of(rt, alloc, &PAIRS).expect(rt, "a vector");
+    let vectors = vec![in alloc; vector].expect(rt, "vectors");
+    tree_of(rt, alloc, vectors, &NODES).expect(rt, "a tree")
+}
+
+/// The bytes of the made tree.
 const MADE: [u8; 25] = [
     1, 0, 2, 0, 0, 0, 0, 0, 1, 1, 0x81, 1, 0, 0, 0, 1, 1, 0xff, 2, 64, 3, 255, 5, 192, 7,
 ];
@@ -193,46 +203,28 @@ const MADE_AND_MORE: [u8; 27] = [
     1, 0, 2, 0, 0, 0, 0, 0, 1, 1, 0x81, 1, 0, 0, 0, 1, 1, 0xff, 2, 64, 3, 255, 5, 192, 7, 9, 9,
 ];
 
-/// The bytes begin with a tree of the same nodes, which takes so many bytes.
-fn reads_again<R: Abort>(
-    rt: &R,
-    alloc: Global,
-    bytes: &[u8],
-    expected: usize,
-    tree: &Tree,
-) -> Result<(), Fail> {
-    let (again, used) = read(alloc, bytes)?;
-    is_equal(rt, &used, &expected);
-    are_equal(rt, again.nodes(), tree.nodes());
-    Ok(())
-}
-
 #[test]
-fn made_and_read_again(rt: HostRuntime) -> Result<(), Fail> {
-    let alloc = rt.alloc();
-    let tree = made(alloc)?;
-    is_spelled(&rt, alloc, &tree, &MADE)?;
-    reads_again(&rt, alloc, &MADE_AND_MORE, 25, &tree)
+fn made_tree(rt: HostRuntime) {
+    is_spelled(&rt, rt.alloc(), &made(&rt, rt.alloc()), &MADE);
 }
 
-/// These pairs are no vector.
-fn is_no_vector<R: Abort>(rt: &R, alloc: Global, pairs: &[(u16, u32)]) -> Result<(), Fail> {
-    let pairs = pairs.to_vec(alloc)?;
-    assert!(rt; Vector::of(List::of(pairs)).is_none());
-    Ok(())
+/// `MADE_AND_MORE` begins with the made tree. The tree takes 25 bytes.
+#[test]
+fn made_tree_is_read_again(rt: HostRuntime) {
+    let (again, used) = decode(rt.alloc(), &MADE_AND_MORE).expect(&rt, "a tree");
+    is_equal(&rt, &used, &25);
+    is_equal(&rt, &again.nodes(), &NODES.as_slice());
 }
 
 /// These nodes are no tree.
-fn is_no_tree<R: Abort>(rt: &R, alloc: Global, nodes: &[Node]) -> Result<(), Fail> {
-    let nodes = nodes.to_vec(alloc)?;
-    assert!(rt; Tree::of(List::of(Vec::new(alloc)), List::of(nodes)).is_none());
-    Ok(())
+fn is_no_tree<R: Abort>(rt: &R, alloc: Global, nodes: &[Node]) {
+    assert!(rt; tree_of(rt, alloc, Vec::new(alloc), nodes).is_none());
 }
 
 #[test]
-fn no_tree(rt: HostRuntime) -> Result<(), Fail> {
+fn no_tree(rt: HostRuntime) {
     let alloc = rt.alloc();
-    is_no_vector(&rt, alloc, &[(3, 1), (3, 1)])?;
-    is_no_tree(&rt, alloc, &[Node::Open, Node::Open])?;
-    is_no_tree(&rt, alloc, &[Node::BranchItem(0), Node::Open])
+    assert!(rt; vector_of(&rt, alloc, &[(3, 1), (3, 1)]).is_none());
+    is_no_tree(&rt, alloc, &[Node::Open, Node::Open]);
+    is_no_tree(&rt, alloc, &[Node::BranchItem(0), Node::Open]);
 }

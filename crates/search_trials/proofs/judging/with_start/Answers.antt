@@ -2,7 +2,7 @@ use Rattle.std.proofs.Common.{◌≡◌, Option, Some, ap, subst}
 use Rattle.std.specs.Prelude.{unwrap_or}
 use Rattle.bank_tables.specs.Items.{Set, has}
 use Rattle.bank_tables.specs.Validity.{HoldsItems}
-use Rattle.search_trials.proofs.check.tests.with_start.Goals as goal
+use Rattle.search_trials.proofs.judging.with_start.Goals as goal
 
 pub returns : goal.returns
 returns c =
