@@ -6,11 +6,13 @@ use exam_model::Rate;
 use exposure_counters::Counters;
 use history_model::Counts;
 use std::alloc::Global;
-use std::test::Fail;
+use std::process::Abort;
 use trial_cases::set_of;
 
 /// A word, a rate, the counts of an item, and whether the inequality admits the word.
-const EDGES: [(u32, (u32, u32), (u32, u32), bool); 9] = [
+type Edge = (u32, (u32, u32), (u32, u32), bool);
+
+const EDGES: [Edge; 9] = [
     // 16 w < 2^34.
     (1_073_741_823, (1, 4), (4, 4), true),
     (1_073_741_824, (1, 4), (4, 4), false),
@@ -29,44 +31,44 @@ const EDGES: [(u32, (u32, u32), (u32, u32), bool); 9] = [
 /// The highest word.
 const HIGHEST: u32 = 4_294_967_295;
 
+/// The inequality admits the word at these counts, or does not.
+fn is_edge<R: Abort>(rt: &R, (word, (num, den), (alpha, eps), admitted): &Edge) {
+    let rate = Rate {
+        num: *num,
+        den: *den,
+    };
+    let counts = Counts {
+        alpha: *alpha,
+        eps: *eps,
+    };
+    is_equal(rt, &admits(*word, rate, counts), admitted);
+}
+
 #[test]
 fn words_at_the_edge(rt: HostRuntime) {
-    for (word, (num, den), (alpha, eps), admitted) in &EDGES {
-        let rate = Rate {
-            num: *num,
-            den: *den,
-        };
-        let counts = Counts {
-            alpha: *alpha,
-            eps: *eps,
-        };
-        assert_eq!(rt;
-            admits(*word, rate, counts),
-            *admitted,
-            "word {word} rate {num}/{den} counts {alpha} {eps}"
-        );
+    for edge in &EDGES {
+        is_edge(&rt, edge);
     }
 }
 
 /// Counters of six items after four sessions in which each item was eligible and shown.
-fn four_sessions(alloc: Global) -> Result<Counters, Fail> {
+fn four_sessions<R: Abort>(rt: &R, alloc: Global) -> Counters {
     let all = set_of(&[0, 1, 2, 3, 4, 5]);
-    let mut counters = Counters::new(alloc, 6)?;
+    let mut counters = Counters::new(alloc, 6).expect(rt, "counters");
     for _ in 0..4 {
         if counters.finished() >= 65_536 || !all.all_below(counters.items()) {
-            return Err(Fail::from("no room"));
+            panic!(rt; "no room");
         }
         counters.finish(&all, &all);
     }
-    Ok(counters)
+    counters
 }
 
 /// The first six words of the stream of ChaCha20 with the key and nonce of zeros, from its published test vector (RFC
 /// 8439), are ade0b876, 903df1a0, e56a5d40, 28bd8653, b819d2bd and 1aed8da0; those below 2^31 are the fourth and the sixth.
 #[test]
-fn a_draw_at_one_half(rt: HostRuntime) -> Result<(), Fail> {
-    let counters = four_sessions(rt.alloc())?;
+fn a_draw_at_one_half(rt: HostRuntime) {
+    let counters = four_sessions(&rt, rt.alloc());
     let eligible = draw(&[0; 32], Rate { num: 1, den: 2 }, 0, &counters);
     is_equal(&rt, &eligible, &set_of(&[3, 5]));
-    Ok(())
 }

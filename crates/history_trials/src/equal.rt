@@ -9,8 +9,3 @@ use std::process::Abort;
 pub(crate) fn is_equal<R: Abort, T: PartialEq + Debug>(rt: &R, found: &T, expected: &T) {
     assert_eq!(rt; *found, *expected);
 }
-
-/// The lists are the same.
-pub(crate) fn are_equal<R: Abort, T: PartialEq + Debug>(rt: &R, found: &[T], expected: &[T]) {
-    assert_eq!(rt; found, expected);
-}

@@ -10,8 +10,8 @@ mod draws;
 #[cfg(test)]
 mod equal;
 #[cfg(test)]
-mod many;
-#[cfg(test)]
 mod records;
+#[cfg(test)]
+mod trials;
 #[cfg(test)]
 mod worked;

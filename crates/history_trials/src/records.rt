@@ -2,145 +2,122 @@
 
 ghost use Rattle.exam_records.specs.Shape.{GoesWith};
 
-use crate::equal::{are_equal, is_equal};
-use crate::worked::{ALL, FIRST_BEST};
-use exam_records::{Entry, Record, RecordFault, decode, encode};
-use std::alloc::{AllocError, Global};
+use crate::equal::is_equal;
+use crate::worked::{FIRST_BEST, Line, Shape, entry_of, tree_bytes};
+use exam_records::{Record, RecordFault, decode, encode};
+use std::alloc::Global;
 use std::process::Abort;
-use std::test::Fail;
-use trial_cases::set_of;
+
+/// The parts of a payload, in order.
+type Parts = &'static [&'static [u8]];
 
 /// Step 0 of session 0 is answered with response 1.
-const ANSWERED: [u8; 8] = [4, 0, 0, 0, 0, 0, 0, 1];
+const ANSWERED: &[u8] = &[4, 0, 0, 0, 0, 0, 0, 1];
 
-/// Session 0 starts for booking 70, up to the eligible items.
-const STARTED: [u8; 13] = [1, 0, 0, 0, 0, 0, 0, 0, 0, 0, 0, 0, 70];
+/// Session 0 starts for booking 70, with items 0 to 5 eligible: the last byte here is the first of
+/// a set of items.
+const STARTED: &[u8] = &[1, 0, 0, 0, 0, 0, 0, 0, 0, 0, 0, 0, 70, 0x3f];
 
-/// Item 2 is served at step 0 of session 0, up to the form.
-const SERVED: [u8; 9] = [3, 0, 0, 0, 0, 0, 0, 0, 2];
+/// Item 2 is served at step 0 of session 0, from the form {1, 2, 3}.
+const SERVED: &[u8] = &[3, 0, 0, 0, 0, 0, 0, 0, 2, 0x0e];
 
-/// A front, a set of items of which the first eight are these bits, and what follows.
-fn payload(alloc: Global, front: &[u8], bits: u8, rest: &[u8]) -> Result<Vec<u8>, AllocError> {
-    let mut bytes = front.to_vec(alloc)?;
-    bytes.push(bits)?;
-    bytes.extend_from_slice(&[0; 63])?;
-    bytes.extend_from_slice(rest)?;
-    Ok(bytes)
-}
+/// The other 63 bytes of a set of items. The set has none of their items.
+const REST: &[u8] = &[0; 63];
 
-/// The payload of the served item with this mark and number of nodes.
-fn served(alloc: Global, mark: u8, nodes: u8) -> Result<Vec<u8>, AllocError> {
-    let mut rest = [mark, 0, nodes].to_vec(alloc)?;
-    rest.extend_from_slice(&FIRST_BEST)?;
-    payload(alloc, &SERVED, 0x0e, &rest)
-}
-
-/// The bytes of the record's tree; none where it has no tree.
-fn tree_bytes(alloc: Global, rec: &Record) -> Result<Vec<u8>, Fail> {
-    match &rec.tree {
-        Some(tree) => Ok(proof_tree::encode(alloc, tree)?),
-        None => Ok(Vec::new(alloc)),
+/// The bytes of a payload.
+fn joined<R: Abort>(rt: &R, alloc: Global, parts: &[&[u8]]) -> Vec<u8> {
+    let mut bytes = Vec::new(alloc);
+    for part in parts {
+        bytes.extend_from_slice(part).expect(rt, "a payload");
     }
+    bytes
 }
 
 /// The record's tree has these bytes; it has none where there are no bytes.
-fn has_tree<R: Abort>(rt: &R, alloc: Global, rec: &Record, bytes: &[u8]) -> Result<(), Fail> {
-    are_equal(rt, tree_bytes(alloc, rec)?.as_slice(), bytes);
-    Ok(())
+fn has_tree<R: Abort>(rt: &R, alloc: Global, rec: &Record, bytes: &[u8]) {
+    match &rec.tree {
+        Some(tree) => {
+            let found = proof_tree::encode(alloc, tree).expect(rt, "a tree");
+            is_equal(rt, &found.as_slice(), &bytes);
+        }
+        None => is_equal(rt, &bytes.len(), &0),
+    }
 }
 
 /// The record is spelled with these bytes.
-fn is_spelled<R: Abort>(rt: &R, alloc: Global, rec: &Record, bytes: &[u8]) -> Result<(), Fail>
+fn is_spelled<R: Abort>(rt: &R, alloc: Global, rec: &Record, bytes: &[u8])
     requires { GoesWith rec.now.entry rec.now.tree }
 {
-    are_equal(rt, encode(alloc, rec)?.as_slice(), bytes);
-    Ok(())
+    let found = encode(alloc, rec).expect(rt, "a payload");
+    is_equal(rt, &found.as_slice(), &bytes);
 }
 
-/// The record has this entry and this tree, and is spelled with these bytes.
-fn shows<R: Abort>(
-    rt: &R,
-    alloc: Global,
-    rec: &Record,
-    entry: &Entry,
-    tree: &[u8],
-    bytes: &[u8],
-) -> Result<(), Fail>
+/// The record has the entry and the tree of this line, and is spelled with these bytes.
+fn shows<R: Abort>(rt: &R, alloc: Global, rec: &Record, line: &Line, bytes: &[u8])
     requires { GoesWith rec.now.entry rec.now.tree }
 {
-    is_equal(rt, &rec.entry, entry);
-    has_tree(rt, alloc, rec, tree)?;
-    is_spelled(rt, alloc, rec, bytes)
+    is_equal(rt, &rec.entry, &entry_of(line));
+    has_tree(rt, alloc, rec, tree_bytes(line));
+    is_spelled(rt, alloc, rec, bytes);
 }
 
-/// The bytes read to a record with this entry and this tree, which is spelled with them.
-fn reads<R: Abort>(
-    rt: &R,
-    alloc: Global,
-    bytes: &[u8],
-    entry: &Entry,
-    tree: &[u8],
-) -> Result<(), Fail> {
+/// The bytes are read as the record of this line, and the record is spelled with them.
+fn reads<R: Abort>(rt: &R, alloc: Global, bytes: &[u8], line: &Line) {
     match decode(alloc, bytes) {
-        Ok(rec) => shows(rt, alloc, &rec, entry, tree, bytes),
-        Err(_) => Err(Fail::from("a record")),
+        Ok(rec) => shows(rt, alloc, &rec, line, bytes),
+        Err(_) => panic!(rt; "no record"),
     }
 }
 
-#[test]
-fn an_answer(rt: HostRuntime) -> Result<(), Fail> {
-    let entry = Entry::Answered {
-        session: 0,
-        step: 0,
-        response: 1,
-    };
-    reads(&rt, rt.alloc(), &ANSWERED, &entry, &[])
+/// Payloads with their lengths and their records.
+const WORKED: [(Parts, usize, Line); 3] = [
+    (&[ANSWERED], 8, Line::Answered(0, (0, 1), Shape::NoTree)),
+    (&[STARTED, REST], 77, Line::Started(0, 70, 0x3f)),
+    (
+        &[SERVED, REST, &[1, 0, 1], FIRST_BEST],
+        87,
+        Line::Served(0, (0, 2), 0x0e, Shape::FirstBest),
+    ),
+];
+
+fn is_worked<R: Abort>(rt: &R, alloc: Global, parts: Parts, length: usize, line: &Line) {
+    let bytes = joined(rt, alloc, parts);
+    is_equal(rt, &bytes.len(), &length);
+    reads(rt, alloc, &bytes, line);
 }
 
 #[test]
-fn faults(rt: HostRuntime) -> Result<(), Fail> {
-    let alloc = rt.alloc();
-    let more = [4, 0, 0, 0, 0, 0, 0, 1, 0];
-    let mark = served(alloc, 2, 1)?;
-    let nodes = served(alloc, 1, 2)?;
-    let cases: [(&[u8], RecordFault); 6] = [
-        (&[], RecordFault::Short),
-        (&ANSWERED[..7], RecordFault::Short),
-        (&[6], RecordFault::Kind(0)),
-        (&more, RecordFault::Extra(8)),
-        (&mark, RecordFault::Field(73)),
-        (&nodes, RecordFault::Field(74)),
-    ];
-    for (bytes, fault) in &cases {
-        is_equal(&rt, &decode(alloc, bytes).err(), &Some(*fault));
+fn worked_records(rt: HostRuntime) {
+    for (parts, length, line) in &WORKED {
+        is_worked(&rt, rt.alloc(), parts, *length, line);
     }
-    Ok(())
+}
+
+/// Payloads, each with its fault.
+const FAULTS: [(Parts, RecordFault); 6] = [
+    (&[], RecordFault::Short),
+    (&[&[4, 0, 0, 0, 0, 0, 0]], RecordFault::Short),
+    (&[&[6]], RecordFault::Kind(0)),
+    (&[ANSWERED, &[0]], RecordFault::Extra(8)),
+    // The mark, and the number of nodes.
+    (
+        &[SERVED, REST, &[2, 0, 1], FIRST_BEST],
+        RecordFault::Field(73),
+    ),
+    (
+        &[SERVED, REST, &[1, 0, 2], FIRST_BEST],
+        RecordFault::Field(74),
+    ),
+];
+
+fn has_fault<R: Abort>(rt: &R, alloc: Global, parts: Parts, fault: RecordFault) {
+    let bytes = joined(rt, alloc, parts);
+    is_equal(rt, &decode(alloc, &bytes).err(), &Some(fault));
 }
 
 #[test]
-fn a_start(rt: HostRuntime) -> Result<(), Fail> {
-    let alloc = rt.alloc();
-    let entry = Entry::Started {
-        session: 0,
-        booking: 70,
-        eligible: set_of(&ALL),
-    };
-    let spelled = payload(alloc, &STARTED, 0x3f, &[])?;
-    reads(&rt, alloc, &spelled, &entry, &[])
-}
-
-#[test]
-fn a_serving(rt: HostRuntime) -> Result<(), Fail> {
-    let alloc = rt.alloc();
-    let entry = Entry::Served {
-        session: 0,
-        step: 0,
-        item: 2,
-        form: set_of(&[1, 2, 3]),
-        proved: true,
-        nodes: 1,
-    };
-    let spelled = served(alloc, 1, 1)?;
-    is_equal(&rt, &spelled.len(), &87);
-    reads(&rt, alloc, &spelled, &entry, &FIRST_BEST)
+fn faults(rt: HostRuntime) {
+    for (parts, fault) in &FAULTS {
+        has_fault(&rt, rt.alloc(), parts, *fault);
+    }
 }

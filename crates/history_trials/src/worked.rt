@@ -1,39 +1,26 @@
-//! The worked examination over bank A: its plan, and what its records are made of.
+//! The worked examination over bank A: what its records are made of.
 
 use bank_tables::ItemSet;
-use constraint_model::Draft;
 use exam_records::{Cause, Entry, Record};
 use proof_tree::{Tree, decode};
-use std::alloc::{AllocError, Global};
-use std::test::Fail;
-use trial_cases::draft_a;
-
-/// Plan A, in which each item is always eligible. A step has this budget of nodes.
-pub(crate) fn plan(alloc: Global, budget: u32) -> Result<Draft, AllocError> {
-    Ok(Draft {
-        budget,
-        ..draft_a(alloc)?
-    })
-}
-
-/// The items of the bank.
-pub(crate) const ALL: [u16; 6] = [0, 1, 2, 3, 4, 5];
+use std::alloc::Global;
+use std::process::Abort;
 
 /// A tree of one node, Open.
-const OPEN: [u8; 2] = [0, 7];
+const OPEN: &[u8] = &[0, 7];
 
 /// It shows that {1, 2, 3} is best at first: side 3, the high side of the enemies, at 1 gives 6,143, which is 256 * 23 + 255.
-pub(crate) const FIRST_BEST: [u8; 11] = [1, 0, 1, 0, 3, 0, 0, 0, 1, 3, 0];
+pub(crate) const FIRST_BEST: &[u8] = &[1, 0, 1, 0, 3, 0, 0, 0, 1, 3, 0];
 
 /// It shows that {1, 2, 4} is best once item 2 was answered with 1, and the estimate is the third point: side 0, the low
 /// side of the count, at 1,536 gives -1,536 + 768 + 2,304 + 2,048, which is 256 * 14.
-const SECOND_BEST: [u8; 11] = [1, 0, 1, 0, 0, 0, 0, 6, 0, 3, 0];
+const SECOND_BEST: &[u8] = &[1, 0, 1, 0, 0, 0, 0, 6, 0, 3, 0];
 
 /// That for the best form at first, with 4,096 in place of 1: it gives 8,960, which is above 6,143.
-const TOO_HIGH: [u8; 11] = [1, 0, 1, 0, 3, 0, 0, 0x10, 0, 3, 0];
+const TOO_HIGH: &[u8] = &[1, 0, 1, 0, 3, 0, 0, 0x10, 0, 3, 0];
 
 /// A tree of one node, Whole: there is one set of as many items as the test has.
-const WHOLE: [u8; 2] = [0, 6];
+const WHOLE: &[u8] = &[0, 6];
 
 /// The tree of a record.
 #[derive(Clone, Copy)]
@@ -50,11 +37,11 @@ pub(crate) enum Shape {
 fn bytes_of(shape: Shape) -> &'static [u8] {
     match shape {
         Shape::NoTree => &[],
-        Shape::Open => &OPEN,
-        Shape::FirstBest => &FIRST_BEST,
-        Shape::SecondBest => &SECOND_BEST,
-        Shape::TooHigh => &TOO_HIGH,
-        Shape::Whole => &WHOLE,
+        Shape::Open => OPEN,
+        Shape::FirstBest => FIRST_BEST,
+        Shape::SecondBest => SECOND_BEST,
+        Shape::TooHigh => TOO_HIGH,
+        Shape::Whole => WHOLE,
     }
 }
 
@@ -73,7 +60,7 @@ pub(crate) enum Line {
 }
 
 /// The items of these bits.
-fn items_of(bits: u8) -> ItemSet {
+pub(crate) fn items_of(bits: u8) -> ItemSet {
     let mut items = ItemSet::empty();
     for item in 0..8u16 {
         if bits >> item & 1 == 1 {
@@ -84,7 +71,7 @@ fn items_of(bits: u8) -> ItemSet {
 }
 
 /// Its entry.
-fn entry_of(line: &Line) -> Entry {
+pub(crate) fn entry_of(line: &Line) -> Entry {
     match *line {
         Line::Started(session, booking, eligible) => Entry::Started {
             session,
@@ -113,32 +100,30 @@ fn entry_of(line: &Line) -> Entry {
     }
 }
 
-/// Its tree.
-fn shape_of(line: &Line) -> Shape {
-    match *line {
+/// The bytes of its tree; none where there is no tree.
+pub(crate) fn tree_bytes(line: &Line) -> &'static [u8] {
+    let shape = match *line {
         Line::SetAside(_) => Shape::Open,
         Line::Served(_, _, _, shape) => shape,
         Line::Answered(_, _, shape) => shape,
         _ => Shape::NoTree,
-    }
+    };
+    bytes_of(shape)
 }
 
 /// The tree of these bytes, none where there are no bytes.
-fn tree_of(alloc: Global, bytes: &[u8]) -> Result<Option<Tree>, Fail> {
+fn tree_of<R: Abort>(rt: &R, alloc: Global, bytes: &[u8]) -> Option<Tree> {
     if bytes.is_empty() {
-        return Ok(None);
+        return None;
     }
-    match decode(alloc, bytes) {
-        Ok((tree, _)) => Ok(Some(tree)),
-        Err(_) => Err(Fail::from("a tree")),
-    }
+    let (tree, _) = decode(alloc, bytes).expect(rt, "a tree");
+    Some(tree)
 }
 
 /// The record of a line.
-pub(crate) fn record(alloc: Global, line: &Line) -> Result<Record, Fail> {
-    let tree = tree_of(alloc, bytes_of(shape_of(line)))?;
-    Ok(Record {
+pub(crate) fn record<R: Abort>(rt: &R, alloc: Global, line: &Line) -> Record {
+    Record {
         entry: entry_of(line),
-        tree,
-    })
+        tree: tree_of(rt, alloc, tree_bytes(line)),
+    }
 }
