@@ -137,7 +137,7 @@ module _ {D : Type 0} (request : Request) (old new : Running D) where
     full_so size (done does durable) = absurd (tested b plan (history old.marks) request (why.JournalFull size) (refused_so b plan (history old.marks) request (history new.marks) (why.JournalFull size) does))
     full_so size (halted h) =
         let t = stopped_by (why.JournalFull size) h in
-        (record { G = history new.marks; cut_off = h.cut_off; last = t.last; next = t.next; may = t.may; reached = reach new.marks; size_is = t.size_is; above = t.above }, refl)
+        (record { G = history new.marks; cut_off = h.cut_off; last = t.last; next = t.next; spells = t.spells; may = t.may; reached = reach new.marks; size_is = t.size_is; above = t.above }, refl)
 
     at_same : (x y : DrillFault) → Some x ≡ Some y → IsCutShort b plan (history old.marks) request x → IsCutShort b plan (history old.marks) request y
     at_same x y e short = let same : x ≡ y = cc in subst (λ (f : DrillFault). IsCutShort b plan (history old.marks) request f) same short

@@ -12,6 +12,7 @@ use Rattle.history_model.specs.Halting.{IsCutOff, IsNextOf}
 use Rattle.history_model.specs.Judging.{Record, MayFollow}
 use Rattle.history_model.specs.Requests.{Does}
 use Rattle.history_model.specs.Summaries.{summary}
+use Rattle.exam_records.specs.Shape.{IsRecord}
 use Rattle.exam_records.specs.Spelling.{payload_of}
 use Rattle.exam_drill.specs.declared.fault.DrillFault.{DrillFault}
 use Rattle.exam_drill.specs.declared.fault.DrillFault.TheVariants.{JournalFull, Memory}
@@ -41,6 +42,7 @@ pub record IsTooLong (b : Tables) (plan : Plan) (H : List Entry) (request : Requ
   pub cut_off : IsCutOff b plan H request G
   pub last : Record
   pub next : IsNextOf b plan H request G last.entry
+  pub spells : IsRecord last
   pub may : MayFollow b plan G last.entry last.tree
   pub reached : ℕ
   pub size_is : size ≡ reached + 5 + length (payload_of last)

@@ -41,6 +41,7 @@ module _ {D : Type 0} (finds : List Entry → Finding → Type 0) (old mid new :
     record {
       last = record { entry = rec.entry; tree = rec.tree };
       is_entry = refl;
+      spells = why.3;
       may = subst (λ (p : Plan). MayFollow old.bank p (history mid.marks) rec.entry rec.tree) same.plan (subst (λ (b : Tables). MayFollow b mid.plan (history mid.marks) rec.entry rec.tree) same.bank may);
       size_is = why.1;
       above = subst (λ (p : Plan). p.journal < size) same.plan why.2;

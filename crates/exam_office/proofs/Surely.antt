@@ -38,7 +38,7 @@ no_longer H e same = let n = ap length same in let k = length-append H (e ∷ []
 pub stopped_weaker : {D : Type 0} (b : Tables) (plan : Plan) (H : List Entry) (N Q : Entry → Type 0) (leads : (e : Entry) → N e → Q e) (old mid new : Running D) → faults_of old.journal ≤ faults_of mid.journal → (old.doubt ≡ None → mid.doubt ≡ None) → (r : Refusal) → IsStoppedBy b plan H N mid new r → IsStoppedBy b plan H Q old new r
 stopped_weaker b plan H N Q leads old mid new grows stays Memory why = λ e. why (stays e)
 stopped_weaker b plan H N Q leads old mid new grows stays Disk why = omega (arith, grows, why)
-stopped_weaker b plan H N Q leads old mid new grows stays (JournalFull size) why = record { last = why.last; next = leads why.last.entry why.next; may = why.may; size_is = why.size_is; above = why.above; sure = why.sure }
+stopped_weaker b plan H N Q leads old mid new grows stays (JournalFull size) why = record { last = why.last; next = leads why.last.entry why.next; spells = why.spells; may = why.may; size_is = why.size_is; above = why.above; sure = why.sure }
 stopped_weaker b plan H N Q leads old mid new grows stays (NoSession count) why = absurd why
 stopped_weaker b plan H N Q leads old mid new grows stays (WrongStep k) why = absurd why
 stopped_weaker b plan H N Q leads old mid new grows stays (Other k) why = absurd why
@@ -82,6 +82,7 @@ module _ {D : Type 0} (finds : List Entry → Finding → Type 0) (old new : Run
         (record {
           last = t.last;
           next = subst (λ (x : Entry). finds (history old.marks) (add x)) (sym t.is_entry) (there (add e) says);
+          spells = t.spells;
           may = subst (λ (N : List Mark). MayFollow old.bank old.plan (history N) t.last.entry t.last.tree) is t.may;
           size_is = t.size_is ∙ ap (λ (N : List Mark). reach N + 5 + length (payload_of t.last)) (sym why.0.marks_are);
           above = t.above;

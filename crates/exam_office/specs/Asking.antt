@@ -23,6 +23,7 @@ use Rattle.history_model.specs.Halting.{IsCutOff, IsNextOf}
 use Rattle.history_model.specs.Judging.{Record, MayFollow}
 use Rattle.history_model.specs.Requests.{Does}
 use Rattle.history_model.specs.SessionProblems.{IsProblemOf}
+use Rattle.exam_records.specs.Shape.{IsRecord}
 use Rattle.exam_records.specs.Spelling.{payload_of}
 use Rattle.answer_journal.specs.Journal.{tells_of, accounts_of, faults_of, identity_of}
 use Rattle.exam_office.specs.Files.{Stands}
@@ -37,6 +38,7 @@ pub record IsTooLongWith {D : Type 0} (b : Tables) (plan : Plan) (H : List Entry
     (size : ℕ) : Type 0 where
   pub last : Record
   pub next : comes_next last.entry
+  pub spells : IsRecord last
   pub may : MayFollow b plan H last.entry last.tree
   pub size_is : size ≡ reach new.marks + 5 + length (payload_of last)
   pub above : plan.journal < size

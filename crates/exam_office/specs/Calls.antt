@@ -7,6 +7,7 @@ use Rattle.history_model.specs.declared.entry.Entry.TheVariants.{Started, Answer
 use Rattle.history_model.specs.Entries.{holder}
 use Rattle.history_model.specs.Judging.{Record, MayFollow}
 use Rattle.history_model.specs.Legality.{Legal}
+use Rattle.exam_records.specs.Shape.{IsRecord}
 use Rattle.exam_records.specs.Spelling.{payload_of}
 use Rattle.exam_office.specs.declared.mark.Mark.{Mark}
 use Rattle.exam_office.specs.declared.mark.Mark.TheVariants.{Own}
@@ -47,6 +48,7 @@ pub record IsAt {D : Type 0} (new : Running D) (marks : List Mark) : Type 0 wher
 pub record IsTooLong (b : Tables) (plan : Plan) (marks : List Mark) (entry : Entry) (size : ℕ) : Type 0 where
   pub last : Record
   pub is_entry : last.entry ≡ entry
+  pub spells : IsRecord last
   pub may : MayFollow b plan (history marks) last.entry last.tree
   pub size_is : size ≡ reach marks + 5 + length (payload_of last)
   pub above : plan.journal < size

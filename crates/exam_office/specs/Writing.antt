@@ -5,6 +5,7 @@ use Rattle.bank_tables.specs.Tables.{Tables}
 use Rattle.exam_model.specs.Plan.{Plan}
 use Rattle.exam_edge.specs.Faults.{Rose}
 use Rattle.history_model.specs.declared.entry.Entry.{Entry}
+use Rattle.exam_records.specs.Shape.{IsRecord}
 use Rattle.exam_records.specs.Spelling.{payload_of}
 use Rattle.answer_journal.specs.Journal.{faults_of}
 use Rattle.exam_office.specs.declared.mark.Mark.{Mark}
@@ -61,9 +62,11 @@ IsUnmended old new Memory = (new ≡ old) × (entry : Entry) × (old.doubt ≡ S
 IsUnmended old new Disk = (entry : Entry) × (old.doubt ≡ Some entry) × IsFaulted old new old.marks entry
 IsUnmended old new refusal = ⊥
 
--- why a record wasn't written: out of memory, or no room in the journal, before anything was done, or a fault of the disk
+-- why a record was not written: out of memory; no room in the journal for a record that can be spelled; or a fault of the disk.
+-- Before the first two nothing is done
 abbrev pub IsUnwritten : {D : Type 0} → Running D → Running D → Record → Refusal → Type 0
 IsUnwritten old new rec Memory = new ≡ old
 IsUnwritten old new rec (JournalFull size) = (new ≡ old) × (size ≡ with_record old.marks rec) × (old.plan.journal < size)
+    × IsRecord rec
 IsUnwritten old new rec Disk = IsFaulted old new old.marks rec.entry
 IsUnwritten old new rec refusal = ⊥

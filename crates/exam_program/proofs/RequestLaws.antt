@@ -158,7 +158,7 @@ module _ {D : Type 0} (request : Request) (old new : Running D) where
     full_so size (done does durable) = absurd (tested b plan (history old.marks) request (why.JournalFull size) (refused_so b plan (history old.marks) request (history new.marks) (why.JournalFull size) does))
     full_so size (halted h) =
         let t = stopped_by (why.JournalFull size) h in
-        (record { cut_off = h.cut_off; last = t.last; next = t.next; may = t.may; size_is = t.size_is; above = t.above }, t.sure)
+        (record { cut_off = h.cut_off; last = t.last; next = t.next; spells = t.spells; may = t.may; size_is = t.size_is; above = t.above }, t.sure)
 
     rose_so : Becomes b plan (history old.marks) request old new (Refused why.Disk) → IsStoppedBy b plan (history new.marks) (IsNextOf b plan (history old.marks) request (history new.marks)) old new why.Disk
     rose_so (done does durable) = absurd (tested b plan (history old.marks) request why.Disk (refused_so b plan (history old.marks) request (history new.marks) why.Disk does))

@@ -19,6 +19,7 @@ use Rattle.exam_office.specs.declared.fault.OpenFault.TheVariants as open_fault
 use Rattle.exam_office.specs.Asking.{AreGood, IsBegunBy, StandsForOne}
 use Rattle.exam_office.specs.Files.{Stands}
 use Rattle.exam_office.specs.Opening.{IsOpenAnswer}
+use Rattle.exam_records.specs.Shape.{IsRecord}
 use Rattle.exam_records.specs.Spelling.{payload_of}
 use Rattle.exam_program.specs.declared.halt.Halt.{Halt}
 use Rattle.exam_program.specs.declared.halt.Halt.TheVariants as halt
@@ -107,6 +108,7 @@ pub record IsFullAt (b : Tables) (plan : Plan) (G : List Entry) (request : Reque
   pub cut_off : IsCutOff b plan G request K
   pub last : Record
   pub next : IsNextOf b plan G request K last.entry
+  pub spells : IsRecord last
   pub may : MayFollow b plan K last.entry last.tree
   pub size_is : size ≡ now + 5 + length (payload_of last)
   pub above : plan.journal < size
