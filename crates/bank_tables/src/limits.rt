@@ -38,6 +38,3 @@ pub const SESSIONS: u32 = 65_536;
 
 /// The greatest length of a journal in bytes.
 pub const JOURNAL: u64 = 536_870_912;
-
-/// The greatest length of a journal entry's payload in bytes.
-pub const PAYLOAD: u32 = 131_072;

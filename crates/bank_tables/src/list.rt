@@ -1,6 +1,6 @@
 //! A list of values.
 
-ghost use Rattle.std.specs.Prelude.{◌≡◌, ◌<◌, [], ◌∷◌, ◌++◌, length, slice_set, is_ok, if◌then◌else◌};
+ghost use Rattle.std.specs.Prelude.{◌≡◌, [], ◌∷◌, ◌++◌, is_ok, if◌then◌else◌};
 
 use std::alloc::AllocError;
 use std::marker::Model;
@@ -31,14 +31,6 @@ impl<T> List<T> {
     {
         &self.items
     }
-
-    /// The vector of its elements.
-    pub fn into_vec(self) -> Vec<T>
-        ensures { result.items ≡ self }
-    {
-        let List { items } = self;
-        items
-    }
 }
 
 impl<T: Drop> List<T> {
@@ -48,13 +40,5 @@ impl<T: Drop> List<T> {
     {
         self.items.push(value)?;
         Ok(())
-    }
-
-    /// Puts a value at a place in place of the one there.
-    pub fn set(&mut self, at: usize, value: T)
-        requires { at < length self.old }
-        ensures { self.new ≡ slice_set self.old at value }
-    {
-        self.items[at] = value;
     }
 }
