@@ -13,6 +13,7 @@ use crate::probing::{Hand, best_probed};
 use crate::steps::{Stepped, take_form};
 use crate::table::Table;
 use crate::tally::is_ruled_out;
+use bank_tables::limits::NODES;
 use constraint_model::Problem;
 use exam_model::Node;
 use lagrange_bound::{Cut, impossible};
@@ -20,9 +21,6 @@ use multiplier_steps::{Aim, Ascent, climb};
 use proof_tree::{Memory, Vector};
 use search_paths::{Sides, Waiting, next_path, push_below, wait};
 use std::alloc::Global;
-
-/// Nodes of a tree, at most.
-const MOST_NODES: u32 = 4095;
 
 /// Steps on each side of a branch that is tried.
 const PROBE_STEPS: u32 = 8;
@@ -342,7 +340,7 @@ impl Pass {
             hand: 0,
         };
         wait(problem, &mut waiting, first)?;
-        for _ in 0..MOST_NODES {
+        for _ in 0..NODES {
             let Some(place) = next_path(problem, &mut waiting) else {
                 break;
             };

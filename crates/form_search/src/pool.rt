@@ -4,16 +4,11 @@ use crate::incumbent::Incumbent;
 use crate::priced::Priced;
 use crate::table::Table;
 use bank_tables::List;
+use bank_tables::limits::{PAIRS, VECTOR_PAIRS, VECTORS};
 use exam_model::Node;
 use lagrange_bound::Cut;
 use proof_tree::{Memory, Vector};
 use std::alloc::Global;
-
-/// Vectors of a tree, at most.
-const MOST_VECTORS: usize = 255;
-
-/// Pairs of a tree's vectors in all, at most. A vector has at most 384 of them.
-const MOST_PAIRS: usize = 12_288;
 
 /// The vectors of a tree.
 #[derive(Drop)]
@@ -76,7 +71,8 @@ impl Pool {
     /// Whether there is room for a vector with any pairs, the place of the empty one aside.
     pub fn has_room(&self) -> bool {
         let kept = if self.has_plain { 0 } else { 1 };
-        self.vectors.len().saturating_add(kept) < MOST_VECTORS && self.pairs <= MOST_PAIRS - 384
+        self.vectors.len().saturating_add(kept) < VECTORS as usize
+            && self.pairs <= (PAIRS - VECTOR_PAIRS) as usize
     }
 
     /// Adds a vector, and gives its leaf.

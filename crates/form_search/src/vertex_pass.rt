@@ -13,6 +13,7 @@ use crate::table::Table;
 use crate::tally::is_ruled_out;
 use crate::vertex_branching::best_branch;
 use crate::vertices::{Solver, sets_of, target_of};
+use bank_tables::limits::NODES;
 use constraint_model::Problem;
 use exam_model::Node;
 use lagrange_bound::{Cut, impossible};
@@ -20,9 +21,6 @@ use multiplier_exchanges::{Reached, Vertex};
 use proof_tree::Memory;
 use search_paths::{Sides, Waiting, next_path, push_below, wait};
 use std::alloc::Global;
-
-/// Nodes of a tree, at most.
-const MOST_NODES: u32 = 4095;
 
 /// Exchanges at the root, at most.
 const ROOT_EXCHANGES: u32 = 2000;
@@ -265,7 +263,7 @@ impl VertexPass {
             hand: 0,
         };
         wait(problem, &mut waiting, first)?;
-        for _ in 0..MOST_NODES {
+        for _ in 0..NODES {
             let Some(place) = next_path(problem, &mut waiting) else {
                 break;
             };

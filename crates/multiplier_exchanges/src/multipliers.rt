@@ -5,11 +5,12 @@ use crate::relaxation::{NO_SIDE, Relaxation};
 use crate::vertex::{Hold, Stand, Vertex};
 use crate::workspace::Workspace;
 use bank_tables::List;
+use bank_tables::limits::MULTIPLIER;
 use proof_tree::{Memory, Vector};
 use std::alloc::Global;
 
 /// The greatest multiplier.
-const MOST: i64 = 16_777_216;
+const MOST: i64 = MULTIPLIER as i64;
 
 /// Adds a side with its multiplier, in units of 1/256, if it has one and that is positive.
 fn push_side(pairs: &mut Vec<(u16, u32)>, side: u16, price: i64) -> Result<(), Memory> {

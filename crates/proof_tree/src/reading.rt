@@ -13,6 +13,7 @@ use crate::fault::TreeFault;
 use crate::tree::{Tree, children};
 use crate::vector::Vector;
 use bank_tables::List;
+use bank_tables::limits::{MULTIPLIER, PAIRS, VECTOR_PAIRS};
 use exam_model::Node;
 use std::alloc::Global;
 
@@ -65,7 +66,7 @@ fn pair_of(bytes: &[u8], at: usize, low: u16) -> Result<(u16, u32), TreeFault>
         return Err(TreeFault::BadVector(at as u64));
     }
     let multiplier = u32_of(bytes, at + 2)?;
-    if multiplier == 0 || 16_777_216 < multiplier {
+    if multiplier == 0 || MULTIPLIER < multiplier {
         return Err(TreeFault::BadVector((at + 2) as u64));
     }
     Ok((side, multiplier))
@@ -194,15 +195,12 @@ fn vector_of(
     ensures few { IfOk result (λ x. length x.0 ≤ room) }
 {
     let count = u16_of(bytes, at)?;
-    if 384 < count || room < count {
+    if VECTOR_PAIRS < count || room < count {
         return Err(TreeFault::BadVector(at as u64));
     }
     let (pairs, next) = pairs_of(alloc, count, bytes, at + 2)?;
     Ok((Vector::new(List::of(pairs)), next))
 }
-
-/// The greatest number of pairs in all.
-const PAIRS: u16 = 12_288;
 
 /// So many vectors, and the place after them.
 fn vectors_of(

@@ -6,6 +6,7 @@ ghost use Rattle.proof_tree.specs.Shape.{IsTree, IsNode, children};
 
 use crate::vector::Vector;
 use bank_tables::List;
+use bank_tables::limits::{PAIRS, VECTOR_PAIRS, VECTORS};
 use exam_model::Node;
 use std::marker::Model;
 
@@ -52,7 +53,7 @@ fn are_short(vectors: &[Vector]) -> bool
     ensures { IsTrue result ↔ ((v : ℕ) → v < length vectors.now → length (slice_index_or vectors.now v []) ≤ 384) }
 {
     for vector in vectors {
-        if vector.pairs().len() > 384 {
+        if vector.pairs().len() > VECTOR_PAIRS as usize {
             return false;
         }
     }
@@ -62,7 +63,7 @@ fn are_short(vectors: &[Vector]) -> bool
 fn have_few_pairs(vectors: &[Vector]) -> bool
     ensures { IsTrue result ↔ (sum_by length vectors.now ≤ 12288) }
 {
-    let mut room: usize = 12_288;
+    let mut room = PAIRS as usize;
     for vector in vectors {
         let pairs = vector.pairs().len();
         if room < pairs {
@@ -76,7 +77,10 @@ fn have_few_pairs(vectors: &[Vector]) -> bool
 fn are_vectors(vectors: &[Vector]) -> bool
     ensures { IsTrue result ↔ AreVectors vectors.now }
 {
-    vectors.len() <= 255 && have_low_sides(vectors) && are_short(vectors) && have_few_pairs(vectors)
+    vectors.len() <= VECTORS as usize
+        && have_low_sides(vectors)
+        && are_short(vectors)
+        && have_few_pairs(vectors)
 }
 
 /// How many subtrees follow a node.

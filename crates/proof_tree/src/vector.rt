@@ -4,6 +4,7 @@ ghost use Rattle.std.specs.Prelude.{◌≡◌, ◌↔◌, IsTrue, IsSome, IfOk, 
 ghost use Rattle.exam_model.specs.ProofTrees.{IsVector};
 
 use bank_tables::List;
+use bank_tables::limits::MULTIPLIER;
 use std::alloc::{AllocError, Global};
 use std::marker::Model;
 
@@ -25,15 +26,12 @@ impl Model for Vector {
     ghost invariant = { λ v. IsVector 0 v.pairs };
 }
 
-/// The greatest multiplier.
-const MOST: u32 = 16_777_216;
-
 fn is_vector(pairs: &[(u16, u32)]) -> bool
     ensures { IsTrue result ↔ IsVector 0 pairs.now }
 {
     let mut from: u32 = 0;
     for pair in pairs {
-        if (pair.0 as u32) < from || pair.1 == 0 || pair.1 > MOST {
+        if (pair.0 as u32) < from || pair.1 == 0 || pair.1 > MULTIPLIER {
             return false;
         }
         from = pair.0 as u32 + 1;

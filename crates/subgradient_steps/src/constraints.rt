@@ -1,5 +1,7 @@
 //! The rows of a problem as flat lines over its free items.
 
+use bank_tables::limits::MULTIPLIER;
+
 /// A multiplier on its way.
 #[derive(Clone, Copy)]
 pub(crate) struct Multiplier {
@@ -37,7 +39,7 @@ pub(crate) struct Line {
 }
 
 /// The greatest multiplier.
-pub(crate) const MOST: i64 = 16_777_216;
+pub(crate) const MOST: i64 = MULTIPLIER as i64;
 
 /// The whole number next to a scaled multiplier.
 #[inline]
