@@ -314,7 +314,7 @@ fn run_over<'a, R: Abort>(
 }
 
 /// The worked plan with these numbers, and a base form.
-fn draft<R: Abort>(rt: &R, alloc: Global, numbers: &Numbers) -> Draft {
+pub(crate) fn draft<R: Abort>(rt: &R, alloc: Global, numbers: &Numbers) -> Draft {
     let mut draft = draft_a(alloc).expect(rt, "a draft");
     draft.rate = numbers.rate;
     draft.sessions = numbers.sessions;

@@ -1,5 +1,6 @@
-//! Whole sessions, and the exposure counts after them.
+//! Whole sessions, the exposure counts after them, and what an audit finds in their journals.
 
+use crate::audits::{Audited, is_audited};
 use crate::equal::is_equal;
 use crate::expected::{counts, leaves, sums_up};
 use crate::outcome::{
@@ -252,7 +253,18 @@ fn opens_the_same<R: Abort>(rt: &R, alloc: Global, row: &Whole, was: &Outcome) {
     leaves(rt, &now.bytes, &was.bytes);
 }
 
-/// The calls end with what their row has, and the file opens as the same history.
+/// An audit of the file finds the same summary and counts.
+fn audits_the_same<R: Abort>(rt: &R, alloc: Global, row: &Whole, was: &Outcome) {
+    let expected = Audited {
+        numbers: row.numbers,
+        bytes: &was.bytes,
+        counts: row.counts,
+        summary: was.found.summary,
+    };
+    is_audited(rt, alloc, &expected);
+}
+
+/// The calls end with what their row has. The file opens as the same history, and an audit finds it.
 fn is_whole<R: Abort>(rt: &R, alloc: Global, row: &Whole) {
     let trial = Trial {
         numbers: row.numbers,
@@ -264,6 +276,7 @@ fn is_whole<R: Abort>(rt: &R, alloc: Global, row: &Whole) {
     is_equal(rt, &without_nodes(&whole.found.summary), &row.summary);
     counts(rt, &whole, row.calls, 0);
     opens_the_same(rt, alloc, row, &whole);
+    audits_the_same(rt, alloc, row, &whole);
 }
 
 #[test]

@@ -1,0 +1,75 @@
+//! An audit of a journal finds what an office found in it.
+
+ghost use Rattle.exam_model.specs.Validity.{IsPlanFor};
+
+use crate::equal::is_equal;
+use crate::expected::leaves;
+use crate::outcome::{Call, Numbers, Reply, Step, disk_of, draft};
+use bank_tables::Bank;
+use constraint_model::Spec;
+use exam_model::Draft;
+use exam_office::Summary;
+use history_model::{Counts, Exposure};
+use journal_audit::audit;
+use std::alloc::Global;
+use std::process::Abort;
+use trial_cases::bank_a;
+
+/// What a journal has, and what an audit finds in it.
+#[derive(Clone, Copy)]
+pub(crate) struct Audited<'a> {
+    pub numbers: Numbers,
+    pub bytes: &'a [u8],
+    /// Calls with their replies. Those that look at exposure counts are compared.
+    pub counts: &'a [Step],
+    pub summary: Summary,
+}
+
+/// The counts of an item; none if there is no such item.
+fn counts_of(exposure: &Exposure, item: usize) -> Option<Counts> {
+    exposure.rows.as_slice().get(item).copied()
+}
+
+/// If the call looks at the exposure counts of an item, they are those of the reply.
+fn has_counts<R: Abort>(rt: &R, exposure: &Exposure, (call, reply): &Step) {
+    if let Call::Exposure(item) = *call {
+        assert!(rt; Reply::Exposed(counts_of(exposure, item)) == *reply);
+    }
+}
+
+fn has_all_counts<R: Abort>(rt: &R, exposure: &Exposure, counts: &[Step]) {
+    for step in counts {
+        has_counts(rt, exposure, step);
+    }
+}
+
+/// The audit finds this in the journal, and leaves the file as it was.
+fn is_found_over<R: Abort>(rt: &R, alloc: Global, bank: &Bank, spec: &Spec, expected: &Audited<'_>)
+    requires { IsPlanFor bank.now spec.now }
+{
+    let mut disk = disk_of(rt, alloc, &[expected.bytes], &[]);
+    let (summary, exposure) = audit(alloc, bank, spec, &mut disk).expect(rt, "a history");
+    is_equal(rt, &summary, &expected.summary);
+    is_equal(rt, &exposure.finished, &expected.summary.finished);
+    has_all_counts(rt, &exposure, expected.counts);
+    leaves(rt, disk.bytes(), expected.bytes);
+}
+
+fn is_found_by<R: Abort>(rt: &R, alloc: Global, bank: &Bank, draft: Draft, expected: &Audited<'_>) {
+    match Spec::of(alloc, bank, draft) {
+        Ok(spec) => is_found_over(rt, alloc, bank, &spec, expected),
+        Err(_) => panic!(rt; "no plan"),
+    }
+}
+
+/// An audit of the journal finds this.
+pub(crate) fn is_audited<R: Abort>(rt: &R, alloc: Global, expected: &Audited<'_>) {
+    let bank = bank_a(alloc).expect(rt, "a bank");
+    is_found_by(
+        rt,
+        alloc,
+        &bank,
+        draft(rt, alloc, &expected.numbers),
+        expected,
+    );
+}
