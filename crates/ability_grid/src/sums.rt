@@ -61,10 +61,13 @@ impl Sums {
         requires few { self.old.additions < 512 }
         ensures grid { self.new.grid ≡ self.old.grid }
         ensures additions { self.new.additions ≡ self.old.additions + 1 }
-        ensures each { (g : ℕ) → g < self.old.grid → sum_at self.new g ≡ sum_at self.old g +ℤ loglik bank.now item response g }
+        ensures each { (g : ℕ) → g < self.old.grid
+            → sum_at self.new g ≡ sum_at self.old g +ℤ loglik bank.now item response g }
 
         // Sums of a prior and some answers become those of the prior and one answer more.
-        ensures sums { (prior : List ℤ) (answers : AnswerList) → IsSumsOf bank.now prior answers self.old → IsSumsOf bank.now prior (answers ++ (item, response) ∷ []) self.new }
+        ensures sums { (prior : List ℤ) (answers : AnswerList)
+            → IsSumsOf bank.now prior answers self.old
+            → IsSumsOf bank.now prior (answers ++ (item, response) ∷ []) self.new }
     {
         prove!(item < bank.items());
         add_answer(&mut self.values, self.grid, bank, item, response);
@@ -74,7 +77,8 @@ impl Sums {
     /// The lowest grid point at which the sum is greatest: the posterior mode of the prior and the answers added.
     pub fn mode(&self) -> u8
         ensures lowest { IsLowestGreatest self.now result }
-        ensures mode { (b : Tables) (prior : List ℤ) (answers : AnswerList) → IsSumsOf b prior answers self.now → IsPosteriorMode b prior answers result }
+        ensures mode { (b : Tables) (prior : List ℤ) (answers : AnswerList)
+            → IsSumsOf b prior answers self.now → IsPosteriorMode b prior answers result }
     {
         let mut best = 0;
         for g in 0..self.grid {
@@ -94,7 +98,9 @@ pub(crate) fn add_answer(values: &mut [i64], grid: u8, bank: &Bank, item: u16, r
     requires response { response < categories bank.now item }
     requires low { (g : ℕ) → g < grid → negsuc 9000000000000000 ≤ℤ get_or values.old g (pos 0) }
     requires high { (g : ℕ) → g < grid → get_or values.old g (pos 0) ≤ℤ pos 2147483647 }
-    ensures { (g : ℕ) → g < grid → get_or values.new g (pos 0) ≡ get_or values.old g (pos 0) +ℤ loglik bank.now item response g }
+    ensures { (g : ℕ) → g < grid
+        → get_or values.new g (pos 0)
+        ≡ get_or values.old g (pos 0) +ℤ loglik bank.now item response g }
 {
     for g in 0..grid {
         values[g as usize] += bank.loglik(item, response, g) as i64;

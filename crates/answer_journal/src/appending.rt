@@ -54,13 +54,20 @@ fn open_gate<D: Disk>(disk: &mut D, size: u64) -> Result<(), Failed>
 /// the record is on the disk.
 pub fn write_record<D: Disk>(disk: &mut D, size: u64, frame: &Frame) -> Result<(), Failed>
     requires some { 9 ≤ size }
-    requires rest { IsTrue (D.tells disk.old) → IsAtRest shadowj1 (D.content disk.old) (D.accounts disk.old) size }
-    ensures rest { OnOk result (IsTrue (D.tells disk.old) → IsAtRest shadowj1 (D.content disk.new) (D.accounts disk.new) (size + 5 + length frame.now)) }
-    ensures added { OnOk result (IsTrue (D.tells disk.old) → payload_list shadowj1 (D.content disk.new) ≡ payload_list shadowj1 (D.content disk.old) ++ frame.now ∷ []) }
+    requires rest { IsTrue (D.tells disk.old)
+        → IsAtRest shadowj1 (D.content disk.old) (D.accounts disk.old) size }
+    ensures rest { OnOk result (IsTrue (D.tells disk.old)
+        → IsAtRest shadowj1 (D.content disk.new) (D.accounts disk.new)
+        (size + 5 + length frame.now)) }
+    ensures added { OnOk result (IsTrue (D.tells disk.old)
+        → payload_list shadowj1 (D.content disk.new) ≡ payload_list shadowj1 (D.content disk.old)
+        ++ frame.now ∷ []) }
     ensures content { OnOk result (IsTrue (D.tells disk.old)
-        → D.content disk.new ≡ front shadowj1 (payload_list shadowj1 (D.content disk.old) ++ frame.now ∷ []) ++ 0 ∷ []) }
+        → D.content disk.new ≡ front shadowj1 (payload_list shadowj1 (D.content disk.old)
+        ++ frame.now ∷ []) ++ 0 ∷ []) }
     ensures moments { IsTrue (D.tells disk.old)
-        → AtEachMoment (D.accounts disk.old) (D.accounts disk.new) (IsEither shadowj1 (payload_list shadowj1 (D.content disk.old)) frame.now) }
+        → AtEachMoment (D.accounts disk.old) (D.accounts disk.new)
+        (IsEither shadowj1 (payload_list shadowj1 (D.content disk.old)) frame.now) }
     ensures failed { FailsOnly D.faults disk.old disk.new result }
     ensures frame { IsLent D.tells D.identity D.faults disk.old disk.new }
 {
@@ -71,11 +78,14 @@ pub fn write_record<D: Disk>(disk: &mut D, size: u64, frame: &Frame) -> Result<(
 
 // Syncs, and gives whether the byte at a place is an open gate.
 fn sync_and_read_gate<D: Disk>(disk: &mut D, at: u64) -> Result<bool, Failed>
-    ensures gate { IfOk result (λ is_open. IsTrue (D.tells disk.old) → at < length (D.content disk.old)
+    ensures gate { IfOk result (λ is_open. IsTrue (D.tells disk.old)
+        → at < length (D.content disk.old)
         → is_open ≡ (slice_index (D.content disk.old) at == 1)) }
     ensures content { IsTrue (D.tells disk.old) → D.content disk.new ≡ D.content disk.old }
-    ensures settled { OnOk result (IsTrue (D.tells disk.old) → IsSettled (D.content disk.new) (D.accounts disk.new)) }
-    ensures crash { IsTrue (D.tells disk.old) → Grows (latest (D.accounts disk.old)) (D.accounts disk.old) (D.accounts disk.new) }
+    ensures settled { OnOk result (IsTrue (D.tells disk.old)
+        → IsSettled (D.content disk.new) (D.accounts disk.new)) }
+    ensures crash { IsTrue (D.tells disk.old)
+        → Grows (latest (D.accounts disk.old)) (D.accounts disk.old) (D.accounts disk.new) }
     ensures failed { FailsOnly D.faults disk.old disk.new result }
     ensures frame { IsLent D.tells D.identity D.faults disk.old disk.new }
 {
@@ -88,12 +98,16 @@ fn sync_and_read_gate<D: Disk>(disk: &mut D, at: u64) -> Result<bool, Failed>
 /// Keeps the record in doubt after a file of this length if its gate reads open; else cuts it off.
 pub fn resolve_record<D: Disk>(disk: &mut D, size: u64) -> Result<Adopted, Failed>
     requires some { 9 ≤ size }
-    requires doubt { IsTrue (D.tells disk.old) → (ps : _) × (payload : _) × (with_it : _) × IsInDoubt shadowj1 ps payload (D.accounts disk.old) size with_it }
-    ensures rest { IfOk result (λ adopted. IsTrue (D.tells disk.old) → (ps : _) (payload : _) (with_it : _)
+    requires doubt { IsTrue (D.tells disk.old) → (ps : _) × (payload : _) × (with_it : _)
+        × IsInDoubt shadowj1 ps payload (D.accounts disk.old) size with_it }
+    ensures rest { IfOk result (λ adopted. IsTrue (D.tells disk.old)
+        → (ps : _) (payload : _) (with_it : _)
         → IsInDoubt shadowj1 ps payload (D.accounts disk.old) size with_it
-        → IsAtRest shadowj1 (D.content disk.new) (D.accounts disk.new) (size_after adopted size with_it)
+        → IsAtRest shadowj1 (D.content disk.new) (D.accounts disk.new)
+        (size_after adopted size with_it)
         × (payload_list shadowj1 (D.content disk.new) ≡ payloads_after adopted ps payload)) }
-    ensures gate { IfOk result (λ adopted. IsTrue (D.tells disk.old) → IsTrue (slice_index (D.content disk.old) (size - 1) == 1) ↔ (adopted ≡ Adopted.Kept)) }
+    ensures gate { IfOk result (λ adopted. IsTrue (D.tells disk.old)
+        → IsTrue (slice_index (D.content disk.old) (size - 1) == 1) ↔ (adopted ≡ Adopted.Kept)) }
     ensures moments { IsTrue (D.tells disk.old) → (ps : _) (payload : _) (with_it : _)
         → IsInDoubt shadowj1 ps payload (D.accounts disk.old) size with_it
         → AtEachMoment (D.accounts disk.old) (D.accounts disk.new) (IsEither shadowj1 ps payload) }

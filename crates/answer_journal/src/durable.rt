@@ -9,10 +9,13 @@ use exam_edge::{Disk, Failed};
 /// alone allows.
 pub fn write_durably<D: Disk>(disk: &mut D, at: u64, bytes: &[u8]) -> Result<(), Failed>
     requires { IsTrue (D.tells disk.old) → at ≤ length (D.content disk.old) }
-    ensures content { OnOk result (IsTrue (D.tells disk.old) → D.content disk.new ≡ overwritten (D.content disk.old) at bytes.now) }
-    ensures settled { OnOk result (IsTrue (D.tells disk.old) → IsSettled (D.content disk.new) (D.accounts disk.new)) }
+    ensures content { OnOk result (IsTrue (D.tells disk.old)
+        → D.content disk.new ≡ overwritten (D.content disk.old) at bytes.now) }
+    ensures settled { OnOk result (IsTrue (D.tells disk.old)
+        → IsSettled (D.content disk.new) (D.accounts disk.new)) }
     ensures crash { IsTrue (D.tells disk.old)
-        → Grows (written at (length bytes.now) (latest (D.accounts disk.old))) (D.accounts disk.old) (D.accounts disk.new) }
+        → Grows (written at (length bytes.now) (latest (D.accounts disk.old))) (D.accounts disk.old)
+        (D.accounts disk.new) }
     ensures failed { FailsOnly D.faults disk.old disk.new result }
     ensures frame { IsLent D.tells D.identity D.faults disk.old disk.new }
 {
@@ -25,10 +28,13 @@ pub fn write_durably<D: Disk>(disk: &mut D, at: u64, bytes: &[u8]) -> Result<(),
 /// moment may a crash leave more than the cut alone allows.
 pub fn cut_durably<D: Disk>(disk: &mut D, end: u64) -> Result<(), Failed>
     requires { IsTrue (D.tells disk.old) → end ≤ length (D.content disk.old) }
-    ensures content { OnOk result (IsTrue (D.tells disk.old) → D.content disk.new ≡ take end (D.content disk.old)) }
-    ensures settled { OnOk result (IsTrue (D.tells disk.old) → IsSettled (D.content disk.new) (D.accounts disk.new)) }
+    ensures content { OnOk result (IsTrue (D.tells disk.old)
+        → D.content disk.new ≡ take end (D.content disk.old)) }
+    ensures settled { OnOk result (IsTrue (D.tells disk.old)
+        → IsSettled (D.content disk.new) (D.accounts disk.new)) }
     ensures crash { IsTrue (D.tells disk.old)
-        → Grows (cut_to end (latest (D.accounts disk.old))) (D.accounts disk.old) (D.accounts disk.new) }
+        → Grows (cut_to end (latest (D.accounts disk.old))) (D.accounts disk.old)
+        (D.accounts disk.new) }
     ensures failed { FailsOnly D.faults disk.old disk.new result }
     ensures frame { IsLent D.tells D.identity D.faults disk.old disk.new }
 {
@@ -41,10 +47,13 @@ pub fn cut_durably<D: Disk>(disk: &mut D, end: u64) -> Result<(), Failed>
 pub fn cut_tail<D: Disk>(disk: &mut D, end: u64, size: u64) -> Result<(), Failed>
     requires within { end ≤ size }
     requires size { IsTrue (D.tells disk.old) → size ≡ length (D.content disk.old) }
-    ensures content { OnOk result (IsTrue (D.tells disk.old) → D.content disk.new ≡ take end (D.content disk.old)) }
-    ensures settled { OnOk result (IsTrue (D.tells disk.old) → IsSettled (D.content disk.new) (D.accounts disk.new)) }
+    ensures content { OnOk result (IsTrue (D.tells disk.old)
+        → D.content disk.new ≡ take end (D.content disk.old)) }
+    ensures settled { OnOk result (IsTrue (D.tells disk.old)
+        → IsSettled (D.content disk.new) (D.accounts disk.new)) }
     ensures crash { IsTrue (D.tells disk.old)
-        → Grows (cut_to end (latest (D.accounts disk.old))) (D.accounts disk.old) (D.accounts disk.new) }
+        → Grows (cut_to end (latest (D.accounts disk.old))) (D.accounts disk.old)
+        (D.accounts disk.new) }
     ensures failed { FailsOnly D.faults disk.old disk.new result }
     ensures frame { IsLent D.tells D.identity D.faults disk.old disk.new }
 {

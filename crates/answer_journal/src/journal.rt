@@ -155,28 +155,43 @@ impl<D: Disk> Journal<D> {
         requires { limit ≤ 536870912 }
         ensures ready { IfOk result (λ opened. IsReady opened.0) }
         ensures limit { IfOk result (λ opened. limit_of opened.0 ≡ limit) }
-        ensures gives { IfOk result (λ opened. IsTrue (D.tells disk) → payloads shadowj1 (D.content disk) ≡ Some (map bytes_of opened.1.items)) }
-        ensures keeps { IfOk result (λ opened. IsTrue (D.tells disk) → payloads_of opened.0 ≡ map bytes_of opened.1.items) }
-        ensures places { IfOk result (λ opened. map at_of opened.1.items ≡ places_of 8 (map bytes_of opened.1.items)) }
-        ensures content { IfOk result (λ opened. IsTrue (D.tells disk) → content_of opened.0 ≡ opened_file shadowj1 (D.content disk) (length_of opened.0)) }
+        ensures gives { IfOk result (λ opened. IsTrue (D.tells disk)
+            → payloads shadowj1 (D.content disk) ≡ Some (map bytes_of opened.1.items)) }
+        ensures keeps { IfOk result (λ opened. IsTrue (D.tells disk)
+            → payloads_of opened.0 ≡ map bytes_of opened.1.items) }
+        ensures places { IfOk result (λ opened. map at_of opened.1.items
+            ≡ places_of 8 (map bytes_of opened.1.items)) }
+        ensures content { IfOk result (λ opened. IsTrue (D.tells disk)
+            → content_of opened.0 ≡ opened_file shadowj1 (D.content disk) (length_of opened.0)) }
 
         // The first thing that is wrong with the file, if anything is, unless memory or the disk failed.
-        ensures sound { IfOk result (λ opened. IsTrue (D.tells disk) → first_fault shadowj1 limit (D.content disk) ≡ None) }
-        ensures why { IfErr result (λ e. IsTrue (D.tells disk) → IsAnswerTo shadowj1 limit (D.content disk) e.1) }
-        ensures cause { IfErr result (λ e. e.1 ≡ OpenFault.Disk → Rose (D.faults disk) (D.faults e.0)) }
-        ensures untouched { IfErr result (λ e. e.1 ≢ OpenFault.Disk → IsTrue (D.tells disk) → D.content e.0 ≡ D.content disk) }
+        ensures sound { IfOk result (λ opened. IsTrue (D.tells disk)
+            → first_fault shadowj1 limit (D.content disk) ≡ None) }
+        ensures why { IfErr result (λ e. IsTrue (D.tells disk)
+            → IsAnswerTo shadowj1 limit (D.content disk) e.1) }
+        ensures cause { IfErr result (λ e. e.1 ≡ OpenFault.Disk
+            → Rose (D.faults disk) (D.faults e.0)) }
+        ensures untouched { IfErr result (λ e. e.1 ≢ OpenFault.Disk → IsTrue (D.tells disk)
+            → D.content e.0 ≡ D.content disk) }
 
         // At each moment of the call a crash leaves what it might have left before, or the same payloads.
-        ensures moments { IfOk result (λ opened. IsTrue (D.tells disk) → AtEachMoment (D.accounts disk) (accounts_of opened.0)
+        ensures moments { IfOk result (λ opened. IsTrue (D.tells disk)
+            → AtEachMoment (D.accounts disk) (accounts_of opened.0)
             (IsImageOrGives shadowj1 (latest (D.accounts disk)) (D.content disk))) }
-        ensures moments_err { IfErr result (λ e. IsTrue (D.tells disk) → AtEachMoment (D.accounts disk) (D.accounts e.0)
+        ensures moments_err { IfErr result (λ e. IsTrue (D.tells disk)
+            → AtEachMoment (D.accounts disk) (D.accounts e.0)
             (IsImageOrGives shadowj1 (latest (D.accounts disk)) (D.content disk))) }
-        ensures settled { IfOk result (λ opened. IsTrue (D.tells disk) → IsSettled (D.content disk) (D.accounts disk)
-            → AtEachMoment (D.accounts disk) (accounts_of opened.0) (λ file. payloads shadowj1 file ≡ payloads shadowj1 (D.content disk))) }
-        ensures settled_err { IfErr result (λ e. IsTrue (D.tells disk) → IsSettled (D.content disk) (D.accounts disk)
-            → AtEachMoment (D.accounts disk) (D.accounts e.0) (λ file. payloads shadowj1 file ≡ payloads shadowj1 (D.content disk))) }
+        ensures settled { IfOk result (λ opened. IsTrue (D.tells disk)
+            → IsSettled (D.content disk) (D.accounts disk)
+            → AtEachMoment (D.accounts disk) (accounts_of opened.0) (λ file. payloads shadowj1 file
+            ≡ payloads shadowj1 (D.content disk))) }
+        ensures settled_err { IfErr result (λ e. IsTrue (D.tells disk)
+            → IsSettled (D.content disk) (D.accounts disk)
+            → AtEachMoment (D.accounts disk) (D.accounts e.0) (λ file. payloads shadowj1 file
+            ≡ payloads shadowj1 (D.content disk))) }
         ensures images { IfOk result (λ opened. IsTrue (D.tells disk)
-            → AllImages (λ file. payloads shadowj1 file ≡ Some (map bytes_of opened.1.items)) (latest (accounts_of opened.0))) }
+            → AllImages (λ file. payloads shadowj1 file ≡ Some (map bytes_of opened.1.items))
+            (latest (accounts_of opened.0))) }
 
         ensures grows { IfOk result (λ opened. D.faults disk ≤ faults_of opened.0) }
         ensures tells { IfOk result (λ opened. tells_of opened.0 ≡ D.tells disk) }
@@ -203,23 +218,30 @@ impl<D: Disk> Journal<D> {
     pub fn append(&mut self, frame: &Frame) -> Result<(), AppendFault>
         requires { IsReady self.old }
         ensures ready { OnOk result (IsReady self.new) }
-        ensures length { OnOk result (length_of self.new ≡ length_of self.old + 5 + length frame.now) }
+        ensures length { OnOk result (length_of self.new
+            ≡ length_of self.old + 5 + length frame.now) }
         ensures added { OnOk result (IsTrue (tells_of self.old)
             → payloads_of self.new ≡ payloads_of self.old ++ frame.now ∷ []) }
         ensures content { OnOk result (IsTrue (tells_of self.old)
-            → content_of self.new ≡ front shadowj1 (payloads_of self.old ++ frame.now ∷ []) ++ 0 ∷ []) }
+            → content_of self.new ≡ front shadowj1 (payloads_of self.old ++ frame.now ∷ [])
+            ++ 0 ∷ []) }
         ensures images { OnOk result (IsTrue (tells_of self.old)
-            → AllImages (λ file. payloads shadowj1 file ≡ Some (payloads_of self.old ++ frame.now ∷ [])) (latest (accounts_of self.new))) }
+            → AllImages (λ file. payloads shadowj1 file
+            ≡ Some (payloads_of self.old ++ frame.now ∷ [])) (latest (accounts_of self.new))) }
         // At each moment of the call a crash leaves the payloads from before it, or those with the new one.
         ensures moments { IsTrue (tells_of self.old)
             → AtEachMoment (accounts_of self.old) (accounts_of self.new)
             (IsBeforeOrWith shadowj1 (payloads_of self.old) frame.now) }
 
-        ensures full { IfErr result (λ e. OnFull e (λ n. (n ≡ length_of self.old + 5 + length frame.now) × (limit_of self.old < n) × (self.new ≡ self.old))) }
+        ensures full { IfErr result
+            (λ e. OnFull e (λ n. (n ≡ length_of self.old + 5 + length frame.now)
+            × (limit_of self.old < n) × (self.new ≡ self.old))) }
         ensures fits { limit_of self.old < length_of self.old + 5 + length frame.now
             → result ≡ Err (AppendFault.Full (length_of self.old + 5 + length frame.now)) }
-        ensures doubt { IfErr result (λ e. OnDisk e (IsDoubtful (payloads_of self.old) frame.now self.new)) }
-        ensures cause { IfErr result (λ e. OnDisk e (Rose (faults_of self.old) (faults_of self.new))) }
+        ensures doubt { IfErr result
+            (λ e. OnDisk e (IsDoubtful (payloads_of self.old) frame.now self.new)) }
+        ensures cause { IfErr result
+            (λ e. OnDisk e (Rose (faults_of self.old) (faults_of self.new))) }
         ensures length_err { OnErr result (length_of self.new ≡ length_of self.old) }
 
         ensures limit { limit_of self.new ≡ limit_of self.old }
@@ -253,15 +275,23 @@ impl<D: Disk> Journal<D> {
     pub fn mend(&mut self) -> Result<Adopted, Failed>
         requires { (ps : _) × (payload : _) × IsDoubtful ps payload self.old }
         ensures ready { OnOk result (IsReady self.new) }
-        ensures mended { IfOk result (λ adopted. IsTrue (tells_of self.old) → (ps : _) (payload : _) → IsDoubtful ps payload self.old
+        ensures mended { IfOk result (λ adopted. IsTrue (tells_of self.old) → (ps : _) (payload : _)
+            → IsDoubtful ps payload self.old
             → payloads_of self.new ≡ payloads_after adopted ps payload) }
-        ensures images { IfOk result (λ adopted. IsTrue (tells_of self.old) → (ps : _) (payload : _) → IsDoubtful ps payload self.old
-            → AllImages (λ file. payloads shadowj1 file ≡ Some (payloads_after adopted ps payload)) (latest (accounts_of self.new))) }
+        ensures images { IfOk result (λ adopted. IsTrue (tells_of self.old) → (ps : _) (payload : _)
+            → IsDoubtful ps payload self.old
+            → AllImages (λ file. payloads shadowj1 file ≡ Some (payloads_after adopted ps payload))
+            (latest (accounts_of self.new))) }
         ensures gate { IfOk result (λ adopted. IsTrue (tells_of self.old)
-            → IsTrue (slice_index (content_of self.old) (length_of self.old - 1) == 1) ↔ (adopted ≡ Adopted.Kept)) }
-        ensures length { IfOk result (λ adopted. length_of self.new ≡ size_after adopted (length_of self.old) (unwrap_or (doubt_of self.old) (length_of self.old))) }
-        ensures moments { IsTrue (tells_of self.old) → (ps : _) (payload : _) → IsDoubtful ps payload self.old
-            → AtEachMoment (accounts_of self.old) (accounts_of self.new) (IsBeforeOrWith shadowj1 ps payload) }
+            → IsTrue (slice_index (content_of self.old) (length_of self.old - 1) == 1)
+            ↔ (adopted ≡ Adopted.Kept)) }
+        ensures length { IfOk result (λ adopted. length_of self.new
+            ≡ size_after adopted (length_of self.old)
+            (unwrap_or (doubt_of self.old) (length_of self.old))) }
+        ensures moments { IsTrue (tells_of self.old) → (ps : _) (payload : _)
+            → IsDoubtful ps payload self.old
+            → AtEachMoment (accounts_of self.old) (accounts_of self.new)
+            (IsBeforeOrWith shadowj1 ps payload) }
 
         ensures cause { FailsOnly faults_of self.old self.new result }
         ensures length_err { OnErr result (length_of self.new ≡ length_of self.old) }

@@ -53,8 +53,10 @@ pub fn stimulus_of(item: u64) -> u64
 fn draw_item(draws: &mut Draws) -> DrawnItem
     ensures state { draws.new.state ≡ next_state (next_state (next_state draws.old.state)) }
     ensures peak { result.peak ≡ upper_bits (next_state draws.old.state) % 11 }
-    ensures height { result.height ≡ 200 + upper_bits (next_state (next_state draws.old.state)) % 801 }
-    ensures quantity { result.quantity ≡ 30 + upper_bits (next_state (next_state (next_state draws.old.state))) % 91 }
+    ensures height { result.height
+        ≡ 200 + upper_bits (next_state (next_state draws.old.state)) % 801 }
+    ensures quantity { result.quantity
+        ≡ 30 + upper_bits (next_state (next_state (next_state draws.old.state))) % 91 }
 {
     let peak = (draws.draw() % 11) as u8;
     let height = 200 + (draws.draw() % 801) as u16;

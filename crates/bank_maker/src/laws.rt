@@ -17,12 +17,14 @@ ghost use Rattle.spec_reader.specs.Reading.{IsPlanText, most_bytes as most_of_pl
 
 /// Worked values of the drill of number 7, which `tools/drill_texts.py` computes from the rules alone.
 pub fn drill_of_seven()
-    ensures draws { draw 7 0 ∷ draw 7 1 ∷ draw 7 2 ∷ [] ≡ 1059165278 ∷ 2052263231 ∷ 1946856753 ∷ [] }
+    ensures draws { draw 7 0 ∷ draw 7 1 ∷ draw 7 2 ∷ []
+        ≡ 1059165278 ∷ 2052263231 ∷ 1946856753 ∷ [] }
     ensures first_item { drawn 7 0 ≡ record { peak = 6; height = 505; quantity = 53 } }
     ensures last_item { drawn 7 119 ≡ record { peak = 5; height = 828; quantity = 81 } }
     ensures base { base_quantity (items 7) ≡ 1357 }
     ensures script { requests_from (state_after 7 draws_of_items) (turns 1)
-        ≡ Begin 1 ∷ Answer 0 0 1 ∷ Answer 0 1 0 ∷ Answer 0 2 1 ∷ Answer 0 3 0 ∷ Answer 0 4 0 ∷ Answer 0 5 0
+        ≡ Begin 1 ∷ Answer 0 0 1 ∷ Answer 0 1 0 ∷ Answer 0 2 1 ∷ Answer 0 3 0 ∷ Answer 0 4 0
+        ∷ Answer 0 5 0
         ∷ Answer 0 6 1 ∷ Answer 0 7 1 ∷ Answer 0 8 0 ∷ Answer 0 9 0 ∷ Close 0 ∷ [] }
 {}
 

@@ -14,7 +14,8 @@ pub fn a_bank_text_is_read()
 
 /// A text is refused for its first fault.
 pub fn a_refused_text_has_its_fault()
-    ensures { (text : List ℕ) (fault : ReadFault) → bank_of text ≡ Err fault → IsTextFault text fault }
+    ensures { (text : List ℕ) (fault : ReadFault) → bank_of text ≡ Err fault
+        → IsTextFault text fault }
 {}
 
 /// A text is the text of at most one bank.

@@ -25,7 +25,8 @@ use text_source::text_of;
 const LONGEST: usize = 4_194_304;
 
 fn shape_of(rows: &[ByteRecord]) -> Result<Shape, ReadFault>
-    ensures value { Gives Memory (λ s. s) result (header_of (get_or (map fields_of rows.now) 0 [])) }
+    ensures value { Gives Memory (λ s. s) result
+        (header_of (get_or (map fields_of rows.now) 0 [])) }
     ensures shape { IfOk result (λ s. IsShape s) }
 {
     if rows.is_empty() {
@@ -69,12 +70,15 @@ fn bank_in(alloc: Global, text: &[u8]) -> Result<Bank, ReadFault>
 fn read_whole<S: Source>(alloc: Global, source: &mut S) -> Result<Bank, ReadFault>
     ensures reads { IsTrue (S.tells source.old) → Reads (S.left source.old) result }
     ensures whole { IfOk result (λ _. IsTrue (S.tells source.old) → S.left source.new ≡ []) }
-    ensures failed { IfErr result (λ e. e ≡ fault.Source → Rose (S.faults source.old) (S.faults source.new)) }
+    ensures failed { IfErr result (λ e. e ≡ fault.Source
+        → Rose (S.faults source.old) (S.faults source.new)) }
     ensures there { IfOk result (λ _. IsTrue (S.tells source.old) → IsTrue (S.there source.old)) }
     ensures there_refused { IfErr result (λ e. IsTrue (S.tells source.old)
         → (e ≡ Memory) ⊎ (e ≡ fault.Source) ⊎ IsTrue (S.there source.old)) }
-    ensures has { IsTrue (S.tells source.old) → (name : List ℕ) → S.has source.new name ≡ S.has source.old name }
-    ensures beside { IsTrue (S.tells source.old) → (name : List ℕ) → S.beside source.new name ≡ S.beside source.old name }
+    ensures has { IsTrue (S.tells source.old) → (name : List ℕ)
+        → S.has source.new name ≡ S.has source.old name }
+    ensures beside { IsTrue (S.tells source.old) → (name : List ℕ)
+        → S.beside source.new name ≡ S.beside source.old name }
     ensures grows { S.faults source.old ≤ S.faults source.new }
     ensures tells { S.tells source.new ≡ S.tells source.old }
     ensures identity { S.identity source.new ≡ S.identity source.old }
@@ -91,7 +95,8 @@ fn read_whole<S: Source>(alloc: Global, source: &mut S) -> Result<Bank, ReadFaul
 /// responses that the item hasn't are empty.
 pub fn read_bank<S: Source>(alloc: Global, source: &mut S) -> Result<Bank, ReadFault>
     // What is read is a bank text, and a bank text is read.
-    ensures found { IfOk result (λ b. IsTrue (S.tells source.old) → IsBankText (S.left source.old) b) }
+    ensures found { IfOk result (λ b. IsTrue (S.tells source.old)
+        → IsBankText (S.left source.old) b) }
     ensures only { IfErr result (λ e. IsTrue (S.tells source.old)
         → (b : Tables) → IsBankText (S.left source.old) b → (e ≡ Memory) ⊎ (e ≡ fault.Source)) }
     ensures fault { IfErr result (λ e. IsTrue (S.tells source.old)
@@ -99,14 +104,17 @@ pub fn read_bank<S: Source>(alloc: Global, source: &mut S) -> Result<Bank, ReadF
     // Each text has one answer.
     ensures exact { IsTrue (S.tells source.old) → Reads (S.left source.old) result }
     ensures whole { IfOk result (λ _. IsTrue (S.tells source.old) → S.left source.new ≡ []) }
-    ensures failed { IfErr result (λ e. e ≡ fault.Source → Rose (S.faults source.old) (S.faults source.new)) }
+    ensures failed { IfErr result (λ e. e ≡ fault.Source
+        → Rose (S.faults source.old) (S.faults source.new)) }
 
     // A bank, and what refuses a text, are answers only where there is something to read.
     ensures there { IfOk result (λ _. IsTrue (S.tells source.old) → IsTrue (S.there source.old)) }
     ensures there_refused { IfErr result (λ e. IsTrue (S.tells source.old)
         → (e ≡ Memory) ⊎ (e ≡ fault.Source) ⊎ IsTrue (S.there source.old)) }
-    ensures has { IsTrue (S.tells source.old) → (name : List ℕ) → S.has source.new name ≡ S.has source.old name }
-    ensures beside { IsTrue (S.tells source.old) → (name : List ℕ) → S.beside source.new name ≡ S.beside source.old name }
+    ensures has { IsTrue (S.tells source.old) → (name : List ℕ)
+        → S.has source.new name ≡ S.has source.old name }
+    ensures beside { IsTrue (S.tells source.old) → (name : List ℕ)
+        → S.beside source.new name ≡ S.beside source.old name }
     ensures grows { S.faults source.old ≤ S.faults source.new }
     ensures tells { S.tells source.new ≡ S.tells source.old }
     ensures identity { S.identity source.new ≡ S.identity source.old }

@@ -142,7 +142,8 @@ impl ItemSet {
 
     /// The lowest member.
     pub fn first(&self) -> Option<u16>
-        ensures lowest { MatchOption result ((i : ℕ) → has self.now i ≡ false) (λ x. IsLowest (has self.now) x) }
+        ensures lowest { MatchOption result ((i : ℕ)
+            → has self.now i ≡ false) (λ x. IsLowest (has self.now) x) }
         ensures item { IfSome result (λ x. x < 512) }
     {
         for k in 0..8u16 {
@@ -156,7 +157,8 @@ impl ItemSet {
 
     /// The lowest member from a number on. A walk over the members by it looks at each word once.
     pub fn first_from(&self, from: u16) -> Option<u16>
-        ensures lowest { MatchOption result ((i : ℕ) → from ≤ i → has self.now i ≡ false) (λ x. IsLowestFrom (has self.now) from x) }
+        ensures lowest { MatchOption result ((i : ℕ) → from ≤ i
+            → has self.now i ≡ false) (λ x. IsLowestFrom (has self.now) from x) }
         ensures item { IfSome result (λ x. x < 512) }
     {
         let words = &self.words;

@@ -12,7 +12,8 @@ use constraint_model::Problem;
 /// The path below a branch on a stimulus: left it is chosen, right its free items are out.
 pub fn below_stimulus(problem: &Problem, standing: &Standing, stimulus: u8, chosen: bool) -> Cut
     requires { IsStanding (problem_of problem.now) standing.now }
-    ensures { path_of result ≡ with_stimulus (problem_of problem.now) (path_of standing.now.cut) stimulus chosen }
+    ensures { path_of result
+        ≡ with_stimulus (problem_of problem.now) (path_of standing.now.cut) stimulus chosen }
 {
     let cut = standing.cut;
     if chosen {

@@ -31,7 +31,8 @@ fn has_members(bank: &Bank, items: &ItemSet) -> bool
 /// The only set that may be a form on the path; None where more than one may.
 pub fn only_candidate(problem: &Problem, standing: &Standing) -> Option<ItemSet>
     requires { IsStanding (problem_of problem.now) standing.now }
-    ensures { option_map has result ≡ only_candidate (problem_of problem.now) (path_of standing.now.cut) }
+    ensures { option_map has result
+        ≡ only_candidate (problem_of problem.now) (path_of standing.now.cut) }
 {
     let length = problem.spec.length();
     if !has_members(problem.bank, &standing.free)
@@ -48,7 +49,8 @@ pub fn only_candidate(problem: &Problem, standing: &Standing) -> Option<ItemSet>
 /// Whether a chosen stimulus has no item in the set.
 fn lacks_chosen(problem: &Problem, standing: &Standing, items: &ItemSet) -> bool
     requires { IsStanding (problem_of problem.now) standing.now }
-    ensures { IsTrue result ↔ LacksChosen (problem_of problem.now) (path_of standing.now.cut) (has items.now) }
+    ensures { IsTrue result
+        ↔ LacksChosen (problem_of problem.now) (path_of standing.now.cut) (has items.now) }
 {
     let used = stimuli_used(problem.bank, items);
     for k in 0..problem.bank.stimuli() as u16 {
@@ -62,7 +64,8 @@ fn lacks_chosen(problem: &Problem, standing: &Standing, items: &ItemSet) -> bool
 /// Whether there is a form whose objective is at least that of the set.
 fn is_at_least(problem: &Problem, form: &Option<ItemSet>, items: &ItemSet) -> bool
     requires { IsWellMade (problem_of problem.now) }
-    ensures { IsTrue result ↔ IsAtLeast (problem_of problem.now) (option_map has form.now) (has items.now) }
+    ensures { IsTrue result
+        ↔ IsAtLeast (problem_of problem.now) (option_map has form.now) (has items.now) }
 {
     match form {
         Some(best) => objective(problem, items) <= objective(problem, best),
@@ -79,7 +82,9 @@ pub fn is_settled(
 ) -> bool
     requires well_made { IsWellMade (problem_of problem.now) }
     requires standing { IsStanding (problem_of problem.now) standing.now }
-    ensures { IsTrue result ↔ CandidateIsSettled (problem_of problem.now) (option_map has form.now) (path_of standing.now.cut) (Some (has items.now)) }
+    ensures { IsTrue result
+        ↔ CandidateIsSettled (problem_of problem.now) (option_map has form.now)
+        (path_of standing.now.cut) (Some (has items.now)) }
 {
     !is_form(problem, items)
         || lacks_chosen(problem, standing, items)

@@ -66,7 +66,9 @@ fn excess(
     requires sides { AreMultipliers (slice_index sides.now) }
     requires item { item < size problem.now.bank.now }
     requires within { IsWithin item_top (at weights.now item) }
-    ensures value { result ≡ excess_at (problem_of problem.now) (path_of standing.now.cut) (slice_index sides.now) weights.now item }
+    ensures value { result
+        ≡ excess_at (problem_of problem.now) (path_of standing.now.cut)
+        (slice_index sides.now) weights.now item }
     ensures within { IsWithin (item_top + 16777216) result }
     ensures rest { IsWithin item_top (at weights.now item -ℤ result) }
 {
@@ -90,7 +92,9 @@ fn capped_weight(
     requires sides { AreMultipliers (slice_index sides.now) }
     requires item { item < size problem.now.bank.now }
     requires within { IsWithin item_top (at weights.now item) }
-    ensures value { result ≡ at weights.now item -ℤ excess_at (problem_of problem.now) (path_of standing.now.cut) (slice_index sides.now) weights.now item }
+    ensures value { result
+        ≡ at weights.now item -ℤ excess_at (problem_of problem.now) (path_of standing.now.cut)
+        (slice_index sides.now) weights.now item }
     ensures within { IsWithin item_top result }
 {
     weights[item as usize] - excess(problem, standing, sides, weights, item)
@@ -106,8 +110,11 @@ pub fn capped_weights(
     requires well_made { IsWellMade (problem_of problem.now) }
     requires standing { IsStanding (problem_of problem.now) standing.now }
     requires sides { AreMultipliers (slice_index sides.now) }
-    requires within { (i : ℕ) → i < size problem.now.bank.now → IsWithin item_top (at weights.now i) }
-    ensures value { (i : ℕ) → i < size problem.now.bank.now → at result i ≡ at weights.now i -ℤ excess_at (problem_of problem.now) (path_of standing.now.cut) (slice_index sides.now) weights.now i }
+    requires within { (i : ℕ) → i < size problem.now.bank.now
+        → IsWithin item_top (at weights.now i) }
+    ensures value { (i : ℕ) → i < size problem.now.bank.now
+        → at result i ≡ at weights.now i -ℤ excess_at (problem_of problem.now)
+        (path_of standing.now.cut) (slice_index sides.now) weights.now i }
     ensures within { (i : ℕ) → i < size problem.now.bank.now → IsWithin item_top (at result i) }
 {
     let mut capped = [0i64; 512];
@@ -122,7 +129,8 @@ fn add_excess(excesses: &mut [i64; 64], which: u8, by: i64)
     requires which { which < 65 }
     requires excesses { (k : ℕ) → k < 64 → IsWithin excess_top (at excesses.old k) }
     requires by { IsWithin (item_top + 16777216) by }
-    ensures { (k : ℕ) → k < 64 → at excesses.new k ≡ at excesses.old k +ℤ cond (which == suc k) by (pos 0) }
+    ensures { (k : ℕ) → k < 64
+        → at excesses.new k ≡ at excesses.old k +ℤ cond (which == suc k) by (pos 0) }
 {
     if which != 0 {
         excesses[which as usize - 1] += by;
@@ -139,8 +147,13 @@ pub fn excesses_of(
     requires well_made { IsWellMade (problem_of problem.now) }
     requires standing { IsStanding (problem_of problem.now) standing.now }
     requires sides { AreMultipliers (slice_index sides.now) }
-    requires within { (i : ℕ) → i < size problem.now.bank.now → IsWithin item_top (at weights.now i) }
-    ensures value { (k : ℕ) → k < 64 → at result k ≡ sum_in_z (size problem.now.bank.now) (λ i. stimulus problem.now.bank.now i == suc k) (excess_at (problem_of problem.now) (path_of standing.now.cut) (slice_index sides.now) weights.now) }
+    requires within { (i : ℕ) → i < size problem.now.bank.now
+        → IsWithin item_top (at weights.now i) }
+    ensures value { (k : ℕ) → k < 64
+        → at result k ≡ sum_in_z (size problem.now.bank.now)
+        (λ i. stimulus problem.now.bank.now i == suc k)
+        (excess_at (problem_of problem.now) (path_of standing.now.cut)
+        (slice_index sides.now) weights.now) }
     ensures within { (k : ℕ) → k < 64 → IsWithin excess_top (at result k) }
 {
     let mut excesses = [0i64; 64];

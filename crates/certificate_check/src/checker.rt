@@ -59,8 +59,11 @@ fn verdict(problem: &Problem, form: &Option<ItemSet>, tree: &Tree) -> Verdict
 /// Takes no memory.
 pub fn check(problem: &Problem, form: Option<&ItemSet>, tree: &Tree) -> Verdict
     requires { IsWellMade (problem_of problem.now) }
-    ensures verdict { IsVerdict (problem_of problem.now) (option_map has (option_copied form.entry)) tree.now result }
-    ensures optimal { result ≡ Verdict.Optimal → IsSomeAnd (option_copied form.entry) (λ items. Best (problem_of problem.now) (has items)) }
+    ensures verdict { IsVerdict (problem_of problem.now)
+        (option_map has (option_copied form.entry)) tree.now result }
+    ensures optimal { result ≡ Verdict.Optimal
+        → IsSomeAnd (option_copied form.entry)
+        (λ items. Best (problem_of problem.now) (has items)) }
     ensures no_form { result ≡ Verdict.NoForm → HasNoForm (problem_of problem.now) }
 {
     verdict(problem, &form.copied(), tree)

@@ -31,7 +31,8 @@ pub fn maximum_is_at_most(
     requires standing { IsStanding (problem_of problem.now) standing.now }
     requires vector { IsVector 0 vector.now }
     requires sides { NamesOnlySides (problem_of problem.now) vector.now }
-    ensures { IsTrue result ↔ MaximumIsAtMost (problem_of problem.now) (path_of standing.now.cut) vector.now ray top }
+    ensures { IsTrue result
+        ↔ MaximumIsAtMost (problem_of problem.now) (path_of standing.now.cut) vector.now ray top }
 {
     match relaxed_maximum(problem, standing, vector, ray) {
         Some(maximum) => maximum <= top,
@@ -58,7 +59,9 @@ fn closes(
     requires standing { IsStanding (problem_of problem.now) standing.now }
     requires vector { IsVector 0 vector.now }
     requires sides { NamesOnlySides (problem_of problem.now) vector.now }
-    ensures { IsTrue result ↔ ClosesByBound (problem_of problem.now) (option_map has form.now) (path_of standing.now.cut) vector.now }
+    ensures { IsTrue result
+        ↔ ClosesByBound (problem_of problem.now) (option_map has form.now)
+        (path_of standing.now.cut) vector.now }
 {
     match form {
         Some(best) => {
@@ -84,7 +87,8 @@ pub fn bound_fault(
 ) -> Option<Reason>
     requires well_made { IsWellMade (problem_of problem.now) }
     requires standing { IsStanding (problem_of problem.now) standing.now }
-    ensures { IsNodeAnswer (problem_of problem.now) (option_map has form.now) tree.now (path_of standing.now.cut) (Bound which) result }
+    ensures { IsNodeAnswer (problem_of problem.now) (option_map has form.now) tree.now
+        (path_of standing.now.cut) (Bound which) result }
 {
     let vectors = tree.vectors();
     if which as usize >= vectors.len() {
@@ -111,7 +115,8 @@ pub fn ray_fault(
 ) -> Option<Reason>
     requires well_made { IsWellMade (problem_of problem.now) }
     requires standing { IsStanding (problem_of problem.now) standing.now }
-    ensures { IsNodeAnswer (problem_of problem.now) (option_map has form.now) tree.now (path_of standing.now.cut) (Ray which) result }
+    ensures { IsNodeAnswer (problem_of problem.now) (option_map has form.now) tree.now
+        (path_of standing.now.cut) (Ray which) result }
 {
     let vectors = tree.vectors();
     if which as usize >= vectors.len() {

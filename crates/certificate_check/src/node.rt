@@ -22,7 +22,8 @@ use proof_tree::Tree;
 /// Whether a stimulus is one of the bank's, and open.
 pub fn is_open_stimulus(problem: &Problem, standing: &Standing, which: u8) -> bool
     requires { IsStanding (problem_of problem.now) standing.now }
-    ensures { IsTrue result ↔ IsStimulusBranch (problem_of problem.now) (path_of standing.now.cut) which }
+    ensures { IsTrue result
+        ↔ IsStimulusBranch (problem_of problem.now) (path_of standing.now.cut) which }
 {
     which > 0 && which <= problem.bank.stimuli() && standing.opened.has(which as u16)
 }
@@ -36,7 +37,8 @@ fn whole_fault(
 ) -> Option<Reason>
     requires well_made { IsWellMade (problem_of problem.now) }
     requires standing { IsStanding (problem_of problem.now) standing.now }
-    ensures { IsNodeAnswer (problem_of problem.now) (option_map has form.now) tree.now (path_of standing.now.cut) Whole result }
+    ensures { IsNodeAnswer (problem_of problem.now) (option_map has form.now) tree.now
+        (path_of standing.now.cut) Whole result }
 {
     match only_candidate(problem, standing) {
         None => Some(Reason::NotWhole),
@@ -58,7 +60,8 @@ fn open_fault(
     standing: &Standing,
 ) -> Option<Reason>
     requires { IsStanding (problem_of problem.now) standing.now }
-    ensures { IsNodeAnswer (problem_of problem.now) (option_map has form.now) tree.now (path_of standing.now.cut) Open result }
+    ensures { IsNodeAnswer (problem_of problem.now) (option_map has form.now) tree.now
+        (path_of standing.now.cut) Open result }
 {
     match only_candidate(problem, standing) {
         None => None,
@@ -77,7 +80,8 @@ pub fn node_fault(
 ) -> Option<Reason>
     requires well_made { IsWellMade (problem_of problem.now) }
     requires standing { IsStanding (problem_of problem.now) standing.now }
-    ensures { IsNodeAnswer (problem_of problem.now) (option_map has form.now) tree.now (path_of standing.now.cut) node.now result }
+    ensures { IsNodeAnswer (problem_of problem.now) (option_map has form.now) tree.now
+        (path_of standing.now.cut) node.now result }
 {
     match node {
         Node::BranchItem(item) => {

@@ -49,12 +49,15 @@ fn gain_of_stimulus(
     requires well_made { IsWellMade (problem_of problem.now) }
     requires standing { IsStanding (problem_of problem.now) standing.now }
     requires sides { AreMultipliers (slice_index sides.now) }
-    requires rows { rows ≡ total_z (length problem.now.spec.now.rows) (stimulus_share (problem_of problem.now) (slice_index sides.now)) }
+    requires rows { rows ≡ total_z (length problem.now.spec.now.rows)
+        (stimulus_share (problem_of problem.now) (slice_index sides.now)) }
     requires few { IsWithin (128 * (16777216 * 65535)) rows }
     requires excess { IsWithin excess_top excess }
     requires first { 0 < which }
     requires last { which ≤ stimuli_of problem.now.bank.now }
-    ensures value { result ≡ gain_of_stimulus (problem_of problem.now) (path_of standing.now.cut) (slice_index sides.now) excess which }
+    ensures value { result
+        ≡ gain_of_stimulus (problem_of problem.now) (path_of standing.now.cut)
+        (slice_index sides.now) excess which }
     ensures within { IsWithin gain_top result }
 {
     let weight = stimulus_weight(problem, sides, rows, which);
@@ -73,7 +76,10 @@ fn gains(problem: &Problem, standing: &Standing, sides: &[u32; 386], excesses: &
     requires standing { IsStanding (problem_of problem.now) standing.now }
     requires sides { AreMultipliers (slice_index sides.now) }
     requires excesses { (k : ℕ) → k < 64 → IsWithin excess_top (at excesses.now k) }
-    ensures value { result ≡ total_z (stimuli_of problem.now.bank.now) (λ k. gain_of_stimulus (problem_of problem.now) (path_of standing.now.cut) (slice_index sides.now) (at excesses.now k) (suc k)) }
+    ensures value { result
+        ≡ total_z (stimuli_of problem.now.bank.now)
+        (λ k. gain_of_stimulus (problem_of problem.now) (path_of standing.now.cut)
+        (slice_index sides.now) (at excesses.now k) (suc k)) }
     ensures within { IsWithin (64 * gain_top) result }
 {
     let rows = rows_stimulus(problem, sides);
@@ -96,12 +102,17 @@ fn value_with(
     requires well_made { IsWellMade (problem_of problem.now) }
     requires standing { IsStanding (problem_of problem.now) standing.now }
     requires sides { AreMultipliers (slice_index sides.now) }
-    requires within { (i : ℕ) → i < size problem.now.bank.now → IsWithin item_top (at weights.now i) }
+    requires within { (i : ℕ) → i < size problem.now.bank.now
+        → IsWithin item_top (at weights.now i) }
     requires excesses { (k : ℕ) → k < 64 → IsWithin excess_top (at excesses.now k) }
     requires enough { k ≤ size_in problem.now.bank.now (has standing.now.free) }
-    requires fills { size_in problem.now.bank.now (has standing.now.cut.taken) + k ≡ problem.now.spec.now.length }
+    requires fills { size_in problem.now.bank.now (has standing.now.cut.taken) + k
+        ≡ problem.now.spec.now.length }
     ensures within { IsWithin maximum_top result }
-    ensures maximum { (v : Multipliers) (ray : Bool) → slice_index sides.now ≡ multiplier v → AreCapped (problem_of problem.now) (path_of standing.now.cut) v ray weights.now excesses.now → IsRelaxedMaximum (problem_of problem.now) (path_of standing.now.cut) v ray result }
+    ensures maximum { (v : Multipliers) (ray : Bool) → slice_index sides.now ≡ multiplier v
+        → AreCapped (problem_of problem.now)
+        (path_of standing.now.cut) v ray weights.now excesses.now
+        → IsRelaxedMaximum (problem_of problem.now) (path_of standing.now.cut) v ray result }
 {
     let items = problem.bank.items();
     let top = top_of(weights, items, &standing.free, k);
@@ -123,11 +134,17 @@ fn capped_maximum(
     requires standing { IsStanding (problem_of problem.now) standing.now }
     requires sides { AreMultipliers (slice_index sides.now) }
     requires cap { IsTrue (has_cap (slice_index sides.now)) }
-    requires within { (i : ℕ) → i < size problem.now.bank.now → IsWithin item_top (at weights.now i) }
+    requires within { (i : ℕ) → i < size problem.now.bank.now
+        → IsWithin item_top (at weights.now i) }
     requires enough { k ≤ size_in problem.now.bank.now (has standing.now.free) }
-    requires fills { size_in problem.now.bank.now (has standing.now.cut.taken) + k ≡ problem.now.spec.now.length }
+    requires fills { size_in problem.now.bank.now (has standing.now.cut.taken) + k
+        ≡ problem.now.spec.now.length }
     ensures within { IsWithin maximum_top result }
-    ensures maximum { (v : Multipliers) (ray : Bool) → IsVector 0 v → slice_index sides.now ≡ multiplier v → ((i : ℕ) → i < size problem.now.bank.now → at weights.now i ≡ item_weight (problem_of problem.now) (multiplier v) ray i) → IsRelaxedMaximum (problem_of problem.now) (path_of standing.now.cut) v ray result }
+    ensures maximum { (v : Multipliers) (ray : Bool) → IsVector 0 v
+        → slice_index sides.now ≡ multiplier v
+        → ((i : ℕ) → i < size problem.now.bank.now
+        → at weights.now i ≡ item_weight (problem_of problem.now) (multiplier v) ray i)
+        → IsRelaxedMaximum (problem_of problem.now) (path_of standing.now.cut) v ray result }
 {
     let capped = capped_weights(problem, standing, sides, weights);
     let excesses = excesses_of(problem, standing, sides, weights);
@@ -147,8 +164,10 @@ fn filled_maximum(
     requires vector { IsVector 0 vector.now }
     requires sides { All (λ pair. pair.0 < 386) vector.now }
     requires enough { k ≤ size_in problem.now.bank.now (has standing.now.free) }
-    requires fills { size_in problem.now.bank.now (has standing.now.cut.taken) + k ≡ problem.now.spec.now.length }
-    ensures { IsRelaxedMaximum (problem_of problem.now) (path_of standing.now.cut) vector.now ray result }
+    requires fills { size_in problem.now.bank.now (has standing.now.cut.taken) + k
+        ≡ problem.now.spec.now.length }
+    ensures { IsRelaxedMaximum (problem_of problem.now)
+        (path_of standing.now.cut) vector.now ray result }
 {
     let sides = sides_of(vector);
     let weights = item_weights(problem, &sides, ray);

@@ -36,7 +36,9 @@ fn heavier(weights: &[i64; 512], first: Option<u16>, second: Option<u16>) -> Opt
     requires first { IfSome first (λ i. i < 512) }
     requires second { IfSome second (λ i. i < 512) }
     ensures item { IfSome result (λ i. i < 512) }
-    ensures best { (from between to n : ℕ) (F T : Set) → from ≤ between → between ≤ to → IsBest from between n weights.now F T first → IsBest between to n weights.now F T second → IsBest from to n weights.now F T result }
+    ensures best { (from between to n : ℕ) (F T : Set) → from ≤ between → between ≤ to
+        → IsBest from between n weights.now F T first → IsBest between to n weights.now F T second
+        → IsBest from to n weights.now F T result }
 {
     match first {
         None => second,
@@ -57,7 +59,8 @@ fn heavier(weights: &[i64; 512], first: Option<u16>, second: Option<u16>) -> Opt
 fn leader(weights: &[i64; 512], n: u16, free: &ItemSet, taken: &ItemSet, block: u16) -> Option<u16>
     requires few { n ≤ 512 }
     requires block { block < 32 }
-    ensures { IsBest (16 * block) (16 * block + 16) n weights.now (has free.now) (has taken.now) result }
+    ensures { IsBest (16 * block) (16 * block + 16) n weights.now (has free.now)
+        (has taken.now) result }
 {
     let first = BLOCK * block;
     if first >= n {
@@ -98,7 +101,8 @@ fn first_leader(weights: &[i64; 512], n: u16, leaders: &[Option<u16>; 32]) -> Op
     requires few { n ≤ 512 }
     requires items { (b : ℕ) → IfSome (get_or leaders.now b None) (λ i. i < 512) }
     ensures item { IfSome result (λ i. i < 512) }
-    ensures best { (F T : Set) → AreLeaders n weights.now F T leaders.now → IsNextBest n weights.now F T result }
+    ensures best { (F T : Set) → AreLeaders n weights.now F T leaders.now
+        → IsNextBest n weights.now F T result }
 {
     let mut best: Option<u16> = None;
     for block in 0..n.div_ceil(BLOCK) {

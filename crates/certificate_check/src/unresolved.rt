@@ -39,7 +39,8 @@ pub fn start_form(problem: &Problem) -> Option<ItemSet>
 fn plain_bound_exceeds(problem: &Problem, standing: &Standing, items: &ItemSet) -> bool
     requires well_made { IsWellMade (problem_of problem.now) }
     requires standing { IsStanding (problem_of problem.now) standing.now }
-    ensures { IsTrue result ↔ PlainBoundExceeds (problem_of problem.now) (path_of standing.now.cut) (has items.now) }
+    ensures { IsTrue result
+        ↔ PlainBoundExceeds (problem_of problem.now) (path_of standing.now.cut) (has items.now) }
 {
     let none: [(u16, u32); 0] = [];
     match relaxed_maximum(problem, standing, &none, false) {
@@ -52,7 +53,9 @@ fn plain_bound_exceeds(problem: &Problem, standing: &Standing, items: &ItemSet) 
 fn exceeds_form(problem: &Problem, start: &Option<ItemSet>, standing: &Standing) -> bool
     requires well_made { IsWellMade (problem_of problem.now) }
     requires standing { IsStanding (problem_of problem.now) standing.now }
-    ensures { IsTrue result ↔ ExceedsForm (problem_of problem.now) (path_of standing.now.cut) (option_map has start.now) }
+    ensures { IsTrue result
+        ↔ ExceedsForm (problem_of problem.now) (path_of standing.now.cut)
+        (option_map has start.now) }
 {
     match start {
         Some(items) => plain_bound_exceeds(problem, standing, items),
@@ -81,7 +84,8 @@ pub fn is_spent_node(
     requires well_made { IsWellMade (problem_of problem.now) }
     requires start { IsStartForm (problem_of problem.now) (option_map has start.now) }
     requires standing { IsStanding (problem_of problem.now) standing.now }
-    ensures { IsTrue result ↔ IsSpentNode (problem_of problem.now) (path_of standing.now.cut) node.now }
+    ensures { IsTrue result
+        ↔ IsSpentNode (problem_of problem.now) (path_of standing.now.cut) node.now }
 {
     match node {
         Node::BranchItem(item) => {

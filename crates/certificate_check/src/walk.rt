@@ -44,7 +44,8 @@ pub fn walk(
     requires well_made { IsWellMade (problem_of problem.now) }
     requires tree { (wait : ℕ) × AreTrees (suc wait) (drop at tree.now.nodes) }
     requires few { open_leaves ≤ at }
-    ensures { IsWalk (problem_of problem.now) (option_map has form.now) tree.now at open_leaves (path_of cut.now) result }
+    ensures { IsWalk (problem_of problem.now) (option_map has form.now) tree.now at open_leaves
+        (path_of cut.now) result }
 {
     let node = tree.nodes()[at as usize];
     let standing = standing_on(problem, cut);

@@ -172,7 +172,9 @@ fn add_row(bank: &Bank, row: &Row, low: u32, high: u32, column: &mut Column, wei
     requires room { size bank.now ≤ length weights.old }
     requires within { (i : ℕ) → i < size bank.now → IsWithin item_top (at weights.old i) }
     ensures column { IsColumn bank.now column.new }
-    ensures added { (i : ℕ) → i < size bank.now → IsAdded (16777216 * 65535) (at weights.old i) ((pos low -ℤ pos high) *ℤ pos (item_activity bank.now row.now i)) (at weights.new i) }
+    ensures added { (i : ℕ) → i < size bank.now
+        → IsAdded (16777216 * 65535) (at weights.old i)
+        ((pos low -ℤ pos high) *ℤ pos (item_activity bank.now row.now i)) (at weights.new i) }
     ensures rest { (i : ℕ) → size bank.now ≤ i → at weights.new i ≡ at weights.old i }
 {
     match row {
@@ -199,9 +201,12 @@ fn add_row_at(
     requires row { r < length problem.now.spec.now.rows }
     requires column { IsColumn problem.now.bank.now column.old }
     requires room { size problem.now.bank.now ≤ length weights.old }
-    requires within { (i : ℕ) → i < size problem.now.bank.now → IsWithin item_top (at weights.old i) }
+    requires within { (i : ℕ) → i < size problem.now.bank.now
+        → IsWithin item_top (at weights.old i) }
     ensures column { IsColumn problem.now.bank.now column.new }
-    ensures added { (i : ℕ) → i < size problem.now.bank.now → IsAdded (16777216 * 65535) (at weights.old i) (item_share (problem_of problem.now) (slice_index sides.now) i r) (at weights.new i) }
+    ensures added { (i : ℕ) → i < size problem.now.bank.now
+        → IsAdded (16777216 * 65535) (at weights.old i)
+        (item_share (problem_of problem.now) (slice_index sides.now) i r) (at weights.new i) }
     ensures rest { (i : ℕ) → size problem.now.bank.now ≤ i → at weights.new i ≡ at weights.old i }
 {
     let low = sides[2 * r];
@@ -222,7 +227,9 @@ fn add_row_at(
 pub fn rows_stimulus(problem: &Problem, sides: &[u32; 386]) -> i64
     requires well_made { IsWellMade (problem_of problem.now) }
     requires sides { AreMultipliers (slice_index sides.now) }
-    ensures value { result ≡ total_z (length problem.now.spec.now.rows) (stimulus_share (problem_of problem.now) (slice_index sides.now)) }
+    ensures value { result
+        ≡ total_z (length problem.now.spec.now.rows)
+        (stimulus_share (problem_of problem.now) (slice_index sides.now)) }
     ensures within { IsWithin (128 * (16777216 * 65535)) result }
 {
     let rows = problem.spec.rows();
@@ -238,7 +245,8 @@ fn price_of_stimulus(problem: &Problem, sides: &[u32; 386], which: u8) -> i64
     requires well_made { IsWellMade (problem_of problem.now) }
     requires sides { AreMultipliers (slice_index sides.now) }
     requires which { which ≤ 64 }
-    ensures value { result ≡ price_of_stimulus (problem_of problem.now) (slice_index sides.now) which }
+    ensures value { result
+        ≡ price_of_stimulus (problem_of problem.now) (slice_index sides.now) which }
     ensures within { IsWithin (16777216 * 65535) result }
 {
     if which == 0 {
@@ -268,7 +276,8 @@ fn plain_weight(problem: &Problem, sides: &[u32; 386], ray: bool, item: u16) -> 
     requires well_made { IsWellMade (problem_of problem.now) }
     requires sides { AreMultipliers (slice_index sides.now) }
     requires item { item < size problem.now.bank.now }
-    ensures value { result ≡ weight_up_to (problem_of problem.now) (slice_index sides.now) ray 0 item }
+    ensures value { result
+        ≡ weight_up_to (problem_of problem.now) (slice_index sides.now) ray 0 item }
     ensures within { IsWithin (16777216 * 65535 + 256000000) result }
 {
     information(problem, ray, item) + price_of_stimulus(problem, sides, problem.bank.stimulus(item))
@@ -278,8 +287,10 @@ fn plain_weight(problem: &Problem, sides: &[u32; 386], ray: bool, item: u16) -> 
 fn plain_weights(problem: &Problem, sides: &[u32; 386], ray: bool) -> [i64; 512]
     requires well_made { IsWellMade (problem_of problem.now) }
     requires sides { AreMultipliers (slice_index sides.now) }
-    ensures value { (i : ℕ) → i < size problem.now.bank.now → at result i ≡ weight_up_to (problem_of problem.now) (slice_index sides.now) ray 0 i }
-    ensures within { (i : ℕ) → i < size problem.now.bank.now → IsWithin (16777216 * 65535 + 256000000) (at result i) }
+    ensures value { (i : ℕ) → i < size problem.now.bank.now
+        → at result i ≡ weight_up_to (problem_of problem.now) (slice_index sides.now) ray 0 i }
+    ensures within { (i : ℕ) → i < size problem.now.bank.now
+        → IsWithin (16777216 * 65535 + 256000000) (at result i) }
 {
     let mut weights = [0i64; 512];
     for i in 0..problem.bank.items() {
@@ -292,7 +303,8 @@ fn plain_weights(problem: &Problem, sides: &[u32; 386], ray: bool) -> [i64; 512]
 pub fn item_weights(problem: &Problem, sides: &[u32; 386], ray: bool) -> [i64; 512]
     requires well_made { IsWellMade (problem_of problem.now) }
     requires sides { AreMultipliers (slice_index sides.now) }
-    ensures value { (i : ℕ) → i < size problem.now.bank.now → at result i ≡ item_weight (problem_of problem.now) (slice_index sides.now) ray i }
+    ensures value { (i : ℕ) → i < size problem.now.bank.now
+        → at result i ≡ item_weight (problem_of problem.now) (slice_index sides.now) ray i }
     ensures within { (i : ℕ) → i < size problem.now.bank.now → IsWithin item_top (at result i) }
 {
     let rows = problem.spec.rows().len();
@@ -308,11 +320,13 @@ pub fn item_weights(problem: &Problem, sides: &[u32; 386], ray: bool) -> [i64; 5
 pub fn stimulus_weight(problem: &Problem, sides: &[u32; 386], rows: i64, which: u8) -> i64
     requires well_made { IsWellMade (problem_of problem.now) }
     requires sides { AreMultipliers (slice_index sides.now) }
-    requires rows { rows ≡ total_z (length problem.now.spec.now.rows) (stimulus_share (problem_of problem.now) (slice_index sides.now)) }
+    requires rows { rows ≡ total_z (length problem.now.spec.now.rows)
+        (stimulus_share (problem_of problem.now) (slice_index sides.now)) }
     requires few { IsWithin (128 * (16777216 * 65535)) rows }
     requires first { 0 < which }
     requires last { which ≤ stimuli_of problem.now.bank.now }
-    ensures value { result ≡ stimulus_weight (problem_of problem.now) (slice_index sides.now) which }
+    ensures value { result
+        ≡ stimulus_weight (problem_of problem.now) (slice_index sides.now) which }
     ensures within { IsWithin stimulus_top result }
 {
     let place = which as usize - 1;

@@ -17,7 +17,8 @@ use rand_core::utils::NextWord;
 /// place of the session's stream of ChaCha20 with the key (RFC 8439).
 #[tactic(auto, unfolding(history_model::specs::Draws::draw_word))]
 pub fn draw(key: &[u8; 32], rate: Rate, session: u32, counters: &Counters) -> ItemSet
-    ensures { (i : ℕ) → has result i ≡ drawn key.now rate session (length counters.now.counts) (counts_at counters.now) i }
+    ensures { (i : ℕ) → has result i
+        ≡ drawn key.now rate session (length counters.now.counts) (counts_at counters.now) i }
 {
     let mut words = ChaCha20Rng::from_seed(*key);
     words.set_stream(u64::from(session));

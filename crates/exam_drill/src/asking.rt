@@ -34,10 +34,13 @@ fn ask<'a>(
     request: &Request,
 ) -> Result<(), DrillFault>
     requires { IsDurable alone.old.office.bank alone.old.office.plan alone.old.office }
-    ensures ok { OnOk result (IsDoneBy alone.old.office.bank alone.old.office.plan (history alone.old.office.marks)
+    ensures ok { OnOk result
+        (IsDoneBy alone.old.office.bank alone.old.office.plan (history alone.old.office.marks)
         request.now (history alone.new.office.marks)) }
-    ensures durable { OnOk result (IsDurable alone.old.office.bank alone.old.office.plan alone.new.office) }
-    ensures err { IfErr result (IsCutShort alone.old.office.bank alone.old.office.plan (history alone.old.office.marks)
+    ensures durable { OnOk result
+        (IsDurable alone.old.office.bank alone.old.office.plan alone.new.office) }
+    ensures err { IfErr result
+        (IsCutShort alone.old.office.bank alone.old.office.plan (history alone.old.office.marks)
         request.now) }
     ensures same { IsSameOffice alone.old.office alone.new.office }
 {
@@ -55,9 +58,11 @@ pub fn ask_all<'a>(
     requests: &[Request],
 ) -> Result<(), DrillFault>
     requires { IsDurable alone.old.office.bank alone.old.office.plan alone.old.office }
-    ensures ok { OnOk result (LeadsTo alone.old.office.bank alone.old.office.plan (history alone.old.office.marks)
+    ensures ok { OnOk result
+        (LeadsTo alone.old.office.bank alone.old.office.plan (history alone.old.office.marks)
         requests.now (history alone.new.office.marks)) }
-    ensures err { IfErr result (IsStopped alone.old.office.bank alone.old.office.plan (history alone.old.office.marks)
+    ensures err { IfErr result
+        (IsStopped alone.old.office.bank alone.old.office.plan (history alone.old.office.marks)
         requests.now) }
     ensures same { IsSameOffice alone.old.office alone.new.office }
 {

@@ -254,7 +254,8 @@ impl<'a, D: Disk> Hall<'a, D> {
         requires well_made { IsWellMade (problem_of problem.now) }
         requires sides { IfSome (option_copied warm) (NamesOnlySides (problem_of problem.now)) }
         ensures problem { IfOk result (λ a. a.problem ≡ problem.now) }
-        ensures assembled { IfOk result (λ a. (H : List Entry) → LegalRun self.now.bank self.now.plan H
+        ensures assembled { IfOk result (λ a. (H : List Entry)
+            → LegalRun self.now.bank self.now.plan H
             → IsProblemOf self.now.bank self.now.plan H problem.now.session problem.now.step
             (problem_of problem.now)
             → IsAssembledFor self.now.bank self.now.plan self.now.base H problem.now.session a) }

@@ -28,7 +28,8 @@ use std::alloc::Global;
 
 /// The lines of an audit: the numbers of the history, and its exposure counts.
 fn audit_text(alloc: Global, summary: &Summary, exposure: Exposure) -> Option<Vec<u8>>
-    ensures { IfSome result (λ text. text.items ≡ summary_text summary.now ++ line_of (Exposed exposure)) }
+    ensures { IfSome result (λ text. text.items
+        ≡ summary_text summary.now ++ line_of (Exposed exposure)) }
 {
     let line = summary_line(alloc, summary).ok()?;
     let counts = reply_line(alloc, &Reply::Exposure(exposure)).ok()?;
@@ -83,12 +84,14 @@ pub(crate) fn audit_journal<F: Files, O: Sink, D: Disk>(
 ) -> (D, Result<(), Halt>)
     ensures ok { OnOk result.1 (IsTrue (F.tells files.old) → (words : List (List ℕ))
         → command_of words ≡ Some (Audit bank.now plan.now)
-        → Prints words (outside (F.has files.old) (F.content files.old) (F.faults files.old) (F.faults files.new)
+        → Prints words (outside (F.has files.old) (F.content files.old) (F.faults files.old)
+        (F.faults files.new)
         (disk_seen D.tells D.content D.accounts D.faults disk result.0))
         (O.tells out.old) (O.written out.old) (O.written out.new) 0) }
     ensures err { IfErr result.1 (λ halt. IsTrue (F.tells files.old) → (words : List (List ℕ))
         → command_of words ≡ Some (Audit bank.now plan.now)
-        → Halts words (outside (F.has files.old) (F.content files.old) (F.faults files.old) (F.faults files.new)
+        → Halts words (outside (F.has files.old) (F.content files.old) (F.faults files.old)
+        (F.faults files.new)
         (disk_seen D.tells D.content D.accounts D.faults disk result.0))
         (O.tells out.old) (O.written out.old) (O.written out.new) halt) }
     ensures files { result.1 ≡ Err Halt.Files → Rose (F.faults files.old) (F.faults files.new) }

@@ -23,7 +23,8 @@ fn whole_assembly<'a>(
     spec: &'a Spec,
 ) -> Result<Assembled<'a>, Memory>
     requires plan { IsPlanFor bank.now spec.now }
-    ensures { IfOk result (λ a. IsWholeAssembly bank.now spec.now (problem_of a.problem) a.tree a.outcome) }
+    ensures { IfOk result
+        (λ a. IsWholeAssembly bank.now spec.now (problem_of a.problem) a.tree a.outcome) }
 {
     let problem = Problem::whole(bank, spec);
     let base = spec.base();
@@ -38,8 +39,11 @@ fn found_form<'a>(
     assembled: &Assembled<'a>,
 ) -> Result<MarkedForm, Halt>
     requires plan { IsPlanFor bank.now spec.now }
-    requires assembly { IsWholeAssembly bank.now spec.now (problem_of assembled.now.problem) assembled.now.tree assembled.now.outcome }
-    ensures found { IfOk result (λ found. FindsForm bank.now spec.now (problem_of assembled.now.problem) found.form found.proved assembled.now.tree) }
+    requires assembly { IsWholeAssembly bank.now spec.now
+        (problem_of assembled.now.problem) assembled.now.tree assembled.now.outcome }
+    ensures found { IfOk result
+        (λ found. FindsForm bank.now spec.now
+        (problem_of assembled.now.problem) found.form found.proved assembled.now.tree) }
     ensures halts { IfErr result (HaltsAtBase bank.now spec.now) }
 {
     // `nodes` gives that the tree has a spelling.

@@ -13,8 +13,10 @@ use std::alloc::Global;
 
 /// Writes a whole piece. After `Failed` a part of it may be written, and not the whole.
 pub(crate) fn put<O: Sink>(out: &mut O, piece: &[u8]) -> Result<(), Failed>
-    ensures ok { OnOk result (IsWritten (O.tells out.old) (O.written out.old) (O.written out.new) piece.now) }
-    ensures err { OnErr result (WritesPart (O.tells out.old) (O.written out.old) (O.written out.new) piece.now) }
+    ensures ok { OnOk result
+        (IsWritten (O.tells out.old) (O.written out.old) (O.written out.new) piece.now) }
+    ensures err { OnErr result
+        (WritesPart (O.tells out.old) (O.written out.old) (O.written out.new) piece.now) }
     ensures failed { OnErr result (Rose (O.faults out.old) (O.faults out.new)) }
     ensures grows { O.faults out.old ≤ O.faults out.new }
     ensures tells { O.tells out.new ≡ O.tells out.old }
@@ -45,7 +47,8 @@ pub(crate) fn put_text<O: Sink>(out: &mut O, text: Option<Vec<u8>>) -> Result<()
     ensures ok { (line : List ℕ) → IfSome text (λ t. t.items ≡ line)
         → OnOk result (IsWritten (O.tells out.old) (O.written out.old) (O.written out.new) line) }
     ensures err { (line : List ℕ) → IfSome text (λ t. t.items ≡ line)
-        → IfErr result (IsUnprinted (O.tells out.old) (O.written out.old) (O.written out.new) line) }
+        → IfErr result (IsUnprinted (O.tells out.old) (O.written out.old)
+        (O.written out.new) line) }
     ensures no_files { result ≡ Err Halt.Files → ⊥ }
     ensures no_disk { result ≡ Err Halt.Disk → ⊥ }
     ensures late { IfErr result (λ halt. IsBeforeJournal halt → ⊥) }

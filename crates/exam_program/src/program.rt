@@ -37,12 +37,14 @@ fn work<F: Files, O: Sink, D: Disk>(
     requires range { IsInRange (said command) }
     ensures ok { OnOk result.1 (IsTrue (F.tells files.old) → (words : List (List ℕ))
         → command_of words ≡ Some (said command.entry)
-        → Prints words (outside (F.has files.old) (F.content files.old) (F.faults files.old) (F.faults files.new)
+        → Prints words (outside (F.has files.old) (F.content files.old) (F.faults files.old)
+        (F.faults files.new)
         (disk_seen D.tells D.content D.accounts D.faults disk result.0))
         (O.tells out.old) (O.written out.old) (O.written out.new) 0) }
     ensures err { IfErr result.1 (λ halt. IsTrue (F.tells files.old) → (words : List (List ℕ))
         → command_of words ≡ Some (said command.entry)
-        → Halts words (outside (F.has files.old) (F.content files.old) (F.faults files.old) (F.faults files.new)
+        → Halts words (outside (F.has files.old) (F.content files.old) (F.faults files.old)
+        (F.faults files.new)
         (disk_seen D.tells D.content D.accounts D.faults disk result.0))
         (O.tells out.old) (O.written out.old) (O.written out.new) halt) }
     ensures files { result.1 ≡ Err Halt.Files → Rose (F.faults files.old) (F.faults files.new) }
@@ -89,7 +91,8 @@ fn status_of<F: Files, O: Sink, D: Disk>(
     requires range { AreInRange (option_map said command) }
     ensures answers { IsTrue (F.tells files.old) → (words : List (List ℕ))
         → option_map said command.entry ≡ command_of words
-        → Ends words (outside (F.has files.old) (F.content files.old) (F.faults files.old) (F.faults files.new)
+        → Ends words (outside (F.has files.old) (F.content files.old) (F.faults files.old)
+        (F.faults files.new)
         (disk_seen D.tells D.content D.accounts D.faults disk result.0))
         (O.tells out.old) (O.written out.old) (O.written out.new) result.1 }
     ensures faulty { option_map said command.entry ≡ None → (result.1 ≡ 2) ⊎ (result.1 ≡ 8) }
@@ -137,13 +140,15 @@ pub fn run_alone<F: Files, O: Sink, D: Disk>(
     // is written. If the disk reports its content too: what the journal holds, and what a crash may leave of it.
     ensures answers { IsTrue (F.tells tools.files)
         → Ends (map (λ w. string_bytes w) words.now)
-        (outside (F.has tools.files) (F.content tools.files) (F.faults tools.files) (F.faults result.1.files)
+        (outside (F.has tools.files) (F.content tools.files) (F.faults tools.files)
+        (F.faults result.1.files)
         (disk_seen D.tells D.content D.accounts D.faults tools.disk result.1.disk))
         (O.tells tools.out) (O.written tools.out) (O.written result.1.out) result.0 }
     // What is left of the journal, whatever the status.
     ensures journal { IsTrue (F.tells tools.files)
         → LeavesJournal (map (λ w. string_bytes w) words.now)
-        (outside (F.has tools.files) (F.content tools.files) (F.faults tools.files) (F.faults result.1.files)
+        (outside (F.has tools.files) (F.content tools.files) (F.faults tools.files)
+        (F.faults result.1.files)
         (disk_seen D.tells D.content D.accounts D.faults tools.disk result.1.disk)) }
     // The causes, whether they report their content or not. Out of memory is free.
     ensures faulty { command_of (map (λ w. string_bytes w) words.now) ≡ None
@@ -273,7 +278,8 @@ pub fn run<
         L.identity L.Link.tells L.Link.left L.Link.written L.Link.faults L.Link.identity
         opened closed world.doors.items result.doors.items failed) (result.doors ≡ world.doors)
         (map (λ w. string_bytes w) words.now)
-        (outside (F.has world.files) (F.content world.files) (F.faults world.files) (F.faults result.files)
+        (outside (F.has world.files) (F.content world.files) (F.faults world.files)
+        (F.faults result.files)
         (disk_seen D.tells D.content D.accounts D.faults world.disk result.disk))
         (O.tells world.out) (O.written world.out) (O.written result.out) result.status }
     // What is left of the journal, whatever the status.
@@ -282,7 +288,8 @@ pub fn run<
         L.identity L.Link.tells L.Link.left L.Link.written L.Link.faults L.Link.identity
         opened closed world.doors.items result.doors.items failed) (result.doors ≡ world.doors)
         (map (λ w. string_bytes w) words.now)
-        (outside (F.has world.files) (F.content world.files) (F.faults world.files) (F.faults result.files)
+        (outside (F.has world.files) (F.content world.files) (F.faults world.files)
+        (F.faults result.files)
         (disk_seen D.tells D.content D.accounts D.faults world.disk result.disk)) }
     // The causes, whether they report their content or not. Out of memory is free.
     ensures faulty { command_of (map (λ w. string_bytes w) words.now) ≡ None
@@ -291,7 +298,8 @@ pub fn run<
     ensures files { result.status ≡ 7 → Rose (F.faults world.files) (F.faults result.files) }
     ensures sink { result.status ≡ 8 → Rose (O.faults world.out) (O.faults result.out) }
     ensures failed { result.status ≡ 9 → Rose (D.faults world.disk) (D.faults result.disk) }
-    ensures door { result.status ≡ 14 → HasFailedDoor L.faults world.doors.items result.doors.items }
+    ensures door { result.status ≡ 14
+        → HasFailedDoor L.faults world.doors.items result.doors.items }
     ensures kept { IsStatusBefore result.status → result.disk ≡ world.disk }
     ensures unused { (IsOfJournal (command_of (map (λ w. string_bytes w) words.now)) → ⊥)
         → result.disk ≡ world.disk }
@@ -304,7 +312,8 @@ pub fn run<
     ensures files_tell { F.tells result.files ≡ F.tells world.files }
     ensures sink_tells { O.tells result.out ≡ O.tells world.out }
     ensures disk { IsLent D.tells D.identity D.faults world.disk result.disk }
-    ensures doors { AreLent L.tells L.identity L.faults L.is_out world.doors.items result.doors.items }
+    ensures doors { AreLent L.tells L.identity L.faults L.is_out world.doors.items
+        result.doors.items }
 {
     let World {
         mut files,

@@ -26,13 +26,18 @@ pub(crate) struct Exam {
 
 /// The bank in the file of this name.
 fn bank_in<F: Files>(alloc: Global, files: &mut F, name: &str) -> Result<Bank, Halt>
-    ensures ok { IfOk result (λ bank. IsTrue (F.tells files.old) → bank_of (F.content files.old name.now) ≡ Ok bank) }
-    ensures there { IfOk result (λ _. IsTrue (F.tells files.old) → IsTrue (F.has files.old name.now)) }
-    ensures err { IfErr result (λ halt. IsTrue (F.tells files.old) → HaltsAtBank (F.has files.old name.now) (F.content files.old name.now) halt) }
+    ensures ok { IfOk result (λ bank. IsTrue (F.tells files.old)
+        → bank_of (F.content files.old name.now) ≡ Ok bank) }
+    ensures there { IfOk result (λ _. IsTrue (F.tells files.old)
+        → IsTrue (F.has files.old name.now)) }
+    ensures err { IfErr result (λ halt. IsTrue (F.tells files.old)
+        → HaltsAtBank (F.has files.old name.now) (F.content files.old name.now) halt) }
     ensures failed { result ≡ Err Halt.Files → Rose (F.faults files.old) (F.faults files.new) }
     ensures early { IfErr result IsEarly }
-    ensures names { IsTrue (F.tells files.old) → (file : List ℕ) → F.has files.new file ≡ F.has files.old file }
-    ensures content { IsTrue (F.tells files.old) → (file : List ℕ) → F.content files.new file ≡ F.content files.old file }
+    ensures names { IsTrue (F.tells files.old) → (file : List ℕ)
+        → F.has files.new file ≡ F.has files.old file }
+    ensures content { IsTrue (F.tells files.old) → (file : List ℕ)
+        → F.content files.new file ≡ F.content files.old file }
     ensures grows { F.faults files.old ≤ F.faults files.new }
     ensures tells { F.tells files.new ≡ F.tells files.old }
 {
@@ -47,14 +52,19 @@ fn bank_in<F: Files>(alloc: Global, files: &mut F, name: &str) -> Result<Bank, H
 
 /// The plan in the file of this name.
 fn plan_in<F: Files>(alloc: Global, files: &mut F, bank: &Bank, name: &str) -> Result<Spec, Halt>
-    ensures ok { IfOk result (λ spec. IsTrue (F.tells files.old) → IsPlanIn bank.now (F.content files.old name.now) spec) }
+    ensures ok { IfOk result (λ spec. IsTrue (F.tells files.old)
+        → IsPlanIn bank.now (F.content files.old name.now) spec) }
     ensures valid { IfOk result (λ spec. IsPlanFor bank.now spec) }
-    ensures there { IfOk result (λ _. IsTrue (F.tells files.old) → IsTrue (F.has files.old name.now)) }
-    ensures err { IfErr result (λ halt. IsTrue (F.tells files.old) → HaltsAtPlan bank.now (F.has files.old name.now) (F.content files.old name.now) halt) }
+    ensures there { IfOk result (λ _. IsTrue (F.tells files.old)
+        → IsTrue (F.has files.old name.now)) }
+    ensures err { IfErr result (λ halt. IsTrue (F.tells files.old)
+        → HaltsAtPlan bank.now (F.has files.old name.now) (F.content files.old name.now) halt) }
     ensures failed { result ≡ Err Halt.Files → Rose (F.faults files.old) (F.faults files.new) }
     ensures early { IfErr result IsEarly }
-    ensures names { IsTrue (F.tells files.old) → (file : List ℕ) → F.has files.new file ≡ F.has files.old file }
-    ensures content { IsTrue (F.tells files.old) → (file : List ℕ) → F.content files.new file ≡ F.content files.old file }
+    ensures names { IsTrue (F.tells files.old) → (file : List ℕ)
+        → F.has files.new file ≡ F.has files.old file }
+    ensures content { IsTrue (F.tells files.old) → (file : List ℕ)
+        → F.content files.new file ≡ F.content files.old file }
     ensures grows { F.faults files.old ≤ F.faults files.new }
     ensures tells { F.tells files.new ≡ F.tells files.old }
 {
@@ -77,13 +87,17 @@ pub(crate) fn exam_in<F: Files>(
     bank: &str,
     plan: &str,
 ) -> Result<Exam, Halt>
-    ensures ok { IfOk result (λ exam. IsTrue (F.tells files.old) → Reads (F.has files.old) (F.content files.old) bank.now plan.now exam.bank exam.spec) }
+    ensures ok { IfOk result (λ exam. IsTrue (F.tells files.old)
+        → Reads (F.has files.old) (F.content files.old) bank.now plan.now exam.bank exam.spec) }
     ensures valid { IfOk result (λ exam. IsPlanFor exam.bank exam.spec) }
-    ensures err { IfErr result (λ halt. IsTrue (F.tells files.old) → HaltsAtExam (F.has files.old) (F.content files.old) bank.now plan.now halt) }
+    ensures err { IfErr result (λ halt. IsTrue (F.tells files.old)
+        → HaltsAtExam (F.has files.old) (F.content files.old) bank.now plan.now halt) }
     ensures failed { result ≡ Err Halt.Files → Rose (F.faults files.old) (F.faults files.new) }
     ensures early { IfErr result IsEarly }
-    ensures names { IsTrue (F.tells files.old) → (file : List ℕ) → F.has files.new file ≡ F.has files.old file }
-    ensures content { IsTrue (F.tells files.old) → (file : List ℕ) → F.content files.new file ≡ F.content files.old file }
+    ensures names { IsTrue (F.tells files.old) → (file : List ℕ)
+        → F.has files.new file ≡ F.has files.old file }
+    ensures content { IsTrue (F.tells files.old) → (file : List ℕ)
+        → F.content files.new file ≡ F.content files.old file }
     ensures grows { F.faults files.old ≤ F.faults files.new }
     ensures tells { F.tells files.new ≡ F.tells files.old }
 {
@@ -103,9 +117,12 @@ pub(crate) fn script_in<F: Files>(
     files: &mut F,
     name: &str,
 ) -> Result<Vec<Request>, Halt>
-    ensures ok { IfOk result (λ requests. IsTrue (F.tells files.old) → IsScriptIn (F.content files.old name.now) requests.items) }
-    ensures there { IfOk result (λ _. IsTrue (F.tells files.old) → IsTrue (F.has files.old name.now)) }
-    ensures err { IfErr result (λ halt. IsTrue (F.tells files.old) → HaltsAtScript (F.has files.old name.now) (F.content files.old name.now) halt) }
+    ensures ok { IfOk result (λ requests. IsTrue (F.tells files.old)
+        → IsScriptIn (F.content files.old name.now) requests.items) }
+    ensures there { IfOk result (λ _. IsTrue (F.tells files.old)
+        → IsTrue (F.has files.old name.now)) }
+    ensures err { IfErr result (λ halt. IsTrue (F.tells files.old)
+        → HaltsAtScript (F.has files.old name.now) (F.content files.old name.now) halt) }
     ensures early { IfErr result IsEarly }
     ensures failed { result ≡ Err Halt.Files → Rose (F.faults files.old) (F.faults files.new) }
     ensures grows { F.faults files.old ≤ F.faults files.new }

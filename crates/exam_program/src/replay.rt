@@ -48,8 +48,11 @@ fn halt_of(spec: &Spec, reply: &Reply) -> Option<Halt>
 
 /// Prints the line of a reply.
 fn print_reply<O: Sink>(alloc: Global, reply: &Reply, out: &mut O) -> Result<(), Halt>
-    ensures ok { OnOk result (IsWritten (O.tells out.old) (O.written out.old) (O.written out.new) (line_of reply.now)) }
-    ensures err { IfErr result (IsUnprinted (O.tells out.old) (O.written out.old) (O.written out.new) (line_of reply.now)) }
+    ensures ok { OnOk result
+        (IsWritten (O.tells out.old) (O.written out.old) (O.written out.new) (line_of reply.now)) }
+    ensures err { IfErr result
+        (IsUnprinted (O.tells out.old) (O.written out.old) (O.written out.new)
+        (line_of reply.now)) }
     ensures failed { result ≡ Err Halt.Sink → Rose (O.faults out.old) (O.faults out.new) }
     ensures grows { O.faults out.old ≤ O.faults out.new }
     ensures tells { O.tells out.new ≡ O.tells out.old }
@@ -72,17 +75,22 @@ fn do_request<'a, O: Sink, D: Disk>(
     out: &mut O,
 ) -> Result<(), Halt>
     requires durable { IsDurable alone.old.office.bank alone.old.office.plan alone.old.office }
-    ensures ok { OnOk result (IsAnswered alone.old.office.bank alone.old.office.plan alone.old.office.base request.now
-        alone.old.office alone.new.office (O.tells out.old) (O.written out.old) (O.written out.new)) }
-    ensures err { IfErr result (IsStopped alone.old.office.bank alone.old.office.plan alone.old.office.base request.now
-        alone.old.office alone.new.office (O.tells out.old) (O.written out.old) (O.written out.new)) }
+    ensures ok { OnOk result
+        (IsAnswered alone.old.office.bank alone.old.office.plan alone.old.office.base request.now
+        alone.old.office alone.new.office (O.tells out.old) (O.written out.old)
+        (O.written out.new)) }
+    ensures err { IfErr result
+        (IsStopped alone.old.office.bank alone.old.office.plan alone.old.office.base request.now
+        alone.old.office alone.new.office (O.tells out.old) (O.written out.old)
+        (O.written out.new)) }
     ensures sink { result ≡ Err Halt.Sink → Rose (O.faults out.old) (O.faults out.new) }
     ensures each { IsTrue (tells_of alone.old.office.journal)
         → AtEachMoment (accounts_of alone.old.office.journal) (accounts_of alone.new.office.journal)
         (IsFileOf alone.old.office.bank alone.old.office.plan alone.old.office.base
         (history alone.old.office.marks) (request.now ∷ [])) }
     ensures same { IsSameOffice alone.old.office alone.new.office }
-    ensures disk { IsLent tells_of identity_of faults_of alone.old.office.journal alone.new.office.journal }
+    ensures disk { IsLent tells_of identity_of faults_of alone.old.office.journal
+        alone.new.office.journal }
     ensures grows { O.faults out.old ≤ O.faults out.new }
     ensures tells { O.tells out.new ≡ O.tells out.old }
 {
@@ -101,13 +109,18 @@ fn do_requests<'a, O: Sink, D: Disk>(
     out: &mut O,
 ) -> Result<(), Halt>
     requires durable { IsDurable alone.old.office.bank alone.old.office.plan alone.old.office }
-    ensures ok { OnOk result (IsServed alone.old.office.bank alone.old.office.plan alone.old.office.base requests.now
-        alone.old.office alone.new.office (O.tells out.old) (O.written out.old) (O.written out.new)) }
-    ensures err { IfErr result (IsUnserved alone.old.office.bank alone.old.office.plan alone.old.office.base requests.now
-        alone.old.office alone.new.office (O.tells out.old) (O.written out.old) (O.written out.new)) }
+    ensures ok { OnOk result
+        (IsServed alone.old.office.bank alone.old.office.plan alone.old.office.base requests.now
+        alone.old.office alone.new.office (O.tells out.old) (O.written out.old)
+        (O.written out.new)) }
+    ensures err { IfErr result
+        (IsUnserved alone.old.office.bank alone.old.office.plan alone.old.office.base requests.now
+        alone.old.office alone.new.office (O.tells out.old) (O.written out.old)
+        (O.written out.new)) }
     ensures sink { result ≡ Err Halt.Sink → Rose (O.faults out.old) (O.faults out.new) }
     ensures same { IsSameOffice alone.old.office alone.new.office }
-    ensures disk { IsLent tells_of identity_of faults_of alone.old.office.journal alone.new.office.journal }
+    ensures disk { IsLent tells_of identity_of faults_of alone.old.office.journal
+        alone.new.office.journal }
     ensures grows { O.faults out.old ≤ O.faults out.new }
     ensures tells { O.tells out.new ≡ O.tells out.old }
 {
@@ -145,7 +158,8 @@ pub(crate) fn replay<'a, O: Sink, D: Disk>(
     requires plan { IsPlanFor bank.now spec.now }
     requires base { Meets bank.now spec.now (has base.now) }
     ensures ok { OnOk result.1 (Finishes
-        (IsReplayed bank.now spec.now base.now (disk_seen D.tells D.content D.accounts D.faults disk result.0) requests.now)
+        (IsReplayed bank.now spec.now base.now
+        (disk_seen D.tells D.content D.accounts D.faults disk result.0) requests.now)
         (O.tells out.old) (O.written out.old) (O.written out.new)) }
     ensures err { IfErr result.1 (Halted bank.now spec.now base.now
         (disk_seen D.tells D.content D.accounts D.faults disk result.0) requests.now

@@ -18,8 +18,10 @@ pub(crate) fn print<O: Sink>(out: &mut O, text: &[u8], status: u8) -> u8
     ensures answers { (words : List (List ℕ)) (o : Outside) (first : List ℕ)
         → PrintsBefore words o (O.tells out.old) first (O.written out.old) status text.now
         → Ends words o (O.tells out.old) first (O.written out.new) result }
-    ensures printed { IsLastWritten (O.tells out.old) (O.written out.old) (O.written out.new) status text.now result }
-    ensures status { (result ≡ status) ⊎ ((result ≡ 8) × Rose (O.faults out.old) (O.faults out.new)) }
+    ensures printed { IsLastWritten (O.tells out.old) (O.written out.old)
+        (O.written out.new) status text.now result }
+    ensures status { (result ≡ status)
+        ⊎ ((result ≡ 8) × Rose (O.faults out.old) (O.faults out.new)) }
     ensures grows { O.faults out.old ≤ O.faults out.new }
     ensures tells { O.tells out.new ≡ O.tells out.old }
 {
@@ -36,11 +38,14 @@ pub(crate) fn print_text<O: Sink>(out: &mut O, text: Result<String, AllocError>,
         → IfOk text (λ t. string_bytes t ≡ line)
         → PrintsBeforeText words o (O.tells out.old) first (O.written out.old) status line
         → Ends words o (O.tells out.old) first (O.written out.new) result }
-    ensures printed { IfOk text (λ t. IsLastWritten (O.tells out.old) (O.written out.old) (O.written out.new)
+    ensures printed { IfOk text
+        (λ t. IsLastWritten (O.tells out.old) (O.written out.old) (O.written out.new)
         status (string_bytes t) result) }
-    ensures unprinted { IfErr text (λ _. IsLastWritten (O.tells out.old) (O.written out.old) (O.written out.new)
+    ensures unprinted { IfErr text
+        (λ _. IsLastWritten (O.tells out.old) (O.written out.old) (O.written out.new)
         10 no_memory result) }
-    ensures status { ((result ≡ status) ⊎ (result ≡ 10)) ⊎ ((result ≡ 8) × Rose (O.faults out.old) (O.faults out.new)) }
+    ensures status { ((result ≡ status) ⊎ (result ≡ 10))
+        ⊎ ((result ≡ 8) × Rose (O.faults out.old) (O.faults out.new)) }
     ensures grows { O.faults out.old ≤ O.faults out.new }
     ensures tells { O.tells out.new ≡ O.tells out.old }
 {
@@ -56,7 +61,8 @@ pub(crate) fn report<O: Sink>(alloc: Global, out: &mut O, halt: Halt) -> u8
     ensures answers { (words : List (List ℕ)) (o : Outside) (first : List ℕ)
         → Halts words o (O.tells out.old) first (O.written out.old) halt
         → Ends words o (O.tells out.old) first (O.written out.new) result }
-    ensures status { EndsBy halt result ⊎ ((result ≡ 8) × Rose (O.faults out.old) (O.faults out.new)) }
+    ensures status { EndsBy halt result
+        ⊎ ((result ≡ 8) × Rose (O.faults out.old) (O.faults out.new)) }
     ensures grows { O.faults out.old ≤ O.faults out.new }
     ensures tells { O.tells out.new ≡ O.tells out.old }
 {

@@ -143,7 +143,8 @@ where
         → RunEnds (λ opened closed failed. AreServed L.tells L.coming L.returned L.is_out L.faults
         L.identity L.Link.tells L.Link.left L.Link.written L.Link.faults L.Link.identity
         opened closed doors.items result.doors.items failed) (result.doors ≡ doors)
-        words (outside (F.has files.old) (F.content files.old) (F.faults files.old) (F.faults files.new)
+        words (outside (F.has files.old) (F.content files.old) (F.faults files.old)
+        (F.faults files.new)
         (disk_seen D.tells D.content D.accounts D.faults disk result.disk))
         (O.tells out.old) (O.written out.old) (O.written out.new) result.status }
     ensures door { result.status ≡ 14 → HasFailedDoor L.faults doors.items result.doors.items }

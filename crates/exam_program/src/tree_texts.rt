@@ -90,7 +90,8 @@ pub(crate) fn form_text(
     tree: &Tree,
 ) -> Result<Vec<u8>, Memory>
     requires { IsWellMade (problem_of problem.now) }
-    ensures { IfOk result (λ text. text.items ≡ form_text (problem_of problem.now) found.now.form found.now.proved tree.now) }
+    ensures { IfOk result (λ text. text.items
+        ≡ form_text (problem_of problem.now) found.now.form found.now.proved tree.now) }
 {
     let mut text = Vec::new(alloc);
     text.extend_from_slice(b"form")?;

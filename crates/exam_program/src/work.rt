@@ -41,11 +41,14 @@ pub(crate) fn check<F: Files, O: Sink>(
 ) -> Result<(), Halt>
     ensures ok { OnOk result (IsTrue (F.tells files.old) → (words : List (List ℕ)) (disk : DiskSeen)
         → command_of words ≡ Some (Check bank.now plan.now) → IsUntouched disk
-        → Prints words (outside (F.has files.old) (F.content files.old) (F.faults files.old) (F.faults files.new) disk)
+        → Prints words (outside (F.has files.old) (F.content files.old) (F.faults files.old)
+        (F.faults files.new) disk)
         (O.tells out.old) (O.written out.old) (O.written out.new) 0) }
-    ensures err { IfErr result (λ halt. IsTrue (F.tells files.old) → (words : List (List ℕ)) (disk : DiskSeen)
+    ensures err { IfErr result (λ halt. IsTrue (F.tells files.old)
+        → (words : List (List ℕ)) (disk : DiskSeen)
         → command_of words ≡ Some (Check bank.now plan.now) → IsUntouched disk
-        → Halts words (outside (F.has files.old) (F.content files.old) (F.faults files.old) (F.faults files.new) disk)
+        → Halts words (outside (F.has files.old) (F.content files.old) (F.faults files.old)
+        (F.faults files.new) disk)
         (O.tells out.old) (O.written out.old) (O.written out.new) halt) }
     ensures files { result ≡ Err Halt.Files → Rose (F.faults files.old) (F.faults files.new) }
     ensures sink { result ≡ Err Halt.Sink → Rose (O.faults out.old) (O.faults out.new) }
@@ -72,11 +75,14 @@ pub(crate) fn assemble<F: Files, O: Sink>(
 ) -> Result<(), Halt>
     ensures ok { OnOk result (IsTrue (F.tells files.old) → (words : List (List ℕ)) (disk : DiskSeen)
         → command_of words ≡ Some (Assemble bank.now plan.now) → IsUntouched disk
-        → Prints words (outside (F.has files.old) (F.content files.old) (F.faults files.old) (F.faults files.new) disk)
+        → Prints words (outside (F.has files.old) (F.content files.old) (F.faults files.old)
+        (F.faults files.new) disk)
         (O.tells out.old) (O.written out.old) (O.written out.new) 0) }
-    ensures err { IfErr result (λ halt. IsTrue (F.tells files.old) → (words : List (List ℕ)) (disk : DiskSeen)
+    ensures err { IfErr result (λ halt. IsTrue (F.tells files.old)
+        → (words : List (List ℕ)) (disk : DiskSeen)
         → command_of words ≡ Some (Assemble bank.now plan.now) → IsUntouched disk
-        → Halts words (outside (F.has files.old) (F.content files.old) (F.faults files.old) (F.faults files.new) disk)
+        → Halts words (outside (F.has files.old) (F.content files.old) (F.faults files.old)
+        (F.faults files.new) disk)
         (O.tells out.old) (O.written out.old) (O.written out.new) halt) }
     ensures files { result ≡ Err Halt.Files → Rose (F.faults files.old) (F.faults files.new) }
     ensures sink { result ≡ Err Halt.Sink → Rose (O.faults out.old) (O.faults out.new) }
@@ -108,12 +114,14 @@ pub(crate) fn replay_script<F: Files, O: Sink, D: Disk>(
 ) -> (D, Result<(), Halt>)
     ensures ok { OnOk result.1 (IsTrue (F.tells files.old) → (words : List (List ℕ))
         → command_of words ≡ Some (Replay bank.now plan.now script.now)
-        → Prints words (outside (F.has files.old) (F.content files.old) (F.faults files.old) (F.faults files.new)
+        → Prints words (outside (F.has files.old) (F.content files.old) (F.faults files.old)
+        (F.faults files.new)
         (disk_seen D.tells D.content D.accounts D.faults disk result.0))
         (O.tells out.old) (O.written out.old) (O.written out.new) 0) }
     ensures err { IfErr result.1 (λ halt. IsTrue (F.tells files.old) → (words : List (List ℕ))
         → command_of words ≡ Some (Replay bank.now plan.now script.now)
-        → Halts words (outside (F.has files.old) (F.content files.old) (F.faults files.old) (F.faults files.new)
+        → Halts words (outside (F.has files.old) (F.content files.old) (F.faults files.old)
+        (F.faults files.new)
         (disk_seen D.tells D.content D.accounts D.faults disk result.0))
         (O.tells out.old) (O.written out.old) (O.written out.new) halt) }
     ensures files { result.1 ≡ Err Halt.Files → Rose (F.faults files.old) (F.faults files.new) }

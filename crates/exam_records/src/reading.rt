@@ -234,7 +234,8 @@ pub fn decode(alloc: Global, payload: &[u8]) -> Result<Record, RecordFault>
     // What is read is a record, and the payload its one spelling.
     ensures found { IfOk result (λ rec. IsRecord rec × (payload.now ≡ payload_of rec)) }
     // What is spelled so is read, unless memory runs out.
-    ensures only { (r : Record) → IsRecord r → payload.now ≡ payload_of r → Gives Memory (λ x. x) result (Ok r) }
+    ensures only { (r : Record) → IsRecord r → payload.now ≡ payload_of r
+        → Gives Memory (λ x. x) result (Ok r) }
     // Which fault it is, and where.
     ensures exact { Gives Memory (λ x. x) result (record_of payload.now) }
 {

@@ -97,7 +97,8 @@ fn push_tree(alloc: Global, out: &mut Vec<u8>, tree: Option<&Tree>) -> Result<()
 #[tactic(auto, unfolding(crate::specs::Spelling::payload_of))]
 pub fn encode_parts(alloc: Global, entry: &Entry, tree: Option<&Tree>) -> Result<Vec<u8>, Memory>
     requires { GoesWith entry.now (option_copied tree) }
-    ensures spelling { IfOk result (λ bytes. bytes.items ≡ payload_of (record { entry = entry.now; tree = option_copied tree.entry })) }
+    ensures spelling { IfOk result (λ bytes. bytes.items
+        ≡ payload_of (record { entry = entry.now; tree = option_copied tree.entry })) }
     // A record that keeps the condition is one that `decode` gives.
     ensures is_record { IsRecord (record { entry = entry.now; tree = option_copied tree.entry }) }
     ensures some { IfOk result (λ bytes. 0 < length bytes.items) }

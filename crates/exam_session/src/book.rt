@@ -154,7 +154,8 @@ impl<'a> Book<'a> {
 
     /// What a session holds so far, made of what is kept of it; none where it isn't there.
     pub fn seat(&self, session: u32) -> Option<Seat>
-        ensures { result ≡ (if is_started self.now.entries session then Some (seat_of self.now.entries session) else None) }
+        ensures { result ≡ (if is_started self.now.entries session
+            then Some (seat_of self.now.entries session) else None) }
     {
         match self.seats.get(session as usize) {
             Some(kept) => Some(kept.seat()),
@@ -167,7 +168,8 @@ impl<'a> Book<'a> {
     pub fn place(&self, session: u32) -> Option<Place>
         ensures place { result ≡ place self.now.plan self.now.entries session }
         // the item that waits for its answer is one of the bank
-        ensures item { (step item : ℕ) (proved : Bool) → result ≡ Some (Waiting step item proved) → item < size self.now.bank }
+        ensures item { (step item : ℕ) (proved : Bool) → result ≡ Some (Waiting step item proved)
+            → item < size self.now.bank }
     {
         match self.seats.get(session as usize) {
             Some(kept) => Some(kept.place(self.spec)),
@@ -184,7 +186,8 @@ impl<'a> Book<'a> {
 
     /// The items that are eligible for the next session: its draw, at the counts of the entries so far.
     pub fn drawn(&self) -> ItemSet
-        ensures drawn { SameItems (has result) (draw self.now.bank self.now.plan self.now.entries (sessions self.now.entries)) }
+        ensures drawn { SameItems (has result)
+            (draw self.now.bank self.now.plan self.now.entries (sessions self.now.entries)) }
         ensures items { HoldsItems self.now.bank (has result) }
     {
         let session = self.sessions();
@@ -229,11 +232,15 @@ impl<'a> Book<'a> {
 
     /// The problem of a session that waits for an item; none where it doesn't.
     pub fn problem(&self, session: u32) -> Option<Problem<'a>>
-        ensures problem { IfSome result (λ p. IsProblemOf self.now.bank self.now.plan self.now.entries session p.step (problem_of p)) }
+        ensures problem { IfSome result
+            (λ p. IsProblemOf self.now.bank self.now.plan self.now.entries session p.step
+            (problem_of p)) }
         ensures well_made { IfSome result (λ p. IsWellMade (problem_of p)) }
         // a form of it has an item that isn't given
-        ensures free { IfSome result (λ p. (X : Set) → Form (problem_of p) X → HasFreeItem (problem_of p) X) }
-        ensures none { IfNone result ((step : ℕ) → place self.now.plan self.now.entries session ≡ Some (Pending step) → ⊥) }
+        ensures free { IfSome result (λ p. (X : Set) → Form (problem_of p) X
+            → HasFreeItem (problem_of p) X) }
+        ensures none { IfNone result ((step : ℕ) → place self.now.plan self.now.entries session
+            ≡ Some (Pending step) → ⊥) }
     {
         match self.seats.get(session as usize) {
             Some(kept) => {

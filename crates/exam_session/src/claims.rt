@@ -56,8 +56,14 @@ pub(crate) fn shows(
     tree: Option<&Tree>,
 ) -> Result<(), Illegal>
     requires { IsWellMade (problem_of problem.now) }
-    ensures shown { IfOk result (λ _. Shows (problem_of problem.now) (option_map has (option_copied form.entry)) problem.now.spec.now.budget nodes claim (option_copied tree.entry)) }
-    ensures reason { IfErr result (IsNotShown (problem_of problem.now) (option_map has (option_copied form.entry)) problem.now.spec.now.budget nodes claim (option_copied tree.entry)) }
+    ensures shown { IfOk result
+        (λ _. Shows (problem_of problem.now)
+        (option_map has (option_copied form.entry)) problem.now.spec.now.budget nodes claim
+        (option_copied tree.entry)) }
+    ensures reason { IfErr result
+        (IsNotShown (problem_of problem.now)
+        (option_map has (option_copied form.entry)) problem.now.spec.now.budget nodes claim
+        (option_copied tree.entry)) }
 {
     let Some(tree) = tree else {
         return Err(Illegal::NotSpent(nodes));

@@ -39,8 +39,12 @@ pub(crate) fn count_entry(
 )
     requires bank { IsBank bank.now }
     requires plan { IsPlanFor bank.now spec.now }
-    requires examination { (H : List Entry) × LegalRun bank.now spec.now H × Legal bank.now spec.now H entry.now × AreKept spec.now H seats.now × AreCounts bank.now spec.now H counters.old }
-    ensures { (H : List Entry) → LegalRun bank.now spec.now H → Legal bank.now spec.now H entry.now → AreKept spec.now H seats.now → AreCounts bank.now spec.now H counters.old → AreCounts bank.now spec.now (H ++ entry.now ∷ []) counters.new }
+    requires examination { (H : List Entry) × LegalRun bank.now spec.now H
+        × Legal bank.now spec.now H entry.now × AreKept spec.now H seats.now
+        × AreCounts bank.now spec.now H counters.old }
+    ensures { (H : List Entry) → LegalRun bank.now spec.now H → Legal bank.now spec.now H entry.now
+        → AreKept spec.now H seats.now → AreCounts bank.now spec.now H counters.old
+        → AreCounts bank.now spec.now (H ++ entry.now ∷ []) counters.new }
 {
     let Some(session) = finished_by(spec, entry) else {
         return;

@@ -34,9 +34,12 @@ fn first_difference(one: ItemSet, other: ItemSet) -> Option<u16>
 impl<'a> Book<'a> {
     /// The problem of a session that waits for an item at a step.
     fn problem_at(&self, session: u32, step: u16) -> Result<Problem<'a>, Illegal>
-        ensures problem { IfOk result (λ p. IsProblemOf self.now.bank self.now.plan self.now.entries session step (problem_of p)) }
+        ensures problem { IfOk result
+            (λ p. IsProblemOf self.now.bank self.now.plan self.now.entries session step
+            (problem_of p)) }
         ensures well_made { IfOk result (λ p. IsWellMade (problem_of p)) }
-        ensures free { IfOk result (λ p. (X : Set) → Form (problem_of p) X → HasFreeItem (problem_of p) X) }
+        ensures free { IfOk result (λ p. (X : Set) → Form (problem_of p) X
+            → HasFreeItem (problem_of p) X) }
         ensures reason { IfErr result (IsNotPending self.now.plan self.now.entries session step) }
     {
         let Some(place) = self.place(session) else {
@@ -58,8 +61,12 @@ impl<'a> Book<'a> {
         eligible: ItemSet,
         tree: Option<&Tree>,
     ) -> Result<(), Illegal>
-        ensures may { IfOk result (λ _. MayFollow self.now.bank self.now.plan self.now.entries (Started session booking eligible) (option_copied tree.entry)) }
-        ensures reason { IfErr result (IsIllegal self.now.bank self.now.plan self.now.entries (Started session booking eligible) (option_copied tree.entry)) }
+        ensures may { IfOk result
+            (λ _. MayFollow self.now.bank self.now.plan self.now.entries
+            (Started session booking eligible) (option_copied tree.entry)) }
+        ensures reason { IfErr result
+            (IsIllegal self.now.bank self.now.plan self.now.entries
+            (Started session booking eligible) (option_copied tree.entry)) }
     {
         let count = self.sessions();
         if session != count || session >= self.spec.sessions() {
@@ -84,8 +91,12 @@ impl<'a> Book<'a> {
         nodes: u16,
         tree: Option<&Tree>,
     ) -> Result<(), Illegal>
-        ensures may { IfOk result (λ _. MayFollow self.now.bank self.now.plan self.now.entries (SetAside session cause nodes) (option_copied tree.entry)) }
-        ensures reason { IfErr result (IsIllegal self.now.bank self.now.plan self.now.entries (SetAside session cause nodes) (option_copied tree.entry)) }
+        ensures may { IfOk result
+            (λ _. MayFollow self.now.bank self.now.plan self.now.entries
+            (SetAside session cause nodes) (option_copied tree.entry)) }
+        ensures reason { IfErr result
+            (IsIllegal self.now.bank self.now.plan self.now.entries (SetAside session cause nodes)
+            (option_copied tree.entry)) }
     {
         let problem = match self.problem_at(session, 0) {
             Ok(problem) => problem,
@@ -107,8 +118,12 @@ impl<'a> Book<'a> {
         nodes: u16,
         tree: Option<&Tree>,
     ) -> Result<(), Illegal>
-        ensures may { IfOk result (λ _. MayFollow self.now.bank self.now.plan self.now.entries (Served session step item form.now proved nodes) (option_copied tree.entry)) }
-        ensures reason { IfErr result (IsIllegal self.now.bank self.now.plan self.now.entries (Served session step item form.now proved nodes) (option_copied tree.entry)) }
+        ensures may { IfOk result
+            (λ _. MayFollow self.now.bank self.now.plan self.now.entries
+            (Served session step item form.now proved nodes) (option_copied tree.entry)) }
+        ensures reason { IfErr result
+            (IsIllegal self.now.bank self.now.plan self.now.entries
+            (Served session step item form.now proved nodes) (option_copied tree.entry)) }
     {
         let problem = match self.problem_at(session, step) {
             Ok(problem) => problem,
@@ -131,8 +146,12 @@ impl<'a> Book<'a> {
         response: u8,
         tree: Option<&Tree>,
     ) -> Result<(), Illegal>
-        ensures may { IfOk result (λ _. MayFollow self.now.bank self.now.plan self.now.entries (Answered session step response) (option_copied tree.entry)) }
-        ensures reason { IfErr result (IsIllegal self.now.bank self.now.plan self.now.entries (Answered session step response) (option_copied tree.entry)) }
+        ensures may { IfOk result
+            (λ _. MayFollow self.now.bank self.now.plan self.now.entries
+            (Answered session step response) (option_copied tree.entry)) }
+        ensures reason { IfErr result
+            (IsIllegal self.now.bank self.now.plan self.now.entries (Answered session step response)
+            (option_copied tree.entry)) }
     {
         let Some(place) = self.place(session) else {
             return Err(Illegal::NoSession(self.sessions()));
@@ -154,8 +173,12 @@ impl<'a> Book<'a> {
     }
 
     fn judge_closing(&self, session: u32, tree: Option<&Tree>) -> Result<(), Illegal>
-        ensures may { IfOk result (λ _. MayFollow self.now.bank self.now.plan self.now.entries (Closed session) (option_copied tree.entry)) }
-        ensures reason { IfErr result (IsIllegal self.now.bank self.now.plan self.now.entries (Closed session) (option_copied tree.entry)) }
+        ensures may { IfOk result
+            (λ _. MayFollow self.now.bank self.now.plan self.now.entries (Closed session)
+            (option_copied tree.entry)) }
+        ensures reason { IfErr result
+            (IsIllegal self.now.bank self.now.plan self.now.entries (Closed session)
+            (option_copied tree.entry)) }
     {
         let Some(place) = self.place(session) else {
             return Err(Illegal::NoSession(self.sessions()));
@@ -172,8 +195,12 @@ impl<'a> Book<'a> {
     /// Tests whether the record of an entry and its proof tree may follow the entries of the book, and gives otherwise the
     /// first reason, in the order of `Illegal`'s variants for the record's kind. Takes no memory.
     pub fn judge_parts(&self, entry: &Entry, tree: Option<&Tree>) -> Result<(), Illegal>
-        ensures may { IfOk result (λ _. MayFollow self.now.bank self.now.plan self.now.entries entry.now (option_copied tree.entry)) }
-        ensures reason { IfErr result (IsIllegal self.now.bank self.now.plan self.now.entries entry.now (option_copied tree.entry)) }
+        ensures may { IfOk result
+            (λ _. MayFollow self.now.bank self.now.plan self.now.entries entry.now
+            (option_copied tree.entry)) }
+        ensures reason { IfErr result
+            (IsIllegal self.now.bank self.now.plan self.now.entries entry.now
+            (option_copied tree.entry)) }
     {
         match *entry {
             Entry::Started {
@@ -205,8 +232,11 @@ impl<'a> Book<'a> {
 
     /// Tests a record, as its entry and its tree.
     pub fn judge(&self, rec: &Record) -> Result<(), Illegal>
-        ensures may { IfOk result (λ _. MayFollow self.now.bank self.now.plan self.now.entries rec.now.entry rec.now.tree) }
-        ensures reason { IfErr result (IsIllegal self.now.bank self.now.plan self.now.entries rec.now.entry rec.now.tree) }
+        ensures may { IfOk result
+            (λ _. MayFollow self.now.bank self.now.plan self.now.entries rec.now.entry
+            rec.now.tree) }
+        ensures reason { IfErr result
+            (IsIllegal self.now.bank self.now.plan self.now.entries rec.now.entry rec.now.tree) }
     {
         self.judge_parts(&rec.entry, rec.tree.as_ref())
     }

@@ -38,7 +38,9 @@ fn count_session(counts: &mut [Counts], shown: &ItemSet, eligible: &ItemSet)
     requires few { length counts.old ≤ 512 }
     requires alpha { (i : ℕ) → (get_or counts.old i no_counts).alpha ≤ 65536 }
     requires eps { (i : ℕ) → (get_or counts.old i no_counts).eps ≤ 65536 }
-    ensures { (i : ℕ) → i < length counts.old → get_or counts.new i no_counts ≡ counted (get_or counts.old i no_counts) (has shown.now i) (has eligible.now i) }
+    ensures { (i : ℕ) → i < length counts.old
+        → get_or counts.new i no_counts
+        ≡ counted (get_or counts.old i no_counts) (has shown.now i) (has eligible.now i) }
 {
     for i in 0..counts.len() {
         let item = i as u16;
@@ -71,7 +73,9 @@ impl Counters {
         requires eligible { (i : ℕ) → IsTrue (has eligible.now i) → i < length self.old.counts }
         requires few { self.old.finished < 65536 }
         ensures items { length self.new.counts ≡ length self.old.counts }
-        ensures counts { (i : ℕ) → counts_at self.new i ≡ counted (counts_at self.old i) (has shown.now i) (has eligible.now i) }
+        ensures counts { (i : ℕ)
+            → counts_at self.new i
+            ≡ counted (counts_at self.old i) (has shown.now i) (has eligible.now i) }
         ensures finished { self.new.finished ≡ self.old.finished + 1 }
     {
         count_session(&mut self.counts, shown, eligible);
@@ -86,10 +90,14 @@ impl Counters {
         requires eligible { (i : ℕ) → IsTrue (has eligible.now i) → i < length self.old.counts }
         requires few { self.old.finished < 65536 }
         ensures items { length self.new.counts ≡ length self.old.counts }
-        ensures counts { (i : ℕ) → counts_at self.new i ≡ counted (counts_at self.old i) (has shown.now i) (has eligible.now i) }
+        ensures counts { (i : ℕ)
+            → counts_at self.new i
+            ≡ counted (counts_at self.old i) (has shown.now i) (has eligible.now i) }
         ensures finished { self.new.finished ≡ self.old.finished + 1 }
         // counters of a list of sessions are then those of the list with this one at its end
-        ensures sessions { (sessions : List FinishedSession) → IsTallyOf sessions self.old → IsTallyOf (sessions ++ record { shown = has shown.now; eligible = has eligible.now } ∷ []) self.new }
+        ensures sessions { (sessions : List FinishedSession) → IsTallyOf sessions self.old
+            → IsTallyOf (sessions
+            ++ record { shown = has shown.now; eligible = has eligible.now } ∷ []) self.new }
     {
         self.add_session(shown, eligible);
     }

@@ -147,7 +147,8 @@ impl Disk for HostDisk {
     fn len(&mut self) -> Result<u64, Failed>
         ensures counted { IsCounted (is_ok result) (faults_of self.old) (faults_of self.new) }
         ensures grows { count_of (faults_of self.old) ≤ count_of (faults_of self.new) }
-        ensures failed { OnErr result (Rose (count_of (faults_of self.old)) (count_of (faults_of self.new))) }
+        ensures failed { OnErr result
+            (Rose (count_of (faults_of self.old)) (count_of (faults_of self.new))) }
     {
         let path = self.path.as_str();
         let file = opened(&self.rt, path, self.is_only_read, &mut self.file);
@@ -159,7 +160,8 @@ impl Disk for HostDisk {
         ensures count { IfOk result (λ k. k ≤ length buffer.old) }
         ensures counted { IsCounted (is_ok result) (faults_of self.old) (faults_of self.new) }
         ensures grows { count_of (faults_of self.old) ≤ count_of (faults_of self.new) }
-        ensures failed { OnErr result (Rose (count_of (faults_of self.old)) (count_of (faults_of self.new))) }
+        ensures failed { OnErr result
+            (Rose (count_of (faults_of self.old)) (count_of (faults_of self.new))) }
     {
         let most = buffer.len();
         let path = self.path.as_str();
@@ -171,7 +173,8 @@ impl Disk for HostDisk {
     fn write_at(&mut self, at: u64, bytes: &[u8]) -> Result<(), Failed>
         ensures counted { IsCounted (is_ok result) (faults_of self.old) (faults_of self.new) }
         ensures grows { count_of (faults_of self.old) ≤ count_of (faults_of self.new) }
-        ensures failed { OnErr result (Rose (count_of (faults_of self.old)) (count_of (faults_of self.new))) }
+        ensures failed { OnErr result
+            (Rose (count_of (faults_of self.old)) (count_of (faults_of self.new))) }
     {
         let path = self.path.as_str();
         let file = opened(&self.rt, path, self.is_only_read, &mut self.file);
@@ -182,7 +185,8 @@ impl Disk for HostDisk {
     fn cut(&mut self, length: u64) -> Result<(), Failed>
         ensures counted { IsCounted (is_ok result) (faults_of self.old) (faults_of self.new) }
         ensures grows { count_of (faults_of self.old) ≤ count_of (faults_of self.new) }
-        ensures failed { OnErr result (Rose (count_of (faults_of self.old)) (count_of (faults_of self.new))) }
+        ensures failed { OnErr result
+            (Rose (count_of (faults_of self.old)) (count_of (faults_of self.new))) }
     {
         let path = self.path.as_str();
         let file = opened(&self.rt, path, self.is_only_read, &mut self.file);
@@ -193,7 +197,8 @@ impl Disk for HostDisk {
     fn sync(&mut self) -> Result<(), Failed>
         ensures counted { IsCounted (is_ok result) (faults_of self.old) (faults_of self.new) }
         ensures grows { count_of (faults_of self.old) ≤ count_of (faults_of self.new) }
-        ensures failed { OnErr result (Rose (count_of (faults_of self.old)) (count_of (faults_of self.new))) }
+        ensures failed { OnErr result
+            (Rose (count_of (faults_of self.old)) (count_of (faults_of self.new))) }
     {
         let path = self.path.as_str();
         let file = opened(&self.rt, path, self.is_only_read, &mut self.file);

@@ -58,7 +58,8 @@ impl HostDoor {
         ensures count { IfOk result (λ all. vec_len all ≡ doors) }
         ensures home { IfOk result (λ all. All (λ d. out_of d ≡ false) all.items) }
         ensures left { IfOk result (λ all. All (λ d. left_of d ≡ links) all.items) }
-        ensures deaf { IsNone listener.entry → IfOk result (λ all. All (λ d. listens d ≡ false) all.items) }
+        ensures deaf { IsNone listener.entry
+            → IfOk result (λ all. All (λ d. listens d ≡ false) all.items) }
     {
         let mut all = Vec::new(alloc);
         for _made in 0..doors {
@@ -103,10 +104,12 @@ impl Door for HostDoor {
         ensures none { OnErr result (out_of self.new ≡ false) }
         ensures deaf { listens self.old ≡ false → IsErr result }
         ensures last { listens self.old ≡ true → left_of self.old ≡ Some 0 → result ≡ Ok None }
-        ensures left { IfOk result (λ link. IsLinkCounted (is_some link) (left_of self.old) (left_of self.new)) }
+        ensures left { IfOk result
+            (λ link. IsLinkCounted (is_some link) (left_of self.old) (left_of self.new)) }
         ensures counted { IsCounted (is_ok result) (faults_of self.old) (faults_of self.new) }
         ensures grows { count_of (faults_of self.old) ≤ count_of (faults_of self.new) }
-        ensures failed { OnErr result (Rose (count_of (faults_of self.old)) (count_of (faults_of self.new))) }
+        ensures failed { OnErr result
+            (Rose (count_of (faults_of self.old)) (count_of (faults_of self.new))) }
     {
         let Some(listener) = &self.listener else {
             let cause = io::Error::new(ErrorKind::NotConnected, "no listener");

@@ -91,7 +91,8 @@ impl Files for HostFiles {
         ensures place { IfOk result (λ k. at + k < 2 ^ 64) }
         ensures counted { IsCounted (is_ok result) (faults_of self.old) (faults_of self.new) }
         ensures grows { count_of (faults_of self.old) ≤ count_of (faults_of self.new) }
-        ensures failed { OnErr result (Rose (count_of (faults_of self.old)) (count_of (faults_of self.new))) }
+        ensures failed { OnErr result
+            (Rose (count_of (faults_of self.old)) (count_of (faults_of self.new))) }
     {
         let most = buffer.len().min((u64::MAX - at) as usize);
         let given = read_kept(&self.rt, &mut self.opened, name, at, buffer);

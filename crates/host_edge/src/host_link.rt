@@ -72,7 +72,8 @@ impl Link for HostLink {
         ensures count { IfOk result (λ k. k ≤ length buffer.old) }
         ensures counted { IsCounted (is_ok result) (faults_of self.old) (faults_of self.new) }
         ensures grows { count_of (faults_of self.old) ≤ count_of (faults_of self.new) }
-        ensures failed { OnErr result (Rose (count_of (faults_of self.old)) (count_of (faults_of self.new))) }
+        ensures failed { OnErr result
+            (Rose (count_of (faults_of self.old)) (count_of (faults_of self.new))) }
     {
         let most = buffer.len();
         let given = read_again(&mut self.stream, buffer);
@@ -84,7 +85,8 @@ impl Link for HostLink {
         ensures some { IfOk result (λ k. 0 < length piece.now → 0 < k) }
         ensures counted { IsCounted (is_ok result) (faults_of self.old) (faults_of self.new) }
         ensures grows { count_of (faults_of self.old) ≤ count_of (faults_of self.new) }
-        ensures failed { OnErr result (Rose (count_of (faults_of self.old)) (count_of (faults_of self.new))) }
+        ensures failed { OnErr result
+            (Rose (count_of (faults_of self.old)) (count_of (faults_of self.new))) }
     {
         if piece.is_empty() {
             return Ok(0);

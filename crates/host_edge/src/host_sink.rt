@@ -58,7 +58,8 @@ impl Sink for HostSink {
         ensures some { IfOk result (λ k. 0 < length piece.now → 0 < k) }
         ensures counted { IsCounted (is_ok result) (faults_of self.old) (faults_of self.new) }
         ensures grows { count_of (faults_of self.old) ≤ count_of (faults_of self.new) }
-        ensures failed { OnErr result (Rose (count_of (faults_of self.old)) (count_of (faults_of self.new))) }
+        ensures failed { OnErr result
+            (Rose (count_of (faults_of self.old)) (count_of (faults_of self.new))) }
     {
         if piece.is_empty() {
             return Ok(0);

@@ -210,7 +210,8 @@ fn vectors_of(
     at: usize,
 ) -> Result<(Vec<Vector>, usize), TreeFault>
     requires { at ≤ length bytes.now }
-    ensures vectors { Gives Memory (λ x. (x.0.items, x.1)) result (vectors_at 12288 count bytes.now at) }
+    ensures vectors { Gives Memory (λ x. (x.0.items, x.1)) result
+        (vectors_at 12288 count bytes.now at) }
     ensures there { IfOk result (λ x. x.1 ≤ length bytes.now) }
 {
     let mut vectors = Vec::new(alloc);
@@ -263,9 +264,11 @@ fn tree_of(alloc: Global, bytes: &[u8]) -> Result<(Tree, usize), TreeFault>
 /// The tree that the bytes begin with, and how many bytes it takes; what follows isn't looked at.
 pub fn decode(alloc: Global, bytes: &[u8]) -> Result<(Tree, usize), TreeFault>
     // What is read is the one spelling of the tree.
-    ensures found { IfOk result (λ x. IsTree x.0 × BeginsWith bytes.now x.0 × (x.1 ≡ length (bytes_of x.0))) }
+    ensures found { IfOk result (λ x. IsTree x.0 × BeginsWith bytes.now x.0
+        × (x.1 ≡ length (bytes_of x.0))) }
     // What is spelled so is read, whatever follows, unless memory runs out.
-    ensures only { (T : ProofTree) → IsTree T → BeginsWith bytes.now T → Gives Memory (λ x. x) result (Ok (T, length (bytes_of T))) }
+    ensures only { (T : ProofTree) → IsTree T → BeginsWith bytes.now T
+        → Gives Memory (λ x. x) result (Ok (T, length (bytes_of T))) }
     // Which fault it is, and where.
     ensures exact { Gives Memory (λ x. x) result (read bytes.now) }
 {

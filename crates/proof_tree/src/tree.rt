@@ -38,8 +38,11 @@ fn sides_are_low(pairs: &[(u16, u32)]) -> bool
 }
 
 fn have_low_sides(vectors: &[Vector]) -> bool
-    ensures sides { IsTrue result ↔ ((v : ℕ) → v < length vectors.now → All (λ pair. pair.0 < 386) (slice_index_or vectors.now v [])) }
-    ensures vectors { IsTrue result → (v : ℕ) → v < length vectors.now → IsVector 0 (slice_index_or vectors.now v []) }
+    ensures sides { IsTrue result
+        ↔ ((v : ℕ) → v < length vectors.now
+        → All (λ pair. pair.0 < 386) (slice_index_or vectors.now v [])) }
+    ensures vectors { IsTrue result → (v : ℕ) → v < length vectors.now
+        → IsVector 0 (slice_index_or vectors.now v []) }
 {
     for vector in vectors {
         if !sides_are_low(vector.pairs()) {
@@ -50,7 +53,8 @@ fn have_low_sides(vectors: &[Vector]) -> bool
 }
 
 fn are_short(vectors: &[Vector]) -> bool
-    ensures { IsTrue result ↔ ((v : ℕ) → v < length vectors.now → length (slice_index_or vectors.now v []) ≤ 384) }
+    ensures { IsTrue result
+        ↔ ((v : ℕ) → v < length vectors.now → length (slice_index_or vectors.now v []) ≤ 384) }
 {
     for vector in vectors {
         if vector.pairs().len() > VECTOR_PAIRS as usize {

@@ -22,7 +22,8 @@ fn is_barred(
 ) -> bool
     requires item { item < size bank.now }
     requires shown { (i : ℕ) → has shown.now i ≡ is_shown seat.now i }
-    requires entered { (s : ℕ) → has entered.now s ≡ list_any (λ item. stimulus bank.now item == s) seat.now.shown }
+    requires entered { (s : ℕ)
+        → has entered.now s ≡ list_any (λ item. stimulus bank.now item == s) seat.now.shown }
     requires last { last ≡ last_stimulus bank.now (last_shown seat.now) }
     ensures { result ≡ is_barred bank.now seat.now item }
 {

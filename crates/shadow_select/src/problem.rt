@@ -35,7 +35,8 @@ pub fn next_problem_from<'a>(
     requires seat { IsSeat bank.now spec.now seat.now }
     requires sums { IsSumsOf bank.now spec.now.prior (answers seat.now) sums.now }
     ensures pending { IsSome result ↔ IsPending spec.now seat.now }
-    ensures problem { IfSome result (λ p. IsSeatProblem bank.now spec.now session seat.now (problem_of p)) }
+    ensures problem { IfSome result
+        (λ p. IsSeatProblem bank.now spec.now session seat.now (problem_of p)) }
     ensures well_made { IfSome result (λ p. IsWellMade (problem_of p)) }
 {
     if !is_pending(spec, seat) {
@@ -69,7 +70,8 @@ pub fn next_problem<'a>(
     requires plan { IsPlanFor bank.now spec.now }
     requires seat { IsSeat bank.now spec.now seat.now }
     ensures pending { IsSome result ↔ IsPending spec.now seat.now }
-    ensures problem { IfSome result (λ p. IsSeatProblem bank.now spec.now session seat.now (problem_of p)) }
+    ensures problem { IfSome result
+        (λ p. IsSeatProblem bank.now spec.now session seat.now (problem_of p)) }
     ensures well_made { IfSome result (λ p. IsWellMade (problem_of p)) }
 {
     let sums = sums_of(bank, spec, seat);

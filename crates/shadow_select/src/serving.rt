@@ -43,7 +43,8 @@ fn best_candidate(problem: &Problem, form: &ItemSet, goes_on: bool, last: u8) ->
     requires well_made { IsWellMade (problem_of problem.now) }
     requires goes_on { goes_on ≡ stimulus_goes_on (problem_of problem.now) (has form.now) }
     requires last { last ≡ last_stimulus problem.now.bank.now problem.now.last }
-    ensures { IsNextBelow (size problem.now.bank.now) (problem_of problem.now) (has form.now) result }
+    ensures { IsNextBelow (size problem.now.bank.now) (problem_of problem.now)
+        (has form.now) result }
 {
     let items = problem.bank.items();
     let mut best: Option<u16> = None;

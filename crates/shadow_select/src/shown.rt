@@ -48,7 +48,8 @@ pub fn shown_items(bank: &Bank, seat: &Seat) -> ItemSet
 /// The stimuli of the items shown, as a set of their numbers; 0, which is no stimulus, may be among them.
 pub fn entered_stimuli(bank: &Bank, seat: &Seat) -> ItemSet
     requires { (i : ℕ) → IsTrue (is_shown seat.now i) → i < size bank.now }
-    ensures { (s : ℕ) → has result s ≡ list_any (λ item. stimulus bank.now item == s) seat.now.shown }
+    ensures { (s : ℕ) → has result s
+        ≡ list_any (λ item. stimulus bank.now item == s) seat.now.shown }
 {
     prove!(bank.items() <= 512);
     let mut stimuli = ItemSet::empty();

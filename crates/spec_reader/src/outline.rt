@@ -50,7 +50,8 @@ impl Outline {
     /// One more line.
     #[tactic(auto, unfolding(crate::specs::Plans::with_rule))]
     fn say(&mut self, alloc: Global, rule: &Rule) -> Result<(), AllocError>
-        ensures { OnOk result (outline_said self.new ≡ with_rule (outline_said self.old) (said rule.now)) }
+        ensures { OnOk result (outline_said self.new
+            ≡ with_rule (outline_said self.old) (said rule.now)) }
     {
         match rule {
             Rule::Length(n) => self.length = *n,

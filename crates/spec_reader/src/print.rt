@@ -23,7 +23,8 @@ use std::alloc::{AllocError, Global};
 
 /// The numbers, a space before each.
 fn push_numbers(alloc: Global, out: &mut Vec<u8>, numbers: &[u64]) -> Result<(), AllocError>
-    ensures { OnOk result (out.new.items ≡ out.old.items ++ flat_map (λ n. 32 ∷ decimal n) numbers.now) }
+    ensures { OnOk result (out.new.items
+        ≡ out.old.items ++ flat_map (λ n. 32 ∷ decimal n) numbers.now) }
 {
     for number in numbers {
         out.push(b' ')?;
@@ -34,7 +35,8 @@ fn push_numbers(alloc: Global, out: &mut Vec<u8>, numbers: &[u64]) -> Result<(),
 
 /// The signed numbers, a space before each.
 fn push_values(alloc: Global, out: &mut Vec<u8>, values: &[i32]) -> Result<(), AllocError>
-    ensures { OnOk result (out.new.items ≡ out.old.items ++ flat_map (λ z. 32 ∷ signed_decimal z) values.now) }
+    ensures { OnOk result (out.new.items
+        ≡ out.old.items ++ flat_map (λ z. 32 ∷ signed_decimal z) values.now) }
 {
     for value in values {
         out.push(b' ')?;
@@ -45,7 +47,8 @@ fn push_values(alloc: Global, out: &mut Vec<u8>, values: &[i32]) -> Result<(), A
 
 /// The runs, a space before each.
 fn push_runs(alloc: Global, out: &mut Vec<u8>, runs: &[Run]) -> Result<(), AllocError>
-    ensures { OnOk result (out.new.items ≡ out.old.items ++ flat_map (λ r. 32 ∷ run_word r) runs.now) }
+    ensures { OnOk result (out.new.items
+        ≡ out.old.items ++ flat_map (λ r. 32 ∷ run_word r) runs.now) }
 {
     for run in runs {
         out.push(b' ')?;
@@ -56,7 +59,8 @@ fn push_runs(alloc: Global, out: &mut Vec<u8>, runs: &[Run]) -> Result<(), Alloc
 
 /// A set as its maximal runs, a space before each.
 fn push_set(alloc: Global, out: &mut Vec<u8>, set: &ItemSet) -> Result<(), AllocError>
-    ensures { OnOk result (out.new.items ≡ out.old.items ++ flat_map (λ r. 32 ∷ run_word r) (runs_of (has set.now))) }
+    ensures { OnOk result (out.new.items
+        ≡ out.old.items ++ flat_map (λ r. 32 ∷ run_word r) (runs_of (has set.now))) }
 {
     let runs = runs_of(alloc, set)?;
     push_runs(alloc, out, &runs)
@@ -70,7 +74,8 @@ fn push_line(
     keyword: &[u8],
     numbers: &[u64],
 ) -> Result<(), AllocError>
-    ensures { OnOk result (out.new.items ≡ out.old.items ++ words_text (keyword.now ∷ map decimal numbers.now)) }
+    ensures { OnOk result (out.new.items
+        ≡ out.old.items ++ words_text (keyword.now ∷ map decimal numbers.now)) }
 {
     out.extend_from_slice(keyword)?;
     push_numbers(alloc, out, numbers)?;
@@ -87,7 +92,9 @@ fn push_set_line(
     numbers: &[u64],
     set: &ItemSet,
 ) -> Result<(), AllocError>
-    ensures { OnOk result (out.new.items ≡ out.old.items ++ words_text (keyword.now ∷ (map decimal numbers.now ++ set_words (has set.now)))) }
+    ensures { OnOk result (out.new.items
+        ≡ out.old.items ++ words_text
+        (keyword.now ∷ (map decimal numbers.now ++ set_words (has set.now)))) }
 {
     out.extend_from_slice(keyword)?;
     push_numbers(alloc, out, numbers)?;
@@ -118,7 +125,8 @@ fn push_key_line(alloc: Global, out: &mut Vec<u8>, key: &[u8; 32]) -> Result<(),
 
 /// The budgets and the limits.
 fn push_limits(alloc: Global, out: &mut Vec<u8>, spec: &Spec) -> Result<(), AllocError>
-    ensures { OnOk result (out.new.items ≡ out.old.items ++ flat_map line_text (limit_rules (plan_said spec.now))) }
+    ensures { OnOk result (out.new.items
+        ≡ out.old.items ++ flat_map line_text (limit_rules (plan_said spec.now))) }
 {
     push_line(alloc, out, b"budget", &[u64::from(spec.budget())])?;
     push_line(alloc, out, b"base-budget", &[u64::from(spec.base_budget())])?;
@@ -128,7 +136,8 @@ fn push_limits(alloc: Global, out: &mut Vec<u8>, spec: &Spec) -> Result<(), Allo
 }
 
 fn push_rate(alloc: Global, out: &mut Vec<u8>, rate: Rate) -> Result<(), AllocError>
-    ensures { OnOk result (out.new.items ≡ out.old.items ++ line_text (RateLine rate.num rate.den)) }
+    ensures { OnOk result (out.new.items
+        ≡ out.old.items ++ line_text (RateLine rate.num rate.den)) }
 {
     push_line(
         alloc,
@@ -140,7 +149,8 @@ fn push_rate(alloc: Global, out: &mut Vec<u8>, rate: Rate) -> Result<(), AllocEr
 
 /// The lines that each canonical text has.
 fn push_settings(alloc: Global, out: &mut Vec<u8>, spec: &Spec) -> Result<(), AllocError>
-    ensures lines { OnOk result (out.new.items ≡ out.old.items ++ flat_map line_text (setting_rules (plan_said spec.now))) }
+    ensures lines { OnOk result (out.new.items
+        ≡ out.old.items ++ flat_map line_text (setting_rules (plan_said spec.now))) }
     ensures key { OnOk result (IsKey spec.now.key) }
 {
     push_line(alloc, out, b"length", &[u64::from(spec.length())])?;
@@ -182,7 +192,8 @@ fn push_row(alloc: Global, out: &mut Vec<u8>, row: &Row) -> Result<(), AllocErro
 }
 
 fn push_rows(alloc: Global, out: &mut Vec<u8>, rows: &[Row]) -> Result<(), AllocError>
-    ensures { OnOk result (out.new.items ≡ out.old.items ++ flat_map (λ row. line_text (row_said row)) rows.now) }
+    ensures { OnOk result (out.new.items
+        ≡ out.old.items ++ flat_map (λ row. line_text (row_said row)) rows.now) }
 {
     for row in rows {
         push_row(alloc, out, row)?;
@@ -197,7 +208,8 @@ fn push_bound(
     stimulus: u64,
     bound: StimulusBound,
 ) -> Result<(), AllocError>
-    ensures { OnOk result (out.new.items ≡ out.old.items ++ line_text (Stimulus stimulus bound.low bound.high)) }
+    ensures { OnOk result (out.new.items
+        ≡ out.old.items ++ line_text (Stimulus stimulus bound.low bound.high)) }
 {
     let numbers = [stimulus, u64::from(bound.low), u64::from(bound.high)];
     push_line(alloc, out, b"stimulus", &numbers)
@@ -205,7 +217,8 @@ fn push_bound(
 
 /// The bounds of each stimulus, from 1 on.
 fn push_bounds(alloc: Global, out: &mut Vec<u8>, bounds: &[StimulusBound]) -> Result<(), AllocError>
-    ensures { OnOk result (out.new.items ≡ out.old.items ++ flat_map line_text (bounds_below (length bounds.now) bounds.now)) }
+    ensures { OnOk result (out.new.items
+        ≡ out.old.items ++ flat_map line_text (bounds_below (length bounds.now) bounds.now)) }
 {
     for i in 0..bounds.len() {
         push_bound(alloc, out, i as u64 + 1, bounds[i])?;
@@ -214,7 +227,8 @@ fn push_bounds(alloc: Global, out: &mut Vec<u8>, bounds: &[StimulusBound]) -> Re
 }
 
 fn push_base(alloc: Global, out: &mut Vec<u8>, base: Option<ItemSet>) -> Result<(), AllocError>
-    ensures { OnOk result (out.new.items ≡ out.old.items ++ flat_map line_text (base_rules (option_map has base))) }
+    ensures { OnOk result (out.new.items
+        ≡ out.old.items ++ flat_map line_text (base_rules (option_map has base))) }
 {
     if let Some(set) = base {
         push_set_line(alloc, out, b"base", &[], &set)?;

@@ -71,7 +71,8 @@ fn early_fault(bank: &Bank, rules: &[Rule], draft: &Draft) -> Option<SpecFault>
 fn spec_of(bank: &Bank, rules: &[Rule], draft: Draft) -> Result<Spec, SpecFault>
     ensures same { IfOk result (λ spec. spec ≡ draft) }
     ensures valid { IfOk result (λ spec. IsPlanFor bank.now spec) }
-    ensures stimuli { IfOk result (λ _. numbers_fault (stimuli_of bank.now) (map said rules.now) ≡ None) }
+    ensures stimuli { IfOk result (λ _. numbers_fault (stimuli_of bank.now) (map said rules.now)
+        ≡ None) }
     ensures fault { IfErr result (IsFirstFault bank.now (map said rules.now) draft) }
 {
     match early_fault(bank, rules, &draft) {
@@ -102,22 +103,30 @@ fn plan_in(alloc: Global, bank: &Bank, text: &[u8]) -> Result<Spec, PlanFault>
 /// line, then what is missing, then the faults of the plan. `Source` is given only where the
 /// source's count of faults rose.
 pub fn read_plan<S: Source>(alloc: Global, bank: &Bank, source: &mut S) -> Result<Spec, PlanFault>
-    ensures found { IfOk result (λ spec. IsTrue (S.tells source.old) → IsPlanText bank.now (S.left source.old) spec) }
-    ensures within { IfOk result (λ _. IsTrue (S.tells source.old) → length (S.left source.old) ≤ most_bytes) }
+    ensures found { IfOk result (λ spec. IsTrue (S.tells source.old)
+        → IsPlanText bank.now (S.left source.old) spec) }
+    ensures within { IfOk result (λ _. IsTrue (S.tells source.old)
+        → length (S.left source.old) ≤ most_bytes) }
     ensures whole { IfOk result (λ _. IsTrue (S.tells source.old) → S.left source.new ≡ []) }
     ensures valid { IfOk result (IsPlanFor bank.now) }
-    ensures fault { IfErr result (λ e. IsTrue (S.tells source.old) → IsReadFault bank.now (S.left source.old) e) }
+    ensures fault { IfErr result (λ e. IsTrue (S.tells source.old)
+        → IsReadFault bank.now (S.left source.old) e) }
     // The text of a plan that is valid for the bank is read.
-    ensures only { IfErr result (λ e. IsTrue (S.tells source.old) → length (S.left source.old) ≤ most_bytes
-        → (plan : Plan) → IsPlanText bank.now (S.left source.old) plan → IsPlanFor bank.now plan → (e ≡ fault.Memory) ⊎ (e ≡ fault.Source)) }
-    ensures failed { IfErr result (λ e. e ≡ fault.Source → Rose (S.faults source.old) (S.faults source.new)) }
+    ensures only { IfErr result (λ e. IsTrue (S.tells source.old)
+        → length (S.left source.old) ≤ most_bytes
+        → (plan : Plan) → IsPlanText bank.now (S.left source.old) plan → IsPlanFor bank.now plan
+        → (e ≡ fault.Memory) ⊎ (e ≡ fault.Source)) }
+    ensures failed { IfErr result (λ e. e ≡ fault.Source
+        → Rose (S.faults source.old) (S.faults source.new)) }
 
     // A plan, and what refuses a text, are answers only where there is something to read.
     ensures there { IfOk result (λ _. IsTrue (S.tells source.old) → IsTrue (S.there source.old)) }
     ensures there_refused { IfErr result (λ e. IsOfText e
         → IsTrue (S.tells source.old) → IsTrue (S.there source.old)) }
-    ensures has { IsTrue (S.tells source.old) → (name : List ℕ) → S.has source.new name ≡ S.has source.old name }
-    ensures beside { IsTrue (S.tells source.old) → (name : List ℕ) → S.beside source.new name ≡ S.beside source.old name }
+    ensures has { IsTrue (S.tells source.old) → (name : List ℕ)
+        → S.has source.new name ≡ S.has source.old name }
+    ensures beside { IsTrue (S.tells source.old) → (name : List ℕ)
+        → S.beside source.new name ≡ S.beside source.old name }
     ensures grows { S.faults source.old ≤ S.faults source.new }
     ensures tells { S.tells source.new ≡ S.tells source.old }
     ensures identity { S.identity source.new ≡ S.identity source.old }

@@ -39,7 +39,8 @@ pub enum Rule {
 
 fn number_in(at: u64, most: u32, i: usize, words: &[&[u8]]) -> Result<u32, LineFault>
     requires { i < length words.now }
-    ensures value { Gives Memory (λ n. n) result (number_in at most i (map (λ w. w.now) words.now)) }
+    ensures value { Gives Memory (λ n. n) result
+        (number_in at most i (map (λ w. w.now) words.now)) }
     ensures most { IfOk result (λ n. n ≤ most) }
 {
     match exam_text::number(word_at(words, i), most as u64) {
@@ -129,7 +130,8 @@ fn setting_in(alloc: Global, at: u64, setting: Setting, words: &[&[u8]]) -> Resu
 #[tactic(auto, unfolding(crate::specs::Rules::constraint_said))]
 fn count_in(at: u64, words: &[&[u8]]) -> Result<Rule, LineFault>
     requires { 4 ≤ length words.now }
-    ensures { Gives Memory said result (constraint_said at constraint.Count (map (λ w. w.now) words.now)) }
+    ensures { Gives Memory said result
+        (constraint_said at constraint.Count (map (λ w. w.now) words.now)) }
 {
     let low = number_in(at, MOST, 1, words)?;
     let high = number_in(at, MOST, 2, words)?;
@@ -140,7 +142,8 @@ fn count_in(at: u64, words: &[&[u8]]) -> Result<Rule, LineFault>
 #[tactic(auto, unfolding(crate::specs::Rules::constraint_said))]
 fn quantity_in(at: u64, words: &[&[u8]]) -> Result<Rule, LineFault>
     requires { 5 ≤ length words.now }
-    ensures { Gives Memory said result (constraint_said at constraint.Quantity (map (λ w. w.now) words.now)) }
+    ensures { Gives Memory said result
+        (constraint_said at constraint.Quantity (map (λ w. w.now) words.now)) }
 {
     let which = number_in(at, 255, 1, words)?;
     let low = number_in(at, MOST, 2, words)?;
@@ -152,7 +155,8 @@ fn quantity_in(at: u64, words: &[&[u8]]) -> Result<Rule, LineFault>
 #[tactic(auto, unfolding(crate::specs::Rules::constraint_said))]
 fn stimulus_in(at: u64, words: &[&[u8]]) -> Result<Rule, LineFault>
     requires { 4 ≤ length words.now }
-    ensures { Gives Memory said result (constraint_said at constraint.Stimulus (map (λ w. w.now) words.now)) }
+    ensures { Gives Memory said result
+        (constraint_said at constraint.Stimulus (map (λ w. w.now) words.now)) }
 {
     let stimulus = number_in(at, 255, 1, words)?;
     let low = number_in(at, MOST, 2, words)?;
@@ -163,7 +167,8 @@ fn stimulus_in(at: u64, words: &[&[u8]]) -> Result<Rule, LineFault>
 #[tactic(auto, unfolding(crate::specs::Rules::constraint_said))]
 fn constraint_in(at: u64, constraint: Constraint, words: &[&[u8]]) -> Result<Rule, LineFault>
     requires { fits_constraint constraint (length words.now) ≡ true }
-    ensures { Gives Memory said result (constraint_said at constraint (map (λ w. w.now) words.now)) }
+    ensures { Gives Memory said result
+        (constraint_said at constraint (map (λ w. w.now) words.now)) }
 {
     match constraint {
         Constraint::Count => count_in(at, words),

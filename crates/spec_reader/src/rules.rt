@@ -73,7 +73,8 @@ fn stands(mark: Option<u32>, rules: &[Rule]) -> bool
 
 #[tactic(auto, unfolding(crate::specs::Lines::next_rule))]
 fn next_rule(alloc: Global, at: u64, line: &[u8], rules: &mut Vec<Rule>) -> Result<(), LineFault>
-    ensures { Gives Memory (λ _. map said rules.new.items) result (next_rule at line.now (map said rules.old.items)) }
+    ensures { Gives Memory (λ _. map said rules.new.items) result
+        (next_rule at line.now (map said rules.old.items)) }
 {
     if is_skipped(line) {
         return Ok(());

@@ -25,7 +25,8 @@ fn with_run(set: ItemSet, low: u16, high: u16) -> ItemSet
 #[tactic(auto, using(exam_text::proofs::Firsts::all_fails), unfolding(exam_text::specs::Runs::is_set, crate::specs::Sets::in_set))]
 pub fn set_of(words: &[&[u8]]) -> Option<ItemSet>
     ensures found { is_some result ≡ is_set (map (λ w. w.now) words.now) }
-    ensures members { IfSome result (λ s. (x : ℕ) → has s x ≡ in_set (map (λ w. w.now) words.now) x) }
+    ensures members { IfSome result (λ s. (x : ℕ)
+        → has s x ≡ in_set (map (λ w. w.now) words.now) x) }
 {
     if words.is_empty() {
         return None;

@@ -25,11 +25,14 @@ pub enum TextFault {
 /// The whole text of a source, where it has at most `limit` bytes. After a fault the source may have lost bytes at its front.
 pub fn text_of<S: Source>(alloc: Global, source: &mut S, limit: usize) -> Result<Vec<u8>, TextFault>
     requires { limit < 2 ^ 32 }
-    ensures text { IfOk result (λ text. IsTrue (S.tells source.old) → text.items ≡ S.left source.old) }
+    ensures text { IfOk result (λ text. IsTrue (S.tells source.old)
+        → text.items ≡ S.left source.old) }
     ensures within { IfOk result (λ text. length text.items ≤ limit) }
     ensures whole { IfOk result (λ _. IsTrue (S.tells source.old) → S.left source.new ≡ []) }
-    ensures too_long { IfErr result (λ e. e ≡ TextFault.TooLong → IsTrue (S.tells source.old) → limit < length (S.left source.old)) }
-    ensures failed { IfErr result (λ e. e ≡ TextFault.Source → Rose (S.faults source.old) (S.faults source.new)) }
+    ensures too_long { IfErr result (λ e. e ≡ TextFault.TooLong → IsTrue (S.tells source.old)
+        → limit < length (S.left source.old)) }
+    ensures failed { IfErr result (λ e. e ≡ TextFault.Source
+        → Rose (S.faults source.old) (S.faults source.new)) }
 
     // A text and `TooLong` are answers only where there is something to read.
     ensures there { IfOk result (λ _. IsTrue (S.tells source.old) → IsTrue (S.there source.old)) }
