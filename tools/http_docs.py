@@ -100,7 +100,7 @@ def compare(what, code, page):
     for entry in sorted(code - page, key=str):
         print(f"{what} lacks {entry}")
     for entry in sorted(page - code, key=str):
-        print(f"{what} has {entry}, which the code hasn't")
+        print(f"{what} has {entry}, which is not in the code")
     return code == page
 
 

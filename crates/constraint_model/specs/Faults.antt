@@ -30,11 +30,11 @@ has_unknown b words = any_below (64 * length words) (λ i. has words i && nat_le
 abbrev pub range_fault : ℕ → ℕ → ℕ → ℕ → Option SpecFault
 range_fault r low high most = fault_where (nat_lt high low || nat_lt most high) (RowBounds r)
 
--- a set with no item, or with one that the bank hasn't
+-- a set with no item, or with one that is not in the bank
 abbrev pub set_fault : Tables → ℕ → List ℕ → Option SpecFault
 set_fault b r set = fault_where (is_empty set) (EmptySet r) orelse fault_where (has_unknown b set) (BadItem r)
 
--- a quantity that the bank hasn't
+-- a quantity that is not in the bank
 abbrev pub quantity_fault : Tables → ℕ → ℕ → Option SpecFault
 quantity_fault b r which = fault_where (nat_le b.quantities which) (BadQuantity r)
 

@@ -17,7 +17,7 @@ use Rattle.exam_records.specs.Spelling.{payload_of}
 use Rattle.exam_drill.specs.declared.fault.DrillFault.{DrillFault}
 use Rattle.exam_drill.specs.declared.fault.DrillFault.TheVariants.{JournalFull, Memory}
 
--- the fault that a reply ends a drill with, if it does: the journal's limit, or want of memory, of
+-- the fault that a reply ends a drill with, if it does: the journal's limit, or lack of memory, of
 -- which a disk in memory fails too
 abbrev pub fault_of : Plan → Reply → Option DrillFault
 fault_of plan (Refused (why.JournalFull size)) = Some (JournalFull size plan.journal)
@@ -48,7 +48,7 @@ pub record IsTooLong (b : Tables) (plan : Plan) (H : List Entry) (request : Requ
   pub size_is : size ≡ reached + 5 + length (payload_of last)
   pub above : plan.journal < size
 
--- why a request was not done: the limit of the journal, or want of memory
+-- why a request was not done: the limit of the journal, or lack of memory
 abbrev pub IsCutShort : Tables → Plan → List Entry → Request → DrillFault → Type 0
 IsCutShort b plan H request (JournalFull size most) = IsTooLong b plan H request size × (most ≡ plan.journal)
 IsCutShort b plan H request Memory = ⊤

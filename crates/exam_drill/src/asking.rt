@@ -13,7 +13,7 @@ use exam_office::{Alone, Refusal, Reply, Request};
 use std::alloc::Global;
 
 /// The fault that a reply ends a drill with, if it does. A disk in memory whose calls aren't told to
-/// fail fails for want of memory alone.
+/// fail fails for lack of memory alone.
 fn fault_of(spec: &Spec, reply: &Reply) -> Option<DrillFault>
     ensures { result ≡ fault_of spec.now reply.now }
 {

@@ -3,7 +3,8 @@
 /// The first breach, with the value found.
 #[derive(Clone, Copy, Debug, PartialEq, Eq)]
 pub enum Breach {
-    /// The set hasn't as many items as the test, or has an item that the bank hasn't; its number of items.
+    /// The set has another number of items than the test, or an item that is not in the bank; its
+    /// number of items.
     Length(u32),
     /// The row doesn't hold; the activity of the set on it.
     Row(u8, u32),

@@ -3,9 +3,9 @@
 /// A node; a branch has two subtrees after it in preorder, left first.
 #[derive(Clone, Copy, Debug, PartialEq, Eq)]
 pub enum Node {
-    /// Left, the item is in the form; right, it isn't.
+    /// Left, the item is in the form; right, it is not.
     BranchItem(u16),
-    /// Left, the stimulus has an item in the form; right, it hasn't.
+    /// Left, the stimulus has an item in the form; right, it has none.
     BranchStimulus(u8),
     /// No better form is here: the relaxed maximum of this vector is too low.
     Bound(u8),
@@ -13,7 +13,7 @@ pub enum Node {
     Ray(u8),
     /// No form is here: this row is impossible by counting.
     Count(u8),
-    /// One set of items is left, and it is no better form.
+    /// Only one set of items is left, and it is not a better form.
     Whole,
     /// Nothing is shown.
     Open,

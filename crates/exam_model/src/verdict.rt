@@ -7,9 +7,9 @@ pub enum Reason {
     NotForm,
     /// A branch on an item that isn't free, or on a stimulus that isn't open.
     Determined,
-    /// The tree hasn't this vector.
+    /// The tree has no such vector.
     NoVector,
-    /// The vector names a side that the plan hasn't.
+    /// The vector names a side that is not in the plan.
     NoSide,
     /// The relaxed maximum isn't low enough, or there is no form to compare with.
     NotClosed,

@@ -81,7 +81,7 @@ pub record IsWarm {D : Type 0} (office : Running D) (session : ℕ) (found : Opt
   pub holds : Holds office.bank office.plan (history office.marks) office.journal records office.doubt last
   pub is : found ≡ warm_of office.bank office.plan records session
 
--- why the call is refused: the session isn't started, or memory is wanting
+-- why the call is refused: the session is not started, or there is no memory
 abbrev pub IsColdBy : {D : Type 0} → Running D → ℕ → Refusal → Type 0
 IsColdBy office session Memory = refusal_of office.bank office.plan (history office.marks) (Look session) ≡ None
 IsColdBy office session refusal = refusal_of office.bank office.plan (history office.marks) (Look session) ≡ Some refusal

@@ -16,7 +16,7 @@ use std::alloc::Global;
 
 impl<'a, D: Disk> Office<'a, D> {
     /// What is assembled for a session that waits for an item, with the base as the hint, from the
-    /// vector that is kept for the session. Where memory is wanting for that, from none.
+    /// vector that is kept for the session. If there is no memory for that, it begins with none.
     fn assembled(&self, alloc: Global, session: u32) -> Result<Assembled<'a>, Refusal>
         requires { IsPendingThere self.now.plan (history self.now.marks) session }
         ensures assembled { IfOk result (IsAssembledFor self.now.bank self.now.plan self.now.base

@@ -38,7 +38,7 @@ impl<'a, D: Disk> Office<'a, D> {
         }
     }
 
-    /// The same; none where memory is wanting.
+    /// The same; none if there is no memory for it.
     pub(crate) fn warm_or_none(&self, alloc: Global, session: u32) -> Option<Vector>
         ensures { IfSome result (FitsPlan self.now.bank self.now.plan) }
     {

@@ -1,5 +1,5 @@
-//! What the definitions imply for a session that needs a form: so none is wanting but at the first step, and not once
-//! eligibility was set aside.
+//! What the definitions imply for a session that needs a form. It can lack one only at its first
+//! step, and only while eligibility is not set aside.
 
 ghost use Rattle.exam_session.specs.Laws.{FormIsThere, PlanIsEnough};
 

@@ -61,7 +61,7 @@ impl Vector {
         }
     }
 
-    /// A copy of the vector; the only error is want of memory.
+    /// A copy of the vector; the only error is lack of memory.
     pub fn again(&self, alloc: Global) -> Result<Vector, AllocError>
         ensures { IfOk result (λ copy. copy ≡ self.now) }
     {

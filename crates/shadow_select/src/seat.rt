@@ -1,4 +1,5 @@
-//! How a seat goes on: the one place where its steps are made.
+//! How a seat goes on. A book of many sessions keeps its seats in another form, and makes the
+//! same steps of that.
 
 ghost use Rattle.std.specs.Prelude.{◌≡◌, ◌<◌, length};
 ghost use Rattle.exam_model.specs.Seats.{new_seat, with_item, with_response};

@@ -23,7 +23,7 @@ no_rule = Length 0
 abbrev pub rule_at : List Said → ℕ → Said
 rule_at rules i = get_or rules i no_rule
 
--- a line that bounds a stimulus which a bank with so many stimuli hasn't
+-- a line that bounds a stimulus that is not in a bank with so many stimuli
 abbrev pub number_fault : ℕ → Said → Option SpecFault
 number_fault stimuli (Stimulus s low high) = if ((s == 0) || nat_lt stimuli s) then Some (BadStimulus s) else None
 number_fault stimuli _ = None

@@ -45,7 +45,7 @@ fn fault_at(rules: &[Rule], stimuli: u8, i: usize) -> Option<SpecFault>
     number_fault(&rules[i], stimuli)
 }
 
-/// The first line that bounds a stimulus which the bank hasn't.
+/// The first line that bounds a stimulus that is not in the bank.
 #[tactic(auto, unfolding(crate::specs::Reading::numbers_fault))]
 fn numbers_fault(rules: &[Rule], stimuli: u8) -> Option<SpecFault>
     ensures { result ≡ numbers_fault stimuli (map said rules.now) }
