@@ -23,7 +23,8 @@ pub enum Mark {
 
 /// Whether one mark more may be noted: their number is below 2^64.
 pub(crate) fn room_for_mark(marks: &Counted<Mark>) -> Result<(), Memory>
-    ensures { OnOk result (length marks.now + 1 < 2 ^ 64) }
+    ensures room { OnOk result (length marks.now + 1 < 2 ^ 64) }
+    ensures full { OnErr result (length marks.now + 1 ≡ 2 ^ 64) }
 {
     if marks.count() == u64::MAX {
         return Err(Memory);

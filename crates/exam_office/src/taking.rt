@@ -1,6 +1,6 @@
 //! The records of a file, taken into a book one after another.
 
-ghost use Rattle.std.specs.Prelude.{◌≡◌, List, [], ◌∷◌, ◌++◌, map, Some, IsTrue, IfOk, IfErr, OnOk};
+ghost use Rattle.std.specs.Prelude.{◌≡◌, ◌+◌, List, [], ◌∷◌, ◌++◌, map, Some, IsTrue, IfOk, IfErr, OnOk};
 ghost use Rattle.std.specs.Option.{is_some};
 ghost use Rattle.exam_edge.specs.Faults.{Rose};
 ghost use Rattle.exam_edge.specs.Lent.{IsLent};
@@ -155,6 +155,8 @@ fn take_records<D: Disk>(
         → Rose (D.faults walk.old.disk) (D.faults walk.new.disk)) }
     ensures limit { walk.new.limit ≡ walk.old.limit }
     ensures size { walk.new.size ≡ walk.old.size }
+    // The walk is at the end of the file, also of a disk that does not report its content.
+    ensures whole { OnOk result (walk.new.at + 1 ≡ walk.new.size) }
     ensures content { IsTrue (D.tells walk.old.disk)
         → D.content walk.new.disk ≡ D.content walk.old.disk }
     ensures accounts { IsTrue (D.tells walk.old.disk)
@@ -217,6 +219,8 @@ pub fn take_history<'a, D: Disk>(
         → Rose (D.faults walk.old.disk) (D.faults walk.new.disk)) }
     ensures limit { walk.new.limit ≡ walk.old.limit }
     ensures size { walk.new.size ≡ walk.old.size }
+    // The walk is at the end of the file, also of a disk that does not report its content.
+    ensures whole { OnOk result (walk.new.at + 1 ≡ walk.new.size) }
     ensures content { IsTrue (D.tells walk.old.disk)
         → D.content walk.new.disk ≡ D.content walk.old.disk }
     ensures accounts { IsTrue (D.tells walk.old.disk)
@@ -260,6 +264,8 @@ pub(crate) fn take_all<'a, D: Disk>(
         → Rose (D.faults walk.old.disk) (D.faults walk.new.disk)) }
     ensures limit { walk.new.limit ≡ walk.old.limit }
     ensures size { walk.new.size ≡ walk.old.size }
+    // The walk is at the end of the file, also of a disk that does not report its content.
+    ensures whole { OnOk result (walk.new.at + 1 ≡ walk.new.size) }
     ensures content { IsTrue (D.tells walk.old.disk)
         → D.content walk.new.disk ≡ D.content walk.old.disk }
     ensures accounts { IsTrue (D.tells walk.old.disk)
