@@ -1,5 +1,6 @@
 use Rattle.std.proofs.Common.{◌≡◌, ℕ, ◌+◌, List, [], ◌∷◌, ◌++◌, length, map, refl, sym, ◌∙◌, ap, subst, arith}
 use Rattle.std.proofs.lemmas.List.{map-append}
+use Rattle.std.proofs.lemmas.Grind.{common_steps}
 use Rattle.bank_tables.specs.Tables.{Tables}
 use Rattle.exam_model.specs.Plan.{Plan}
 use Rattle.history_model.specs.declared.entry.Entry.{Entry}
@@ -103,3 +104,6 @@ returns-in-Ok-None-clause-taken g c =
     let stays = c.in-Ok-None.ensures.stays c.in-Ok-None.field-0-is in
     subst (λ (n : ℕ). AreTakenWith book.bank book.plan t0 c0 new.given n H c.records.vectors) (sym stays.0)
     (subst (λ (n : ℕ). AreTakenWith book.bank book.plan t0 c0 n old.at H c.records.vectors) (sym stays.1) i.taken)
+
+pub returns-in-Ok-None-clause-last : goal.returns-in-Ok-None-clause-last
+returns-in-Ok-None-clause-last g c = grind (arith, common_steps)
