@@ -1,4 +1,4 @@
-use Rattle.std.proofs.Common.{◌≡◌, ◌≤◌, ◌∙◌, ℕ, Bool, List, length, IsTrue, refl, sym, ap, subst, rules, arith}
+use Rattle.std.proofs.Common.{◌≡◌, ◌≤◌, ◌∙◌, ℕ, Bool, List, length, IsTrue, refl, sym, ap, subst, arith}
 use Rattle.answer_journal.specs.Journal.{accounts_of, faults_of, tells_of, payloads_of}
 use Rattle.answer_journal.specs.Frames.{payloads, shadowj1}
 use Rattle.answer_journal.specs.OpenFault.{IsAnswerTo}
@@ -70,7 +70,9 @@ returns-in-Err-take_all-clause-cause g c = λ is.
     (rose_later (count c.args.disk) (count w0.disk) (count w1.disk) c.in-Ok.ensures.frame.grows (c.in-Err-take_all.ensures.cause is))
 
 pub returns-in-Err-take_all-clause-untouched : goal.returns-in-Err-take_all-clause-untouched
-returns-in-Err-take_all-clause-untouched g c = search rules
+returns-in-Err-take_all-clause-untouched g c = λ other told.
+    subst (λ (d : g.row.D.Denot). g.D.Disk.content d ≡ g.D.Disk.content c.args.disk) (sym c.stop.ensures)
+    (c.take_all.ensures.content (c.in-Ok.ensures.frame.tells ∙ told) ∙ c.in-Ok.ensures.untouched told)
 
 pub returns-in-Err-take_all-clause-unwritten : goal.returns-in-Err-take_all-clause-unwritten
 returns-in-Err-take_all-clause-unwritten g c = λ other told.

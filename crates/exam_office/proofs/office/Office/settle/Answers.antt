@@ -25,11 +25,15 @@ returns-in_default-clause-moments g c =
     let o = c.self.inside in
     moments_none o.bank.now o.spec.now o.base o.book o.journal o.marks o.doubt (handed g.D.Disk.content g.D.Disk.accounts g.D.Disk.faults o.opened.value) c.self.invariant.0 c.args.self.now c.self.view_is c.in_default.is
 
+-- without room for a mark
+-- nothing changes
 pub returns-in-Err-clause-moments : goal.returns-in-Err-clause-moments
 returns-in-Err-clause-moments g c =
     let o = c.self.inside in
     moments_same o.bank.now o.spec.now o.base o.book o.journal o.marks o.doubt (handed g.D.Disk.content g.D.Disk.accounts g.D.Disk.faults o.opened.value) c.self.invariant.0 c.args.self.now c.self.view_is c.in-Some.entry c.in-Some.is
 
+-- after the journal is mended
+-- the entry is kept, dropped or still in doubt
 pub returns-in-Ok-Kept-clause-moments : goal.returns-in-Ok-Kept-clause-moments
 returns-in-Ok-Kept-clause-moments g c =
     let o = c.self.inside in
