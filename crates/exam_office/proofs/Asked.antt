@@ -1,5 +1,5 @@
 -- A request from its steps.
-use Rattle.std.proofs.Common.{◌≡◌, ℕ, Bool, true, false, cond, ◌==◌, List, [], ◌∷◌, ◌++◌, Option, Some, None, Result, Ok, Err, IfOk, IsTrue, refl, sym, ap, ◌∙◌, subst, arith}
+use Rattle.std.proofs.Common.{◌≡◌, inl, inr, ℕ, Bool, true, false, cond, ◌==◌, List, [], ◌∷◌, ◌++◌, Option, Some, None, Result, Ok, Err, IfOk, IsTrue, refl, sym, ap, ◌∙◌, subst, arith}
 use Rattle.std.specs.Prelude.{nat_le, nat_lt}
 use Rattle.bank_tables.specs.Tables.{Tables, categories}
 use Rattle.exam_edge.specs.Images.{AllImages, AtEachMoment, latest}
@@ -37,7 +37,7 @@ use Rattle.exam_office.proofs.Calling.{mended_one_of}
 use Rattle.exam_office.proofs.Firsts.{IsFirst, first_done, first_refused, first_stopped, DoneLeading, DoneClosing, held_is_started}
 use Rattle.exam_office.proofs.Marking.{history-fault}
 use Rattle.exam_office.proofs.Sessions.{not_there}
-use Rattle.exam_office.proofs.Surely.{moved, moved_back, stopped_weaker, steps_joined, stayed_steps}
+use Rattle.exam_office.proofs.Surely.{moved, moved_back, no_unmended, stopped_weaker, steps_joined, stayed_steps}
 
 -- ---- why a request is refused
 refused_at : (b : Tables) (step response : ℕ) (at : Place) (r : Refusal) → refusal_at b step response at ≡ Some r → IsRefusal r
@@ -162,7 +162,7 @@ module _ {D : Type 0} (asked : Request) (old new : Running D) where
         settled = refused_so old.bank old.plan H asked q why;
         steps = steps;
       })
-  first_fails Done o r is (first_stopped q grown why) steps =
+  first_fails Done o r is (first_stopped q none grown why) steps =
       let H = history old.marks in
       let same : q ≡ r = cc in
       subst (λ (x : Refusal). IsAskedSurely old asked (reply.Refused x) new) same
@@ -172,6 +172,7 @@ module _ {D : Type 0} (asked : Request) (old new : Running D) where
           why = q;
           because = subst (λ (G : List Entry). IsStoppedBy old.bank old.plan G (IsNextOf old.bank old.plan H asked G) old new q) (sym grown) why;
           reply = refl;
+          not_refused = inr none;
         });
         good = subst (λ (G : List Entry). AreGood old.bank old.plan old.base H G) (sym grown) no_more;
         settled = stopped_refusal old.bank old.plan H (IsNextOf old.bank old.plan H asked H) old new q why;
@@ -213,6 +214,7 @@ module _ {D : Type 0} (asked : Request) (old mid new : Running D) (s : ℕ) (fre
           why = r;
           because = stopped_weaker old.bank old.plan K (ServesNext old.bank old.plan G s K) (IsNextOf old.bank old.plan H asked K) (next_of old.bank old.plan old.base H asked s fresh G leading.1 K) old mid new steps.frame.grows (λ e. lasts.sure) r why;
           reply = refl;
+          not_refused = inr leading.0;
         });
         good = good_joined old.bank old.plan old.base H G K (good_lead old.bank old.plan old.base H asked s fresh G leading.1) good;
         settled = stopped_refusal old.bank old.plan K (ServesNext old.bank old.plan G s K) mid new r why;
@@ -231,7 +233,7 @@ first_led asked Done old new is = by None refl is
     by : (o : Option Refusal) → o ≡ None → IsFirst asked Done old new o → Done (history new.marks) × IsDurable old.bank old.plan new
     by o e (first_done did durable) = (did, durable)
     by o e (first_refused r why grown durable) = absurd (cc)
-    by o e (first_stopped r grown why) = absurd (cc)
+    by o e (first_stopped r none grown why) = absurd (cc)
 
 -- it lasts for the office that goes on
 pub durable_on : {D : Type 0} (old new : Running D) → IsSameOffice old new → IsDurable old.bank old.plan new → IsDurable new.bank new.plan new
@@ -284,7 +286,7 @@ module _ {D : Type 0} (office : Running D) (durable : IsDurable office.bank offi
   pub unexposed : (r : Refusal) → r ≡ Memory → IsAskedSurely office request.Exposure (reply.Refused r) office
   unexposed r is =
       subst (λ (x : Refusal). IsAskedSurely office request.Exposure (reply.Refused x) office) (sym is)
-      (record { becomes = halted (record { cut_off = at_start; why = Memory; because = λ e. e; reply = refl }); good = no_more; settled = tt; steps = no_steps request.Exposure })
+      (record { becomes = halted (record { cut_off = at_start; why = Memory; because = λ e. e; reply = refl; not_refused = inr refl }); good = no_more; settled = tt; steps = no_steps request.Exposure })
 
 -- ---- a booking's session
 pub begun_is_there : {D : Type 0} (booking s : ℕ) (office : Running D) (r : Refusal) → holder (history office.marks) booking ≡ Some s → refusal_of office.bank office.plan (history office.marks) (request.Look s) ≡ Some r → ⊥
@@ -318,9 +320,13 @@ module _ {D : Type 0} (old mid : Running D) (same : IsSameOffice old mid) (frame
   becomes_on : mid.doubt ≡ None → (asked : Request) (new : Running D) (answer : Reply) → Becomes old.bank old.plan (history mid.marks) asked mid new answer → Becomes old.bank old.plan (history mid.marks) asked old new answer
   becomes_on sure asked new answer (done does durable) = done does durable
   becomes_on sure asked new answer (halted h) =
+      let none : refusal_of old.bank old.plan (history mid.marks) asked ≡ None = elim h.not_refused [
+        | inl why ↦ absurd (no_unmended mid new sure h.why why)
+        | inr none ↦ none
+      ] in
       let K = history new.marks in
       let N = IsNextOf old.bank old.plan (history mid.marks) asked K in
-      halted (record { cut_off = h.cut_off; why = h.why; because = stopped_weaker old.bank old.plan K N N (λ e is. is) old mid new frame.grows (λ e. sure) h.why h.because; reply = h.reply })
+      halted (record { cut_off = h.cut_off; why = h.why; because = stopped_weaker old.bank old.plan K N N (λ e is. is) old mid new frame.grows (λ e. sure) h.why h.because; reply = h.reply; not_refused = inr none })
 
   pub then_asked : mid.doubt ≡ None → IsMended old.marks old.doubt mid.marks → (asked : Request) (new : Running D) (answer : Reply) → IsAskedSurely mid asked answer new → IsAsked old asked answer new
   then_asked sure mended asked new answer is =
@@ -365,6 +371,7 @@ module _ {D : Type 0} (old mid : Running D) (same : IsSameOffice old mid) (frame
           why = r;
           because = subst (λ (G : List Entry). IsStoppedBy old.bank old.plan G (IsNextOf old.bank old.plan H asked G) old mid r) (sym u.0) because;
           reply = refl;
+          not_refused = inl why;
         });
         good = subst (λ (G : List Entry). AreGood old.bank old.plan old.base H G) (sym u.0) no_more;
         settled = stopped_refusal old.bank old.plan H (λ e. ⊥) old mid r u.1;

@@ -35,7 +35,7 @@ pub data IsFirst {D : Type 0} (request : Request) (Done : List Entry → Type 0)
   first_done : Done (history new.marks) → IsDurable old.bank old.plan new → IsFirst request Done old new None
   first_refused : (r : Refusal) → refusal_of old.bank old.plan (history old.marks) request ≡ Some r → history new.marks ≡ history old.marks
       → IsDurable old.bank old.plan new → IsFirst request Done old new (Some r)
-  first_stopped : (r : Refusal) → history new.marks ≡ history old.marks
+  first_stopped : (r : Refusal) → refusal_of old.bank old.plan (history old.marks) request ≡ None → history new.marks ≡ history old.marks
       → IsStoppedBy old.bank old.plan (history old.marks) (IsNextOf old.bank old.plan (history old.marks) request (history old.marks)) old new r
       → IsFirst request Done old new (Some r)
 
@@ -60,8 +60,8 @@ module _ {D : Type 0} (request : Request) (finds : List Entry → Finding → Ty
       let is = refuses r says in
       first_refused r is grown
       (nothing_added finds old new durable.sure (λ e says1. let clash : ◌≡◌ {A = Option Refusal} (Some r) None = sym is ∙ unrefused e says1 in absurd (cc)) grown sure frame moments)
-  by_surely o lasts (is_stopped r grown why) =
-      first_stopped r grown
+  by_surely o lasts (is_stopped r e says grown why) =
+      first_stopped r (unrefused e says) grown
       (stopped_weaker old.bank old.plan (history old.marks) (λ e. finds (history old.marks) (add e)) (IsNextOf old.bank old.plan (history old.marks) request (history old.marks)) next old old new (omega arith) (λ e. e) r why)
 
   pub first_so : (o : Option Refusal) → (o ≡ None → Lasts) → Calls finds old new o → IsFirst request Done old new o

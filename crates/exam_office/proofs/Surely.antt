@@ -53,32 +53,33 @@ pub data CallsSurely {D : Type 0} (finds : List Entry → Finding → Type 0) (o
   is_refused : (r : Refusal) → finds (history old.marks) (refuse r) → history new.marks ≡ history old.marks → new.doubt ≡ None → CallsSurely finds old new (Some r)
   is_found : finds (history old.marks) nothing → history new.marks ≡ history old.marks → new.doubt ≡ None → CallsSurely finds old new None
   is_written : (e : Entry) → finds (history old.marks) (add e) → history new.marks ≡ history old.marks ++ e ∷ [] → new.doubt ≡ None → CallsSurely finds old new None
-  is_stopped : (r : Refusal) → history new.marks ≡ history old.marks
+  is_stopped : (r : Refusal) (e : Entry) → finds (history old.marks) (add e) → history new.marks ≡ history old.marks
       → IsStoppedBy old.bank old.plan (history old.marks) (λ e. finds (history old.marks) (add e)) old new r → CallsSurely finds old new (Some r)
 
-module _ {D : Type 0} (finds : List Entry → Finding → Type 0) (old new : Running D) (no_doubt : old.doubt ≡ None) where
-  not_mended : (r : Refusal) → IsUnmended old new r → CallsSurely finds old new (Some r)
-  not_mended Memory why = is_stopped Memory (ap (λ (o : Running D). history o.marks) why.0) (λ e. ap (λ (o : Running D). o.doubt) why.0 ∙ e)
-  not_mended Disk why = let e : ◌≡◌ {A = Option Entry} (Some why.0) None = sym why.1 ∙ no_doubt in absurd (cc)
-  not_mended (JournalFull size) why = absurd why
-  not_mended (NoSession count) why = absurd why
-  not_mended (WrongStep k) why = absurd why
-  not_mended (Other k) why = absurd why
-  not_mended (BadResponse k) why = absurd why
-  not_mended (IsClosed at) why = absurd why
-  not_mended (Stale at aside) why = absurd why
-  not_mended (SessionsFull count) why = absurd why
+-- where nothing is in doubt, there is nothing to resolve
+pub no_unmended : {D : Type 0} (old new : Running D) → old.doubt ≡ None → (r : Refusal) → IsUnmended old new r → ⊥
+no_unmended old new no_doubt Memory why = let e : ◌≡◌ {A = Option Entry} (Some why.1) None = sym why.2 ∙ no_doubt in absurd (cc)
+no_unmended old new no_doubt Disk why = let e : ◌≡◌ {A = Option Entry} (Some why.0) None = sym why.1 ∙ no_doubt in absurd (cc)
+no_unmended old new no_doubt (JournalFull size) why = why
+no_unmended old new no_doubt (NoSession count) why = why
+no_unmended old new no_doubt (WrongStep k) why = why
+no_unmended old new no_doubt (Other k) why = why
+no_unmended old new no_doubt (BadResponse k) why = why
+no_unmended old new no_doubt (IsClosed at) why = why
+no_unmended old new no_doubt (Stale at aside) why = why
+no_unmended old new no_doubt (SessionsFull count) why = why
 
+module _ {D : Type 0} (finds : List Entry → Finding → Type 0) (old new : Running D) (no_doubt : old.doubt ≡ None) where
   module _ (M : List Mark) (is : M ≡ old.marks) where
     there : (f : Finding) → finds (history M) f → finds (history old.marks) f
     there f says = subst (λ (N : List Mark). finds (history N) f) is says
 
     not_written : (e : Entry) (r : Refusal) → finds (history M) (add e) → IsHalted old new M e r → CallsSurely finds old new (Some r)
-    not_written e Memory says why = is_stopped Memory (ap history (why.marks_are ∙ is)) (λ none. why.sure)
-    not_written e Disk says why = is_stopped Disk (ap history why.mark ∙ history-fault M e ∙ ap history is) why.rose
+    not_written e Memory says why = is_stopped Memory e (there (add e) says) (ap history (why.marks_are ∙ is)) (λ none. why.sure)
+    not_written e Disk says why = is_stopped Disk e (there (add e) says) (ap history why.mark ∙ history-fault M e ∙ ap history is) why.rose
     not_written e (JournalFull size) says why =
         let t = why.1 in
-        is_stopped (JournalFull size) (ap history (why.0.marks_are ∙ is))
+        is_stopped (JournalFull size) e (there (add e) says) (ap history (why.0.marks_are ∙ is))
         (record {
           last = t.last;
           next = subst (λ (x : Entry). finds (history old.marks) (add x)) (sym t.is_entry) (there (add e) says);
@@ -97,7 +98,7 @@ module _ {D : Type 0} (finds : List Entry → Finding → Type 0) (old new : Run
     not_written e (SessionsFull count) says why = absurd why
 
   pub surely : (o : Option Refusal) → Calls finds old new o → CallsSurely finds old new o
-  surely o (unmended r why) = not_mended r why
+  surely o (unmended r why) = absurd (no_unmended old new no_doubt r why)
   surely o (refused M r mended says at) =
       let is = mended_none old.marks M old.doubt mended no_doubt in
       is_refused r (there M is (refuse r) says) (ap history (at.marks_are ∙ is)) at.sure

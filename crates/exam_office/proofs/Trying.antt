@@ -91,7 +91,7 @@ module _ {D : Type 0} (session : ℕ) (old new : Running D) (a : Assembly) (for 
       let t = good_try e says in
       tried e grown t.0 t.1 (record { sure = sure; images = λ told. images (subst IsTrue frame.tells told) })
   tried_so (Err q) (is_refused r says grown sure) images frame = absurd (not_stale r says)
-  tried_so (Err q) (is_stopped r grown why) images frame =
+  tried_so (Err q) (is_stopped r e says grown why) images frame =
       stopped r grown
       (stopped_weaker old.bank old.plan (history old.marks) (λ e. FindsCommit old.bank old.plan a (history old.marks) (add e)) (IsTry old.bank old.plan (history old.marks) session) (λ e says. (good_try e says).0) old old new (omega arith) (λ e. e) r why)
 

@@ -1,5 +1,5 @@
 -- What a request does to an office of one thread.
-use Rattle.std.specs.Prelude.{◌≡◌, ⊤, ℕ, ◌+◌, ◌<◌, ◌≤◌, Bool, List, [], ◌∷◌, ◌++◌, length, IsTrue, Option, Some, None, Result, Ok, Err}
+use Rattle.std.specs.Prelude.{◌≡◌, ◌⊎◌, ⊤, ℕ, ◌+◌, ◌<◌, ◌≤◌, Bool, List, [], ◌∷◌, ◌++◌, length, IsTrue, Option, Some, None, Result, Ok, Err}
 use Rattle.bank_tables.specs.Items.{Set, has}
 use Rattle.bank_tables.specs.Tables.{Tables}
 use Rattle.exam_edge.specs.Faults.{Rose}
@@ -21,6 +21,7 @@ use Rattle.history_model.specs.declared.request.Reply.{Reply}
 use Rattle.history_model.specs.declared.request.Reply.TheVariants.{At, Refused}
 use Rattle.history_model.specs.Halting.{IsCutOff, IsNextOf}
 use Rattle.history_model.specs.Judging.{Record, MayFollow}
+use Rattle.history_model.specs.Refusals.{refusal_of}
 use Rattle.history_model.specs.Requests.{Does}
 use Rattle.history_model.specs.SessionProblems.{IsProblemOf}
 use Rattle.exam_records.specs.Shape.{IsRecord}
@@ -30,7 +31,7 @@ use Rattle.exam_office.specs.Files.{Stands}
 use Rattle.exam_office.specs.Handling.{IsRefusal}
 use Rattle.exam_office.specs.Marks.{history, reach}
 use Rattle.exam_office.specs.Running.{Running}
-use Rattle.exam_office.specs.Writing.{IsOneOf, IsSameOffice}
+use Rattle.exam_office.specs.Writing.{IsOneOf, IsSameOffice, IsUnmended}
 
 -- ---- how a request halts
 -- the journal would be above its limit with a record that may follow, of an entry that comes next; nothing is in doubt
@@ -52,13 +53,15 @@ IsStoppedBy b plan H comes_next old new Disk = Rose (faults_of old.journal) (fau
 IsStoppedBy b plan H comes_next old new (JournalFull size) = IsTooLongWith b plan H comes_next new size
 IsStoppedBy b plan H comes_next old new refusal = ⊥
 
--- a request from the history H halts, after a beginning of its entries
+-- a request from the history H halts, after a beginning of its entries. It isn't one that is refused, unless the entry in doubt
+-- was not resolved: then nothing was tested
 pub record Halts {D : Type 0} (b : Tables) (plan : Plan) (H : List Entry) (request : Request) (old new : Running D) (answer : Reply)
     : Type 0 where
   pub cut_off : IsCutOff b plan H request (history new.marks)
   pub why : Refusal
   pub because : IsStoppedBy b plan (history new.marks) (IsNextOf b plan H request (history new.marks)) old new why
   pub reply : answer ≡ Refused why
+  pub not_refused : IsUnmended old new why ⊎ (refusal_of b plan H request ≡ None)
 
 -- ---- the base and the form before
 -- the form is no worse than these items, if they are a form
