@@ -250,7 +250,7 @@ impl<D: Disk> Walk<D> {
         ensures ready { IfOk result IsReady }
         ensures limit { IfOk result (λ journal. limit_of journal ≡ self.limit) }
         ensures length { IfOk result (λ journal. length_of journal ≡ self.size) }
-        // The walk has given every record that the file had when its frames were tested.
+        // The walk is at the end of the file, also of a disk that does not report its content.
         ensures whole { OnOk result (self.at + 1 ≡ self.size) }
         ensures keeps { IfOk result (λ journal. IsTrue (D.tells self.disk)
             → payloads shadowj1 (D.content self.disk) ≡ Some (payloads_of journal)) }

@@ -34,7 +34,8 @@ use Rattle.exam_office.specs.Running.{Running}
 use Rattle.exam_office.specs.Writing.{IsOneOf, IsSameOffice, IsUnmended}
 
 -- ---- how a request halts
--- the journal would be above its limit with a record that may follow, of an entry that comes next; nothing is in doubt
+-- the journal would be above its limit with a record that can be spelled and may follow, of an entry
+-- that comes next; nothing is in doubt
 pub record IsTooLongWith {D : Type 0} (b : Tables) (plan : Plan) (H : List Entry) (comes_next : Entry → Type 0) (new : Running D)
     (size : ℕ) : Type 0 where
   pub last : Record
@@ -53,8 +54,8 @@ IsStoppedBy b plan H comes_next old new Disk = Rose (faults_of old.journal) (fau
 IsStoppedBy b plan H comes_next old new (JournalFull size) = IsTooLongWith b plan H comes_next new size
 IsStoppedBy b plan H comes_next old new refusal = ⊥
 
--- a request from the history H halts, after a beginning of its entries. It isn't one that is refused, unless the entry in doubt
--- was not resolved: then nothing was tested
+-- a request from the history H halts, after a beginning of its entries. It is not one that is refused,
+-- unless the entry in doubt was not resolved: then nothing was tested
 pub record Halts {D : Type 0} (b : Tables) (plan : Plan) (H : List Entry) (request : Request) (old new : Running D) (answer : Reply)
     : Type 0 where
   pub cut_off : IsCutOff b plan H request (history new.marks)

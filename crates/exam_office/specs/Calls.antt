@@ -44,7 +44,7 @@ pub record IsAt {D : Type 0} (new : Running D) (marks : List Mark) : Type 0 wher
   pub marks_are : new.marks ≡ marks
   pub sure : new.doubt ≡ None
 
--- the journal would have this length with a record of the entry that may follow
+-- the journal would have this length with a record of the entry that can be spelled and may follow
 pub record IsTooLong (b : Tables) (plan : Plan) (marks : List Mark) (entry : Entry) (size : ℕ) : Type 0 where
   pub last : Record
   pub is_entry : last.entry ≡ entry

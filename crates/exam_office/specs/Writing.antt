@@ -1,6 +1,6 @@
 -- What a call that writes does to an office.
 use Rattle.history_model.specs.Judging.{Record}
-use Rattle.std.specs.Prelude.{◌≡◌, ◌⊎◌, ℕ, ◌+◌, ◌<◌, List, [], ◌∷◌, ◌++◌, length, Option, Some, None}
+use Rattle.std.specs.Prelude.{◌≡◌, ◌⊎◌, ℕ, ◌+◌, ◌<◌, ◌^◌, List, [], ◌∷◌, ◌++◌, length, Option, Some, None}
 use Rattle.bank_tables.specs.Tables.{Tables}
 use Rattle.exam_model.specs.Plan.{Plan}
 use Rattle.exam_edge.specs.Faults.{Rose}
@@ -56,14 +56,15 @@ pub record IsFaulted {D : Type 0} (old new : Running D) (marks : List Mark) (ent
   pub doubt : new.doubt ≡ Some entry
   pub rose : Rose (faults_of old.journal) (faults_of new.journal)
 
--- why the entry in doubt wasn't resolved: out of memory, before anything was done, or a fault of the disk
+-- why the entry in doubt was not resolved: there was no room for a mark, and nothing was done; or a fault
+-- of the disk. Only a list of 2^64 - 1 marks has no room
 abbrev pub IsUnmended : {D : Type 0} → Running D → Running D → Refusal → Type 0
-IsUnmended old new Memory = (new ≡ old) × (entry : Entry) × (old.doubt ≡ Some entry)
+IsUnmended old new Memory = (new ≡ old) × (entry : Entry) × (old.doubt ≡ Some entry) × (length old.marks + 1 ≡ 2 ^ 64)
 IsUnmended old new Disk = (entry : Entry) × (old.doubt ≡ Some entry) × IsFaulted old new old.marks entry
 IsUnmended old new refusal = ⊥
 
--- why a record was not written: out of memory; no room in the journal for a record that can be spelled; or a fault of the disk.
--- Before the first two nothing is done
+-- why a record was not written: out of memory; no room in the journal for a record that can be spelled;
+-- or a fault of the disk. Before the first two nothing is done
 abbrev pub IsUnwritten : {D : Type 0} → Running D → Running D → Record → Refusal → Type 0
 IsUnwritten old new rec Memory = new ≡ old
 IsUnwritten old new rec (JournalFull size) = (new ≡ old) × (size ≡ with_record old.marks rec) × (old.plan.journal < size)

@@ -1,6 +1,6 @@
 //! How an office writes.
 
-ghost use Rattle.std.specs.Prelude.{◌≡◌, ◌+◌, ◌<◌, ◌≤◌, ◌^◌, [], ◌∷◌, ◌++◌, length, None, IsTrue, IfOk, IfErr, OnOk};
+ghost use Rattle.std.specs.Prelude.{◌≡◌, ◌+◌, ◌<◌, ◌≤◌, [], ◌∷◌, ◌++◌, length, None, IsTrue, IfOk, IfErr, OnOk};
 ghost use Rattle.std.specs.Option.{option_copied};
 ghost use Rattle.exam_edge.specs.Lent.{IsLent};
 ghost use Rattle.exam_edge.specs.Images.{AllImages, AtEachMoment, latest};
@@ -8,7 +8,6 @@ ghost use Rattle.history_model.specs.Judging.{MayFollow};
 ghost use Rattle.exam_records.specs.Shape.{GoesWith, IsRecord};
 ghost use Rattle.exam_records.specs.Spelling.{payload_of};
 ghost use Rattle.answer_journal.specs.Journal.{tells_of, accounts_of, faults_of, identity_of};
-ghost use Rattle.history_model.specs.declared.refusal.Refusal.TheVariants.{Memory as OutOfMemory};
 ghost use Rattle.exam_office.specs.declared.mark.Mark.TheVariants.{Own};
 ghost use Rattle.exam_office.specs.Files.{Stands};
 ghost use Rattle.exam_office.specs.Marks.{history};
@@ -42,9 +41,6 @@ impl<'a, D: Disk> Office<'a, D> {
         ensures sure { OnOk result (self.new.doubt ≡ None) }
         ensures mended { OnOk result (IsMended self.old.marks self.old.doubt self.new.marks) }
         ensures refused { IfErr result (IsUnmended self.old self.new) }
-        // It takes no memory: only a list of 2^64 - 1 marks is full.
-        ensures full { IfErr result
-            (λ refusal. refusal ≡ OutOfMemory → length self.old.marks + 1 ≡ 2 ^ 64) }
         ensures images { OnOk result (IsTrue (tells_of self.old.journal)
             → AllImages (Stands self.old.bank self.old.plan (history self.new.marks))
             (latest (accounts_of self.new.journal))) }

@@ -25,7 +25,7 @@ impl<'a> Book<'a> {
         ensures room { OnOk result (self.new.room ≡ max 1 self.old.room) }
         ensures memory { OnErr result (self.new.room ≡ self.old.room) }
         // Where there is room, nothing fails.
-        ensures wanted { OnErr result (self.old.room ≡ 0) }
+        ensures needed { OnErr result (self.old.room ≡ 0) }
     {
         if self.room > 0 {
             return Ok(());
