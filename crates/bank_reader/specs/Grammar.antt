@@ -88,7 +88,8 @@ pub record IsColumn (s : Shape) (k : ℕ) (fields : List (List ℕ)) (c : ℕ) :
   pub loglik : (categories i : ℕ) → IsNumber fields 2 categories → c ≡ first_loglik s + i → i < categories * s.grid → (z : ℤ) × IsSigned fields c z
   pub empty : (categories i : ℕ) → IsNumber fields 2 categories → c ≡ first_loglik s + i → categories * s.grid ≤ i → field fields c ≡ []
 
--- why record k is no item: it has another number of fields than the header, or this is the first column that holds what it may not
+-- why record k is no item: it has another number of fields than the header, or this is the first column
+-- that holds what it may not
 abbrev pub IsItemFault : Shape → ℕ → List (List ℕ) → ReadFault → Type 0
 IsItemFault s k fields (Csv r) = (r ≡ k) × (length fields ≢ width s)
 IsItemFault s k fields (Field r c) = (r ≡ k) × (length fields ≡ width s) × (c < width s) × ((d : ℕ) → d < c → IsColumn s k fields d) × (IsColumn s k fields c → ⊥)

@@ -264,7 +264,8 @@ fn audits_the_same<R: Abort>(rt: &R, alloc: Global, row: &Whole, was: &Outcome) 
     is_audited(rt, alloc, &expected);
 }
 
-/// The calls end with what their row has. The file opens as the same history, and an audit finds it.
+/// The calls end with what their row has. The file opens as the same history, which an audit
+/// finds too.
 fn is_whole<R: Abort>(rt: &R, alloc: Global, row: &Whole) {
     let trial = Trial {
         numbers: row.numbers,

@@ -1,5 +1,5 @@
-//! How a seat goes on. A book of many sessions keeps its seats in another form, and makes the
-//! same steps of that.
+//! How a seat goes on. A book of many sessions keeps its seats in another form. There it takes the
+//! same steps by code of its own.
 
 ghost use Rattle.std.specs.Prelude.{◌≡◌, ◌<◌, length};
 ghost use Rattle.exam_model.specs.Seats.{new_seat, with_item, with_response};
