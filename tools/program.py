@@ -1,5 +1,3 @@
-"""Where the tools find shadowd, if no --program names it."""
-import os
+from shadowtools.door import leads_to
 
-TOP = os.path.dirname(os.path.dirname(os.path.abspath(__file__)))
-BUILT = os.environ.get("SHADOWD") or os.path.join(TOP, "crates", "shadowd", "out", "shadowd")
+leads_to("places", __name__)

@@ -1,24 +1,18 @@
 """What the tests of the tools share: running a tool in a folder of its own, and what is there to test with."""
 import contextlib
 import importlib
-import importlib.util
 import io
 import os
 import tempfile
 import unittest
 
-from program import BUILT as PROGRAM
+from shadowtools.needs import is_there
+from shadowtools.places import BUILT as PROGRAM
+from shadowtools.places import TOOLS, TOP as ROOT
 
-TOOLS = os.path.dirname(os.path.dirname(os.path.abspath(__file__)))
-ROOT = os.path.dirname(TOOLS)
-
-
-def has(module):
-    return importlib.util.find_spec(module) is not None
-
-
-needs_numpy = unittest.skipUnless(has("numpy"), "needs python3-numpy")
-needs_matplotlib = unittest.skipUnless(has("numpy") and has("matplotlib"), "needs python3-numpy and python3-matplotlib")
+needs_numpy = unittest.skipUnless(is_there("numpy"), "needs python3-numpy")
+needs_scipy = unittest.skipUnless(is_there("numpy", "scipy"), "needs python3-numpy and python3-scipy")
+needs_matplotlib = unittest.skipUnless(is_there("numpy", "matplotlib"), "needs python3-numpy and python3-matplotlib")
 needs_program = unittest.skipUnless(os.path.exists(PROGRAM), "needs the built program")
 
 

@@ -1,4 +1,6 @@
 """The example of the README: bank A, its plan, script and replies, as the page has them."""
+import hashlib
+
 BANK = """item,stimulus,categories,i0,i1,i2,l0_0,l0_1,l0_2,l1_0,l1_1,l1_2
 0,0,2,9,5,1,-7,-7,-7,-7,-7,-7
 1,0,2,7,8,2,-7,-7,-7,-7,-7,-7
@@ -41,6 +43,7 @@ def scale_map(unit=1.0):
     """A map for bank A: points -1, 0 and 1."""
     return {"theta": [-1.0, 0.0, 1.0], "D": 1.0, "information_unit": 1.0, "log_unit": unit, "prior": ["flat"],
             "length": 3, "quantities": [], "passages": [],
+            "sha256": {"bank": hashlib.sha256(BANK.encode()).hexdigest(), "plan": hashlib.sha256(PLAN.encode()).hexdigest()},
             "items": [{"number": k, "id": f"I{k}", "model": "2PL", "parameters": [1.0, 0.0], "passage": 0,
                        "attributes": {}} for k in range(6)]}
 

@@ -1,0 +1,235 @@
+"""From a table of constraints by name, as R's TestDesign has it, to the rules of a plan.
+
+Columns: CONSTRAINT (or CONSTRAINT_ID), TYPE, WHAT, CONDITION, LB, UB and perhaps ONOFF; a row that is OFF is skipped.
+
+    TYPE     WHAT      CONDITION             line of the plan
+    Number   Item      none, LB = UB         length
+    Number   Item      a condition           count LB UB set
+    Number   Item      Per Stimulus          stimulus s LB UB, for each passage
+    Number   Stimulus  none                  stimuli LB UB
+    Sum      Item      ATTRIBUTE[, condition] quantity q LB UB set
+    Mean     Item      ATTRIBUTE             quantity q, LB and UB times the length, all items
+    Include  Item      a condition           count k k set, k the number of items that meet it
+    Exclude  Item      a condition           count 0 0 set
+    Enemy    Item      a condition           enemies set
+    AllOrNone Item     a condition           a passage of its own, whose items are served all or none
+"""
+import math
+from dataclasses import dataclass, field
+
+from shadowtools.agency.conditions import BadCondition, chosen
+from shadowtools.command import Refused
+from shadowtools.formats.tables import ABSENT, members, number, read_table, runs
+
+MOST_ROWS, MOST_ITEMS, MOST_PASSAGES, MOST_SUM = 128, 512, 64, 33_553_920
+NO_CHOICE = "shadowd has no row on a choice of passages or on their attributes; only their number can be bounded"
+PER_PASSAGE = ("per stimulus", "per passage", "per set")
+PASSAGE_WORDS = ("stimulus", "passage", "set")
+
+
+@dataclass
+class Rule:
+    """One constraint of the table, as lines of a plan."""
+    label: str
+    remark: str
+    source: str
+    attribute: str = ""     # of a condition that is one comparison
+    lines: list = field(default_factory=list)
+
+
+@dataclass
+class Blueprint:
+    length: int
+    rules: list
+    passages: list
+    warnings: list
+
+
+class Compiler:
+    """The rules of one table of constraints."""
+
+    def __init__(self, path, items, passages, quantities):
+        self.path, self.items, self.passages, self.quantities = path, items, passages, quantities
+        self.attributes = [item.attributes for item in items]
+        self.length, self.covered, self.warnings = 0, set(), []
+
+    def where(self, line, label):
+        return f"{self.path}: line {line}: {label}"
+
+    def chosen(self, line, label, text):
+        try:
+            found = chosen(text, self.attributes)
+        except BadCondition as error:
+            raise Refused(f"{self.where(line, label)}: {error}")
+        if not found:
+            raise Refused(f"{self.where(line, label)}: no item meets {text!r}")
+        self.covered.update(found)
+        return found
+
+    def bound(self, line, row, column, absent):
+        """A whole number of a column."""
+        if row[column] in ABSENT:
+            return absent
+        value = number(self.path, line, row, column)
+        if value != int(value) or value < 0:
+            raise Refused(f"{self.path}: line {line} column {column}: {row[column]!r} is not a whole number from 0 up")
+        return int(value)
+
+    def read(self):
+        head, rows = read_table(self.path)
+        for needed in ("TYPE", "WHAT", "CONDITION", "LB", "UB"):
+            if needed not in head:
+                raise Refused(f"{self.path}: line 1: no column {needed}")
+        rows = [pair for pair in rows if pair[1].get("ONOFF", "").upper() not in ("OFF", "0", "FALSE")]
+        self.length = self.read_length(rows)
+        if any(row["TYPE"].lower() == "allornone" for _, row in rows):
+            self.refuse_numbers_of_passages(rows)
+        return [rule for line, row in rows for rule in self.rule(line, row)]
+
+    def read_length(self, rows):
+        for line, row in rows:
+            if is_length(row):
+                low, high = self.bound(line, row, "LB", None), self.bound(line, row, "UB", None)
+                if low != high or not low:
+                    raise Refused(f"{self.path}: line {line}: shadowd serves tests of one length; "
+                                  f"LB {row['LB']} is not UB {row['UB']}")
+                if low > len(self.items):
+                    raise Refused(f"{self.path}: line {line}: length {low}, the bank has {len(self.items)} items")
+                return low
+        raise Refused(f"{self.path}: no line Number,Item without a condition: the length of a test is missing")
+
+    def refuse_numbers_of_passages(self, rows):
+        for line, row in rows:
+            if row["WHAT"].lower() in PASSAGE_WORDS:
+                raise Refused(f"{self.path}: line {line}: AllOrNone makes passages of its sets, "
+                              "which a number of passages would count; give the sets a STID instead")
+
+    def rule(self, line, row):
+        """The rules of a row of the table: one, or none where it is the length."""
+        if is_length(row):
+            return []
+        kind, what, condition = row["TYPE"].lower(), row["WHAT"].lower(), row["CONDITION"]
+        label = row.get("CONSTRAINT") or row.get("CONSTRAINT_ID") or f"line {line}"
+        remark = " ".join(f"{label}: {row['TYPE']} {row['WHAT']} {condition}".split())
+        simple = not any(sign in condition for sign in "&|!(") and condition.split()
+        rule = Rule(label, remark, f"{self.path}: line {line}", condition.split()[0] if simple else "")
+        if what in PASSAGE_WORDS:
+            rule.lines = self.number_of_passages(line, label, row)
+        elif what != "item":
+            raise Refused(f"{self.where(line, label)}: WHAT {row['WHAT']!r} is neither Item nor Stimulus")
+        elif kind == "number" and condition.lower() in PER_PASSAGE:
+            rule.lines = self.per_passage(line, label, row)
+        elif kind in ("number", "include", "exclude"):
+            rule.lines = [self.count(line, label, row, kind)]
+        elif kind == "enemy":
+            rule.lines = [f"enemies {runs(self.chosen(line, label, condition))}"]
+        elif kind in ("sum", "mean", "average"):
+            rule.lines = [self.quantity(line, label, row, kind)]
+        elif kind == "allornone":
+            rule.lines = [self.all_or_none(line, label, condition)]
+        else:
+            raise Refused(f"{self.where(line, label)}: {row['TYPE']} {row['WHAT']} is not a rule of shadowd")
+        return [rule]
+
+    def number_of_passages(self, line, label, row):
+        if row["TYPE"].lower() != "number" or row["CONDITION"]:
+            raise Refused(f"{self.where(line, label)}: {NO_CHOICE} (see docs/GUIDE.md)")
+        low, high = self.bound(line, row, "LB", 0), self.bound(line, row, "UB", MOST_PASSAGES)
+        self.ordered(line, label, low, high)
+        if low > len(self.passages):
+            raise Refused(f"{self.where(line, label)}: at least {low} passages asked, there are {len(self.passages)}")
+        return [f"stimuli {low} {min(high, MOST_PASSAGES)}"]
+
+    def per_passage(self, line, label, row):
+        low, high = max(1, self.bound(line, row, "LB", 1)), self.bound(line, row, "UB", MOST_ITEMS)
+        self.ordered(line, label, low, high)
+        if not self.passages:
+            raise Refused(f"{self.where(line, label)}: no item has a passage (column STID)")
+        return [f"stimulus {s} {low} {min(high, MOST_ITEMS)}" for s in range(1, len(self.passages) + 1)]
+
+    def count(self, line, label, row, kind):
+        found = self.chosen(line, label, row["CONDITION"])
+        if kind == "number":
+            low, high = self.bound(line, row, "LB", 0), min(self.bound(line, row, "UB", MOST_ITEMS), MOST_ITEMS)
+            self.ordered(line, label, low, high)
+        else:
+            low = high = len(found) if kind == "include" else 0
+        if low > len(found):
+            raise Refused(f"{self.where(line, label)}: at least {low} asked, {len(found)} items meet {row['CONDITION']!r}")
+        if low > self.length:
+            raise Refused(f"{self.where(line, label)}: at least {low} asked, a test has {self.length} items")
+        return f"count {low} {high} {runs(found)}"
+
+    def quantity(self, line, label, row, kind):
+        name, _, rest = row["CONDITION"].partition(",")
+        name = name.strip()
+        if name not in self.quantities:
+            raise Refused(f"{self.where(line, label)}: {name!r} is no quantity; add --quantity {name}")
+        if kind != "sum" and rest.strip():
+            raise Refused(f"{self.where(line, label)}: a mean over a part of the form is not linear in the items")
+        times = 1 if kind == "sum" else self.length
+        low = 0 if row["LB"] in ABSENT else math.ceil(times * number(self.path, line, row, "LB") - 1e-9)
+        high = MOST_SUM if row["UB"] in ABSENT else math.floor(times * number(self.path, line, row, "UB") + 1e-9)
+        high = min(high, MOST_SUM)
+        self.ordered(line, label, low, high)
+        covered = set(self.covered)
+        found = self.chosen(line, label, rest)
+        self.covered = covered
+        return f"quantity {self.quantities.index(name)} {max(0, low)} {high} {runs(found)}"
+
+    def ordered(self, line, label, low, high):
+        if low > high:
+            raise Refused(f"{self.where(line, label)}: LB {low} is above UB {high}")
+
+    def all_or_none(self, line, label, condition):
+        found = self.chosen(line, label, condition)
+        for k in found:
+            if self.items[k].passage:
+                raise Refused(f"{self.where(line, label)}: item {self.items[k].name} has a passage already")
+        if len(self.passages) == MOST_PASSAGES:
+            raise Refused(f"{self.where(line, label)}: with it there are more than {MOST_PASSAGES} passages")
+        self.passages.append(label)
+        for k in found:
+            self.items[k].passage = len(self.passages)
+        self.warnings.append(f"{label}: its {len(found)} items are a passage, so they are served one after another")
+        return f"stimulus {len(self.passages)} {len(found)} {len(found)}"
+
+
+def is_length(row):
+    return (row["TYPE"].lower(), row["WHAT"].lower(), row["CONDITION"]) == ("number", "item", "")
+
+
+def compile_blueprint(path, items, passages, quantities):
+    """The length, the rules, the passages (with those of AllOrNone) and warnings; or a refusal."""
+    passages = list(passages)
+    compiler = Compiler(path, items, passages, quantities)
+    rules = compiler.read()
+    rows = sum(line.split()[0] != "stimulus" for rule in rules for line in rule.lines)
+    if rows > MOST_ROWS:
+        raise Refused(f"{path}: {rows} rows; shadowd takes at most {MOST_ROWS}")
+    warnings = compiler.warnings + disagreements(compiler.length, rules, len(items))
+    free = [item.name for k, item in enumerate(items) if k not in compiler.covered and not item.passage]
+    if rules and free:
+        more = ", .." if len(free) > 3 else ""
+        warnings.append(f"{len(free)} items are in no rule of content ({', '.join(free[:3])}{more})")
+    return Blueprint(compiler.length, rules, passages, warnings)
+
+
+def disagreements(length, rules, items):
+    """Counts over disjoint sets whose lows pass the length, or, where they cover the bank, whose highs do not reach it."""
+    found, groups = [], {}
+    for rule in rules:
+        words = rule.lines[0].split() if rule.lines else [""]
+        if words[0] == "count" and rule.attribute:
+            groups.setdefault(rule.attribute, []).append((int(words[1]), int(words[2]), words[3:]))
+    for name, group in groups.items():
+        sets = [set(members(words)) for _, _, words in group]
+        union = set().union(*sets)
+        if sum(map(len, sets)) != len(union):
+            continue
+        low, high = sum(g[0] for g in group), sum(min(g[1], len(s)) for g, s in zip(group, sets))
+        if low > length:
+            found.append(f"the least numbers of the rules on {name} add up to {low}, a test has {length} items")
+        if len(union) == items and high < length:
+            found.append(f"the greatest numbers of the rules on {name} add up to {high}, a test has {length} items")
+    return found

@@ -1,0 +1,80 @@
+"""The chain from bank and plan to results: which files belong together, and what the program says of them.
+
+`irt_bank.py` writes the SHA-256 (FIPS 180-4) of the bank and of the plan into the map. The tools that read them later read all
+three by `read_documents`, which refuses a file that is not the one the map was written with.
+"""
+import hashlib
+import os
+import subprocess
+from dataclasses import dataclass
+from typing import Dict, List, Optional, Sequence
+
+from shadowtools.checkers import audit
+from shadowtools.command import Refused
+from shadowtools.formats.examination import BankItem, Plan, read_bank, read_map, read_plan
+
+CURE = "use the files that irt_bank.py wrote together"
+
+
+@dataclass(frozen=True)
+class Documents:
+    """Bank, plan and map of one examination. `sha256` has the digests of the files `bank`, `plan` and `map`, in hexadecimal."""
+    bank: List[BankItem]
+    plan: Plan
+    map: dict
+    sha256: Dict[str, str]
+
+
+def sha256_of(path: str) -> str:
+    """The SHA-256 of a file, in hexadecimal."""
+    digest = hashlib.sha256()
+    try:
+        with open(path, "rb") as file:
+            for block in iter(lambda: file.read(1 << 20), b""):
+                digest.update(block)
+    except OSError as error:
+        raise Refused(f"{path}: {error.strerror}")
+    return digest.hexdigest()
+
+
+def read_documents(bank: str, plan: str, map_path: str, program: Optional[str] = None) -> Documents:
+    """The documents at three paths. Refused is a bank or plan that is not the map's by its digest, a file that can't be
+    read, and, where `program` is the path of a built shadowd, files that its `check` refuses."""
+    found = read_map(map_path)
+    digests = {"bank": sha256_of(bank), "plan": sha256_of(plan), "map": sha256_of(map_path)}
+    for name, path in (("bank", bank), ("plan", plan)):
+        if found["sha256"].get(name) != digests[name]:
+            raise Refused(f"{path}: not the {name} of {map_path}, by its SHA-256 {digests[name]}; {CURE}")
+    if program and os.path.exists(program):
+        said_by(program, "check", bank, plan)
+    documents = Documents(read_bank(bank), read_plan(plan), found, digests)
+    if len(found["items"]) != len(documents.bank) or len(found["theta"]) != len(documents.plan.prior):
+        raise Refused(f"{map_path} is not the map of {bank} and {plan}")
+    return documents
+
+
+def audited(bank: str, plan: str, journal: str, program: Optional[str] = None) -> str:
+    """The summary line of an audit, by the program where it is built, else by tools/audit.py, which takes minutes for
+    thousands of steps. Refused is a journal that is none of this bank and plan."""
+    if program and os.path.exists(program):
+        return said_by(program, "audit", bank, plan, journal=journal)[0]
+    try:
+        with open(journal, "rb") as file:
+            return next(audit.lines(audit.audit(audit.read_rules(bank, plan), file)))
+    except OSError as error:
+        raise Refused(f"{journal}: {error.strerror}")
+
+
+def said_by(program: str, command: str, bank: str, plan: str, journal: Optional[str] = None) -> Sequence[str]:
+    """What a command of shadowd prints. Refused where its status is not 0, with the file that it is about."""
+    environment = dict(os.environ, SHADOWD_JOURNAL=journal) if journal else None
+    try:
+        done = subprocess.run([program, command, bank, plan], env=environment, stdin=subprocess.DEVNULL,
+                              capture_output=True, text=True)
+    except OSError as error:
+        raise Refused(f"{program}: {error.strerror}")
+    lines = done.stdout.splitlines()
+    if done.returncode or not lines:
+        about = {3: bank, 4: plan, 6: journal, 9: journal}.get(done.returncode) or program
+        raise Refused(f"{about}: shadowd {command}, status {done.returncode}: {' '.join(lines)[:80]}")
+    return lines

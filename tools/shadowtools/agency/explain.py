@@ -1,0 +1,186 @@
+"""Why a plan has no form; and how far from the best an unproved form can be.
+
+usage: explain.py BANK PLAN [--map MAP] [--program SHADOWD]      default $SHADOWD, else crates/shadowd/out/shadowd
+
+It runs `shadowd assemble`. Where no set of items meets the plan (status 11), it leaves out one rule after the
+other for as long as there is still no form. The rules that stay cannot be met together, and without any one of them
+there is a form, or none was found within the base budget. Each step is a proved `no form`.
+Where a form is unproved, it reads the proof tree. Each open leaf has a bound; the greatest of them bounds all forms.
+The gap is what the best form can inform more than this one.
+
+Rules are named by the remark above them in the plan, as irt_bank.py writes it. With --map the gap is in units of
+information. Exit status: 0 where there is a form, 11 where there is none, 12 where none was found, 1 where the files
+are refused.
+"""
+import argparse
+import os
+import subprocess
+import sys
+import tempfile
+
+from shadowtools.checkers import check_tree
+from shadowtools.formats.examination import opened, plan_of, read_map
+from shadowtools.places import BUILT
+from shadowtools.command import Refused, as_command
+
+
+DONE, NO_FORM, NOT_FOUND = 0, 11, 12
+
+
+class Program:
+    """`assemble` of one bank, with any plan."""
+
+    def __init__(self, path, bank):
+        self.path, self.bank, self.runs = path, bank, 0
+
+    def assemble(self, plan):
+        """Status and output for the text of a plan."""
+        self.runs += 1
+        with tempfile.NamedTemporaryFile("w", suffix=".txt", delete=False, encoding="utf-8", newline="\n") as file:
+            file.write(plan)
+        try:
+            done = subprocess.run([self.path, "assemble", self.bank, file.name], stdin=subprocess.DEVNULL,
+                                  capture_output=True, text=True)
+        except OSError as error:
+            raise Refused(f"{self.path}: {error.strerror}")
+        finally:
+            os.unlink(file.name)
+        return done.returncode, done.stdout.strip()
+
+
+# ---------------------------------------------------------------- no form
+
+def without(text, rules, kept):
+    """The plan with only these of its rules, and without a base form, which the others may be needed for."""
+    dropped = {rule.line for rule in rules} - {rule.line for rule in kept}
+    lines = [line for number, line in enumerate(text.splitlines(), 1)
+             if number not in dropped and not line.startswith("base ")]
+    return "\n".join(lines) + "\n"
+
+
+def used_by(tree, rules, passages):
+    """The rules that the tree's leaves name; a place to begin from, which the program then tests."""
+    vectors, nodes, _ = check_tree.read_tree(bytes.fromhex(tree))
+    rows = [rule for rule in rules if rule.kind != "stimulus"]
+    found = {rule.line for rule in rules if rule.kind == "stimulus" and passages}
+    numbers = {side // 2 + 1 for kind, value in nodes if kind == check_tree.RAY for side in vectors[value]}
+    numbers |= {value for kind, value in nodes if kind == check_tree.COUNT}
+    found |= {rows[number - 1].line for number in numbers if 1 <= number <= len(rows)}
+    return [rule for rule in rules if rule.line in found]
+
+
+def clash(program, text, tree):
+    """An irreducible set of rules that cannot be met together, by leaving out one after the other."""
+    rules = plan_of(text).rules
+    kept = list(rules)
+    guess = used_by(tree, rules, any(rule.kind == "stimulus" for rule in rules))
+    if len(guess) < len(kept) and program.assemble(without(text, rules, guess))[0] == NO_FORM:
+        kept = guess
+    for rule in reversed(list(kept)):
+        fewer = [one for one in kept if one is not rule]
+        if program.assemble(without(text, rules, fewer))[0] == NO_FORM:
+            kept = fewer
+    return kept, len(rules)
+
+
+def print_clash(kept, of, length):
+    if not kept:
+        print(f"No set of {length} items is a form by the length alone.")
+        return
+    print(f"These {len(kept)} of {of} rules cannot be met together in a test of {length} items:")
+    for rule in kept:
+        extra = "" if rule.label == rule.text else f"   {rule.label}"
+        text = rule.text if len(rule.text) <= 60 else rule.text[:57] + "..."
+        print(f"  line {rule.line}: {text}{extra}")
+    if len(kept) > 1:
+        print("Without any one of them there is a form, or none was found within the base budget.")
+
+
+# ---------------------------------------------------------------- the gap of an unproved form
+
+def greatest_bound(problem, vectors, nodes):
+    """The greatest bound of the open leaves, in units of the bank; None where no leaf is open.
+
+    The bound of a leaf is the least relaxed maximum of the tree's vectors and of no multipliers, on its path."""
+    reduced = [check_tree.reduced(problem, vector, False) for vector in [{}] + vectors]
+    waiting, greatest = [check_tree.root(problem)], None
+    for kind, value in nodes:
+        path = waiting.pop()
+        if kind in (check_tree.ITEM, check_tree.STIMULUS):
+            waiting.extend(reversed(check_tree.below(problem, path, kind, value)))
+        if kind == check_tree.OPEN:
+            maxima = [check_tree.maximum(problem, path, one) for one in reduced]
+            if any(one is None for one in maxima):
+                continue
+            least = min(maxima) // 256
+            greatest = least if greatest is None else max(greatest, least)
+    return greatest
+
+
+def gap(bank_path, plan_path, said):
+    """The form's objective and the bound that its tree gives."""
+    form = frozenset(int(word) for word in said.splitlines()[0].split()[1:])
+    bank = check_tree.read_bank(bank_path)
+    plan = check_tree.read_plan(plan_path, bank)
+    start = plan.prior.index(max(plan.prior))
+    problem = check_tree.Problem(bank, plan, start, frozenset(), frozenset(), None)
+    vectors, nodes, _ = check_tree.read_tree(bytes.fromhex(said.splitlines()[2].split()[1]))
+    verdict = check_tree.verdict(problem, form, vectors, nodes)
+    if not verdict.startswith("Partial"):
+        raise Refused(f"the tree's verdict is {verdict}, not Partial")
+    objective = check_tree.objective(problem, form)
+    bound = greatest_bound(problem, vectors, nodes)
+    return objective, objective if bound is None else max(objective, bound)
+
+
+def print_gap(objective, bound, unit):
+    scale = 1 if unit is None else unit
+    shown = f"{bound / scale:g}", f"{(bound - objective) / scale:g}"
+    share = (bound - objective) / objective if objective else float("inf")
+    print(f"No form informs more than {shown[0]}: the gap is {shown[1]}, {share:.2%} of this form.")
+
+
+# ---------------------------------------------------------------- command line
+
+def options(words):
+    parser = argparse.ArgumentParser(usage=__doc__.partition("usage: ")[2], add_help=False)
+    parser.add_argument("bank", nargs="?")
+    parser.add_argument("plan", nargs="?")
+    parser.add_argument("--map")
+    parser.add_argument("--program", default=BUILT)
+    parser.add_argument("-h", "--help", action="store_true")
+    found = parser.parse_args(words)
+    if found.help or not found.plan:
+        print(__doc__, file=sys.stdout if found.help else sys.stderr)
+        sys.exit(0 if found.help else 2)
+    return found
+
+
+def main(words):
+    given = options(words)
+    with opened(given.plan) as file:
+        text = file.read()
+    program = Program(given.program, given.bank)
+    status, said = program.assemble(text)
+    if status == NO_FORM:
+        kept, of = clash(program, text, said.split()[-1])
+        print_clash(kept, of, plan_of(text).length)
+    elif status == NOT_FOUND:
+        print(said.split(" tree ")[0][:60].rsplit(" ", 1)[0])
+        print("It is open whether the plan has a form. Raise base-budget (to 4095), or give a base form.")
+    elif status == DONE and said.splitlines()[1].split()[2] == "proved":
+        print(f"This form is proved best: {said.splitlines()[0]}, {said.splitlines()[1]}.")
+    elif status == DONE:
+        print(f"This form is not proved best: {said.splitlines()[0]}, {said.splitlines()[1]}.")
+        unit = read_map(given.map)["information_unit"] if given.map else None
+        print_gap(*gap(given.bank, given.plan, said), unit)
+    else:
+        raise Refused(f"shadowd assemble, status {status}: {said}")
+    return status
+
+
+command = as_command(main)
+
+
+if __name__ == "__main__":
+    sys.exit(command())

@@ -1,0 +1,121 @@
+"""Item response models: the probability of each response, and Fisher information.
+
+All parameters are in the metric P = c + (d - c) / (1 + exp(-D a (theta - b))), with D the scaling constant of
+the calibration. The models, their parameters in the order that `Item.parameters` has them, and their sources:
+
+    1PL b; 2PL a b; 3PL a b c     Birnbaum, in Lord and Novick, Statistical Theories of Mental Test Scores, 1968
+    4PL a b c d                   Barton and Lord, An Upper Asymptote for the Three-Parameter Logistic Model, 1981
+    GR  a b1 b2 ..                Samejima, Psychometrika Monograph 17, 1969; thresholds ascend
+    PC  b1 b2 ..                  Masters, Psychometrika 47, 1982
+    GPC a b1 b2 ..                Muraki, Applied Psychological Measurement 16, 1992; steps in any order
+"""
+from dataclasses import dataclass, field
+
+import numpy as np
+
+DICHOTOMOUS = {"1PL": 1, "2PL": 2, "3PL": 3, "4PL": 4}
+POLYTOMOUS = ("GR", "GPC", "PC")
+SYNONYMS = {
+    "RASCH": "1PL", "1PLM": "1PL", "2PLM": "2PL", "3PLM": "3PL", "4PLM": "4PL",
+    "GRM": "GR", "GRADED": "GR", "GPCM": "GPC", "PCM": "PC",
+}
+
+
+@dataclass
+class Item:
+    """An item of a calibrated bank. `passage` is the number of its passage, 0 for none."""
+    name: str
+    model: str
+    parameters: list
+    attributes: dict = field(default_factory=dict)
+    passage: int = 0
+
+    @property
+    def categories(self):
+        if self.model in DICHOTOMOUS:
+            return 2
+        return len(self.parameters) + (self.model == "PC")
+
+    def asymptotes(self):
+        """Slope, difficulty, lower and upper asymptote of a dichotomous item."""
+        p = self.parameters
+        if self.model == "1PL":
+            return 1.0, p[0], 0.0, 1.0
+        return p[0], p[1], p[2] if len(p) > 2 else 0.0, p[3] if len(p) > 3 else 1.0
+
+    def thresholds(self):
+        """Slope and thresholds (GR) or steps (GPC, PC) of a polytomous item."""
+        if self.model == "PC":
+            return 1.0, np.array(self.parameters)
+        return self.parameters[0], np.array(self.parameters[1:])
+
+    def probabilities(self, theta, scaling=1.0):
+        """The probability of each response, as an array [response, ability]."""
+        theta = np.atleast_1d(np.asarray(theta, float))
+        if self.model in DICHOTOMOUS:
+            a, b, c, d = self.asymptotes()
+            right, wrong = both_tails(scaling * a * (theta - b))
+            return np.stack([(1 - d) + (d - c) * wrong, c + (d - c) * right])
+        a, steps = self.thresholds()
+        z = scaling * a * (theta[None] - steps[:, None])
+        if self.model == "GR":
+            return boundary_differences(z)
+        sums = np.concatenate([np.zeros((1, len(theta))), np.cumsum(z, 0)])
+        powers = np.exp(sums - sums.max(0))
+        return powers / powers.sum(0)
+
+    def information(self, theta, scaling=1.0):
+        """Fisher information at each ability."""
+        theta = np.atleast_1d(np.asarray(theta, float))
+        chances = self.probabilities(theta, scaling)
+        if self.model in DICHOTOMOUS:
+            a, b, c, d = self.asymptotes()
+            right, wrong = both_tails(scaling * a * (theta - b))
+            return (scaling * a * (d - c) * right * wrong) ** 2 / (chances[0] * chances[1])
+        a, steps = self.thresholds()
+        if self.model == "GR":
+            right, wrong = both_tails(scaling * a * (theta[None] - steps[:, None]))
+            none = np.zeros((1, len(theta)))
+            slopes = np.concatenate([none, scaling * a * right * wrong, none])
+            return ((slopes[:-1] - slopes[1:]) ** 2 / np.maximum(chances, 1e-300)).sum(0)
+        score = np.arange(len(chances))[:, None]
+        mean = (score * chances).sum(0)
+        return (scaling * a) ** 2 * ((score - mean) ** 2 * chances).sum(0)
+
+
+def both_tails(z):
+    """The logistic function and its complement, each without cancellation far out."""
+    small = np.exp(-np.abs(z))
+    near, far = 1 / (1 + small), small / (1 + small)
+    return np.where(z >= 0, near, far), np.where(z >= 0, far, near)
+
+
+def boundary_differences(z):
+    """The probabilities of the graded response model from its boundary logits, without cancellation far out."""
+    right, wrong = both_tails(z)
+    one, none = np.ones((1, z.shape[1])), np.zeros((1, z.shape[1]))
+    above = np.concatenate([one, right, none])
+    below = np.concatenate([none, wrong, one])
+    return np.where(above[:-1] < 0.5, above[:-1] - above[1:], below[1:] - below[:-1])
+
+
+def fault(item):
+    """The first reason why the numbers are no item of the model, or None."""
+    p, model = item.parameters, item.model
+    if not all(np.isfinite(v) for v in p):
+        return "a parameter is not finite"
+    if model in DICHOTOMOUS and len(p) != DICHOTOMOUS[model]:
+        return f"{model} takes {DICHOTOMOUS[model]} parameters, has {len(p)}"
+    if model in ("GR", "GPC") and len(p) < 2:
+        return f"{model} takes a slope and at least one threshold"
+    if model == "PC" and not p:
+        return "PC takes at least one step"
+    if model not in ("1PL", "PC") and p[0] <= 0:
+        return f"slope {p[0]:g} is not above 0 (is the scoring of the item reversed?)"
+    if model in ("3PL", "4PL") and not 0 <= p[2] < 1:
+        return f"lower asymptote {p[2]:g} is not from 0 to below 1"
+    if model == "4PL" and not p[2] < p[3] <= 1:
+        return f"upper asymptote {p[3]:g} is not above the lower one and at most 1"
+    if model == "GR" and any(x >= y for x, y in zip(p[1:], p[2:])):
+        return "thresholds of GR do not ascend"
+    return None

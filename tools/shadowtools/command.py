@@ -1,0 +1,33 @@
+"""What all tools share: a refusal, and how a command begins and ends."""
+import functools
+import os
+import sys
+from typing import Callable, Optional, Sequence
+
+
+class Refused(Exception):
+    """What is given can't be taken. `line` is what is printed, with file, line, column and value as far as there are such;
+    `kind` is one word for counts of such refusals, where a tool counts them."""
+
+    def __init__(self, line: str, kind: str = "") -> None:
+        super().__init__(line)
+        self.line, self.kind = line, kind
+
+
+def as_command(main: Callable[[Sequence[str]], int]) -> Callable[[Optional[Sequence[str]]], int]:
+    """A function of the words of the command line, by default the process's; it gives the exit status.
+
+    A refusal is printed on standard error, with status 1. A reader of the output that goes away (`| head`) ends it with 1 too."""
+    @functools.wraps(main)
+    def command(words: Optional[Sequence[str]] = None) -> int:
+        try:
+            status = main(sys.argv[1:] if words is None else words)
+            sys.stdout.flush()
+            return status
+        except Refused as refused:
+            print(refused, file=sys.stderr)
+            return 1
+        except BrokenPipeError:
+            os.dup2(os.open(os.devnull, os.O_WRONLY), sys.stdout.fileno())
+            return 1
+    return command

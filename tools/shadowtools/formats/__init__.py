@@ -1,0 +1,1 @@
+"""Readers of tables, banks, plans, maps and journals. The standard library alone."""

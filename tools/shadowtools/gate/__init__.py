@@ -1,0 +1,1 @@
+"""What the gate or a developer runs. The standard library alone."""

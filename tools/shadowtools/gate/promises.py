@@ -1,0 +1,168 @@
+"""Holds docs/PROMISES.md against the code.
+
+    tools/promises.py           checks the page; the last line is 'N passed, M failed'
+    tools/promises.py --list    prints each public call with the names of its clauses
+
+The page has a section for each crate, with a heading '## `crate`', and rows of three cells: a promise, the functions that keep it,
+and the clauses that say it. Checked is that
+- each function that a row names is a public call of that crate;
+- each name in a row's last cell is that of a clause of one of these functions, or a word that their clauses or the definitions
+  of the repository (`specs/`) have;
+- each public call of each library has a row.
+Crates of tests (`.._trials`, `trial_cases`) and programs promise nothing to other crates, and have no section.
+"""
+import os
+import re
+import sys
+
+from shadowtools.command import as_command
+from shadowtools.places import TOP
+
+CRATES = os.path.join(TOP, "crates")
+PAGE = os.path.join(TOP, "docs", "PROMISES.md")
+NAME = r"[A-Za-z_][A-Za-z0-9_]*"
+
+
+def text_of(path):
+    with open(path, encoding="utf-8") as file:
+        return file.read()
+
+
+def libraries():
+    """The names of the crates that promise something to others."""
+    found = []
+    for line in text_of(os.path.join(TOP, "crates.txt")).splitlines():
+        name = line.split("#")[0].split(":")[0].split(" ")[0].strip()
+        is_library = name and os.path.isfile(os.path.join(CRATES, name, "src", "lib.rt"))
+        if is_library and not name.endswith("_trials") and name != "trial_cases":
+            found.append(name)
+    return found
+
+
+def exports(crate):
+    """The names that a crate hands out from modules of its own, and its public modules."""
+    text = re.sub(r"//[^\n]*", "", text_of(os.path.join(CRATES, crate, "src", "lib.rt")))
+    modules = set(re.findall(rf"^(?:pub )?mod ({NAME});", text, re.M))
+    public = set(re.findall(rf"^pub mod ({NAME});", text, re.M))
+    names = set(re.findall(rf"^pub (?:fn|struct|enum|trait) ({NAME})", text, re.M))
+    for path, many, one in re.findall(rf"^pub use ((?:{NAME}::)+)(?:\{{([^}}]*)\}}|({NAME}));", text, re.M):
+        if path.replace("crate::", "").split("::")[0] in modules:
+            names |= {it.strip() for it in (many or one).split(",") if it.strip()}
+    return names, public
+
+
+def contract_from(lines, at):
+    """The text of a function from its first line to the beginning of its body or its end."""
+    indent = re.match(r" *", lines[at]).group()
+    taken = [lines[at]]
+    if re.search(r"\{\}?\s*$", taken[0]):
+        return taken[0]
+    while not taken[-1].rstrip().endswith(";") and not re.match(rf"{indent}\{{", taken[-1]) and at + 1 < len(lines):
+        at += 1
+        taken.append(lines[at])
+    return "\n".join(taken)
+
+
+def calls_of(crate):
+    """The public calls of a crate, each with the names of its clauses and the words of its contract."""
+    names, public = exports(crate)
+    found = {}
+    folder = os.path.join(CRATES, crate, "src")
+    files = [os.path.join(at, it) for at, _, all_of in os.walk(folder) for it in all_of if it.endswith(".rt")]
+    for path in sorted(files):
+        module = os.path.relpath(path, folder)[:-3].split(os.sep)[0]
+        owner = None
+        lines = text_of(path).splitlines()
+        for at, line in enumerate(lines):
+            block = re.match(r"(?:pub )?(?:unsafe )?(impl|trait)\b(.*)", line)
+            if block:
+                head = re.sub(r"<[^<>]*>", "", re.sub(r"<[^<>]*>", "", re.sub(r"<[^<>]*>", "", block.group(2))))
+                if block.group(1) == "trait":
+                    owner = re.match(rf"\s*({NAME})", head).group(1)
+                    in_trait = True
+                else:
+                    owner = None if " for " in f" {head} " else (re.search(NAME, head) or [None])[0]
+                    in_trait = False
+            elif re.match(r"\}", line):
+                owner = None
+            call = re.match(rf"(\s*)(pub )?(?:const )?(?:unsafe )?fn ({NAME})", line)
+            if not call:
+                continue
+            if call.group(1) == "":
+                is_public = call.group(2) and (call.group(3) in names or module in public)
+                name = f"{module}::{call.group(3)}" if module in public else call.group(3)
+            else:
+                is_public = owner in names and (call.group(2) or in_trait)
+                name = f"{owner}::{call.group(3)}"
+            if is_public:
+                text = contract_from(lines, at)
+                clauses = re.findall(rf"ensures ({NAME})", text)
+                found[name] = (clauses, set(re.findall(NAME, text)))
+    return found
+
+
+def words_of_specs():
+    found = set()
+    for at, _, files in os.walk(CRATES):
+        if os.sep + "out" in at or os.sep + "specs" not in at:
+            continue
+        for it in files:
+            if it.endswith(".antt"):
+                found |= set(re.findall(NAME, text_of(os.path.join(at, it))))
+    return found
+
+
+def rows_of_page():
+    """Each row with its crate and its line: functions and names of clauses as the page writes them."""
+    crate = None
+    for number, line in enumerate(text_of(PAGE).splitlines(), 1):
+        heading = re.match(r"## .*?`([a-z0-9_]+)`", line)
+        if heading:
+            crate = heading.group(1)
+        elif re.match(r"## ", line):
+            crate = None
+        cells = [it.strip() for it in re.split(r"(?<!\\)\|", line)[1:-1]] if line.startswith("|") else []
+        if crate and len(cells) == 3 and cells[0] != "Promise" and not re.fullmatch(r"-+", cells[0].strip()):
+            yield number, crate, re.findall(r"`([^`]+)`", cells[1]), re.findall(r"`([^`]+)`", cells[2])
+
+
+def main(words):
+    calls = {it: calls_of(it) for it in libraries()}
+    if "--list" in words:
+        for crate in calls:
+            print(f"\n## `{crate}`")
+            for name in calls[crate]:
+                print(f"  {name}: {', '.join(calls[crate][name][0]) or '-'}")
+        return 0
+    specs, passed, faults, with_row = words_of_specs(), 0, [], {it: set() for it in calls}
+    for number, crate, functions, clauses in rows_of_page():
+        if crate not in calls:
+            faults.append(f"line {number}: there is no library `{crate}`")
+            continue
+        known = [it for it in functions if it in calls[crate]]
+        before = len(faults)
+        faults += [f"line {number}: {crate} has no public call `{it}`" for it in functions if it not in calls[crate]]
+        with_row[crate] |= set(known)
+        of_calls = set().union(*[set(calls[crate][it][0]) | calls[crate][it][1] for it in known]) if known else set()
+        for it in clauses:
+            lacking = [word for word in re.findall(NAME, it) if word not in of_calls and word not in specs]
+            if lacking:
+                faults.append(f"line {number}: no clause of {', '.join(functions)} and no definition has `{it}`")
+        passed += len(faults) == before
+    for crate in calls:
+        for it in calls[crate]:
+            if it in with_row[crate]:
+                passed += 1
+            else:
+                faults.append(f"{crate}::{it} has no row")
+    for it in faults:
+        print(it)
+    print(f"{passed} passed, {len(faults)} failed")
+    return 1 if faults else 0
+
+
+command = as_command(main)
+
+
+if __name__ == "__main__":
+    sys.exit(command())
