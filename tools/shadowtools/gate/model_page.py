@@ -1,16 +1,19 @@
-"""Makes docs/MODEL.md from the comments of the definitions.
+"""Makes docs/MODEL.md from the comments of the definitions that docs/HEADLINE.md lacks.
 
     tools/model_page.py           writes the page
     tools/model_page.py --check   compares it with what would be written; the last line is 'N passed, M failed'
 
 The page begins with model_page.md beside this file, which is written by hand. Then each library of crates.txt has a section, and each file of
-its folder `specs/` a table with its public definitions, in the order of the file, each with the comment that is written above it.
+its folder `specs/` a table with its public definitions, in the order of the file, each with the comment that is written above it. The
+definitions that the contract of `run` reaches are left out: `tools/headline.py` makes a page of them.
 """
 import os
 import re
 import sys
 
 from shadowtools.command import as_command
+from shadowtools.formats.definitions import Library
+from shadowtools.gate.headline import CALL
 from shadowtools.places import TOP
 
 PAGE = os.path.join(TOP, "docs", "MODEL.md")
@@ -48,6 +51,8 @@ def definitions(path):
 
 
 def page():
+    library = Library()
+    of_the_headline = set(library.closure(library.contract(*CALL)[1]))
     made = [text_of(HEAD).rstrip()]
     for line in text_of(os.path.join(TOP, "crates.txt")).splitlines():
         crate = line.split("#")[0].split(":")[0].split(" ")[0].strip()
@@ -57,7 +62,7 @@ def page():
         sections = []
         for module in re.findall(r"^pub mod (\w+)", text_of(os.path.join(folder, "Lib.antt")), re.M):
             head, rows = definitions(os.path.join(folder, f"{module}.antt"))
-            rows = [it for it in rows if it[1]]
+            rows = [it for it in rows if it[1] and (crate, module, it[0]) not in of_the_headline]
             if rows:
                 table = [f"| `{name}` | {said.replace('|', chr(92) + '|')} |" for name, said in rows]
                 sections.append("\n".join([f"### `{module}`", "", head, "", "| Name | Meaning |", "|---|---|", *table]))

@@ -6,8 +6,8 @@
 The page has a section for each crate, with a heading '## `crate`', and rows of three cells: a promise, the functions that keep it,
 and the clauses that say it. Checked is that
 - each function that a row names is a public call of that crate;
-- each name in a row's last cell is that of a clause of one of these functions, or a word that their clauses or the definitions
-  of the repository (`specs/`) have;
+- each name in a row's last cell is that of a clause of one of these functions, a word of their contracts, or a word of the
+  definitions that these contracts reach;
 - each public call of each library has a row.
 Crates of tests (`.._trials`, `trial_cases`) and programs promise nothing to other crates, and have no section.
 """
@@ -16,6 +16,7 @@ import re
 import sys
 
 from shadowtools.command import as_command
+from shadowtools.formats.definitions import Library
 from shadowtools.places import TOP
 
 CRATES = os.path.join(TOP, "crates")
@@ -64,15 +65,17 @@ def contract_from(lines, at):
 
 
 def calls_of(crate):
-    """The public calls of a crate, each with the names of its clauses and the words of its contract."""
+    """The public calls of a crate, each with the names of its clauses and the words of its contract, and the contract with the text of its file.
+    A call of a type also has the contracts of the traits that the type meets."""
     names, public = exports(crate)
-    found = {}
+    found, of_traits = {}, {}
     folder = os.path.join(CRATES, crate, "src")
     files = [os.path.join(at, it) for at, _, all_of in os.walk(folder) for it in all_of if it.endswith(".rt")]
     for path in sorted(files):
         module = os.path.relpath(path, folder)[:-3].split(os.sep)[0]
         owner = None
-        lines = text_of(path).splitlines()
+        whole = text_of(path)
+        lines = whole.splitlines()
         for at, line in enumerate(lines):
             block = re.match(r"(?:pub )?(?:unsafe )?(impl|trait)\b(.*)", line)
             if block:
@@ -81,8 +84,13 @@ def calls_of(crate):
                     owner = re.match(rf"\s*({NAME})", head).group(1)
                     in_trait = True
                 else:
-                    owner = None if " for " in f" {head} " else (re.search(NAME, head) or [None])[0]
+                    met = re.search(rf" for (?:&mut )?({NAME})", f" {head} ")
+                    owner = None if met else (re.search(NAME, head) or [None])[0]
                     in_trait = False
+                    if met and met.group(1) in names:
+                        end = next(it for it in range(at, len(lines)) if lines[it].startswith("}"))
+                        texts = [contract_from(lines, it) for it in range(at, end) if re.match(r"\s+fn ", lines[it])]
+                        of_traits.setdefault(met.group(1), []).append(("\n".join(texts), whole))
             elif re.match(r"\}", line):
                 owner = None
             call = re.match(rf"(\s*)(pub )?(?:const )?(?:unsafe )?fn ({NAME})", line)
@@ -97,18 +105,20 @@ def calls_of(crate):
             if is_public:
                 text = contract_from(lines, at)
                 clauses = re.findall(rf"ensures ({NAME})", text)
-                found[name] = (clauses, set(re.findall(NAME, text)))
+                found[name] = (clauses, set(re.findall(NAME, text)), [(text, whole)])
+    for name, (_, _, texts) in found.items():
+        texts += of_traits.get(name.split("::")[0], [])
     return found
 
 
-def words_of_specs():
+def words_reached(library, crate, calls):
+    """The words of all definitions that the contracts of these calls reach."""
     found = set()
-    for at, _, files in os.walk(CRATES):
-        if os.sep + "out" in at or os.sep + "specs" not in at:
-            continue
-        for it in files:
-            if it.endswith(".antt"):
-                found |= set(re.findall(NAME, text_of(os.path.join(at, it))))
+    for text, whole in (it for call in calls for it in call[2]):
+        found |= set(re.findall(NAME, text))
+        for key in library.closure(library.cited_by_code(text, whole, crate)):
+            definition = library.definitions[key]
+            found |= set(re.findall(NAME, definition.text)) | {key[2]}
     return found
 
 
@@ -134,7 +144,7 @@ def main(words):
             for name in calls[crate]:
                 print(f"  {name}: {', '.join(calls[crate][name][0]) or '-'}")
         return 0
-    specs, passed, faults, with_row = words_of_specs(), 0, [], {it: set() for it in calls}
+    library, passed, faults, with_row = Library(), 0, [], {it: set() for it in calls}
     for number, crate, functions, clauses in rows_of_page():
         if crate not in calls:
             faults.append(f"line {number}: there is no library `{crate}`")
@@ -144,10 +154,11 @@ def main(words):
         faults += [f"line {number}: {crate} has no public call `{it}`" for it in functions if it not in calls[crate]]
         with_row[crate] |= set(known)
         of_calls = set().union(*[set(calls[crate][it][0]) | calls[crate][it][1] for it in known]) if known else set()
+        reached = words_reached(library, crate, [calls[crate][it] for it in known])
         for it in clauses:
-            lacking = [word for word in re.findall(NAME, it) if word not in of_calls and word not in specs]
+            lacking = [word for word in re.findall(NAME, it) if word not in of_calls and word not in reached]
             if lacking:
-                faults.append(f"line {number}: no clause of {', '.join(functions)} and no definition has `{it}`")
+                faults.append(f"line {number}: no clause of {', '.join(functions)}, and no definition that they reach, has `{it}`")
         passed += len(faults) == before
     for crate in calls:
         for it in calls[crate]:
