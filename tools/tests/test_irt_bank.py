@@ -102,7 +102,7 @@ class Numbers(Converter):
 @needs_numpy
 class Plans(Converter):
     def test_a_plan_of_each_rule(self):
-        rules = ONE_ITEM + ('k,Number,Item,"K %in% c(x, y) & W >= 6",0,1\nm,Mean,Item,W,5.5,6\n'
+        rules = ONE_ITEM + ('k,Number,Item,"K %in% c(x, y) & W >= 6",0,1\nm,Mean,Item,W,4.5,6\n'
                             "s,Number,Stimulus,,0,1\nps,Number,Item,Per Stimulus,1,2\ne,Enemy,Item,W < 99,,\n"
                             "i,Include,Item,K == x,,\nx,Exclude,Item,K == y,,\nt,Sum,Item,\"W, K == x\",1,\n")
         status, errors = self.convert(dict(items=TWO, attributes=ATTRIBUTES, constraints=rules), "--quantity", "W",
@@ -111,7 +111,7 @@ class Plans(Converter):
         self.assertEqual(self.read("o.plan.txt").splitlines()[2:], [
             "length 1", "prior -500 0 -500", "budget 2001", "base-budget 4095", "sessions 1000", "journal 67108864",
             "# row 0: k: Number Item K %in% c(x, y) & W >= 6", "count 0 1 1",
-            "# row 1: m: Mean Item W", "quantity 0 6 6 0-1", "# row 2: s: Number Stimulus", "stimuli 0 1",
+            "# row 1: m: Mean Item W", "quantity 0 5 6 0-1", "# row 2: s: Number Stimulus", "stimuli 0 1",
             "# ps: Number Item Per Stimulus", "stimulus 1 1 2", "# row 3: e: Enemy Item W < 99", "enemies 0-1",
             "# row 4: i: Include Item K == x", "count 1 1 0", "# row 5: x: Exclude Item K == y", "count 0 0 1",
             "# row 6: t: Sum Item W, K == x", "quantity 0 1 33553920 0"])
@@ -150,7 +150,7 @@ class Refusals(Converter):
     def test_parameters(self):
         many = HEAD + "".join(f"B{k},2PL,1,0,\n" for k in range(513))
         for text, words in (
-                ("", "items: empty"), ("a;b\n1;0\n", "parted by semicolons"), ("x,y\n1,2\n", "none of the known conventions"),
+                ("", "items: empty"), ("a;b\n1;0\n", "parted by semicolons; give --separator semicolon"), ("x,y\n1,2\n", "none of the known conventions"),
                 ("lambdaj,delta1\n1,2\n", "rating scale model"), ("a,a,b\n1,1,0\n", "column a is there twice"),
                 (HEAD + "A,2PL,1,zero,\n", "line 2 column PAR2: 'zero' is not a finite number"),
                 (HEAD + "A,2PL,1,inf,\n", "line 2 column PAR2: 'inf' is not a finite number"),
@@ -202,7 +202,7 @@ class Refusals(Converter):
         self.refuses({"items": TWO}, "2 to 61 points", "--length", "1", "--grid", "-4", "4", "62")
         self.refuses({"items": TWO}, "--quantity needs --attributes", "--length", "1", "--quantity", "W")
         self.refuses({"items": TWO}, "--rate needs --key", "--length", "1", "--rate", "1", "2")
-        self.refuses({"items": TWO}, "is not above 0", "--length", "1", "--prior", "0", "0")
+        self.refuses({"items": TWO}, "the standard deviation from 0.001", "--length", "1", "--prior", "0", "0")
 
 
 @needs_numpy
@@ -217,10 +217,10 @@ class Usage(Folder):
 
 @needs_numpy
 class Warnings(Converter):
-    def warns(self, words, files, *more):
+    def warns(self, words, files, *more, wanted=0):
         with self.subTest(words):
             status, errors = self.convert(files, *more)
-            self.assertEqual(status, 0, errors)
+            self.assertEqual(status, wanted, errors)
             self.assertIn(words, errors)
 
     def test_each(self):
@@ -238,10 +238,10 @@ class Warnings(Converter):
     def test_rules_that_cannot_agree(self):
         rules = RULES + "c0,Number,Item,,1,1\nx,Number,Item,K == x,1,1\ny,Number,Item,K == y,1,1\n"
         self.warns("the least numbers of the rules on K add up to 2, a test has 1 items",
-                   dict(items=TWO, attributes=ATTRIBUTES, constraints=rules))
+                   dict(items=TWO, attributes=ATTRIBUTES, constraints=rules), wanted=11)
         rules = RULES + "c0,Number,Item,,2,2\nx,Number,Item,K == x,0,1\ny,Number,Item,K == y,0,0\n"
         self.warns("the greatest numbers of the rules on K add up to 1, a test has 2 items",
-                   dict(items=TWO, attributes=ATTRIBUTES, constraints=rules))
+                   dict(items=TWO, attributes=ATTRIBUTES, constraints=rules), wanted=11)
         rules = RULES + "c0,Number,Item,,1,1\nx,Number,Item,K == x,1,1\nxy,Number,Item,\"K %in% c(x,y)\",1,1\n"
         status, errors = self.convert(dict(items=TWO, attributes=ATTRIBUTES, constraints=rules))
         self.assertEqual((status, "add up to" in errors), (0, False))

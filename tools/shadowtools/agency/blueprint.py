@@ -1,6 +1,8 @@
 """From a table of constraints by name, as R's TestDesign has it, to the rules of a plan.
 
-Columns: CONSTRAINT (or CONSTRAINT_ID), TYPE, WHAT, CONDITION, LB, UB and perhaps ONOFF; a row that is OFF is skipped.
+Columns: CONSTRAINT (or CONSTRAINT_ID), TYPE, WHAT, CONDITION, LB, UB and perhaps ONOFF; a row that is OFF, NO, FALSE or 0 is
+skipped, and one that is empty, ON, YES, TRUE or 1 counts. Any other column or word is refused. So is a bound that the type does not
+have, a rule without its condition, and a Number or Sum without a bound.
 
     TYPE     WHAT      CONDITION             line of the plan
     Number   Item      none, LB = UB         length
@@ -16,13 +18,17 @@ Columns: CONSTRAINT (or CONSTRAINT_ID), TYPE, WHAT, CONDITION, LB, UB and perhap
 """
 import math
 from dataclasses import dataclass, field
+from typing import List, Sequence
 
 from shadowtools.agency.conditions import BadCondition, chosen
+from shadowtools.agency.irt import Item
 from shadowtools.command import Refused
-from shadowtools.formats.tables import ABSENT, members, number, read_table, runs
+from shadowtools.formats.tables import ABSENT, Dialect, members, number, read_table, runs
 
 MOST_ROWS, MOST_ITEMS, MOST_PASSAGES, MOST_SUM = 128, 512, 64, 33_553_920
 NO_CHOICE = "shadowd has no row on a choice of passages or on their attributes; only their number can be bounded"
+COLUMNS = ("CONSTRAINT", "CONSTRAINT_ID", "TYPE", "WHAT", "CONDITION", "LB", "UB", "ONOFF")
+ON, OFF = ("", "ON", "YES", "TRUE", "1"), ("OFF", "NO", "FALSE", "0")
 PER_PASSAGE = ("per stimulus", "per passage", "per set")
 PASSAGE_WORDS = ("stimulus", "passage", "set")
 
@@ -34,22 +40,23 @@ class Rule:
     remark: str
     source: str
     attribute: str = ""     # of a condition that is one comparison
-    lines: list = field(default_factory=list)
+    lines: List[str] = field(default_factory=list)
 
 
 @dataclass
 class Blueprint:
     length: int
-    rules: list
-    passages: list
-    warnings: list
+    rules: List[Rule]
+    passages: List[str]
+    warnings: List[str]
+    clashes: List[str] = field(default_factory=list)    # why no form meets the rules, as far as it shows in their bounds
 
 
 class Compiler:
     """The rules of one table of constraints."""
 
-    def __init__(self, path, items, passages, quantities):
-        self.path, self.items, self.passages, self.quantities = path, items, passages, quantities
+    def __init__(self, path, items, passages, quantities, dialect):
+        self.path, self.items, self.passages, self.quantities, self.dialect = path, items, passages, quantities, dialect
         self.attributes = [item.attributes for item in items]
         self.length, self.covered, self.warnings = 0, set(), []
 
@@ -76,27 +83,41 @@ class Compiler:
         return int(value)
 
     def read(self):
-        head, rows = read_table(self.path)
+        head, rows = read_table(self.path, self.dialect)
         for needed in ("TYPE", "WHAT", "CONDITION", "LB", "UB"):
             if needed not in head:
                 raise Refused(f"{self.path}: line 1: no column {needed}")
-        rows = [pair for pair in rows if pair[1].get("ONOFF", "").upper() not in ("OFF", "0", "FALSE")]
+        others = [name for name in head if name not in COLUMNS]
+        if others:
+            raise Refused(f"{self.path}: line 1: {', '.join(map(repr, others))}: a table of constraints has {', '.join(COLUMNS)}")
+        rows = [(line, row) for line, row in rows if self.is_on(line, row)]
         self.length = self.read_length(rows)
         if any(row["TYPE"].lower() == "allornone" for _, row in rows):
             self.refuse_numbers_of_passages(rows)
         return [rule for line, row in rows for rule in self.rule(line, row)]
 
+    def is_on(self, line, row):
+        word = row.get("ONOFF", "")
+        if word.upper() in ON or word == "NA":
+            return True
+        if word.upper() in OFF:
+            return False
+        raise Refused(f"{self.path}: line {line} column ONOFF: {word!r} is neither ON nor OFF")
+
     def read_length(self, rows):
-        for line, row in rows:
-            if is_length(row):
-                low, high = self.bound(line, row, "LB", None), self.bound(line, row, "UB", None)
-                if low != high or not low:
-                    raise Refused(f"{self.path}: line {line}: shadowd serves tests of one length; "
-                                  f"LB {row['LB']} is not UB {row['UB']}")
-                if low > len(self.items):
-                    raise Refused(f"{self.path}: line {line}: length {low}, the bank has {len(self.items)} items")
-                return low
-        raise Refused(f"{self.path}: no line Number,Item without a condition: the length of a test is missing")
+        found = [(line, row) for line, row in rows if is_length(row)]
+        if not found:
+            raise Refused(f"{self.path}: no line Number,Item without a condition: the length of a test is missing")
+        line, row = found[0]
+        if len(found) > 1:
+            raise Refused(f"{self.path}: line {found[1][0]}: Number, Item without a condition is the length of a test, "
+                          f"which line {line} has already")
+        low, high = self.bound(line, row, "LB", None), self.bound(line, row, "UB", None)
+        if low != high or not low:
+            raise Refused(f"{self.path}: line {line}: shadowd serves tests of one length; LB {row['LB']} is not UB {row['UB']}")
+        if low > len(self.items):
+            raise Refused(f"{self.path}: line {line}: length {low}, the bank has {len(self.items)} items")
+        return low
 
     def refuse_numbers_of_passages(self, rows):
         for line, row in rows:
@@ -109,9 +130,10 @@ class Compiler:
         if is_length(row):
             return []
         kind, what, condition = row["TYPE"].lower(), row["WHAT"].lower(), row["CONDITION"]
+        self.require_condition_and_bounds(line, row, kind, what)
         label = row.get("CONSTRAINT") or row.get("CONSTRAINT_ID") or f"line {line}"
         remark = " ".join(f"{label}: {row['TYPE']} {row['WHAT']} {condition}".split())
-        simple = not any(sign in condition for sign in "&|!(") and condition.split()
+        simple = not any(sign in condition for sign in "&|!(") and bool(condition.split())
         rule = Rule(label, remark, f"{self.path}: line {line}", condition.split()[0] if simple else "")
         if what in PASSAGE_WORDS:
             rule.lines = self.number_of_passages(line, label, row)
@@ -130,6 +152,17 @@ class Compiler:
         else:
             raise Refused(f"{self.where(line, label)}: {row['TYPE']} {row['WHAT']} is not a rule of shadowd")
         return [rule]
+
+    def require_condition_and_bounds(self, line, row, kind, what):
+        """Refuses a rule without what it needs, and a bound that says something else than the rule."""
+        where, bounds = f"{self.path}: line {line}", [row[name] for name in ("LB", "UB") if row[name] not in ABSENT]
+        if kind in ("include", "exclude", "enemy", "allornone"):
+            if what == "item" and row["CONDITION"] in ABSENT:
+                raise Refused(f"{where}: {row['TYPE']} needs a condition")
+            if bounds and not (kind == "enemy" and row["LB"] in ABSENT + ("0",) and row["UB"] in ABSENT + ("1",)):
+                raise Refused(f"{where}: {row['TYPE']} has no bounds; leave LB and UB empty")
+        elif kind in ("number", "sum", "mean", "average") and not bounds:
+            raise Refused(f"{where}: {row['TYPE']} has neither LB nor UB")
 
     def number_of_passages(self, line, label, row):
         if row["TYPE"].lower() != "number" or row["CONDITION"]:
@@ -175,7 +208,16 @@ class Compiler:
         covered = set(self.covered)
         found = self.chosen(line, label, rest)
         self.covered = covered
+        self.require_reachable(line, label, name, found, low, high)
         return f"quantity {self.quantities.index(name)} {max(0, low)} {high} {runs(found)}"
+
+    def require_reachable(self, line, label, name, found, low, high):
+        """Refuses a sum that no set of items of the length has, whatever the other rules are."""
+        values = sorted(int(float(self.items[k].attributes[name])) for k in found)
+        most = sum(values[-self.length:])
+        least = sum(values[:max(0, self.length - (len(self.items) - len(found)))])
+        if low > most or high < least:
+            raise Refused(f"{self.where(line, label)}: the sum of {name} is {low} to {high}; {self.length} items have {least} to {most}")
 
     def ordered(self, line, label, low, high):
         if low > high:
@@ -196,23 +238,24 @@ class Compiler:
 
 
 def is_length(row):
-    return (row["TYPE"].lower(), row["WHAT"].lower(), row["CONDITION"]) == ("number", "item", "")
+    return (row["TYPE"].lower(), row["WHAT"].lower()) == ("number", "item") and row["CONDITION"] in ABSENT
 
 
-def compile_blueprint(path, items, passages, quantities):
+def compile_blueprint(path: str, items: List[Item], passages: Sequence[str], quantities: Sequence[str],
+                      dialect: Dialect = Dialect()) -> Blueprint:
     """The length, the rules, the passages (with those of AllOrNone) and warnings; or a refusal."""
     passages = list(passages)
-    compiler = Compiler(path, items, passages, quantities)
+    compiler = Compiler(path, items, passages, quantities, dialect)
     rules = compiler.read()
     rows = sum(line.split()[0] != "stimulus" for rule in rules for line in rule.lines)
     if rows > MOST_ROWS:
         raise Refused(f"{path}: {rows} rows; shadowd takes at most {MOST_ROWS}")
-    warnings = compiler.warnings + disagreements(compiler.length, rules, len(items))
+    warnings, clashes = compiler.warnings, disagreements(compiler.length, rules, len(items))
     free = [item.name for k, item in enumerate(items) if k not in compiler.covered and not item.passage]
     if rules and free:
         more = ", .." if len(free) > 3 else ""
         warnings.append(f"{len(free)} items are in no rule of content ({', '.join(free[:3])}{more})")
-    return Blueprint(compiler.length, rules, passages, warnings)
+    return Blueprint(compiler.length, rules, passages, warnings + clashes, clashes)
 
 
 def disagreements(length, rules, items):

@@ -8,9 +8,11 @@ A comparison with an absent value (empty or NA) does not hold. A word without qu
 compared as a number. Nothing is evaluated but this grammar.
 """
 import re
+from typing import Dict, List, Optional, Sequence
+
+from shadowtools.formats.tables import ABSENT, is_number
 
 TOKEN = re.compile(r"""\s*(?:("[^"]*"|'[^']*')|(==|!=|<=|>=|%in%|[<>!&|(),])|([^\s"'<>=!&|(),%]+))""")
-ABSENT = ("", "NA")
 
 
 class BadCondition(Exception):
@@ -34,11 +36,8 @@ def tokens(text):
     return found
 
 
-def as_number(text):
-    try:
-        return float(text)
-    except ValueError:
-        return None
+def as_number(text: str) -> Optional[float]:
+    return float(text) if is_number(text) else None
 
 
 def equal(value, kind, wanted):
@@ -104,7 +103,7 @@ class Parser:
 
     def name(self, name):
         if name not in self.names:
-            raise BadCondition(f"no attribute {name!r}; there are {', '.join(self.names)}")
+            raise BadCondition(f"no attribute {name!r}; there are {', '.join(self.names) or 'none (--attributes)'}")
         return name
 
     def value(self):
@@ -154,9 +153,12 @@ def present(value):
     return value not in ABSENT
 
 
-def chosen(text, rows):
+def chosen(text: str, rows: Sequence[Dict[str, str]]) -> List[int]:
     """The numbers of the rows that meet a condition; an empty condition is met by all."""
     if not text.strip():
         return list(range(len(rows)))
-    meets = Parser(text, list(rows[0])).whole()
-    return [number for number, row in enumerate(rows) if meets(row)]
+    try:
+        meets = Parser(text, list(rows[0])).whole()
+        return [number for number, row in enumerate(rows) if meets(row)]
+    except RecursionError:
+        raise BadCondition("more brackets in brackets than can be read")

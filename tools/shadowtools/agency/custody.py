@@ -5,13 +5,13 @@ three by `read_documents`, which refuses a file that is not the one the map was 
 """
 import hashlib
 import os
-import subprocess
 from dataclasses import dataclass
-from typing import Dict, List, Optional, Sequence
+from typing import Dict, List, Optional
 
+from shadowtools.agency.program import run
 from shadowtools.checkers import audit
 from shadowtools.command import Refused
-from shadowtools.formats.examination import BankItem, Plan, read_bank, read_map, read_plan
+from shadowtools.formats.examination import BankItem, Plan, read_bank, read_map, read_plan, require_agreement
 
 CURE = "use the files that irt_bank.py wrote together"
 
@@ -48,6 +48,7 @@ def read_documents(bank: str, plan: str, map_path: str, program: Optional[str] =
     if program and os.path.exists(program):
         said_by(program, "check", bank, plan)
     documents = Documents(read_bank(bank), read_plan(plan), found, digests)
+    require_agreement(documents.bank, documents.plan, plan)
     if len(found["items"]) != len(documents.bank) or len(found["theta"]) != len(documents.plan.prior):
         raise Refused(f"{map_path} is not the map of {bank} and {plan}")
     return documents
@@ -65,16 +66,11 @@ def audited(bank: str, plan: str, journal: str, program: Optional[str] = None) -
         raise Refused(f"{journal}: {error.strerror}")
 
 
-def said_by(program: str, command: str, bank: str, plan: str, journal: Optional[str] = None) -> Sequence[str]:
+def said_by(program: str, command: str, bank: str, plan: str, journal: Optional[str] = None) -> List[str]:
     """What a command of shadowd prints. Refused where its status is not 0, with the file that it is about."""
-    environment = dict(os.environ, SHADOWD_JOURNAL=journal) if journal else None
-    try:
-        done = subprocess.run([program, command, bank, plan], env=environment, stdin=subprocess.DEVNULL,
-                              capture_output=True, text=True)
-    except OSError as error:
-        raise Refused(f"{program}: {error.strerror}")
-    lines = done.stdout.splitlines()
-    if done.returncode or not lines:
-        about = {3: bank, 4: plan, 6: journal, 9: journal}.get(done.returncode) or program
-        raise Refused(f"{about}: shadowd {command}, status {done.returncode}: {' '.join(lines)[:80]}")
-    return lines
+    status, said = run(program, command, bank, plan, journal)
+    wanted = {"check": "bank items ", "audit": "entries "}[command]
+    if status or not said.startswith(wanted):
+        about = {3: bank, 4: plan, 6: journal, 9: journal}.get(status) or program
+        raise Refused(f"{about}: shadowd {command}, status {status}: {' '.join(said.split())[:80]}")
+    return said.splitlines()

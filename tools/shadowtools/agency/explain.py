@@ -13,54 +13,34 @@ information. Exit status: 0 where there is a form, 11 where there is none, 12 wh
 are refused.
 """
 import argparse
-import os
-import subprocess
 import sys
-import tempfile
+from typing import List, Optional, Sequence, TextIO, Tuple
 
+from shadowtools.agency.program import DONE, NO_FORM, NOT_FOUND, Form, Program, form_of
 from shadowtools.checkers import check_tree
-from shadowtools.formats.examination import opened, plan_of, read_map
-from shadowtools.places import BUILT
 from shadowtools.command import Refused, as_command
-
-
-DONE, NO_FORM, NOT_FOUND = 0, 11, 12
-
-
-class Program:
-    """`assemble` of one bank, with any plan."""
-
-    def __init__(self, path, bank):
-        self.path, self.bank, self.runs = path, bank, 0
-
-    def assemble(self, plan):
-        """Status and output for the text of a plan."""
-        self.runs += 1
-        with tempfile.NamedTemporaryFile("w", suffix=".txt", delete=False, encoding="utf-8", newline="\n") as file:
-            file.write(plan)
-        try:
-            done = subprocess.run([self.path, "assemble", self.bank, file.name], stdin=subprocess.DEVNULL,
-                                  capture_output=True, text=True)
-        except OSError as error:
-            raise Refused(f"{self.path}: {error.strerror}")
-        finally:
-            os.unlink(file.name)
-        return done.returncode, done.stdout.strip()
+from shadowtools.formats.examination import Rule, plan_of, read_map
+from shadowtools.formats.tables import text_of
+from shadowtools.options import Options
+from shadowtools.places import BUILT
 
 
 # ---------------------------------------------------------------- no form
 
-def without(text, rules, kept):
+def without(text: str, rules: Sequence[Rule], kept: Sequence[Rule]) -> str:
     """The plan with only these of its rules, and without a base form, which the others may be needed for."""
     dropped = {rule.line for rule in rules} - {rule.line for rule in kept}
-    lines = [line for number, line in enumerate(text.splitlines(), 1)
+    lines = [line for number, line in enumerate(text.split("\n"), 1)
              if number not in dropped and not line.startswith("base ")]
-    return "\n".join(lines) + "\n"
+    return "\n".join(lines)
 
 
-def used_by(tree, rules, passages):
+def used_by(tree: str, rules: Sequence[Rule], passages: bool) -> List[Rule]:
     """The rules that the tree's leaves name; a place to begin from, which the program then tests."""
-    vectors, nodes, _ = check_tree.read_tree(bytes.fromhex(tree))
+    try:
+        vectors, nodes, _ = check_tree.read_tree(bytes.fromhex(tree))
+    except (check_tree.Fault, ValueError) as fault:
+        raise Refused(f"shadowd assemble printed no proof tree: {fault}")
     rows = [rule for rule in rules if rule.kind != "stimulus"]
     found = {rule.line for rule in rules if rule.kind == "stimulus" and passages}
     numbers = {side // 2 + 1 for kind, value in nodes if kind == check_tree.RAY for side in vectors[value]}
@@ -69,8 +49,8 @@ def used_by(tree, rules, passages):
     return [rule for rule in rules if rule.line in found]
 
 
-def clash(program, text, tree):
-    """An irreducible set of rules that cannot be met together, by leaving out one after the other."""
+def clash(program: Program, text: str, tree: str) -> Tuple[List[Rule], int]:
+    """An irreducible set of rules that cannot be met together, by leaving out one after the other; and the number of all rules."""
     rules = plan_of(text).rules
     kept = list(rules)
     guess = used_by(tree, rules, any(rule.kind == "stimulus" for rule in rules))
@@ -83,17 +63,17 @@ def clash(program, text, tree):
     return kept, len(rules)
 
 
-def print_clash(kept, of, length):
+def print_clash(kept: Sequence[Rule], of: int, length: int, out: Optional[TextIO] = None) -> None:
     if not kept:
-        print(f"No set of {length} items is a form by the length alone.")
+        print(f"No set of {length} items is a form by the length alone.", file=out)
         return
-    print(f"These {len(kept)} of {of} rules cannot be met together in a test of {length} items:")
+    print(f"These {len(kept)} of {of} rules cannot be met together in a test of {length} items:", file=out)
     for rule in kept:
         extra = "" if rule.label == rule.text else f"   {rule.label}"
         text = rule.text if len(rule.text) <= 60 else rule.text[:57] + "..."
-        print(f"  line {rule.line}: {text}{extra}")
+        print(f"  line {rule.line}: {text}{extra}", file=out)
     if len(kept) > 1:
-        print("Without any one of them there is a form, or none was found within the base budget.")
+        print("Without any one of them there is a form, or none was found within the base budget.", file=out)
 
 
 # ---------------------------------------------------------------- the gap of an unproved form
@@ -117,14 +97,14 @@ def greatest_bound(problem, vectors, nodes):
     return greatest
 
 
-def gap(bank_path, plan_path, said):
+def gap(bank_path: str, plan_path: str, found: Form) -> Tuple[int, int]:
     """The form's objective and the bound that its tree gives."""
-    form = frozenset(int(word) for word in said.splitlines()[0].split()[1:])
+    form = frozenset(found.items)
     bank = check_tree.read_bank(bank_path)
     plan = check_tree.read_plan(plan_path, bank)
     start = plan.prior.index(max(plan.prior))
     problem = check_tree.Problem(bank, plan, start, frozenset(), frozenset(), None)
-    vectors, nodes, _ = check_tree.read_tree(bytes.fromhex(said.splitlines()[2].split()[1]))
+    vectors, nodes, _ = check_tree.read_tree(found.tree)
     verdict = check_tree.verdict(problem, form, vectors, nodes)
     if not verdict.startswith("Partial"):
         raise Refused(f"the tree's verdict is {verdict}, not Partial")
@@ -142,24 +122,19 @@ def print_gap(objective, bound, unit):
 
 # ---------------------------------------------------------------- command line
 
-def options(words):
-    parser = argparse.ArgumentParser(usage=__doc__.partition("usage: ")[2], add_help=False)
+def options(words: Sequence[str]) -> argparse.Namespace:
+    parser = Options(__doc__)
     parser.add_argument("bank", nargs="?")
     parser.add_argument("plan", nargs="?")
     parser.add_argument("--map")
     parser.add_argument("--program", default=BUILT)
-    parser.add_argument("-h", "--help", action="store_true")
-    found = parser.parse_args(words)
-    if found.help or not found.plan:
-        print(__doc__, file=sys.stdout if found.help else sys.stderr)
-        sys.exit(0 if found.help else 2)
-    return found
+    return parser.read(words, lambda given: bool(given.plan))
 
 
-def main(words):
+def main(words: Sequence[str]) -> int:
     given = options(words)
-    with opened(given.plan) as file:
-        text = file.read()
+    unit = read_map(given.map)["information_unit"] if given.map else None
+    text = text_of(given.plan)
     program = Program(given.program, given.bank)
     status, said = program.assemble(text)
     if status == NO_FORM:
@@ -168,14 +143,13 @@ def main(words):
     elif status == NOT_FOUND:
         print(said.split(" tree ")[0][:60].rsplit(" ", 1)[0])
         print("It is open whether the plan has a form. Raise base-budget (to 4095), or give a base form.")
-    elif status == DONE and said.splitlines()[1].split()[2] == "proved":
-        print(f"This form is proved best: {said.splitlines()[0]}, {said.splitlines()[1]}.")
     elif status == DONE:
-        print(f"This form is not proved best: {said.splitlines()[0]}, {said.splitlines()[1]}.")
-        unit = read_map(given.map)["information_unit"] if given.map else None
-        print_gap(*gap(given.bank, given.plan, said), unit)
+        form, (items, objective) = form_of(said), said.splitlines()[:2]
+        print(f"This form is {'' if form.is_proved else 'not '}proved best: {items}, {objective}.")
+        if not form.is_proved:
+            print_gap(*gap(given.bank, given.plan, form), unit)
     else:
-        raise Refused(f"shadowd assemble, status {status}: {said}")
+        raise Refused(f"shadowd assemble, status {status}: {said[:200]}")
     return status
 
 

@@ -10,6 +10,7 @@ the calibration. The models, their parameters in the order that `Item.parameters
     GPC a b1 b2 ..                Muraki, Applied Psychological Measurement 16, 1992; steps in any order
 """
 from dataclasses import dataclass, field
+from typing import Dict, List, Optional, Tuple
 
 import numpy as np
 
@@ -23,33 +24,34 @@ SYNONYMS = {
 
 @dataclass
 class Item:
-    """An item of a calibrated bank. `passage` is the number of its passage, 0 for none."""
+    """An item of a calibrated bank. `passage` is the number of its passage, 0 for none; `line` its line in the table of attributes."""
     name: str
     model: str
-    parameters: list
-    attributes: dict = field(default_factory=dict)
+    parameters: List[float]
+    attributes: Dict[str, str] = field(default_factory=dict)
     passage: int = 0
+    line: int = 0
 
     @property
-    def categories(self):
+    def categories(self) -> int:
         if self.model in DICHOTOMOUS:
             return 2
         return len(self.parameters) + (self.model == "PC")
 
-    def asymptotes(self):
+    def asymptotes(self) -> Tuple[float, float, float, float]:
         """Slope, difficulty, lower and upper asymptote of a dichotomous item."""
         p = self.parameters
         if self.model == "1PL":
             return 1.0, p[0], 0.0, 1.0
         return p[0], p[1], p[2] if len(p) > 2 else 0.0, p[3] if len(p) > 3 else 1.0
 
-    def thresholds(self):
+    def thresholds(self) -> Tuple[float, np.ndarray]:
         """Slope and thresholds (GR) or steps (GPC, PC) of a polytomous item."""
         if self.model == "PC":
             return 1.0, np.array(self.parameters)
         return self.parameters[0], np.array(self.parameters[1:])
 
-    def probabilities(self, theta, scaling=1.0):
+    def probabilities(self, theta, scaling: float = 1.0) -> np.ndarray:
         """The probability of each response, as an array [response, ability]."""
         theta = np.atleast_1d(np.asarray(theta, float))
         if self.model in DICHOTOMOUS:
@@ -64,14 +66,14 @@ class Item:
         powers = np.exp(sums - sums.max(0))
         return powers / powers.sum(0)
 
-    def information(self, theta, scaling=1.0):
+    def information(self, theta, scaling: float = 1.0) -> np.ndarray:
         """Fisher information at each ability."""
         theta = np.atleast_1d(np.asarray(theta, float))
         chances = self.probabilities(theta, scaling)
         if self.model in DICHOTOMOUS:
             a, b, c, d = self.asymptotes()
             right, wrong = both_tails(scaling * a * (theta - b))
-            return (scaling * a * (d - c) * right * wrong) ** 2 / (chances[0] * chances[1])
+            return (scaling * a) ** 2 * right * wrong * share((d - c) * right, chances[1]) * share((d - c) * wrong, chances[0])
         a, steps = self.thresholds()
         if self.model == "GR":
             right, wrong = both_tails(scaling * a * (theta[None] - steps[:, None]))
@@ -83,14 +85,19 @@ class Item:
         return (scaling * a) ** 2 * ((score - mean) ** 2 * chances).sum(0)
 
 
-def both_tails(z):
+def both_tails(z: np.ndarray) -> Tuple[np.ndarray, np.ndarray]:
     """The logistic function and its complement, each without cancellation far out."""
     small = np.exp(-np.abs(z))
     near, far = 1 / (1 + small), small / (1 + small)
     return np.where(z >= 0, near, far), np.where(z >= 0, far, near)
 
 
-def boundary_differences(z):
+def share(part: np.ndarray, whole: np.ndarray) -> np.ndarray:
+    """part / whole, and 1 where both are too small for a number."""
+    return np.divide(part, whole, out=np.ones_like(part), where=whole > 0)
+
+
+def boundary_differences(z: np.ndarray) -> np.ndarray:
     """The probabilities of the graded response model from its boundary logits, without cancellation far out."""
     right, wrong = both_tails(z)
     one, none = np.ones((1, z.shape[1])), np.zeros((1, z.shape[1]))
@@ -99,7 +106,7 @@ def boundary_differences(z):
     return np.where(above[:-1] < 0.5, above[:-1] - above[1:], below[1:] - below[:-1])
 
 
-def fault(item):
+def fault(item: Item) -> Optional[str]:
     """The first reason why the numbers are no item of the model, or None."""
     p, model = item.parameters, item.model
     if not all(np.isfinite(v) for v in p):
@@ -110,6 +117,9 @@ def fault(item):
         return f"{model} takes a slope and at least one threshold"
     if model == "PC" and not p:
         return "PC takes at least one step"
+    slope, places = (1.0, p) if model in ("1PL", "PC") else (p[0], p[1:2] if model in DICHOTOMOUS else p[1:])
+    if slope > 100 or any(abs(place) > 100 for place in places):
+        return f"a slope of {slope:g}, or a difficulty of {max(places, key=abs):g}: neither is above 100"
     if model not in ("1PL", "PC") and p[0] <= 0:
         return f"slope {p[0]:g} is not above 0 (is the scoring of the item reversed?)"
     if model in ("3PL", "4PL") and not 0 <= p[2] < 1:

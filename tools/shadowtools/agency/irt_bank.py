@@ -3,7 +3,11 @@
 usage: irt_bank.py --items ITEMS.csv [--attributes ATTRIBUTES.csv] [--constraints CONSTRAINTS.csv | --length N] --out PREFIX
 
   --format F           auto (default), testdesign, columns, catr or mirt: the convention of ITEMS
+  --columns OWN=THEIRS,..   other names of the columns of ITEMS, as a=Dscrmn,b=Dffclt,c=Gussng
+  --ignore COLUMN      a column of ITEMS that is no parameter (may be given again); every other column is read, or refused
   --model M            GR, GPC or PC, for thresholds without a column MODEL
+  --separator S        comma (default), semicolon or tab, in all three tables
+  --decimal D          point (default) or comma
   --scaling D          1 (default) or 1.702: the constant D of the calibration
   --grid LOW HIGH N    the ability points; default -4 4 and as many as the rule below asks, 41 to 61
   --prior MEAN SD      the prior of ability, default 0 1; or --prior flat
@@ -21,264 +25,149 @@ PREFIX.bank.csv, PREFIX.plan.txt and PREFIX.map.json are written. The map has wh
 ability each point is, the units, and the names of the items and passages. The same input gives the same bytes.
 
 Rule for the grid: an odd number of points, with a step of at most half the least standard error of a test.
-Exit status: 0; 1 where the input is refused, with file, line and column; 3 where the program refuses what was written.
+Exit status: 0; 1 where the input is refused, with file, line and column, and nothing is written; 2 for a faulty command line; 3 where
+the program refuses what was written; 11 where no set of items meets the constraints, with those that clash; 12 where none was found.
 """
 import argparse
-import csv
 import hashlib
-import io
 import json
 import math
 import os
 import re
-import subprocess
 import sys
-import tempfile
+from typing import Dict, List, Sequence, Tuple
 
 from shadowtools.needs import require
 
 require("irt_bank.py", "numpy")
-import numpy as np
 
-from shadowtools.agency.bank_parameters import FORMATS, read_items
-from shadowtools.agency.blueprint import MOST_PASSAGES, compile_blueprint
-from shadowtools.places import BUILT
-from shadowtools.command import Refused, as_command
-from shadowtools.formats.tables import ABSENT, read_table
+from shadowtools.agency.bank_parameters import FORMATS, Reading, read_items  # noqa: E402
+from shadowtools.agency.bank_tables import (Tables, ability_grid, grid_warnings, item_warnings, least_error,  # noqa: E402
+                                            log_prior, rate_warnings, rounding_cost)
+from shadowtools.agency.blueprint import MOST_PASSAGES, Blueprint, compile_blueprint  # noqa: E402
+from shadowtools.agency.explain import clash, print_clash  # noqa: E402
+from shadowtools.agency.irt import Item  # noqa: E402
+from shadowtools.agency.program import DONE, NO_FORM, NOT_FOUND, Program, form_of, run  # noqa: E402
+from shadowtools.command import Refused, as_command  # noqa: E402
+from shadowtools.formats.examination import plan_of  # noqa: E402
+from shadowtools.formats.tables import ABSENT, SEPARATORS, Dialect, read_table  # noqa: E402
+from shadowtools.options import Options, between, require_folder, whole  # noqa: E402
+from shadowtools.places import BUILT  # noqa: E402
 
-MOST_POINTS, MOST_INFORMATION, LEAST_LOG = 61, 1_000_000, -10_000_000
 PRIOR_MEANS = (-2, -1, 0, 1, 2)
+MOST_QUANTITIES, MOST_QUANTITY = 8, 65_535
 
 
-def options(words):
-    parser = argparse.ArgumentParser(usage=__doc__.partition("usage: ")[2], add_help=False)
-    for name in ("items", "attributes", "constraints", "out", "key", "model", "program"):
+def options(words: Sequence[str]) -> argparse.Namespace:
+    parser = Options(__doc__, repeated=("--quantity", "--ignore"))
+    for name in ("items", "attributes", "constraints", "out", "key", "model", "program", "columns"):
         parser.add_argument("--" + name)
     parser.add_argument("--format", default="auto", choices=("auto",) + FORMATS)
-    parser.add_argument("--scaling", type=float, default=1.0)
+    parser.add_argument("--separator", default="comma", choices=tuple(SEPARATORS))
+    parser.add_argument("--decimal", default="point", choices=("point", "comma"))
+    parser.add_argument("--scaling", type=between(0.1, 10), default=1.0)
     parser.add_argument("--grid", nargs=3)
     parser.add_argument("--prior", nargs="+", default=["0", "1"])
-    parser.add_argument("--information-unit", type=float, default=1000.0)
-    parser.add_argument("--log-unit", type=float, default=1000.0)
-    parser.add_argument("--quantity", action="append", default=[])
+    parser.add_argument("--information-unit", type=between(1e-3, 1e6), default=1000.0)
+    parser.add_argument("--log-unit", type=between(1e-3, 1e6), default=1000.0)
+    for name in ("quantity", "ignore"):
+        parser.add_argument("--" + name, action="append", default=[])
     for name, value in (("budget", 2001), ("base-budget", 4095), ("sessions", 1000), ("journal", 67108864)):
-        parser.add_argument("--" + name, type=int, default=value)
-    parser.add_argument("--rate", nargs=2, type=int)
-    parser.add_argument("--length", type=int)
-    parser.add_argument("-h", "--help", action="store_true")
-    found = parser.parse_args(words)
-    if found.help or not found.items or not found.out or not (found.constraints or found.length):
-        print(__doc__, file=sys.stdout if found.help else sys.stderr)
-        sys.exit(0 if found.help else 2)
+        parser.add_argument("--" + name, type=whole(0, 999_999_999), default=value)
+    parser.add_argument("--rate", nargs=2, type=whole(1, 65_535))
+    parser.add_argument("--length", type=whole(1, 512))
+    found = parser.read(words, lambda given: bool(given.items and given.out and (given.constraints or given.length)))
+    if found.constraints and found.length:
+        raise Refused("--length: the table of --constraints has the length; leave one of the two out")
+    if bool(found.rate) != bool(found.key):
+        raise Refused("--rate needs --key, 64 hexadecimal digits drawn at random" if found.rate else "--key is not used without --rate")
+    if found.model and found.model.upper() not in ("GR", "GPC", "PC"):
+        raise Refused(f"--model {found.model}: GR, GPC or PC")
     return found
+
+
+def reading_of(given: argparse.Namespace) -> Reading:
+    """How the table of items is to be read."""
+    columns: Dict[str, str] = {}
+    for pair in given.columns.split(",") if given.columns else []:
+        own, sign, theirs = pair.partition("=")
+        if not (own and sign and theirs) or own in columns:
+            raise Refused(f"--columns {given.columns}: OWN=THEIRS,.. with each name once")
+        columns[own] = theirs
+    return Reading(given.format, given.model and given.model.upper(), dialect_of(given), columns, given.ignore)
+
+
+def dialect_of(given: argparse.Namespace) -> Dialect:
+    return Dialect(SEPARATORS[given.separator], given.decimal == "comma")
 
 
 # ---------------------------------------------------------------- attributes
 
-def read_attributes(path, items):
+def read_attributes(path: str, items: Sequence[Item], dialect: Dialect) -> List[str]:
     """Gives each item its attributes and passage; the names of the passages."""
-    head, rows = read_table(path)
+    head, rows = read_table(path, dialect)
     if "ID" not in head:
-        raise Refused(f"{path}: line 1: no column ID")
-    by_name, lines, passages = {item.name: item for item in items}, {}, []
+        other = next((name for name in head if name.lower() == "id"), None)
+        raise Refused(f"{path}: line 1: no column ID" + (f"; rename the column {other}" if other else ""))
+    by_name, passages = {item.name: item for item in items}, []
     for line, row in rows:
-        name = row["ID"]
-        if name not in by_name:
-            raise Refused(f"{path}: line {line}: no item has the ID {name!r}")
-        if name in lines:
-            raise Refused(f"{path}: line {line}: item {name} is in line {lines[name]} too")
-        lines[name] = line
-        by_name[name].attributes = row
+        item = by_name.get(row["ID"])
+        if item is None:
+            raise Refused(f"{path}: line {line}: no item has the ID {row['ID']!r}")
+        if item.line:
+            raise Refused(f"{path}: line {line}: item {item.name} is in line {item.line} too")
+        item.line, item.attributes = line, row
         passage = row.get("STID", "")
         if passage not in ABSENT:
             if passage not in passages:
                 passages.append(passage)
-            by_name[name].passage = passages.index(passage) + 1
+            item.passage = passages.index(passage) + 1
     for item in items:
-        if item.name not in lines:
+        if not item.line:
             raise Refused(f"{path}: item {item.name} has no line")
     if len(passages) > MOST_PASSAGES:
         raise Refused(f"{path}: {len(passages)} passages; shadowd takes at most {MOST_PASSAGES}")
     return passages
 
 
-def read_quantities(path, items, names):
+def read_quantities(path: str, items: Sequence[Item], names: Sequence[str]) -> List[List[int]]:
     """The values of each quantity by item."""
     if names and not path:
         raise Refused("--quantity needs --attributes")
-    if len(names) > 8:
-        raise Refused(f"{len(names)} quantities; shadowd takes at most 8")
-    return [[whole(path, item, name) for item in items] for name in names]
+    if len(names) > MOST_QUANTITIES or len(set(names)) < len(names):
+        raise Refused(f"--quantity {' '.join(names)}: shadowd takes at most {MOST_QUANTITIES}, each once")
+    return [[quantity_of(path, item, name) for item in items] for name in names]
 
 
-def whole(path, item, name):
+def quantity_of(path: str, item: Item, name: str) -> int:
     text = item.attributes.get(name)
     if text is None:
         raise Refused(f"{path}: there is no column {name}")
-    if re.fullmatch(r"\d+(\.0*)?", text) and float(text) <= 65535:
+    if re.fullmatch(r"[0-9]{1,9}(\.0*)?", text) and float(text) <= MOST_QUANTITY:
         return int(float(text))
     hint = ""
-    decimals = re.fullmatch(r"\d+\.(\d*[1-9])0*", text)
+    decimals = re.fullmatch(r"[0-9]+\.([0-9]*[1-9])0*", text)
     if decimals:
         hint = f" (multiply the column and its bounds by {10 ** len(decimals.group(1))})"
-    raise Refused(f"{path}: item {item.name}: {name} is {text!r}, not a whole number from 0 to 65535{hint}")
-
-
-# ---------------------------------------------------------------- grid and tables
-
-def ability_grid(given, items, scaling, length):
-    """The ability points: those asked for, or as many on -4 to 4 as the rule for the grid asks."""
-    if given:
-        try:
-            low, high, points = float(given[0]), float(given[1]), int(given[2])
-        except ValueError:
-            raise Refused(f"--grid {' '.join(given)}: LOW and HIGH are numbers, N a whole number")
-        if not (low < high and 2 <= points <= MOST_POINTS):
-            raise Refused(f"--grid: LOW below HIGH, and 2 to {MOST_POINTS} points")
-        return np.linspace(low, high, points)
-    error = least_error(items, np.linspace(-4, 4, 81), scaling, length)
-    points = min(MOST_POINTS, max(41, math.ceil(8 / (error / 2)) + 1))
-    return np.linspace(-4, 4, points + (points % 2 == 0))
-
-
-def least_error(items, theta, scaling, length):
-    """The least standard error that any `length` items have at a point: 1 / sqrt(their information)."""
-    information = np.sort(np.stack([item.information(theta, scaling) for item in items]), 0)[::-1]
-    return 1 / math.sqrt(max(float(information[:length].sum(0).max()), 1e-9))
-
-
-def log_prior(words, theta, unit):
-    """The prior at each point in whole units, its greatest value 0."""
-    if words == ["flat"]:
-        return np.zeros(len(theta), int)
-    try:
-        mean, deviation = map(float, words)
-    except ValueError:
-        raise Refused(f"--prior {' '.join(words)}: MEAN SD, or flat")
-    if not deviation > 0:
-        raise Refused(f"--prior: the standard deviation {deviation:g} is not above 0")
-    exponent = -((theta - mean) / deviation) ** 2 / 2
-    return np.maximum(np.rint((exponent - exponent.max()) * unit), LEAST_LOG).astype(int)
-
-
-class Tables:
-    """The bank as whole numbers, and what rounding them cost."""
-
-    def __init__(self, items, quantities, theta, scaling, information_unit, log_unit):
-        self.items, self.quantities, self.theta = items, quantities, theta
-        self.scaling, self.information_unit, self.log_unit = scaling, information_unit, log_unit
-        self.clipped, self.faint, self.worst = 0, [], 0.0
-
-    def information(self, item):
-        exact = item.information(self.theta, self.scaling) * self.information_unit
-        whole_numbers = np.rint(exact).astype(int)
-        if whole_numbers.max() > MOST_INFORMATION:
-            most = self.information_unit * MOST_INFORMATION / exact.max()
-            raise Refused(f"item {item.name}: information {whole_numbers.max()} is above {MOST_INFORMATION} in this unit; "
-                          f"lower --information-unit (at most {math.floor(most)})")
-        if whole_numbers.max() < 10:
-            self.faint.append(item.name)
-        self.worst = max(self.worst, float(np.abs(exact - whole_numbers).max()) / self.information_unit)
-        return whole_numbers
-
-    def logs(self, item):
-        exact = np.log(np.maximum(item.probabilities(self.theta, self.scaling), 1e-300)) * self.log_unit
-        self.clipped += int((exact < LEAST_LOG).sum())
-        return np.maximum(np.rint(exact), LEAST_LOG).astype(int)
-
-    def text(self):
-        """The bank as shadowd reads it."""
-        points, width = len(self.theta), max(item.categories for item in self.items)
-        out = io.StringIO()
-        writer = csv.writer(out, lineterminator="\n")
-        writer.writerow(["item", "stimulus", "categories"] + [f"q{k}" for k in range(len(self.quantities))]
-                        + [f"i{g}" for g in range(points)] + [f"l{r}_{g}" for r in range(width) for g in range(points)])
-        for k, item in enumerate(self.items):
-            empty = [""] * (points * (width - item.categories))
-            writer.writerow([k, item.passage, item.categories] + [values[k] for values in self.quantities]
-                            + self.information(item).tolist() + self.logs(item).ravel().tolist() + empty)
-        return out.getvalue()
-
-
-# ---------------------------------------------------------------- warnings
-
-def item_warnings(items, theta):
-    """What is unusual in single items; each kind in one line with its first items."""
-    kinds = {"slopes below 0.2 or above 3": [], "lower asymptotes above 0.5": [], "difficulties outside the grid": []}
-    for item in items:
-        slope, place, lower = key_numbers(item)
-        if not 0.2 <= slope <= 3:
-            kinds["slopes below 0.2 or above 3"].append(item.name)
-        if lower > 0.5:
-            kinds["lower asymptotes above 0.5"].append(item.name)
-        if not theta[0] <= place <= theta[-1]:
-            kinds["difficulties outside the grid"].append(item.name)
-    return [f"{kind}: {named(names)}" for kind, names in kinds.items() if names]
-
-
-def key_numbers(item):
-    """Slope, difficulty (mean of the thresholds) and lower asymptote."""
-    if item.categories == 2 and item.model.endswith("PL"):
-        return item.asymptotes()[:3]
-    slope, steps = item.thresholds()
-    return slope, float(np.mean(steps)), 0.0
-
-
-def named(names):
-    return f"{len(names)} items ({', '.join(names[:3])}{', ..' if len(names) > 3 else ''})"
-
-
-def grid_warnings(options, theta, tables, length):
-    """What the grid, the units and the prior cost."""
-    found = []
-    if len(theta) % 2 == 0:
-        found.append("an even number of points has no middle: the first estimate is the lower of the two middle points")
-    if options.prior == ["flat"]:
-        found.append("with a flat prior the first estimate is the lowest point of the grid: the first items are easy ones")
-    error, step = least_error(tables.items, theta, options.scaling, length), theta[1] - theta[0]
-    if step > error / 2:
-        points = math.ceil((theta[-1] - theta[0]) / (error / 2)) + 1
-        points += points % 2 == 0
-        cure = f"take {points} points" if points <= MOST_POINTS else f"take {MOST_POINTS} points on a narrower grid"
-        found.append(f"the step {step:.3f} is above half the least standard error of a test, {error:.3f}: "
-                     f"the error of the estimate grows by {rounding_cost(step, error):.1%}; {cure}")
-    total = sum(item.information(theta, options.scaling) for item in tables.items)
-    if min(total[0], total[-1]) < 0.1 * total.max():
-        found.append(f"the bank informs little at the ends of the grid: {total[0]:.2f} and {total[-1]:.2f}, "
-                     f"{total.max():.2f} at its best point")
-    if tables.clipped:
-        found.append(f"{tables.clipped} log-likelihoods below {LEAST_LOG} were raised to it")
-    if tables.faint:
-        found.append(f"never above 10 units of information: {named(tables.faint)}")
-    return found
-
-
-def rounding_cost(step, error):
-    """How much greater the root mean square error is by rounding to a grid, whose variance is step^2 / 12."""
-    return math.sqrt(1 + step * step / 12 / (error * error)) - 1
-
-
-def rate_warnings(options, length, items):
-    if options.rate and options.rate[0] * items < length * options.rate[1]:
-        return [f"the rate {options.rate[0]}/{options.rate[1]} cannot be met: on average an item is shown in "
-                f"{length}/{items} of the sessions"]
-    return []
+    raise Refused(f"{path}: line {item.line}: item {item.name}: {name} is {text[:30]!r}, "
+                  f"not a whole number from 0 to {MOST_QUANTITY}{hint}")
 
 
 # ---------------------------------------------------------------- what is written
 
-def plan_text(options, theta, length, rules):
-    """The plan, and the label and source of each numbered row."""
-    lines = [f"# made by irt_bank.py from {os.path.basename(options.items)}",
-             f"# {len(theta)} points from {theta[0]:g} to {theta[-1]:g}; D {options.scaling:g}; "
-             f"{options.information_unit:g} for one unit of information, {options.log_unit:g} for one natural logarithm",
-             f"length {length}", "prior " + " ".join(map(str, log_prior(options.prior, theta, options.log_unit).tolist())),
-             f"budget {options.budget}", f"base-budget {options.base_budget}",
-             f"sessions {options.sessions}", f"journal {options.journal}"]
-    if options.rate:
-        lines += [f"rate {options.rate[0]} {options.rate[1]}", f"key {options.key or ''}"]
+def plan_text(given: argparse.Namespace, tables: Tables, blueprint: Blueprint) -> str:
+    """The plan, with a remark above each rule."""
+    theta = tables.theta
+    lines = [f"# made by irt_bank.py from {' '.join(os.path.basename(given.items).split())}",
+             f"# {len(theta)} points from {theta[0]:g} to {theta[-1]:g}; D {given.scaling:g}; "
+             f"{given.information_unit:g} for one unit of information, {given.log_unit:g} for one natural logarithm",
+             f"length {blueprint.length}", "prior " + " ".join(map(str, log_prior(given.prior, theta, given.log_unit).tolist())),
+             f"budget {given.budget}", f"base-budget {given.base_budget}",
+             f"sessions {given.sessions}", f"journal {given.journal}"]
+    if given.rate:
+        lines += [f"rate {given.rate[0]} {given.rate[1]}", f"key {given.key}"]
     row = 0
-    for rule in rules:
+    for rule in blueprint.rules:
         if rule.lines[0].startswith("stimulus "):
             lines.append(f"# {rule.remark}")
         else:
@@ -288,132 +177,137 @@ def plan_text(options, theta, length, rules):
     return "\n".join(lines) + "\n"
 
 
-def map_text(options, theta, length, passages, items, bank, plan):
+def map_text(given: argparse.Namespace, tables: Tables, blueprint: Blueprint, bank: str, plan: str) -> str:
     """The map: the scale, the units, the names, and the SHA-256 of the texts of bank and plan."""
     whole_map = {
-        "theta": theta.tolist(), "D": options.scaling, "information_unit": options.information_unit,
-        "log_unit": options.log_unit, "prior": options.prior, "length": length, "quantities": options.quantity,
-        "passages": passages,
+        "theta": tables.theta.tolist(), "D": given.scaling, "information_unit": given.information_unit,
+        "log_unit": given.log_unit, "prior": given.prior, "length": blueprint.length, "quantities": given.quantity,
+        "passages": blueprint.passages,
         "sha256": {"bank": digest_of(bank), "plan": digest_of(plan)},
         "items": [{"number": k, "id": item.name, "model": item.model, "parameters": item.parameters,
-                   "passage": item.passage, "attributes": item.attributes} for k, item in enumerate(items)],
+                   "passage": item.passage, "attributes": item.attributes} for k, item in enumerate(tables.items)],
     }
     return json.dumps(whole_map, indent=1, ensure_ascii=False) + "\n"
 
 
-def digest_of(text):
+def digest_of(text: str) -> str:
     return hashlib.sha256(text.encode("utf-8")).hexdigest()
 
 
-def write(path, text):
-    with open(path, "w", encoding="utf-8", newline="\n") as file:
-        file.write(text)
+def write(path: str, text: str) -> None:
+    try:
+        with open(path, "w", encoding="utf-8", newline="\n") as file:
+            file.write(text)
+    except OSError as error:
+        raise Refused(f"{path}: {error.strerror}")
 
 
 # ---------------------------------------------------------------- the program's own check
 
-def run(program, command, prefix, plan=None):
-    words = [program, command, prefix + ".bank.csv", plan or prefix + ".plan.txt"]
-    try:
-        done = subprocess.run(words, stdin=subprocess.DEVNULL, capture_output=True, text=True)
-    except OSError as error:
-        raise Refused(f"{program}: {error.strerror}")
-    return done.returncode, done.stdout.strip()
-
-
-def explained(said, items, rules, plan):
+def explained(said: str, items: Sequence[Item], blueprint: Blueprint, plan: str) -> str:
     """A fault of the program, with the name and the line of the agency's table."""
-    row = re.search(r"plan: row (\d+)", said)
+    row, line = re.search(r"plan: row (\d+)", said), re.search(r"plan: line (\d+)", said)
+    item, record = re.search(r"of item (\d+)", said), re.search(r"bank: record (\d+)", said)
     if row:
-        rule = [rule for rule in rules if not rule.lines[0].startswith("stimulus ")][int(row.group(1))]
+        rule = [rule for rule in blueprint.rules if not rule.lines[0].startswith("stimulus ")][int(row.group(1))]
         return f"{said}: {rule.label} ({rule.source})"
-    line = re.search(r"plan: line (\d+)", said)
     if line:
         return f"{said}: {plan.splitlines()[int(line.group(1)) - 1][:80]}"
-    item = re.search(r"of item (\d+)", said)
-    if item:
-        return f"{said}: {items[int(item.group(1))].name}"
-    record = re.search(r"bank: record (\d+)", said)
-    if record:
-        return f"{said}: {items[int(record.group(1)) - 1].name}"
+    if item or record:
+        return f"{said}: {items[int(item.group(1)) if item else int(record.group(1)) - 1].name}"
     return said
 
 
-def checked(program, prefix, items, rules, plan):
+def checked(program: str, prefix: str, items: Sequence[Item], blueprint: Blueprint, plan: str) -> bool:
     """Whether the program takes what was written; prints what it says."""
-    status, said = run(program, "check", prefix)
-    if status:
-        print(f"{prefix}: shadowd check, status {status}: {explained(said, items, rules, plan)}", file=sys.stderr)
+    status, said = run(program, "check", prefix + ".bank.csv", prefix + ".plan.txt")
+    if status or not said.startswith("bank items "):
+        try:
+            said = explained(said, items, blueprint, plan)
+        except IndexError:
+            pass
+        print(f"{prefix}: shadowd check, status {status}: {said[:200]}", file=sys.stderr)
         return False
     print("check: " + said.splitlines()[0])
     return True
 
 
-def first_forms(program, prefix, theta, options, plan):
-    """Forms by priors at five abilities: what a test can inform there."""
+def first_forms(program: Program, tables: Tables, plan: str) -> int:
+    """Prints by priors at five abilities what a test can inform there. The status of the first that has no form, else 0."""
     for mean in PRIOR_MEANS:
-        if not theta[0] <= mean <= theta[-1]:
+        if not tables.theta[0] <= mean <= tables.theta[-1]:
             continue
-        prior = "prior " + " ".join(map(str, log_prior([str(mean), "1"], theta, options.log_unit).tolist()))
-        with tempfile.NamedTemporaryFile("w", suffix=".txt", delete=False) as file:
-            file.write(re.sub(r"(?m)^prior .*$", prior, plan))
-        try:
-            status, said = run(program, "assemble", prefix, file.name)
-        finally:
-            os.unlink(file.name)
-        if status:
-            what = {11: "no form; tools/explain.py names the rules", 12: "no form found within the base budget"}
-            print(f"ability {mean:+d}: {what.get(status, said[:60])} (status {status})")
-            continue
-        words = said.splitlines()[1].split()
-        print(f"ability {mean:+d}: best form informs {int(words[1]) / options.information_unit:.3f}, "
-              f"standard error {math.sqrt(options.information_unit / max(1, int(words[1]))):.3f}, {' '.join(words[2:])}")
+        prior = "prior " + " ".join(map(str, log_prior([str(mean), "1"], tables.theta, tables.log_unit).tolist()))
+        status, said = program.assemble(re.sub(r"(?m)^prior .*$", prior, plan))
+        if status == NO_FORM:
+            print("no form: no set of items meets the constraints (status 11)", file=sys.stderr)
+            print_clash(*clash(program, plan, said.split()[-1]), plan_of(plan).length, sys.stderr)
+            return status
+        if status == NOT_FOUND:
+            print(f"ability {mean:+d}: no form found within the base budget (status 12); raise --base-budget", file=sys.stderr)
+            return status
+        if status != DONE:
+            raise Refused(f"shadowd assemble, status {status}: {said[:60]}")
+        form = form_of(said)
+        print(f"ability {mean:+d}: best form informs {form.objective / tables.information_unit:.3f}, "
+              f"standard error {math.sqrt(tables.information_unit / max(1, form.objective)):.3f}, "
+              f"{'proved' if form.is_proved else 'unproved'} nodes {form.nodes}")
+    return DONE
 
 
-def main(words):
-    given = options(words)
-    items, _, form = read_items(given.items, given.format, given.model)
-    passages = read_attributes(given.attributes, items) if given.attributes else []
+# ---------------------------------------------------------------- command line
+
+def blueprint_of(given: argparse.Namespace, items: List[Item]) -> Tuple[Blueprint, List[List[int]]]:
+    """The blueprint, and the values of the quantities by item."""
+    passages = read_attributes(given.attributes, items, dialect_of(given)) if given.attributes else []
     quantities = read_quantities(given.attributes, items, given.quantity)
-    length, rules, warnings = given.length, [], []
     if given.constraints:
-        blueprint = compile_blueprint(given.constraints, items, passages, given.quantity)
-        length, rules, passages, warnings = blueprint.length, blueprint.rules, blueprint.passages, blueprint.warnings
-    if not 1 <= length <= len(items):
-        raise Refused(f"--length {length}: the bank has {len(items)} items")
-    if given.rate and not given.key:
-        raise Refused("--rate needs --key, 64 hexadecimal digits drawn at random")
-    theta = ability_grid(given.grid, items, given.scaling, length)
+        return compile_blueprint(given.constraints, items, passages, given.quantity, dialect_of(given)), quantities
+    if given.length > len(items):
+        raise Refused(f"--length {given.length}: the bank has {len(items)} items")
+    return Blueprint(given.length, [], passages, []), quantities
+
+
+def main(words: Sequence[str]) -> int:
+    given = options(words)
+    require_folder("--out", given.out + ".bank.csv")
+    items, _, form = read_items(given.items, reading_of(given))
+    blueprint, quantities = blueprint_of(given, items)
+    theta = ability_grid(given.grid, items, given.scaling, blueprint.length)
     tables = Tables(items, quantities, theta, given.scaling, given.information_unit, given.log_unit)
-    bank, plan = tables.text(), plan_text(given, theta, length, rules)
-    warnings += item_warnings(items, theta) + grid_warnings(given, theta, tables, length)
-    warnings += rate_warnings(given, length, len(items))
-    write(given.out + ".bank.csv", bank)
-    write(given.out + ".plan.txt", plan)
-    write(given.out + ".map.json", map_text(given, theta, length, passages, items, bank, plan))
-    return report(given, form, tables, passages, length, rules, plan, warnings)
+    bank, plan = tables.text(), plan_text(given, tables, blueprint)
+    warnings = blueprint.warnings + item_warnings(items, theta) + grid_warnings(given.prior, tables, blueprint.length)
+    warnings += rate_warnings(given.rate, blueprint.length, len(items))
+    written = map_text(given, tables, blueprint, bank, plan)
+    for end, text in ((".bank.csv", bank), (".plan.txt", plan), (".map.json", written)):
+        write(given.out + end, text)
+    print_made(given, form, tables, blueprint)
+    for warning in warnings:
+        print("warning: " + warning, file=sys.stderr)
+    return tried(given, tables, blueprint, plan)
 
 
-def report(given, form, tables, passages, length, rules, plan, warnings):
-    """Prints what was made and what it costs, then lets the program check it. The exit status."""
+def print_made(given: argparse.Namespace, form: str, tables: Tables, blueprint: Blueprint) -> None:
+    """Prints what was made, and what the grid and the rounding cost."""
     theta, items = tables.theta, tables.items
-    step, error = theta[1] - theta[0], least_error(items, theta, given.scaling, length)
+    step, error = theta[1] - theta[0], least_error(items, theta, given.scaling, blueprint.length)
     width = max(item.categories for item in items)
-    print(f"{len(items)} items ({form}), at most {width} categories, {len(passages)} passages, "
-          f"{len(given.quantity)} quantities, {len(rules)} rules, tests of {length}")
+    print(f"{len(items)} items ({form}), at most {width} categories, {len(blueprint.passages)} passages, "
+          f"{len(given.quantity)} quantities, {len(blueprint.rules)} rules, tests of {blueprint.length}")
     print(f"{len(theta)} points from {theta[0]:g} to {theta[-1]:g}, step {step:.3f}; least standard error of a test "
           f"{error:.3f}: rounding to the grid costs {rounding_cost(step, error):.1%} of it")
     print(f"rounding to whole numbers: information by at most {tables.worst:.5f}, logarithms by {0.5 / given.log_unit:.5f}")
-    for warning in warnings:
-        print("warning: " + warning, file=sys.stderr)
-    program = given.program or (BUILT if os.path.exists(BUILT) else None)
-    if not program:
+
+
+def tried(given: argparse.Namespace, tables: Tables, blueprint: Blueprint, plan: str) -> int:
+    """Lets the program check what was written, and assemble forms. The exit status."""
+    path = given.program or (BUILT if os.path.exists(BUILT) else None)
+    if not path:
         print("not checked: there is no built program (--program SHADOWD)")
-        return 0
-    if not checked(program, given.out, items, rules, plan):
+        return NO_FORM if blueprint.clashes else DONE
+    if not checked(path, given.out, tables.items, blueprint, plan):
         return 3
-    first_forms(program, given.out, theta, given, plan)
-    return 0
+    return first_forms(Program(path, given.out + ".bank.csv"), tables, plan)
 
 
 command = as_command(main)

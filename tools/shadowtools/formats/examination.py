@@ -1,14 +1,19 @@
-"""Reads the texts of an examination on its own: bank, plan with the names of its rules, map, and journal.
+"""The one reader of the texts of an examination for the tools of agencies: bank, plan with the names of its rules, map, journal.
 
-It shares nothing with the product; docs/FORMATS.md has the formats. It needs the standard library alone.
+It shares nothing with the product; docs/FORMATS.md has the formats. It needs the standard library alone. What a text can't be is
+refused with its place. Whether bank and plan are valid as a whole, and whether a history is legal, is for `shadowd check` and `audit`.
 """
 import csv
+import io
 import json
+import math
+import re
 from collections import namedtuple
 from dataclasses import dataclass, field
+from typing import Any, Collection, Dict, FrozenSet, Iterable, List, Optional, Sequence, Tuple
 
 from shadowtools.command import Refused
-from shadowtools.formats.tables import members
+from shadowtools.formats.tables import members, text_of
 
 Started = namedtuple("Started", "session booking eligible")
 SetAside = namedtuple("SetAside", "session cause nodes")
@@ -16,54 +21,132 @@ Served = namedtuple("Served", "session step item form proved nodes")
 Answered = namedtuple("Answered", "session step response")
 Closed = namedtuple("Closed", "session")
 
-MAGIC, RULE_WORDS = b"SHADOWJ1", ("count", "quantity", "enemies", "stimuli", "stimulus")
+MAGIC, LONGEST_PAYLOAD = b"SHADOWJ1", 131_072
+RULE_WORDS = ("count", "quantity", "enemies", "stimuli", "stimulus")
+OTHER_WORDS = ("key", "budget", "base-budget", "sessions", "journal", "base")
+WHOLE = re.compile(r"-?(0|[1-9][0-9]{0,8})", re.ASCII)
 
 
-def opened(path, mode="r"):
+def opened(path: str, mode: str = "r"):
     try:
         return open(path, mode) if "b" in mode else open(path, mode, newline="", encoding="utf-8")
-    except OSError as error:
-        raise Refused(f"{path}: {error.strerror}")
+    except (OSError, ValueError) as error:
+        raise Refused(f"{path}: {getattr(error, 'strerror', None) or error}")
 
 
-# ---------------------------------------------------------------- bank and map
+def whole(text: str, where: str) -> int:
+    """A whole number as the texts of shadowd write it."""
+    if not WHOLE.fullmatch(text):
+        raise Refused(f"{where}: {text[:20]!r} is not a whole number")
+    return int(text)
+
+
+def json_of(path: str) -> Any:
+    """The value of a JSON text, without the numbers that JSON does not have (NaN, Infinity)."""
+    def constant(name: str) -> float:
+        raise ValueError(f"{name} is no number of JSON")
+    try:
+        return json.loads(text_of(path), parse_constant=constant)
+    except (ValueError, RecursionError) as error:
+        raise Refused(f"{path}: no JSON: {error}")
+
+
+# ---------------------------------------------------------------- bank
 
 @dataclass
 class BankItem:
     """An item of a bank: its passage (0 for none), quantities, and by point its information and log-likelihoods."""
     passage: int
-    quantities: list
-    information: list
-    logs: list
+    quantities: List[int]
+    information: List[int]
+    logs: List[List[int]]
 
     @property
-    def categories(self):
+    def categories(self) -> int:
         return len(self.logs)
 
 
-def read_bank(path):
-    """The items of a bank that `shadowd check` takes."""
-    with opened(path) as file:
-        records = [record for record in csv.reader(file) if record]
-    head = records[0]
-    quantities = [k for k, name in enumerate(head) if name[:1] == "q"]
-    points = [k for k, name in enumerate(head) if name[:1] == "i" and name != "item"]
-    first = points[-1] + 1
-    return [BankItem(int(r[1]), [int(r[k]) for k in quantities], [int(r[k]) for k in points],
-                     [[int(v) for v in r[first + c * len(points):first + (c + 1) * len(points)]] for c in range(int(r[2]))])
-            for r in records[1:]]
+def read_bank(path: str) -> List[BankItem]:
+    """The items of a bank. Refused is a text whose records are not those of its header."""
+    try:
+        records = [record for record in csv.reader(io.StringIO(text_of(path), newline=""), strict=True) if record]
+    except csv.Error as error:
+        raise Refused(f"{path}: {error}")
+    quantities, points, responses = shape_of(path, records[0] if records else [])
+    items = [bank_item(f"{path}: record {k}", record, k - 1, quantities, points, responses)
+             for k, record in enumerate(records[1:], 1)]
+    if not items:
+        raise Refused(f"{path}: no items")
+    return items
 
 
-def read_map(path):
-    with opened(path) as file:
-        try:
-            found = json.load(file)
-        except ValueError as error:
-            raise Refused(f"{path}: no JSON: {error}")
-    missing = [name for name in ("theta", "log_unit", "information_unit", "items", "sha256") if name not in found]
-    if missing:
-        raise Refused(f"{path}: no map of this irt_bank.py: {missing[0]} is missing; make bank, plan and map again")
+def shape_of(path: str, head: Sequence[str]) -> Tuple[int, int, int]:
+    """The numbers of quantities, ability points and responses that a bank's header has columns for."""
+    quantities = sum(re.fullmatch(r"q\d+", name) is not None for name in head)
+    points = sum(re.fullmatch(r"i\d+", name) is not None for name in head)
+    responses = (len(head) - 3 - quantities - points) // points if points else 0
+    wanted = (["item", "stimulus", "categories"] + [f"q{k}" for k in range(quantities)] + [f"i{g}" for g in range(points)]
+              + [f"l{r}_{g}" for r in range(responses) for g in range(points)])
+    if responses < 2 or list(head) != wanted:
+        raise Refused(f"{path}: the header is not that of a bank of shadowd")
+    return quantities, points, responses
+
+
+def bank_item(where: str, record: Sequence[str], k: int, quantities: int, points: int, responses: int) -> BankItem:
+    first = 3 + quantities + points
+    if len(record) != first + points * responses:
+        raise Refused(f"{where}: {len(record)} columns, the header has {first + points * responses}")
+    categories = whole(record[2], where)
+    if record[0] != str(k) or not 2 <= categories <= responses or any(record[first + points * categories:]):
+        raise Refused(f"{where}: not item {k} with {record[2]} of at most {responses} categories")
+    cells = [whole(cell, where) for cell in record[:first + points * categories]]
+    return BankItem(cells[1], cells[3:3 + quantities], cells[3 + quantities:first],
+                    [cells[first + points * r:first + points * (r + 1)] for r in range(categories)])
+
+
+# ---------------------------------------------------------------- map
+
+def read_map(path: str) -> Dict[str, Any]:
+    """The map that irt_bank.py wrote: ability points, units, prior, names and digests."""
+    found = json_of(path)
+    wanted = {"theta": numbers, "log_unit": positive, "information_unit": positive, "D": positive, "prior": words,
+              "items": map_items, "sha256": digests}
+    for name, holds in wanted.items():
+        if not isinstance(found, dict) or name not in found:
+            raise Refused(f"{path}: no map of this irt_bank.py: {name} is missing; make bank, plan and map again")
+        if not holds(found[name]):
+            raise Refused(f"{path}: no map of irt_bank.py: {name} is not what it writes")
     return found
+
+
+def is_finite(value: Any) -> bool:
+    return isinstance(value, (int, float)) and not isinstance(value, bool) and math.isfinite(value)
+
+
+def positive(value: Any) -> bool:
+    return is_finite(value) and value > 0
+
+
+def numbers(value: Any) -> bool:
+    return isinstance(value, list) and bool(value) and all(map(is_finite, value)) and all(a < b for a, b in zip(value, value[1:]))
+
+
+def words(value: Any) -> bool:
+    """`["flat"]`, or mean and standard deviation as texts."""
+    if not isinstance(value, list) or not all(isinstance(word, str) for word in value):
+        return False
+    return value == ["flat"] or len(value) == 2 and all(re.fullmatch(r"[-+.0-9eE]+", word) for word in value)
+
+
+def map_items(value: Any) -> bool:
+    return isinstance(value, list) and all(
+        isinstance(one, dict) and isinstance(one.get("id"), str) and isinstance(one.get("model"), str)
+        and isinstance(one.get("parameters"), list) and all(map(is_finite, one["parameters"]))
+        and isinstance(one.get("passage"), int) and isinstance(one.get("attributes"), dict) for one in value)
+
+
+def digests(value: Any) -> bool:
+    return isinstance(value, dict) and all(isinstance(value.get(name), str) for name in ("bank", "plan"))
 
 
 # ---------------------------------------------------------------- plan
@@ -77,10 +160,10 @@ class Rule:
     text: str
     low: int
     high: int
-    members: frozenset = frozenset()
+    members: FrozenSet[int] = frozenset()
     number: int = 0
 
-    def value(self, items, bank):
+    def value(self, items: Collection[int], bank: Sequence[BankItem]) -> Optional[int]:
         """The value of a set of items, or None where the rule does not speak of it (a passage that is not used)."""
         if self.kind == "stimuli":
             return len({bank[i].passage for i in items} - {0})
@@ -91,70 +174,94 @@ class Rule:
             return sum(bank[i].quantities[self.number] for i in inside)
         return len(inside)
 
-    def met(self, items, bank):
+    def met(self, items: Collection[int], bank: Sequence[BankItem]) -> bool:
         value = self.value(items, bank)
         return value is None or self.low <= value <= self.high
 
 
 @dataclass
 class Plan:
-    """A plan that `shadowd check` takes. The label of a rule is the remark above it, if there is one."""
+    """A plan. The label of a rule is the remark above it, if there is one."""
     length: int = 0
-    prior: list = field(default_factory=list)
-    rate: tuple = (1, 1)
-    rules: list = field(default_factory=list)
+    prior: List[int] = field(default_factory=list)
+    rate: Tuple[int, int] = (1, 1)
+    rules: List[Rule] = field(default_factory=list)
 
     @property
-    def start(self):
+    def start(self) -> int:
         """The point where the estimate begins."""
         return self.prior.index(max(self.prior))
 
 
-def rule_of(words, remark, line):
+def rule_of(words: Sequence[str], remark: str, line: int, where: str) -> Rule:
     """The rule of a line of a plan."""
     kind, text = words[0], " ".join(words)
-    label = remark or text
-    if kind == "count":
-        return Rule(kind, label, line, text, int(words[1]), int(words[2]), frozenset(members(words[3:])))
-    if kind == "quantity":
-        return Rule(kind, label, line, text, int(words[2]), int(words[3]), frozenset(members(words[4:])), int(words[1]))
-    if kind == "enemies":
-        return Rule(kind, label, line, text, 0, 1, frozenset(members(words[1:])))
-    if kind == "stimuli":
-        return Rule(kind, label, line, text, int(words[1]), int(words[2]))
-    label = f"{remark}, passage {words[1]}" if remark else text
-    return Rule(kind, label, line, text, int(words[2]), int(words[3]), number=int(words[1]))
+    before = {"count": 2, "quantity": 3, "enemies": 0, "stimuli": 2, "stimulus": 3}[kind]
+    has_set = kind in ("count", "quantity", "enemies")
+    if len(words) < 1 + before + has_set or not has_set and len(words) > 1 + before:
+        raise Refused(f"{where}: {len(words)} words are no rule {kind}")
+    found = [whole(word, where) for word in words[1:1 + before]]
+    try:
+        chosen = frozenset(members(words[1 + before:]))
+    except ValueError:
+        raise Refused(f"{where}: {' '.join(words[1 + before:])[:40]!r} is no set of items")
+    number = found.pop(0) if kind in ("quantity", "stimulus") else 0
+    low, high = found or (0, 1)
+    label = f"{remark}, passage {number}" if remark and kind == "stimulus" else remark or text
+    return Rule(kind, label, line, text, low, high, chosen, number)
 
 
-def plan_of(text):
+def plan_of(text: str, path: str = "plan") -> Plan:
     """The plan of a text. A remark labels the row below it, and all `stimulus` lines that follow one another."""
     plan, remark = Plan(), ""
-    for number, line in enumerate(text.splitlines(), 1):
-        words = line.split()
+    for number, line in enumerate(text.split("\n"), 1):
+        words, where = line.split(), f"{path}: line {number}"
         if line.startswith("#"):
             remark = line[1:].strip()
             continue
         if words and words[0] in RULE_WORDS:
-            plan.rules.append(rule_of(words, remark, number))
-        elif words and words[0] == "length":
-            plan.length = int(words[1])
-        elif words and words[0] == "prior":
-            plan.prior = [int(word) for word in words[1:]]
-        elif words and words[0] == "rate":
-            plan.rate = int(words[1]), int(words[2])
+            plan.rules.append(rule_of(words, remark, number, where))
+        elif words and words[0] in ("length", "prior", "rate"):
+            read_head(plan, words, where)
+        elif words and words[0] not in OTHER_WORDS:
+            raise Refused(f"{where}: {words[0][:20]!r} begins no line of a plan")
         if not words or words[0] != "stimulus":
             remark = ""
     return plan
 
 
-def read_plan(path):
-    with opened(path) as file:
-        return plan_of(file.read())
+def read_head(plan: Plan, words: Sequence[str], where: str) -> None:
+    """Reads the line of length, prior or rate."""
+    values = [whole(word, where) for word in words[1:]]
+    if len(values) != {"length": 1, "rate": 2}.get(words[0], len(values) or 1):
+        raise Refused(f"{where}: {len(values)} numbers after {words[0]}")
+    if words[0] == "prior":
+        plan.prior = values
+    elif words[0] == "length":
+        plan.length = values[0]
+    else:
+        plan.rate = values[0], values[1]
+
+
+def read_plan(path: str) -> Plan:
+    plan = plan_of(text_of(path), path)
+    if plan.length < 1 or not plan.prior:
+        raise Refused(f"{path}: no plan: the line {'prior' if plan.length else 'length'} is missing")
+    return plan
+
+
+def require_agreement(bank: Sequence[BankItem], plan: Plan, path: str) -> None:
+    """Refuses a plan that names a point, an item or a quantity that the bank does not have."""
+    if len(plan.prior) != len(bank[0].information):
+        raise Refused(f"{path}: the prior has {len(plan.prior)} points, the bank {len(bank[0].information)}")
+    for rule in plan.rules:
+        if max(rule.members, default=0) >= len(bank) or rule.kind == "quantity" and rule.number >= len(bank[0].quantities):
+            raise Refused(f"{path}: line {rule.line}: an item or a quantity that the bank does not have")
 
 
 # ---------------------------------------------------------------- journal
 
-def read_journal(path):
+def read_journal(path: str) -> List[tuple]:
     """The entries of a journal's records, in order."""
     with opened(path, "rb") as file:
         data = file.read()
@@ -165,20 +272,19 @@ def read_journal(path):
     found, gate = [], 8
     while data[gate] == 1:
         length = int.from_bytes(data[gate + 1:gate + 5], "big")
-        payload = data[gate + 5:gate + 5 + length]
+        if not 1 <= length <= LONGEST_PAYLOAD or gate + 5 + length >= len(data):
+            raise Refused(f"{path}: the record at byte {gate} is cut off")
+        found.append(entry(f"{path}: byte {gate}", data[gate + 5:gate + 5 + length]))
         gate += 5 + length
-        if length == 0 or gate >= len(data):
-            raise Refused(f"{path}: a record is cut off")
-        found.append(entry(path, payload))
     return found
 
 
-def entry(path, payload):
+def entry(where: str, payload: bytes) -> tuple:
     """One entry, without its proof tree."""
-    def number(first, size):
+    def number(first: int, size: int) -> int:
         return int.from_bytes(payload[first:first + size], "big")
 
-    def items(first):
+    def items(first: int) -> FrozenSet[int]:
         return frozenset(k for k in range(512) if payload[first + k // 8] >> k % 8 & 1)
 
     kind, session = payload[0], number(1, 4)
@@ -192,36 +298,45 @@ def entry(path, payload):
         return Answered(session, number(5, 2), number(7, 1))
     if kind == 5 and len(payload) == 5:
         return Closed(session)
-    raise Refused(f"{path}: a record is no entry")
+    raise Refused(f"{where}: a record is no entry")
 
 
 @dataclass
 class Session:
     """One examinee's session, as a journal or the lines of a replay have it."""
-    booking: object = None
-    items: list = field(default_factory=list)
-    responses: list = field(default_factory=list)
-    served: list = field(default_factory=list)
-    eligible: frozenset = None
+    booking: Optional[int] = None
+    items: List[int] = field(default_factory=list)
+    responses: List[int] = field(default_factory=list)
+    served: List[Served] = field(default_factory=list)
+    eligible: Optional[FrozenSet[int]] = None
     aside: bool = False
     closed: bool = False
 
 
-def sessions_of(entries):
-    """The sessions of a journal's entries, by number."""
-    found = []
-    for one in entries:
-        if isinstance(one, Started):
+def sessions_of(entries: Iterable[tuple]) -> List[Session]:
+    """The sessions of a journal's entries, by number. Refused is an entry that can follow in no examination."""
+    found: List[Session] = []
+    for place, one in enumerate(entries):
+        if isinstance(one, Started) and one.session == len(found):
             found.append(Session(booking=one.booking, eligible=one.eligible))
-            continue
-        session = found[one.session]
-        if isinstance(one, SetAside):
-            session.aside = True
-        elif isinstance(one, Served):
-            session.items.append(one.item)
-            session.served.append(one)
-        elif isinstance(one, Answered):
-            session.responses.append(one.response)
-        else:
-            session.closed = True
+        elif isinstance(one, Started) or one.session >= len(found) or not follow(found[one.session], one):
+            raise Refused(f"the journal's record {place} ({type(one).__name__.lower()}) does not follow from those before it")
     return found
+
+
+def follow(session: Session, one: tuple) -> bool:
+    """Takes an entry into its session, where its step is the session's."""
+    if session.closed:
+        return False
+    if isinstance(one, SetAside):
+        session.aside = True
+    elif isinstance(one, Served) and one.step == len(session.items) == len(session.responses):
+        session.items.append(one.item)
+        session.served.append(one)
+    elif isinstance(one, Answered) and one.step == len(session.responses) < len(session.items):
+        session.responses.append(one.response)
+    elif isinstance(one, Closed):
+        session.closed = True
+    else:
+        return False
+    return True
