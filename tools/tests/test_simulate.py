@@ -1,17 +1,18 @@
-"""Simulated examinees through a stand-in for shadowd, and through the program; the report of a simulation."""
+"""Simulated examinees through a stand-in for shadowd, and through the program."""
 import json
 import math
 import os
-import re
 import sys
 import unittest
 
-from common import PROGRAM, Folder, needs_matplotlib, needs_numpy, needs_program
+from common import PROGRAM, Folder, needs_numpy, needs_program
+from shadowtools.command import Refused
+from shadowtools.formats.examination import Session, read_journal, sessions_of
 
 try:
     import numpy as np
-    import simulation
-    from irt import Item
+    from shadowtools.agency import simulation
+    from shadowtools.agency.irt import Item
 except ImportError:
     pass
 
@@ -35,11 +36,17 @@ class Examination(Folder):
         self.assertEqual(status, 0, errors)
 
     def simulate(self, *words, fake="", program=None):
+        """Four examinees, and none in the tails unless the words name some."""
         os.environ["FAKE"] = fake
         try:
-            return self.tool("simulate", "e", "--out", "run", "--program", program or self.fake, "--examinees", "4", *words)
+            return self.tool("simulate", "e", "--out", "run", "--program", program or self.fake, "--examinees", "4", "--tails", "none",
+                             *words)
         finally:
             os.environ["FAKE"] = ""
+
+    def sessions(self, name="run.journal"):
+        found = sessions_of(read_journal(self.path(name)))
+        return sorted((one.booking, one.items, one.responses) for one in found)
 
 
 @needs_numpy
@@ -63,9 +70,16 @@ class Examinees(unittest.TestCase):
             self.assertLess(abs((drawn == category).mean() - chance), 4 * math.sqrt(chance * (1 - chance) / 4000))
 
     def test_words_that_are_none(self):
-        for words in (["normal", "0"], ["points", "a"], ["other"]):
-            with self.assertRaises(simulation.Refused):
+        for words in (["normal", "0"], ["points", "a"], ["other"], ["normal", "nan", "1"], ["normal", "0", "-1"], ["normal", "0", "inf"],
+                      ["uniform", "1", "0"], ["points"], ["points", "7"]):
+            with self.subTest(words), self.assertRaises(Refused):
                 simulation.abilities(words, 3, 1)
+        with self.assertRaises(Refused):
+            simulation.abilities(["normal", "0", "1"], 3, -1)
+
+    def test_more_examinees_change_no_answer(self):
+        items, theta = [Item("x", "2PL", [1.0, 0.0])] * 3, np.array([0.5, -1.0, 2.0, 0.0])
+        self.assertTrue((simulation.drawn_responses(items, theta, 1.0, 7)[:2] == simulation.drawn_responses(items, theta[:2], 1.0, 7)).all())
 
 
 @needs_numpy
@@ -91,7 +105,6 @@ class Estimation(Examination):
 
 
 def simulation_session(items, responses):
-    from examination import Session
     return Session(booking=0, items=list(items), responses=list(responses), eligible=frozenset(range(512)))
 
 
@@ -108,11 +121,6 @@ class Simulations(Examination):
         self.assertEqual(status, 0, errors)
         self.assertIn("4 sessions of 4 items through serve: no rule of 1 is broken", said)
         self.assertEqual(self.sessions(), by_replay)
-
-    def sessions(self):
-        from examination import read_journal, sessions_of
-        found = sessions_of(read_journal(self.path("run.journal")))
-        return sorted((one.booking, one.items, one.responses) for one in found)
 
     def test_faults_end_it_with_their_place(self):
         for fake, words in (("rules", "rules are broken, the first in session 0: count 1 1 0 2 4 6 (row 0: evens"),
@@ -162,42 +170,67 @@ class Simulations(Examination):
             self.assertIn("entries ", said)
 
 
-@needs_matplotlib
-class Reports(Examination):
-    def test_the_page(self):
+@needs_numpy
+class Tails(Examination):
+    def test_they_follow_the_others(self):
+        """The sample is the same with and without them; they have a journal of their own."""
         self.simulate()
-        status, said, errors = self.tool("report", "e", "--run", "run", "--to", "page.html", "--target", "-1", "1", "0.5")
-        self.assertEqual((status, errors), (0, ""))
-        page = self.read("page.html")
-        for title in ("Recovery of ability", "Error by ability", "Exposure", "Eligibility", "Information", "Three examinees",
-                      "Forms step by step", "Rules of the plan", "Proofs, nodes and time"):
-            self.assertIn(f"<h2>{title}</h2>", page)
-        self.assertIn("No rule is broken.", page)
-        self.assertIn("tests between -1 and 1 with at least 0.5", page)
-        self.assertIsNone(re.search(r"<script|https?://", re.sub(r"base64,[A-Za-z0-9+/=]+", "", page)))
-        self.exposure_is_that_of_the_sessions(page, self.read("page.sessions.csv").splitlines()[1:])
-        self.tool("report", "e", "--run", "run", "--to", "again.html", "--target", "-1", "1", "0.5")
-        self.assertEqual(self.read("again.html"), page)
+        alone = self.sessions()
+        status, said, errors = self.simulate("--tails", "-2", "2.5", "--each", "2")
+        self.assertEqual((status, self.sessions()), (0, alone), errors)
+        self.assertIn("4 sessions of 4 items through replay, and 4 in the tails: no rule of 1 is broken", said)
+        self.assertEqual([booking for booking, _, _ in self.sessions("run.tails.journal")], [4, 5, 6, 7])
+        run = json.loads(self.read("run.run.json"))
+        self.assertEqual((run["examinees"], run["tails"], run["true"][4:]), (4, [-2, -2, 2.5, 2.5], [-2, -2, 2.5, 2.5]))
+        self.simulate()
+        self.assertFalse(os.path.exists(self.path("run.tails.journal")))
 
-    def exposure_is_that_of_the_sessions(self, page, lines):
-        """The greatest exposure and the number of items never shown, counted apart from the table of sessions."""
-        self.assertEqual(len(lines), 4)
-        shown = [name for line in lines for name in line.split(",")[8].split()]
-        most = max(shown.count(name) for name in set(shown)) / 4
-        self.assertIn(f"<td>items never shown<td>{8 - len(set(shown))} of 8", page)
-        self.assertIn(f"<td>greatest exposure<td>{most:.3f} ", page)
+    def test_by_default_one_for_each_forty(self):
+        self.assertEqual(self.tool("simulate", "e", "--out", "run", "--program", self.fake, "--examinees", "2")[0], 0)
+        self.assertEqual(json.loads(self.read("run.run.json"))["tails"], [-3, -2.5, -2, 2, 2.5, 3])
+        self.assertEqual(self.tool("simulate", "e", "--out", "run", "--program", self.fake, "--examinees", "2", "--true", "points", "0")[0], 0)
+        self.assertEqual(json.loads(self.read("run.run.json"))["tails"], [])
 
-    def test_a_broken_rule_is_told(self):
-        self.simulate(fake="rules")
-        status, _, _ = self.tool("report", "e", "--run", "run", "--to", "page.html")
-        self.assertEqual((status, "rules are broken.</span>" in self.read("page.html")), (1, True))
+    def test_with_a_rate_they_go_on_with_the_journal(self):
+        status, _, errors = self.tool("irt_bank", "--items", "items", "--attributes", "attributes", "--constraints", "constraints", "--out",
+                                      "e", "--grid", "-3", "3", "7", "--rate", "2", "3", "--key", "07" * 32)
+        self.assertEqual(status, 0, errors)
+        status, _, errors = self.simulate("--tails", "-2", "--each", "1", "--group", "3")
+        self.assertEqual(status, 0, errors)
+        self.assertEqual([booking for booking, _, _ in self.sessions("run.tails.journal")], [0, 1, 2, 3, 4])
 
-    def test_files_that_do_not_agree(self):
+
+@needs_numpy
+class Refusals(Examination):
+    def test_before_anything_is_simulated(self):
+        """Each is one line that names what is wrong, and leaves no file."""
+        for words, said in ((["--out", "nowhere/run"], "nothing can be written to the folder nowhere"),
+                            (["--program", "/bin/true"], "/bin/true: shadowd check, status 0"), (["--program", "/bin/echo"], "is no form"),
+                            (["--program", "none"], "none: No such file"), (["--seed", "-1"], "--seed -1"),
+                            (["--true", "normal", "nan", "1"], "--true normal nan 1"), (["--tails", "9"], "--tails 9"),
+                            (["--group", "0"], "at least 1"), (["--each", "0", "--tails", "1"], "at least 1"),
+                            (["--examinees", "65536", "--tails", "1", "--each", "1"], "more than 65536"), (["--clients", "17"], "1 to 16"),
+                            (["--rules", "none"], "none: No such file")):
+            with self.subTest(words):
+                status, _, errors = self.simulate(*words)
+                self.assertEqual((status, errors.count("\n"), said in errors), (1, 1, True), errors)
+                self.assertFalse(os.path.exists(self.path("run.journal")))
+
+    def test_a_bank_or_plan_of_another_map(self):
+        for name in ("e.bank.csv", "e.plan.txt"):
+            text = self.read(name)
+            self.write(name, text.replace("1", "2", 1))
+            status, _, errors = self.simulate()
+            self.assertEqual((status, f"{name}: not the" in errors, "SHA-256" in errors), (1, True, True), errors)
+            self.write(name, text)
+
+    def test_a_run_that_is_none(self):
         self.simulate()
         run = json.loads(self.read("run.run.json"))
-        self.write("run.run.json", json.dumps(dict(run, true=[0.0])))
-        status, _, errors = self.tool("report", "e", "--run", "run", "--to", "page.html")
-        self.assertEqual((status, "is not the journal of" in errors), (1, True))
+        for text in ("", "[]", "{}", json.dumps(dict(run, true=["x"])), json.dumps(dict(run, examinees=0)),
+                     json.dumps({name: value for name, value in run.items() if name != "sha256"})):
+            with self.subTest(text[:40]), self.assertRaises(Refused):
+                simulation.read_run(self.write("other", text))
 
 
 if __name__ == "__main__":

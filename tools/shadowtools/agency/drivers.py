@@ -76,11 +76,12 @@ def next_request(examinee, request, reply, responses):
     raise Stopped(f"examinee {examinee}: {request!r} was answered {reply!r}")
 
 
-def by_replay(replay, responses, group, progress):
-    """Takes all examinees through their sessions, `group` at a time; the seconds of each round."""
+def by_replay(replay, responses, group, progress, examinees=None):
+    """Takes the examinees (default all) through their sessions, `group` at a time; the seconds of each round."""
     seconds, given = [], 0
-    for first in range(0, len(responses), group):
-        asked = [(k, f"begin {k}") for k in range(first, min(first + group, len(responses)))]
+    examinees = range(len(responses)) if examinees is None else examinees
+    for first in range(0, len(examinees), group):
+        asked = [(k, f"begin {k}") for k in examinees[first:first + group]]
         while asked:
             begun = time.perf_counter()
             replies = replay.replies([request for _, request in asked])
@@ -189,10 +190,11 @@ class Client:
             raise Stopped(f"examinee {k}, session {told['session']}: {told['state']}")
 
 
-def by_http(server, responses, clients, progress):
-    """Takes all examinees through their sessions, `clients` at once; the seconds of each request, and the exposure."""
+def by_http(server, responses, clients, progress, examinees=None):
+    """Takes the examinees (default all) through their sessions, `clients` at once; the seconds of each request, and the
+    exposure."""
     waiting, faults = queue.SimpleQueue(), []
-    for k in range(len(responses)):
+    for k in range(len(responses)) if examinees is None else examinees:
         waiting.put(k)
     made = [Client(server.connection()) for _ in range(clients)]
 

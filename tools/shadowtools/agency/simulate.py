@@ -1,0 +1,298 @@
+"""Takes simulated examinees through an examination, and counts every rule.
+
+usage: simulate.py PREFIX --out OUT [options]      PREFIX.bank.csv, PREFIX.plan.txt, PREFIX.map.json: irt_bank.py's
+
+  --examinees N     default 1000; at most 65,536 with those of the tails
+  --seed N          default 1: the same seed gives the same abilities and answers
+  --true ..         normal MEAN SD (default normal 0 1), uniform LOW HIGH, or points T T .. with equal numbers: a conditional
+                    simulation, for which report.py gives exposure and error at each point
+  --tails T T ..    abilities at which more examinees are taken through after the others; default -3 -2.5 -2 2 2.5 3, none
+                    where --true names points. They show the ends of the scale, and count in no total. `--tails none`
+  --each N          how many at each of them; default 1 for each 40 examinees
+  --through WAY     replay (default) or serve: rounds of `shadowd replay`, or HTTP against `shadowd serve`
+  --group N         examinees at once through replay; default all, and 25 where the plan has an exposure rate, since
+                    the draws of a session see only sessions that are finished
+  --clients N       connections at once through serve, 1 to 16; default 4
+  --rules PLAN      the rules that are counted; default those of the plan
+  --program SHADOWD default $SHADOWD, else crates/shadowd/out/shadowd
+
+Written: OUT.journal, the journal; OUT.tails.journal, that of the tails, which goes on with the first where the plan has an
+exposure rate; OUT.run.json, the examinees, how they were taken through, and the SHA-256 of bank, plan, map, program and
+journals. report.py reads all. The journal is kept in memory (/dev/shm, where there is one) until the end, so that no disk is
+waited for. The answers of an examinee are drawn beforehand for every item. At the end the journals are read, the items of
+each session are held against every rule of the plan by a reader that shares nothing with the product, and the program's
+exposure counts against those of the journal. Exit status: 0; 1 with the place of a broken rule, a refusal or another status.
+"""
+import argparse
+import datetime
+import json
+import os
+import re
+import shutil
+import subprocess
+import sys
+import tempfile
+import time
+from dataclasses import dataclass, field
+from typing import List, Optional, Sequence, Tuple
+
+from shadowtools.needs import require
+
+require("simulate.py", "numpy")
+
+import numpy as np  # noqa: E402
+
+from shadowtools.agency.custody import said_by, sha256_of  # noqa: E402
+from shadowtools.agency.drivers import (  # noqa: E402
+    Progress, Replay, Server, Stopped, by_http, by_replay, replay_exposure)
+from shadowtools.agency.simulation import (  # noqa: E402
+    Examination, abilities, broken_rules, drawn_responses, finite, load)
+from shadowtools.command import Refused, as_command  # noqa: E402
+from shadowtools.formats.examination import Session, read_journal, read_plan, sessions_of  # noqa: E402
+from shadowtools.formats.tables import runs  # noqa: E402
+from shadowtools.places import BUILT, TOP  # noqa: E402
+
+MOST_SESSIONS, MOST_BYTES = 65_536, 536_870_912
+MEMORY = "/dev/shm"
+TAILS = ["-3", "-2.5", "-2", "2", "2.5", "3"]
+
+
+def options(words):
+    parser = argparse.ArgumentParser(usage=__doc__.partition("usage: ")[2], add_help=False)
+    parser.add_argument("prefix", nargs="?")
+    parser.add_argument("--out")
+    parser.add_argument("--examinees", type=int, default=1000)
+    parser.add_argument("--seed", type=int, default=1)
+    parser.add_argument("--true", nargs="+", default=["normal", "0", "1"])
+    parser.add_argument("--tails", nargs="+")
+    parser.add_argument("--each", type=int)
+    parser.add_argument("--through", choices=("replay", "serve"), default="replay")
+    parser.add_argument("--group", type=int)
+    parser.add_argument("--clients", type=int, default=4)
+    parser.add_argument("--rules")
+    parser.add_argument("--program", default=BUILT)
+    parser.add_argument("-h", "--help", action="store_true")
+    found = parser.parse_args(words)
+    if found.help or not found.prefix or not found.out:
+        print(__doc__, file=sys.stdout if found.help else sys.stderr)
+        sys.exit(0 if found.help else 2)
+    if not 1 <= found.examinees <= MOST_SESSIONS or not 1 <= found.clients <= 16:
+        raise Refused(f"--examinees is 1 to {MOST_SESSIONS}, --clients 1 to 16")
+    if (found.group is not None and found.group < 1) or (found.each is not None and found.each < 1):
+        raise Refused("--group and --each are at least 1")
+    return found
+
+
+def tails_of(given) -> List[float]:
+    """The true abilities of the examinees of the tails."""
+    words = given.tails or (["none"] if given.true[0] == "points" else TAILS)
+    if words == ["none"]:
+        return []
+    points = finite(words)
+    if not points:
+        raise Refused(f"--tails {' '.join(words)}: abilities from -6 to 6, or none")
+    found = np.repeat(points, given.each or -(-given.examinees // 40)).tolist()
+    if given.examinees + len(found) > MOST_SESSIONS:
+        raise Refused(f"{given.examinees} examinees and {len(found)} of the tails are more than {MOST_SESSIONS}; --tails none")
+    return found
+
+
+def writable(out: str) -> None:
+    """Refuses an --out that nothing can be written to, before anything is simulated."""
+    folder = os.path.dirname(out) or "."
+    if not os.path.isdir(folder) or not os.access(folder, os.W_OK | os.X_OK):
+        raise Refused(f"{out}: nothing can be written to the folder {folder}")
+    for name in (out + ".journal", out + ".tails.journal", out + ".run.json"):
+        if os.path.isdir(name):
+            raise Refused(f"{name}: a folder")
+
+
+def roomy(text: str) -> str:
+    """The plan with the greatest limits of sessions and of the journal."""
+    kept = re.sub(r"(?m)^(sessions|journal) .*\n?", "", text)
+    return f"{kept.rstrip()}\nsessions {MOST_SESSIONS}\njournal {MOST_BYTES}\n"
+
+
+def with_base(program: str, files: Sequence[str], text: str) -> str:
+    """The plan with the base form that each run would assemble again, where the plan has none."""
+    if re.search(r"(?m)^base ", text):
+        return text
+    line = said_by(program, "assemble", *files)[0]
+    if not re.fullmatch(r"form( \d+)+", line):
+        raise Refused(f"{program}: shadowd assemble: {line[:80]!r} is no form")
+    return f"{text}base {runs(map(int, line.split()[1:]))}\n"
+
+
+# ---------------------------------------------------------------- examinees through the program
+
+@dataclass
+class Stage:
+    """Examinees that are taken through over one journal: the sample, or the tails. What is found is filled in later."""
+    bookings: range
+    journal: str
+    seconds: List[Tuple[int, float]] = field(default_factory=list)
+    exposure: Tuple[int, list] = (0, [])
+    said: str = ""
+    sessions: List[Session] = field(default_factory=list)
+
+
+def taken_through(given, examination: Examination, responses: np.ndarray, stage: Stage, folder: str) -> None:
+    """Takes the examinees of a stage through; plan and journal are in the folder."""
+    bank, plan, journal = examination.files()[0], os.path.join(folder, "plan.txt"), os.path.join(folder, "journal")
+    progress = Progress(len(stage.bookings) * examination.plan.length,
+                        lambda text: print(text, file=sys.stderr, flush=True))
+    if given.through == "replay":
+        replay = Replay(os.path.abspath(given.program), bank, plan, journal, folder)
+        group = given.group or (25 if controlled(examination) else len(stage.bookings))
+        stage.seconds = by_replay(replay, responses, group, progress, stage.bookings)
+        stage.exposure, stage.said = replay_exposure(replay, len(examination.items)), f"{replay.runs} runs of replay"
+        return
+    clients = min(given.clients, len(stage.bookings))
+    server = Server(os.path.abspath(given.program), bank, plan, journal, clients)
+    try:
+        stage.seconds, stage.exposure = by_http(server, responses, clients, progress, stage.bookings)
+        stage.said = server.end()
+    finally:
+        server.process.kill()
+
+
+def controlled(examination: Examination) -> bool:
+    return examination.plan.rate[0] < examination.plan.rate[1]
+
+
+def keep(journal: str, path: str) -> None:
+    """Copies the journal out of memory; an older one of another simulation never stays."""
+    try:
+        if os.path.exists(path):
+            os.unlink(path)
+        if os.path.exists(journal):
+            shutil.copyfile(journal, path)
+    except OSError as error:
+        raise Refused(f"{path}: {error.strerror}")
+
+
+def take(given, examination: Examination, responses: np.ndarray, stages: Sequence[Stage]) -> None:
+    """Takes all stages through, and keeps and reads the journal of each.
+
+    Where the plan has an exposure rate, a stage goes on over the journal of the one before: the draws see its counts."""
+    with tempfile.TemporaryDirectory(dir=MEMORY if os.access(MEMORY, os.W_OK) else None) as folder:
+        with open(examination.files()[1], encoding="utf-8") as file:
+            text = with_base(given.program, examination.files(), roomy(file.read()))
+        with open(os.path.join(folder, "plan.txt"), "w", encoding="utf-8") as file:
+            file.write(text)
+        journal = os.path.join(folder, "journal")
+        for stage in stages:
+            if os.path.exists(journal) and not controlled(examination):
+                os.unlink(journal)
+            try:
+                taken_through(given, examination, responses, stage, folder)
+            finally:
+                keep(journal, stage.journal)
+            stage.sessions = sessions_of(read_journal(stage.journal))
+
+
+# ---------------------------------------------------------------- what is tested at the end
+
+def answers_kept(stage: Stage, responses: np.ndarray) -> Optional[str]:
+    """The first fault of a journal that does not have each examinee's whole session with the drawn answers."""
+    bookings = sorted(session.booking for session in stage.sessions)
+    if bookings not in (list(stage.bookings), list(range(stage.bookings.stop))):
+        return f"the journal has {len(bookings)} bookings, and not each examinee once"
+    for number, session in enumerate(stage.sessions):
+        wanted = [int(responses[session.booking][item]) for item in session.items]
+        if session.responses != wanted or session.closed:
+            return f"session {number}: the journal's answers are not those of examinee {session.booking}"
+    return None
+
+
+def exposure_differs(stage: Stage, items: int) -> Optional[str]:
+    """Where the program's exposure counts are not those of the journal."""
+    sessions, (finished, rows) = stage.sessions, stage.exposure
+    if finished != len(sessions):
+        return f"{finished} sessions are counted as finished, the journal has {len(sessions)}"
+    for item in range(items):
+        shown = sum(item in session.items for session in sessions)
+        eligible = sum(session.aside or item in session.eligible for session in sessions)
+        if (shown, eligible) != tuple(rows[item]):
+            return f"item {item}: shown {rows[item][0]} and eligible {rows[item][1]}, the journal has {shown} and {eligible}"
+    return None
+
+
+def verdict(examination: Examination, rules, stage: Stage, responses: np.ndarray) -> Optional[str]:
+    """The first fault, or None."""
+    fault = answers_kept(stage, responses) or exposure_differs(stage, len(examination.items))
+    if fault:
+        return fault
+    broken = broken_rules(rules, stage.sessions, examination.bank)
+    if broken:
+        first = broken[0]
+        return (f"{len(broken)} rules are broken, the first in session {first.session}: {first.rule.text} "
+                f"({first.rule.label}) has {first.value}")
+    lengths = {len(session.items) for session in stage.sessions}
+    if lengths != {examination.plan.length}:
+        return f"tests of {sorted(lengths)} items, the plan has {examination.plan.length}"
+    return None
+
+
+# ---------------------------------------------------------------- what is written
+
+def revision() -> str:
+    """The commit of the repository that these tools are in, as far as git knows one."""
+    try:
+        done = subprocess.run(["git", "-C", TOP, "describe", "--always", "--dirty", "--abbrev=12"], stdin=subprocess.DEVNULL,
+                              capture_output=True, text=True)
+    except OSError:
+        return "not known"
+    return done.stdout.strip() if done.returncode == 0 else "not known"
+
+
+def write_run(given, examination: Examination, theta: np.ndarray, line: str, stages: Sequence[Stage], wall: float) -> None:
+    """OUT.run.json. `examinees` is the number of the sample; the abilities of the tails follow in `true`."""
+    digests = dict(examination.sha256, program=sha256_of(given.program))
+    digests.update((("journal", "tails")[k], sha256_of(stage.journal)) for k, stage in enumerate(stages))
+    run = {"prefix": given.prefix, "true": theta.tolist(), "examinees": given.examinees, "of": given.true,
+           "tails": theta[given.examinees:].tolist(), "seed": given.seed, "bank": line, "through": given.through,
+           "said": stages[0].said, "wall": wall, "seconds": stages[0].seconds,
+           "clients": given.clients if given.through == "serve" else None,
+           "date": datetime.datetime.now(datetime.timezone.utc).strftime("%Y-%m-%d %H:%M UTC"), "revision": revision(),
+           "sha256": digests}
+    try:
+        with open(given.out + ".run.json", "w", encoding="utf-8") as file:
+            json.dump(run, file)
+    except OSError as error:
+        raise Refused(f"{given.out}.run.json: {error.strerror}")
+
+
+def main(words: Sequence[str]) -> int:
+    given = options(words)
+    tails = tails_of(given)
+    writable(given.out)
+    examination = load(given.prefix)
+    rules = read_plan(given.rules).rules if given.rules else examination.plan.rules
+    theta = np.concatenate([abilities(given.true, given.examinees, given.seed), tails])
+    responses = drawn_responses(examination.items, theta, examination.scaling, given.seed)
+    line = said_by(given.program, "check", *examination.files())[0]
+    stages = [Stage(range(given.examinees), given.out + ".journal")]
+    if tails:
+        stages.append(Stage(range(given.examinees, len(theta)), given.out + ".tails.journal"))
+    elif os.path.exists(given.out + ".tails.journal"):
+        os.unlink(given.out + ".tails.journal")
+    begun = time.perf_counter()
+    take(given, examination, responses, stages)
+    wall = time.perf_counter() - begun
+    fault = next(filter(None, (verdict(examination, rules, stage, responses) for stage in stages)), None)
+    write_run(given, examination, theta, line, stages, wall)
+    if fault:
+        print(fault, file=sys.stderr)
+        return 1
+    more = f", and {len(tails)} in the tails" if tails else ""
+    print(f"{given.examinees} sessions of {examination.plan.length} items through {given.through}{more}: no rule of {len(rules)} "
+          f"is broken; {wall:.1f} s; {stages[0].said}")
+    return 0
+
+
+command = as_command(main)
+
+
+if __name__ == "__main__":
+    sys.exit(command())

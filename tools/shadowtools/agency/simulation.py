@@ -1,0 +1,175 @@
+"""What simulate.py and report.py share: the examination that is simulated, the examinees, and the estimates.
+
+Examinees are drawn beforehand: an ability each, and for each item of the bank one response, so that two plans, grids
+or versions of the program can be compared on the same answers. Responses follow the exact parameters of the map, not
+the rounded tables of the bank.
+"""
+import json
+from dataclasses import dataclass
+from typing import Dict, List, Sequence, Tuple
+
+import numpy as np
+
+from shadowtools.agency.custody import read_documents
+from shadowtools.agency.irt import Item
+from shadowtools.command import Refused
+from shadowtools.formats.examination import BankItem, Plan, Rule, Session, opened
+
+FINE = np.linspace(-6, 6, 1201)
+MOST_SEED = 2 ** 63 - 1
+
+
+@dataclass
+class Examination:
+    """Bank, plan and map of a prefix, as irt_bank.py writes them, with the SHA-256 of each file."""
+    prefix: str
+    bank: List[BankItem]
+    plan: Plan
+    map: dict
+    items: List[Item]
+    sha256: Dict[str, str]
+
+    @property
+    def theta(self):
+        return np.array(self.map["theta"])
+
+    @property
+    def scaling(self):
+        return self.map["D"]
+
+    def files(self):
+        return self.prefix + ".bank.csv", self.prefix + ".plan.txt"
+
+
+def load(prefix: str) -> Examination:
+    """The examination of a prefix. Refused is a bank or a plan that is not the map's, by its digest."""
+    documents = read_documents(prefix + ".bank.csv", prefix + ".plan.txt", prefix + ".map.json")
+    found = documents.map
+    items = [Item(r["id"], r["model"], r["parameters"], r["attributes"], r["passage"]) for r in found["items"]]
+    return Examination(prefix, documents.bank, documents.plan, found, items, documents.sha256)
+
+
+# ---------------------------------------------------------------- examinees
+
+def abilities(words: Sequence[str], number: int, seed: int) -> np.ndarray:
+    """True abilities: normal MEAN SD, uniform LOW HIGH, or points T T .. with equal numbers at each."""
+    if not 0 <= seed <= MOST_SEED:
+        raise Refused(f"--seed {seed}: 0 to {MOST_SEED}")
+    rng = np.random.default_rng([seed, 1])
+    numbers = finite(words[1:])
+    if words[0] == "normal" and len(numbers) == 2 and numbers[1] >= 0:
+        return rng.normal(*numbers, number)
+    if words[0] == "uniform" and len(numbers) == 2 and numbers[0] <= numbers[1]:
+        return rng.uniform(*numbers, number)
+    if words[0] == "points" and numbers:
+        return np.repeat(numbers, -(-number // len(numbers)))[:number]
+    raise Refused(f"--true {' '.join(words)}: normal MEAN SD, uniform LOW HIGH, or points T T .., with abilities from -6 to 6 "
+                  "and an SD of 0 to 6")
+
+
+def finite(words: Sequence[str]) -> List[float]:
+    """The words as numbers from -6 to 6, the range of the fine grid; none where a word is no such number."""
+    try:
+        numbers = [float(word) for word in words]
+    except ValueError:
+        return []
+    return numbers if all(-6 <= number <= 6 for number in numbers) else []
+
+
+def drawn_responses(items: Sequence[Item], theta: np.ndarray, scaling: float, seed: int) -> np.ndarray:
+    """By examinee and item the response, drawn by the item's model at the examinee's ability.
+
+    The first examinees have the same answers however many follow them."""
+    uniform = np.random.default_rng([seed, 2]).random((len(theta), len(items)))
+    columns = [(uniform[:, k] > np.cumsum(item.probabilities(theta, scaling), 0)[:-1]).sum(0)
+               for k, item in enumerate(items)]
+    return np.stack(columns, 1)
+
+
+# ---------------------------------------------------------------- estimates
+
+@dataclass
+class Estimates:
+    """By session: the mode on the grid (shadowd's), the continuous mode, mean and SD of the posterior, and the MLE."""
+    mode: np.ndarray
+    map: np.ndarray
+    eap: np.ndarray
+    deviation: np.ndarray
+    mle: np.ndarray
+
+
+def prior_on(words: Sequence[str], theta: np.ndarray) -> np.ndarray:
+    """The logarithm of the prior of a map, up to a constant."""
+    if words == ["flat"]:
+        return np.zeros(len(theta))
+    mean, deviation = map(float, words)
+    return -((theta - mean) / deviation) ** 2 / 2
+
+
+def grid_sums(examination: Examination, items: Sequence[int], responses: Sequence[int]) -> np.ndarray:
+    """By number of answers given and point, the sums that shadowd takes the mode of."""
+    logs = [examination.bank[i].logs[r] for i, r in zip(items, responses)]
+    return np.cumsum([examination.plan.prior] + logs, 0)
+
+
+def estimates(examination: Examination, sessions: Sequence[Session]) -> Estimates:
+    """All estimates of the sessions from the same answers. The MLE is kept on the grid's range."""
+    exact = [np.log(np.maximum(item.probabilities(FINE, examination.scaling), 1e-300)) for item in examination.items]
+    prior = prior_on(examination.map["prior"], FINE)
+    theta = examination.theta
+    inside = (FINE >= theta[0] - 1e-9) & (FINE <= theta[-1] + 1e-9)
+    rows = []
+    for session in sessions:
+        like = sum(exact[i][r] for i, r in zip(session.items, session.responses))
+        posterior = np.exp(like + prior - (like + prior).max())
+        posterior /= posterior.sum()
+        mean = float(posterior @ FINE)
+        rows.append([theta[grid_sums(examination, session.items, session.responses)[-1].argmax()],
+                     FINE[(like + prior).argmax()], mean, np.sqrt(posterior @ (FINE - mean) ** 2),
+                     FINE[inside][like[inside].argmax()]])
+    return Estimates(*np.array(rows).T)
+
+
+# ---------------------------------------------------------------- what a simulation leaves
+
+@dataclass
+class Broken:
+    """A rule that the items of a session do not meet, with its value there."""
+    session: int
+    rule: Rule
+    value: int
+
+
+def broken_rules(rules: Sequence[Rule], sessions: Sequence[Session], bank: Sequence[BankItem]) -> List[Broken]:
+    """Each rule that the items of a whole session do not meet, counted apart from the product."""
+    return [Broken(number, rule, rule.value(session.items, bank))
+            for number, session in enumerate(sessions) for rule in rules if not rule.met(session.items, bank)]
+
+
+def parted(sessions: Sequence[Session], examinees: int) -> Tuple[List[Session], List[Session]]:
+    """The sessions of the sample, whose bookings are below `examinees`, and those of the tails."""
+    return ([session for session in sessions if session.booking < examinees],
+            [session for session in sessions if session.booking >= examinees])
+
+
+# The fields of a run and their types in JSON.
+FIELDS = {"true": list, "examinees": int, "of": list, "tails": list, "seed": int, "bank": str, "through": str, "said": str,
+          "wall": float, "seconds": list, "clients": (int, type(None)), "date": str, "revision": str, "sha256": dict}
+
+
+def read_run(path: str) -> dict:
+    """The run that simulate.py wrote. Refused is a file that lacks one of its fields, or has one of another type."""
+    with opened(path) as file:
+        try:
+            run = json.load(file)
+        except ValueError as error:
+            raise Refused(f"{path}: no JSON: {error}")
+    if not isinstance(run, dict):
+        raise Refused(f"{path}: no run of simulate.py")
+    for name, kind in FIELDS.items():
+        if not isinstance(run.get(name), kind):
+            raise Refused(f"{path}: no run of this simulate.py: {name} is missing or of another type; simulate again")
+    numbers = all(isinstance(value, (int, float)) and np.isfinite(value) for value in run["true"])
+    if not numbers or not 0 < run["examinees"] <= len(run["true"]):
+        raise Refused(f"{path}: the abilities of {run['examinees']} examinees are not there as finite numbers")
+    return run
