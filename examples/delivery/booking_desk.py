@@ -1,0 +1,146 @@
+#!/usr/bin/env python3
+"""The application's own file: one-time codes, who has the seat of a booking, and what was shown and answered when.
+
+usage: booking_desk.py SETTINGS BOOKING ..      prints a new code for each booking
+
+An answer is written here before it is sent to shadowd, and marked after shadowd has acknowledged it. So it survives that
+either of the two ends. Codes are kept as keyed digests. They are looked up by the digest, so the time shows nothing of a code.
+"""
+import contextlib
+import hmac
+import secrets
+import sqlite3
+import sys
+import threading
+from typing import NamedTuple
+
+from settings import BadInput, read_settings
+
+ALPHABET, LENGTH = "0123456789ABCDEFGHJKMNPQRSTVWXYZ", 12  # 60 bits, with no I, L, O or U
+MISREAD = str.maketrans("OIL", "011", " -")
+TABLES = """
+PRAGMA journal_mode = WAL;
+CREATE TABLE IF NOT EXISTS codes (digest TEXT PRIMARY KEY, booking INTEGER NOT NULL, used_at TEXT);
+CREATE TABLE IF NOT EXISTS seats (booking INTEGER PRIMARY KEY, seat TEXT NOT NULL, begun_at TEXT);
+CREATE TABLE IF NOT EXISTS answers (booking INTEGER, step INTEGER, item INTEGER NOT NULL, shown_at TEXT NOT NULL,
+    option INTEGER, response INTEGER, given_at TEXT, kept_at TEXT, PRIMARY KEY (booking, step));
+"""
+NOW = "strftime('%Y-%m-%dT%H:%M:%fZ')"
+
+
+class Given(NamedTuple):
+    """An answer that the examinee gave."""
+    step: int
+    item: int
+    response: int
+
+
+class Desk:
+    def __init__(self, path, secret):
+        self.path, self.key, self.own = path, secret.encode(), threading.local()
+        with self.opened() as file:
+            file.executescript(TABLES)
+
+    @contextlib.contextmanager
+    def opened(self):
+        """The connection of this thread, with one transaction, which is on the disk at the end of the block."""
+        if not hasattr(self.own, "file"):
+            self.own.file = sqlite3.connect(self.path, timeout=10)
+        with self.own.file as file:
+            yield file
+
+    def digest(self, code):
+        return hmac.new(self.key, b"code " + code.upper().translate(MISREAD).encode(), "sha256").hexdigest()
+
+    def issue(self, booking):
+        """A new code for a booking, as it is printed. A code that the booking has and did not use is void."""
+        code = "".join(secrets.choice(ALPHABET) for _ in range(LENGTH))
+        with self.opened() as file:
+            file.execute("DELETE FROM codes WHERE booking = ? AND used_at IS NULL", (booking,))
+            file.execute("INSERT INTO codes VALUES (?, ?, NULL)", (self.digest(code), booking))
+        return "-".join(code[at:at + 4] for at in range(0, LENGTH, 4))
+
+    def admit(self, code):
+        """The booking of a code that was not used before, with its new seat, or None. The code is used then."""
+        digest = self.digest(code)
+        with self.opened() as file:
+            used = file.execute(f"UPDATE codes SET used_at = {NOW} WHERE digest = ? AND used_at IS NULL", (digest,))
+            if used.rowcount == 0:
+                return None
+            (booking,) = file.execute("SELECT booking FROM codes WHERE digest = ?", (digest,)).fetchone()
+        return booking, self.take_seat(booking)
+
+    def take_seat(self, booking):
+        """A new seat of a booking. The seat before it is void."""
+        seat = secrets.token_urlsafe(16)
+        with self.opened() as file:
+            file.execute("INSERT INTO seats VALUES (?, ?, NULL) ON CONFLICT (booking) DO UPDATE SET seat = excluded.seat",
+                         (booking, seat))
+        return seat
+
+    def seat(self, booking):
+        """The seat of a booking, if there is one, and whether its test has begun."""
+        with self.opened() as file:
+            found = file.execute("SELECT seat, begun_at FROM seats WHERE booking = ?", (booking,)).fetchone()
+        return (found[0], found[1] is not None) if found else (None, False)
+
+    def begin(self, booking):
+        with self.opened() as file:
+            file.execute(f"UPDATE seats SET begun_at = {NOW} WHERE booking = ? AND begun_at IS NULL", (booking,))
+
+    def show(self, booking, step, item):
+        """Notes that shadowd waits for an answer to this item. An answer that is on its way stays."""
+        with self.opened() as file:
+            file.execute(f"INSERT INTO answers (booking, step, item, shown_at) VALUES (?, ?, ?, {NOW}) "
+                         "ON CONFLICT (booking, step) DO UPDATE SET item = excluded.item, shown_at = excluded.shown_at, "
+                         "option = NULL, response = NULL, given_at = NULL, kept_at = NULL "
+                         "WHERE item != excluded.item OR kept_at IS NOT NULL", (booking, step, item))
+
+    def shown(self, booking, step):
+        """The item that was shown at a step and the option that was chosen, or None."""
+        with self.opened() as file:
+            return file.execute("SELECT item, option FROM answers WHERE booking = ? AND step = ?", (booking, step)).fetchone()
+
+    def give(self, booking, step, option, response):
+        """Takes an answer to the item of a step: whether it is the first, which alone counts."""
+        with self.opened() as file:
+            return file.execute(f"UPDATE answers SET option = ?, response = ?, given_at = {NOW} WHERE booking = ? AND step = ? "
+                                "AND option IS NULL", (option, response, booking, step)).rowcount == 1
+
+    def settle(self, booking, step, response):
+        """Marks an answer as acknowledged, with the response that shadowd has. None takes the answer back."""
+        change = f"kept_at = {NOW}" if response is not None else "option = NULL, given_at = NULL"
+        with self.opened() as file:
+            file.execute(f"UPDATE answers SET response = ?, {change} WHERE booking = ? AND step = ?", (response, booking, step))
+
+    def given(self, booking, acknowledged):
+        """The answers of a booking by step that shadowd has acknowledged, or those that are on their way to it."""
+        with self.opened() as file:
+            rows = file.execute("SELECT step, item, response FROM answers WHERE booking = ? AND given_at IS NOT NULL "
+                                "AND (kept_at IS NOT NULL) = ? ORDER BY step", (booking, acknowledged))
+            return [Given(*row) for row in rows]
+
+    def counts(self):
+        """How many codes were issued, how many of them used, and how many answers are on their way."""
+        with self.opened() as file:
+            return file.execute("SELECT (SELECT count(*) FROM codes), (SELECT count(used_at) FROM codes), "
+                                "(SELECT count(*) FROM answers WHERE given_at IS NOT NULL AND kept_at IS NULL)").fetchone()
+
+
+def main(words):
+    if len(words) < 2 or not all(word.isascii() and word.isdigit() and int(word) < 2**63 for word in words[1:]):
+        print(__doc__.split("\n\n")[1], file=sys.stderr)
+        return 2
+    try:
+        settings = read_settings(words[0])
+        desk = Desk(settings.store, settings.secret_of("secret"))
+    except (BadInput, OSError) as error:
+        print(error, file=sys.stderr)
+        return 1
+    for booking in words[1:]:
+        print(booking, desk.issue(int(booking)))
+    return 0
+
+
+if __name__ == "__main__":
+    sys.exit(main(sys.argv[1:]))

@@ -1,0 +1,59 @@
+"""What both applications share: the headers of each page, the page of a fault, and the server that they run under."""
+import sqlite3
+import sys
+
+import waitress
+from flask import render_template, request
+from flask_wtf.csrf import CSRFError
+from werkzeug.exceptions import HTTPException, ServiceUnavailable
+
+from settings import BadInput, read_settings
+
+HEADERS = {
+    "Content-Security-Policy": "default-src 'none'; style-src 'self'; img-src data:; form-action 'self'; base-uri 'none'; "
+                               "frame-ancestors 'none'",
+    "X-Frame-Options": "DENY",
+    "X-Content-Type-Options": "nosniff",
+    "Referrer-Policy": "same-origin",
+    "Cross-Origin-Opener-Policy": "same-origin",
+    "Cache-Control": "no-store",
+}
+
+
+def secured(app, home):
+    """The application with these headers, and with a page for each fault that leads to `home`."""
+    def fault_page(fault):
+        if isinstance(fault, CSRFError):
+            fault.description = "This page has expired, or it belongs to another sign-in. Nothing was recorded from it."
+        return render_template("fault.html", fault=fault, home=home), fault.code
+
+    def store_fault(fault):
+        print(f"delivery: {fault}", file=sys.stderr, flush=True)
+        return fault_page(ServiceUnavailable("Your last answer is perhaps not kept. Go on, and answer the item that you see then."))
+
+    def with_headers(response):
+        response.headers.update(HEADERS)
+        return response
+
+    app.register_error_handler(HTTPException, fault_page)
+    app.register_error_handler(sqlite3.Error, store_fault)
+    app.after_request(with_headers)
+    return app
+
+
+def run(make_app, address, words):
+    """Serves the application of the settings that the words name, at the address of that name."""
+    if len(words) != 1:
+        print("usage: SETTINGS", file=sys.stderr)
+        return 2
+    try:
+        settings = read_settings(words[0])
+        app = make_app(settings)
+    except (BadInput, OSError) as error:
+        print(error, file=sys.stderr)
+        return 1
+    host, _, port = getattr(settings, address).rpartition(":")
+    trusted = {"trusted_proxy": settings.proxy, "trusted_proxy_headers": {"x-forwarded-for", "x-forwarded-proto"}}
+    waitress.serve(app, host=host, port=int(port), threads=16, ident=None, channel_timeout=30, max_request_body_size=8192,
+                   clear_untrusted_proxy_headers=True, **(trusted if settings.proxy else {}))
+    return 0
