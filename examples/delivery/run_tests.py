@@ -1,0 +1,32 @@
+#!/usr/bin/env python3
+"""Runs the tests of the delivery application; the last line is 'N passed, M failed'.
+
+usage: run_tests.py [PROGRAM]      the built shadowd; default crates/shadowd/out/shadowd
+
+Tests whose packages, or whose program, are not there are skipped by name. They run under Debian's interpreter, if it is there.
+"""
+import os
+import sys
+import unittest
+
+HERE = os.path.dirname(os.path.abspath(__file__))
+DEBIAN = "/usr/bin/python3"
+
+
+def main():
+    if os.path.realpath(sys.executable) != os.path.realpath(DEBIAN) and os.access(DEBIAN, os.X_OK):
+        os.execv(DEBIAN, [DEBIAN, os.path.abspath(__file__), *sys.argv[1:]])
+    if len(sys.argv) > 1:
+        os.environ["SHADOWD"] = os.path.abspath(sys.argv[1])
+    tests = os.path.join(HERE, "tests")
+    sys.path[:0] = [HERE, tests]
+    result = unittest.TextTestRunner(stream=sys.stdout).run(unittest.defaultTestLoader.discover(tests, top_level_dir=tests))
+    for test, why in result.skipped:
+        print(f"skipped {test.id()}: {why}")
+    failed = len(result.failures) + len(result.errors) + len(result.unexpectedSuccesses)
+    print(f"{result.testsRun - failed - len(result.skipped)} passed, {failed} failed")
+    return 1 if failed or result.testsRun == 0 else 0
+
+
+if __name__ == "__main__":
+    sys.exit(main())
