@@ -66,6 +66,18 @@ def answered(session, step, response):
     return b"\4" + session.to_bytes(4, "big") + step.to_bytes(2, "big") + bytes([response])
 
 
+def closed(session):
+    return b"\5" + session.to_bytes(4, "big")
+
+
+def history():
+    """The records of the script. A tree shows that no other form is better; tools/check_tree.py checks it."""
+    first, later = bytes.fromhex("0100010003000000410300"), bytes.fromhex("0100020000000005040003000000410300")
+    return [started(0, 70), served(0, 0, 2, {1, 2, 3}, tree=first), answered(0, 0, 1),
+            served(0, 1, 4, {1, 2, 4}, tree=later), answered(0, 1, 0), served(0, 2, 1, {1, 2, 4}, tree=later),
+            started(1, 71), served(1, 0, 2, {1, 2, 3}, tree=first), answered(0, 2, 1)]
+
+
 def journal(payloads):
     """A journal of these payloads."""
     return b"SHADOWJ1" + b"".join(b"\1" + len(p).to_bytes(4, "big") + p for p in payloads) + b"\0"

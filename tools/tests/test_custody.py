@@ -1,10 +1,15 @@
 """The chain from table to score: what must not be taken in silence, and files that do not belong together."""
+import csv
 import hashlib
+import io
 import json
 import os
+import subprocess
+import sys
 import unittest
 
-from common import PROGRAM, Folder, needs_numpy, needs_program
+import data_of_bank_a as a
+from common import PROGRAM, TOOLS, Folder, needs_numpy, needs_program
 
 FOUR = "ID,a,b\nI1,1.2,-0.5\nI2,0.8,0.4\nI3,1.5,0\nI4,1,1\n"
 ATTRIBUTES = "ID,K,WORDS\nI1,x,10\nI2,x,20\nI3,y,30\nI4,y,40\n"
@@ -171,6 +176,112 @@ class Digests(Tables):
         found = json.loads(self.read("o.map.json"))["sha256"]
         for name, path in (("bank", "o.bank.csv"), ("plan", "o.plan.txt")):
             self.assertEqual(found[name], hashlib.sha256(self.read(path).encode()).hexdigest())
+
+
+class Scores(Folder):
+    """score.py with the files of the README's example, of which a test changes one."""
+
+    def setUp(self):
+        super().setUp()
+        self.texts(bank=a.BANK.encode(), plan=a.PLAN.encode())
+        self.journal(a.history() + [a.closed(1)])
+
+    def texts(self, own=True, **texts):
+        """Writes texts; where they are the map's own, the map has their digests."""
+        found = a.scale_map()
+        for name, text in texts.items():
+            with open(self.path(name), "wb") as file:
+                file.write(text)
+            if own:
+                found["sha256"][name] = hashlib.sha256(text).hexdigest()
+        self.write("map", json.dumps(found))
+
+    def journal(self, payloads):
+        with open(self.path("j"), "wb") as file:
+            file.write(a.journal(payloads))
+
+    def score(self, *words, bank="bank", plan="plan"):
+        return self.tool("score", bank, plan, "map", "--journal", "j", *words)
+
+    def refuses(self, wanted, *words, **paths):
+        with self.subTest(wanted):
+            status, said, errors = self.score(*words, **paths)
+            self.assertEqual((status, said), (1, ""), errors)
+            self.assertIn(wanted, errors)
+
+    def test_the_whole_chain(self):
+        status, said, errors = self.score("--record", "record")
+        self.assertEqual((status, errors), (0, ""))
+        rows = list(csv.DictReader(io.StringIO(said)))
+        self.assertEqual([(row["state"], row["audit"]) for row in rows], [("complete", "audited"), ("closed", "audited")])
+        record = json.loads(self.read("record"))
+        self.assertEqual(record["audit"], "entries 10 sessions 2 finished 2 proved 4 unproved 0 aside 0 nodes 4")
+        self.assertEqual(record["sha256"]["results"], hashlib.sha256(said.encode()).hexdigest())
+        with open(self.path("j"), "rb") as file:
+            self.assertEqual(record["sha256"]["journal"], hashlib.sha256(file.read()).hexdigest())
+
+    def test_a_damaged_bank(self):
+        """A bank that is cut off has fewer log-likelihoods in its last row; no score may come of it."""
+        self.texts(own=False, bank=a.BANK.encode()[:-4], plan=a.PLAN.encode())
+        self.refuses("bank: not the bank of map, by its SHA-256")
+        self.texts(bank=a.BANK.encode()[:-4], plan=a.PLAN.encode())
+        self.refuses("bank: record 6")
+
+    def test_other_plans(self):
+        self.texts(own=False, bank=a.BANK.encode(), plan=a.PLAN.replace("count 1 1", "count 0 1").encode())
+        self.refuses("plan: not the plan of map, by its SHA-256")
+        self.refuses("plan: not the bank of map", bank="plan", plan="bank")
+        for plan, wanted in (("length", "plan: line 1 shape"), ("length 3\nprior 0 0 0\ncount a b 0\n", "plan: line 3 number"),
+                             ("length 3\n", "plan: missing prior"), ("length 3\nprior 0 0\n", "plan: prior")):
+            self.texts(bank=a.BANK.encode(), plan=plan.encode())
+            self.refuses(wanted)
+        self.texts(bank=a.BANK.replace("2,9,5", "2,\u00fc,5").encode("latin-1"), plan=a.PLAN.encode())
+        self.refuses("bank: ")
+
+    def test_another_examination_s_journal(self):
+        """A journal whose second item another one should have been, and the journal of a plan with another length."""
+        history = a.history()
+        self.journal(history[:3] + [a.served(0, 1, 3, {1, 2, 3}, tree=bytes.fromhex("0100010003000000410300"))])
+        self.refuses("journal: bad tree at 195", "--open")
+        self.journal(history)
+        self.texts(bank=a.BANK.encode(), plan=a.PLAN.replace("length 3", "length 2").encode())
+        self.refuses("journal: illegal at 90", "--open")
+
+    def test_what_is_not_audited_says_so(self):
+        forged = a.history()[:-1] + [a.answered(0, 2, 0), a.closed(1)]
+        forged[1] = a.served(0, 0, 2, {1, 2, 3}, tree=bytes.fromhex("000600"))
+        self.journal(forged)
+        self.refuses("j: ")
+        status, said, errors = self.score("--unaudited")
+        self.assertEqual((status, errors), (0, ""))
+        self.assertEqual([row["audit"] for row in csv.DictReader(io.StringIO(said))], ["unaudited"] * 2)
+
+    def test_open_sessions(self):
+        self.journal(a.history())
+        self.refuses("1 sessions are open: 1 (booking 71); close them, or give --open")
+        self.assertEqual(self.score("--open")[0], 0)
+
+    def test_journals_that_are_none(self):
+        for payloads in ([a.answered(0, 0, 1)], [a.started(0, 70), a.started(0, 71)], [a.started(0, 70), a.answered(0, 0, 0)],
+                         [a.started(0, 70), a.served(0, 1, 2, {2})], [a.started(0, 70), a.closed(0), a.closed(0)], [b"\7"]):
+            self.journal(payloads)
+            self.refuses("j: " if payloads == [b"\7"] else "the journal's record", "--unaudited", "--open")
+
+    def test_places_that_are_not_there(self):
+        self.refuses("no is no folder that can be written to", "--answers", "no/answers")
+        self.refuses("nowhere: No such file", bank="nowhere")
+        self.refuses("status 0", "--program", "/bin/true")
+        self.write("map", "[" * 100_000)
+        self.refuses("no JSON")
+
+    def test_a_reader_that_goes_away(self):
+        """`score.py ... | head -c 1` ends without a traceback, however much there is to print."""
+        words = [sys.executable, os.path.join(TOOLS, "score.py"), "bank", "plan", "map", "--journal", "j"]
+        reading, writing = os.pipe()
+        os.close(reading)
+        done = subprocess.run(words, cwd=self.folder, stdout=writing, stderr=subprocess.PIPE, text=True)
+        os.close(writing)
+        self.assertEqual((done.returncode, done.stderr), (1, ""))
 
 
 if __name__ == "__main__":

@@ -9,9 +9,9 @@ import unittest
 
 import data_of_bank_a as a
 from common import PROGRAM, Folder, needs_program
-from examination import Answered, Closed, Served, SetAside, Started, plan_of, read_bank, read_journal, sessions_of
-from score import mode, moments, posterior_sums
-from tables import Refused
+from shadowtools.command import Refused
+from shadowtools.formats.examination import Answered, Closed, Served, SetAside, Started, plan_of, read_bank, read_journal, sessions_of
+from shadowtools.agency.score import mode, moments, posterior_sums
 
 # The sums of the README: prior and log-likelihoods after each answer of session 0.
 AFTER_ONE, AFTER_TWO = [-40, -15, -11], [-40, -16, -31]
@@ -91,7 +91,7 @@ class Results(Folder):
             self.write(name, text)
 
     def rows(self, *words):
-        status, said, errors = self.tool("score", "bank", "plan", "map", *words)
+        status, said, errors = self.tool("score", "bank", "plan", "map", "--open", *words)
         self.assertEqual(status, 0, errors)
         return list(csv.DictReader(io.StringIO(said)))
 
@@ -103,9 +103,9 @@ class Results(Folder):
                 a.answered(0, 1, 0), a.served(0, 2, 1, form), a.started(1, 71), a.served(1, 0, 2, {1, 2, 3}),
                 a.answered(0, 2, 1)]))
         by_lines = self.rows("--lines", "lines", "--script", "script", "--answers", "answers")
-        self.assertEqual(by_lines, self.rows("--journal", "j"))
-        self.assertEqual([(r["booking"], r["state"], r["answered"], r["mode"]) for r in by_lines],
-                         [("70", "complete", "3", "0.0000"), ("71", "open", "0", "0.0000")])
+        self.assertEqual(by_lines, self.rows("--journal", "j", "--unaudited"))
+        self.assertEqual([(r["booking"], r["state"], r["answered"], r["mode"], r["remark"]) for r in by_lines],
+                         [("70", "complete", "3", "0.0000", ""), ("71", "open", "0", "", "too few answers")])
         self.assertEqual(self.read("answers").splitlines()[1:], ["0,70,0,I2,1", "0,70,1,I4,0", "0,70,2,I1,1"])
 
     def test_numbers(self):
@@ -142,7 +142,11 @@ class Results(Folder):
         done = subprocess.run([os.path.abspath(PROGRAM), "replay", "bank", "plan", "script"], cwd=self.folder,
                               env=dict(os.environ, SHADOWD_JOURNAL="j"), capture_output=True, text=True)
         self.assertEqual((done.returncode, done.stdout), (0, a.LINES))
-        self.assertEqual(self.rows("--journal", "j"), self.rows("--lines", "lines", "--script", "script"))
+        by_journal = self.rows("--journal", "j")
+        self.assertEqual([row.pop("audit") for row in by_journal], ["audited"] * 2)
+        by_lines = self.rows("--lines", "lines", "--script", "script")
+        self.assertEqual([row.pop("audit") for row in by_lines], ["unaudited"] * 2)
+        self.assertEqual(by_journal, by_lines)
         entries = read_journal(self.path("j"))
         self.assertEqual([e.form for e in entries if isinstance(e, Served)],
                          [{1, 2, 3}, {1, 2, 4}, {1, 2, 4}, {1, 2, 3}])

@@ -11,7 +11,7 @@ from typing import Dict, List, Optional
 from shadowtools.agency.program import run
 from shadowtools.checkers import audit
 from shadowtools.command import Refused
-from shadowtools.formats.examination import BankItem, Plan, read_bank, read_map, read_plan, require_agreement
+from shadowtools.formats.examination import BankItem, Plan, opened, read_bank, read_map, read_plan, require_agreement
 
 CURE = "use the files that irt_bank.py wrote together"
 
@@ -27,26 +27,26 @@ class Documents:
 
 def sha256_of(path: str) -> str:
     """The SHA-256 of a file, in hexadecimal."""
-    digest = hashlib.sha256()
-    try:
-        with open(path, "rb") as file:
-            for block in iter(lambda: file.read(1 << 20), b""):
-                digest.update(block)
-    except OSError as error:
-        raise Refused(f"{path}: {error.strerror}")
-    return digest.hexdigest()
+    return hashlib.sha256(bytes_of(path)).hexdigest()
+
+
+def bytes_of(path: str) -> bytes:
+    with opened(path, "rb") as file:
+        try:
+            return file.read()
+        except OSError as error:
+            raise Refused(f"{path}: {error.strerror}")
 
 
 def read_documents(bank: str, plan: str, map_path: str, program: Optional[str] = None) -> Documents:
     """The documents at three paths. Refused is a bank or plan that is not the map's by its digest, a file that can't be
-    read, and, where `program` is the path of a built shadowd, files that its `check` refuses."""
+    read, and texts that `shadowd check` refuses; `program` is the path of a built shadowd, if there is one."""
     found = read_map(map_path)
     digests = {"bank": sha256_of(bank), "plan": sha256_of(plan), "map": sha256_of(map_path)}
     for name, path in (("bank", bank), ("plan", plan)):
         if found["sha256"].get(name) != digests[name]:
             raise Refused(f"{path}: not the {name} of {map_path}, by its SHA-256 {digests[name]}; {CURE}")
-    if program and os.path.exists(program):
-        said_by(program, "check", bank, plan)
+    require_taken(bank, plan, program)
     documents = Documents(read_bank(bank), read_plan(plan), found, digests)
     require_agreement(documents.bank, documents.plan, plan)
     if len(found["items"]) != len(documents.bank) or len(found["theta"]) != len(documents.plan.prior):
@@ -54,16 +54,32 @@ def read_documents(bank: str, plan: str, map_path: str, program: Optional[str] =
     return documents
 
 
+def require_taken(bank: str, plan: str, program: Optional[str]) -> None:
+    """Refuses bank and plan where `shadowd check` does; without a program by the readers that are held beside it."""
+    if program and os.path.exists(program):
+        said_by(program, "check", bank, plan)
+        return
+    from shadowtools.checkers import mutate_bank, text_readers   # the first makes a table of all headers
+    path = bank
+    try:
+        grid, items = mutate_bank.read(bytes_of(bank))
+        path = plan
+        text_readers.read_plan(bytes_of(plan), grid, items)
+    except Refused as refused:
+        raise Refused(f"{path}: {refused.line}")
+
+
 def audited(bank: str, plan: str, journal: str, program: Optional[str] = None) -> str:
     """The summary line of an audit, by the program where it is built, else by tools/audit.py, which takes minutes for
     thousands of steps. Refused is a journal that is none of this bank and plan."""
     if program and os.path.exists(program):
         return said_by(program, "audit", bank, plan, journal=journal)[0]
-    try:
-        with open(journal, "rb") as file:
-            return next(audit.lines(audit.audit(audit.read_rules(bank, plan), file)))
-    except OSError as error:
-        raise Refused(f"{journal}: {error.strerror}")
+    rules = audit.read_rules(bank, plan)
+    with opened(journal, "rb") as file:
+        try:
+            return next(audit.lines(audit.audit(rules, file)))
+        except Refused as refused:
+            raise Refused(f"{journal}: {refused.line}")
 
 
 def said_by(program: str, command: str, bank: str, plan: str, journal: Optional[str] = None) -> List[str]:

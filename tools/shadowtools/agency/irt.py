@@ -85,6 +85,31 @@ class Item:
         return (scaling * a) ** 2 * ((score - mean) ** 2 * chances).sum(0)
 
 
+    def derivatives(self, theta, scaling: float = 1.0) -> Tuple[np.ndarray, np.ndarray, np.ndarray]:
+        """The probability of each response, and its first and second derivative by ability."""
+        theta = np.atleast_1d(np.asarray(theta, float))
+        chances = self.probabilities(theta, scaling)
+        if self.model in DICHOTOMOUS:
+            a, b, c, d = self.asymptotes()
+            right, wrong = both_tails(scaling * a * (theta - b))
+            first, second = logistic_derivatives(right, wrong, scaling * a)
+            return chances, (d - c) * np.stack([-first, first]), (d - c) * np.stack([-second, second])
+        a, steps = self.thresholds()
+        if self.model == "GR":
+            right, wrong = both_tails(scaling * a * (theta[None] - steps[:, None]))
+            none = np.zeros((1, len(theta)))
+            bounds = [np.concatenate([none, one, none]) for one in logistic_derivatives(right, wrong, scaling * a)]
+            return chances, bounds[0][:-1] - bounds[0][1:], bounds[1][:-1] - bounds[1][1:]
+        away = np.arange(len(chances))[:, None] - (np.arange(len(chances))[:, None] * chances).sum(0)
+        variance = (away ** 2 * chances).sum(0)
+        return chances, scaling * a * chances * away, (scaling * a) ** 2 * chances * (away ** 2 - variance)
+
+
+def logistic_derivatives(right: np.ndarray, wrong: np.ndarray, slope: float) -> Tuple[np.ndarray, np.ndarray]:
+    """First and second derivative of the logistic function with this slope, from it and its complement."""
+    return slope * right * wrong, slope ** 2 * right * wrong * (wrong - right)
+
+
 def both_tails(z: np.ndarray) -> Tuple[np.ndarray, np.ndarray]:
     """The logistic function and its complement, each without cancellation far out."""
     small = np.exp(-np.abs(z))

@@ -124,11 +124,14 @@ def is_finite(value: Any) -> bool:
 
 
 def positive(value: Any) -> bool:
-    return is_finite(value) and value > 0
+    """A unit or a scaling constant."""
+    return is_finite(value) and 1e-9 < value < 1e9
 
 
 def numbers(value: Any) -> bool:
-    return isinstance(value, list) and bool(value) and all(map(is_finite, value)) and all(a < b for a, b in zip(value, value[1:]))
+    """Two or more ability points, ascending."""
+    return (isinstance(value, list) and len(value) > 1 and all(map(is_finite, value)) and max(map(abs, value)) <= 1000
+            and all(a < b for a, b in zip(value, value[1:])))
 
 
 def words(value: Any) -> bool:
