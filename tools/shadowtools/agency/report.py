@@ -1,0 +1,147 @@
+"""A simulation as one page of HTML for those who sign it, with its pictures inside; it needs no network and no script.
+
+usage: report.py PREFIX --run OUT --to REPORT.html [options]
+
+  --target FILE                  what a test is to measure: a CSV table with the columns ability and information, or ability and
+                                 se (standard error, in logits); or --target LOW HIGH INFORMATION
+  --cuts C ..                    cut scores in logits: the accuracy and consistency of decisions
+  --bands T ..                   edges of ability bands, for exposure, overlap and error; default -2 -1 0 1 2, and each ability
+                                 where there are at most 20
+  --by truth|estimate            whether the bands of exposure and overlap are of the true ability (default) or the mean (EAP)
+  --between LOW HIGH             where the page states the standard error; default -1 1
+  --rules PLAN                   counts the rules of another plan
+  --template FILE                another template for jinja2 than report.html of these tools
+  --picture FILE.png             a picture for another page: the forms of an examinee, and the standard error
+
+PREFIX.bank.csv, PREFIX.plan.txt, PREFIX.map.json are irt_bank.py's; OUT.run.json, OUT.journal and OUT.tails.journal are
+simulate.py's. Their SHA-256 are those that the map and the run have. Beside the page are written REPORT.sessions.csv, a line
+for each examinee; REPORT.answers.csv, a line for each answer; and REPORT.items.csv, a line for each item. Exit status: 0; 1
+where the files are refused or a rule is broken.
+"""
+import argparse
+import os
+import sys
+from typing import List, Sequence, Tuple
+
+from shadowtools.needs import require
+
+require("report.py", "numpy", "scipy", "matplotlib", "pandas", "jinja2")
+
+import jinja2  # noqa: E402
+import numpy as np  # noqa: E402
+import pandas as pd  # noqa: E402
+
+from shadowtools.agency.custody import sha256_of  # noqa: E402
+from shadowtools.agency.simulation import Examination, load, parted, read_run  # noqa: E402
+from shadowtools.command import Refused, as_command  # noqa: E402
+from shadowtools.formats.examination import Session, opened, read_journal, read_plan, sessions_of  # noqa: E402
+from shadowtools.page.pictures import at_a_glance  # noqa: E402
+from shadowtools.page.sections import chosen, sections  # noqa: E402
+from shadowtools.page.study import Questions, Study, answers, table_by_item, target_of  # noqa: E402
+from shadowtools.page.verdicts import verdicts  # noqa: E402
+
+TEMPLATE = os.path.join(os.path.dirname(os.path.dirname(os.path.abspath(__file__))), "page", "report.html")
+
+
+def options(words):
+    parser = argparse.ArgumentParser(usage=__doc__.partition("usage: ")[2], add_help=False)
+    parser.add_argument("prefix", nargs="?")
+    for name in ("run", "to", "rules", "picture"):
+        parser.add_argument("--" + name)
+    parser.add_argument("--target", nargs="+")
+    parser.add_argument("--cuts", nargs="+", type=float, default=[])
+    parser.add_argument("--bands", nargs="+", type=float)
+    parser.add_argument("--by", choices=("truth", "estimate"), default="truth")
+    parser.add_argument("--between", nargs=2, type=float, default=[-1.0, 1.0])
+    parser.add_argument("--template", default=TEMPLATE)
+    parser.add_argument("-h", "--help", action="store_true")
+    found = parser.parse_args(words)
+    if found.help or not (found.prefix and found.run and found.to):
+        print(__doc__, file=sys.stdout if found.help else sys.stderr)
+        sys.exit(0 if found.help else 2)
+    return found
+
+
+def questions(given) -> Questions:
+    """What is asked of the page. Refused are numbers that do not ascend, and a target that is none."""
+    for name, values in (("cuts", given.cuts), ("bands", given.bands or []), ("between", given.between)):
+        if not np.isfinite(values).all() or (np.diff(values) <= 0).any():
+            raise Refused(f"--{name} {' '.join(map(str, values))}: abilities in logits that ascend")
+    if given.target and len(given.target) not in (1, 3):
+        raise Refused(f"--target {' '.join(given.target)}: a file, or LOW HIGH INFORMATION")
+    return Questions(target_of(given.target), given.cuts, given.bands, given.by == "estimate", given.between)
+
+
+# ---------------------------------------------------------------- what is read
+
+def sessions_of_run(given, run: dict, examination: Examination) -> Tuple[List[Session], List[Session]]:
+    """The whole sessions of the sample and of the tails. Refused are a journal that is not the run's by its SHA-256, and a
+    run of another bank or plan."""
+    for name in ("bank", "plan", "map"):
+        if run["sha256"].get(name) != examination.sha256[name]:
+            raise Refused(f"{given.run}.run.json is of another {name} than that of {given.prefix}; simulate again")
+    sample, _ = parted(journal_of(given.run + ".journal", run, "journal"), run["examinees"])
+    tails = parted(journal_of(given.run + ".tails.journal", run, "tails"), run["examinees"])[1] if run["tails"] else []
+    whole = [[one for one in part if len(one.responses) == examination.plan.length] for part in (sample, tails)]
+    if not whole[0] or any(one.booking >= len(run["true"]) for part in whole for one in part):
+        raise Refused(f"{given.run}.journal has no whole session, or is not the journal of {given.run}.run.json")
+    return whole[0], whole[1]
+
+
+def journal_of(path: str, run: dict, name: str) -> List[Session]:
+    if run["sha256"].get(name) != sha256_of(path):
+        raise Refused(f"{path} is not the journal of the run, by its SHA-256; use the files that simulate.py wrote together")
+    return sessions_of(read_journal(path))
+
+
+# ---------------------------------------------------------------- what is written
+
+def page(study: Study, template: str) -> str:
+    """The page. The template escapes every value."""
+    environment = jinja2.Environment(autoescape=True, undefined=jinja2.StrictUndefined, trim_blocks=False)
+    with opened(template) as file:
+        try:
+            made = environment.from_string(file.read())
+        except jinja2.TemplateError as error:
+            raise Refused(f"{template}: line {getattr(error, 'lineno', '?')}: {error.message}")
+    name = os.path.basename(study.examination.prefix)
+    lead = (f"A simulation of {len(study.sample):,} examinees, each with a test of {study.length} items"
+            + (f", and of {len(study.tails):,} more at the ends of the scale" if len(study.tails) else "") + f". {study.run['date']}.")
+    try:
+        return made.render(title=f"Simulated examination: {name}", lead=lead, verdicts=verdicts(study), sections=sections(study)) + "\n"
+    except jinja2.TemplateError as error:
+        raise Refused(f"{template}: {error.message}")
+
+
+def write_table(path: str, table: pd.DataFrame) -> None:
+    table.to_csv(path, index=False, lineterminator="\n", float_format="%.4f")
+
+
+def main(words: Sequence[str]) -> int:
+    given = options(words)
+    asked = questions(given)
+    examination, run = load(given.prefix), read_run(given.run + ".run.json")
+    rules = (read_plan(given.rules) if given.rules else examination.plan).rules
+    sample, tails = sessions_of_run(given, run, examination)
+    study = Study(examination, run, sample, tails, rules, asked)
+    text, begin = page(study, given.template), os.path.splitext(given.to)[0]
+    try:
+        with open(given.to, "w", encoding="utf-8") as file:
+            file.write(text)
+        write_table(begin + ".sessions.csv", study.people)
+        write_table(begin + ".answers.csv", answers(study))
+        write_table(begin + ".items.csv", table_by_item(study))
+        if given.picture:
+            at_a_glance(study, chosen(study)[1], given.picture)
+    except OSError as error:
+        raise Refused(f"{error.filename}: {error.strerror}")
+    errors = study.people.eap[study.sample] - study.people.true[study.sample]
+    print(f"{given.to}: {len(study.sessions)} sessions, {len(study.broken)} broken rules, RMSE {np.sqrt((errors ** 2).mean()):.4f} (EAP)")
+    return 1 if study.broken else 0
+
+
+command = as_command(main)
+
+
+if __name__ == "__main__":
+    sys.exit(command())

@@ -1,0 +1,302 @@
+"""The sections of the page below its verdicts, each from the study alone."""
+import os
+import re
+from typing import List
+
+import numpy as np
+
+from shadowtools.formats.examination import Rule
+from shadowtools.page import pictures
+from shadowtools.page.measures import accuracy, consistency, level_chances, levels, marginal_reliability, standard_error
+from shadowtools.page.parts import Facts, Note, Pictures, Section, Table, Text
+from shadowtools.page.study import Study, plain, table_by_band, table_by_item
+
+ESTIMATES = {"mode": "mode on the grid (shadowd)", "map": "continuous mode", "eap": "mean (EAP)",
+             "mle": "maximum likelihood, on the grid's range"}
+MOST_NAMED = 12
+
+
+def sections(study: Study) -> List[Section]:
+    """All sections, in the order of a committee's questions."""
+    return [identity(study), rules(study), precision(study), recovery(study), classification(study), exposure(study),
+            eligibility(study), examinees(study), forms(study), certificates(study), items(study), plan(study)]
+
+
+def signed(value: float, places: int = 3) -> str:
+    return f"{value:+.{places}f}".replace("-", "\N{MINUS SIGN}") if np.isfinite(value) else "–"
+
+
+def fixed(value: float, places: int = 3) -> str:
+    return f"{value:.{places}f}".replace("-", "\N{MINUS SIGN}") if np.isfinite(value) else "–"
+
+
+# ---------------------------------------------------------------- what was simulated
+
+def identity(study: Study) -> Section:
+    run, found = study.run, study.examination.map
+    prior = "flat" if found["prior"] == ["flat"] else "normal " + " ".join(found["prior"])
+    tails = sorted(set(run["tails"]))
+    examinees = f"{len(study.sample):,}, true ability {' '.join(run['of'])}, seed {run['seed']}"
+    if tails:
+        examinees += f"; {len(study.tails):,} more in the tails, at {', '.join(map(plain, tails))}"
+    rows = [("Examination", os.path.basename(study.examination.prefix)),
+            ("Bank", f"items: {len(study.items)}; passages: {len(found['passages'])}; quantities: {', '.join(found['quantities']) or 'none'}"),
+            ("Test", f"items: {study.length}; rules: {len(study.rules)}; exposure rate: {rate(study)}"),
+            ("Examinees", examinees),
+            ("Ability", f"{len(found['theta'])} points from {plain(found['theta'][0])} to {plain(found['theta'][-1])} logits; "
+                        f"D {found['D']:g}; prior {prior}"),
+            ("Units", f"{found['information_unit']:g} for one unit of information, {found['log_unit']:g} for one natural logarithm"),
+            ("Simulated", f"{run['date']}, through {run['through']}"), ("Revision of the tools", run["revision"])]
+    digests = [(f"SHA-256, {name}", value) for name, value in digests_of(run)]
+    return Section("identity", "What was simulated", [Facts(rows), Facts(digests, "digests")])
+
+
+def digests_of(run: dict):
+    names = {"bank": "bank", "plan": "plan", "map": "map", "program": "program", "journal": "journal", "tails": "journal of tails"}
+    return [(name, run["sha256"][key]) for key, name in names.items() if key in run["sha256"]]
+
+
+def rate(study: Study) -> str:
+    return "/".join(map(str, study.examination.plan.rate)) if study.controlled else "none"
+
+
+# ---------------------------------------------------------------- rules
+
+def rules(study: Study) -> Section:
+    broken = [sum(one.rule is rule for one in study.broken) for rule in study.rules]
+    table = Table(["Rule", "Low", "High", "Tests", "Least", "Mean", "Greatest", "At low", "At high", "Broken in"],
+                  [rule_row(study, rule, bad) for rule, bad in zip(study.rules, broken)],
+                  marked=frozenset((row, 9) for row, bad in enumerate(broken) if bad))
+    said = f"Rules are broken in {len({one.session for one in study.broken})} tests." if study.broken else "No rule is broken."
+    return Section("rules", "Rules of the plan", [Note(said, "bad" if study.broken else "note"), table, Note(
+        "Counted here from the items of each test, the tails with them, by a reader of the plan that shares nothing with the "
+        "product. The rule of a passage is counted in the tests that use it. A rule that is at a bound in most tests may cost "
+        "information.")])
+
+
+def rule_row(study: Study, rule: Rule, bad: int) -> List[str]:
+    """A rule with its bounds, and its values over the tests that it speaks of."""
+    label, passages = rule.label, study.examination.map["passages"]
+    if rule.kind == "stimulus" and rule.number <= len(passages):
+        label = f"{label} ({passages[rule.number - 1]})"
+    values = [rule.value(session.items, study.examination.bank) for session in study.sessions]
+    values = np.array([value for value in values if value is not None])
+    begin = [label, f"{rule.low:,}", f"{rule.high:,}", f"{len(values):,}"]
+    if len(values) == 0:
+        return begin + ["–"] * 5 + ["0"]
+    return begin + [f"{values.min():,}", f"{values.mean():,.1f}", f"{values.max():,}", f"{(values == rule.low).mean():.0%}",
+                    f"{(values == rule.high).mean():.0%}", f"{bad:,}"]
+
+
+# ---------------------------------------------------------------- precision and recovery
+
+def precision(study: Study) -> Section:
+    people = study.people.iloc[study.sample]
+    mean, share = people.information.mean(), (people.information / study.best[study.sample]).mean()
+    rows = [("Mean information at the true ability", fixed(mean)), ("Standard error from it", f"{standard_error(mean):.3f} logits"),
+            ("Mean share of the best information without rules", f"{share:.1%}")]
+    target = study.questions.target
+    if target:
+        rows.append(("Target", f"{'standard error' if target.is_error else 'information'}: {target.name}"))
+    table = table_by_band(study, study.bands_of_truth)
+    cells = [[row.band + (" (tails)" if row.added else ""), f"{row.examinees:,}", signed(row.bias), fixed(row.bias_error), fixed(row.rmse),
+              fixed(row.posterior_sd), fixed(row.standard_error)] for row in table.itertuples()]
+    return Section("precision", "Precision by ability", [
+        Pictures([pictures.standard_errors(study), pictures.information(study)]), Facts(rows),
+        Table(["True ability (logits)", "Examinees", "Bias (EAP)", "Its standard error", "RMSE (EAP)", "Mean posterior SD", "Standard error"],
+              cells),
+        Note("The standard error is 1 / √(mean information at the true ability) of the items that were given (Lord 1980). The lines are "
+             "of the mean information of the tests near each ability, the tails with them. Bias towards the middle at the ends is the prior's, and greater where "
+             "the bank informs little. The best information knows the true ability from the start and meets no rule: part of the "
+             "difference is what the rules cost, part is that the ability has to be found first.")])
+
+
+def recovery(study: Study) -> Section:
+    people, rows = study.people.iloc[study.sample], []
+    for name, words in ESTIMATES.items():
+        errors, spread = people[name] - people.true, people[name].std() > 0 and people.true.std() > 0
+        correlation = f"{np.corrcoef(people[name], people.true)[0, 1]:.3f}" if spread else "–"
+        rows.append([words, signed(errors.mean()), fixed(np.sqrt((errors ** 2).mean())), fixed(errors.abs().mean()), correlation])
+    parts = [Pictures([pictures.recovery(study), pictures.bias(study)]),
+             Table(["Estimate, from the same answers", "Bias", "RMSE", "Mean absolute error", "Correlation with the truth"], rows)]
+    said = "RMSE is the root mean square error, all in logits. "
+    if len(people) > 1:
+        said += f"The standard error of a bias here is about {(people['mode'] - people.true).std() / np.sqrt(len(people)):.3f}. "
+    parts.append(Note(said + "shadowd chooses items at the mode on the grid. The mean is what a score report gives (tools/score.py)."))
+    return Section("recovery", "Recovery of ability", parts)
+
+
+# ---------------------------------------------------------------- reliability and classification
+
+def classification(study: Study) -> Section:
+    people, cuts = study.people.iloc[study.sample], study.questions.cuts
+    rows = [("Marginal reliability, from the posterior variance", fixed(marginal_reliability(people.true, people.posterior_sd ** 2)))]
+    if people.eap.std() > 0 and people.true.std() > 0:
+        rows.append(("Squared correlation of the mean (EAP) with the truth", fixed(np.corrcoef(people.eap, people.true)[0, 1] ** 2)))
+    parts = [Facts(rows)]
+    if len(cuts):
+        parts += [table_of_cuts(study), table_of_levels(study)]
+    parts.append(Note(
+        "The marginal reliability is (V − E) / V with the variance V of the abilities and the mean error variance E (Green, Bock, "
+        "Humphreys, Linn and Reckase 1984). " + (
+            "Counted: the level of the mean (EAP) beside the level of the true ability. Accuracy by formula takes the estimate to be "
+            "normal about the true ability with its standard error (Rudner 2001, 2005). Consistency is the chance that two tests give "
+            "the same level, and kappa takes off the agreement by chance (Lee 2010)." if len(cuts) else
+            "With --cuts the page has the accuracy and consistency of decisions at cut scores.")))
+    return Section("classification", "Reliability and decisions", parts)
+
+
+def table_of_cuts(study: Study) -> Table:
+    """Accuracy and consistency at each cut alone, and of all levels."""
+    people, cuts = study.people.iloc[study.sample], list(study.questions.cuts)
+    rows = []
+    for name, some in [(plain(cut), [cut]) for cut in cuts] + ([("all levels", cuts)] if len(cuts) > 1 else []):
+        true, found = levels(people.true, some), levels(people.eap, some)
+        chances = level_chances(people.true.to_numpy(), people.standard_error.to_numpy(), some)
+        agreement, kappa = consistency(chances)
+        rows.append([name, f"{(true == found).mean():.1%}", f"{(found > true).mean():.1%}", f"{(found < true).mean():.1%}",
+                     f"{accuracy(chances, true):.1%}", f"{agreement:.1%}", fixed(kappa)])
+    return Table(["Cut score (logits)", "In the true level", "Above it", "Below it", "Accuracy by formula", "Consistency by formula", "Kappa"],
+                 rows)
+
+
+def table_of_levels(study: Study) -> Table:
+    """How many examinees of each true level are in each level by their estimate."""
+    people, cuts = study.people.iloc[study.sample], study.questions.cuts
+    true, found = levels(people.true, cuts), levels(people.eap, cuts)
+    names = [f"below {plain(cuts[0])}"] + [f"{plain(a)} to {plain(b)}" for a, b in zip(cuts, list(cuts)[1:])] + [f"{plain(cuts[-1])} and above"]
+    rows = [[name] + [f"{((true == k) & (found == j)).sum():,}" for j in range(len(names))] for k, name in enumerate(names)]
+    return Table(["True level"] + [f"estimate {name}" for name in names], rows)
+
+
+# ---------------------------------------------------------------- exposure
+
+def exposure(study: Study) -> Section:
+    rates, count = study.exposure(study.sample), len(study.items)
+    within = [study.overlap(band.members) for band in study.bands if not band.added and len(band.members) > 1]
+    rows = [("Items never shown", f"{(rates == 0).sum()} of {count}{named(study.names[rates == 0])}"),
+            ("Greatest exposure", f"{rates.max():.3f} (item {study.names[int(rates.argmax())]})"),
+            ("Mean exposure", f"{study.length / count:.3f}"), ("Items above 0.3", f"{(rates > 0.3).sum()}")]
+    if study.controlled:
+        above = rates > study.rate
+        rows.append((f"Items above the rate {study.rate:.3f}", f"{above.sum()}, the greatest by {max(0, (rates - study.rate).max()):.3f}"
+                                                               f"{named(study.names[above])}"))
+    rows.append(("Mean overlap of two tests", fixed(study.overlap(study.sample))))
+    if len(within) > 1:
+        rows.append(("Mean overlap within a band, least and greatest", f"{min(within):.3f}, {max(within):.3f}"))
+    said = "A band is of the mean (EAP). " if study.questions.by_estimate else "A band is of the true ability. "
+    return Section("exposure", "Exposure and overlap", [
+        Pictures([pictures.exposure(study), pictures.exposure_by_information(study)]), Facts(rows), most_shown(study),
+        Pictures([pictures.exposure_by_band(study), pictures.overlap(study)]), exposure_table(study),
+        Note(said + "An item may be rare in all tests and sure within a band. The tails count in no total. The file "
+             "REPORT.items.csv has the exposure of each item in each band. Overlap is the share of common items of two tests, in the "
+             "mean over all pairs (Chen, Ankenmann and Spray 2003).")])
+
+
+def named(names) -> str:
+    """The names in brackets, as many as there is room for."""
+    if not len(names):
+        return ""
+    return f" ({', '.join(names[:MOST_NAMED])}{', ..' if len(names) > MOST_NAMED else ''})"
+
+
+def most_shown(study: Study) -> Table:
+    """The items that are shown most, with the exposure in each band of the sample."""
+    rates, bands = study.exposure(study.sample), [band for band in study.bands if not band.added]
+    by_band = [study.exposure(band.members) for band in bands]
+    order = np.argsort(-rates, kind="stable")[:MOST_NAMED]
+    rows = [[study.names[item], f"{rates[item]:.3f}"] + [f"{one[item]:.2f}" for one in by_band] for item in order]
+    marked = frozenset((row, 1) for row, item in enumerate(order) if study.controlled and rates[item] > study.rate)
+    return Table(["Item", "Exposure"] + [band.label for band in bands], rows,
+                 f"The {len(rows)} items that are shown most, in all and by band of ability", marked=marked)
+
+
+def exposure_table(study: Study) -> Table:
+    table = table_by_band(study, study.bands)
+    head = ["Band (logits)", "Tests", "Greatest exposure", "Item", "Never shown", "Mean overlap"]
+    rows = [[row.band + (" (tails)" if row.added else ""), f"{row.examinees:,}", fixed(row.greatest_exposure), row.most_shown,
+             f"{row.never_shown}", fixed(row.overlap)] for row in table.itertuples()]
+    if study.controlled:
+        head.insert(4, "Above the rate")
+        for cells, row in zip(rows, table.itertuples()):
+            cells.insert(4, f"{row.above_rate}")
+    return Table(head, rows, "Exposure and overlap within each band")
+
+
+def eligibility(study: Study) -> Section:
+    if not study.controlled:
+        return Section("eligibility", "Eligibility", [Note("The plan has no exposure rate: every item is eligible in every session.")])
+    eligible = study.eligible[study.sample]
+    aside = sum(session.aside for session in study.sessions[:len(study.sample)])
+    return Section("eligibility", "Eligibility", [
+        Pictures([pictures.eligibility(study), pictures.exposure_so_far(study)]),
+        Facts([("Sessions whose eligibility was set aside", f"{aside} of {len(study.sample):,}"),
+               ("Items eligible in every session", f"{eligible.all(0).sum()} of {len(study.items)}"),
+               ("Eligible items in a session, least and mean", f"{eligible.sum(1).min()}, {eligible.sum(1).mean():.1f}")])])
+
+
+# ---------------------------------------------------------------- single examinees
+
+def chosen(study: Study) -> List[int]:
+    """The rows of the sample at the 5th, 50th and 95th percentile of true ability."""
+    order = np.argsort(study.people.true.to_numpy()[study.sample], kind="stable")
+    return [int(order[min(len(order) - 1, int(share * len(order)))]) for share in (0.05, 0.5, 0.95)]
+
+
+def examinees(study: Study) -> Section:
+    return Section("examinees", "Three examinees", [Pictures([pictures.path(study, row) for row in chosen(study)]), Note(
+        "The examinees are at the 5th, 50th and 95th percentile of true ability.")])
+
+
+def forms(study: Study) -> Section:
+    return Section("forms", "Forms step by step", [Pictures([pictures.forms(study, chosen(study)[1])]), Note(
+        "Each row is the whole form that was assembled before an item was served; each meets all rules.")])
+
+
+# ---------------------------------------------------------------- certificates
+
+def certificates(study: Study) -> Section:
+    served = [session.served for session in study.sessions]
+    marks = np.array([[one.proved for one in each] for each in served])
+    counts = np.array([[one.nodes for one in each] for each in served])
+    rows = [("Steps proved best", f"{marks.sum():,} of {marks.size:,} ({marks.mean():.2%})"),
+            ("Nodes of a step, mean and greatest", f"{counts.mean():.1f}, {counts.max()}"),
+            ("Wall time of the simulation", f"{study.run['wall']:.1f} s")] + times(study.run)
+    parts = [Facts(rows)]
+    if counts.max() > 1:
+        parts.insert(0, Pictures([pictures.nodes(study, marks, counts)]))
+    said = {"replay": f"{study.run['said']}, each of which reads and checks the whole journal again.",
+            "serve": f"The server's last line: {study.run['said']}"}
+    return Section("certificates", "Proofs, nodes and time", parts + [Note(said.get(study.run["through"], study.run["said"]))])
+
+
+def times(run: dict):
+    seconds = np.array(run["seconds"])
+    if run["through"] == "replay":
+        return [("Time for a reply, reading the journal included", f"{1000 * seconds[:, 1].sum() / seconds[:, 0].sum():.2f} ms")]
+    each = 1000 * np.sort(seconds[:, 1])
+    return [("Clients at once", f"{run['clients']}"),
+            ("Time for a request: median, 99th percentile, greatest",
+             f"{np.median(each):.2f}, {each[int(0.99 * (len(each) - 1))]:.2f}, {each[-1]:.2f} ms")]
+
+
+# ---------------------------------------------------------------- appendices
+
+def items(study: Study) -> Section:
+    table = table_by_item(study)
+    passages = bool(study.examination.map["passages"])
+    head = ["Item"] + (["Passage"] if passages else []) + ["Shown", "Exposure", "Eligible", "Greatest information", "At (logits)", "Mean step"]
+    rows = [[row.item] + ([row.passage] if passages else []) + [
+        f"{row.shown:,}" if row.shown else "never", fixed(row.exposure), fixed(row.eligible), fixed(row.greatest_information),
+        fixed(row.at_ability, 1), fixed(row.mean_step, 1)] for row in table.itertuples()]
+    column = 2 + passages
+    marked = frozenset((k, column) for k, row in enumerate(table.itertuples()) if study.controlled and row.above_rate)
+    return Section("items", "Items", [Table(head, rows, texts=1 + passages, marked=marked), Note(
+        "Shown and eligible are counted over the sample. A step is counted from 0. An exposure above the rate is marked.")])
+
+
+def plan(study: Study) -> Section:
+    """The plan as it is, without the key of its exposure control, which is a secret."""
+    with open(study.examination.files()[1], encoding="utf-8") as file:
+        text = re.sub(r"(?m)^(\s*key\s+)\S+", r"\1(not shown)", file.read())
+    return Section("plan", "The plan", [Text(text)])

@@ -1,0 +1,226 @@
+"""What the sections of the page read: the whole sessions of a simulation as tables, and their groups by ability."""
+import os
+from dataclasses import dataclass
+from typing import List, Optional, Sequence
+
+import numpy as np
+import pandas as pd
+
+from shadowtools.agency.simulation import Broken, Examination, Estimates, broken_rules, estimates
+from shadowtools.command import Refused
+from shadowtools.formats.examination import Rule, Session
+from shadowtools.formats.tables import number, read_table
+from shadowtools.page.measures import levels, local_weights, mean_overlap, standard_error
+
+BAND_EDGES = (-2.0, -1.0, 0.0, 1.0, 2.0)
+MOST_POINTS = 20
+
+
+# ---------------------------------------------------------------- the target of an agency
+
+@dataclass(frozen=True)
+class Target:
+    """What a test is to measure: by ability (logits, ascending) the information, or the standard error, that is asked for.
+    Between two abilities it is interpolated in a straight line; outside of them nothing is asked."""
+    abilities: np.ndarray
+    values: np.ndarray
+    is_error: bool
+    name: str
+
+    def information(self, ability: np.ndarray) -> np.ndarray:
+        """The information that is asked for at each ability, NaN where nothing is."""
+        values = np.interp(ability, self.abilities, self.values, left=np.nan, right=np.nan)
+        return 1 / values ** 2 if self.is_error else values
+
+
+def read_target(path: str) -> Target:
+    """A table with the columns `ability` and `information` or `se`, at least two rows, in the order of ability."""
+    head, rows = read_table(path)
+    column = next((name for name in ("information", "se") if name in head), None)
+    if "ability" not in head or column is None or len(head) != 2:
+        raise Refused(f"{path}: line 1: the columns are ability and information, or ability and se")
+    table = [(number(path, line, row, "ability"), number(path, line, row, column)) for line, row in rows]
+    abilities, values = np.array([a for a, _ in table]), np.array([v for _, v in table])
+    if len(table) < 2 or (np.diff(abilities) <= 0).any() or (values <= 0).any():
+        raise Refused(f"{path}: at least two rows, with abilities that ascend and values above 0")
+    return Target(abilities, values, column == "se", os.path.basename(path))
+
+
+def target_of(words: Optional[Sequence[str]]) -> Optional[Target]:
+    """The target of the words after --target: a file, or LOW HIGH INFORMATION."""
+    if not words:
+        return None
+    if len(words) == 1:
+        return read_target(words[0])
+    try:
+        low, high, information = map(float, words)
+    except ValueError:
+        raise Refused(f"--target {' '.join(words)}: a file, or LOW HIGH INFORMATION")
+    if not (np.isfinite([low, high, information]).all() and low < high and information > 0):
+        raise Refused(f"--target {' '.join(words)}: LOW below HIGH, and INFORMATION above 0")
+    return Target(np.array([low, high]), np.array([information, information]), False, f"{information:g} between {low:g} and {high:g}")
+
+
+# ---------------------------------------------------------------- what is asked of the page
+
+@dataclass(frozen=True)
+class Questions:
+    """What the page is asked: the target, cut scores (logits, ascending), the edges of the ability bands and whether they are
+    bands of the estimate, and the two abilities between which the page states the standard error."""
+    target: Optional[Target] = None
+    cuts: Sequence[float] = ()
+    edges: Optional[Sequence[float]] = None
+    by_estimate: bool = False
+    between: Sequence[float] = (-1.0, 1.0)
+
+
+@dataclass
+class Band:
+    """Examinees of like ability: their rows in the tables of the study. `added` are those of the tails."""
+    label: str
+    members: np.ndarray
+    added: bool = False
+
+
+def interval_bands(values: np.ndarray, rows: np.ndarray, edges: Sequence[float]) -> List[Band]:
+    """The bands between the edges that have an examinee; an edge belongs to the band above it."""
+    names = [f"below {plain(edges[0])}"] + [f"{plain(a)} to {plain(b)}" for a, b in zip(edges, edges[1:])]
+    names.append(f"{plain(edges[-1])} and above")
+    where = levels(values, edges)
+    return [Band(names[k], rows[where == k]) for k in np.unique(where)]
+
+
+def point_bands(values: np.ndarray, rows: np.ndarray, added: bool) -> List[Band]:
+    """A band for each ability that there is."""
+    return [Band(f"at {plain(point)}", rows[values == point], added) for point in np.unique(values)]
+
+
+def plain(value: float) -> str:
+    """A number with a minus sign."""
+    return f"{value:g}".replace("-", "\N{MINUS SIGN}")
+
+
+# ---------------------------------------------------------------- the study
+
+class Study:
+    """The whole sessions of a simulation: first those of the sample, then those of the tails.
+
+    `people` has a row for each session: booking, true ability, estimates, information at the true ability and its standard
+    error. `shown` and `eligible` are arrays [session, item]. `sample` has the rows that count in the totals."""
+
+    def __init__(self, examination: Examination, run: dict, sample: List[Session], tails: List[Session],
+                 rules: List[Rule], questions: Questions) -> None:
+        self.examination, self.run, self.rules, self.questions = examination, run, rules, questions
+        self.sessions = sample + tails
+        self.items, self.length = examination.items, examination.plan.length
+        self.names = np.array([item.name for item in examination.items])
+        self.sample, self.tails = np.arange(len(sample)), np.arange(len(sample), len(self.sessions))
+        self.shown, self.eligible = self.tables_of_items()
+        self.people = self.table_of_people(estimates(examination, self.sessions))
+        self.broken: List[Broken] = broken_rules(rules, self.sessions, examination.bank)
+        self.rate = examination.plan.rate[0] / examination.plan.rate[1]
+        self.controlled = self.rate < 1
+        self.bands = self.bands_by(self.people.eap if questions.by_estimate else self.people.true)
+        self.bands_of_truth = self.bands_by(self.people.true)
+
+    def tables_of_items(self):
+        shown = np.zeros((len(self.sessions), len(self.items)), bool)
+        eligible = np.ones_like(shown)
+        for k, session in enumerate(self.sessions):
+            shown[k, session.items] = True
+            if not session.aside:
+                eligible[k] = [item in session.eligible for item in range(len(self.items))]
+        return shown, eligible
+
+    def table_of_people(self, found: Estimates) -> pd.DataFrame:
+        true = np.array([self.run["true"][session.booking] for session in self.sessions], float)
+        each = np.array([item.information(true, self.examination.scaling) for item in self.items])
+        self.best = np.sort(each, 0)[::-1][:self.length].sum(0)
+        information = (each.T * self.shown).sum(1)
+        return pd.DataFrame({
+            "session": np.arange(len(true)), "booking": [session.booking for session in self.sessions],
+            "part": ["sample"] * len(self.sample) + ["tails"] * len(self.tails), "true": true, "mode": found.mode,
+            "map": found.map, "eap": found.eap, "posterior_sd": found.deviation, "mle": found.mle,
+            "information": information, "standard_error": standard_error(information)})
+
+    def bands_by(self, values: pd.Series) -> List[Band]:
+        """The bands of the sample, and after them a band for each ability of the tails."""
+        values = values.to_numpy()
+        inside, edges = values[self.sample], self.questions.edges
+        if edges is None and len(np.unique(inside)) <= MOST_POINTS:
+            found = point_bands(inside, self.sample, False)
+        else:
+            found = interval_bands(inside, self.sample, edges or BAND_EDGES)
+        return found + point_bands(self.people.true.to_numpy()[self.tails], self.tails, True)
+
+    def mean_information(self, at: np.ndarray) -> np.ndarray:
+        """At each ability the mean information of the tests of examinees near it, those of the tails with them.
+
+        It is the information of their items at that ability, so it is never above the best of the bank."""
+        each = np.array([item.information(at, self.examination.scaling) for item in self.items])
+        weights = local_weights(at, self.people.true.to_numpy())
+        return ((weights @ self.shown) * each.T).sum(1)
+
+    def abilities(self) -> np.ndarray:
+        """The abilities of a curve: from the least to the greatest true ability."""
+        return np.linspace(self.people.true.min(), self.people.true.max(), 121)
+
+    def exposure(self, members: np.ndarray) -> np.ndarray:
+        """By item the share of these sessions in which it was shown."""
+        return self.shown[members].mean(0)
+
+    def overlap(self, members: np.ndarray) -> float:
+        return mean_overlap(self.shown[members], self.length)
+
+    def best_of_bank(self, at: np.ndarray) -> np.ndarray:
+        """The information of the best items of the bank at each ability, without any rule."""
+        bank = np.stack([item.information(at, self.examination.scaling) for item in self.items])
+        return np.sort(bank, 0)[::-1][:self.length].sum(0)
+
+
+def table_by_item(study: Study) -> pd.DataFrame:
+    """A row for each item of the bank: how often it was shown to the sample, the rate, and what it informs at most.
+
+    `mean_step` counts from 0, and is empty where the item was never shown. A column for each band has the exposure there."""
+    examination, sample = study.examination, study.sample
+    theta = examination.theta
+    information = np.stack([item.information(theta, examination.scaling) for item in study.items])
+    steps = [[] for _ in study.items]
+    for session in study.sessions[:len(sample)]:
+        for step, item in enumerate(session.items):
+            steps[item].append(step)
+    passages, exposure = examination.map["passages"], study.exposure(sample)
+    table = pd.DataFrame({
+        "number": np.arange(len(study.items)), "item": study.names,
+        "passage": [passages[item.passage - 1] if 0 < item.passage <= len(passages) else "" for item in study.items],
+        "shown": study.shown[sample].sum(0), "exposure": exposure, "eligible": study.eligible[sample].mean(0),
+        "rate": study.rate, "above_rate": exposure > study.rate, "never_shown": exposure == 0,
+        "greatest_information": information.max(1), "at_ability": theta[information.argmax(1)],
+        "mean_step": [float(np.mean(one)) if one else np.nan for one in steps]})
+    for band in study.bands:
+        table["exposure " + band.label.replace("\N{MINUS SIGN}", "-")] = study.exposure(band.members)
+    return table
+
+
+def table_by_band(study: Study, bands: Sequence[Band]) -> pd.DataFrame:
+    """A row for each band: its examinees, bias and error of the mean (EAP), standard errors, exposure and overlap."""
+    rows = []
+    for band in bands:
+        people, exposure = study.people.iloc[band.members], study.exposure(band.members)
+        errors = (people.eap - people.true).to_numpy()
+        rows.append({
+            "band": band.label, "added": band.added, "examinees": len(people), "ability": people.true.mean(),
+            "bias": errors.mean(), "bias_error": errors.std(ddof=1) / np.sqrt(len(errors)) if len(errors) > 1 else np.nan,
+            "rmse": np.sqrt((errors ** 2).mean()), "posterior_sd": people.posterior_sd.mean(),
+            "standard_error": float(standard_error(people.information.mean())),
+            "most_shown": study.names[exposure.argmax()], "greatest_exposure": exposure.max(),
+            "above_rate": int((exposure > study.rate).sum()), "never_shown": int((exposure == 0).sum()),
+            "overlap": study.overlap(band.members)})
+    return pd.DataFrame(rows)
+
+
+def answers(study: Study) -> pd.DataFrame:
+    """A row for each answer: session, booking, step from 0, item and response, as score.py --answers has them."""
+    rows = [(number, session.booking, step, study.names[item], response) for number, session in enumerate(study.sessions)
+            for step, (item, response) in enumerate(zip(session.items, session.responses))]
+    return pd.DataFrame(rows, columns=["session", "booking", "step", "item", "response"])

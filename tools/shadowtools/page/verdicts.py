@@ -1,0 +1,130 @@
+"""The sentences at the head of the page: what was asked of the test, and whether it is so in the simulation."""
+from typing import Iterator, List
+
+import numpy as np
+
+from shadowtools.page.measures import accuracy, consistency, level_chances, levels, marginal_reliability, standard_error
+from shadowtools.page.parts import Verdict
+from shadowtools.page.study import Study, plain, table_by_band
+
+MET, NOT_MET, MEASURED = "met", "not met", "measured"
+
+
+def verdicts(study: Study) -> List[Verdict]:
+    """All verdicts, the blueprint first."""
+    return [rules(study), precision(study), *target(study), *exposure(study), overlap(study), reliability(study),
+            *classification(study), *tails(study), certificates(study)]
+
+
+def rules(study: Study) -> Verdict:
+    tests = len(study.sessions)
+    bad_rules = {one.rule.line for one in study.broken}
+    bad_tests = {one.session for one in study.broken}
+    kept = sum(rule.line not in bad_rules for rule in study.rules)
+    text = f"{kept:,} of {len(study.rules):,} rules are met in each of {tests:,} tests"
+    if study.broken:
+        first = study.broken[0].rule
+        return Verdict(NOT_MET, f"{text}; {len(bad_tests):,} tests break a rule. The first is “{first.label}”.")
+    return Verdict(MET, f"{text}. Each test has {study.length} items.")
+
+
+def precision(study: Study) -> Verdict:
+    low, high = study.questions.between
+    people = study.people.iloc[study.sample]
+    inside = people[(people.true >= low) & (people.true <= high)]
+    place = f"between {plain(low)} and {plain(high)}"
+    if not len(inside):
+        return Verdict(MEASURED, f"No examinee has a true ability {place}, so nothing is known of the standard error there.")
+    mean = standard_error(inside.information.mean())
+    return Verdict(MEASURED, f"The standard error is at most {inside.standard_error.max():.2f} logits in the tests of the {len(inside):,} "
+                          f"examinees with a true ability {place}, and {mean:.2f} from their mean information.")
+
+
+def target(study: Study) -> Iterator[Verdict]:
+    """Whether the mean information reaches the target at each true ability of the sample in its range."""
+    asked = study.questions.target
+    if not asked:
+        return
+    people = study.people.iloc[study.sample]
+    wanted = asked.information(people.true.to_numpy())
+    inside = ~np.isnan(wanted)
+    if not inside.any():
+        yield Verdict(MEASURED, "No examinee has a true ability in the range of the target.")
+        return
+    reached = int((people.information[inside] >= wanted[inside]).sum())
+    at = study.abilities()
+    gap = study.mean_information(at) - asked.information(at)
+    short = at[gap < 0]
+    text = f"{reached:,} of {inside.sum():,} tests in the range of the target reach it"
+    if len(short):
+        yield Verdict(NOT_MET, f"{text}. Their mean is below it from {plain(round(short[0], 2))} to {plain(round(short[-1], 2))}, "
+                               f"by at most {-np.nanmin(gap):.2f} of information.")
+    else:
+        yield Verdict(MET, f"{text}, and their mean reaches it at each ability.")
+
+
+def exposure(study: Study) -> Iterator[Verdict]:
+    rates = study.exposure(study.sample)
+    most, never = study.names[rates.argmax()], int((rates == 0).sum())
+    unseen = f"{never} of {len(rates)} items are never shown"
+    if not study.controlled:
+        yield Verdict(MEASURED, f"The plan has no exposure rate. {(rates > 0.9).sum()} items are shown in more than 90 % of the tests, "
+                             f"and {unseen}.")
+        return
+    above = int((rates > study.rate).sum())
+    if above:
+        yield Verdict(NOT_MET, f"{above} items are above the rate of {study.rate:.1%}; the greatest exposure is {rates.max():.1%} "
+                               f"(item {most}). {unseen[0].upper()}{unseen[1:]}.")
+    else:
+        yield Verdict(MET, f"No item is above the rate of {study.rate:.1%}; the greatest exposure is {rates.max():.1%} "
+                           f"(item {most}). {unseen[0].upper()}{unseen[1:]}.")
+
+
+def overlap(study: Study) -> Verdict:
+    text = f"Two examinees share {study.overlap(study.sample):.1%} of their items in the mean"
+    bands = [band for band in study.bands if not band.added and len(band.members) > 1]
+    if len(bands) < 2:
+        return Verdict(MEASURED, text + ".")
+    shares = [study.overlap(band.members) for band in bands]
+    worst = bands[int(np.argmax(shares))]
+    of = "estimate" if study.questions.by_estimate else "true ability"
+    return Verdict(MEASURED, f"{text}; of like ability up to {max(shares):.1%} ({of} {worst.label}).")
+
+
+def reliability(study: Study) -> Verdict:
+    people = study.people.iloc[study.sample]
+    value = marginal_reliability(people.true, people.posterior_sd ** 2)
+    if np.isnan(value):
+        return Verdict(MEASURED, "All examinees have one ability, so there is no marginal reliability.")
+    return Verdict(MEASURED, f"The marginal reliability is {value:.3f} for abilities {' '.join(study.run['of'])}.")
+
+
+def classification(study: Study) -> Iterator[Verdict]:
+    cuts = study.questions.cuts
+    if not len(cuts):
+        return
+    people = study.people.iloc[study.sample]
+    true, found = levels(people.true, cuts), levels(people.eap, cuts)
+    chances = level_chances(people.true.to_numpy(), people.standard_error.to_numpy(), cuts)
+    agreement, kappa = consistency(chances)
+    names = " and ".join(map(plain, cuts))
+    yield Verdict(MEASURED, f"At {'cut score' if len(cuts) == 1 else 'cut scores'} {names}, {(true == found).mean():.1%} of the examinees are in "
+                         f"their true level, {(found > true).mean():.1%} above and {(found < true).mean():.1%} below it. By the formulas the "
+                         f"accuracy is {accuracy(chances, true):.1%}, and two tests agree in {agreement:.1%} (kappa {kappa:.2f}).")
+
+
+def tails(study: Study) -> Iterator[Verdict]:
+    bands = table_by_band(study, [band for band in study.bands_of_truth if band.added])
+    if not len(bands):
+        return
+    worst = bands.loc[bands.bias.abs().idxmax()]
+    yield Verdict(MEASURED, f"In the tails the bias is at most {abs(worst.bias):.2f} logits "
+                         f"({'up' if worst.bias > 0 else 'down'}, {worst.band}), and the standard error at most "
+                         f"{bands.standard_error.max():.2f} ({bands.loc[bands.standard_error.idxmax()].band}).")
+
+
+def certificates(study: Study) -> Verdict:
+    marks = [one.proved for session in study.sessions for one in session.served]
+    if all(marks):
+        return Verdict(MET, f"Each of {len(marks):,} forms is proved best.")
+    return Verdict(MEASURED, f"{sum(marks):,} of {len(marks):,} forms are proved best.")

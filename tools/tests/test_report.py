@@ -1,0 +1,313 @@
+"""The report's formulas beside other computations of the same, and the page beside counts from its tables."""
+import csv
+import itertools
+import json
+import math
+import os
+import random
+import re
+import unittest
+from statistics import NormalDist
+
+from common import Folder
+from shadowtools.command import Refused
+from shadowtools.needs import is_there
+from test_simulate import ATTRIBUTES, Examination
+
+NEEDED = ("numpy", "scipy", "matplotlib", "pandas", "jinja2")
+needs_page = unittest.skipUnless(is_there(*NEEDED), "needs " + ", ".join("python3-" + name for name in NEEDED))
+if is_there(*NEEDED):
+    import numpy as np
+
+    from shadowtools.agency.irt import Item
+    from shadowtools.page import measures
+    from shadowtools.page.study import interval_bands, read_target, target_of
+
+NORMAL = NormalDist()
+
+
+@needs_page
+class Classification(unittest.TestCase):
+    def setUp(self):
+        """2,000 abilities that are the quantiles of N(0, 1)."""
+        self.ability = np.array([NORMAL.inv_cdf((k + 0.5) / 2000) for k in range(2000)])
+
+    def test_the_orthant_of_two_normals(self):
+        """One cut at the mean and errors as great as the ability: truth and estimate correlate by 1 / sqrt 2, two estimates by 1 / 2.
+        Two normals of correlation r have the same sign with 1 / 2 + arcsin(r) / pi (Sheppard 1899)."""
+        chances = measures.level_chances(self.ability, np.ones(2000), [0.0])
+        self.assertAlmostEqual(measures.accuracy(chances, measures.levels(self.ability, [0.0])), 0.5 + math.asin(math.sqrt(0.5)) / math.pi, 3)
+        agreement, kappa = measures.consistency(chances)
+        self.assertAlmostEqual(agreement, 0.5 + math.asin(0.5) / math.pi, 3)
+        self.assertAlmostEqual(kappa, (agreement - 0.5) / 0.5, 6)
+
+    def test_beside_drawn_estimates(self):
+        """Two cuts and errors that grow with ability: shares of two drawn estimates, within four of their standard errors."""
+        cuts, error = [-0.4, 0.9], 0.3 + 0.1 * np.abs(self.ability)
+        chances, rng = measures.level_chances(self.ability, error, cuts), random.Random(4)
+        right = same = 0
+        table = [[0] * 3 for _ in range(3)]
+        for ability, deviation in zip(self.ability.tolist() * 20, error.tolist() * 20):
+            one, other = (sum(rng.gauss(ability, deviation) >= cut for cut in cuts) for _ in range(2))
+            right += one == sum(ability >= cut for cut in cuts)
+            same += one == other
+            table[one][other] += 1
+        near = 4 * math.sqrt(0.25 / 40000)
+        self.assertLess(abs(measures.accuracy(chances, measures.levels(self.ability, cuts)) - right / 40000), near)
+        agreement, kappa = measures.consistency(chances)
+        self.assertLess(abs(agreement - same / 40000), near)
+        chance = sum(sum(table[k]) * sum(row[k] for row in table) for k in range(3)) / 40000 ** 2
+        self.assertLess(abs(kappa - (same / 40000 - chance) / (1 - chance)), 4 * near)
+
+    def test_chances_by_hand(self):
+        chances = measures.level_chances(np.array([0.2]), np.array([0.5]), [0.0, 1.0])[0]
+        low, high = NORMAL.cdf((0.0 - 0.2) / 0.5), NORMAL.cdf((1.0 - 0.2) / 0.5)
+        for found, wanted in zip(chances, (low, high - low, 1 - high)):
+            self.assertAlmostEqual(float(found), wanted, 9)
+
+    def test_a_cut_belongs_to_the_level_above(self):
+        self.assertEqual(measures.levels(np.array([-1.0, 0.0, 0.4, 0.5, 2.0]), [0.0, 0.5]).tolist(), [0, 1, 1, 2, 2])
+
+
+@needs_page
+class Precision(unittest.TestCase):
+    def test_reliability_is_the_squared_correlation(self):
+        """Ability N(0, 1) measured with the error variance 1 / 3 has the posterior variance 1 / 4, and the squared correlation of
+        posterior mean and ability is 3 / 4."""
+        rng = random.Random(9)
+        ability = [rng.gauss(0, 1) for _ in range(20000)]
+        mean = [0.75 * (value + rng.gauss(0, math.sqrt(1 / 3))) for value in ability]
+        found = measures.marginal_reliability(np.array(ability), np.full(20000, 0.25))
+        self.assertAlmostEqual(found, 0.75, 2)
+        self.assertAlmostEqual(np.corrcoef(ability, mean)[0, 1] ** 2, found, 2)
+        self.assertTrue(math.isnan(measures.marginal_reliability(np.zeros(5), np.ones(5))))
+
+    def test_the_standard_error_of_items(self):
+        """Sixteen 1PL items at the ability inform 16 / 4, and their standard error is 1 / 2."""
+        information = 16 * Item("x", "1PL", [0.7]).information(0.7)
+        self.assertAlmostEqual(float(measures.standard_error(information)[0]), 0.5, 9)
+        self.assertEqual(float(measures.standard_error(np.zeros(1))[0]), math.inf)
+
+    def test_local_weights(self):
+        """They add up to 1, are greatest near the place, and give a straight line back in the middle of an even spread."""
+        places = np.linspace(-2, 2, 401)
+        weights = measures.local_weights(np.array([-0.5, 0.0, 0.5]), places)
+        self.assertTrue(np.allclose(weights.sum(1), 1))
+        self.assertEqual([float(places[k]) for k in weights.argmax(1)], [-0.5, 0.0, 0.5])
+        self.assertTrue(np.allclose(weights @ (3 * places + 1), [-0.5, 1.0, 2.5]))
+        self.assertTrue(np.allclose(measures.local_weights(np.array([5.0]), np.zeros(4)), 0.25))
+
+
+@needs_page
+class Overlap(unittest.TestCase):
+    def test_beside_all_pairs(self):
+        rng = random.Random(2)
+        tests = [frozenset(rng.sample(range(9), 4)) for _ in range(12)]
+        shown = np.array([[item in test for item in range(9)] for test in tests])
+        pairs = [len(one & other) for one, other in itertools.combinations(tests, 2)]
+        self.assertAlmostEqual(measures.mean_overlap(shown, 4), sum(pairs) / len(pairs) / 4, 9)
+        self.assertEqual(sorted(measures.common_items(shown)), sorted(pairs))
+
+    def test_the_formula_of_many_examinees(self):
+        """n var(r) / L + L / n of the rates r is ((N - 1) T + 1) / N of the mean T over the pairs of N tests."""
+        rng = random.Random(3)
+        shown = np.zeros((40, 10), bool)
+        for row in shown:
+            row[rng.sample(range(10), 3)] = True
+        found = measures.mean_overlap(shown, 3)
+        self.assertAlmostEqual(10 * shown.mean(0).var() / 3 + 3 / 10, (39 * found + 1) / 40, 9)
+        self.assertTrue(math.isnan(measures.mean_overlap(shown[:1], 3)))
+
+
+@needs_page
+class Targets(Folder):
+    def test_a_file_of_standard_errors(self):
+        target = read_target(self.write("t", "ability,se\n-1,0.5\n1,0.25\n"))
+        found = target.information(np.array([-1.0, 0.0, 1.0, 1.5]))
+        self.assertTrue(np.allclose(found[:3], [4, 1 / 0.375 ** 2, 16]))
+        self.assertTrue(math.isnan(found[3]))
+
+    def test_a_file_of_information_and_three_numbers(self):
+        self.assertEqual(read_target(self.write("t", "ability,information\n-1,2\n1,4\n")).information(np.zeros(1)).tolist(), [3.0])
+        self.assertEqual(target_of(["-1", "1", "2.5"]).information(np.zeros(1)).tolist(), [2.5])
+
+    def test_targets_that_are_none(self):
+        for text in ("ability,se\n0,0.5\n", "ability,se\n1,0.5\n0,0.5\n", "ability,se\n0,0.5\n1,0\n", "a,b\n0,1\n1,1\n",
+                     "ability,se\n0,nan\n1,1\n", "ability,information,se\n0,1,1\n1,1,1\n", ""):
+            with self.subTest(text), self.assertRaises(Refused):
+                read_target(self.write("t", text))
+        for words in (["1", "0", "2"], ["0", "1", "x"], ["0", "1", "nan"], ["nowhere"]):
+            with self.subTest(words), self.assertRaises(Refused):
+                target_of(words)
+
+    def test_bands(self):
+        found = interval_bands(np.array([-3.0, -1.0, 0.2, 0.4]), np.array([5, 6, 7, 8]), (-1.0, 0.0, 1.0))
+        self.assertEqual([(band.label, band.members.tolist()) for band in found],
+                         [("below \N{MINUS SIGN}1", [5]), ("\N{MINUS SIGN}1 to 0", [6]), ("0 to 1", [7, 8])])
+
+
+@needs_page
+class Pages(Examination):
+    """The page of one simulation, which is made once and copied into the folder of each test."""
+    made = {}
+
+    def setUp(self):
+        if not self.made:
+            super().setUp()
+            self.simulate("--tails", "-2", "2", "--each", "2")
+            for name in os.listdir(self.folder):
+                with open(self.path(name), "rb") as file:
+                    self.made[name] = file.read()
+            return
+        Folder.setUp(self)
+        for name, data in self.made.items():
+            with open(self.path(name), "wb") as file:
+                file.write(data)
+        self.fake = self.path("fake")
+        os.chmod(self.fake, 0o755)
+
+    def report(self, *words):
+        return self.tool("report", "e", "--run", "run", "--to", "page.html", *words)
+
+    def rows(self, name):
+        return list(csv.DictReader(self.read(name).splitlines()))
+
+    def test_the_page(self):
+        status, said, errors = self.report("--target", "-1", "1", "0.5", "--cuts", "-0.5", "0.5")
+        self.assertEqual((status, errors), (0, ""))
+        page = self.read("page.html")
+        for title in ("What was simulated", "Rules of the plan", "Precision by ability", "Recovery of ability", "Reliability and decisions",
+                      "Exposure and overlap", "Eligibility", "Three examinees", "Forms step by step", "Proofs, nodes and time", "Items", "The plan"):
+            self.assertIn(f">{title}</h2>", page)
+        self.assertIsNone(re.search(r"<script|https?://", re.sub(r"base64,[A-Za-z0-9+/=]+", "", page)))
+        self.assertIn("1 of 1 rules are met in each of 8 tests. Each test has 4 items.", page)
+        self.assertIn(self.read("e.plan.txt").splitlines()[3], page)
+        run = json.loads(self.read("run.run.json"))
+        for name in ("bank", "plan", "map", "program", "journal", "tails"):
+            self.assertIn(run["sha256"][name], page)
+        self.assertIn(run["date"], page)
+        self.report("--target", "-1", "1", "0.5", "--cuts", "-0.5", "0.5", "--picture", "glance.png")
+        self.assertEqual(self.read("page.html"), page)
+        self.assertGreater(os.path.getsize(self.path("glance.png")), 10000)
+
+    def test_exposure_from_the_answers(self):
+        """The tables of items and answers agree, and the page has their counts; the tails count in no total."""
+        self.report()
+        given = [row for row in self.rows("page.answers.csv") if int(row["booking"]) < 4]
+        self.assertEqual(len(given), 16)
+        counts = {item: sum(row["item"] == item for row in given) for item in (f"I{k}" for k in range(8))}
+        items = self.rows("page.items.csv")
+        self.assertEqual({row["item"]: int(row["shown"]) for row in items}, counts)
+        for row in items:
+            self.assertAlmostEqual(float(row["exposure"]), counts[row["item"]] / 4, 4)
+            self.assertEqual(row["never_shown"], str(counts[row["item"]] == 0))
+        page = self.read("page.html")
+        self.assertIn(f"<dt>Items never shown</dt><dd>{sum(count == 0 for count in counts.values())} of 8", page)
+        self.assertIn(f"<dt>Greatest exposure</dt><dd>{max(counts.values()) / 4:.3f} (item ", page)
+        pairs = itertools.combinations([{r["item"] for r in given if r["booking"] == str(k)} for k in range(4)], 2)
+        overlap = sum(len(one & other) for one, other in pairs) / 6 / 4
+        self.assertIn(f"<dt>Mean overlap of two tests</dt><dd>{overlap:.3f}</dd>", page)
+        self.assertIn("exposure at 2", items[0])
+
+    def test_sentences_from_the_sessions(self):
+        """The standard error and the decisions of the verdicts, counted from the table of sessions."""
+        self.report("--cuts", "0", "--between", "-3", "3")
+        sessions, page = [row for row in self.rows("page.sessions.csv") if row["part"] == "sample"], self.read("page.html")
+        worst = max(float(row["standard_error"]) for row in sessions)
+        mean = 1 / math.sqrt(sum(float(row["information"]) for row in sessions) / 4)
+        self.assertIn(f"The standard error is at most {worst:.2f} logits in the tests of the 4 examinees with a true ability between "
+                      f"−3 and 3, and {mean:.2f} from their mean information.", page)
+        right = sum((float(row["true"]) >= 0) == (float(row["eap"]) >= 0) for row in sessions)
+        self.assertIn(f"At cut score 0, {right / 4:.1%} of the examinees are in their true level", page)
+
+    def test_a_target_that_is_missed(self):
+        self.report("--target", "-3", "3", "9")
+        page = self.read("page.html")
+        self.assertIn("<b>not met</b><span>0 of 4 tests in the range of the target reach it. Their mean is below it", page)
+        self.report("--target", "-3", "3", "0.01")
+        self.assertIn("<b>met</b><span>4 of 4 tests in the range of the target reach it, and their mean reaches it", self.read("page.html"))
+
+    def test_bands_of_the_estimate(self):
+        self.report("--bands", "0", "--by", "estimate")
+        below = sum(float(row["eap"]) < 0 for row in self.rows("page.sessions.csv")[:4])
+        self.assertIn("A band is of the mean (EAP).", self.read("page.html"))
+        self.assertIn(f'<td class="text">0 and above</td><td class="">{4 - below}</td>', self.read("page.html"))
+
+    def test_points_have_a_band_each(self):
+        self.simulate("--true", "points", "-1", "1")
+        status, _, errors = self.report()
+        self.assertEqual((status, errors), (0, ""))
+        for point in ("at −1", "at 1"):
+            self.assertIn(f'<td class="text">{point}</td><td class="">2</td>', self.read("page.html"))
+
+    def test_names_are_escaped(self):
+        self.write("items", self.read("items").replace("I3,", "<b>x$_3$,"))
+        self.write("attributes", ATTRIBUTES.replace("I3,", "<b>x$_3$,"))
+        self.write("constraints", self.read("constraints").replace("evens", "<i>short & sweet"))
+        self.tool("irt_bank", "--items", "items", "--attributes", "attributes", "--constraints", "constraints", "--out", "e", "--grid", "-3", "3", "7")
+        self.simulate()
+        self.assertEqual(self.report()[0], 0)
+        page = self.read("page.html")
+        self.assertNotIn("<b>x", page)
+        self.assertNotIn("<i>short", page)
+        self.assertIn("&lt;b&gt;x$_3$", page)
+        self.assertIn("&lt;i&gt;short &amp; sweet", page)
+
+    def test_the_key_of_the_draws_is_not_shown(self):
+        key = "0123456789abcdef" * 4
+        self.tool("irt_bank", "--items", "items", "--attributes", "attributes", "--constraints", "constraints", "--out", "e", "--grid",
+                  "-3", "3", "7", "--rate", "2", "3", "--key", key)
+        self.assertIn(key, self.read("e.plan.txt"))
+        self.simulate()
+        self.assertEqual(self.report()[0], 0)
+        page = self.read("page.html")
+        self.assertNotIn(key, page)
+        self.assertIn("key (not shown)", page)
+        shown = [float(row["exposure"]) for row in self.rows("page.items.csv")]
+        self.assertIn(f"{sum(rate > 2 / 3 for rate in shown)} items are above the rate of 66.7%", page)
+
+    def test_a_broken_rule_is_told(self):
+        self.simulate(fake="rules")
+        status, _, _ = self.report()
+        self.assertEqual(status, 1)
+        self.assertIn("<b>not met</b><span>0 of 1 rules are met in each of 4 tests; 4 tests break a rule.", self.read("page.html"))
+        self.assertIn('<p class="bad">Rules are broken in 4 tests.</p>', self.read("page.html"))
+
+    def test_files_that_do_not_agree(self):
+        """A journal of another run, a run of another bank, a bank of another map, and words that are none."""
+        run = self.read("run.run.json")
+        with open(self.path("run.journal"), "rb") as file:
+            journal = file.read()
+        with open(self.path("run.journal"), "wb") as file:
+            file.write(journal[:-2] + bytes([journal[-2] ^ 1]) + journal[-1:])
+        self.refused("is not the journal of the run")
+        with open(self.path("run.journal"), "wb") as file:
+            file.write(journal)
+        self.write("run.run.json", json.dumps(dict(json.loads(run), true=[0.0], examinees=1)))
+        self.refused("is not the journal of run.run.json")
+        self.write("run.run.json", run.replace(json.loads(run)["sha256"]["plan"], "0" * 64))
+        self.refused("is of another plan")
+        self.write("run.run.json", run)
+        for words, said in ((["--cuts", "1", "0"], "--cuts 1.0 0.0"), (["--bands", "nan"], "--bands nan"), (["--target", "1", "2"], "LOW HIGH"),
+                            (["--to", "nowhere/page.html"], "nowhere/page.html"), (["--between", "1", "-1"], "--between"),
+                            (["--template", "none"], "none: No such file")):
+            self.refused(said, *words)
+        self.write("e.bank.csv", self.read("e.bank.csv").replace("1", "2", 1))
+        self.refused("e.bank.csv: not the bank")
+
+    def refused(self, said, *words):
+        status, _, errors = self.report(*words)
+        self.assertEqual((status, errors.count("\n"), said in errors), (1, 1, True), errors)
+
+    def test_a_template_of_an_agency(self):
+        self.write("own", "{{ title }}: {{ verdicts | length }} of {{ nothing }}")
+        self.refused("own: 'nothing' is undefined", "--template", "own")
+        self.write("own", "{% for one in verdicts %}\n{% if %}")
+        self.refused("own: line 2", "--template", "own")
+        self.write("own", "{{ title }} in {{ sections | length }} sections")
+        self.assertEqual(self.report("--template", "own")[0], 0)
+        self.assertEqual(self.read("page.html"), "Simulated examination: e in 12 sections\n")
+
+
+if __name__ == "__main__":
+    unittest.main()
