@@ -46,14 +46,17 @@ show_score = false
 SETTINGS
 fi
 
-# Keeps shadowd up: after its end it starts again in five seconds, as a service manager does.
+# Keeps shadowd up: after its end it starts again in five seconds, unless a new start meets the same fault.
 serve() {
     export SHADOWD_JOURNAL=$folder/journal SHADOWD_LISTEN=127.0.0.1:$((port + 2)) SHADOWD_WORKERS=16
     trap 'kill $child 2>/dev/null; exit 0' TERM
     while true; do
         "$program" serve "$here/../$example/$example.bank.csv" "$folder/plan.txt" &
         child=$!
-        wait $child || true
+        echo $child > "$folder/shadowd.pid"
+        status=0
+        wait $child || status=$?
+        case $status in 2 | 3 | 4 | 6 | 11 | 12) exit $status ;; esac
         sleep 5
     done
 }
@@ -65,7 +68,7 @@ trap 'exit 0' INT TERM
 children="$children $!"
 "$python" "$here/control_room.py" "$folder/settings.toml" &
 children="$children $!"
-until (exec 3<>"/dev/tcp/127.0.0.1/$port" 4<>"/dev/tcp/127.0.0.1/$((port + 1))") 2>/dev/null; do
+until (exec 3<>"/dev/tcp/127.0.0.1/$port" 4<>"/dev/tcp/127.0.0.1/$((port + 1))" 5<>"/dev/tcp/127.0.0.1/$((port + 2))") 2>/dev/null; do
     for child in $children; do kill -0 "$child" 2>/dev/null || exit 1; done
     sleep 0.2
 done

@@ -3,7 +3,7 @@ import re
 
 from common import Examination, needs_browser, needs_flask, needs_program, wait_until
 
-WIDTHS = (1280, 390, 320)
+WIDTHS = (1280, 320)
 STARTED, IDLE = [], []  # browsers of this run, and those of them that no test has
 
 
@@ -80,7 +80,7 @@ class InBrowser(Examination):
 
     def browser(self):
         """A browser without cookies, from an earlier test if one has ended with it."""
-        driver = IDLE.pop() if IDLE else self.new_browser()
+        driver = IDLE.pop() if IDLE else self.new_browser(self.options())
         self.addCleanup(self.put_back, driver)
         return driver
 
@@ -93,20 +93,29 @@ class InBrowser(Examination):
         driver.get("about:blank")
         IDLE.append(driver)
 
-    def new_browser(self, profile=None, scripts=True):
+    def options(self):
         from selenium import webdriver
-        from selenium.webdriver.chrome.service import Service
         options = webdriver.ChromeOptions()
         options.binary_location = "/usr/bin/chromium"
         for word in ("--headless=new", "--no-sandbox", "--disable-gpu", "--disable-dev-shm-usage", "--window-size=1280,900"):
             options.add_argument(word)
-        if profile:
-            options.add_argument(f"--user-data-dir={profile}")
-        if not scripts:
-            options.add_experimental_option("prefs", {"profile.managed_default_content_settings.javascript": 2})
+        return options
+
+    def new_browser(self, options):
+        from selenium import webdriver
+        from selenium.webdriver.chrome.service import Service
         driver = webdriver.Chrome(service=Service("/usr/bin/chromedriver"), options=options)
         driver.set_page_load_timeout(30)
         STARTED.append(driver)
+        return driver
+
+    def without_scripts(self):
+        """A browser with scripts off, whose cookies are in the test's folder."""
+        options = self.options()
+        options.add_argument(f"--user-data-dir={self.path('profile')}")
+        options.add_experimental_option("prefs", {"profile.managed_default_content_settings.javascript": 2})
+        driver = self.new_browser(options)
+        self.addCleanup(driver.quit)
         return driver
 
     def keys(self, driver, *keys):
@@ -139,15 +148,22 @@ class InBrowser(Examination):
 @needs_program
 @needs_browser
 class Sittings(InBrowser):
-    def test_a_whole_test_by_keyboard_without_scripts(self):
+    def test_a_whole_test_by_keyboard_without_scripts_on_a_laptop_that_is_closed(self):
+        """After the fifth item the browser ends. It begins again with what it has on the disk."""
         from selenium.webdriver.common.keys import Keys
-        driver, code = self.new_browser(scripts=False), self.desk().issue(70)
+        driver, code = self.without_scripts(), self.desk().issue(70)
         driver.get(self.base)
         self.keys(driver, Keys.TAB, code, Keys.ENTER)
         self.title(driver, "Before you begin")
         self.keys(driver, Keys.TAB, Keys.ENTER)
         for step in range(20):
             self.title(driver, f"Item {step + 1} of 20")
+            if step == 5:
+                shown = self.text(driver)
+                driver.quit()
+                driver = self.without_scripts()
+                driver.get(self.base + "test")
+                self.assertEqual(self.text(driver), shown)
             self.keys(driver, Keys.TAB, Keys.SPACE, *[Keys.ARROW_DOWN] * (step % 4), Keys.ENTER)
         self.title(driver, "The test has ended")
         self.assertIn("All 20 items are answered", self.text(driver))
@@ -202,8 +218,8 @@ class Sittings(InBrowser):
         session = self.journal_sessions()[0]
         self.assertEqual(session.responses, [self.key_of(item, option) for item, option in zip(session.items, (0, 1))])
 
-    def test_two_examinees_and_a_closed_laptop(self):
-        first, second = self.new_browser(self.path("profile")), self.browser()
+    def test_two_examinees(self):
+        first, second = self.browser(), self.browser()
         self.begin(first, 70)
         self.begin(second, 71)
         for step in range(3):
@@ -211,14 +227,8 @@ class Sittings(InBrowser):
             self.choose(second, 3)
             self.title(first, f"Item {step + 2} of")
             self.title(second, f"Item {step + 2} of")
-        shown = self.text(first)
-        first.quit()
-        again = self.new_browser(self.path("profile"))
-        self.addCleanup(again.quit)
-        again.get(self.base + "test")
-        self.assertEqual(self.text(again), shown)
-        self.choose(again, 0)
-        self.title(again, "Item 5 of")
+        self.choose(first, 0)
+        self.title(first, "Item 5 of")
         for session, booking, option, count in zip(self.journal_sessions(), (70, 71), (0, 3), (4, 3)):
             self.assertEqual((session.booking, session.responses),
                              (booking, [self.key_of(item, option) for item in session.items[:count]]))
@@ -244,7 +254,7 @@ class Sittings(InBrowser):
 @needs_program
 @needs_browser
 class Looks(InBrowser):
-    """Each page at three widths: names, contrast, sizes, and nothing beside the window."""
+    """Each page, wide and as narrow as text may have to reflow to: names, contrast, sizes, and nothing beside the window."""
     example = "aggression"
 
     def look(self, driver, name):
@@ -266,6 +276,10 @@ class Looks(InBrowser):
     def test_each_page(self):
         from selenium.webdriver.common.keys import Keys
         driver = self.browser()
+        first = driver.current_window_handle
+        driver.switch_to.new_window("tab")
+        drawn, second = self.drawn(driver), driver.current_window_handle
+        driver.switch_to.window(first)
         driver.get(self.base)
         self.assertIn(("textbox", "Code"), self.look(driver, "sign in"))
         driver.find_element("id", "code").send_keys("WRONG\n")
@@ -305,19 +319,20 @@ class Looks(InBrowser):
         self.look(driver, "the last page")
         driver.get(self.base + "nowhere")
         self.look(driver, "a fault")
-        self.control_room(driver)
-
-    def control_room(self, driver):
-        self.start_pages("control_room", "control_listen")
-        driver.get(f"http://staff:{'p' * 16}@127.0.0.1:{self.ports['control_listen']}/?renew=no")
-        self.title(driver, "Control room")
-        self.look(driver, "the control room")
+        driver.switch_to.window(second)
+        wait_until(lambda: drawn not in self.text(driver), "the control room renews itself")
+        driver.get(f"http://127.0.0.1:{self.ports['control_listen']}/?renew=no")
         self.assertIn("Of 1 finished sessions", self.text(driver))
+        self.look(driver, "the control room")
         driver.find_element("css selector", "summary").click()
         self.look(driver, "the control room with its table")
-        driver.get(f"http://127.0.0.1:{self.ports['control_listen']}/")
-        drawn = re.search(r"Drawn at (\S+)", self.text(driver)).group(1)
-        wait_until(lambda: drawn not in self.text(driver), "the control room renews itself")
+
+    def drawn(self, driver):
+        """Opens the control room: when its page was drawn."""
+        self.start_pages("control_room", "control_listen")
+        driver.get(f"http://staff:{'p' * 16}@127.0.0.1:{self.ports['control_listen']}/")
+        self.title(driver, "Control room")
+        return re.search(r"Drawn at (\S+)", self.text(driver)).group(1)
 
 
 @needs_flask

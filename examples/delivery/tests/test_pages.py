@@ -1,5 +1,7 @@
 """The application without a browser: who may ask, what counts as an answer, and what a lost reply leaves."""
+import contextlib
 import csv
+import io
 import os
 import re
 import shutil
@@ -365,10 +367,14 @@ class Texts(WithStandIn):
                 self.assertEqual(open(made, encoding="utf-8").read(), open(kept, encoding="utf-8").read(), name)
 
     def test_wrong_settings(self):
+        import control_room
+        import delivery
+        import web
         for words in ([], ["a", "b"], [self.path("none")], [self.write("bad", "title = 7 7")], [self.write("few", "title = 'x'")]):
-            for name in ("delivery.py", "control_room.py"):
-                done = subprocess.run([sys.executable, os.path.join(HERE, name), *words], capture_output=True, text=True, timeout=30, check=False)
-                self.assertEqual((done.returncode, done.stderr.count("\n")), (1 if len(words) == 1 else 2, 1), done.stderr)
+            for make_app in (delivery.make_app, control_room.make_app):
+                with contextlib.redirect_stderr(io.StringIO()) as said:
+                    self.assertEqual(web.run(make_app, "listen", words), 1 if len(words) == 1 else 2)
+                self.assertEqual(said.getvalue().count("\n"), 1, said.getvalue())
 
 
 @needs_flask
