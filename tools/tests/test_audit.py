@@ -1,4 +1,5 @@
 """The audit of a journal, by hand-made files and beside the program on drills."""
+import hashlib
 import os
 import random
 import shutil
@@ -69,6 +70,59 @@ class Files(Folder):
                 ([started, b"\5\0\0\0\0"], (0, "entries 2 sessions 1 finished 1 proved 0 unproved 0 aside 0 nodes 0"))):
             with self.subTest(payloads):
                 self.assertEqual(self.said(b"SHADOWJ1" + b"".join(map(framed, payloads)) + b"\0"), wanted)
+
+
+class Seals(Folder):
+    """A seal is the SHA-256 of the bytes that no later record changes."""
+
+    def setUp(self):
+        super().setUp()
+        self.payloads = a.history()
+        self.journal("now", self.payloads)
+
+    def journal(self, name, payloads, after=b""):
+        with open(self.path(name), "wb") as file:
+            file.write(a.journal(payloads) + after)
+
+    def test_a_journal_goes_on_from_each_of_its_seals(self):
+        for many in range(len(self.payloads) + 1):
+            self.journal("then", self.payloads[:many])
+            status, said, _ = self.tool("audit", "--seal", "then")
+            data = a.journal(self.payloads[:many])[:-1]
+            self.assertEqual((status, said), (0, f"seal records {many} bytes {len(data)} sha256 {hashlib.sha256(data).hexdigest()}\n"))
+            self.write("seal", said)
+            self.assertEqual(self.tool("audit", "--against", "seal", "now")[0], 0)
+            self.journal("then", self.payloads[:many], b"\0a record whose gate is not open")
+            self.assertEqual(self.tool("audit", "--against", "seal", "then")[:2], (0, said + f"from the seal of {many} records\n"))
+
+    def test_another_history_does_not(self):
+        """The flipped last answer that an audit takes, and a record that is gone, are seen beside the seal."""
+        self.write("bank", a.BANK)
+        self.write("plan", a.PLAN)
+        self.write("seal", self.tool("audit", "--seal", "now")[1])
+        self.journal("flipped", self.payloads[:-1] + [a.answered(0, 2, 0)])
+        self.assertEqual(self.tool("audit", "bank", "plan", "flipped")[0], 0)
+        self.journal("shorter", self.payloads[:-1])
+        for name in ("flipped", "shorter"):
+            self.assertEqual(self.tool("audit", "--against", "seal", name)[:2], (6, "journal: not from the seal of 9 records\n"))
+
+    def test_files_that_are_none(self):
+        self.write("seal", "seal records 1\n")
+        for words in (("--against", "seal", "now"), ("--against", "now", "now"), ("--seal", "nowhere"), ("--against", "seal", "nowhere")):
+            status, said, errors = self.tool("audit", *words)
+            self.assertEqual((status, said, len(errors.splitlines())), (1, "", 1))
+        self.write("now", "no journal at all")
+        self.assertEqual(self.tool("audit", "--seal", "now")[:2], (6, "journal: header\n"))
+
+
+class Unread(Folder):
+    def test_texts_that_shadowd_does_not_take(self):
+        for bank, plan, wanted in ((a.BANK, "length", "plan: line 1 shape"), ("x", a.PLAN, "bank: header column 0")):
+            self.write("bank", bank)
+            self.write("plan", plan)
+            for tool, last in (("audit", "journal"), ("check_tree", "0006")):
+                self.assertEqual(self.tool(tool, "bank", "plan", last), (1, "", wanted + "\n"))
+        self.assertEqual(self.tool("audit", "no", "plan", "journal"), (1, "", "no: No such file or directory\n"))
 
 
 @needs_program

@@ -5,6 +5,7 @@
     catr        a,b,c,d; alphaj,betaj1,.. (GRM); alphaj,deltaj1,.. (GPCM); deltaj1,.. (PCM)
     mirt        coef(x, simplify = TRUE)$items: a1,d,g,u; a1,d1,d2,.. (graded); a1,ak0,..,d0,d1,.. (gpcm)
 
+In each of them a row with the MODEL `FIELD` is an item in field test. It has no parameters but, in PAR1, its number of categories.
 In mirt d is an intercept: b = -d / a1, and g and u are the lower and the upper asymptote. In catR and in plain columns d is the
 upper asymptote. A column that the convention does not have is refused, and so is a value that the item's model does not use.
 """
@@ -12,7 +13,7 @@ import re
 from dataclasses import dataclass, field
 from typing import Callable, Dict, List, Optional, Sequence, Set, Tuple
 
-from shadowtools.agency.irt import DICHOTOMOUS, POLYTOMOUS, SYNONYMS, Item, fault
+from shadowtools.agency.irt import DICHOTOMOUS, FIELD, POLYTOMOUS, SYNONYMS, Item, fault
 from shadowtools.command import Refused
 from shadowtools.formats.tables import ABSENT, Dialect, Row, number, read_table
 
@@ -200,6 +201,11 @@ def of_columns(line: Line) -> Tuple[str, List[float]]:
                    if letter in PLAIN.get(model, letters) and letter in letters]
 
 
+def of_field(line: Line) -> Tuple[str, List[float]]:
+    """An item in field test: its number of categories in PAR1, or 2."""
+    return FIELD, line.numbers("par") or [2.0]
+
+
 READERS: Dict[str, Callable[[Line], Tuple[str, List[float]]]] = {
     "testdesign": of_testdesign, "columns": of_columns, "catr": of_catr, "mirt": of_mirt}
 
@@ -216,7 +222,7 @@ def read_items(path: str, reading: Reading = Reading()) -> Tuple[List[Item], Dic
         if name in lines:
             raise Refused(f"{line.where}: item {name} is in line {lines[name]} too")
         lines[name] = number_of_line
-        model, parameters = READERS[form](line)
+        model, parameters = of_field(line) if line.model() == FIELD else READERS[form](line)
         items.append(tested(line.where, Item(name, model, parameters)))
         line.require_used(model)
     if not 1 <= len(items) <= MOST_ITEMS:
@@ -246,7 +252,7 @@ def named_table(path: str, reading: Reading) -> Tuple[Columns, List[Tuple[int, R
 def tested(where: str, item: Item) -> Item:
     """The item, where its numbers are an item of its model that a bank can have."""
     where = f"{where}: item {item.name}"
-    if item.model not in DICHOTOMOUS and item.model not in POLYTOMOUS:
+    if item.model not in (*DICHOTOMOUS, *POLYTOMOUS, FIELD):
         raise Refused(f"{where}: model {item.model!r} is not known")
     why = fault(item)
     if why:

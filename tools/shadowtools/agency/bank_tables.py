@@ -6,7 +6,7 @@ from typing import List, Optional, Sequence, Tuple
 
 import numpy as np
 
-from shadowtools.agency.irt import Item
+from shadowtools.agency.irt import FIELD, Item
 from shadowtools.command import Refused
 from shadowtools.formats.tables import is_number
 
@@ -67,7 +67,7 @@ class Tables:
             raise Refused(f"item {item.name}: information {exact.max():.0f} is above {MOST_INFORMATION} in this unit; "
                           f"lower --information-unit (at most {most:.6g})")
         whole_numbers = np.rint(exact).astype(int)
-        if whole_numbers.max() < 10:
+        if whole_numbers.max() < 10 and item.model != FIELD:
             self.faint.append(item.name)
         self.worst = max(self.worst, float(np.abs(exact - whole_numbers).max()) / self.information_unit)
         return whole_numbers
@@ -97,6 +97,8 @@ def item_warnings(items: Sequence[Item], theta: np.ndarray) -> List[str]:
     """What is unusual in single items; each kind in one line with its first items."""
     kinds = {"slopes below 0.2 or above 3": [], "lower asymptotes above 0.5": [], "difficulties outside the grid": []}
     for item in items:
+        if item.model == FIELD:
+            continue
         slope, place, lower = key_numbers(item)
         if not 0.2 <= slope <= 3:
             kinds["slopes below 0.2 or above 3"].append(item.name)

@@ -9,7 +9,7 @@ from dataclasses import dataclass
 from typing import Dict, List, Optional
 
 from shadowtools.agency.program import run
-from shadowtools.checkers import audit
+from shadowtools.checkers import audit, mutate_bank, text_readers
 from shadowtools.command import Refused
 from shadowtools.formats.examination import BankItem, Plan, opened, read_bank, read_map, read_plan, require_agreement
 
@@ -59,7 +59,6 @@ def require_taken(bank: str, plan: str, program: Optional[str]) -> None:
     if program and os.path.exists(program):
         said_by(program, "check", bank, plan)
         return
-    from shadowtools.checkers import mutate_bank, text_readers   # the first makes a table of all headers
     path = bank
     try:
         grid, items = mutate_bank.read(bytes_of(bank))

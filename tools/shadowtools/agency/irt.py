@@ -8,6 +8,8 @@ the calibration. The models, their parameters in the order that `Item.parameters
     GR  a b1 b2 ..                Samejima, Psychometrika Monograph 17, 1969; thresholds ascend
     PC  b1 b2 ..                  Masters, Psychometrika 47, 1982
     GPC a b1 b2 ..                Muraki, Applied Psychological Measurement 16, 1992; steps in any order
+    FIELD m                       an item in field test with m categories: each answer equally likely at each ability, so it
+                                  informs nothing and changes no estimate
 """
 from dataclasses import dataclass, field
 from typing import Dict, List, Optional, Tuple
@@ -16,6 +18,7 @@ import numpy as np
 
 DICHOTOMOUS = {"1PL": 1, "2PL": 2, "3PL": 3, "4PL": 4}
 POLYTOMOUS = ("GR", "GPC", "PC")
+FIELD = "FIELD"
 SYNONYMS = {
     "RASCH": "1PL", "1PLM": "1PL", "2PLM": "2PL", "3PLM": "3PL", "4PLM": "4PL",
     "GRM": "GR", "GRADED": "GR", "GPCM": "GPC", "PCM": "PC",
@@ -36,6 +39,8 @@ class Item:
     def categories(self) -> int:
         if self.model in DICHOTOMOUS:
             return 2
+        if self.model == FIELD:
+            return int(self.parameters[0])
         return len(self.parameters) + (self.model == "PC")
 
     def asymptotes(self) -> Tuple[float, float, float, float]:
@@ -54,6 +59,8 @@ class Item:
     def probabilities(self, theta, scaling: float = 1.0) -> np.ndarray:
         """The probability of each response, as an array [response, ability]."""
         theta = np.atleast_1d(np.asarray(theta, float))
+        if self.model == FIELD:
+            return np.full((self.categories, len(theta)), 1 / self.categories)
         if self.model in DICHOTOMOUS:
             a, b, c, d = self.asymptotes()
             right, wrong = both_tails(scaling * a * (theta - b))
@@ -69,6 +76,8 @@ class Item:
     def information(self, theta, scaling: float = 1.0) -> np.ndarray:
         """Fisher information at each ability."""
         theta = np.atleast_1d(np.asarray(theta, float))
+        if self.model == FIELD:
+            return np.zeros(len(theta))
         chances = self.probabilities(theta, scaling)
         if self.model in DICHOTOMOUS:
             a, b, c, d = self.asymptotes()
@@ -89,6 +98,8 @@ class Item:
         """The probability of each response, and its first and second derivative by ability."""
         theta = np.atleast_1d(np.asarray(theta, float))
         chances = self.probabilities(theta, scaling)
+        if self.model == FIELD:
+            return chances, np.zeros_like(chances), np.zeros_like(chances)
         if self.model in DICHOTOMOUS:
             a, b, c, d = self.asymptotes()
             right, wrong = both_tails(scaling * a * (theta - b))
@@ -136,6 +147,8 @@ def fault(item: Item) -> Optional[str]:
     p, model = item.parameters, item.model
     if not all(np.isfinite(v) for v in p):
         return "a parameter is not finite"
+    if model == FIELD:
+        return None if len(p) == 1 and p[0] in range(2, 1000) else "FIELD takes its number of categories, 2 or more"
     if model in DICHOTOMOUS and len(p) != DICHOTOMOUS[model]:
         return f"{model} takes {DICHOTOMOUS[model]} parameters, has {len(p)}"
     if model in ("GR", "GPC") and len(p) < 2:

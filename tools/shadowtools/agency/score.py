@@ -23,7 +23,7 @@ empty journal on; it can't be audited. The result is CSV on standard output, one
   --obtainable L H  the lowest and the highest score on the reported scale; default those of the ends of the grid
   --cuts C C ..     cut scores on the reported scale, ascending; a score at a cut is in the level above it
   --levels N N ..   the names of the levels, the lowest first; default 0 1 ..
-  --least N         a session with fewer answers has no score; default 1
+  --least N         a session with fewer answers has no score; default 1. Answers to items in field test don't count
   --open            scores open sessions too; without it a journal that has one is refused
   --unaudited       does not audit the journal, and the column audit is `unaudited`
   --answers FILE    also writes the answers, one line each: session, booking, step, item, response
@@ -258,7 +258,8 @@ class Scorer:
         sums = posterior_sums(self.documents.bank, self.documents.plan.prior, session.items, session.responses)
         mean, deviation = moments(sums, self.theta, self.unit)
         cells = [str(number), str(session.booking), state, str(len(session.responses))]
-        if len(session.responses) < least:
+        counting = sum(self.documents.map["items"][k]["model"] != "FIELD" for k in session.items[:len(session.responses)])
+        if counting < least:
             return cells + [""] * 7 + ["too few answers", "", ""]
         found = self.score(session, sums, mean, deviation)
         return cells + [f"{self.theta[mode(sums)]:.4f}", f"{mean:.4f}", f"{deviation:.4f}"] + self.scale.cells(found)
@@ -267,10 +268,10 @@ class Scorer:
 def exact_items(scale_map: dict) -> list:
     """The items of a map with their exact parameters."""
     require("score.py with --estimate wle or mle", "numpy")
-    from shadowtools.agency.irt import DICHOTOMOUS, POLYTOMOUS, Item, fault
+    from shadowtools.agency.irt import DICHOTOMOUS, FIELD, POLYTOMOUS, Item, fault
     found = [Item(one["id"], one["model"], one["parameters"]) for one in scale_map["items"]]
     for item in found:
-        why = "unknown model" if item.model not in POLYTOMOUS and item.model not in DICHOTOMOUS else fault(item)
+        why = fault(item) if item.model in (*DICHOTOMOUS, *POLYTOMOUS, FIELD) else "unknown model"
         if why:
             raise Refused(f"the map's item {item.name}: {why}")
     return found

@@ -1,6 +1,8 @@
 """Audits a journal: reads each record, judges it, and checks every proof tree in it.
 
 usage: audit.py BANK PLAN JOURNAL [--trees]
+       audit.py --seal JOURNAL
+       audit.py --against SEAL JOURNAL
 
 Prints the summary of the history, `entries E sessions S finished F proved P unproved U aside A nodes N`, then the exposure:
 `exposure finished F` and a line `item I shown A eligible E` for each item. A journal that stands for no history of this
@@ -10,13 +12,22 @@ bank and plan gives one line in place of that: `journal: too long L`, `journal: 
   --trees    first prints a line for each proof tree: `tree at A nodes N VERDICT`, with ` spent` after a tree that spends
              the plan's budget
 
+  --seal     prints `seal records N bytes B sha256 H`: the number of the records, the bytes up to the gate after them, and the
+             SHA-256 of these bytes, which `head -c B JOURNAL | sha256sum` prints too. The records are not judged
+  --against  tests that the journal begins with the records of a seal, a file with such a line, and prints the seal of now
+
 It shares no text with the product: its rules are those of docs/FORMATS.md alone. The journal is only read. One record is
-in memory at a time. Exit status: 0, 6 for a journal that is refused, 2 for a faulty command line.
+in memory at a time. Exit status: 0; 6 for a journal that is refused; 2 for a faulty command line; 1 for a file that can't be read,
+and for a bank or a plan that shadowd does not take.
 """
 import csv
+import hashlib
+import itertools
+import re
 import struct
 import sys
 from collections import namedtuple
+from typing import BinaryIO, NamedTuple, Optional, Sequence
 
 from shadowtools.checkers import check_tree
 from shadowtools.command import Refused, as_command
@@ -331,25 +342,123 @@ def lines(history):
         yield f"item {i} shown {counts[0]} eligible {counts[1]}"
 
 
-def print_tree(at, nodes, said, spent):
+def print_tree(at: int, nodes: int, said: str, spent: bool) -> None:
     print(f"tree at {at} nodes {nodes} {said}" + (" spent" if spent else ""))
 
 
-def main(words):
+# ---------------------------------------------------------------- seals
+
+class Seal(NamedTuple):
+    """The records of a journal at one moment: their number, the bytes of the file up to the gate that ends them, and the
+    SHA-256 of these bytes. A record that is added later changes none of them."""
+    records: int
+    bytes: int
+    sha256: str
+
+    def line(self) -> str:
+        return f"seal records {self.records} bytes {self.bytes} sha256 {self.sha256}"
+
+
+def seal_of(file: BinaryIO, most: Optional[int] = None) -> Seal:
+    """The seal of a journal, or of its first `most` records where it has as many."""
+    size, records, end = file.seek(0, 2), 0, len(HEADER)
+    for at, length in itertools.islice(frames(file, size) if size > 9 else (), most):
+        records, end = records + 1, at + 5 + length
+    digest, left = hashlib.sha256(HEADER), end - len(HEADER)
+    file.seek(len(HEADER))
+    while left:
+        block = file.read(min(left, 1 << 20))
+        if not block:
+            raise Refused(f"journal: cut at {end}")
+        digest.update(block)
+        left -= len(block)
+    return Seal(records, end, digest.hexdigest())
+
+
+def read_seal(path: str) -> Seal:
+    """The seal of a file with one line of `--seal`."""
+    text = bytes_of(path).decode("ascii", "replace")
+    found = re.fullmatch(r"seal records (\d{1,12}) bytes (\d{1,12}) sha256 ([0-9a-f]{64})\s*", text)
+    if not found:
+        raise Unread(f"{path}: no seal of audit.py")
+    return Seal(int(found.group(1)), int(found.group(2)), found.group(3))
+
+
+def print_seal(path: str, before: Optional[str]) -> int:
+    """Prints the seal of a journal; where one from before is named, the journal must go on from it."""
+    sealed = read_seal(before) if before else None
+    with opened(path) as file:
+        now = seal_of(file)
+        if sealed and seal_of(file, sealed.records) != sealed:
+            print(f"journal: not from the seal of {sealed.records} records")
+            return 6
+    print(now.line())
+    if sealed:
+        print(f"from the seal of {sealed.records} records")
+    return 0
+
+
+# ---------------------------------------------------------------- command line
+
+def opened(path: str) -> BinaryIO:
+    try:
+        return open(path, "rb")
+    except (OSError, ValueError) as error:
+        raise Unread(f"{path}: {getattr(error, 'strerror', None) or error}")
+
+
+def bytes_of(path: str) -> bytes:
+    with opened(path) as file:
+        try:
+            return file.read()
+        except OSError as error:
+            raise Unread(f"{path}: {error.strerror}")
+
+
+class Unread(Refused):
+    """A file that can't be read, or a bank or a plan that shadowd doesn't take: no judgement on the journal."""
+
+
+def require_texts(bank_path: str, plan_path: str) -> None:
+    """Refuses texts that `shadowd check` refuses, with its line."""
+    from shadowtools.checkers import mutate_bank, text_readers   # the second reads this module's neighbours
+    try:
+        grid, items = mutate_bank.read(bytes_of(bank_path))
+        text_readers.read_plan(bytes_of(plan_path), grid, items)
+    except Unread:
+        raise
+    except Refused as refused:
+        raise Unread(refused.line)
+
+
+def main(words: Sequence[str]) -> int:
+    if words and words[0] in ("--seal", "--against") and len(words) == (2 if words[0] == "--seal" else 3):
+        return sealed_or_refused(words[-1], words[1] if words[0] == "--against" else None)
     paths = [word for word in words if word != "--trees"]
-    if len(paths) != 3:
+    if len(paths) != 3 or any(path.startswith("--") for path in paths):
         print(__doc__.split("\n\n")[1], file=sys.stderr)
         return 2
+    require_texts(*paths[:2])
     rules = read_rules(*paths[:2])
     note = print_tree if "--trees" in words else lambda at, nodes, said, spent: None
-    try:
-        with open(paths[2], "rb") as file:
+    with opened(paths[2]) as file:
+        try:
             history = audit(rules, file, note)
+        except Refused as refused:
+            print(refused)
+            return 6
+    print("\n".join(lines(history)))
+    return 0
+
+
+def sealed_or_refused(journal: str, before: Optional[str]) -> int:
+    try:
+        return print_seal(journal, before)
+    except Unread:
+        raise
     except Refused as refused:
         print(refused)
         return 6
-    print("\n".join(lines(history)))
-    return 0
 
 
 command = as_command(main)

@@ -536,6 +536,8 @@ def main(words):
     def items(name):
         return read_set(options[name].split(",")) if options.get(name) else None
 
+    from shadowtools.checkers.audit import require_texts   # whose module reads trees by this one
+    require_texts(*plain[:2])
     bank = read_bank(plain[0])
     plan = read_plan(plain[1], bank)
     theta = int(options["--theta"]) if "--theta" in options else plan.prior.index(max(plan.prior))

@@ -13,6 +13,7 @@ answer.
 --places A-B   only these places of the text, from 0 on
 --every N      of these only every Nth
 """
+import functools
 import itertools
 import multiprocessing
 import os
@@ -120,16 +121,19 @@ def names(quantities, grid, responses):
     return [name.encode() for name in result]
 
 
-SHAPES = {tuple(names(q, g, m)): (q, g, m) for q in range(9) for g in range(1, 62) for m in range(2, 6)}
+@functools.lru_cache(maxsize=None)
+def shapes():
+    """All headers with their shapes."""
+    return {tuple(names(q, g, m)): (q, g, m) for q in range(9) for g in range(1, 62) for m in range(2, 6)}
 
 
 def shape_of(columns):
     """The shape of a header; a header that is none departs at the length of the longest front that some header has."""
-    found = SHAPES.get(tuple(columns))
+    found = shapes().get(tuple(columns))
     if found:
         return found
     longest = 0
-    for header in SHAPES:
+    for header in shapes():
         same = 0
         while same < len(columns) and same < len(header) and columns[same] == header[same]:
             same += 1

@@ -1,4 +1,4 @@
-"""Runs the tests of the tools; the last line is 'N passed, M failed'.
+"""Runs the tests of the tools; the last line is 'N passed, M failed', and ', K skipped' where some were.
 
 usage: run_tests.py [PROGRAM]      the built shadowd; default crates/shadowd/out/shadowd
 
@@ -36,7 +36,8 @@ def main(words):
         print(f"skipped {test.id()}: {why}")
     failed = len(result.failures) + len(result.errors) + len(result.unexpectedSuccesses)
     passed = result.testsRun - failed - len(result.skipped)
-    print(f"{passed} passed, {failed} failed")
+    skipped = f", {len(result.skipped)} skipped" if result.skipped else ""
+    print(f"{passed} passed, {failed} failed{skipped}")
     return 1 if failed or result.testsRun == 0 else 0
 
 
