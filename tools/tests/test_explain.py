@@ -1,6 +1,8 @@
 """Why a plan has no form, beside all sets of items; and the gap of an unproved form."""
+import itertools
 import os
 import random
+import re
 import subprocess
 import sys
 import unittest
@@ -8,8 +10,9 @@ import unittest
 import check_tree
 import data_of_bank_a as a
 from common import PROGRAM, TOOLS, Folder, needs_program
-from examination import plan_of
+from examination import BankItem, plan_of
 from explain import Program, clash, greatest_bound, without
+from shadowtools.agency.clash_distance import distance
 
 # A program that has `assemble` alone: it tries all sets of items.
 BY_ALL_SETS = """import sys
@@ -96,6 +99,59 @@ class Clash(Folder):
         self.write("plan", "length 7\nprior 0 0 0\n")
         status, _, errors = self.tool("explain", "bank", "plan", "--program", PROGRAM)
         self.assertEqual((status, errors), (1, "shadowd assemble, status 4: plan: length\n"))
+
+
+BANK_OF_SEVEN = [BankItem(passage, [words], [], []) for passage, words in ((0, 10), (0, 20), (1, 30), (1, 40), (2, 50), (2, 60), (2, 70))]
+# Rules of a test of four of these items, and how far they are from a form, worked out by hand.
+FAR = [
+    ("count 2 4 0-1\ncount 3 4 2-4\n", "The low bounds add up to 5, the length is 4."),
+    ("count 0 1 0-2\ncount 0 1 3-5\n", "The high bounds of lines 1 and 2 add up to 2, and 1 items are in none of these sets: 3 items at most; the length is 4."),
+    ("enemies 0-2\ncount 0 2 3-6\n", "The high bounds of lines 1 and 2 add up to 3; the length is 4."),
+    ("count 1 1 0\ncount 1 1 1\nenemies 0-1\n", "The low bounds of lines 1 and 2 ask for at least 2 items of the set of line 3, whose high bound is 1."),
+    ("count 3 4 2-6\ncount 0 1 2-4\ncount 0 1 5-6\n", "The high bounds of lines 2 and 3 add up to 2; the low bound of line 1 is 3."),
+    ("count 3 4 0-1\n", "The set of line 1 has 2 items, its low bound is 3."),
+    ("count 0 1 0-4\n", "Only 2 items are outside of the set of line 1: a test of 4 has at least 2 of it, its high bound is 1."),
+    ("quantity 0 0 99 0-6\n", "A test has at least 100 in the sum of line 1, whose high bound is 99."),
+    ("quantity 0 221 999 0-6\n", "A test has at most 220 in the sum of line 1, whose low bound is 221."),
+    ("quantity 0 101 999 0-3\ncount 0 4 0-3\n", "A test has at most 100 in the sum of line 1, whose low bound is 101."),
+    ("stimuli 3 3\n", "The bank has 2 passages, the low bound of line 1 is 3."),
+    ("stimuli 2 2\nstimulus 1 2 2\nstimulus 2 3 3\n", "2 passages have at least 5 items, the length is 4."),
+    ("stimuli 0 1\nstimulus 1 1 1\nstimulus 2 1 1\n", "1 passages and the 2 items without one are at most 3 items, the length is 4."),
+    ("count 2 2 0-1\nquantity 0 100 999 0-6\n", None),
+]
+
+
+class Distance(unittest.TestCase):
+    def test_sentences_worked_out_by_hand(self):
+        for text, wanted in FAR:
+            with self.subTest(text):
+                self.assertEqual(distance(plan_of(text).rules, BANK_OF_SEVEN, 4), wanted)
+
+    def test_beside_all_sets(self):
+        """Of 3,000 drawn plans, one with a sentence has no form; a sum's sentence has the least or greatest sum of all tests."""
+        rng, said = random.Random(8), 0
+        for _ in range(3000):
+            length = rng.randint(1, 6)
+            rules = plan_of("".join(self.rule(rng) for _ in range(rng.randint(1, 4)))).rules
+            found = distance(rules, BANK_OF_SEVEN, length)
+            if not found:
+                continue
+            said += 1
+            tests = list(itertools.combinations(range(7), length))
+            self.assertFalse([one for one in tests if all(rule.met(one, BANK_OF_SEVEN) for rule in rules)], (found, rules))
+            if "in the sum of line" in found:
+                rule = rules[int(re.search(r"line (\d)", found).group(1)) - 1]
+                values = [rule.value(one, BANK_OF_SEVEN) for one in tests]
+                self.assertEqual(int(re.search(r"at \w+ (\d+)", found).group(1)), min(values) if "least" in found else max(values))
+        self.assertGreater(said, 500)
+
+    def rule(self, rng):
+        items = " ".join(map(str, sorted(rng.sample(range(7), rng.randint(1, 5)))))
+        low = rng.randint(0, 3)
+        high = low + rng.randint(0, 2)
+        return rng.choice((f"count {low} {high} {items}\n", f"count {low} {high} {items}\n", f"enemies {items}\n",
+                           f"quantity 0 {40 * low} {40 * high + 20} {items}\n", f"stimuli {low} {high}\n",
+                           f"stimulus {rng.randint(1, 2)} {max(1, low)} {max(1, high)}\n"))
 
 
 class Gap(unittest.TestCase):

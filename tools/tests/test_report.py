@@ -288,10 +288,12 @@ class Pages(Examination):
         self.write("run.run.json", run.replace(json.loads(run)["sha256"]["plan"], "0" * 64))
         self.refused("is of another plan")
         self.write("run.run.json", run)
-        for words, said in ((["--cuts", "1", "0"], "--cuts 1.0 0.0"), (["--bands", "nan"], "--bands nan"), (["--target", "1", "2"], "LOW HIGH"),
-                            (["--to", "nowhere/page.html"], "nowhere/page.html"), (["--between", "1", "-1"], "--between"),
+        for words, said in ((["--cuts", "1", "0"], "--cuts 1.0 0.0"), (["--target", "1", "2"], "LOW HIGH"),
+                            (["--picture", "nowhere/p.png"], "nowhere is no folder"), (["--between", "1", "-1"], "--between"),
                             (["--template", "none"], "none: No such file")):
             self.refused(said, *words)
+        self.assertEqual(self.tool("report", "e", "--run", "run", "--to", "nowhere/page.html")[0], 1)
+        self.assertEqual(self.report("--bands", "nan")[0], 2)
         self.write("e.bank.csv", self.read("e.bank.csv").replace("1", "2", 1))
         self.refused("e.bank.csv: not the bank")
 

@@ -36,11 +36,12 @@ class Examination(Folder):
         self.assertEqual(status, 0, errors)
 
     def simulate(self, *words, fake="", program=None):
-        """Four examinees, and none in the tails unless the words name some."""
+        """Four examinees, and none in the tails, unless the words have others."""
+        kept = ["--out", "run", "--program", program or self.fake, "--examinees", "4", "--tails", "none"]
+        kept = [word for k in range(0, len(kept), 2) if kept[k] not in words for word in kept[k:k + 2]]
         os.environ["FAKE"] = fake
         try:
-            return self.tool("simulate", "e", "--out", "run", "--program", program or self.fake, "--examinees", "4", "--tails", "none",
-                             *words)
+            return self.tool("simulate", "e", *kept, *words)
         finally:
             os.environ["FAKE"] = ""
 
@@ -203,18 +204,24 @@ class Tails(Examination):
 @needs_numpy
 class Refusals(Examination):
     def test_before_anything_is_simulated(self):
-        """Each is one line that names what is wrong, and leaves no file."""
-        for words, said in ((["--out", "nowhere/run"], "nothing can be written to the folder nowhere"),
-                            (["--program", "/bin/true"], "/bin/true: shadowd check, status 0"), (["--program", "/bin/echo"], "is no form"),
-                            (["--program", "none"], "none: No such file"), (["--seed", "-1"], "--seed -1"),
-                            (["--true", "normal", "nan", "1"], "--true normal nan 1"), (["--tails", "9"], "--tails 9"),
-                            (["--group", "0"], "at least 1"), (["--each", "0", "--tails", "1"], "at least 1"),
-                            (["--examinees", "65536", "--tails", "1", "--each", "1"], "more than 65536"), (["--clients", "17"], "1 to 16"),
-                            (["--rules", "none"], "none: No such file")):
+        """Each is one line that names what is wrong, or the usage with such a line, and leaves no file."""
+        for words, status, said in (
+                (["--out", "nowhere/run"], 1, "nowhere is no folder"), (["--program", "/bin/true"], 1, "/bin/true: shadowd check, status 0"),
+                (["--program", "/bin/echo"], 1, "/bin/echo: shadowd check, status 0"), (["--program", "none"], 1, "none: No such file"),
+                (["--seed", "-1"], 2, "--seed: '-1' is not a whole number from 0"), (["--seed", "1_0"], 2, "--seed: '1_0'"),
+                (["--true", "normal", "nan", "1"], 1, "--true normal nan 1"), (["--true", "uniform", "1", "0"], 1, "--true uniform 1 0"),
+                (["--group", "0"], 2, "--group: '0'"), (["--clients", "17"], 2, "--clients: '17'"), (["--examinees", "65537"], 2, "--examinees"),
+                (["--rules", "none"], 1, "none: No such file")):
             with self.subTest(words):
-                status, _, errors = self.simulate(*words)
-                self.assertEqual((status, errors.count("\n"), said in errors), (1, 1, True), errors)
+                found, _, errors = self.simulate(*words)
+                self.assertEqual((found, said in errors.splitlines()[-1]), (status, True), errors)
                 self.assertFalse(os.path.exists(self.path("run.journal")))
+
+    def test_tails_that_are_none(self):
+        for words, said in ((["9"], "--tails 9"), (["nan"], "--tails nan"), (["0", "--examinees", "65536"], "more than 65536")):
+            with self.subTest(words):
+                status, _, errors = self.tool("simulate", "e", "--out", "run", "--program", self.fake, "--tails", *words)
+                self.assertEqual((status, errors.count("\n"), said in errors), (1, 1, True), errors)
 
     def test_a_bank_or_plan_of_another_map(self):
         for name in ("e.bank.csv", "e.plan.txt"):

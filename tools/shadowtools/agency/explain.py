@@ -4,7 +4,8 @@ usage: explain.py BANK PLAN [--map MAP] [--program SHADOWD]      default $SHADOW
 
 It runs `shadowd assemble`. Where no set of items meets the plan (status 11), it leaves out one rule after the
 other for as long as there is still no form. The rules that stay cannot be met together, and without any one of them
-there is a form, or none was found within the base budget. Each step is a proved `no form`.
+there is a form, or none was found within the base budget. Each step is a proved `no form`. Where a count shows it, a
+sentence has how far the rules are from a form ("the low bounds add up to 21, the length is 20").
 Where a form is unproved, it reads the proof tree. Each open leaf has a bound; the greatest of them bounds all forms.
 The gap is what the best form can inform more than this one.
 
@@ -16,10 +17,11 @@ import argparse
 import sys
 from typing import List, Optional, Sequence, TextIO, Tuple
 
+from shadowtools.agency.clash_distance import distance
 from shadowtools.agency.program import DONE, NO_FORM, NOT_FOUND, Form, Program, form_of
 from shadowtools.checkers import check_tree
 from shadowtools.command import Refused, as_command
-from shadowtools.formats.examination import Rule, plan_of, read_map
+from shadowtools.formats.examination import BankItem, Rule, plan_of, read_bank, read_map
 from shadowtools.formats.tables import text_of
 from shadowtools.options import Options
 from shadowtools.places import BUILT
@@ -63,7 +65,8 @@ def clash(program: Program, text: str, tree: str) -> Tuple[List[Rule], int]:
     return kept, len(rules)
 
 
-def print_clash(kept: Sequence[Rule], of: int, length: int, out: Optional[TextIO] = None) -> None:
+def print_clash(kept: Sequence[Rule], of: int, length: int, bank: Sequence[BankItem], out: Optional[TextIO] = None) -> None:
+    """The rules that clash, and how far they are from a form, where a count shows it."""
     if not kept:
         print(f"No set of {length} items is a form by the length alone.", file=out)
         return
@@ -72,6 +75,9 @@ def print_clash(kept: Sequence[Rule], of: int, length: int, out: Optional[TextIO
         extra = "" if rule.label == rule.text else f"   {rule.label}"
         text = rule.text if len(rule.text) <= 60 else rule.text[:57] + "..."
         print(f"  line {rule.line}: {text}{extra}", file=out)
+    far = distance(kept, bank, length)
+    if far:
+        print(far, file=out)
     if len(kept) > 1:
         print("Without any one of them there is a form, or none was found within the base budget.", file=out)
 
@@ -139,7 +145,7 @@ def main(words: Sequence[str]) -> int:
     status, said = program.assemble(text)
     if status == NO_FORM:
         kept, of = clash(program, text, said.split()[-1])
-        print_clash(kept, of, plan_of(text).length)
+        print_clash(kept, of, plan_of(text).length, read_bank(given.bank))
     elif status == NOT_FOUND:
         print(said.split(" tree ")[0][:60].rsplit(" ", 1)[0])
         print("It is open whether the plan has a form. Raise base-budget (to 4095), or give a base form.")

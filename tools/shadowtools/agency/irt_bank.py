@@ -49,7 +49,7 @@ from shadowtools.agency.explain import clash, print_clash  # noqa: E402
 from shadowtools.agency.irt import Item  # noqa: E402
 from shadowtools.agency.program import DONE, NO_FORM, NOT_FOUND, Program, form_of, run  # noqa: E402
 from shadowtools.command import Refused, as_command  # noqa: E402
-from shadowtools.formats.examination import plan_of  # noqa: E402
+from shadowtools.formats.examination import plan_of, read_bank  # noqa: E402
 from shadowtools.formats.tables import ABSENT, SEPARATORS, Dialect, read_table  # noqa: E402
 from shadowtools.options import Options, between, require_folder, whole  # noqa: E402
 from shadowtools.places import BUILT  # noqa: E402
@@ -241,7 +241,7 @@ def first_forms(program: Program, tables: Tables, plan: str) -> int:
         status, said = program.assemble(re.sub(r"(?m)^prior .*$", prior, plan))
         if status == NO_FORM:
             print("no form: no set of items meets the constraints (status 11)", file=sys.stderr)
-            print_clash(*clash(program, plan, said.split()[-1]), plan_of(plan).length, sys.stderr)
+            print_clash(*clash(program, plan, said.split()[-1]), plan_of(plan).length, read_bank(program.bank), sys.stderr)
             return status
         if status == NOT_FOUND:
             print(f"ability {mean:+d}: no form found within the base budget (status 12); raise --base-budget", file=sys.stderr)

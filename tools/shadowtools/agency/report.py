@@ -34,7 +34,9 @@ import pandas as pd  # noqa: E402
 from shadowtools.agency.custody import sha256_of  # noqa: E402
 from shadowtools.agency.simulation import Examination, load, parted, read_run  # noqa: E402
 from shadowtools.command import Refused, as_command  # noqa: E402
-from shadowtools.formats.examination import Session, opened, read_journal, read_plan, sessions_of  # noqa: E402
+from shadowtools.formats.examination import Session, read_journal, read_plan, sessions_of  # noqa: E402
+from shadowtools.formats.tables import text_of  # noqa: E402
+from shadowtools.options import Options, finite, require_folder  # noqa: E402
 from shadowtools.page.pictures import at_a_glance  # noqa: E402
 from shadowtools.page.sections import chosen, sections  # noqa: E402
 from shadowtools.page.study import Questions, Study, answers, table_by_item, target_of  # noqa: E402
@@ -43,29 +45,24 @@ from shadowtools.page.verdicts import verdicts  # noqa: E402
 TEMPLATE = os.path.join(os.path.dirname(os.path.dirname(os.path.abspath(__file__))), "page", "report.html")
 
 
-def options(words):
-    parser = argparse.ArgumentParser(usage=__doc__.partition("usage: ")[2], add_help=False)
+def options(words: Sequence[str]) -> argparse.Namespace:
+    parser = Options(__doc__)
     parser.add_argument("prefix", nargs="?")
     for name in ("run", "to", "rules", "picture"):
         parser.add_argument("--" + name)
     parser.add_argument("--target", nargs="+")
-    parser.add_argument("--cuts", nargs="+", type=float, default=[])
-    parser.add_argument("--bands", nargs="+", type=float)
+    parser.add_argument("--cuts", nargs="+", type=finite, default=[])
+    parser.add_argument("--bands", nargs="+", type=finite)
     parser.add_argument("--by", choices=("truth", "estimate"), default="truth")
-    parser.add_argument("--between", nargs=2, type=float, default=[-1.0, 1.0])
+    parser.add_argument("--between", nargs=2, type=finite, default=[-1.0, 1.0])
     parser.add_argument("--template", default=TEMPLATE)
-    parser.add_argument("-h", "--help", action="store_true")
-    found = parser.parse_args(words)
-    if found.help or not (found.prefix and found.run and found.to):
-        print(__doc__, file=sys.stdout if found.help else sys.stderr)
-        sys.exit(0 if found.help else 2)
-    return found
+    return parser.read(words, lambda found: bool(found.prefix and found.run and found.to))
 
 
-def questions(given) -> Questions:
+def questions(given: argparse.Namespace) -> Questions:
     """What is asked of the page. Refused are numbers that do not ascend, and a target that is none."""
     for name, values in (("cuts", given.cuts), ("bands", given.bands or []), ("between", given.between)):
-        if not np.isfinite(values).all() or (np.diff(values) <= 0).any():
+        if (np.diff(values) <= 0).any():
             raise Refused(f"--{name} {' '.join(map(str, values))}: abilities in logits that ascend")
     if given.target and len(given.target) not in (1, 3):
         raise Refused(f"--target {' '.join(given.target)}: a file, or LOW HIGH INFORMATION")
@@ -74,7 +71,7 @@ def questions(given) -> Questions:
 
 # ---------------------------------------------------------------- what is read
 
-def sessions_of_run(given, run: dict, examination: Examination) -> Tuple[List[Session], List[Session]]:
+def sessions_of_run(given: argparse.Namespace, run: dict, examination: Examination) -> Tuple[List[Session], List[Session]]:
     """The whole sessions of the sample and of the tails. Refused are a journal that is not the run's by its SHA-256, and a
     run of another bank or plan."""
     for name in ("bank", "plan", "map"):
@@ -99,11 +96,10 @@ def journal_of(path: str, run: dict, name: str) -> List[Session]:
 def page(study: Study, template: str) -> str:
     """The page. The template escapes every value."""
     environment = jinja2.Environment(autoescape=True, undefined=jinja2.StrictUndefined, trim_blocks=False)
-    with opened(template) as file:
-        try:
-            made = environment.from_string(file.read())
-        except jinja2.TemplateError as error:
-            raise Refused(f"{template}: line {getattr(error, 'lineno', '?')}: {error.message}")
+    try:
+        made = environment.from_string(text_of(template))
+    except jinja2.TemplateSyntaxError as error:
+        raise Refused(f"{template}: line {error.lineno}: {error.message}")
     name = os.path.basename(study.examination.prefix)
     lead = (f"A simulation of {len(study.sample):,} examinees, each with a test of {study.length} items"
             + (f", and of {len(study.tails):,} more at the ends of the scale" if len(study.tails) else "") + f". {study.run['date']}.")
@@ -119,12 +115,14 @@ def write_table(path: str, table: pd.DataFrame) -> None:
 
 def main(words: Sequence[str]) -> int:
     given = options(words)
-    asked = questions(given)
+    asked, begin = questions(given), os.path.splitext(given.to)[0]
+    for path in (given.to, begin + ".sessions.csv", begin + ".answers.csv", begin + ".items.csv", given.picture or given.to):
+        require_folder("--to" if path != given.picture else "--picture", path)
     examination, run = load(given.prefix), read_run(given.run + ".run.json")
     rules = (read_plan(given.rules) if given.rules else examination.plan).rules
     sample, tails = sessions_of_run(given, run, examination)
     study = Study(examination, run, sample, tails, rules, asked)
-    text, begin = page(study, given.template), os.path.splitext(given.to)[0]
+    text = page(study, given.template)
     try:
         with open(given.to, "w", encoding="utf-8") as file:
             file.write(text)

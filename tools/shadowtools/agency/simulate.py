@@ -45,11 +45,13 @@ import numpy as np  # noqa: E402
 from shadowtools.agency.custody import said_by, sha256_of  # noqa: E402
 from shadowtools.agency.drivers import (  # noqa: E402
     Progress, Replay, Server, Stopped, by_http, by_replay, replay_exposure)
+from shadowtools.agency.program import form_of, run  # noqa: E402
 from shadowtools.agency.simulation import (  # noqa: E402
-    Examination, abilities, broken_rules, drawn_responses, finite, load)
+    MOST_SEED, Examination, abilities, abilities_of, broken_rules, drawn_responses, load)
 from shadowtools.command import Refused, as_command  # noqa: E402
 from shadowtools.formats.examination import Session, read_journal, read_plan, sessions_of  # noqa: E402
 from shadowtools.formats.tables import runs  # noqa: E402
+from shadowtools.options import Options, require_folder, whole  # noqa: E402
 from shadowtools.places import BUILT, TOP  # noqa: E402
 
 MOST_SESSIONS, MOST_BYTES = 65_536, 536_870_912
@@ -57,54 +59,35 @@ MEMORY = "/dev/shm"
 TAILS = ["-3", "-2.5", "-2", "2", "2.5", "3"]
 
 
-def options(words):
-    parser = argparse.ArgumentParser(usage=__doc__.partition("usage: ")[2], add_help=False)
+def options(words: Sequence[str]) -> argparse.Namespace:
+    parser = Options(__doc__)
     parser.add_argument("prefix", nargs="?")
-    parser.add_argument("--out")
-    parser.add_argument("--examinees", type=int, default=1000)
-    parser.add_argument("--seed", type=int, default=1)
+    for name in ("out", "rules"):
+        parser.add_argument("--" + name)
+    parser.add_argument("--examinees", type=whole(1, MOST_SESSIONS), default=1000)
+    parser.add_argument("--seed", type=whole(0, MOST_SEED), default=1)
     parser.add_argument("--true", nargs="+", default=["normal", "0", "1"])
     parser.add_argument("--tails", nargs="+")
-    parser.add_argument("--each", type=int)
+    parser.add_argument("--each", type=whole(1, MOST_SESSIONS))
     parser.add_argument("--through", choices=("replay", "serve"), default="replay")
-    parser.add_argument("--group", type=int)
-    parser.add_argument("--clients", type=int, default=4)
-    parser.add_argument("--rules")
+    parser.add_argument("--group", type=whole(1, MOST_SESSIONS))
+    parser.add_argument("--clients", type=whole(1, 16), default=4)
     parser.add_argument("--program", default=BUILT)
-    parser.add_argument("-h", "--help", action="store_true")
-    found = parser.parse_args(words)
-    if found.help or not found.prefix or not found.out:
-        print(__doc__, file=sys.stdout if found.help else sys.stderr)
-        sys.exit(0 if found.help else 2)
-    if not 1 <= found.examinees <= MOST_SESSIONS or not 1 <= found.clients <= 16:
-        raise Refused(f"--examinees is 1 to {MOST_SESSIONS}, --clients 1 to 16")
-    if (found.group is not None and found.group < 1) or (found.each is not None and found.each < 1):
-        raise Refused("--group and --each are at least 1")
-    return found
+    return parser.read(words, lambda found: bool(found.prefix and found.out))
 
 
-def tails_of(given) -> List[float]:
+def tails_of(given: argparse.Namespace) -> List[float]:
     """The true abilities of the examinees of the tails."""
     words = given.tails or (["none"] if given.true[0] == "points" else TAILS)
     if words == ["none"]:
         return []
-    points = finite(words)
+    points = abilities_of(words)
     if not points:
         raise Refused(f"--tails {' '.join(words)}: abilities from -6 to 6, or none")
     found = np.repeat(points, given.each or -(-given.examinees // 40)).tolist()
     if given.examinees + len(found) > MOST_SESSIONS:
         raise Refused(f"{given.examinees} examinees and {len(found)} of the tails are more than {MOST_SESSIONS}; --tails none")
     return found
-
-
-def writable(out: str) -> None:
-    """Refuses an --out that nothing can be written to, before anything is simulated."""
-    folder = os.path.dirname(out) or "."
-    if not os.path.isdir(folder) or not os.access(folder, os.W_OK | os.X_OK):
-        raise Refused(f"{out}: nothing can be written to the folder {folder}")
-    for name in (out + ".journal", out + ".tails.journal", out + ".run.json"):
-        if os.path.isdir(name):
-            raise Refused(f"{name}: a folder")
 
 
 def roomy(text: str) -> str:
@@ -117,10 +100,10 @@ def with_base(program: str, files: Sequence[str], text: str) -> str:
     """The plan with the base form that each run would assemble again, where the plan has none."""
     if re.search(r"(?m)^base ", text):
         return text
-    line = said_by(program, "assemble", *files)[0]
-    if not re.fullmatch(r"form( \d+)+", line):
-        raise Refused(f"{program}: shadowd assemble: {line[:80]!r} is no form")
-    return f"{text}base {runs(map(int, line.split()[1:]))}\n"
+    status, said = run(program, "assemble", *files)
+    if status:
+        raise Refused(f"shadowd assemble, status {status}: {said[:80]}; tools/explain.py names the rules")
+    return f"{text}base {runs(form_of(said).items)}\n"
 
 
 # ---------------------------------------------------------------- examinees through the program
@@ -136,7 +119,7 @@ class Stage:
     sessions: List[Session] = field(default_factory=list)
 
 
-def taken_through(given, examination: Examination, responses: np.ndarray, stage: Stage, folder: str) -> None:
+def taken_through(given: argparse.Namespace, examination: Examination, responses: np.ndarray, stage: Stage, folder: str) -> None:
     """Takes the examinees of a stage through; plan and journal are in the folder."""
     bank, plan, journal = examination.files()[0], os.path.join(folder, "plan.txt"), os.path.join(folder, "journal")
     progress = Progress(len(stage.bookings) * examination.plan.length,
@@ -171,7 +154,7 @@ def keep(journal: str, path: str) -> None:
         raise Refused(f"{path}: {error.strerror}")
 
 
-def take(given, examination: Examination, responses: np.ndarray, stages: Sequence[Stage]) -> None:
+def take(given: argparse.Namespace, examination: Examination, responses: np.ndarray, stages: Sequence[Stage]) -> None:
     """Takes all stages through, and keeps and reads the journal of each.
 
     Where the plan has an exposure rate, a stage goes on over the journal of the one before: the draws see its counts."""
@@ -246,11 +229,12 @@ def revision() -> str:
     return done.stdout.strip() if done.returncode == 0 else "not known"
 
 
-def write_run(given, examination: Examination, theta: np.ndarray, line: str, stages: Sequence[Stage], wall: float) -> None:
+def write_run(given: argparse.Namespace, examination: Examination, theta: np.ndarray, line: str, stages: Sequence[Stage],
+              wall: float) -> None:
     """OUT.run.json. `examinees` is the number of the sample; the abilities of the tails follow in `true`."""
     digests = dict(examination.sha256, program=sha256_of(given.program))
     digests.update((("journal", "tails")[k], sha256_of(stage.journal)) for k, stage in enumerate(stages))
-    run = {"prefix": given.prefix, "true": theta.tolist(), "examinees": given.examinees, "of": given.true,
+    found = {"prefix": given.prefix, "true": theta.tolist(), "examinees": given.examinees, "of": given.true,
            "tails": theta[given.examinees:].tolist(), "seed": given.seed, "bank": line, "through": given.through,
            "said": stages[0].said, "wall": wall, "seconds": stages[0].seconds,
            "clients": given.clients if given.through == "serve" else None,
@@ -258,7 +242,7 @@ def write_run(given, examination: Examination, theta: np.ndarray, line: str, sta
            "sha256": digests}
     try:
         with open(given.out + ".run.json", "w", encoding="utf-8") as file:
-            json.dump(run, file)
+            json.dump(found, file)
     except OSError as error:
         raise Refused(f"{given.out}.run.json: {error.strerror}")
 
@@ -266,7 +250,8 @@ def write_run(given, examination: Examination, theta: np.ndarray, line: str, sta
 def main(words: Sequence[str]) -> int:
     given = options(words)
     tails = tails_of(given)
-    writable(given.out)
+    for end in (".journal", ".tails.journal", ".run.json"):
+        require_folder("--out", given.out + end)
     examination = load(given.prefix)
     rules = read_plan(given.rules).rules if given.rules else examination.plan.rules
     theta = np.concatenate([abilities(given.true, given.examinees, given.seed), tails])

@@ -4,7 +4,6 @@ Examinees are drawn beforehand: an ability each, and for each item of the bank o
 or versions of the program can be compared on the same answers. Responses follow the exact parameters of the map, not
 the rounded tables of the bank.
 """
-import json
 from dataclasses import dataclass
 from typing import Dict, List, Sequence, Tuple
 
@@ -13,7 +12,8 @@ import numpy as np
 from shadowtools.agency.custody import read_documents
 from shadowtools.agency.irt import Item
 from shadowtools.command import Refused
-from shadowtools.formats.examination import BankItem, Plan, Rule, Session, opened
+from shadowtools.formats.examination import BankItem, Plan, Rule, Session, is_finite, json_of
+from shadowtools.formats.tables import is_number
 
 FINE = np.linspace(-6, 6, 1201)
 MOST_SEED = 2 ** 63 - 1
@@ -56,7 +56,7 @@ def abilities(words: Sequence[str], number: int, seed: int) -> np.ndarray:
     if not 0 <= seed <= MOST_SEED:
         raise Refused(f"--seed {seed}: 0 to {MOST_SEED}")
     rng = np.random.default_rng([seed, 1])
-    numbers = finite(words[1:])
+    numbers = abilities_of(words[1:])
     if words[0] == "normal" and len(numbers) == 2 and numbers[1] >= 0:
         return rng.normal(*numbers, number)
     if words[0] == "uniform" and len(numbers) == 2 and numbers[0] <= numbers[1]:
@@ -67,13 +67,10 @@ def abilities(words: Sequence[str], number: int, seed: int) -> np.ndarray:
                   "and an SD of 0 to 6")
 
 
-def finite(words: Sequence[str]) -> List[float]:
+def abilities_of(words: Sequence[str]) -> List[float]:
     """The words as numbers from -6 to 6, the range of the fine grid; none where a word is no such number."""
-    try:
-        numbers = [float(word) for word in words]
-    except ValueError:
-        return []
-    return numbers if all(-6 <= number <= 6 for number in numbers) else []
+    numbers = [float(word) for word in words if is_number(word)]
+    return numbers if len(numbers) == len(words) and all(-6 <= number <= 6 for number in numbers) else []
 
 
 def drawn_responses(items: Sequence[Item], theta: np.ndarray, scaling: float, seed: int) -> np.ndarray:
@@ -159,17 +156,13 @@ FIELDS = {"true": list, "examinees": int, "of": list, "tails": list, "seed": int
 
 def read_run(path: str) -> dict:
     """The run that simulate.py wrote. Refused is a file that lacks one of its fields, or has one of another type."""
-    with opened(path) as file:
-        try:
-            run = json.load(file)
-        except ValueError as error:
-            raise Refused(f"{path}: no JSON: {error}")
+    run = json_of(path)
     if not isinstance(run, dict):
         raise Refused(f"{path}: no run of simulate.py")
     for name, kind in FIELDS.items():
         if not isinstance(run.get(name), kind):
             raise Refused(f"{path}: no run of this simulate.py: {name} is missing or of another type; simulate again")
-    numbers = all(isinstance(value, (int, float)) and np.isfinite(value) for value in run["true"])
+    numbers = all(map(is_finite, run["true"]))
     if not numbers or not 0 < run["examinees"] <= len(run["true"]):
         raise Refused(f"{path}: the abilities of {run['examinees']} examinees are not there as finite numbers")
     return run

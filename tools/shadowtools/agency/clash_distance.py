@@ -1,0 +1,105 @@
+"""How far rules that cannot be met together are from a form, where a count shows it: a sentence, or nothing.
+
+Each sentence is a proof by itself that no set of items meets the rules. A clash that takes more than such a count has none.
+"""
+from dataclasses import dataclass
+from typing import Collection, FrozenSet, List, Optional, Sequence
+
+from shadowtools.formats.examination import BankItem, Rule
+
+
+@dataclass(frozen=True)
+class Count:
+    """From `low` to `high` items of a set. `line` is the rule's line in the plan, 0 for the length of the test."""
+    items: FrozenSet[int]
+    low: int
+    high: int
+    line: int = 0
+
+
+def distance(rules: Sequence[Rule], bank: Sequence[BankItem], length: int) -> Optional[str]:
+    """The first sentence that shows that no test of this length meets all rules."""
+    whole = Count(frozenset(range(len(bank))), length, length)
+    counts = [Count(rule.members, rule.low, rule.high, rule.line) for rule in rules if rule.kind in ("count", "enemies")]
+    said = [sum_out_of_reach(rule, bank, length) for rule in rules if rule.kind == "quantity"]
+    said += [count_out_of_reach(count, len(bank), length) for count in counts]
+    for one in [whole] + counts:
+        others = [other for other in counts if other is not one]
+        if are_disjoint(others):
+            said += [lows_above(one, others), highs_below(one, others)]
+    said.append(passages_out_of_reach(rules, bank, length))
+    return next(filter(None, said), None)
+
+
+def are_disjoint(counts: Sequence[Count]) -> bool:
+    return sum(len(one.items) for one in counts) == len(frozenset().union(*(one.items for one in counts)))
+
+
+def sum_out_of_reach(rule: Rule, bank: Sequence[BankItem], length: int) -> Optional[str]:
+    """A sum that the items cannot have: the least and the greatest that a test of this length can have of the set."""
+    values = sorted(bank[item].quantities[rule.number] for item in rule.members)
+    least = sum(values[:max(0, length - (len(bank) - len(values)))])
+    greatest = sum(values[-min(length, len(values)):])
+    if least > rule.high:
+        return f"A test has at least {least:,} in the sum of line {rule.line}, whose high bound is {rule.high:,}."
+    if greatest < rule.low:
+        return f"A test has at most {greatest:,} in the sum of line {rule.line}, whose low bound is {rule.low:,}."
+    return None
+
+
+def count_out_of_reach(count: Count, items: int, length: int) -> Optional[str]:
+    """A set that is too small for its low bound, or too great for its high bound."""
+    if len(count.items) < count.low:
+        return f"The set of line {count.line} has {len(count.items)} items, its low bound is {count.low}."
+    outside = items - len(count.items)
+    if length - outside > count.high:
+        return f"Only {outside} items are outside of the set of line {count.line}: a test of {length} has at least {length - outside} of it, " \
+               f"its high bound is {count.high}."
+    return None
+
+
+def lows_above(one: Count, others: Sequence[Count]) -> Optional[str]:
+    """Low bounds of disjoint sets that ask for more items of one set than its high bound."""
+    asked = [max(0, other.low - len(other.items - one.items)) for other in others]
+    if sum(asked) <= one.high:
+        return None
+    if one.line == 0:
+        return f"The low bounds add up to {sum(asked)}, the length is {one.high}."
+    return f"The low bounds of {lines(other for other, low in zip(others, asked) if low)} ask for at least {sum(asked)} items of the set of " \
+           f"line {one.line}, whose high bound is {one.high}."
+
+
+def highs_below(one: Count, others: Sequence[Count]) -> Optional[str]:
+    """High bounds of disjoint sets that leave fewer items of one set than its low bound."""
+    covered = [other for other in others if other.items & one.items]
+    highs = sum(min(other.high, len(other.items & one.items)) for other in covered)
+    free = len(one.items.difference(*(other.items for other in covered)))
+    if not covered or highs + free >= one.low:
+        return None
+    of = "the length" if one.line == 0 else f"the low bound of line {one.line}"
+    more = f", and {free} items are in none of these sets: {highs + free} items at most" if free else ""
+    return f"The high bounds of {lines(covered)} add up to {highs}{more}; {of} is {one.low}."
+
+
+def passages_out_of_reach(rules: Sequence[Rule], bank: Sequence[BankItem], length: int) -> Optional[str]:
+    """A number of passages that the bank, or the length of the test, cannot have."""
+    sizes = {passage: sum(item.passage == passage for item in bank) for passage in {item.passage for item in bank} - {0}}
+    bounds = {rule.number: rule for rule in rules if rule.kind == "stimulus"}
+    lows = sorted(max(1, bounds[passage].low) if passage in bounds else 1 for passage in sizes)
+    highs = sorted(min(size, bounds[passage].high) if passage in bounds else size for passage, size in sizes.items())
+    free = sum(item.passage == 0 for item in bank)
+    for rule in (rule for rule in rules if rule.kind == "stimuli"):
+        if len(sizes) < rule.low:
+            return f"The bank has {len(sizes)} passages, the low bound of line {rule.line} is {rule.low}."
+        if sum(lows[:rule.low]) > length:
+            return f"{rule.low} passages have at least {sum(lows[:rule.low])} items, the length is {length}."
+        most = sum(highs[len(highs) - min(rule.high, len(highs)):]) + free
+        if most < length:
+            return f"{rule.high} passages and the {free} items without one are at most {most} items, the length is {length}."
+    return None
+
+
+def lines(counts: Collection[Count]) -> str:
+    """The lines of some counts, in words."""
+    names: List[str] = [str(count.line) for count in counts]
+    return f"line {names[0]}" if len(names) == 1 else f"lines {', '.join(names[:-1])} and {names[-1]}"
