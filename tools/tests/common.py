@@ -12,7 +12,8 @@ from shadowtools.places import TOOLS, TOP as ROOT
 
 needs_numpy = unittest.skipUnless(is_there("numpy"), "needs python3-numpy")
 needs_scipy = unittest.skipUnless(is_there("numpy", "scipy"), "needs python3-numpy and python3-scipy")
-needs_matplotlib = unittest.skipUnless(is_there("numpy", "matplotlib"), "needs python3-numpy and python3-matplotlib")
+PAGE = ("numpy", "scipy", "matplotlib", "pandas", "jinja2")
+needs_page = unittest.skipUnless(is_there(*PAGE), "needs " + ", ".join("python3-" + name for name in PAGE))
 needs_program = unittest.skipUnless(os.path.exists(PROGRAM), "needs the built program")
 
 

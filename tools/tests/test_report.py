@@ -9,14 +9,12 @@ import re
 import unittest
 from statistics import NormalDist
 
-from common import Folder
+from common import PAGE, Folder, needs_page
 from shadowtools.command import Refused
 from shadowtools.needs import is_there
 from test_simulate import ATTRIBUTES, Examination
 
-NEEDED = ("numpy", "scipy", "matplotlib", "pandas", "jinja2")
-needs_page = unittest.skipUnless(is_there(*NEEDED), "needs " + ", ".join("python3-" + name for name in NEEDED))
-if is_there(*NEEDED):
+if is_there(*PAGE):
     import numpy as np
 
     from shadowtools.agency.irt import Item

@@ -10,7 +10,7 @@ from typing import Dict, List, Sequence, Tuple
 import numpy as np
 
 from shadowtools.agency.custody import read_documents
-from shadowtools.agency.irt import Item
+from shadowtools.agency.irt import DICHOTOMOUS, FIELD, POLYTOMOUS, Item, fault
 from shadowtools.command import Refused
 from shadowtools.formats.examination import BankItem, Plan, Rule, Session, is_finite, json_of
 from shadowtools.formats.tables import is_number
@@ -42,10 +42,15 @@ class Examination:
 
 
 def load(prefix: str) -> Examination:
-    """The examination of a prefix. Refused is a bank or a plan that is not the map's, by its digest."""
+    """The examination of a prefix. Refused is a bank or a plan that is not the map's, by its digest, and a map whose items are
+    of no known model."""
     documents = read_documents(prefix + ".bank.csv", prefix + ".plan.txt", prefix + ".map.json")
     found = documents.map
     items = [Item(r["id"], r["model"], r["parameters"], r["attributes"], r["passage"]) for r in found["items"]]
+    for item, row in zip(items, documents.bank):
+        why = fault(item) if item.model in (*DICHOTOMOUS, *POLYTOMOUS, FIELD) else "unknown model"
+        if why or item.categories != row.categories:
+            raise Refused(f"{prefix}.map.json: item {item.name}: {why or 'other categories than in the bank'}")
     return Examination(prefix, documents.bank, documents.plan, found, items, documents.sha256)
 
 

@@ -5,6 +5,7 @@ from typing import List
 
 import numpy as np
 
+from shadowtools.agency.irt import FIELD
 from shadowtools.formats.examination import Rule
 from shadowtools.page import pictures
 from shadowtools.page.measures import accuracy, consistency, level_chances, levels, marginal_reliability, standard_error
@@ -174,9 +175,12 @@ def table_of_levels(study: Study) -> Table:
 def exposure(study: Study) -> Section:
     rates, count = study.exposure(study.sample), len(study.items)
     within = [study.overlap(band.members) for band in study.bands if not band.added and len(band.members) > 1]
+    field = np.array([item.model == FIELD for item in study.items])
     rows = [("Items never shown", f"{(rates == 0).sum()} of {count}{named(study.names[rates == 0])}"),
             ("Greatest exposure", f"{rates.max():.3f} (item {study.names[int(rates.argmax())]})"),
             ("Mean exposure", f"{study.length / count:.3f}"), ("Items above 0.3", f"{(rates > 0.3).sum()}")]
+    if field.any():
+        rows.append(("Items in field test, in the mean for a test", f"{field.sum()} of {count}, {rates[field].sum():.2f}{named(study.names[field])}"))
     if study.controlled:
         above = rates > study.rate
         rows.append((f"Items above the rate {study.rate:.3f}", f"{above.sum()}, the greatest by {max(0, (rates - study.rate).max()):.3f}"

@@ -6,6 +6,7 @@ from typing import List, Optional, Sequence
 import numpy as np
 import pandas as pd
 
+from shadowtools.agency.irt import FIELD
 from shadowtools.agency.simulation import Broken, Examination, Estimates, broken_rules, estimates
 from shadowtools.command import Refused
 from shadowtools.formats.examination import Rule, Session
@@ -193,7 +194,7 @@ def table_by_item(study: Study) -> pd.DataFrame:
     table = pd.DataFrame({
         "number": np.arange(len(study.items)), "item": study.names,
         "passage": [passages[item.passage - 1] if 0 < item.passage <= len(passages) else "" for item in study.items],
-        "shown": study.shown[sample].sum(0), "exposure": exposure, "eligible": study.eligible[sample].mean(0),
+        "field_test": [item.model == FIELD for item in study.items], "shown": study.shown[sample].sum(0), "exposure": exposure, "eligible": study.eligible[sample].mean(0),
         "rate": study.rate, "above_rate": exposure > study.rate, "never_shown": exposure == 0,
         "greatest_information": information.max(1), "at_ability": theta[information.argmax(1)],
         "mean_step": [float(np.mean(one)) if one else np.nan for one in steps]})
