@@ -2,11 +2,14 @@ mod Adding
 mod Crash
 mod Filling
 mod Lasting
+mod Leaving
 mod Looking
 mod Making
 mod Mending
 mod OpeningMoments
 mod Reading
+mod Settling
+mod Staging
 mod Syncing
 mod Tidying
 mod Walking

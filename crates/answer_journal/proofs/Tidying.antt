@@ -1,15 +1,16 @@
 -- The device calls that bring a file to rest when it is opened.
-use Rattle.std.proofs.Common.{◌≡◌, ℕ, ◌+◌, ◌<◌, ◌≤◌, nat_le, true, false, List, [], ◌∷◌, ◌++◌, length, take, drop, get_or, Some, refl, sym, ◌∙◌, ap, arith, length-append, length-take, take-append-drop}
+use Rattle.std.proofs.Common.{◌≡◌, ◌⊎◌, inl, inr, ℕ, ◌+◌, ◌<◌, ◌≤◌, nat_le, true, false, List, [], ◌∷◌, ◌++◌, length, take, drop, get_or, Some, refl, sym, ◌∙◌, ap, arith, length-append, length-take, take-append-drop}
 use Rattle.std.specs.Prelude.{Option, unwrap_or}
 use Rattle.std.proofs.lemmas.Bool.{le-leb, lt-leb}
 use Rattle.std.proofs.lemmas.List.{drop_more, drop_all, append-nil}
-use Rattle.exam_edge.specs.Images.{Account, IsSettled, latest, written, cut_to, overwritten, Grows, AtEachMoment}
-use Rattle.exam_edge.specs.ImageLaws.{torn, trimmed, only, started, goes_on}
+use Rattle.exam_edge.specs.Images.{Account, IsSettled, IsClean, latest, cut_to, shortened, dropped, overwritten, Grows, AtEachMoment}
+use Rattle.exam_edge.specs.ImageLaws.{trimmed, image_of_dropped, only, settled_clean, shortened_clean, started, goes_on}
 use Rattle.answer_journal.specs.Frames.{FileHeader, front, payloads}
-use Rattle.answer_journal.specs.Standing.{payload_list, IsAtRest, Unopened, opened_file}
+use Rattle.answer_journal.specs.Standing.{payload_list, IsAtRest, IsBeingWritten, Unopened, opened_file}
 use Rattle.answer_journal.specs.StandingLaws.{unopened_gives}
 use Rattle.answer_journal.specs.Reading.{IsRead}
 use Rattle.answer_journal.proofs.Crash.{at_rest, trimmed_behind, cut_behind}
+use Rattle.answer_journal.proofs.Staging.{written_unopened, cut_images, cut_clean}
 
 module _ (h : FileHeader) where
   pub short_gives : (file : List ℕ) → length file ≤ 9 → payloads h file ≡ Some []
@@ -19,37 +20,48 @@ module _ (h : FileHeader) where
   pub listed : (file : List ℕ) (ps : List (List ℕ)) → payloads h file ≡ Some ps → payloads h file ≡ Some (payload_list h file)
   listed file ps is = is ∙ ap Some (sym (ap (λ (o : Option (List (List ℕ))). unwrap_or o []) is))
 
-  module _ (content : List ℕ) (a0 a1 : List Account) (settles : IsSettled content a0) where
-    module _ (few : length content ≤ 9) (g : Grows (written 0 9 (latest a0)) a0 a1) where
-      pub begun : AtEachMoment a0 a1 (λ file. payloads h file ≡ payloads h content)
-      begun =
-          let P : List ℕ → Type 0 = λ file. payloads h file ≡ payloads h content in
-          goes_on P (written 0 9 (latest a0)) a0 a0 a1 (started P a0 (λ file i. ap (payloads h) (only (latest a0) content file settles i))) g
-          (λ file i. let t = torn 0 9 (latest a0) content file settles i in short_gives file (omega (arith, few, t.greatest)) ∙ sym (short_gives content few))
+  module _ (content : List ℕ) (ps : List (List ℕ)) (end : ℕ) (r : IsRead h content ps end) where
+    pub read_size : end + 1 ≡ length (front h ps) + 1
+    read_size = omega (arith, ap length r.before, length-take end content, r.in_file)
 
-    module _ (ps : List (List ℕ)) (end : ℕ) (r : IsRead h content ps end) where
-      size_is : end + 1 ≡ length (front h ps) + 1
-      size_is = omega (arith, ap length r.before, length-take end content, r.in_file)
+    pub shut : Unopened h ps content
+    shut = record {
+      gate = get_or content end 0;
+      junk = drop (end + 1) content;
+      closed = r.closed;
+      is = sym (take-append-drop end content) ∙ ap (λ (l : List ℕ). l ++ drop end content) r.before ∙ ap (λ (l : List ℕ). front h ps ++ l) (drop_more content end 0 r.in_file);
+    }
 
-      pub shut : Unopened h ps content
-      shut = record {
-        gate = get_or content end 0;
-        junk = drop (end + 1) content;
-        closed = r.closed;
-        is = sym (take-append-drop end content) ∙ ap (λ (l : List ℕ). l ++ drop end content) r.before ∙ ap (λ (l : List ℕ). front h ps ++ l) (drop_more content end 0 r.in_file);
-      }
+    pub cut_rests : (c1 : List ℕ) (a2 : List Account) → c1 ≡ take (end + 1) content → IsSettled c1 a2 → IsAtRest h c1 a2 (end + 1) × (payload_list h c1 ≡ ps)
+    cut_rests c1 a2 is settles1 =
+        let u : Unopened h ps content = shut in
+        let file : c1 ≡ front h ps ++ u.gate ∷ [] = is ∙ cut_behind h ps (end + 1) content read_size u in
+        at_rest h ps u.gate c1 a2 (end + 1) r.fits u.closed file (omega (arith, ap length file, read_size, length-append (front h ps) (u.gate ∷ []))) settles1
 
-      pub cut_keeps : Grows (cut_to (end + 1) (latest a0)) a0 a1 → AtEachMoment a0 a1 (λ file. payloads h file ≡ payloads h content)
-      cut_keeps g =
-          let P : List ℕ → Type 0 = λ file. payloads h file ≡ payloads h content in
-          goes_on P (cut_to (end + 1) (latest a0)) a0 a0 a1 (started P a0 (λ file i. ap (payloads h) (only (latest a0) content file settles i))) g
-          (λ file i. unopened_gives h ps file r.fits (trimmed_behind h ps (end + 1) content file size_is shut (trimmed (end + 1) (latest a0) content file settles i)) ∙ sym r.gives)
+    module _ (a0 a1 : List Account) (g : Grows (dropped (cut_to (end + 1) (latest a0))) a0 a1) where
+      abbrev Gives : List ℕ → Type 0
+      Gives file = payloads h file ≡ payloads h content
 
-      pub cut_rests : (c1 : List ℕ) (a2 : List Account) → c1 ≡ take (end + 1) content → IsSettled c1 a2 → IsAtRest h c1 a2 (end + 1) × (payload_list h c1 ≡ ps)
-      cut_rests c1 a2 is settles1 =
-          let u : Unopened h ps content = shut in
-          let file : c1 ≡ front h ps ++ u.gate ∷ [] = is ∙ cut_behind h ps (end + 1) content size_is u in
-          at_rest h ps u.gate c1 a2 (end + 1) r.fits u.closed file (omega (arith, ap length file, size_is, length-append (front h ps) (u.gate ∷ []))) settles1
+      -- the cut of a settled file
+      settled_keeps : IsSettled content a0 → AtEachMoment a0 a1 Gives
+      settled_keeps settles =
+          goes_on Gives (dropped (cut_to (end + 1) (latest a0))) a0 a0 a1 (started Gives a0 (λ file i. ap (payloads h) (only (latest a0) content file settles i))) g
+          (λ file i. unopened_gives h ps file r.fits (trimmed_behind h ps (end + 1) content file read_size shut (trimmed (end + 1) (latest a0) content file settles (image_of_dropped (cut_to (end + 1) (latest a0)) file i))) ∙ sym r.gives)
+
+      -- that of a file of which what follows the gate may be suspect
+      written_keeps : IsBeingWritten h ps a0 (end + 1) → AtEachMoment a0 a1 Gives
+      written_keeps w =
+          goes_on Gives (dropped (cut_to (end + 1) (latest a0))) a0 a0 a1
+          (started Gives a0 (λ file i. unopened_gives h ps file r.fits (written_unopened h ps (end + 1) read_size a0 w file i) ∙ sym r.gives)) g
+          (λ file i. unopened_gives h ps file r.fits (cut_images h ps (end + 1) read_size a0 w file i) ∙ sym r.gives)
+
+      pub cut_keeps : IsSettled content a0 ⊎ IsBeingWritten h ps a0 (end + 1) → AtEachMoment a0 a1 Gives
+      cut_keeps (inl settles) = settled_keeps settles
+      cut_keeps (inr w) = written_keeps w
+
+    pub tail_clean : (a0 : List Account) → IsSettled content a0 ⊎ IsBeingWritten h ps a0 (end + 1) → IsClean (shortened (end + 1) (latest a0))
+    tail_clean a0 (inl settles) = shortened_clean (end + 1) (latest a0) (settled_clean (latest a0) content settles)
+    tail_clean a0 (inr w) = cut_clean h ps (end + 1) read_size a0 w
 
   pub begun_is : (content c1 : List ℕ) → length content ≤ 9 → c1 ≡ overwritten content 0 (h.bytes ++ 0 ∷ []) → c1 ≡ h.bytes ++ 0 ∷ []
   begun_is content c1 few is =

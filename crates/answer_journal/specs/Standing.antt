@@ -1,7 +1,7 @@
 -- The state of a journal's disk: at rest, or with a record in doubt.
-use Rattle.std.specs.Prelude.{◌≡◌, ◌≢◌, ◌⊎◌, ℕ, ◌+◌, List, [], ◌∷◌, ◌++◌, length, take, nat_le, if◌then◌else◌, Some, unwrap_or}
+use Rattle.std.specs.Prelude.{◌≡◌, ◌≢◌, ◌⊎◌, ℕ, ◌+◌, ◌-◌, ◌≤◌, List, [], ◌∷◌, ◌++◌, length, take, nat_le, if◌then◌else◌, Some, unwrap_or}
 use Rattle.std.specs.List.{AllByRecursion}
-use Rattle.exam_edge.specs.Images.{Account, latest, IsSettled, IsImage, AllImages}
+use Rattle.exam_edge.specs.Images.{Account, latest, settled, written, dropped, IsClean, IsWithin, IsSettled, IsImage, AllImages}
 use Rattle.answer_journal.specs.Frames.{FileHeader, IsPayload, frame_of, front, payloads}
 
 -- the payloads of a file, none where a rule is broken
@@ -43,6 +43,23 @@ IsEither h ps payload file = Unopened h ps file ⊎ (file ≡ front h (ps ++ pay
 abbrev pub IsBeforeOrWith : FileHeader → List (List ℕ) → List ℕ → List ℕ → Type 0
 IsBeforeOrWith h ps payload file = (payloads h file ≡ Some ps) ⊎ (payloads h file ≡ Some (ps ++ payload ∷ []))
 
+-- a record was being written after a closed gate, and what was written there may be suspect
+pub record IsBeingWritten (h : FileHeader) (ps : List (List ℕ)) (accounts : List Account) (size : ℕ) : Type 0 where
+  pub gate : ℕ
+  pub closed : gate ≢ 1
+  pub n : ℕ
+  pub within : IsWithin (latest accounts) (dropped (written size n (settled (front h ps ++ gate ∷ []))))
+
+-- a record is whole on the disk, its gate was being opened, and that gate may be suspect
+pub record IsBeingOpened (h : FileHeader) (ps : List (List ℕ)) (payload : List ℕ) (accounts : List Account) (size : ℕ) : Type 0 where
+  pub gate : ℕ
+  pub closed : gate ≢ 1
+  pub within : IsWithin (latest accounts) (dropped (written (size - 1) 1 (settled (front h ps ++ gate ∷ frame_of payload))))
+
+-- how far the calls for a record in doubt came
+abbrev pub IsStage : FileHeader → List (List ℕ) → List ℕ → List Account → ℕ → Type 0
+IsStage h ps payload accounts size = IsBeingWritten h ps accounts size ⊎ IsBeingOpened h ps payload accounts size
+
 -- a record may have been added or not, and the file ends after its gate or after the next
 pub record IsInDoubt (h : FileHeader) (ps : List (List ℕ)) (payload : List ℕ) (accounts : List Account) (size with_it : ℕ) : Type 0 where
   pub fits : AllByRecursion IsPayload ps
@@ -50,6 +67,33 @@ pub record IsInDoubt (h : FileHeader) (ps : List (List ℕ)) (payload : List ℕ
   pub size_is : size ≡ length (front h ps) + 1
   pub with_is : with_it ≡ size + 5 + length payload
   pub each : AllImages (IsEither h ps payload) (latest accounts)
+  pub stage : IsStage h ps payload accounts size
+
+-- one record is in doubt
+pub record HasDoubt (h : FileHeader) (accounts : List Account) : Type 0 where
+  pub before : List (List ℕ)
+  pub payload : List ℕ
+  pub size : ℕ
+  pub with_it : ℕ
+  pub doubt : IsInDoubt h before payload accounts size with_it
+
+-- an empty journal was being made of a file of at most nine bytes, and what was written may be suspect
+pub record IsBeingMade (accounts : List Account) : Type 0 where
+  pub bytes : List ℕ
+  pub few : length bytes ≤ 9
+  pub within : IsWithin (latest accounts) (dropped (written 0 9 (settled bytes)))
+
+-- a journal or its opening was interrupted: one record is in doubt, or the header was being written
+abbrev pub IsInterrupted : FileHeader → List Account → Type 0
+IsInterrupted h accounts = HasDoubt h accounts ⊎ IsBeingMade accounts
+
+-- a disk as a reboot or a journal left it: nothing is suspect, or the journal was interrupted
+abbrev pub IsAsLeft : FileHeader → List Account → Type 0
+IsAsLeft h accounts = IsClean (latest accounts) ⊎ IsInterrupted h accounts
+
+-- such a disk after a sync that succeeded: it is settled, or the journal was interrupted
+abbrev pub IsSettledOrInterrupted : FileHeader → List ℕ → List Account → Type 0
+IsSettledOrInterrupted h content accounts = IsSettled content accounts ⊎ IsInterrupted h accounts
 
 -- a file that a crash might have left before, or one that gives the same payloads
 abbrev pub IsImageOrGives : FileHeader → Account → List ℕ → List ℕ → Type 0

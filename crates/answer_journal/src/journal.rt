@@ -1,14 +1,14 @@
 // A journal over a disk.
-ghost use Rattle.std.specs.Prelude.{◌≡◌, ◌≢◌, ◌≤◌, ◌<◌, ◌+◌, ◌-◌, ◌↔◌, ◌==◌, List, ℕ, [], ◌∷◌, ◌++◌, length, slice_index, map, max, Some, None, IsTrue, is_some, unwrap_or, IfOk, IfErr, OnOk, OnErr};
+ghost use Rattle.std.specs.Prelude.{◌≡◌, ◌≢◌, ◌≤◌, ◌<◌, ◌+◌, ◌-◌, ◌↔◌, ◌⊎◌, ◌==◌, List, ℕ, [], ◌∷◌, ◌++◌, length, slice_index, map, max, Some, None, IsTrue, is_some, unwrap_or, IfOk, IfErr, OnOk, OnErr};
 ghost use Rattle.std.specs.Option.{ForSome};
 ghost use Rattle.exam_edge.specs.Faults.{Rose};
 ghost use Rattle.exam_edge.specs.Lent.{IsLent, FailsOnly};
-ghost use Rattle.exam_edge.specs.Images.{AllImages, AtEachMoment, IsImage, IsSettled, latest};
+ghost use Rattle.exam_edge.specs.Images.{AllImages, AtEachMoment, IsClean, IsImage, IsSettled, latest};
 ghost use Rattle.answer_journal.specs.Frames.{shadowj1, front, payloads};
 ghost use Rattle.answer_journal.specs.OpenFault.{IsAnswerTo, first_fault};
 ghost use Rattle.answer_journal.specs.Outcome.{OnFull, OnDisk, payloads_after, size_after};
 ghost use Rattle.answer_journal.specs.Payload.{bytes_of, at_of, places_of};
-ghost use Rattle.answer_journal.specs.Standing.{IsBeforeOrWith, IsImageOrGives, opened_file, payload_list};
+ghost use Rattle.answer_journal.specs.Standing.{IsAsLeft, IsBeforeOrWith, IsImageOrGives, opened_file, payload_list};
 
 use crate::appending::{resolve_record, write_record};
 use crate::opening::test_file;
@@ -82,11 +82,12 @@ impl<D: Disk> Model for Journal<D> {
 impl<D: Disk> Journal<D> {
     ghost use Rattle.answer_journal.specs.Journal.{disk_of, tells_of, content_of, accounts_of, faults_of, identity_of, length_of, limit_of, doubt_of, payloads_of, AreLengths, IsReady, IsDoubtful};
 
-    /// Tests the frames of a file, to walk over its payloads one after another. It syncs first,
-    /// and writes nothing. It takes no memory. The limit of the journal's length is in bytes, at
-    /// most 536,870,912. A refusal gives the disk back.
+    /// Tests the frames of a file, to walk over its payloads one after another. It syncs first, and writes nothing. The
+    /// disk is as a reboot or a journal left it: a record may be in doubt. It takes no memory. The limit of the journal's
+    /// length is in bytes, at most 536,870,912. A refusal gives the disk back.
     pub fn walk(disk: D, limit: u64) -> Result<Walk<D>, (D, OpenFault)>
-        requires { limit ≤ 536870912 }
+        requires limit { limit ≤ 536870912 }
+        requires left { IsTrue (D.tells disk) → IsAsLeft shadowj1 (D.accounts disk) }
         ensures limit { IfOk result (λ walk. walk.limit ≡ limit) }
         ensures start { IfOk result (λ walk. (walk.at ≡ 8) × (walk.given ≡ 0)) }
 
@@ -124,6 +125,7 @@ impl<D: Disk> Journal<D> {
             → IsSettled (D.content disk) (D.accounts disk)
             → AtEachMoment (D.accounts disk) (D.accounts e.0) (λ file. file ≡ D.content disk)) }
         ensures images { IfOk result (λ walk. IsTrue (D.tells disk)
+            → IsClean (latest (D.accounts disk))
             → AllImages (λ file. file ≡ D.content disk) (latest (D.accounts walk.disk))) }
 
         ensures frame { IfOk result
@@ -138,21 +140,23 @@ impl<D: Disk> Journal<D> {
                 extent,
                 at: 8,
                 given: 0,
+                last: 8,
             }),
             Err(e) => Err((disk, e)),
         }
     }
 
-    /// Opens a file, and gives its payloads with the places of their gates: first a walk over all
-    /// of them, then its `finish`. It syncs first. It makes a file of at most nine bytes an empty journal. It cuts
-    /// from any other file what follows its first closed gate. The limit of the journal's length is
-    /// in bytes, at most 536,870,912. A refusal gives the disk back.
+    /// Opens a file, and gives its payloads with the places of their gates: first a walk over all of them, then its
+    /// `finish`. It makes a file of at most nine bytes an empty journal. In any other file it writes the last open gate and
+    /// the first closed one again as they read, and cuts what follows the closed one. The limit of the journal's length is in
+    /// bytes, at most 536,870,912. A refusal gives the disk back.
     pub fn open(
         alloc: Global,
         disk: D,
         limit: u64,
     ) -> Result<(Journal<D>, Vec<Payload>), (D, OpenFault)>
-        requires { limit ≤ 536870912 }
+        requires limit { limit ≤ 536870912 }
+        requires left { IsTrue (D.tells disk) → IsAsLeft shadowj1 (D.accounts disk) }
         ensures ready { IfOk result (λ opened. IsReady opened.0) }
         ensures limit { IfOk result (λ opened. limit_of opened.0 ≡ limit) }
         ensures gives { IfOk result (λ opened. IsTrue (D.tells disk)
@@ -270,8 +274,9 @@ impl<D: Disk> Journal<D> {
         self.doubt.is_some()
     }
 
-    /// Resolves the record in doubt: syncs, keeps it exactly where its gate reads open, and else cuts it off and syncs. At
-    /// `Failed` it stays in doubt, and the disk has counted a fault. It takes no memory.
+    /// Resolves the record in doubt: reads its gate, writes it again as it reads, and syncs. It keeps the record exactly where
+    /// the gate reads open, and else cuts it off and syncs. At `Failed` the record stays in doubt, and the disk has counted a
+    /// fault. It takes no memory.
     pub fn mend(&mut self) -> Result<Adopted, Failed>
         requires { (ps : _) × (payload : _) × IsDoubtful ps payload self.old }
         ensures ready { OnOk result (IsReady self.new) }
@@ -319,7 +324,7 @@ impl<D: Disk> Journal<D> {
         self.size
     }
 
-    /// The disk as it is.
+    /// The disk as it is. It may be opened again, also with a record in doubt.
     pub fn into_disk(self) -> D
         ensures disk { result ≡ disk_of self }
         ensures content { D.content result ≡ content_of self }
@@ -327,6 +332,9 @@ impl<D: Disk> Journal<D> {
         ensures faults { D.faults result ≡ faults_of self }
         ensures tells { D.tells result ≡ tells_of self }
         ensures identity { D.identity result ≡ identity_of self }
+        ensures left { IsTrue (tells_of self)
+            → IsReady self ⊎ ((ps : _) × (payload : _) × IsDoubtful ps payload self)
+            → IsAsLeft shadowj1 (accounts_of self) }
     {
         let Journal {
             disk,

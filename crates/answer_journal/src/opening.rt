@@ -1,16 +1,17 @@
 // How a file is opened: what is read first, and what is written then.
-ghost use Rattle.std.specs.Prelude.{◌≡◌, ◌≢◌, ◌≤◌, ◌<◌, ◌+◌, length, Some, None};
+ghost use Rattle.std.specs.Prelude.{◌≡◌, ◌≢◌, ◌≤◌, ◌<◌, ◌+◌, ◌^◌, ◌⊎◌, length, Some, None};
 ghost use Rattle.std.specs.Prelude.{IsTrue, IfOk, IfErr, OnOk};
 ghost use Rattle.exam_edge.specs.Faults.{Rose};
 ghost use Rattle.exam_edge.specs.Lent.{IsLent, FailsOnly};
-ghost use Rattle.exam_edge.specs.Images.{AtEachMoment, Grows, IsSettled, latest};
+ghost use Rattle.exam_edge.specs.Images.{AtEachMoment, Grows, IsClean, IsImage, IsSettled, dropped, latest};
 ghost use Rattle.answer_journal.specs.Frames.{shadowj1, payloads};
-ghost use Rattle.answer_journal.specs.Opening.{IsExtent};
+ghost use Rattle.answer_journal.specs.Opening.{AreGatesSettled, IsExtent, last_gate};
 ghost use Rattle.answer_journal.specs.OpenFault.{IsAnswerTo, first_fault};
-ghost use Rattle.answer_journal.specs.Standing.{payload_list, IsAtRest, opened_file};
+ghost use Rattle.answer_journal.specs.Standing.{payload_list, IsAsLeft, IsAtRest, IsBeingMade, IsImageOrGives, opened_file};
+ghost use Rattle.answer_journal.specs.Reading.{IsRead};
 
 use crate::OpenFault;
-use crate::durable::{cut_tail, write_durably};
+use crate::durable::{cut_durably, renew_byte, write_durably};
 use crate::frames::EMPTY_JOURNAL;
 use crate::gates::test_frames;
 use exam_edge::{Disk, Failed};
@@ -25,10 +26,14 @@ pub struct Extent {
 
 /// Syncs and tests a file, and writes nothing: its extent.
 pub fn test_file<D: Disk>(disk: &mut D, limit: u64) -> Result<Extent, OpenFault>
-    requires { limit ≤ 536870912 }
+    requires limit { limit ≤ 536870912 }
+    requires left { IsTrue (D.tells disk.old) → IsAsLeft shadowj1 (D.accounts disk.old) }
     ensures within { IfOk result (λ extent. extent.size ≤ limit) }
     ensures extent { IfOk result (λ extent. IsExtent shadowj1 (D.tells disk.new)
         (D.content disk.new) (D.accounts disk.new) extent) }
+    ensures settled { OnOk result (IsTrue (D.tells disk.old)
+        → IsClean (latest (D.accounts disk.old))
+        → IsSettled (D.content disk.old) (D.accounts disk.new)) }
     ensures gives { OnOk result (IsTrue (D.tells disk.old)
         → payloads shadowj1 (D.content disk.old)
         ≡ Some (payload_list shadowj1 (D.content disk.old))) }
@@ -41,7 +46,8 @@ pub fn test_file<D: Disk>(disk: &mut D, limit: u64) -> Result<Extent, OpenFault>
     ensures no_memory { IfErr result (λ e. e ≢ OpenFault.Memory) }
     ensures content { IsTrue (D.tells disk.old) → D.content disk.new ≡ D.content disk.old }
     ensures crash { IsTrue (D.tells disk.old)
-        → Grows (latest (D.accounts disk.old)) (D.accounts disk.old) (D.accounts disk.new) }
+        → Grows (dropped (latest (D.accounts disk.old))) (D.accounts disk.old)
+        (D.accounts disk.new) }
     ensures frame { IsLent D.tells D.identity D.faults disk.old disk.new }
 {
     match disk.sync() {
@@ -64,10 +70,33 @@ pub fn test_file<D: Disk>(disk: &mut D, limit: u64) -> Result<Extent, OpenFault>
     }
 }
 
+// Cuts a file of at most nine bytes to its own length, since it may be longer on the disk, and syncs: then only the bytes of
+// a header may be suspect.
+fn settle_short<D: Disk>(disk: &mut D, extent: Extent) -> Result<(), Failed>
+    requires short { extent.size ≤ 9 }
+    requires extent { IsExtent shadowj1 (D.tells disk.old) (D.content disk.old)
+        (D.accounts disk.old) extent }
+    ensures left { OnOk result (IsTrue (D.tells disk.old)
+        → IsSettled (D.content disk.old) (D.accounts disk.new)
+        ⊎ IsBeingMade (D.accounts disk.new)) }
+    ensures content { OnOk result (IsTrue (D.tells disk.old)
+        → D.content disk.new ≡ D.content disk.old) }
+    ensures moments { IsTrue (D.tells disk.old)
+        → AtEachMoment (D.accounts disk.old) (D.accounts disk.new)
+        (IsImage (latest (D.accounts disk.old))) }
+    ensures failed { FailsOnly D.faults disk.old disk.new result }
+    ensures frame { IsLent D.tells D.identity D.faults disk.old disk.new }
+{
+    cut_durably(disk, extent.size)?;
+    Ok(())
+}
+
 // Makes a file of at most nine bytes an empty journal.
 fn write_header<D: Disk>(disk: &mut D) -> Result<(), Failed>
-    requires { IsTrue (D.tells disk.old) → (length (D.content disk.old) ≤ 9)
-        × IsSettled (D.content disk.old) (D.accounts disk.old) }
+    requires short { IsTrue (D.tells disk.old) → length (D.content disk.old) ≤ 9 }
+    requires left { IsTrue (D.tells disk.old)
+        → IsSettled (D.content disk.old) (D.accounts disk.old)
+        ⊎ IsBeingMade (D.accounts disk.old) }
     ensures rest { OnOk result (IsTrue (D.tells disk.old)
         → IsAtRest shadowj1 (D.content disk.new) (D.accounts disk.new) 9) }
     ensures keeps { OnOk result (IsTrue (D.tells disk.old)
@@ -85,32 +114,77 @@ fn write_header<D: Disk>(disk: &mut D) -> Result<(), Failed>
     Ok(())
 }
 
-// Cuts a file of more than nine bytes after its first closed gate, if bytes follow.
-fn cut_file<D: Disk>(disk: &mut D, extent: Extent) -> Result<(), Failed>
+/// Puts aside what follows the first closed gate of a file of this extent and is to be cut, where anything does. The file
+/// stays as it is.
+pub fn put_tail_aside<D: Disk>(disk: &mut D, extent: Extent) -> Result<(), Failed>
+    ensures content { IsTrue (D.tells disk.old) → D.content disk.new ≡ D.content disk.old }
+    ensures accounts { IsTrue (D.tells disk.old) → D.accounts disk.new ≡ D.accounts disk.old }
+    ensures failed { FailsOnly D.faults disk.old disk.new result }
+    ensures frame { IsLent D.tells D.identity D.faults disk.old disk.new }
+{
+    if 9 < extent.size && extent.end < extent.size - 1 {
+        disk.put_aside(extent.end)
+    } else {
+        Ok(())
+    }
+}
+
+// Writes the last open gate and the first closed one again as they read, and syncs: one of them may be only in the host's
+// memory, where the last writer of the file ended after a sync that failed.
+fn settle_gates<D: Disk>(disk: &mut D, extent: Extent, last: u64) -> Result<(), Failed>
     requires long { 9 < extent.size }
     requires extent { IsExtent shadowj1 (D.tells disk.old) (D.content disk.old)
         (D.accounts disk.old) extent }
+    requires last { IsTrue (D.tells disk.old)
+        → last ≡ last_gate (payload_list shadowj1 (D.content disk.old)) }
+    ensures gates { OnOk result (IsTrue (D.tells disk.old)
+        → AreGatesSettled shadowj1 (D.content disk.old) (D.accounts disk.new) extent.end) }
+    ensures content { IsTrue (D.tells disk.old) → D.content disk.new ≡ D.content disk.old }
+    ensures moments { IsTrue (D.tells disk.old)
+        → AtEachMoment (D.accounts disk.old) (D.accounts disk.new)
+        (IsImage (latest (D.accounts disk.old))) }
+    ensures failed { FailsOnly D.faults disk.old disk.new result }
+    ensures frame { IsLent D.tells D.identity D.faults disk.old disk.new }
+{
+    renew_byte(disk, last)?;
+    renew_byte(disk, extent.end)?;
+    disk.sync()?;
+    Ok(())
+}
+
+// Cuts a file of more than nine bytes after its first closed gate, also where nothing follows: bytes of a cut that was not
+// synced may do so on the disk.
+fn cut_file<D: Disk>(disk: &mut D, end: u64) -> Result<(), Failed>
+    requires few { end + 1 < 2 ^ 64 }
+    requires long { IsTrue (D.tells disk.old) → 9 < length (D.content disk.old) }
+    requires read { IsTrue (D.tells disk.old) → IsRead shadowj1 (D.content disk.old)
+        (payload_list shadowj1 (D.content disk.old)) end }
+    requires gates { IsTrue (D.tells disk.old)
+        → AreGatesSettled shadowj1 (D.content disk.old) (D.accounts disk.old) end }
     ensures rest { OnOk result (IsTrue (D.tells disk.old)
-        → IsAtRest shadowj1 (D.content disk.new) (D.accounts disk.new) (extent.end + 1)) }
+        → IsAtRest shadowj1 (D.content disk.new) (D.accounts disk.new) (end + 1)) }
     ensures keeps { OnOk result (IsTrue (D.tells disk.old)
         → payloads shadowj1 (D.content disk.old)
         ≡ Some (payload_list shadowj1 (D.content disk.new))) }
     ensures content { OnOk result (IsTrue (D.tells disk.old)
-        → D.content disk.new ≡ opened_file shadowj1 (D.content disk.old) (extent.end + 1)) }
+        → D.content disk.new ≡ opened_file shadowj1 (D.content disk.old) (end + 1)) }
     ensures moments { IsTrue (D.tells disk.old)
         → AtEachMoment (D.accounts disk.old) (D.accounts disk.new)
         (λ file. payloads shadowj1 file ≡ payloads shadowj1 (D.content disk.old)) }
     ensures failed { FailsOnly D.faults disk.old disk.new result }
     ensures frame { IsLent D.tells D.identity D.faults disk.old disk.new }
 {
-    cut_tail(disk, extent.end + 1, extent.size)?;
+    cut_durably(disk, end + 1)?;
     Ok(())
 }
 
-/// Makes a file of this extent a journal, all of it on the disk: it ends with its first closed gate.
-pub fn finish_file<D: Disk>(disk: &mut D, extent: Extent) -> Result<(), Failed>
-    requires { IsExtent shadowj1 (D.tells disk.old) (D.content disk.old)
+/// Makes a file of this extent a journal, all of it on the disk: it ends with its first closed gate. The last open gate is at
+/// `last`.
+pub fn finish_file<D: Disk>(disk: &mut D, extent: Extent, last: u64) -> Result<(), Failed>
+    requires extent { IsExtent shadowj1 (D.tells disk.old) (D.content disk.old)
         (D.accounts disk.old) extent }
+    requires last { IsTrue (D.tells disk.old)
+        → last ≡ last_gate (payload_list shadowj1 (D.content disk.old)) }
     ensures rest { OnOk result (IsTrue (D.tells disk.old)
         → IsAtRest shadowj1 (D.content disk.new) (D.accounts disk.new) (extent.end + 1)) }
     ensures keeps { OnOk result (IsTrue (D.tells disk.old)
@@ -120,13 +194,16 @@ pub fn finish_file<D: Disk>(disk: &mut D, extent: Extent) -> Result<(), Failed>
         → D.content disk.new ≡ opened_file shadowj1 (D.content disk.old) (extent.end + 1)) }
     ensures moments { IsTrue (D.tells disk.old)
         → AtEachMoment (D.accounts disk.old) (D.accounts disk.new)
-        (λ file. payloads shadowj1 file ≡ payloads shadowj1 (D.content disk.old)) }
+        (IsImageOrGives shadowj1 (latest (D.accounts disk.old)) (D.content disk.old)) }
     ensures failed { FailsOnly D.faults disk.old disk.new result }
     ensures frame { IsLent D.tells D.identity D.faults disk.old disk.new }
 {
     if extent.size <= 9 {
+        settle_short(disk, extent)?;
         write_header(disk)
     } else {
-        cut_file(disk, extent)
+        put_tail_aside(disk, extent)?;
+        settle_gates(disk, extent, last)?;
+        cut_file(disk, extent.end)
     }
 }

@@ -8,12 +8,12 @@ ghost use Rattle.answer_journal.specs.Frames.{IsPayload, shadowj1, payloads};
 ghost use Rattle.answer_journal.specs.OpenFault.{IsOfDevice};
 ghost use Rattle.answer_journal.specs.Payload.{at_of, bytes_of, places_of};
 ghost use Rattle.answer_journal.specs.Reading.{IsRoomFor};
-ghost use Rattle.answer_journal.specs.Standing.{payload_list, opened_file};
+ghost use Rattle.answer_journal.specs.Standing.{payload_list, IsImageOrGives, opened_file};
 ghost use Rattle.answer_journal.specs.Walk.{HasRecord, IsJust, first_payloads};
 
 use crate::frames::Found;
 use crate::gates::{find_frame, read_from};
-use crate::opening::{Extent, finish_file};
+use crate::opening::{Extent, finish_file, put_tail_aside};
 use crate::{Journal, OpenFault, Payload};
 use exam_edge::{Disk, Failed};
 use std::alloc::{AllocError, Global};
@@ -48,6 +48,8 @@ pub struct Walk<D: Disk> {
     pub(crate) extent: Extent,
     pub(crate) at: u64,
     pub(crate) given: u64,
+    /// The place of the gate of the last record that was given; of the first gate before.
+    pub(crate) last: u64,
 }
 
 impl<D: Disk> Model for Walk<D> {
@@ -66,7 +68,7 @@ impl<D: Disk> Model for Walk<D> {
     } };
 
     ghost invariant = { λ w. IsWalk shadowj1 (D.tells w.disk) (D.content w.disk)
-        (D.accounts w.disk) w.limit w.extent w.at w.given };
+        (D.accounts w.disk) w.limit w.extent w.at w.given w.last };
 }
 
 // The length of the payload after the gate at a place, where that record ends by the end of these
@@ -219,6 +221,7 @@ impl<D: Disk> Walk<D> {
                 let place = self.at;
                 self.at += 5 + bytes.len() as u64;
                 self.given += 1;
+                self.last = place;
                 refill(buffer, bytes);
                 Ok(Some(place))
             }
@@ -241,8 +244,27 @@ impl<D: Disk> Walk<D> {
         self.extent.end + 1
     }
 
-    /// Makes the file a journal, as opening does, once all payloads were given. If a call of the
-    /// disk fails, the disk has counted that and comes back. The file may then be changed in part.
+    /// Puts aside what follows the first closed gate, where anything does: `finish` cuts it, and puts it aside itself. The
+    /// file and the walk stay as they are.
+    pub fn put_tail_aside(&mut self) -> Result<(), Failed>
+        ensures at { self.new.at ≡ self.old.at }
+        ensures given { self.new.given ≡ self.old.given }
+        ensures size { self.new.size ≡ self.old.size }
+        ensures limit { self.new.limit ≡ self.old.limit }
+        ensures untouched { IsTrue (D.tells self.old.disk)
+            → D.content self.new.disk ≡ D.content self.old.disk }
+        ensures accounts { IsTrue (D.tells self.old.disk)
+            → D.accounts self.new.disk ≡ D.accounts self.old.disk }
+        ensures cause { OnErr result
+            (Rose (D.faults self.old.disk) (D.faults self.new.disk)) }
+        ensures frame { IsLent D.tells D.identity D.faults self.old.disk self.new.disk }
+    {
+        put_tail_aside(&mut self.disk, self.extent)
+    }
+
+    /// Makes the file a journal, as opening does, once all payloads were given. What follows the first closed gate is put
+    /// aside before it is cut. If a call of the disk fails, the disk has counted that and comes back. The file may then be
+    /// changed in part.
     pub fn finish(self) -> Result<Journal<D>, (D, OpenFault)>
         requires { IsTrue (D.tells self.disk)
             → first_payloads self.given (D.content self.disk)
@@ -264,11 +286,20 @@ impl<D: Disk> Walk<D> {
             (λ e. e.1 ≡ OpenFault.Disk → Rose (D.faults self.disk) (D.faults e.0)) }
         ensures untouched { IfErr result (λ e. e.1 ≢ OpenFault.Disk → e.0 ≡ self.disk) }
 
-        // At each moment of the call a crash leaves the same payloads.
+        // At each moment of the call a crash leaves what it might have left before, or the same payloads.
         ensures moments { IfOk result (λ journal. IsTrue (D.tells self.disk)
             → AtEachMoment (D.accounts self.disk) (accounts_of journal)
-            (λ file. payloads shadowj1 file ≡ payloads shadowj1 (D.content self.disk))) }
+            (IsImageOrGives shadowj1 (latest (D.accounts self.disk)) (D.content self.disk))) }
         ensures moments_err { IfErr result (λ e. IsTrue (D.tells self.disk)
+            → AtEachMoment (D.accounts self.disk) (D.accounts e.0)
+            (IsImageOrGives shadowj1 (latest (D.accounts self.disk)) (D.content self.disk))) }
+        // The same payloads, where before it could leave nothing but the content.
+        ensures settled { IfOk result (λ journal. IsTrue (D.tells self.disk)
+            → AllImages (λ file. file ≡ D.content self.disk) (latest (D.accounts self.disk))
+            → AtEachMoment (D.accounts self.disk) (accounts_of journal)
+            (λ file. payloads shadowj1 file ≡ payloads shadowj1 (D.content self.disk))) }
+        ensures settled_err { IfErr result (λ e. IsTrue (D.tells self.disk)
+            → AllImages (λ file. file ≡ D.content self.disk) (latest (D.accounts self.disk))
             → AtEachMoment (D.accounts self.disk) (D.accounts e.0)
             (λ file. payloads shadowj1 file ≡ payloads shadowj1 (D.content self.disk))) }
         ensures images { IfOk result (λ journal. IsTrue (D.tells self.disk)
@@ -287,12 +318,13 @@ impl<D: Disk> Walk<D> {
             extent,
             at,
             given: _,
+            last,
         } = self;
         if at < extent.end {
             return Err((disk, OpenFault::Cut(at)));
         }
         let mut disk = disk;
-        match finish_file(&mut disk, extent) {
+        match finish_file(&mut disk, extent, last) {
             Ok(()) => Ok(Journal {
                 disk,
                 size: extent.end + 1,
@@ -313,6 +345,7 @@ impl<D: Disk> Walk<D> {
             extent: _,
             at: _,
             given: _,
+            last: _,
         } = self;
         disk
     }

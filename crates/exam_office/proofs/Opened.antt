@@ -7,8 +7,8 @@ use Rattle.bank_tables.specs.Items.{has}
 use Rattle.bank_tables.specs.Tables.{Tables}
 use Rattle.exam_model.specs.Plan.{Plan}
 use Rattle.exam_model.specs.Forms.{Meets}
-use Rattle.exam_edge.specs.Images.{Account, AtEachMoment, IsSettled}
-use Rattle.exam_edge.specs.ImageLaws.{joined, weaker}
+use Rattle.exam_edge.specs.Images.{Account, AllImages, AtEachMoment, IsSettled, latest}
+use Rattle.exam_edge.specs.ImageLaws.{joined, weaker, at_end}
 use Rattle.history_model.specs.declared.entry.Entry.{Entry}
 use Rattle.history_model.specs.Judging.{empty}
 use Rattle.exam_session.specs.Ledgers.{Ledger}
@@ -177,10 +177,11 @@ pub stands_while_read : (b : Tables) (plan : Plan) (H : List Entry) (content : L
 stands_while_read b plan H content old new s moments = weaker (λ (file : List ℕ). file ≡ content) (Stands b plan H) (λ file e. subst (Stands b plan H) (sym e) s) old new moments
 
 -- while it is finished, it gives the same payloads
-pub stands_while_opened : (b : Tables) (plan : Plan) (H : List Entry) (content between : List ℕ) (a0 a1 a2 : List Account) → Stands b plan H content → AtEachMoment a0 a1 (λ file. file ≡ content) → between ≡ content → AtEachMoment a1 a2 (λ file. payloads shadowj1 file ≡ payloads shadowj1 between) → AtEachMoment a0 a2 (Stands b plan H)
+pub stands_while_opened : (b : Tables) (plan : Plan) (H : List Entry) (content between : List ℕ) (a0 a1 a2 : List Account) → Stands b plan H content → AtEachMoment a0 a1 (λ file. file ≡ content) → between ≡ content → (AllImages (λ file. file ≡ between) (latest a1) → AtEachMoment a1 a2 (λ file. payloads shadowj1 file ≡ payloads shadowj1 between)) → AtEachMoment a0 a2 (Stands b plan H)
 stands_while_opened b plan H content between a0 a1 a2 s reading same finishing =
     joined (Stands b plan H) a0 a1 a2 (stands_while_read b plan H content a0 a1 s reading)
-    (weaker (λ (file : List ℕ). payloads shadowj1 file ≡ payloads shadowj1 between) (Stands b plan H) (λ file e. stands_too b plan H content file s (e ∙ ap (payloads shadowj1) same)) a1 a2 finishing)
+    (weaker (λ (file : List ℕ). payloads shadowj1 file ≡ payloads shadowj1 between) (Stands b plan H) (λ file e. stands_too b plan H content file s (e ∙ ap (payloads shadowj1) same)) a1 a2
+    (finishing (λ file i. at_end (λ f. f ≡ content) a0 a1 reading file i ∙ sym same)))
 
 -- a journal over a file of the same content has the payloads that were taken
 pub given_by : (file between : List ℕ) (ps : List (List ℕ)) (given : ℕ) → between ≡ file → payloads shadowj1 between ≡ Some ps → first_payloads given file ≡ payload_list shadowj1 file → ps ≡ first_payloads given file

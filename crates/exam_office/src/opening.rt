@@ -11,6 +11,8 @@ ghost use Rattle.history_model.specs.declared.entry.Entry.{Entry};
 ghost use Rattle.history_model.specs.Legality.{LegalRun};
 ghost use Rattle.exam_office.specs.declared.mark.Mark.TheVariants.{Old, Opened};
 ghost use Rattle.exam_office.specs.declared.fault.OpenFault.TheVariants.{Disk as OfDisk};
+ghost use Rattle.answer_journal.specs.Frames.{shadowj1};
+ghost use Rattle.answer_journal.specs.Standing.{IsAsLeft};
 ghost use Rattle.answer_journal.specs.Journal.{disk_of, tells_of, accounts_of, faults_of, identity_of};
 ghost use Rattle.exam_office.specs.Writing.{IsMending};
 ghost use Rattle.exam_office.specs.Files.{Stands};
@@ -32,7 +34,8 @@ use std::alloc::Global;
 impl<'a, D: Disk> Office<'a, D> {
     /// Opens an office over a disk: reads the journal, and takes each record that may follow those
     /// before it, with one record in memory. Only then it makes the file a journal that ends with
-    /// its first closed gate. The base is a form of the plan alone. A refusal gives the disk back.
+    /// its first closed gate. The base is a form of the plan alone. The disk is as a reboot or a journal left it. A refusal
+    /// gives the disk back.
     pub fn open(
         alloc: Global,
         bank: &'a Bank,
@@ -42,6 +45,7 @@ impl<'a, D: Disk> Office<'a, D> {
     ) -> Result<Office<'a, D>, (D, OpenFault)>
         requires plan { IsPlanFor bank.now spec.now }
         requires base { Meets bank.now spec.now (has base) }
+        requires left { IsTrue (D.tells disk) → IsAsLeft shadowj1 (D.accounts disk) }
         ensures bank { IfOk result (λ office. office.bank ≡ bank.now) }
         ensures plan { IfOk result (λ office. office.plan ≡ spec.now) }
         ensures base { IfOk result (λ office. office.base ≡ base) }

@@ -3,6 +3,8 @@
 ghost use Rattle.std.specs.Prelude.{◌≡◌, ℕ, ◌≤◌, ◌++◌, List, Some, OnOk, IsTrue, IfErr, IfSome};
 ghost use Rattle.exam_edge.specs.Faults.{Rose};
 ghost use Rattle.exam_edge.specs.Lent.{IsLent};
+ghost use Rattle.answer_journal.specs.Frames.{shadowj1};
+ghost use Rattle.answer_journal.specs.Standing.{IsAsLeft};
 ghost use Rattle.history_model.specs.declared.request.Reply.TheVariants.{Exposure as Exposed};
 ghost use Rattle.command_line.specs.Commands.{Audit, command_of};
 ghost use Rattle.exam_model.specs.Validity.{IsPlanFor};
@@ -45,7 +47,8 @@ fn audit_exam<O: Sink, D: Disk>(
     out: &mut O,
     disk: D,
 ) -> (D, Result<(), Halt>)
-    requires { IsPlanFor bank.now spec.now }
+    requires plan { IsPlanFor bank.now spec.now }
+    requires left { IsTrue (D.tells disk) → IsAsLeft shadowj1 (D.accounts disk) }
     ensures ok { OnOk result.1 ((words : List (List ℕ)) (o : Outside)
         → IsAuditOf words o bank.now spec.now
         → o.disk ≡ disk_seen D.tells D.content D.accounts D.faults disk result.0
@@ -82,6 +85,7 @@ pub(crate) fn audit_journal<F: Files, O: Sink, D: Disk>(
     bank: &str,
     plan: &str,
 ) -> (D, Result<(), Halt>)
+    requires { IsTrue (D.tells disk) → IsAsLeft shadowj1 (D.accounts disk) }
     ensures ok { OnOk result.1 (IsTrue (F.tells files.old) → (words : List (List ℕ))
         → command_of words ≡ Some (Audit bank.now plan.now)
         → Prints words (outside (F.has files.old) (F.content files.old) (F.faults files.old)

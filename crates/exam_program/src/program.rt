@@ -4,6 +4,8 @@ ghost use Rattle.std.specs.Prelude.{◌≡◌, ℕ, ◌≤◌, ◌⊎◌, All, L
 ghost use Rattle.std.specs.Option.{option_map};
 ghost use Rattle.exam_edge.specs.Faults.{Rose};
 ghost use Rattle.exam_edge.specs.Lent.{IsLent};
+ghost use Rattle.answer_journal.specs.Frames.{shadowj1};
+ghost use Rattle.answer_journal.specs.Standing.{IsAsLeft};
 ghost use Rattle.exam_serve.specs.Doors.{AreLent, AreServed, HasFailedDoor};
 ghost use Rattle.command_line.specs.Commands.{HasJournal, IsOfJournal, IsServe, IsOfServe, IsInRange, AreInRange, command_of, said};
 ghost use Rattle.exam_program.specs.Halts.{IsBeforeJournal};
@@ -35,6 +37,7 @@ fn work<F: Files, O: Sink, D: Disk>(
 ) -> (D, Result<(), Halt>)
     requires alone { IsServe (said command) → ⊥ }
     requires range { IsInRange (said command) }
+    requires left { IsTrue (D.tells disk) → IsAsLeft shadowj1 (D.accounts disk) }
     ensures ok { OnOk result.1 (IsTrue (F.tells files.old) → (words : List (List ℕ))
         → command_of words ≡ Some (said command.entry)
         → Prints words (outside (F.has files.old) (F.content files.old) (F.faults files.old)
@@ -89,6 +92,7 @@ fn status_of<F: Files, O: Sink, D: Disk>(
 ) -> (D, u8)
     requires alone { IsOfServe (option_map said command) → ⊥ }
     requires range { AreInRange (option_map said command) }
+    requires left { IsTrue (D.tells disk) → IsAsLeft shadowj1 (D.accounts disk) }
     ensures answers { IsTrue (F.tells files.old) → (words : List (List ℕ))
         → option_map said command.entry ≡ command_of words
         → Ends words (outside (F.has files.old) (F.content files.old) (F.faults files.old)
@@ -125,7 +129,7 @@ fn status_of<F: Files, O: Sink, D: Disk>(
 }
 
 /// Does what the words ask for, which are those after the program's name, and waits for nobody. The words do not ask for a
-/// server.
+/// server. The journal's disk is as a reboot or a journal left it.
 /// It gives the status to end with: 0 the work was done, 2 the words are not in the table,
 /// 3, 4 and 5 the bank, the plan or the script is refused, 6 the journal represents no history of the bank and the plan,
 /// 7, 8 and 9 a call of the files, the sink or the disk failed, 10 out of memory, 11 no set of items is a form, 12 the plan has
@@ -136,6 +140,7 @@ pub fn run_alone<F: Files, O: Sink, D: Disk>(
     tools: Tools<F, O, D>,
 ) -> (u8, Tools<F, O, D>)
     requires alone { IsOfServe (command_of (map (λ w. string_bytes w) words.now)) → ⊥ }
+    requires left { IsTrue (D.tells tools.disk) → IsAsLeft shadowj1 (D.accounts tools.disk) }
     // If the files report their content: what is printed, and with which status. If the sink reports its content too: that this
     // is written. If the disk reports its content too: what the journal holds, and what a crash may leave of it.
     ensures answers { IsTrue (F.tells tools.files)
@@ -206,6 +211,7 @@ where
     G: Gate + Sync,
     requires few { vec_len doors ≤ 65535 }
     requires home { All (λ door. L.is_out door ≡ false) doors.items }
+    requires left { IsTrue (D.tells disk) → IsAsLeft shadowj1 (D.accounts disk) }
     ensures answers { IsTrue (F.tells files.old)
         → RunEnds (λ opened closed failed. AreServed L.tells L.coming L.returned L.is_out L.faults
         L.identity L.Link.tells L.Link.left L.Link.written L.Link.faults L.Link.identity
@@ -256,6 +262,7 @@ where
 
 /// Does what the words ask for, which are those after the program's name. At most 65,535 doors are given, and no link of
 /// theirs is out. Only a server uses the doors and the gate; it may wait, and ends where each door ends.
+/// The journal's disk is as a reboot or a journal left it.
 /// It gives the status to end with: 0 the work was done, 2 the words are not in the table,
 /// 3, 4 and 5 the bank, the plan or the script is refused, 6 the journal represents no history of the bank and the plan,
 /// 7, 8 and 9 a call of the files, the sink or the disk failed, 10 out of memory, 11 no set of items is a form, 12 the plan has
@@ -270,6 +277,7 @@ pub fn run<
 >(rt: &R, alloc: Global, words: &[String], world: World<F, O, D, L, G>) -> Finish<F, O, D, L>
     requires few { vec_len world.doors ≤ 65535 }
     requires home { All (λ door. L.is_out door ≡ false) world.doors.items }
+    requires left { IsTrue (D.tells world.disk) → IsAsLeft shadowj1 (D.accounts world.disk) }
     // If the files report their content: what is printed, and with which status; and what became of the doors. If the sink
     // reports its content too: that this is written. If the disk reports its content too: what the journal holds, and what a
     // crash may leave of it. Of a door that reports its links: that each was served, and what was written to it.

@@ -108,17 +108,17 @@ fn fails_disk<R: Abort + AllocGlobal + Threads + Wait + Sync>(rt: &R, call: u64,
     goes_on(rt, &ran.journal, whole);
 }
 
-/// Opening an empty file is four calls of the disk, and each of the seven entries is four.
+/// Opening an empty file is six calls of the disk, and each of the seven entries is four.
 #[test]
 fn each_failing_call_of_the_disk(rt: HostRuntime) {
     let whole = session(&rt, &CALM);
-    for call in 0..32u64 {
+    for call in 0..34u64 {
         fails_disk(&rt, call, &whole.journal);
     }
     is_whole(
         &rt,
         &Given {
-            disk: &[32],
+            disk: &[34],
             ..CALM
         },
     );

@@ -1,5 +1,9 @@
 //! The program over files, a sink and a disk in memory.
 
+ghost use Rattle.answer_journal.specs.Frames.{shadowj1};
+ghost use Rattle.answer_journal.specs.Standing.{IsAsLeft};
+ghost use Rattle.exam_edge.specs.MemoryDisk.{accounts_of};
+
 use crate::equal::{has_bytes, is_equal};
 use exam_edge::{MemoryDisk, MemoryDoor, MemoryFiles, MemorySink, OpenGate};
 use exam_program::{Tools, World, run};
@@ -87,7 +91,9 @@ fn sink_of<R: Abort>(rt: &R, alloc: Global, fails: &[u64]) -> MemorySink {
 }
 
 /// A disk with this journal; these calls of it fail.
-fn disk_of<R: Abort>(rt: &R, alloc: Global, journal: &[u8], fails: &[u64]) -> MemoryDisk {
+fn disk_of<R: Abort>(rt: &R, alloc: Global, journal: &[u8], fails: &[u64]) -> MemoryDisk
+    ensures { IsAsLeft shadowj1 (accounts_of result) }
+{
     let journal = bytes_of(rt, alloc, journal);
     MemoryDisk::of(alloc, journal, numbers_of(rt, alloc, fails))
 }
@@ -97,7 +103,9 @@ pub fn tools_of<R: Abort>(
     alloc: Global,
     texts: &[&str; 3],
     given: &Given<'_>,
-) -> Tools<MemoryFiles, MemorySink, MemoryDisk> {
+) -> Tools<MemoryFiles, MemorySink, MemoryDisk>
+    ensures { IsAsLeft shadowj1 (accounts_of result.disk) }
+{
     Tools {
         files: memory_files(rt, alloc, texts, given.files),
         out: sink_of(rt, alloc, given.sink),

@@ -182,6 +182,18 @@ impl Disk for HostDisk {
         self.faults.answer(given)
     }
 
+    fn renew(&mut self, at: u64, bytes: &[u8]) -> Result<(), Failed>
+        ensures counted { IsCounted (is_ok result) (faults_of self.old) (faults_of self.new) }
+        ensures grows { count_of (faults_of self.old) ≤ count_of (faults_of self.new) }
+        ensures failed { OnErr result
+            (Rose (count_of (faults_of self.old)) (count_of (faults_of self.new))) }
+    {
+        let path = self.path.as_str();
+        let file = opened(&self.rt, path, self.is_only_read, &mut self.file);
+        let given = file.and_then(|file| file.write_all_at(bytes, at));
+        self.faults.answer(given)
+    }
+
     fn cut(&mut self, length: u64) -> Result<(), Failed>
         ensures counted { IsCounted (is_ok result) (faults_of self.old) (faults_of self.new) }
         ensures grows { count_of (faults_of self.old) ≤ count_of (faults_of self.new) }
@@ -204,5 +216,14 @@ impl Disk for HostDisk {
         let file = opened(&self.rt, path, self.is_only_read, &mut self.file);
         let given = file.and_then(|file| file.sync_all());
         self.faults.answer(given)
+    }
+
+    fn put_aside(&mut self, _from: u64) -> Result<(), Failed>
+        ensures counted { IsCounted (is_ok result) (faults_of self.old) (faults_of self.new) }
+        ensures grows { count_of (faults_of self.old) ≤ count_of (faults_of self.new) }
+        ensures failed { OnErr result
+            (Rose (count_of (faults_of self.old)) (count_of (faults_of self.new))) }
+    {
+        self.faults.answer(Ok(()))
     }
 }

@@ -6,7 +6,7 @@ ghost use Rattle.exam_edge.specs.Faults.{Rose};
 ghost use Rattle.exam_edge.specs.Lent.{IsLent};
 ghost use Rattle.exam_edge.specs.Images.{AtEachMoment, IsImage, IsSettled, latest};
 ghost use Rattle.answer_journal.specs.Frames.{payloads, shadowj1};
-ghost use Rattle.answer_journal.specs.Standing.{payload_list};
+ghost use Rattle.answer_journal.specs.Standing.{IsAsLeft, payload_list};
 ghost use Rattle.exam_office.specs.Opening.{IsOpenAnswer};
 ghost use Rattle.exam_office.specs.declared.fault.OpenFault.TheVariants.{Disk as OfDisk};
 ghost use Rattle.journal_audit.specs.Audit.{IsAudit};
@@ -44,6 +44,9 @@ fn audit_walk<D: Disk>(
         → D.accounts walk.new.disk ≡ D.accounts walk.old.disk }
     ensures frame { IsLent D.tells D.identity D.faults walk.old.disk walk.new.disk }
 {
+    if walk.put_tail_aside().is_err() {
+        return Err(OpenFault::Disk);
+    }
     let (book, _) = match take_history(alloc, bank, spec, walk) {
         Ok(found) => found,
         Err(fault) => return Err(fault),
@@ -62,7 +65,8 @@ fn audit_into<D: Disk>(
     disk: D,
     answer: &mut Result<(Summary, Exposure), OpenFault>,
 ) -> D
-    requires { IsPlanFor bank.now spec.now }
+    requires plan { IsPlanFor bank.now spec.now }
+    requires left { IsTrue (D.tells disk) → IsAsLeft shadowj1 (D.accounts disk) }
     ensures found { IfOk answer.new (λ found. IsTrue (D.tells disk)
         → IsAudit bank.now spec.now (D.content disk) found.0 found.1) }
     ensures why { IfErr answer.new (λ e. IsTrue (D.tells disk)
@@ -90,14 +94,16 @@ fn audit_into<D: Disk>(
 
 /// Judges every record of a journal, its proof tree included, and gives the summary and the
 /// exposure of the history that the file represents, or the fault that opening gives. It takes the
-/// memory of a book and one record. It syncs, writes nothing, and leaves the disk as it was.
+/// memory of a book and one record. It syncs, writes nothing, and leaves the file as it was. What
+/// opening would cut is put aside, as opening does. The disk is as a reboot or a journal left it.
 pub fn audit<D: Disk>(
     alloc: Global,
     bank: &Bank,
     spec: &Spec,
     disk: &mut D,
 ) -> Result<(Summary, Exposure), OpenFault>
-    requires { IsPlanFor bank.now spec.now }
+    requires plan { IsPlanFor bank.now spec.now }
+    requires left { IsTrue (D.tells disk.old) → IsAsLeft shadowj1 (D.accounts disk.old) }
     // The file represents a history, and the numbers are those of that history.
     ensures found { IfOk result (λ found. IsTrue (D.tells disk.old)
         → IsAudit bank.now spec.now (D.content disk.old) found.0 found.1) }
@@ -131,7 +137,8 @@ pub fn audit_disk<D: Disk>(
     spec: &Spec,
     disk: D,
 ) -> (D, Result<(Summary, Exposure), OpenFault>)
-    requires { IsPlanFor bank.now spec.now }
+    requires plan { IsPlanFor bank.now spec.now }
+    requires left { IsTrue (D.tells disk) → IsAsLeft shadowj1 (D.accounts disk) }
     ensures found { IfOk result.1 (λ found. IsTrue (D.tells disk)
         → IsAudit bank.now spec.now (D.content disk) found.0 found.1) }
     ensures why { IfErr result.1 (λ e. IsTrue (D.tells disk)

@@ -1,9 +1,10 @@
 //! Calls that add an entry, over a journal of no byte after its last gate. The first calls of the
 //! disk open it, and adding is four: write, sync, open the gate, sync.
 //!
-//! A whole journal is opened by six calls and three for each record: sync, length, header, each
-//! gate, the last one twice, two for each record, sync. One of no record is made anew by four:
-//! sync, length, write, sync.
+//! A whole journal is opened by twelve calls and three for each record: sync, length, header, each
+//! gate, the last one twice, two for each record; then the last open gate and the closed one are
+//! read and written again, sync, cut, sync. One of no record is made anew by six: sync, length, cut,
+//! sync, write, sync.
 
 use crate::expected::{counts, has_entries};
 use crate::files::{ANSWERED, CLOSED, EMPTY, Parts, SERVED, STARTED, joined};
@@ -46,7 +47,7 @@ pub(crate) const CASES: [Case; 8] = [
         file: EMPTY,
         earlier: 0,
         longer: STARTED,
-        opening: 4,
+        opening: 6,
         before: (0, Reply::Refused(Refusal::NoSession(0))),
         after: (1, Reply::At(Place::Pending(0))),
     },
@@ -57,7 +58,7 @@ pub(crate) const CASES: [Case; 8] = [
         file: STARTED,
         earlier: 0,
         longer: &[],
-        opening: 9,
+        opening: 15,
         before: (1, Reply::At(Place::Pending(0))),
         after: (2, Reply::At(FIRST)),
     },
@@ -68,7 +69,7 @@ pub(crate) const CASES: [Case; 8] = [
         file: SERVED,
         earlier: 0,
         longer: ANSWERED,
-        opening: 12,
+        opening: 18,
         before: (2, Reply::At(FIRST)),
         after: (3, Reply::At(Place::Pending(1))),
     },
@@ -79,7 +80,7 @@ pub(crate) const CASES: [Case; 8] = [
         file: &[],
         earlier: 3,
         longer: &[],
-        opening: 15,
+        opening: 21,
         before: (3, Reply::At(Place::Pending(1))),
         after: (4, Reply::At(SECOND)),
     },
@@ -90,7 +91,7 @@ pub(crate) const CASES: [Case; 8] = [
         file: &[],
         earlier: 4,
         longer: &[],
-        opening: 18,
+        opening: 24,
         before: (4, Reply::At(SECOND)),
         after: (5, Reply::At(Place::Pending(2))),
     },
@@ -101,7 +102,7 @@ pub(crate) const CASES: [Case; 8] = [
         file: &[],
         earlier: 5,
         longer: &[],
-        opening: 21,
+        opening: 27,
         before: (5, Reply::At(Place::Pending(2))),
         after: (6, Reply::At(THIRD)),
     },
@@ -112,7 +113,7 @@ pub(crate) const CASES: [Case; 8] = [
         file: &[],
         earlier: 6,
         longer: &[],
-        opening: 24,
+        opening: 30,
         before: (6, Reply::At(THIRD)),
         after: (7, Reply::At(Place::Complete)),
     },
@@ -123,7 +124,7 @@ pub(crate) const CASES: [Case; 8] = [
         file: SERVED,
         earlier: 0,
         longer: CLOSED,
-        opening: 12,
+        opening: 18,
         before: (2, Reply::At(FIRST)),
         after: (3, Reply::At(Place::Closed)),
     },

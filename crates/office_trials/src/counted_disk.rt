@@ -1,5 +1,7 @@
 //! A disk whose calls are counted.
 
+ghost use Rattle.std.specs.Prelude.{◌≡◌};
+
 use exam_edge::{Disk, Failed};
 
 /// How many calls were made, and how many of them failed. Both counts stay at their last value.
@@ -27,7 +29,9 @@ pub(crate) struct CountedDisk<D: Disk> {
 
 impl<D: Disk> CountedDisk<D> {
     /// Before its first call.
-    pub(crate) fn of(disk: D) -> CountedDisk<D> {
+    pub(crate) fn of(disk: D) -> CountedDisk<D>
+        ensures { result.disk ≡ disk }
+    {
         CountedDisk {
             disk,
             count: Count {
@@ -69,6 +73,12 @@ impl<D: Disk> Disk for CountedDisk<D> {
         answer
     }
 
+    fn renew(&mut self, at: u64, bytes: &[u8]) -> Result<(), Failed> {
+        let answer = self.disk.renew(at, bytes);
+        self.count.add(answer.is_err());
+        answer
+    }
+
     fn cut(&mut self, length: u64) -> Result<(), Failed> {
         let answer = self.disk.cut(length);
         self.count.add(answer.is_err());
@@ -77,6 +87,12 @@ impl<D: Disk> Disk for CountedDisk<D> {
 
     fn sync(&mut self) -> Result<(), Failed> {
         let answer = self.disk.sync();
+        self.count.add(answer.is_err());
+        answer
+    }
+
+    fn put_aside(&mut self, from: u64) -> Result<(), Failed> {
+        let answer = self.disk.put_aside(from);
         self.count.add(answer.is_err());
         answer
     }

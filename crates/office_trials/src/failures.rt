@@ -55,68 +55,83 @@ type Failing = (
     Parts<'static>,
 );
 
-/// Opening is twelve calls, and the first answer is calls 12 to 15: write, sync, open the gate,
-/// sync. If call 13 fails, the record is on the disk after a closed gate, and the history does not
-/// have it: the next call of the office drops it by four calls (sync, read, cut, sync). If call 15
-/// fails, the gate is open: the next call of the office keeps the record by two (sync, read).
-const FAILING: [Failing; 12] = [
-    (&[13], &[FAILS], ONE_SERVED, (14, 1), STAGED),
-    (&[13], &[FAILS, ADDS], ONE_ANSWERED, (22, 1), ANSWERED),
-    (&[15], &[FAILS], ONE_SERVED, (16, 1), ANSWERED),
-    (&[15], &[FAILS, ADDS], ONE_ANSWERED, (18, 1), ANSWERED),
+/// Opening is eighteen calls, and the first answer is calls 18 to 21: write, sync, open the gate,
+/// sync. If call 19 fails, the record is on the disk after a closed gate, and the history does not
+/// have it: the next call of the office drops it by five calls (read the gate, write it again, sync,
+/// cut, sync). If call 21 fails, the gate is open: the next call of the office keeps the record by
+/// three (read the gate, write it again, sync).
+const FAILING: [Failing; 14] = [
+    (&[19], &[FAILS], ONE_SERVED, (20, 1), STAGED),
+    (&[19], &[FAILS, ADDS], ONE_ANSWERED, (29, 1), ANSWERED),
+    (&[21], &[FAILS], ONE_SERVED, (22, 1), ANSWERED),
+    (&[21], &[FAILS, ADDS], ONE_ANSWERED, (25, 1), ANSWERED),
     // A call of mending fails in the second answer.
     (
-        &[13, 14],
+        &[19, 20],
         &[FAILS, FAILS, ADDS],
         ONE_ANSWERED,
-        (23, 2),
+        (30, 2),
         ANSWERED,
     ),
     (
-        &[13, 15],
+        &[19, 21],
         &[FAILS, FAILS, ADDS],
         ONE_ANSWERED,
-        (24, 2),
+        (31, 2),
         ANSWERED,
     ),
     (
-        &[13, 16],
+        &[19, 22],
         &[FAILS, FAILS, ADDS],
         ONE_ANSWERED,
-        (25, 2),
+        (32, 2),
         ANSWERED,
     ),
     (
-        &[13, 17],
+        &[19, 23],
+        &[FAILS, FAILS, ADDS],
+        ONE_ANSWERED,
+        (33, 2),
+        ANSWERED,
+    ),
+    (
+        &[19, 24],
+        &[FAILS, FAILS, ADDS],
+        ONE_ANSWERED,
+        (34, 2),
+        ANSWERED,
+    ),
+    (
+        &[21, 22],
         &[FAILS, FAILS, ADDS],
         ONE_ANSWERED,
         (26, 2),
         ANSWERED,
     ),
     (
-        &[15, 16],
+        &[21, 23],
         &[FAILS, FAILS, ADDS],
         ONE_ANSWERED,
-        (19, 2),
+        (27, 2),
         ANSWERED,
     ),
     (
-        &[15, 17],
+        &[21, 24],
         &[FAILS, FAILS, ADDS],
         ONE_ANSWERED,
-        (20, 2),
+        (28, 2),
         ANSWERED,
     ),
     // The entry in doubt was kept, and the call in hand is refused by the history with it; or it
     // was dropped, and the call in hand is added.
     (
-        &[15],
+        &[21],
         &[FAILS, REFUSED_OTHER],
         ONE_ANSWERED,
-        (18, 1),
+        (25, 1),
         ANSWERED,
     ),
-    (&[13], &[FAILS, ADDS_OTHER], ONE_ANSWERED, (22, 1), OTHER),
+    (&[19], &[FAILS, ADDS_OTHER], ONE_ANSWERED, (29, 1), OTHER),
 ];
 
 /// The answers end with what their row has.
@@ -147,9 +162,10 @@ fn answers_in_which_a_call_fails(rt: HostRuntime) {
     }
 }
 
-/// A journal of two records with two bytes after its last gate is opened by 13 calls: sync, length,
-/// header, each gate, the last one twice, two for each record, cut, sync. The one of this number
-/// fails; 13 is none of them.
+/// A journal of two records with two bytes after its last gate is opened by 19 calls: sync, length,
+/// header, each gate, the last one twice, two for each record; then the bytes are put aside, the last
+/// open gate and the closed one are read and written again, sync, cut, sync. The one of this number
+/// fails; 19 is none of them.
 fn fail_opening<R: Abort>(rt: &R, alloc: Global, fail: u64) {
     let trial = Trial {
         numbers: WORKED,
@@ -158,20 +174,20 @@ fn fail_opening<R: Abort>(rt: &R, alloc: Global, fail: u64) {
         steps: &[],
     };
     let outcome = run(rt, alloc, &trial);
-    let (fault, faults) = if fail < 13 {
+    let (fault, faults) = if fail < 19 {
         (Some(OpenFault::Disk), 1)
     } else {
         (None, 0)
     };
     is_equal(rt, &outcome.found.fault, &fault);
-    counts(rt, &outcome, fail.min(12) + 1, faults);
-    let left = if fail < 12 { TRAILED } else { SERVED };
+    counts(rt, &outcome, fail.min(18) + 1, faults);
+    let left = if fail < 18 { TRAILED } else { SERVED };
     is_made_of(rt, alloc, &outcome.bytes, left);
 }
 
 #[test]
 fn each_call_of_opening_fails(rt: HostRuntime) {
-    for fail in 0..14u64 {
+    for fail in 0..20u64 {
         fail_opening(&rt, rt.alloc(), fail);
     }
 }

@@ -2,7 +2,10 @@
 //! was worked out by hand from the format: header `SHADOWJ1`, then a gate at place 8, and after each open gate a length of
 //! four bytes, the payload and the next gate.
 
+ghost use Rattle.exam_edge.specs.MemoryDisk.{accounts_of};
+ghost use Rattle.answer_journal.specs.Frames.{shadowj1};
 ghost use Rattle.answer_journal.specs.Journal.{IsReady};
+ghost use Rattle.answer_journal.specs.Standing.{IsAsLeft};
 
 use crate::equal::is_equal;
 use crate::expected::leaves;
@@ -51,7 +54,9 @@ const TORN: [u8; 22] = [
 type Records = Result<(usize, u64), OpenFault>;
 
 /// The disk after a file was opened, and what that gave.
-fn open(alloc: Global, disk: MemoryDisk) -> (MemoryDisk, Records) {
+fn open(alloc: Global, disk: MemoryDisk) -> (MemoryDisk, Records)
+    requires { IsAsLeft shadowj1 (accounts_of disk) }
+{
     match Journal::open(alloc, disk, LIMIT) {
         Ok((journal, payloads)) => {
             let length = journal.length();
@@ -73,13 +78,14 @@ fn finds<R: Abort>(rt: &R, alloc: Global, bytes: &[u8], expected: Records) {
 type Opening = (&'static [u8], u64, u64, &'static [u8], (usize, u64));
 
 const OPENINGS: [Opening; 3] = [
-    // A file of at most nine bytes: sync, length, write, sync.
-    (&[], 4, 3, &EMPTY, (0, 9)),
+    // A file of at most nine bytes: sync, length, cut, sync, write, sync.
+    (&[], 6, 5, &EMPTY, (0, 9)),
     // A longer file of three records with bytes after its last gate: sync, length, header, each
-    // gate, the last one twice, two for each record, cut, sync.
-    (&TRAILED, 16, 15, &THREE, (3, 30)),
-    // A longer file without such bytes: no cut.
-    (&THREE, 15, 0, &THREE, (3, 30)),
+    // gate, the last one twice, two for each record; then the bytes are put aside, the last open
+    // gate and the closed one are read and written again, sync, cut, sync.
+    (&TRAILED, 22, 21, &THREE, (3, 30)),
+    // A longer file without such bytes: nothing is put aside.
+    (&THREE, 21, 0, &THREE, (3, 30)),
 ];
 
 /// The file is opened with this call failing, which is one of the opening's calls or the next.
@@ -144,13 +150,9 @@ fn add(journal: &mut Journal<MemoryDisk>, frame: &Frame, mends: bool) -> Fate
 }
 
 /// The same in a new journal on a disk; what is on the disk then.
-fn add_over<R: Abort>(
-    rt: &R,
-    alloc: Global,
-    disk: MemoryDisk,
-    frame: &Frame,
-    mends: bool,
-) -> Added {
+fn add_over<R: Abort>(rt: &R, alloc: Global, disk: MemoryDisk, frame: &Frame, mends: bool) -> Added
+    requires { IsAsLeft shadowj1 (accounts_of disk) }
+{
     match Journal::open(alloc, disk, LIMIT) {
         Ok((journal, _)) => {
             let mut journal = journal;
@@ -183,35 +185,36 @@ const FAILED: Option<AppendFault> = Some(AppendFault::Disk);
 
 const DROPPED: Option<Adopted> = Some(Adopted::Dropped);
 
-/// Calls 0 to 3 open a new journal. Adding is calls 4 to 7: write, sync, open the gate, sync. Call
-/// 8 is none of them.
-const ADDINGS: [Adding; 14] = [
+/// Calls 0 to 5 open a new journal. Adding is calls 6 to 9: write, sync, open the gate, sync. Call
+/// 10 is none of them.
+const ADDINGS: [Adding; 15] = [
     // The gate is open after a failure only if the last call failed.
-    (&[4], true, (FAILED, DROPPED, None), 9, &EMPTY, (0, 9)),
-    (&[5], true, (FAILED, DROPPED, None), 9, &EMPTY, (0, 9)),
     (&[6], true, (FAILED, DROPPED, None), 9, &EMPTY, (0, 9)),
+    (&[7], true, (FAILED, DROPPED, None), 9, &EMPTY, (0, 9)),
+    (&[8], true, (FAILED, DROPPED, None), 9, &EMPTY, (0, 9)),
     (
-        &[7],
+        &[9],
         true,
         (FAILED, Some(Adopted::Kept), None),
         22,
         &ADDED,
         (1, 22),
     ),
-    (&[8], true, (None, None, None), 22, &ADDED, (1, 22)),
-    // After the sync of adding failed, mending is calls 6 to 9: sync, read, cut, sync. A record
-    // that it leaves in doubt is dropped by the next.
-    (&[5, 6], true, (FAILED, None, DROPPED), 9, &EMPTY, (0, 9)),
-    (&[5, 7], true, (FAILED, None, DROPPED), 9, &EMPTY, (0, 9)),
-    (&[5, 8], true, (FAILED, None, DROPPED), 9, &EMPTY, (0, 9)),
-    (&[5, 9], true, (FAILED, None, DROPPED), 9, &EMPTY, (0, 9)),
+    (&[10], true, (None, None, None), 22, &ADDED, (1, 22)),
+    // After the sync of adding failed, mending is calls 8 to 12: read the gate, write it again,
+    // sync, cut, sync. A record that it leaves in doubt is dropped by the next.
+    (&[7, 8], true, (FAILED, None, DROPPED), 9, &EMPTY, (0, 9)),
+    (&[7, 9], true, (FAILED, None, DROPPED), 9, &EMPTY, (0, 9)),
+    (&[7, 10], true, (FAILED, None, DROPPED), 9, &EMPTY, (0, 9)),
+    (&[7, 11], true, (FAILED, None, DROPPED), 9, &EMPTY, (0, 9)),
+    (&[7, 12], true, (FAILED, None, DROPPED), 9, &EMPTY, (0, 9)),
     // Adding stopped after none, one, two, three and four of its calls. A record in doubt is not in
     // the journal.
-    (&[4], false, (FAILED, None, None), 9, &EMPTY, (0, 9)),
-    (&[5], false, (FAILED, None, None), 9, &STAGED, (0, 9)),
-    (&[6], false, (FAILED, None, None), 9, &STAGED, (0, 9)),
-    (&[7], false, (FAILED, None, None), 9, &ADDED, (1, 22)),
-    (&[8], false, (None, None, None), 22, &ADDED, (1, 22)),
+    (&[6], false, (FAILED, None, None), 9, &EMPTY, (0, 9)),
+    (&[7], false, (FAILED, None, None), 9, &STAGED, (0, 9)),
+    (&[8], false, (FAILED, None, None), 9, &STAGED, (0, 9)),
+    (&[9], false, (FAILED, None, None), 9, &ADDED, (1, 22)),
+    (&[10], false, (None, None, None), 22, &ADDED, (1, 22)),
 ];
 
 fn adds<R: Abort>(rt: &R, alloc: Global, (fails, mends, fate, length, bytes, records): &Adding) {

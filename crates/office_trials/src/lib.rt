@@ -1,7 +1,8 @@
 //! Tests of the office and of its journal over a disk in memory. The journal: tables of stops and of
 //! failing calls. The office: what is found after a call of the disk has failed and after a crash at
-//! each moment, each refusal with its value, and each fault of a file. It promises nothing upward
-//! and holds no code of the product.
+//! each moment, each refusal with its value, and each fault of a file. Both: what is on a device
+//! after a sync that failed and dropped what it was to bring there. It promises nothing upward and
+//! holds no code of the product.
 #![tactic(auto)]
 
 #[cfg(test)]
@@ -22,6 +23,10 @@ mod failures;
 mod files;
 #[cfg(test)]
 mod journal;
+#[cfg(test)]
+mod lossy_disk;
+#[cfg(test)]
+mod lost_syncs;
 #[cfg(test)]
 mod openings;
 #[cfg(test)]

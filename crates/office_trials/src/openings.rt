@@ -34,22 +34,22 @@ const LIMIT: u64 = WORKED.journal;
 
 const OPENINGS: [Opening; 6] = [
     // A file of at most nine bytes becomes the empty journal.
-    (LIMIT, &[], &[NO_SESSION], NOTHING, 4, EMPTY),
+    (LIMIT, &[], &[NO_SESSION], NOTHING, 6, EMPTY),
     (
         LIMIT,
         &[&[1, 2, 3, 4, 5, 6, 7, 8, 9]],
         &[NO_SESSION],
         NOTHING,
-        4,
+        6,
         EMPTY,
     ),
-    (LIMIT, EMPTY, &[NO_SESSION], NOTHING, 4, EMPTY),
+    (LIMIT, EMPTY, &[NO_SESSION], NOTHING, 6, EMPTY),
     // The tree shows a bound of 6,143, and 256 * 23 + 255 is 6,143. So the mark is believed.
-    (LIMIT, SERVED, &[IS_SERVED], ONE_SERVED, 12, SERVED),
+    (LIMIT, SERVED, &[IS_SERVED], ONE_SERVED, 18, SERVED),
     // The journal is as long as its limit.
-    (183, SERVED, &[], ONE_SERVED, 12, SERVED),
-    // What a crash left after the last gate is cut. The last gate is read once, with the four bytes
-    // after it.
+    (183, SERVED, &[], ONE_SERVED, 18, SERVED),
+    // What a crash left after the last gate is put aside and cut. The last gate is read once, with
+    // the four bytes after it.
     (
         LIMIT,
         &[
@@ -64,7 +64,7 @@ const OPENINGS: [Opening; 6] = [
         ],
         &[IS_SERVED],
         ONE_SERVED,
-        12,
+        18,
         SERVED,
     ),
 ];

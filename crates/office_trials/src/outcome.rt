@@ -1,5 +1,8 @@
 //! An office over a disk in memory, and what becomes of calls of it.
 
+ghost use Rattle.answer_journal.specs.Frames.{shadowj1};
+ghost use Rattle.answer_journal.specs.Standing.{IsAsLeft};
+ghost use Rattle.exam_edge.specs.MemoryDisk.{accounts_of};
 ghost use Rattle.exam_model.specs.Validity.{IsPlanFor};
 
 use crate::counted_disk::{Count, CountedDisk};
@@ -215,7 +218,12 @@ fn place_by<R: Abort, D: Disk>(
     }
 }
 
-fn ask<R: Abort, D: Disk>(rt: &R, alloc: Global, office: &mut Office<D>, call: &Call) -> Reply {
+pub(crate) fn ask<R: Abort, D: Disk>(
+    rt: &R,
+    alloc: Global,
+    office: &mut Office<D>,
+    call: &Call,
+) -> Reply {
     match *call {
         Call::Begin(booking) => begin(alloc, office, booking),
         Call::Warm(session) => vector_of(alloc, office, session),
@@ -295,7 +303,8 @@ fn run_over<'a, R: Abort>(
     disk: CountedDisk<MemoryDisk>,
     lists: &[&[Step]],
 ) -> Outcome
-    requires { IsPlanFor bank.now spec.now }
+    requires plan { IsPlanFor bank.now spec.now }
+    requires left { IsAsLeft shadowj1 (accounts_of disk.disk) }
 {
     let Some(base) = spec.base() else {
         panic!(rt; "no base");
@@ -324,12 +333,9 @@ pub(crate) fn draft<R: Abort>(rt: &R, alloc: Global, numbers: &Numbers) -> Draft
 }
 
 /// A disk with a file of these parts. Its calls that have these numbers fail.
-pub(crate) fn disk_of<R: Abort>(
-    rt: &R,
-    alloc: Global,
-    file: Parts<'_>,
-    fails: &[u64],
-) -> MemoryDisk {
+pub(crate) fn disk_of<R: Abort>(rt: &R, alloc: Global, file: Parts<'_>, fails: &[u64]) -> MemoryDisk
+    ensures { IsAsLeft shadowj1 (accounts_of result) }
+{
     let numbers = fails.to_vec(alloc).expect(rt, "numbers");
     let disk = MemoryDisk::of(alloc, joined(rt, alloc, file), numbers);
     // There is room for each call that fails, so a crash leaves what the model of a disk has.

@@ -157,7 +157,7 @@ const AFTER_THREE: &[Step] = &[
 
 /// Calls, of which the last ones look at the exposure counts of each item, and what is found after
 /// them: the counts, the summary without the nodes, and how many calls of the disk were made.
-/// Opening an empty file is four calls of the disk, and so is each entry.
+/// Opening an empty file is six calls of the disk, and each entry is four.
 struct Whole {
     numbers: Numbers,
     steps: &'static [&'static [Step]],
@@ -181,7 +181,7 @@ const WHOLES: [Whole; 4] = [
             aside: 0,
             nodes: 0,
         },
-        calls: 32,
+        calls: 34,
     },
     // An item that was shown counts once its session is closed, also without an answer.
     Whole {
@@ -197,7 +197,7 @@ const WHOLES: [Whole; 4] = [
             aside: 0,
             nodes: 0,
         },
-        calls: 28,
+        calls: 30,
     },
     Whole {
         numbers: WORKED,
@@ -212,7 +212,7 @@ const WHOLES: [Whole; 4] = [
             aside: 0,
             nodes: 0,
         },
-        calls: 32,
+        calls: 34,
     },
     // Eligibility is set aside.
     Whole {
@@ -228,7 +228,7 @@ const WHOLES: [Whole; 4] = [
             aside: 1,
             nodes: 0,
         },
-        calls: 76,
+        calls: 78,
     },
 ];
 

@@ -54,7 +54,7 @@ fn gives<R: Abort>(rt: &R, alloc: Global, fails: &[u64], steps: &[&[Step]]) {
     run(rt, alloc, &trial);
 }
 
-/// Opening is nine calls of the disk, 0 to 8. If call 9 fails, the record is dropped. If call 12
+/// Opening is fifteen calls of the disk, 0 to 14. If call 15 fails, the record is dropped. If call 18
 /// fails, it is kept.
 #[test]
 fn the_vector_of_a_record_in_doubt(rt: HostRuntime) {
@@ -68,6 +68,6 @@ fn the_vector_of_a_record_in_doubt(rt: HostRuntime) {
         &[],
         &[COLD_FIRST, &[SERVES], &then, &[SETTLES], &then],
     );
-    gives(&rt, alloc, &[9], &[COLD_STILL, COLD_FIRST]);
-    gives(&rt, alloc, &[12], &[COLD_STILL, &then]);
+    gives(&rt, alloc, &[15], &[COLD_STILL, COLD_FIRST]);
+    gives(&rt, alloc, &[18], &[COLD_STILL, &then]);
 }

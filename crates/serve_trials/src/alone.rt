@@ -157,7 +157,7 @@ const CASES: [Case; 4] = [
     // the exposure adopts it.
     Case {
         numbers: EVEN,
-        fails: &[15],
+        fails: &[17],
         requests: &[START, Request::Close(0), Request::Exposure],
         replies: &[
             Ok((0, FIRST, true)),
@@ -196,7 +196,7 @@ const TWICE: [Request; 5] = [START, START, FIRST_ANSWER, FIRST_ANSWER, Request::
 // fault.
 fn halts<R: Abort>(rt: &R, alloc: Global, call: u64, length: usize) -> Result<(), Fail> {
     let found = answers(alloc, &EVEN, &[call], &TWICE)?;
-    let failed = if call < 12 { 0 } else { 2 };
+    let failed = if call < 14 { 0 } else { 2 };
     replies(rt, &found, failed, Err(Refusal::Disk));
     replies(rt, &found, 4, Ok((0, SECOND, false)));
     is_equal(rt, &found.length, &length);
@@ -207,7 +207,7 @@ fn halts<R: Abort>(rt: &R, alloc: Global, call: u64, length: usize) -> Result<()
 #[test]
 fn a_halted_request_is_asked_again(rt: HostRuntime) -> Result<(), Fail> {
     let length = answers(rt.alloc(), &EVEN, &[], &TWICE)?.length;
-    for call in 4..20u64 {
+    for call in 6..22u64 {
         halts(&rt, rt.alloc(), call, length)?;
     }
     Ok(())

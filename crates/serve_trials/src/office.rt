@@ -1,6 +1,9 @@
 //! An office on bank A, whose plan is plan A with a base form.
 
 ghost use Rattle.std.specs.Prelude.{IfOk};
+ghost use Rattle.answer_journal.specs.Frames.{shadowj1};
+ghost use Rattle.answer_journal.specs.Standing.{IsAsLeft};
+ghost use Rattle.exam_edge.specs.MemoryDisk.{accounts_of};
 ghost use Rattle.exam_model.specs.Validity.{IsPlanFor};
 
 use bank_tables::Bank;
@@ -61,8 +64,18 @@ pub(crate) fn planned(alloc: Global, numbers: &Numbers) -> Result<(Bank, Spec), 
 }
 
 /// A disk with an empty file.
-pub(crate) fn empty_disk(alloc: Global) -> MemoryDisk {
+pub(crate) fn empty_disk(alloc: Global) -> MemoryDisk
+    ensures { IsAsLeft shadowj1 (accounts_of result) }
+{
     MemoryDisk::of(alloc, Vec::new(alloc), Vec::new(alloc))
+}
+
+/// A disk with the file of another, as the host has it after a restart.
+pub(crate) fn restarted(alloc: Global, disk: &MemoryDisk) -> Result<MemoryDisk, Fail>
+    ensures { IfOk result (λ again. IsAsLeft shadowj1 (accounts_of again)) }
+{
+    let bytes = disk.bytes().to_vec(alloc)?;
+    Ok(MemoryDisk::of(alloc, bytes, Vec::new(alloc)))
 }
 
 /// The office over this disk.
@@ -72,7 +85,8 @@ pub(crate) fn opened<'a>(
     spec: &'a Spec,
     disk: MemoryDisk,
 ) -> Result<Office<'a, MemoryDisk>, Fail>
-    requires { IsPlanFor bank.now spec.now }
+    requires plan { IsPlanFor bank.now spec.now }
+    requires left { IsAsLeft shadowj1 (accounts_of disk) }
 {
     let Some(base) = spec.base() else {
         return Err(Fail::from("no base"));

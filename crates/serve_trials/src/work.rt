@@ -2,10 +2,13 @@
 
 ghost use Rattle.std.specs.Prelude.{◌≡◌, ◌≤◌, false, vec_len, IfOk};
 ghost use Rattle.std.specs.List.{All};
+ghost use Rattle.answer_journal.specs.Frames.{shadowj1};
+ghost use Rattle.answer_journal.specs.Standing.{IsAsLeft};
+ghost use Rattle.exam_edge.specs.MemoryDisk.{accounts_of};
 ghost use Rattle.exam_edge.specs.MemoryDoor.{out_of};
 ghost use Rattle.exam_model.specs.Validity.{IsPlanFor};
 
-use crate::office::{EVEN, empty_disk, opened, planned};
+use crate::office::{EVEN, empty_disk, opened, planned, restarted};
 use bank_tables::Bank;
 use constraint_model::Spec;
 use exam_edge::{Door, Gate, MemoryDisk, MemoryDoor, MemoryLink};
@@ -82,7 +85,8 @@ fn sessions_on(
     spec: &Spec,
     disk: MemoryDisk,
 ) -> Result<(Option<u32>, Option<u32>), Fail>
-    requires { IsPlanFor bank.now spec.now }
+    requires plan { IsPlanFor bank.now spec.now }
+    requires left { IsAsLeft shadowj1 (accounts_of disk) }
 {
     match opened(alloc, bank, spec, disk) {
         Ok(office) => Ok(sessions_of(alloc, office)),
@@ -100,7 +104,8 @@ fn worked_by<'a, L: Door + Drop>(
 {
     let Served { office, doors, end } = served;
     let summary = office.summary();
-    match sessions_on(alloc, bank, spec, office.into_disk()) {
+    let disk = restarted(alloc, &office.into_disk())?;
+    match sessions_on(alloc, bank, spec, disk) {
         Ok(sessions) => Ok(Worked {
             end,
             summary,

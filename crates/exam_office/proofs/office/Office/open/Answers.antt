@@ -97,7 +97,7 @@ returns-in-Err-finish-clause-settled_err g c = λ told settled H stands.
     let a0 = g.D.Disk.accounts c.args.disk in
     let reading = subst (λ (a : List Account). AtEachMoment a0 a (λ file. file ≡ g.D.Disk.content c.args.disk)) (sym (c.take_all.ensures.accounts told0)) (c.in-Ok.ensures.settled told settled) in
     stands_while_opened b plan H (g.D.Disk.content c.args.disk) (g.D.Disk.content w1.disk) a0 (g.D.Disk.accounts w1.disk) (g.D.Disk.accounts c.in-Err-finish.disk) stands reading same
-    (c.in-Err-finish.ensures.moments_err (c.take_all.ensures.frame.tells ∙ told0))
+    (c.in-Err-finish.ensures.settled_err (c.take_all.ensures.frame.tells ∙ told0))
 
 pub returns-in-Err-finish-clause-why : goal.returns-in-Err-finish-clause-why
 returns-in-Err-finish-clause-why g c = λ told.
@@ -170,7 +170,7 @@ invariant_of-result g c =
           subst (λ (d : g.row.D.Denot). IsSettled (g.D.Disk.content d) (g.D.Disk.accounts d) → AtEachMoment (g.D.Disk.accounts d) (accounts_of j) (Stands b plan book.entries)) (sym c.of-opened.ensures)
           (λ settled.
           let reading = subst (λ (a : List Account). AtEachMoment a0 a (λ file. file ≡ c0)) (sym (c.take_all.ensures.accounts told0)) (c.in-Ok.ensures.settled told settled) in
-          stands_while_opened b plan book.entries c0 (g.D.Disk.content w1.disk) a0 (g.D.Disk.accounts w1.disk) (accounts_of j) here reading same (c.in-Ok-finish.ensures.moments (c.take_all.ensures.frame.tells ∙ told0)))),
+          stands_while_opened b plan book.entries c0 (g.D.Disk.content w1.disk) a0 (g.D.Disk.accounts w1.disk) (accounts_of j) here reading same (c.in-Ok-finish.ensures.settled (c.take_all.ensures.frame.tells ∙ told0)))),
       vectors_open marks book.entries w1.size is b plan j file w1.given w1.at v taken keeps,
     )
 
@@ -223,7 +223,7 @@ returns-clause-settled g c = λ told settled.
     let reading = subst (λ (a : List Account). AtEachMoment a0 a (λ file. file ≡ c0)) (sym (c.take_all.ensures.accounts told0)) (c.in-Ok.ensures.settled told settled) in
     let here : Stands b plan book.entries c0 = subst (Stands b plan book.entries) (c.in-Ok.ensures.untouched told) (c.in-Ok-take_all.ensures.stands told0) in
     subst (λ (H : List Entry). AtEachMoment a0 (accounts_of j) (Stands b plan H)) (sym (history_is marks book.entries w1.size is))
-    (stands_while_opened b plan book.entries c0 (g.D.Disk.content w1.disk) a0 (g.D.Disk.accounts w1.disk) (accounts_of j) here reading same (c.in-Ok-finish.ensures.moments (c.take_all.ensures.frame.tells ∙ told0)))
+    (stands_while_opened b plan book.entries c0 (g.D.Disk.content w1.disk) a0 (g.D.Disk.accounts w1.disk) (accounts_of j) here reading same (c.in-Ok-finish.ensures.settled (c.take_all.ensures.frame.tells ∙ told0)))
 
 pub returns-clause-legal : goal.returns-clause-legal
 returns-clause-legal g c =
