@@ -5,6 +5,7 @@
 #![tactic(auto)]
 
 mod again;
+mod closing;
 mod fault_count;
 mod host_disk;
 mod host_door;
@@ -13,6 +14,7 @@ mod host_link;
 mod host_sink;
 mod threads;
 
+pub use closing::Closing;
 pub use host_disk::HostDisk;
 pub use host_door::HostDoor;
 pub use host_files::HostFiles;

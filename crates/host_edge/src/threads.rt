@@ -1,10 +1,11 @@
 // Which objects may move to another thread.
-use crate::{HostDisk, HostDoor, HostFiles, HostLink, HostSink};
+use crate::{Closing, HostDisk, HostDoor, HostFiles, HostLink, HostSink};
 
 fn may_move<T: Send>() {}
 
 // It compiles only while each of these types may move.
 fn objects_may_move() {
+    may_move::<Closing>();
     may_move::<HostFiles>();
     may_move::<HostSink>();
     may_move::<HostDisk>();
