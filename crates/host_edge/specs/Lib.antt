@@ -1,4 +1,5 @@
 pub mod FaultCount
+pub mod FileWatch
 pub mod HostDisk
 pub mod HostDoor
 pub mod HostFiles

@@ -1,96 +1,31 @@
-// The journal's file of the host.
-ghost use Rattle.std.specs.Prelude.{◌≡◌, ◌≤◌, [], None, false, is_ok, length, IfOk, OnErr};
+// The journal's file of the host, as a disk.
+ghost use Rattle.std.specs.Prelude.{◌≡◌, ◌≤◌, [], Ok, None, false, is_ok, length, IsErr, IfOk, IfErr, OnErr, Some};
 ghost use Rattle.exam_edge.specs.Faults.{Rose};
 ghost use Rattle.exam_edge.specs.ImageLaws.{is_its_image};
 ghost use Rattle.host_edge.specs.FaultCount.{count_of, cause_of, IsCounted};
 ghost use Rattle.host_edge.specs.HostDisk.{faults_of};
 
-use crate::again::read_at_again;
+use crate::closing::Closing;
 use crate::fault_count::FaultCount;
+use crate::health::Health;
+use crate::journal_file::JournalFile;
 use exam_edge::{Disk, Failed};
-use std::fs::{File, OpenOptions, TryLockError};
 use std::io;
-use std::io::ErrorKind;
-use std::os::unix::fs::FileExt;
 
 /// A file by its path, which is opened at the first call. It is opened once, and no other `HostDisk`
 /// opens it meanwhile, of this process or another. It does not report its content.
+///
+/// Before each write and each cut the file is compared with what is at its path. Once it is removed, replaced or of another
+/// length than this object left, each call fails from that cause, and nothing is written anywhere.
+///
+/// Standard error has a line at the first call that fails, one when bytes were written and synced since, one where the
+/// journal is lost, one on rights of other users, and those on what is put aside.
 #[derive(Drop)]
 pub struct HostDisk {
-    rt: HostRuntime,
-    path: String,
-    /// Whether the file is only read. Else it is written too, and made if there is none.
-    is_only_read: bool,
-    file: Option<File>,
+    file: JournalFile,
+    health: Health,
+    closing: Option<Closing>,
     faults: FaultCount,
-}
-
-// The folder of the file of this path.
-fn folder_of(path: &str) -> &str {
-    match path.rsplit_once('/') {
-        Some((folder, _)) if folder.is_empty() => "/",
-        Some((folder, _)) => folder,
-        None => ".",
-    }
-}
-
-// Locks a file until it is closed. The lock is one that processes agree on: it keeps out those that
-// ask for it too.
-fn lock(file: &File) -> io::Result<()> {
-    match file.try_lock() {
-        Ok(()) => Ok(()),
-        Err(TryLockError::WouldBlock) => Err(io::Error::new(
-            ErrorKind::WouldBlock,
-            "another process has it open",
-        )),
-        Err(TryLockError::Error(cause)) => Err(cause),
-    }
-}
-
-// Opens and locks the file of this path to be read and written, and makes it if there is none. Its
-// folder is synced, so that a file that was made is found after a crash.
-fn file_to_write(rt: &HostRuntime, path: &str) -> io::Result<File> {
-    let file = OpenOptions::new()
-        .read(true)
-        .write(true)
-        .create(true)
-        .open(rt, path)?;
-    lock(&file)?;
-    File::open(rt, folder_of(path))?.sync_all()?;
-    Ok(file)
-}
-
-// Opens and locks the file of this path to be read. The host opens a folder so too: it is refused.
-fn file_to_read(rt: &HostRuntime, path: &str) -> io::Result<File> {
-    let file = File::open(rt, path)?;
-    if file.metadata()?.is_dir() {
-        return Err(io::Error::new(ErrorKind::IsADirectory, "it is a folder"));
-    }
-    lock(&file)?;
-    Ok(file)
-}
-
-// The file, which is opened unless it is open.
-fn opened<'f>(
-    rt: &HostRuntime,
-    path: &str,
-    is_only_read: bool,
-    file: &'f mut Option<File>,
-) -> io::Result<&'f File> {
-    let kept = match file.take() {
-        Some(kept) => kept,
-        None if is_only_read => file_to_read(rt, path)?,
-        None => file_to_write(rt, path)?,
-    };
-    Ok(file.insert(kept))
-}
-
-fn len_of(file: io::Result<&File>) -> io::Result<u64> {
-    Ok(file?.metadata()?.len())
-}
-
-fn read_of(file: io::Result<&File>, at: u64, buffer: &mut [u8]) -> io::Result<usize> {
-    read_at_again(file?, at, buffer)
 }
 
 impl HostDisk {
@@ -99,13 +34,15 @@ impl HostDisk {
         ensures count { count_of (faults_of result) ≡ 0 }
         ensures cause { cause_of (faults_of result) ≡ None }
     {
-        HostDisk {
-            rt,
-            path,
-            is_only_read: false,
-            file: None,
-            faults: FaultCount::none(),
-        }
+        HostDisk::over(JournalFile::of(rt, path, false), None)
+    }
+
+    /// The same of a server, which ends by the flag where its journal is lost.
+    pub fn to_serve(rt: HostRuntime, path: String, closing: Closing) -> HostDisk
+        ensures count { count_of (faults_of result) ≡ 0 }
+        ensures cause { cause_of (faults_of result) ≡ None }
+    {
+        HostDisk::over(JournalFile::of(rt, path, false), Some(closing))
     }
 
     /// The file of this path, to be read alone. Each call fails if there is none, or a folder in its
@@ -114,11 +51,17 @@ impl HostDisk {
         ensures count { count_of (faults_of result) ≡ 0 }
         ensures cause { cause_of (faults_of result) ≡ None }
     {
+        HostDisk::over(JournalFile::of(rt, path, true), None)
+    }
+
+    fn over(file: JournalFile, closing: Option<Closing>) -> HostDisk
+        ensures count { count_of (faults_of result) ≡ 0 }
+        ensures cause { cause_of (faults_of result) ≡ None }
+    {
         HostDisk {
-            rt,
-            path,
-            is_only_read: true,
-            file: None,
+            file,
+            health: Health::Works,
+            closing,
             faults: FaultCount::none(),
         }
     }
@@ -128,6 +71,43 @@ impl HostDisk {
         ensures { result ≡ cause_of (faults_of self.now) }
     {
         self.faults.cause()
+    }
+
+    // Tells of a call that failed, where that is news. A journal that is lost ends the server.
+    fn tell_fault(&mut self, cause: io::Error)
+        ensures { faults_of self.new ≡ faults_of self.old }
+    {
+        let is_lost = self.file.loss().is_some();
+        if self.health.failed(is_lost) {
+            self.file.tell(cause);
+        }
+        if is_lost && let Some(closing) = &self.closing {
+            closing.set();
+        }
+    }
+
+    // Tells of a sync that was done, where the disk works again.
+    fn tell_return(&mut self)
+        ensures { faults_of self.new ≡ faults_of self.old }
+    {
+        if self.health.synced() {
+            self.file.tell("works again");
+        }
+    }
+
+    // The answer of a call of which the file gave this: the same, or a fault that is told and counted.
+    fn answer<T: Drop>(&mut self, given: io::Result<T>) -> Result<T, Failed>
+        ensures done { IfOk given (λ x. result ≡ Ok x) }
+        ensures failed { IfErr given (λ e. IsErr result × (cause_of (faults_of self.new) ≡ Some e)) }
+        ensures counted { IsCounted (is_ok result) (faults_of self.old) (faults_of self.new) }
+        ensures grows { count_of (faults_of self.old) ≤ count_of (faults_of self.new) }
+        ensures rose { OnErr result
+            (Rose (count_of (faults_of self.old)) (count_of (faults_of self.new))) }
+    {
+        if let Err(cause) = &given {
+            self.tell_fault(*cause);
+        }
+        self.faults.answer(given)
     }
 }
 
@@ -150,10 +130,8 @@ impl Disk for HostDisk {
         ensures failed { OnErr result
             (Rose (count_of (faults_of self.old)) (count_of (faults_of self.new))) }
     {
-        let path = self.path.as_str();
-        let file = opened(&self.rt, path, self.is_only_read, &mut self.file);
-        let given = len_of(file);
-        self.faults.answer(given)
+        let given = self.file.len();
+        self.answer(given)
     }
 
     fn read(&mut self, at: u64, buffer: &mut [u8]) -> Result<usize, Failed>
@@ -164,9 +142,10 @@ impl Disk for HostDisk {
             (Rose (count_of (faults_of self.old)) (count_of (faults_of self.new))) }
     {
         let most = buffer.len();
-        let path = self.path.as_str();
-        let file = opened(&self.rt, path, self.is_only_read, &mut self.file);
-        let given = read_of(file, at, buffer);
+        let given = self.file.read(at, buffer);
+        if let Err(cause) = &given {
+            self.tell_fault(*cause);
+        }
         self.faults.answer_count(given, 0, most)
     }
 
@@ -176,10 +155,11 @@ impl Disk for HostDisk {
         ensures failed { OnErr result
             (Rose (count_of (faults_of self.old)) (count_of (faults_of self.new))) }
     {
-        let path = self.path.as_str();
-        let file = opened(&self.rt, path, self.is_only_read, &mut self.file);
-        let given = file.and_then(|file| file.write_all_at(bytes, at));
-        self.faults.answer(given)
+        let given = self.file.write(at, bytes);
+        if given.is_ok() {
+            self.health.wrote();
+        }
+        self.answer(given)
     }
 
     fn renew(&mut self, at: u64, bytes: &[u8]) -> Result<(), Failed>
@@ -188,10 +168,8 @@ impl Disk for HostDisk {
         ensures failed { OnErr result
             (Rose (count_of (faults_of self.old)) (count_of (faults_of self.new))) }
     {
-        let path = self.path.as_str();
-        let file = opened(&self.rt, path, self.is_only_read, &mut self.file);
-        let given = file.and_then(|file| file.write_all_at(bytes, at));
-        self.faults.answer(given)
+        let given = self.file.write(at, bytes);
+        self.answer(given)
     }
 
     fn cut(&mut self, length: u64) -> Result<(), Failed>
@@ -200,10 +178,8 @@ impl Disk for HostDisk {
         ensures failed { OnErr result
             (Rose (count_of (faults_of self.old)) (count_of (faults_of self.new))) }
     {
-        let path = self.path.as_str();
-        let file = opened(&self.rt, path, self.is_only_read, &mut self.file);
-        let given = file.and_then(|file| file.set_len(length));
-        self.faults.answer(given)
+        let given = self.file.cut(length);
+        self.answer(given)
     }
 
     fn sync(&mut self) -> Result<(), Failed>
@@ -212,18 +188,20 @@ impl Disk for HostDisk {
         ensures failed { OnErr result
             (Rose (count_of (faults_of self.old)) (count_of (faults_of self.new))) }
     {
-        let path = self.path.as_str();
-        let file = opened(&self.rt, path, self.is_only_read, &mut self.file);
-        let given = file.and_then(|file| file.sync_all());
-        self.faults.answer(given)
+        let given = self.file.sync();
+        if given.is_ok() {
+            self.tell_return();
+        }
+        self.answer(given)
     }
 
-    fn put_aside(&mut self, _from: u64) -> Result<(), Failed>
+    fn put_aside(&mut self, gate: u64) -> Result<(), Failed>
         ensures counted { IsCounted (is_ok result) (faults_of self.old) (faults_of self.new) }
         ensures grows { count_of (faults_of self.old) ≤ count_of (faults_of self.new) }
         ensures failed { OnErr result
             (Rose (count_of (faults_of self.old)) (count_of (faults_of self.new))) }
     {
-        self.faults.answer(Ok(()))
+        let given = self.file.put_aside(gate);
+        self.answer(given)
     }
 }

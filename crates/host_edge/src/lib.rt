@@ -6,12 +6,17 @@
 
 mod again;
 mod closing;
+mod cut_tail;
 mod fault_count;
+mod file_watch;
+mod health;
 mod host_disk;
 mod host_door;
 mod host_files;
 mod host_link;
 mod host_sink;
+mod journal_file;
+mod tell;
 mod threads;
 
 pub use closing::Closing;

@@ -12,7 +12,7 @@ mod settings;
 
 use exam_edge::OpenGate;
 use exam_program::{Finish, World, run};
-use host_edge::{HostDisk, HostDoor, HostFiles, HostSink};
+use host_edge::{Closing, HostDisk, HostDoor, HostFiles, HostSink};
 use settings::Settings;
 use std::alloc::AllocError;
 use std::io::ErrorKind;
@@ -49,15 +49,18 @@ fn ask_for_audit(words: &[String]) -> bool {
     words.first().is_some_and(|word| word.as_str() == "audit")
 }
 
-/// The journal's file. An audit only reads it.
+/// The journal's file. An audit only reads it, and a server that loses it ends by the flag.
 fn disk_of(
     rt: &HostRuntime,
     words: &[String],
     settings: &Settings,
+    closing: &Closing,
 ) -> Result<HostDisk, AllocError> {
     let path = settings.journal.clone()?;
     if ask_for_audit(words) {
         Ok(HostDisk::to_read(rt.clone()?, path))
+    } else if ask_for_connections(words) {
+        Ok(HostDisk::to_serve(rt.clone()?, path, closing.share()?))
     } else {
         Ok(HostDisk::of(rt.clone()?, path))
     }
@@ -104,6 +107,7 @@ fn world_of(
     rt: &HostRuntime,
     words: &[String],
     settings: &Settings,
+    closing: &Closing,
     doors: Vec<HostDoor>,
 ) -> Result<HostWorld, AllocError>
     ensures { IfOk result (λ world. world.doors ≡ doors) }
@@ -111,7 +115,7 @@ fn world_of(
     Ok(World {
         files: HostFiles::of(rt.clone()?),
         out: HostSink::of(rt.stdout()),
-        disk: disk_of(rt, words, settings)?,
+        disk: disk_of(rt, words, settings, closing)?,
         doors,
         gate: OpenGate,
     })
@@ -124,24 +128,22 @@ fn begin(rt: &HostRuntime) -> io::Result<(Settings, Vec<String>, HostWorld)>
 {
     let settings = Settings::of(rt)?;
     let words = words_of(rt)?;
+    let closing = Closing::new(rt.alloc())?;
     let doors = doors_of(rt, &words, &settings)?;
-    let world = world_of(rt, &words, &settings, doors)?;
+    let world = world_of(rt, &words, &settings, &closing, doors)?;
     Ok((settings, words, world))
 }
 
 /// Writes a line to standard error for each object of the host of which a call failed, and one for
-/// all doors.
+/// all doors. The journal's file has written its own.
 fn explain(rt: &HostRuntime, settings: &Settings, finish: &HostFinish) {
-    let (listen, journal) = (settings.listen.as_str(), settings.journal.as_str());
+    let listen = settings.listen.as_str();
     if let Some(cause) = finish.files.cause() {
         let name = finish.files.refused().unwrap_or("a file");
         let _ = eprintln!(rt; "shadowd: {name}: {cause}");
     }
     if let Some(cause) = finish.out.cause() {
         let _ = eprintln!(rt; "shadowd: standard output: {cause}");
-    }
-    if let Some(cause) = finish.disk.cause() {
-        let _ = eprintln!(rt; "shadowd: journal {journal}: {cause}");
     }
     if let Some(cause) = finish.doors.iter().find_map(|door| door.cause()) {
         let _ = eprintln!(rt; "shadowd: connections at {listen}: {cause}");

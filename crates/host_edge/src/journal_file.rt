@@ -1,0 +1,249 @@
+// The journal's file, and what is done with it.
+ghost use Rattle.std.specs.Prelude.{◌≤◌, length, IfOk};
+
+use crate::again::read_at_again;
+use crate::cut_tail::{Tail, keep_tail, tail_of};
+use crate::file_watch::{FileWatch, Loss};
+use crate::tell::tell;
+use std::fmt::Display;
+use std::fs::{File, OpenOptions, TryLockError};
+use std::io::ErrorKind;
+use std::os::unix::fs::{FileExt, MetadataExt, OpenOptionsExt};
+use std::{fs, io};
+
+/// A file by its path, which is opened at its first use. It is opened once, and locked as long as it is open. Before each
+/// change it is compared with what is at its path, and once it is lost every call fails from that cause.
+#[derive(Drop)]
+pub struct JournalFile {
+    rt: HostRuntime,
+    path: String,
+    /// Whether the file is only read. Else it is written too, and made if there is none.
+    is_only_read: bool,
+    file: Option<File>,
+    watch: FileWatch,
+}
+
+// The rights of those who are not the owner of a file.
+const RIGHTS_OF_OTHERS: u32 = 0o077;
+
+// The folder of the file of this path.
+fn folder_of(path: &str) -> &str {
+    match path.rsplit_once('/') {
+        Some((folder, _)) if folder.is_empty() => "/",
+        Some((folder, _)) => folder,
+        None => ".",
+    }
+}
+
+/// Syncs the folder of the file of this path, so that the file is found by its name after a crash.
+pub fn sync_folder(rt: &HostRuntime, path: &str) -> io::Result<()> {
+    File::open(rt, folder_of(path))?.sync_all()
+}
+
+// Syncs the folder of the file of this path. Where a link leads to the file, the folder of the link is another one: it is
+// synced too.
+fn sync_folders(rt: &HostRuntime, path: &str) -> io::Result<()> {
+    sync_folder(rt, path)?;
+    let own = fs::canonicalize(rt, path)?;
+    let folder = fs::canonicalize(rt, folder_of(path))?;
+    if folder.as_str() == folder_of(own.as_str()) {
+        Ok(())
+    } else {
+        sync_folder(rt, own.as_str())
+    }
+}
+
+// Removes the file of this path where it is empty. A folder whose sync failed may never get the name of a file that was
+// made in it, unless the file is made again.
+fn remove_empty(rt: &HostRuntime, path: &str, file: &File) -> io::Result<()> {
+    let found = file.metadata()?;
+    if found.is_file() && found.len() == 0 {
+        fs::remove_file(rt, fs::canonicalize(rt, path)?.as_str())?;
+    }
+    Ok(())
+}
+
+// Locks a file until it is closed. The lock is one that processes agree on: it keeps out those that
+// ask for it too.
+fn lock(file: &File) -> io::Result<()> {
+    match file.try_lock() {
+        Ok(()) => Ok(()),
+        Err(TryLockError::WouldBlock) => Err(io::Error::new(
+            ErrorKind::WouldBlock,
+            "another process has it open",
+        )),
+        Err(TryLockError::Error(cause)) => Err(cause),
+    }
+}
+
+// Tells where others than the owner have rights to the file. A file that was there keeps its rights.
+fn tell_rights(rt: &HostRuntime, path: &str, file: &File) -> io::Result<()> {
+    let mode = file.metadata()?.mode() & 0o777;
+    if mode & RIGHTS_OF_OTHERS != 0 {
+        tell(
+            rt,
+            path,
+            format_args!("its mode is 0{mode:o}: other users have rights to it"),
+        );
+    }
+    Ok(())
+}
+
+// Opens and locks the file of this path to be read and written, and makes it if there is none, for its owner alone. Its
+// folder is synced, so that a file that was made is found after a crash.
+fn file_to_write(rt: &HostRuntime, path: &str) -> io::Result<File> {
+    let file = OpenOptions::new()
+        .read(true)
+        .write(true)
+        .create(true)
+        .mode(0o600)
+        .open(rt, path)?;
+    lock(&file)?;
+    tell_rights(rt, path, &file)?;
+    match sync_folders(rt, path) {
+        Ok(()) => Ok(file),
+        Err(cause) => {
+            let _ = remove_empty(rt, path, &file);
+            Err(cause)
+        }
+    }
+}
+
+// Opens and locks the file of this path to be read. The host opens a folder so too: it is refused.
+fn file_to_read(rt: &HostRuntime, path: &str) -> io::Result<File> {
+    let file = File::open(rt, path)?;
+    if file.metadata()?.is_dir() {
+        return Err(io::Error::new(ErrorKind::IsADirectory, "it is a folder"));
+    }
+    lock(&file)?;
+    Ok(file)
+}
+
+// The file, which is opened unless it is open.
+fn opened<'f>(
+    rt: &HostRuntime,
+    path: &str,
+    is_only_read: bool,
+    file: &'f mut Option<File>,
+) -> io::Result<&'f File> {
+    let kept = match file.take() {
+        Some(kept) => kept,
+        None if is_only_read => file_to_read(rt, path)?,
+        None => file_to_write(rt, path)?,
+    };
+    Ok(file.insert(kept))
+}
+
+impl JournalFile {
+    /// The file of this path, which is not opened yet.
+    pub fn of(rt: HostRuntime, path: String, is_only_read: bool) -> JournalFile {
+        JournalFile {
+            rt,
+            path,
+            is_only_read,
+            file: None,
+            watch: FileWatch::new(),
+        }
+    }
+
+    /// Writes a line on the file to standard error.
+    pub fn tell<M: Display + Drop>(&self, message: M) {
+        tell(&self.rt, self.path.as_str(), message);
+    }
+
+    /// How the file was lost, if it was.
+    pub fn loss(&self) -> Option<Loss> {
+        self.watch.loss()
+    }
+
+    /// The length in bytes.
+    pub fn len(&mut self) -> io::Result<u64> {
+        self.watch.test()?;
+        let path = self.path.as_str();
+        let file = opened(&self.rt, path, self.is_only_read, &mut self.file)?;
+        let length = file.metadata()?.len();
+        self.watch.has(Some(length));
+        Ok(length)
+    }
+
+    /// Reads bytes from a place on to the front of the buffer: how many.
+    pub fn read(&mut self, at: u64, buffer: &mut [u8]) -> io::Result<usize>
+        ensures { IfOk result (λ k. k ≤ length buffer.new) }
+    {
+        self.watch.test()?;
+        let path = self.path.as_str();
+        let file = opened(&self.rt, path, self.is_only_read, &mut self.file)?;
+        read_at_again(file, at, buffer)
+    }
+
+    /// Writes bytes at a place, if the file is not lost.
+    pub fn write(&mut self, at: u64, bytes: &[u8]) -> io::Result<()> {
+        let path = self.path.as_str();
+        let file = opened(&self.rt, path, self.is_only_read, &mut self.file)?;
+        self.watch.look(&self.rt, path, file)?;
+        let given = file.write_all_at(bytes, at);
+        match given {
+            Ok(()) => self.watch.wrote(at.saturating_add(bytes.len() as u64)),
+            Err(_) => self.watch.has(length_now(file)),
+        }
+        given
+    }
+
+    /// Cuts the file to a length, if it is not lost.
+    pub fn cut(&mut self, length: u64) -> io::Result<()> {
+        let path = self.path.as_str();
+        let file = opened(&self.rt, path, self.is_only_read, &mut self.file)?;
+        self.watch.look(&self.rt, path, file)?;
+        let given = file.set_len(length);
+        match given {
+            Ok(()) => self.watch.has(Some(length)),
+            Err(_) => self.watch.has(length_now(file)),
+        }
+        given
+    }
+
+    /// Makes what was written safe.
+    pub fn sync(&mut self) -> io::Result<()> {
+        self.watch.test()?;
+        let path = self.path.as_str();
+        let file = opened(&self.rt, path, self.is_only_read, &mut self.file)?;
+        file.sync_all()
+    }
+
+    /// Tells of what follows the closed gate at this place and is about to be cut, where two or more whole records are there.
+    /// Unless the file is only read, it keeps those bytes in a file of their own. Records of a move to another version that did
+    /// not end are not told and not kept, since what they repeat is before the gate.
+    pub fn put_aside(&mut self, gate: u64) -> io::Result<()> {
+        self.watch.test()?;
+        let path = self.path.as_str();
+        let file = opened(&self.rt, path, self.is_only_read, &mut self.file)?;
+        let Tail {
+            records,
+            bytes,
+            is_of_move,
+        } = tail_of(file, gate)?;
+        if records < 2 || is_of_move {
+            return Ok(());
+        }
+        let found = format_args!(
+            "{records} whole records, {bytes} bytes, are behind the closed gate at {gate}"
+        );
+        tell(&self.rt, path, found);
+        if self.is_only_read {
+            return Ok(());
+        }
+        let kept = keep_tail(&self.rt, path, file, gate)?;
+        let kept = kept.as_str();
+        tell(
+            &self.rt,
+            path,
+            format_args!("they are kept in {kept} and cut"),
+        );
+        Ok(())
+    }
+}
+
+// The length of a file in bytes, if the system says it.
+fn length_now(file: &File) -> Option<u64> {
+    Some(file.metadata().ok()?.len())
+}
