@@ -115,6 +115,12 @@ fn goes<R: Abort>(rt: &R, host: &HostRuntime, folder: &str, path: &str) -> Resul
     is_refused(rt, host, path, ErrorKind::NotFound)
 }
 
+// Each call fails once a write finds that the file was removed.
+fn is_lost<R: Abort>(rt: &R, disk: &mut HostDisk) {
+    is_equal(rt, &disk.write_at(0, b"x"), &Err(Failed));
+    fails(rt, disk, ErrorKind::NotFound);
+}
+
 // The disk keeps the file open until the function ends. What owns a disk has one call that may
 // fail, since more are dear to prove.
 fn keeps<R: Abort>(
@@ -126,7 +132,9 @@ fn keeps<R: Abort>(
 ) -> Result<(), Fail> {
     let mut disk = disk;
     writes_and_reads(rt, &mut disk);
-    goes(rt, host, folder, path)
+    let gone = goes(rt, host, folder, path);
+    is_lost(rt, &mut disk);
+    gone
 }
 
 fn keeps_in<R: Abort>(rt: &R, host: &HostRuntime, folder: &str, path: &str) -> Result<(), Fail> {
