@@ -1,0 +1,221 @@
+"""The journal's file of the built program: its rights, its folder, what is cut from it, and other programs at it."""
+import http.client
+import json
+import os
+import re
+import signal
+import stat
+import subprocess
+import threading
+import unittest
+
+from common import PROGRAM, Folder, needs_program
+from data_of_bank_a import BANK, PLAN, SCRIPT
+
+LIMIT = 60  # seconds for each wait
+LINE = "shadowd: journal {}: {}\n"
+BEGIN, *ANSWERS = SCRIPT.splitlines()[:4]
+
+
+def behind(*payloads, last=b"\0"):
+    """What follows a closed gate: records that would count if it were open, and the last gate."""
+    return b"\1".join(len(payload).to_bytes(4, "big") + payload for payload in payloads) + last
+
+
+class WithJournal(Folder):
+    def setUp(self):
+        super().setUp()
+        self.files = [self.write("bank.csv", BANK), self.write("plan.txt", PLAN)]
+        self.journal = self.path("journal")
+
+    def put(self, data, mode=0o600):
+        with open(self.journal, "wb") as file:
+            file.write(data)
+        os.chmod(self.journal, mode)
+
+    def bytes_of(self, path):
+        with open(path, "rb") as file:
+            return file.read()
+
+    def run_program(self, command, *words, name=None):
+        """Status, standard output and standard error."""
+        done = subprocess.run([PROGRAM, command, *self.files, *words], env=dict(os.environ, SHADOWD_JOURNAL=name or self.journal),
+                              stdin=subprocess.DEVNULL, capture_output=True, text=True, timeout=LIMIT)
+        return done.returncode, done.stdout, done.stderr
+
+    def replay(self, *requests, name=None):
+        script = self.write("script.txt", "".join(request + "\n" for request in requests))
+        return self.run_program("replay", script, name=name)
+
+    def kept_after(self, *requests):
+        """The bytes of a new journal after these requests."""
+        name = self.path("made")
+        self.assertEqual(self.replay(*requests, name=name)[0], 0)
+        data = self.bytes_of(name)
+        os.remove(name)
+        return data
+
+    def copies(self):
+        return sorted(name for name in os.listdir(self.folder) if ".cut-" in name)
+
+
+@needs_program
+class Rights(WithJournal):
+    def test_a_new_journal_is_its_owners_alone(self):
+        before = os.umask(0)
+        self.addCleanup(os.umask, before)
+        self.assertEqual(self.replay(), (0, "", ""))
+        self.assertEqual(stat.S_IMODE(os.stat(self.journal).st_mode), 0o600)
+
+    def test_rights_of_others_have_a_line(self):
+        for mode in (0o644, 0o660, 0o601):
+            with self.subTest(mode=oct(mode)):
+                self.put(b"SHADOWJ1\0", mode)
+                wanted = LINE.format(self.journal, f"its mode is 0{mode:o}: other users have rights to it")
+                self.assertEqual(self.replay(), (0, "", wanted))
+                self.assertEqual(stat.S_IMODE(os.stat(self.journal).st_mode), mode)
+
+
+@needs_program
+class PutAside(WithJournal):
+    """A journal of which a gate in the midst is closed. With that gate open it has the five records behind it, too."""
+
+    def setUp(self):
+        super().setUp()
+        self.front, self.whole = self.kept_after(BEGIN), self.kept_after(BEGIN, *ANSWERS[:2])
+        self.gate = len(self.front) - 1
+        self.assertEqual((self.whole[:self.gate], self.whole[self.gate]), (self.front[:-1], 1))
+        self.found = LINE.format(self.journal, "{} whole records, {} bytes, are behind the closed gate at " + str(self.gate))
+
+    def test_two_records_or_more_are_kept_and_told(self):
+        name = first = f"{self.journal}.cut-{self.gate}"
+        two = behind(b"\4one", b"\4two")
+        cases = [(self.whole[len(self.front):], 4), (two + b"more", 2), (two[:-1] + b"\1", 2), (two[:-1] + b"\1\0\0\0\0", 2)]
+        for number, (data, records) in enumerate(cases, 1):
+            with self.subTest(number=number):
+                self.put(self.front + data)
+                told = self.found.format(records, len(data)) + LINE.format(self.journal, f"they are kept in {name} and cut")
+                self.assertEqual(self.replay(), (0, "", told))
+                self.assertEqual((self.bytes_of(self.journal), self.bytes_of(name)), (self.front, data))
+                self.assertEqual(stat.S_IMODE(os.stat(name).st_mode), 0o600)
+                name = f"{first}.{number + 1}"
+
+    def test_the_page_of_the_operator_joins_the_two(self):
+        self.put(self.front + self.whole[len(self.front):])
+        self.replay()
+        cut = self.bytes_of(f"{self.journal}.cut-{self.gate}")
+        self.assertEqual(self.bytes_of(self.journal)[:self.gate] + b"\1" + cut, self.whole)
+
+    def test_an_audit_tells_and_keeps_nothing(self):
+        data = self.front + self.whole[len(self.front):]
+        self.put(data)
+        status, said, errors = self.run_program("audit")
+        self.assertEqual((status, errors), (0, self.found.format(4, len(data) - len(self.front))))
+        self.assertTrue(said.startswith("entries 2 sessions 1 finished 0 "), said)
+        self.assertEqual((self.bytes_of(self.journal), self.copies()), (data, []))
+
+    def test_one_record_or_a_move_is_cut_alone(self):
+        for data in (behind(b"\4one"), behind(b"\4one")[:-1], behind(b"\4one", last=b"\1") + b"junk", b"junk",
+                     behind(b"\x08", b"\4one", b"\4two"), behind(b"\x08one", b"\4two", last=b"\1")):
+            with self.subTest(data=data):
+                self.put(self.front + data)
+                self.assertEqual(self.replay(), (0, "", ""))
+                self.assertEqual((self.bytes_of(self.journal), self.copies()), (self.front, []))
+
+    def test_what_cannot_be_kept_is_not_cut(self):
+        """The name of the copy would be longer than a file system allows."""
+        name, data = self.path("j" * 250), self.front + behind(b"\4one", b"\4two")
+        self.put(data)
+        os.rename(self.journal, name)
+        status, said, errors = self.replay(name=name)
+        self.assertEqual((status, said), (9, "disk failed\n"))
+        self.assertRegex(errors, r"File name too long \(os error 36\)\n\Z")
+        self.assertEqual((self.bytes_of(name), self.copies()), (data, []))
+
+
+@needs_program
+class Watched(WithJournal):
+    """A server at whose journal another program is."""
+
+    def start(self):
+        environment = dict(os.environ, SHADOWD_JOURNAL=self.journal, SHADOWD_LISTEN="127.0.0.1:0", SHADOWD_WORKERS="2")
+        environment.pop("SHADOWD_CONNECTIONS", None)
+        self.server = subprocess.Popen([PROGRAM, "serve", *self.files], env=environment, stdin=subprocess.DEVNULL,
+                                       stdout=subprocess.PIPE, stderr=subprocess.PIPE, text=True)
+        watch = threading.Timer(LIMIT, self.server.kill)
+        watch.start()
+        self.addCleanup(watch.cancel)
+        self.addCleanup(self.server.kill)
+        self.port = int(re.search(r"listening on [0-9.]+:(\d+)", self.server.stderr.readline()).group(1))
+
+    def asked(self, path, body):
+        connection = http.client.HTTPConnection("127.0.0.1", self.port, timeout=LIMIT)
+        try:
+            connection.request("POST", path, json.dumps(body))
+            response = connection.getresponse()
+            return response.status, json.loads(response.read())
+        finally:
+            connection.close()
+
+    def is_lost_by(self, change, cause):
+        """The server refuses what would be written, says why once, and ends. Gives what it had written before."""
+        self.start()
+        self.assertEqual(self.asked("/sessions", {"booking": 70})[0], 201)
+        written = self.bytes_of(self.journal)
+        change()
+        self.assertEqual(self.asked("/sessions", {"booking": 71}), (503, {"error": "disk"}))
+        said, errors = self.server.communicate(timeout=LIMIT)
+        self.assertEqual((self.server.returncode, said), (9, "disk failed\n"))
+        self.assertEqual(errors.count(LINE.format(self.journal, cause)), 1, errors)
+        return written
+
+    def test_a_journal_that_is_renamed(self):
+        other = self.path("other")
+        written = self.is_lost_by(lambda: os.rename(self.journal, other), "the journal was removed")
+        self.assertEqual(self.bytes_of(other), written)
+        self.assertFalse(os.path.exists(self.journal))
+
+    def test_a_journal_that_is_replaced(self):
+        other = self.path("other")
+        with open(other, "wb") as file:
+            file.write(b"other")
+        self.is_lost_by(lambda: os.rename(other, self.journal), "another file is at its path")
+        self.assertEqual(self.bytes_of(self.journal), b"other")
+
+    def test_a_journal_that_is_cut(self):
+        self.is_lost_by(lambda: os.truncate(self.journal, 0), "another program changed its length")
+        self.assertEqual(self.bytes_of(self.journal), b"")
+
+    def test_a_journal_behind_a_link_that_is_changed(self):
+        own, other = self.path("own"), self.path("other")
+        os.symlink(own, self.journal)
+
+        def change():
+            os.remove(self.journal)
+            os.symlink(other, self.journal)
+            with open(other, "wb"):
+                pass
+        written = self.is_lost_by(change, "another file is at its path")
+        self.assertEqual((self.bytes_of(own), self.bytes_of(other)), (written, b""))
+
+
+@needs_program
+class Limited(WithJournal):
+    """A disk that is full, and works again: the file may not grow beyond a limit."""
+
+    def test_a_full_disk_has_one_line(self):
+        script = self.write("script.txt", SCRIPT)
+        limit = ["prlimit", "--fsize=300", PROGRAM, "replay", *self.files, script]
+        done = subprocess.run(limit, env=dict(os.environ, SHADOWD_JOURNAL=self.journal), stdin=subprocess.DEVNULL,
+                              capture_output=True, text=True, timeout=LIMIT, preexec_fn=ignore_the_signal)
+        self.assertEqual((done.returncode, done.stdout.splitlines()[-1]), (9, "disk failed"))
+        self.assertEqual(done.stderr, LINE.format(self.journal, "File too large (os error 27)"))
+
+
+def ignore_the_signal():
+    """A write past the limit fails, and the process goes on."""
+    signal.signal(signal.SIGXFSZ, signal.SIG_IGN)
+
+
+if __name__ == "__main__":
+    unittest.main()
