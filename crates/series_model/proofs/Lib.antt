@@ -1,0 +1,4 @@
+pub mod SeriesSums
+pub mod SeriesDualityLaws
+pub mod TwinLaws
+pub mod SeriesTreeLaws

@@ -1,0 +1,7 @@
+pub mod Series
+pub mod SeriesTrees
+pub mod SeriesPaths
+pub mod SeriesTwins
+pub mod SeriesBounds
+pub mod SeriesVerdicts
+pub mod SeriesLaws

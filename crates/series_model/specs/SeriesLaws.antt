@@ -1,0 +1,34 @@
+-- What the definitions imply, as the public laws state it.
+use Rattle.std.specs.Prelude.{◌≡◌, ℕ, ◌+◌, ◌*◌, ◌≤◌, ◌<◌, List, ℤ, pos, ◌≤ℤ◌, true, false, IsTrue, Option, Some, None}
+use Rattle.exam_model.specs.Counting.{is_impossible}
+use Rattle.exam_model.specs.Relaxed.{Multipliers}
+use Rattle.series_model.specs.declared.verdict.SeriesVerdict.TheVariants.{Optimal, NoSeries}
+use Rattle.series_model.specs.Series.{SeriesProblem, Forms, IsValue, NoneAbove, BestSeries, HasNoSeries, forms_of}
+use Rattle.series_model.specs.SeriesTrees.{Certificate}
+use Rattle.series_model.specs.SeriesPaths.{SeriesPath, form_problem, form_path, OnPath}
+use Rattle.series_model.specs.SeriesBounds.{points, IsSeriesMaximum}
+use Rattle.series_model.specs.SeriesVerdicts.{IsSeriesVerdict}
+
+-- the value of a series on a path, times the multipliers of the points, is at most the relaxed maximum there
+abbrev pub SeriesDuality : Type 0
+SeriesDuality = (Q : SeriesProblem) (p : SeriesPath) (v : Multipliers) (r : ℤ) (S : Forms) (V : ℕ) → IsSeriesMaximum Q p v false r → OnPath Q p S → IsValue Q S V → pos (points Q v * V) ≤ℤ r
+
+-- a ray's relaxed maximum is not negative where a series is on the path
+abbrev pub SeriesRay : Type 0
+SeriesRay = (Q : SeriesProblem) (p : SeriesPath) (v : Multipliers) (r : ℤ) (S : Forms) → IsSeriesMaximum Q p v true r → OnPath Q p S → pos 0 ≤ℤ r
+
+-- a row of a form that is impossible by counting leaves no series on the path
+abbrev pub SeriesCounting : Type 0
+SeriesCounting = (Q : SeriesProblem) (p : SeriesPath) (S : Forms) (f r : ℕ) → f < Q.forms → IsTrue (is_impossible (form_problem Q) (form_path Q p f) r) → OnPath Q p S → ⊥
+
+-- a tree whose verdict is Optimal shows that its series is best
+abbrev pub OptimalIsBestSeries : Type 0
+OptimalIsBestSeries = (Q : SeriesProblem) (sets : List (List ℕ)) (T : Certificate) → IsSeriesVerdict Q (Some sets) None T Optimal → BestSeries Q (forms_of sets)
+
+-- with a number in place of the value, that no series has a value above it
+abbrev pub OptimalIsAtMost : Type 0
+OptimalIsAtMost = (Q : SeriesProblem) (sets : List (List ℕ)) (U : ℕ) (T : Certificate) → IsSeriesVerdict Q (Some sets) (Some U) T Optimal → NoneAbove Q U
+
+-- a tree whose verdict is NoSeries shows that there is no series
+abbrev pub NoSeriesIsNone : Type 0
+NoSeriesIsNone = (Q : SeriesProblem) (at_most : Option ℕ) (T : Certificate) → IsSeriesVerdict Q None at_most T NoSeries → HasNoSeries Q

@@ -1,0 +1,34 @@
+//! What the definitions imply, for every series problem, path, vector, tree and list of sets.
+
+ghost use Rattle.series_model.specs.SeriesLaws.{SeriesDuality, SeriesRay, SeriesCounting, OptimalIsBestSeries, OptimalIsAtMost, NoSeriesIsNone};
+
+/// No series on a path has a value above the relaxed maximum there over the sum of the multipliers of the points, whatever the
+/// multipliers (weak duality of Lagrangian relaxation; Geoffrion, Lagrangean Relaxation for Integer Programming, 1974).
+pub fn series_duality()
+    ensures { SeriesDuality }
+{}
+
+/// A ray whose relaxed maximum is below 0 leaves no series on its path.
+pub fn series_ray()
+    ensures { SeriesRay }
+{}
+
+/// A row of a form that is impossible by counting leaves no series on the path.
+pub fn series_counting()
+    ensures { SeriesCounting }
+{}
+
+/// A tree whose verdict is Optimal shows that its series is best over all lists of sets of items.
+pub fn optimal_is_best_series()
+    ensures { OptimalIsBestSeries }
+{}
+
+/// With a number in place of the value it shows that no series has a value above that number.
+pub fn optimal_is_at_most()
+    ensures { OptimalIsAtMost }
+{}
+
+/// A tree whose verdict is NoSeries shows that no list of sets is a series.
+pub fn no_series_verdict_is_right()
+    ensures { NoSeriesIsNone }
+{}
