@@ -1,0 +1,6 @@
+use Rattle.std.proofs.Common.{◌≡◌, drop}
+use Rattle.series_tree.specs.Shape.{open_leaves}
+use Rattle.series_tree.proofs.shape.has_open_leaf.Given as goal
+
+abbrev pub invariant-loop-node : goal.invariant-loop-node
+invariant-loop-node l = open_leaves l.nodes ≡ open_leaves (drop l.node-index l.nodes)

@@ -1,0 +1,3 @@
+pub mod Shape
+pub mod Spelling
+pub mod Reading
