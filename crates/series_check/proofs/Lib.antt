@@ -1,0 +1,9 @@
+pub mod Wide
+pub mod ApartLaws
+pub mod NameLaws
+pub mod BestLaws
+pub mod CutLaws
+pub mod SideLaws
+pub mod LinearLaws
+pub mod MaximumLaws
+pub mod WalkLaws

@@ -1,0 +1,89 @@
+//! The weighted information of an item at the points of a form, each times its multiplier.
+
+ghost use Rattle.std.specs.Prelude.{◌≡◌, ℕ, ◌+◌, ◌*◌, ◌<◌, ◌≤◌, cond, true, slice_index};
+ghost use Rattle.bank_tables.specs.Sums.{sum_in};
+ghost use Rattle.bank_tables.specs.Tables.{size};
+ghost use Rattle.series_model.specs.Series.{IsSeriesProblem};
+ghost use Rattle.series_model.specs.SeriesBounds.{counts};
+ghost use Rattle.series_check.specs.Cuts.{problem_of};
+ghost use Rattle.series_check.specs.Points.{point_term, points_at};
+
+use crate::setting::Setting;
+
+/// What one grid point adds: its multiplier times its weight times the information; 0 where the point doesn't count.
+fn point_term(setting: &Setting, sides: &[u32; 2315], form: u8, point: u8, item: u16) -> u128
+    requires problem { IsSeriesProblem (problem_of setting.now) }
+    requires form { form < 4 }
+    requires point { point < setting.now.bank.now.grid }
+    requires item { item < size setting.now.bank.now }
+    ensures value { result
+        ≡ cond (counts (problem_of setting.now) point)
+        (point_term (problem_of setting.now) (slice_index sides.now) form item point) 0 }
+    ensures high { result ≤ 4294967295 * 1000000000 }
+{
+    let weight = setting.weights[point as usize];
+    if weight == 0 {
+        return 0;
+    }
+    let multiplier = sides[64 * form as usize + point as usize];
+    multiplier as u128 * (weight as u128 * setting.bank.info(item, point) as u128)
+}
+
+/// The sum over the points.
+pub fn information(setting: &Setting, sides: &[u32; 2315], form: u8, item: u16) -> u128
+    requires problem { IsSeriesProblem (problem_of setting.now) }
+    requires form { form < 4 }
+    requires item { item < size setting.now.bank.now }
+    ensures value { result ≡ sum_in setting.now.bank.now.grid (counts (problem_of setting.now))
+        (point_term (problem_of setting.now) (slice_index sides.now) form item) }
+    ensures high { result ≤ 61 * (4294967295 * 1000000000) }
+{
+    let mut sum = 0u128;
+    for g in 0..setting.bank.grid() {
+        sum += point_term(setting, sides, form, g, item);
+    }
+    sum
+}
+
+/// The sum of the multipliers of a form at the points that count.
+fn points_of(setting: &Setting, sides: &[u32; 2315], form: u8) -> u128
+    requires problem { IsSeriesProblem (problem_of setting.now) }
+    requires form { form < 4 }
+    ensures value { result ≡ points_at (problem_of setting.now) (slice_index sides.now) form }
+    ensures high { result ≤ 61 * 4294967295 }
+{
+    let mut sum = 0u128;
+    for g in 0..setting.bank.grid() {
+        if setting.weights[g as usize] > 0 {
+            sum += sides[64 * form as usize + g as usize] as u128;
+        }
+    }
+    sum
+}
+
+/// The same of all forms.
+pub fn points(setting: &Setting, sides: &[u32; 2315]) -> u128
+    requires { IsSeriesProblem (problem_of setting.now) }
+    ensures value { result ≡ sum_in setting.now.forms (λ _. true)
+        (points_at (problem_of setting.now) (slice_index sides.now)) }
+    ensures high { result ≤ 4 * (61 * 4294967295) }
+{
+    let mut sum = 0u128;
+    for f in 0..setting.forms {
+        sum += points_of(setting, sides, f);
+    }
+    sum
+}
+
+/// The sum of the multipliers of common use.
+pub fn uses(setting: &Setting, sides: &[u32; 2315]) -> u128
+    ensures value { result ≡ sum_in (size setting.now.bank.now) (λ _. true)
+        (λ i. slice_index sides.now (256 + i)) }
+    ensures high { result ≤ 512 * 4294967295 }
+{
+    let mut sum = 0u128;
+    for i in 0..setting.bank.items() {
+        sum += sides[256 + i as usize] as u128;
+    }
+    sum
+}
