@@ -13,6 +13,7 @@
 mod breaks;
 mod choice;
 mod direction;
+mod given;
 mod inverse;
 mod leaving;
 mod multipliers;
@@ -26,6 +27,7 @@ mod vertex;
 mod workspace;
 
 pub use choice::Fraction;
+pub use given::{Columns, Given};
 pub use multipliers::vector_towards;
 pub use proof_tree::Memory;
 pub use relaxation::{PathSets, Relaxation};

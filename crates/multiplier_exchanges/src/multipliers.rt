@@ -88,7 +88,7 @@ impl Vertex {
     }
 
     /// Adds the direction of the last line search to the multipliers, times a length.
-    fn add_direction(&self, room: &mut Workspace, length: i64) {
+    pub(crate) fn add_direction(&self, room: &mut Workspace, length: i64) {
         for (tight, price) in self.tight.iter().zip(room.direction.prices.iter()) {
             let more = product(length, *price);
             add_at(&mut room.sums, tight.line as usize, more);

@@ -35,8 +35,8 @@ pub(crate) struct Line {
     pub scale: i64,
     pub positive: u16,
     pub negative: u16,
-    start: usize,
-    end: usize,
+    pub start: usize,
+    pub end: usize,
 }
 
 /// The relaxation at the root: 65,536 times the information of what is chosen is to be greatest.
@@ -45,7 +45,7 @@ pub struct Relaxation {
     /// 65,536 times the information of each column.
     pub(crate) gains: Vec<i64>,
     pub(crate) lines: Vec<Line>,
-    line_cells: Vec<Cell>,
+    pub(crate) line_cells: Vec<Cell>,
     /// Where the cells of each column begin, and where those of the last end.
     starts: Vec<usize>,
     column_cells: Vec<Cell>,
@@ -56,11 +56,11 @@ pub struct Relaxation {
     /// The numbers of the stimuli that are columns, after the items.
     pub(crate) stimuli: Vec<u8>,
     /// For each item that is a column the column of its stimulus, where that is open at the root; else `NO_SIDE`.
-    links: Vec<u16>,
+    pub(crate) links: Vec<u16>,
     /// The columns of the items linked to each stimulus, one stimulus after the other.
-    linked: Vec<u16>,
+    pub(crate) linked: Vec<u16>,
     /// Where the linked items of each stimulus begin, and where those of the last end.
-    link_starts: Vec<usize>,
+    pub(crate) link_starts: Vec<usize>,
 }
 
 /// The place of each item among the columns; `NO_SIDE` for none.
@@ -550,7 +550,7 @@ impl Relaxation {
     }
 
     /// Makes the copy of the cells by columns.
-    fn add_columns(&mut self, alloc: Global) -> Result<(), Memory> {
+    pub(crate) fn add_columns(&mut self, alloc: Global) -> Result<(), Memory> {
         let counts = self.column_counts(alloc)?;
         self.note_starts(counts.as_slice())?;
         let none = Cell {
@@ -569,7 +569,7 @@ impl Relaxation {
     }
 
     /// The relaxation with no columns and no lines.
-    fn empty(alloc: Global, given: i64) -> Relaxation {
+    pub(crate) fn empty(alloc: Global, given: i64) -> Relaxation {
         Relaxation {
             gains: Vec::new(alloc),
             lines: Vec::new(alloc),
