@@ -66,8 +66,8 @@ FIELDS = {FORM: ((1, 3), (2, 511)), BOUND: ((1, 255),), RAY: ((1, 255),), COUNT:
           USE: ((2, 511),), TWIN: ((1, 3), (2, 511))}
 
 USES, ROWS, LENGTHS, LOW_THRESHOLD, HIGH_THRESHOLD, MARK, SIDES = 256, 768, 2304, 2312, 2313, 2314, 2315
-MOST_PAIRS, MOST_NODES = 12288, 4095
-MOST_PLAIN, MOST_POOL = 16777216, 4294967295
+MOST_PAIRS, MOST_OF_VECTOR, MOST_NODES = 12288, 2304, 4095
+MOST_PLAIN = 16777216
 
 
 def is_pool(vector):
@@ -95,12 +95,16 @@ class Reader:
         return number
 
     def vector(self, room):
-        pairs = self.tested(2, "BadVector", lambda n: n <= min(SIDES, room))
-        vector, least = {}, 0
+        pairs = self.tested(2, "BadVector", lambda n: n <= min(MOST_OF_VECTOR, room))
+        vector, least, large = {}, 0, None
         for _ in range(pairs):
             side = self.tested(2, "BadVector", lambda n: least <= n < SIDES)
             vector[side] = self.tested(4, "BadVector", lambda n: n >= 1)
+            if vector[side] > MOST_PLAIN and large is None:
+                large = self.at - 4
             least = side + 1
+        if large is not None and not is_pool(vector):
+            raise Fault("BadVector %d" % large)
         return vector
 
     def node(self):
@@ -217,7 +221,7 @@ Reduced = namedtuple("Reduced", "constant weight stimulus")
 def sides_fit(P, vector):
     """Whether the problem has each side that the vector names, and the vector may name them together."""
     of_rows = 2 * len(P.plan.rows) + 2 * P.bank.stimuli
-    for side, multiplier in vector.items():
+    for side in vector:
         if side < USES:
             fits = side // 64 < P.count and side % 64 < P.bank.grid
         elif side < ROWS:
@@ -227,7 +231,7 @@ def sides_fit(P, vector):
             fits = form < P.count and row < of_rows
         else:
             fits = side >= LOW_THRESHOLD or (side - LENGTHS) // 2 < P.count
-        if not fits or multiplier > MOST_PLAIN and not is_pool(vector):
+        if not fits:
             return False
     return True
 
@@ -519,6 +523,15 @@ def printed(P, text, budget):
 # ---------------------------------------------------------------- trials
 
 def any_problem(rng):
+    """A problem that mostly has a series."""
+    for _ in range(12):
+        P = drawn_problem(rng)
+        if rng.random() < 0.15 or best_value(P) is not None:
+            break
+    return P
+
+
+def drawn_problem(rng):
     one = check_tree.any_problem(rng)
     weights = [rng.choice([0, 1, 1, 2, 3]) for _ in range(one.bank.grid)]
     weights[rng.randrange(len(weights))] = rng.choice([1, 1, 5])
@@ -571,7 +584,7 @@ def any_series(rng, P):
         return None
     for _ in range(50):
         series = rng.sample(forms, P.count) if len(forms) >= P.count else []
-        if is_series(P, series) and (value(P, series) == best or rng.random() < 0.1):
+        if is_series(P, series) and (value(P, series) == best or rng.random() < 0.3):
             return series
     for series in itertools.combinations([X for X in forms if least_weighted(P, X) >= best], P.count):
         if is_series(P, series):

@@ -64,14 +64,14 @@ class Trees(Folder):
         self.assertEqual(self.said([{1: 1, 65: 1, 2304: 1, 2307: 1}], [(BOUND, 0)], "--at-most", "16"), "Bad 0")
 
     def test_vectors_that_fit_nothing(self):
-        """A form that is not there, a point, an item or a row that is not there, both rules at once, a multiplier that is too great."""
+        """A form that is not there, a point, an item or a row that is not there, both rules at once; a multiplier that is too great."""
         for side in (129, 3, 262, 768, 768 + 2 * 384, 2308):
             self.assertEqual(self.said([POOL | {side: 1}], [(BOUND, 0)], *SERIES), "Bad 0", side)
         self.assertEqual(self.said([PLAIN | {2314: 1}], [(BOUND, 0)], *SERIES), "Bad 0")
         self.assertEqual(self.said([{side: 16777217 for side in (1, 65)} | {2314: 1}], [(BOUND, 0)], *SERIES), "Optimal")
         great = {side: 4000000 * m for side, m in PLAIN.items()}
         self.assertEqual(self.said([great], [(BOUND, 0)], *SERIES), "Optimal")
-        self.assertEqual(self.said([great | {256: 16777217}], [(BOUND, 0)], *SERIES), "Bad 0")
+        self.assertEqual(self.said([great | {256: 16777217}], [(BOUND, 0)], *SERIES), "BadVector 17")
         self.assertEqual(self.said([{256: 1}], [(BOUND, 0)], *SERIES), "Bad 0")
         self.assertEqual(self.said([{0: 1, 64: 1}], [(BOUND, 0)], *SERIES), "Bad 0")
 
