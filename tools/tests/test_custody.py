@@ -9,7 +9,7 @@ import sys
 import unittest
 
 import data_of_bank_a as a
-from common import PROGRAM, TOOLS, Folder, needs_numpy, needs_program
+from common import PROGRAM, ROOT, TOOLS, Folder, needs_numpy, needs_program
 
 FOUR = "ID,a,b\nI1,1.2,-0.5\nI2,0.8,0.4\nI3,1.5,0\nI4,1,1\n"
 ATTRIBUTES = "ID,K,WORDS\nI1,x,10\nI2,x,20\nI3,y,30\nI4,y,40\n"
@@ -84,6 +84,25 @@ class Parameters(Tables):
         for text in ("1_0", "nan", "inf", "0x1", "١", "1e999"):
             self.refuses(f"column a: '{text}' is not a finite number", items=FOUR.replace("1.2", text))
         self.refuses("a slope of 1e+06", items=FOUR.replace("1.2", "1e6"))
+
+
+@needs_numpy
+class FromMirt(Tables):
+    def test_both_exports_of_mirt_give_the_bank_of_the_example(self):
+        """The knowledge example as write.csv has it: row names without a heading, and a1,d,g,u or, with IRTpars, a,b,g,u."""
+        example = os.path.join(ROOT, "examples", "knowledge")
+        with open(os.path.join(example, "items.csv"), encoding="utf-8", newline="") as file:
+            items = [(row["ID"], *(float(row[f"PAR{k}"]) for k in (1, 2, 3))) for row in csv.DictReader(file)]
+        with open(os.path.join(example, "knowledge.bank.csv"), encoding="utf-8", newline="") as file:
+            wanted = file.read()
+        slopes = '"","a1","d","g","u"\n' + "".join(f'"{name}",{a!r},{-a * b!r},{c!r},1\n' for name, a, b, c in items)
+        irt = '"","a","b","g","u"\n' + "".join(f'"{name}",{a!r},{b!r},{c!r},1\n' for name, a, b, c in items)
+        for text in (slopes, irt):
+            self.write("mirt.csv", text)
+            status, _, errors = self.tool("irt_bank", "--items", "mirt.csv", "--attributes", os.path.join(example, "attributes.csv"),
+                                          "--constraints", os.path.join(example, "constraints.csv"), "--quantity", "WORDS", "--out", "o")
+            self.assertEqual(status, 0, errors)
+            self.assertEqual(self.read("o.bank.csv"), wanted)
 
 
 @needs_numpy
