@@ -8,6 +8,7 @@ either of the two ends. Codes are kept as keyed digests. They are looked up by t
 """
 import contextlib
 import hmac
+import os
 import secrets
 import sqlite3
 import sys
@@ -38,6 +39,7 @@ class Given(NamedTuple):
 class Desk:
     def __init__(self, path, secret):
         self.path, self.key, self.own = path, secret.encode(), threading.local()
+        os.close(os.open(path, os.O_CREAT | os.O_RDWR, 0o600))
         with self.opened() as file:
             file.executescript(TABLES)
 

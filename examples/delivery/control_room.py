@@ -20,14 +20,14 @@ from booking_desk import Desk
 from exam_server import Away, ExamServer
 from readers import Refused, read_journal, read_map, sessions_of
 
-FRESH, PATIENCE = 3, 60  # seconds for which a page is shown again; seconds for an audit
+FRESH, PATIENCE = 3, 120  # seconds for which a page is shown again; seconds for an audit
 
 
 class ControlRoom:
     """The figures of one examination. `lock` lets one caller at a time draw them."""
 
     def __init__(self, settings):
-        self.settings, self.server, self.lock, self.drawn = settings, ExamServer(settings.server, 2), threading.Lock(), None
+        self.settings, self.server, self.lock, self.drawn = settings, ExamServer(settings.server, 2, settings.patience), threading.Lock(), None
         self.names = [item["id"] for item in read_map(settings.map)["items"]]
         self.desk, self.password = Desk(settings.store, settings.secret_of("secret")), settings.secret_of("staff_password")
         said = self.shadowd("check").stdout.splitlines()

@@ -16,7 +16,7 @@ from flask_wtf.csrf import CSRFProtect
 
 import web
 from booking_desk import Desk
-from exam_server import SECONDS, Away, ExamServer, Refused
+from exam_server import Away, ExamServer, Refused
 from item_texts import read_texts
 from readers import moments, posterior_sums, read_bank, read_map, read_plan
 
@@ -108,7 +108,7 @@ class Delivery:
         return redirect(url_for("test"), 303)
 
     def in_turn(self, booking):
-        if not self.turns[booking].acquire(timeout=SECONDS):
+        if not self.turns[booking].acquire(timeout=self.settings.patience):
             raise Away("another request of this booking is under way")
         try:
             return self.go_on(booking)
@@ -145,7 +145,7 @@ class Delivery:
 
 
 def make_app(settings, server=None):
-    app, pages = Flask(__name__), Delivery(settings, server or ExamServer(settings.server, settings.connections))
+    app, pages = Flask(__name__), Delivery(settings, server or ExamServer(settings.server, settings.connections, settings.patience))
     app.config.update(
         SECRET_KEY=settings.secret_of("secret"), PERMANENT_SESSION_LIFETIME=COOKIE_SECONDS, MAX_CONTENT_LENGTH=4096,
         SESSION_COOKIE_NAME="__Host-delivery" if settings.secure_cookies else "delivery", SESSION_COOKIE_HTTPONLY=True,

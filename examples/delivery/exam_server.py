@@ -6,7 +6,7 @@ import threading
 import time
 from typing import NamedTuple
 
-TRIES, PAUSE, SECONDS = 3, 0.2, 5
+TRIES, PAUSE = 3, 0.2
 
 
 class Away(Exception):
@@ -32,8 +32,8 @@ class Place(NamedTuple):
 class ExamServer:
     """`connections` requests are under way at a time; others wait here, and not in the server's queue."""
 
-    def __init__(self, address, connections):
-        self.address, self.room = address, threading.BoundedSemaphore(connections)
+    def __init__(self, address, connections, patience):
+        self.address, self.room, self.patience = address, threading.BoundedSemaphore(connections), patience
         token = os.environ.get("SHADOWD_TOKEN")
         self.fields = {"Connection": "close", **({"Authorization": f"Bearer {token}"} if token else {})}
 
@@ -79,9 +79,9 @@ class ExamServer:
 
     def once(self, method, path, body):
         """Status and body of one try, on a connection of its own."""
-        if not self.room.acquire(timeout=SECONDS):
+        if not self.room.acquire(timeout=self.patience):
             raise Away("too many requests at a time")
-        connection = http.client.HTTPConnection(self.address, timeout=SECONDS)
+        connection = http.client.HTTPConnection(self.address, timeout=self.patience)
         try:
             connection.request(method, path, None if body is None else json.dumps(body), self.fields)
             reply = connection.getresponse()

@@ -1,5 +1,5 @@
 #!/usr/bin/env python3
-"""Makes the texts of the two examples again: made-up items, which say so, in place of those whose parameters the banks have.
+"""Makes the texts of the two examples again: made-up items, each named as such, in place of those whose parameters the banks have.
 
 usage: make_texts.py [FOLDER]      default: the folder texts beside this file
 

@@ -5,7 +5,7 @@ from dataclasses import dataclass
 
 
 class BadInput(Exception):
-    """A file can't be taken; the text names it and what is wrong in it."""
+    """A file cannot be taken; the text names it and what is wrong in it."""
 
 
 @dataclass(frozen=True)
@@ -24,6 +24,7 @@ class Settings:
     secret: str  # file with the key of cookies and codes
     staff_password: str  # file with the password of the control room
     connections: int = 12  # requests to shadowd at a time; with the control room's 2 fewer than its workers
+    patience: float = 5.0  # seconds for a reply of shadowd, three times
     show_score: bool = False
     scale: tuple = (0.0, 1.0)  # the reported score is A + B * ability
     secure_cookies: bool = True  # False only without TLS, on the loopback address

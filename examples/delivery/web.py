@@ -16,7 +16,6 @@ HEADERS = {
     "X-Content-Type-Options": "nosniff",
     "Referrer-Policy": "same-origin",
     "Cross-Origin-Opener-Policy": "same-origin",
-    "Cache-Control": "no-store",
 }
 
 
@@ -33,8 +32,11 @@ def secured(app, home):
 
     def with_headers(response):
         response.headers.update(HEADERS)
+        if request.endpoint != "static" or response.status_code >= 400:
+            response.headers["Cache-Control"] = "no-store"
         return response
 
+    app.config["SEND_FILE_MAX_AGE_DEFAULT"] = 3600  # of the style, which alone is kept in a cache
     app.register_error_handler(HTTPException, fault_page)
     app.register_error_handler(sqlite3.Error, store_fault)
     app.after_request(with_headers)
@@ -54,6 +56,7 @@ def run(make_app, address, words):
         return 1
     host, _, port = getattr(settings, address).rpartition(":")
     trusted = {"trusted_proxy": settings.proxy, "trusted_proxy_headers": {"x-forwarded-for", "x-forwarded-proto"}}
-    waitress.serve(app, host=host, port=int(port), threads=16, ident=None, channel_timeout=30, max_request_body_size=8192,
-                   clear_untrusted_proxy_headers=True, **(trusted if settings.proxy else {}))
+    waitress.serve(app, host=host, port=int(port), threads=16, ident=None, max_request_body_size=8192, channel_timeout=20,
+                   connection_limit=900, asyncore_use_poll=True, clear_untrusted_proxy_headers=True,
+                   **(trusted if settings.proxy else {}))
     return 0

@@ -1,4 +1,5 @@
 """What the tests share: an examination in a folder of its own, a stand-in for shadowd, and the program as a process."""
+import base64
 import contextlib
 import http.client
 import importlib.util
@@ -15,7 +16,7 @@ import unittest
 HERE = os.path.dirname(os.path.dirname(os.path.abspath(__file__)))
 EXAMPLES = os.path.dirname(HERE)
 PROGRAM = os.environ.get("SHADOWD") or os.path.join(EXAMPLES, "..", "crates", "shadowd", "out", "shadowd")
-LIMIT = 30  # seconds for each wait
+LIMIT = 300  # seconds for each wait: the machine may be busy
 
 
 def has(*modules):
@@ -48,8 +49,8 @@ def listens(port):
 
 
 class Examination(unittest.TestCase):
-    """A test with settings of an example in a folder of its own. `told` has what settings differ."""
-    example, told = "knowledge", ""
+    """A test with settings of an example in a folder of its own."""
+    example = "knowledge"
 
     def setUp(self):
         holder = tempfile.TemporaryDirectory(dir="/dev/shm" if os.access("/dev/shm", os.W_OK) else None)
@@ -66,7 +67,7 @@ class Examination(unittest.TestCase):
                  "staff_password": "staff_password", "title": "A <b>test</b>"}
         lines = [f'{name} = "127.0.0.1:{port}"' for name, port in self.ports.items()]
         lines += [f'{name} = "{value}"' for name, value in paths.items()]
-        self.settings_path = self.write("settings.toml", "\n".join([*lines, "secure_cookies = false", self.told, ""]))
+        self.settings_path = self.write("settings.toml", "\n".join([*lines, "secure_cookies = false", f"patience = {LIMIT}", ""]))
         self.bank, self.plan = paths["bank"], self.path("plan.txt")
 
     def path(self, name):
@@ -76,6 +77,12 @@ class Examination(unittest.TestCase):
         with open(self.path(name), "w", encoding="utf-8") as file:
             file.write(text)
         return self.path(name)
+
+    def change_settings(self, **changed):
+        """Gives settings other values, in the spelling of TOML; an empty one leaves the setting out."""
+        with open(self.settings_path, encoding="utf-8") as file:
+            kept = [line for line in file if line.partition(" = ")[0] not in changed]
+        self.write("settings.toml", "".join(kept + [f"{name} = {value}\n" for name, value in changed.items() if value]))
 
     def settings(self):
         from settings import read_settings
@@ -224,12 +231,11 @@ class LossyDoor:
 
 
 def fetch(port, path, password=None):
-    """Status, fields and text of a page."""
-    import base64
+    """Status and text of a page."""
     fields = {} if password is None else {"Authorization": "Basic " + base64.b64encode(f"staff:{password}".encode()).decode()}
     connection = http.client.HTTPConnection("127.0.0.1", port, timeout=LIMIT)
     connection.request("GET", path, headers=fields)
     reply = connection.getresponse()
-    found = reply.status, dict(reply.getheaders()), reply.read().decode()
+    found = reply.status, reply.read().decode()
     connection.close()
     return found

@@ -1,7 +1,7 @@
 """The application in headless Chromium, over shadowd itself."""
 import re
 
-from common import Examination, needs_browser, needs_flask, needs_program, wait_until
+from common import LIMIT, Examination, needs_browser, needs_flask, needs_program, wait_until
 
 WIDTHS = (1280, 320)
 STARTED, IDLE = [], []  # browsers of this run, and those of them that no test has
@@ -105,7 +105,7 @@ class InBrowser(Examination):
         from selenium import webdriver
         from selenium.webdriver.chrome.service import Service
         driver = webdriver.Chrome(service=Service("/usr/bin/chromedriver"), options=options)
-        driver.set_page_load_timeout(30)
+        driver.set_page_load_timeout(LIMIT)
         STARTED.append(driver)
         return driver
 

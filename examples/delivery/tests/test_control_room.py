@@ -11,7 +11,7 @@ import signal
 import subprocess
 import threading
 
-from common import HERE, LIMIT, PROGRAM, Examination, free_port, listens, needs_flask, needs_program, wait_until
+from common import HERE, LIMIT, PROGRAM, Examination, fetch, free_port, listens, needs_flask, needs_program, wait_until
 
 
 def handler(health, exposure):
@@ -100,9 +100,9 @@ class ControlRoom(Examination):
 
     def test_servers_that_are_not_well(self):
         well = {"finished": 0, "rows": [[0, 0]] * 24}
-        told = {"busy": 2, "entries": 7, "open": 3, "room": 5000}
-        for health, said in (((404, {"error": "no-route"}), "The server answers."), ((200, told), "The server answers, and its last write succeeded."),
-                             ((503, told), "reports a fault of its disk")):
+        numbers = {"busy": 2, "entries": 7, "open": 3, "room": 5000}
+        for health, said in (((404, {"error": "no-route"}), "The server answers."), ((200, numbers), "The server answers, and its last write succeeded."),
+                             ((503, numbers), "reports a fault of its disk")):
             with self.subTest(said), http.server.ThreadingHTTPServer(("127.0.0.1", self.ports["server"]), handler(health, (200, well))) as server:
                 thread = threading.Thread(target=server.serve_forever)
                 thread.start()
@@ -152,12 +152,9 @@ class Launcher(Examination):
         password = re.search(rf"http://127\.0\.0\.1:{port + 1}/   user staff, password (\S+)\n", said).group(1)
         self.assertEqual(re.findall(r"booking (\d+)     code [0-9A-Z-]{14}\n", said).__len__(), 3)
         wait_until(lambda: listens(port + 2), "shadowd listens")
-        connection = http.client.HTTPConnection("127.0.0.1", port + 1, timeout=LIMIT)
-        connection.request("GET", "/", headers={"Authorization": "Basic " + base64.b64encode(f"staff:{password}".encode()).decode()})
-        reply = connection.getresponse()
-        self.assertEqual(reply.status, 200)
-        self.assertIn("0 of 3", reply.read().decode())
-        connection.close()
+        status, page = fetch(port + 1, "/", password)
+        self.assertEqual(status, 200)
+        self.assertIn("0 of 3", page)
         for name in ("secret", "staff_password", "plan.txt", "settings.toml", "delivery.sqlite"):
             self.assertEqual(os.stat(os.path.join(self.path("run"), name)).st_mode & 0o077, 0, name)
         command.send_signal(signal.SIGTERM)

@@ -1,15 +1,21 @@
 """The application without a browser: who may ask, what counts as an answer, and what a lost reply leaves."""
 import contextlib
 import csv
+import http.client
 import io
 import os
 import re
 import shutil
+import socket
+import sqlite3
+import stat
 import subprocess
 import sys
 import threading
+import unittest.mock
+import urllib.parse
 
-from common import EXAMPLES, HERE, Client, Examination, LossyDoor, StandIn, needs_flask, needs_program
+from common import EXAMPLES, HERE, LIMIT, Client, Examination, LossyDoor, StandIn, fetch, needs_flask, needs_program
 
 KEY = re.compile(r'<input type="radio" name="option" value="(\d+)" required> <span>([^<]*)</span>')
 
@@ -167,7 +173,7 @@ class Forgery(WithStandIn):
                 self.assertEqual(reply.status_code, status)
                 self.assertEqual(reply.headers["X-Frame-Options"], "DENY")
                 self.assertEqual(reply.headers["X-Content-Type-Options"], "nosniff")
-                self.assertEqual(reply.headers["Cache-Control"], "no-store")
+                self.assertEqual("no-store" in reply.headers["Cache-Control"], (path, status) != ("/static/delivery.css", 200), reply.headers)
                 policy = reply.headers["Content-Security-Policy"]
                 self.assertIn("default-src 'none'", policy)
                 self.assertIn("frame-ancestors 'none'", policy)
@@ -179,7 +185,7 @@ class Forgery(WithStandIn):
         cookie = Client(self.app).get("/").headers["Set-Cookie"]
         self.assertIn("HttpOnly", cookie)
         self.assertIn("SameSite=Lax", cookie)
-        self.write("settings.toml", open(self.settings_path, encoding="utf-8").read().replace("secure_cookies = false", ""))
+        self.change_settings(secure_cookies="")
         cookie = Client(self.make_app()).client.get("/", base_url="https://exam.example.org").headers["Set-Cookie"]
         self.assertTrue(cookie.startswith("__Host-delivery="), cookie)
         self.assertIn("Secure", cookie)
@@ -206,15 +212,11 @@ class Answers(WithStandIn):
         for responses in ("[1, 0, 0, 0]", "[0, 0, 1, 0]"):
             text = open(path, encoding="utf-8").read()
             self.write("texts/V1.toml", re.sub(r"responses = .*", f"responses = {responses}", text))
-            self.told_texts()
+            self.change_settings(texts='"texts"')
             client = self.begun(70, self.make_app())
             pages.append(re.sub(r'name="csrf_token" value="[^"]*"', "", client.page))
         self.assertEqual(pages[0], pages[1])
         self.assertEqual([value for value, _ in KEY.findall(pages[0])], ["0", "1", "2", "3"])
-
-    def told_texts(self):
-        found = open(self.settings_path, encoding="utf-8").read()
-        self.write("settings.toml", re.sub(r'texts = ".*"', 'texts = "texts"', found))
 
     def test_what_is_no_answer(self):
         client = self.begun(70)
@@ -300,6 +302,15 @@ class Answers(WithStandIn):
         self.assertIn("1 of 20", client.page)
         self.assertEqual(self.desk().given(70, False), [])
 
+    def test_a_file_of_the_application_that_cannot_be_written(self):
+        client = self.begun(70)
+        page = client.hidden()
+        with unittest.mock.patch("booking_desk.Desk.give", side_effect=sqlite3.OperationalError("disk I/O error")):
+            self.assertEqual(client.post("/test", **page, option=0).status_code, 503)
+        self.assertIn("Your last answer is perhaps not kept.", client.page)
+        client.get()
+        self.assertEqual((client.place(), self.recorded(70)), (1, []))
+
     def test_a_journal_of_an_older_moment(self):
         """A step whose answer was acknowledged before is asked again, and the new answer counts."""
         client = self.begun(70)
@@ -318,8 +329,7 @@ class Texts(WithStandIn):
 
     def own_texts(self):
         shutil.copytree(os.path.join(HERE, "texts", self.example), self.path("texts"))
-        found = open(self.settings_path, encoding="utf-8").read()
-        self.write("settings.toml", re.sub(r'texts = ".*"', 'texts = "texts"', found))
+        self.change_settings(texts='"texts"')
 
     def test_markup_is_shown_as_text(self):
         self.own_texts()
@@ -393,6 +403,44 @@ class Passages(WithStandIn):
 
 
 @needs_flask
+class AsProcess(Examination):
+    """The application as its own process, with the server that it runs under."""
+
+    def sign_ins(self, addresses):
+        """The statuses of sign-ins with a wrong code, each with an address that the client claims to have."""
+        statuses = []
+        for address in addresses:
+            connection = http.client.HTTPConnection("127.0.0.1", self.ports["listen"], timeout=LIMIT)
+            connection.request("GET", "/", headers={"X-Forwarded-For": address})
+            reply = connection.getresponse()
+            token = re.search(r'name="csrf_token" value="([^"]*)"', reply.read().decode()).group(1)
+            connection.request("POST", "/", urllib.parse.urlencode({"csrf_token": token, "code": "0000-0000-0000"}),
+                               {"X-Forwarded-For": address, "Cookie": reply.headers["Set-Cookie"].partition(";")[0],
+                                "Content-Type": "application/x-www-form-urlencoded"})
+            statuses.append(connection.getresponse().status)
+            connection.close()
+        return statuses
+
+    def test_an_address_that_a_client_claims_is_not_believed(self):
+        self.start_pages()
+        self.assertEqual(self.sign_ins(f"192.0.2.{number}" for number in range(21)), [403] * 20 + [429])
+
+    def test_the_address_that_a_proxy_names_is_believed(self):
+        self.change_settings(proxy='"127.0.0.1"')
+        self.start_pages()
+        self.assertEqual(self.sign_ins(["192.0.2.1"] * 21 + ["192.0.2.2"]), [403] * 20 + [429, 403])
+
+    def test_connections_that_do_nothing(self):
+        self.start_pages()
+        idle = [socket.create_connection(("127.0.0.1", self.ports["listen"]), LIMIT) for _ in range(300)]
+        for one in idle:
+            self.addCleanup(one.close)
+            one.sendall(b"GET / HT")
+        self.assertEqual(fetch(self.ports["listen"], "/")[0], 200)
+        self.assertEqual(stat.S_IMODE(os.stat(self.path("store")).st_mode), 0o600)
+
+
+@needs_flask
 @needs_program
 class WithProgram(Examination):
     """The application over shadowd itself."""
@@ -406,8 +454,7 @@ class WithProgram(Examination):
         door = LossyDoor(self.ports["server"])
         threading.Thread(target=door.run, daemon=True).start()
         self.addCleanup(door.listener.close)
-        found = open(self.settings_path, encoding="utf-8").read()
-        self.write("settings.toml", re.sub(r'server = ".*"', f'server = "{door.address()}"', found))
+        self.change_settings(server=f'"{door.address()}"')
         client = Client(self.app())
         client.begin(self.desk().issue(70))
         door.lose = 2
@@ -421,8 +468,7 @@ class WithProgram(Examination):
         self.assertEqual(self.journal_sessions()[0].responses, [one.response for one in self.desk().given(70, True)])
 
     def test_the_score_is_that_of_the_tools(self):
-        found = open(self.settings_path, encoding="utf-8").read()
-        self.write("settings.toml", found + "show_score = true\nscale = [500, 100]\n")
+        self.change_settings(show_score="true", scale="[500, 100]")
         self.start_server()
         client = Client(self.app())
         client.begin(self.desk().issue(70))
@@ -431,7 +477,7 @@ class WithProgram(Examination):
         shown = re.search(r"<strong>([\d.]+)</strong>, with a standard error of <strong>([\d.]+)</strong>", client.page)
         tool = [sys.executable, os.path.join(EXAMPLES, "..", "tools", "score.py"), self.bank, self.plan, self.settings().map,
                 "--journal", self.path("journal"), "--scale", "500", "100"]
-        done = subprocess.run(tool, capture_output=True, text=True, timeout=60, check=False)
+        done = subprocess.run(tool, capture_output=True, text=True, timeout=LIMIT, check=False)
         row = next(csv.DictReader(done.stdout.splitlines()), None)
         self.assertIsNotNone(row, done.stderr)
         self.assertAlmostEqual(float(shown.group(1)), float(row["scale"]), delta=0.006)
@@ -450,4 +496,4 @@ class WithProgram(Examination):
         from exam_server import ExamServer
         os.environ["SHADOWD_TOKEN"] = "t" * 20
         self.addCleanup(os.environ.pop, "SHADOWD_TOKEN")
-        self.assertEqual(ExamServer("127.0.0.1:1", 1).fields["Authorization"], "Bearer " + "t" * 20)
+        self.assertEqual(ExamServer("127.0.0.1:1", 1, 1).fields["Authorization"], "Bearer " + "t" * 20)
