@@ -2,11 +2,16 @@
 ghost use Rattle.std.specs.Prelude.{◌≢◌, ◌≤◌, length, IfOk, IfErr};
 ghost use Rattle.std.specs.IoError.{error_kind};
 
+use crate::trouble::Trouble;
 use std::fs::File;
-use std::io;
 use std::io::{ErrorKind, Read, Write};
 use std::net::{TcpListener, TcpStream};
 use std::os::unix::fs::FileExt;
+use std::time::Duration;
+use std::{io, thread};
+
+/// How many milliseconds a listener is left alone after an error that passes.
+pub const PAUSE: u64 = 50;
 
 // So many interruptions in a row are an error of their own.
 fn interrupted_on_and_on() -> io::Error
@@ -70,26 +75,56 @@ pub fn flush_again<W: Write>(stream: &mut W) -> io::Result<()>
     Err(interrupted_on_and_on())
 }
 
-// Whether an error is that of a connection which ended before it was accepted, and not of the listener.
-fn is_of_connection(kind: ErrorKind) -> bool {
+/// What an accept gave.
+pub enum Accepted {
+    /// A connection.
+    Stream(TcpStream),
+    /// None waits.
+    Nothing,
+    /// An error that passes: of a connection that ended before it was accepted, or of a system that has too many
+    /// open files or too little memory.
+    Passing(io::Error),
+}
+
+// The codes of Linux for a number that is no open file, and for a file that is no listening socket.
+const NO_FILE: i32 = 9;
+
+const NOT_LISTENING: i32 = 22;
+
+const NO_SOCKET: i32 = 88;
+
+// Whether an error of an accept is one of the listener, which stays.
+fn is_of_listener(cause: &io::Error) -> bool {
     matches!(
-        kind,
-        ErrorKind::Interrupted
-            | ErrorKind::ConnectionAborted
-            | ErrorKind::ConnectionReset
-            | ErrorKind::HostUnreachable
-            | ErrorKind::NetworkUnreachable
-            | ErrorKind::NetworkDown
+        cause.raw_os_error(),
+        Some(NO_FILE | NOT_LISTENING | NO_SOCKET)
     )
 }
 
-/// The next connection of a listener. One that ended before it was accepted is passed over.
-pub fn accept_again(listener: &TcpListener) -> io::Result<TcpStream> {
+/// Accepts a connection once. An error of the listener is an error.
+pub fn accept_once(listener: &TcpListener) -> io::Result<Accepted> {
+    match listener.accept() {
+        Ok((stream, _)) => Ok(Accepted::Stream(stream)),
+        Err(cause) if cause.kind() == ErrorKind::WouldBlock => Ok(Accepted::Nothing),
+        Err(cause) if is_of_listener(&cause) => Err(cause),
+        Err(cause) => Ok(Accepted::Passing(cause)),
+    }
+}
+
+/// The next connection of a listener. An error that passes is waited out, and is told once.
+pub fn accept_again(rt: &HostRuntime, listener: &TcpListener) -> io::Result<TcpStream> {
+    let mut trouble = Trouble::none();
     for _ in 0..u64::MAX {
-        match listener.accept() {
-            Ok((stream, _)) => return Ok(stream),
-            Err(cause) if is_of_connection(cause.kind()) => {}
-            Err(cause) => return Err(cause),
+        match accept_once(listener)? {
+            Accepted::Stream(stream) => {
+                trouble.end(rt);
+                return Ok(stream);
+            }
+            Accepted::Nothing => thread::sleep(rt, Duration::from_millis(PAUSE)),
+            Accepted::Passing(cause) => {
+                trouble.begin(rt, &cause);
+                thread::sleep(rt, Duration::from_millis(PAUSE));
+            }
         }
     }
     Err(interrupted_on_and_on())

@@ -7,25 +7,37 @@ ghost use Rattle.host_edge.specs.HostDoor.{listens, left_of, out_of, faults_of, 
 use crate::HostLink;
 use crate::again::accept_again;
 use crate::fault_count::FaultCount;
+use crate::idle_streams::IdleStreams;
 use exam_edge::{Door, Failed, Memory};
 use std::alloc::Global;
 use std::io;
 use std::io::ErrorKind;
-use std::net::TcpListener;
+use std::net::{TcpListener, TcpStream};
+use std::time::Duration;
 
 /// The connections of a listener, which other doors may share, one after another. It gives no more after a stated number
-/// of links, if there is one. A door without a listener fails at each accept. It does not report its links.
+/// of links, if there is one. If there is none, a connection that has nothing to read is no link: the door keeps it aside, and
+/// gives it when it has. A door without a listener fails at each accept. It does not report its links.
 #[derive(Drop)]
 pub struct HostDoor {
+    rt: HostRuntime,
     listener: Option<TcpListener>,
+    limit: Duration,
+    idle: Option<IdleStreams>,
     left: Option<u64>,
     out: bool,
     faults: FaultCount,
 }
 
 impl HostDoor {
-    /// A door of this listener that gives so many links, or any number of them; no call has failed yet.
-    pub fn of(listener: Option<TcpListener>, links: Option<u64>) -> HostDoor
+    /// A door of this listener that gives so many links, or any number of them; no call has failed yet. Each link waits so
+    /// long for the first byte of a message. No connection is kept aside.
+    pub fn of(
+        rt: HostRuntime,
+        listener: Option<TcpListener>,
+        limit: Duration,
+        links: Option<u64>,
+    ) -> HostDoor
         ensures listens { listens result ≡ is_some listener }
         ensures left { left_of result ≡ links }
         ensures out { out_of result ≡ false }
@@ -33,11 +45,36 @@ impl HostDoor {
         ensures cause { cause_of (faults_of result) ≡ None }
     {
         HostDoor {
+            rt,
             listener,
+            limit,
+            idle: None,
             left: links,
             out: false,
             faults: FaultCount::none(),
         }
+    }
+
+    // A door of this listener that gives any number of links, and keeps connections aside. It has no listener where the
+    // system cannot watch it.
+    fn keeping(
+        rt: HostRuntime,
+        alloc: Global,
+        listener: Option<TcpListener>,
+        limit: Duration,
+    ) -> HostDoor
+        ensures listens { IsNone listener → listens result ≡ false }
+        ensures left { left_of result ≡ None }
+        ensures out { out_of result ≡ false }
+    {
+        let mut door = HostDoor::of(rt, None, limit, None);
+        if let Some(listener) = listener {
+            if let Ok(idle) = IdleStreams::of(&rt, alloc, &listener, limit) {
+                door.listener = Some(listener);
+                door.idle = Some(idle);
+            }
+        }
+        door
     }
 
     /// Why the last call that failed did.
@@ -47,12 +84,34 @@ impl HostDoor {
         self.faults.cause()
     }
 
-    /// So many doors, which share the listener if there is one, and of which each gives so many links. A door for which
-    /// the system shares the listener no more has none. `Memory` where there is no room for them.
+    // A door of those that share a listener.
+    fn shared(
+        rt: HostRuntime,
+        alloc: Global,
+        listener: Option<&TcpListener>,
+        limit: Duration,
+        links: Option<u64>,
+    ) -> HostDoor
+        ensures listens { IsNone listener.entry → listens result ≡ false }
+        ensures left { left_of result ≡ links }
+        ensures out { out_of result ≡ false }
+    {
+        let own = listener.and_then(|listener| listener.try_clone().ok());
+        match links {
+            Some(_) => HostDoor::of(rt, own, limit, links),
+            None => HostDoor::keeping(rt, alloc, own, limit),
+        }
+    }
+
+    /// So many doors, which share the listener if there is one, and of which each gives so many links. A link waits so long
+    /// for the first byte of a message. A door for which the system shares the listener no more has none. `Memory` where there
+    /// is no room for them.
     pub fn several(
+        rt: HostRuntime,
         alloc: Global,
         listener: Option<&TcpListener>,
         doors: u8,
+        limit: Duration,
         links: Option<u64>,
     ) -> Result<Vec<HostDoor>, Memory>
         ensures count { IfOk result (λ all. vec_len all ≡ doors) }
@@ -61,12 +120,32 @@ impl HostDoor {
         ensures deaf { IsNone listener.entry
             → IfOk result (λ all. All (λ d. listens d ≡ false) all.items) }
     {
+        // What one of the doors sets is set for all, since they share the socket.
+        if let Some(listener) = listener {
+            let _ = listener.set_nonblocking(links.is_none());
+        }
         let mut all = Vec::new(alloc);
         for _made in 0..doors {
-            let shared = listener.and_then(|listener| listener.try_clone().ok());
-            all.push(HostDoor::of(shared, links))?;
+            all.push(HostDoor::shared(rt, alloc, listener, limit, links))?;
         }
         Ok(all)
+    }
+
+    // The next connection of the listener, or one that was kept aside.
+    fn next_stream(&mut self) -> io::Result<TcpStream>
+        ensures listens { listens self.new ≡ listens self.old }
+        ensures left { left_of self.new ≡ left_of self.old }
+        ensures out { out_of self.new ≡ out_of self.old }
+        ensures faults { faults_of self.new ≡ faults_of self.old }
+        ensures deaf { listens self.old ≡ false → IsErr result }
+    {
+        let Some(listener) = &self.listener else {
+            return Err(io::Error::new(ErrorKind::NotConnected, "no listener"));
+        };
+        match &mut self.idle {
+            Some(idle) => idle.next(&self.rt, listener),
+            None => accept_again(&self.rt, listener),
+        }
     }
 
     // One link less is to come.
@@ -111,17 +190,13 @@ impl Door for HostDoor {
         ensures failed { OnErr result
             (Rose (count_of (faults_of self.old)) (count_of (faults_of self.new))) }
     {
-        let Some(listener) = &self.listener else {
-            let cause = io::Error::new(ErrorKind::NotConnected, "no listener");
-            return Err(self.faults.count_fault(cause));
-        };
-        if self.left == Some(0) {
+        if self.left == Some(0) && self.listener.is_some() {
             return Ok(None);
         }
-        let given = accept_again(listener);
+        let given = self.next_stream();
         let stream = self.faults.answer(given)?;
         self.count_link();
-        Ok(Some(HostLink::of(stream)))
+        Ok(Some(HostLink::of(self.rt, stream, self.limit, self.idle.is_some())))
     }
 
     fn back(&mut self, link: HostLink)
@@ -131,7 +206,9 @@ impl Door for HostDoor {
         ensures left { left_of self.new ≡ left_of self.old }
         ensures faults { faults_of self.new ≡ faults_of self.old }
     {
-        link.close();
+        if let (Some(stream), Some(idle)) = (link.close(), &mut self.idle) {
+            idle.keep(&self.rt, stream);
+        }
         self.out = false;
     }
 }

@@ -15,9 +15,11 @@ mod host_door;
 mod host_files;
 mod host_link;
 mod host_sink;
+mod idle_streams;
 mod journal_file;
 mod tell;
 mod threads;
+mod trouble;
 
 pub use closing::Closing;
 pub use host_disk::HostDisk;

@@ -1,4 +1,7 @@
 // The host's objects on files of a temporary folder and on a socket of the loopback address.
+ghost use Rattle.std.specs.Prelude.{◌≡◌, false};
+ghost use Rattle.host_edge.specs.HostDoor.{out_of};
+
 use crate::equal::is_equal;
 use exam_edge::{Disk, Door, Failed, Files, Link, Sink};
 use host_edge::{HostDisk, HostDoor, HostFiles, HostLink, HostSink};
@@ -7,6 +10,7 @@ use std::io::{Error, ErrorKind, Read, Write};
 use std::net::{Ipv4Addr, Net, SocketAddr, TcpListener, TcpStream};
 use std::process::Abort;
 use std::test::Fail;
+use std::time::Duration;
 use std::{env, fs, process, thread};
 
 // The cause has this kind. It is `None` if nothing failed.
@@ -263,8 +267,8 @@ fn answers<R: Abort>(rt: &R, link: &mut HostLink) {
 }
 
 // A door gives the client's link, and no other.
-fn gives_its_link<R: Abort>(rt: &R, listener: TcpListener) -> Result<(), Fail> {
-    let mut door = HostDoor::of(Some(listener), Some(1));
+fn gives_its_link<R: Abort>(rt: &R, host: HostRuntime, listener: TcpListener) -> Result<(), Fail> {
+    let mut door = HostDoor::of(host, Some(listener), Duration::from_secs(60), Some(1));
     match door.accept() {
         Ok(Some(mut link)) => {
             answers(rt, &mut link);
@@ -276,19 +280,105 @@ fn gives_its_link<R: Abort>(rt: &R, listener: TcpListener) -> Result<(), Fail> {
     }
 }
 
-fn is_deaf<R: Abort>(rt: &R) {
-    let mut door = HostDoor::of(None, Some(0));
+fn is_deaf<R: Abort>(rt: &R, host: HostRuntime) {
+    let mut door = HostDoor::of(host, None, Duration::from_secs(60), Some(0));
     assert!(rt; door.accept().is_err());
     has_kind(rt, door.cause(), Some(ErrorKind::NotConnected));
 }
 
 #[test]
 fn a_door_gives_its_links(rt: HostRuntime) -> Result<(), Fail> {
-    is_deaf(&rt);
+    is_deaf(&rt, rt);
     let listener = TcpListener::bind(&rt, (Ipv4Addr::LOCALHOST, 0))?;
     let address = listener.local_addr()?;
     let client = thread::spawn(&rt, move || answer_at(&rt, address))?;
-    let given = gives_its_link(&rt, listener);
+    let given = gives_its_link(&rt, rt, listener);
+    is_equal(&rt, &client.join(&rt), &(5, *b"pong!\0\0\0"));
+    given
+}
+
+// A client that sends "ping", reads the answer, waits so many milliseconds, and sends "ping" again.
+fn ping_twice(rt: &HostRuntime, address: SocketAddr, pause: u64) -> (usize, [u8; 8]) {
+    let mut got = [0u8; 8];
+    let Ok(mut stream) = TcpStream::connect(rt, address) else {
+        return (0, got);
+    };
+    let _ = stream.write(b"ping");
+    let _ = stream.read(&mut got);
+    thread::sleep(rt, Duration::from_millis(pause));
+    let _ = stream.write(b"ping");
+    (stream.read(&mut got).unwrap_or(0), got)
+}
+
+// A link whose bytes were used, and which waits too long for more, has ended: it gives none of the bytes that come then.
+fn gives_no_more<R: Abort>(rt: &R, host: HostRuntime, link: &mut HostLink) {
+    let mut buffer = [0u8; 16];
+    answers(rt, link);
+    is_equal(rt, &link.read(&mut []), &Ok(0));
+    is_equal(rt, &link.read(&mut buffer), &Err(Failed));
+    thread::sleep(&host, Duration::from_millis(600));
+    is_equal(rt, &link.read(&mut buffer), &Err(Failed));
+}
+
+fn ends_its_link<R: Abort>(rt: &R, host: HostRuntime, listener: TcpListener) -> Result<(), Fail> {
+    let limit = Duration::from_millis(100);
+    let mut door = HostDoor::of(host, Some(listener), limit, Some(1));
+    match door.accept() {
+        Ok(Some(mut link)) => {
+            gives_no_more(rt, host, &mut link);
+            Ok(door.back(link))
+        }
+        _ => Err(Fail::new("no link")),
+    }
+}
+
+#[test]
+fn a_silent_client_loses_its_connection(rt: HostRuntime) -> Result<(), Fail> {
+    let listener = TcpListener::bind(&rt, (Ipv4Addr::LOCALHOST, 0))?;
+    let address = listener.local_addr()?;
+    let client = thread::spawn(&rt, move || ping_twice(&rt, address, 400))?;
+    let ended = ends_its_link(&rt, rt, listener);
+    is_equal(&rt, &client.join(&rt).0, &0);
+    ended
+}
+
+// A link that gave a message, whose bytes were used, has ended, so that its connection is kept aside.
+fn answers_and_rests<R: Abort>(rt: &R, door: &mut HostDoor) -> Result<(), Fail>
+    requires { out_of door.old ≡ false }
+    ensures { out_of door.new ≡ false }
+{
+    match door.accept() {
+        Ok(Some(mut link)) => {
+            let mut buffer = [0u8; 16];
+            answers(rt, &mut link);
+            is_equal(rt, &link.read(&mut []), &Ok(0));
+            is_equal(rt, &link.read(&mut buffer), &Ok(0));
+            Ok(door.back(link))
+        }
+        Ok(None) => Err(Fail::new("no link")),
+        Err(_) => Err(Fail::new("a fault")),
+    }
+}
+
+fn gives_it_twice<R: Abort>(rt: &R, host: HostRuntime, listener: TcpListener) -> Result<(), Fail> {
+    let limit = Duration::from_secs(60);
+    let mut doors = HostDoor::several(host, host.alloc(), Some(&listener), 1, limit, None)?;
+    let door = doors.as_mut_slice();
+    match door.first_mut() {
+        Some(door) => {
+            answers_and_rests(rt, door)?;
+            answers_and_rests(rt, door)
+        }
+        None => Err(Fail::new("no door")),
+    }
+}
+
+#[test]
+fn a_connection_at_rest_comes_again(rt: HostRuntime) -> Result<(), Fail> {
+    let listener = TcpListener::bind(&rt, (Ipv4Addr::LOCALHOST, 0))?;
+    let address = listener.local_addr()?;
+    let client = thread::spawn(&rt, move || ping_twice(&rt, address, 100))?;
+    let given = gives_it_twice(&rt, rt, listener);
     is_equal(&rt, &client.join(&rt), &(5, *b"pong!\0\0\0"));
     given
 }

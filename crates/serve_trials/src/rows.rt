@@ -17,6 +17,7 @@ use std::sync::Wait;
 use std::test::Fail;
 use std::thread;
 use std::thread::Threads;
+use std::time::Duration;
 
 const SECOND: &str = "POST /sessions HTTP/1.1\r\nContent-Length: 14\r\n\r\n{\"booking\":71}";
 
@@ -134,11 +135,12 @@ fn got_at(rt: &HostRuntime, address: SocketAddr) -> Vec<u8> {
 
 fn served_by<R: Threads + Wait + Sync>(
     rt: &R,
+    host: HostRuntime,
     alloc: Global,
     listener: TcpListener,
 ) -> Result<Worked<HostDoor>, Fail> {
     let mut doors = Vec::new(alloc);
-    doors.push(HostDoor::of(Some(listener), Some(1)))?;
+    doors.push(HostDoor::of(host, Some(listener), Duration::from_secs(60), Some(1)))?;
     serve_bank_a(rt, alloc, doors, &OpenGate)
 }
 
@@ -154,7 +156,7 @@ fn a_client_on_the_loopback_address_is_answered(rt: HostRuntime) -> Result<(), F
     let listener = TcpListener::bind(&rt, (Ipv4Addr::LOCALHOST, 0))?;
     let address = listener.local_addr()?;
     let client = thread::spawn(&rt, move || got_at(&rt, address))?;
-    is_begun(&rt, &served_by(&rt, rt.alloc(), listener)?);
+    is_begun(&rt, &served_by(&rt, rt, rt.alloc(), listener)?);
     is_equal(&rt, &client.join(&rt).as_slice(), &CREATED.as_bytes());
     Ok(())
 }

@@ -18,6 +18,7 @@ use std::alloc::AllocError;
 use std::io::ErrorKind;
 use std::net::TcpListener;
 use std::process::ExitCode;
+use std::time::Duration;
 use std::{env, io};
 
 /// The status of a program that is out of memory.
@@ -95,9 +96,11 @@ fn doors_of(
     announce(rt, settings, &listener);
     let listener = listener.ok();
     HostDoor::several(
+        *rt,
         rt.alloc(),
         listener.as_ref(),
         settings.workers,
+        Duration::from_secs(settings.idle),
         settings.connections,
     )
 }

@@ -12,6 +12,8 @@ use std::alloc::{AllocError, Global};
 #[derive(Drop)]
 pub struct Kept {
     bytes: Vec<u8>,
+    // Whether messages have used all bytes since the link was last let know.
+    used_up: bool,
 }
 
 impl Kept {
@@ -21,6 +23,7 @@ impl Kept {
     {
         Kept {
             bytes: Vec::new(alloc),
+            used_up: false,
         }
     }
 
@@ -30,8 +33,27 @@ impl Kept {
         &self.bytes
     }
 
-    /// Reads once more, and answers whether bytes came.
-    pub(crate) fn receive<K: Link>(&mut self, link: &mut K) -> Result<bool, WireFault>
+    // Lets the link know when messages have used all its bytes, by a read into an empty buffer: it may rest then.
+    fn rest<K: Link>(&mut self, link: &mut K) -> Result<(), WireFault>
+        ensures bytes { bytes_of self.new ≡ bytes_of self.old }
+        ensures left { IsTrue (K.tells link.old) → K.left link.new ≡ K.left link.old }
+        ensures failed { IfErr result (λ e.
+            (e ≡ WireFault.Link) × Rose (K.faults link.old) (K.faults link.new)) }
+        ensures written { IsTrue (K.tells link.old) → K.written link.new ≡ K.written link.old }
+        ensures frame { IsLent K.tells K.identity K.faults link.old link.new }
+    {
+        if !self.used_up {
+            return Ok(());
+        }
+        self.used_up = false;
+        if link.read(&mut []).is_err() {
+            return Err(WireFault::Link);
+        }
+        Ok(())
+    }
+
+    // Reads once more, and answers whether bytes came.
+    fn read_piece<K: Link>(&mut self, link: &mut K) -> Result<bool, WireFault>
         ensures bytes { IfOk result (λ _. IsTrue (K.tells link.old)
             → bytes_of self.new ++ K.left link.new ≡ bytes_of self.old ++ K.left link.old) }
         ensures some { IfOk result (λ came. IsTrue came
@@ -56,6 +78,25 @@ impl Kept {
         }
     }
 
+    /// Reads once more, and answers whether bytes came.
+    pub(crate) fn receive<K: Link>(&mut self, link: &mut K) -> Result<bool, WireFault>
+        ensures bytes { IfOk result (λ _. IsTrue (K.tells link.old)
+            → bytes_of self.new ++ K.left link.new ≡ bytes_of self.old ++ K.left link.old) }
+        ensures some { IfOk result (λ came. IsTrue came
+            → length (bytes_of self.old) < length (bytes_of self.new)) }
+        ensures same { IfOk result (λ came. IsFalse came → bytes_of self.new ≡ bytes_of self.old) }
+        ensures end { IfOk result (λ came. IsFalse came
+            → IsTrue (K.tells link.old) → K.left link.old ≡ []) }
+        ensures failed { IfErr result (λ e. e ≡ WireFault.Link
+            → Rose (K.faults link.old) (K.faults link.new)) }
+        ensures free { IfErr result IsFree }
+        ensures written { IsTrue (K.tells link.old) → K.written link.new ≡ K.written link.old }
+        ensures frame { IsLent K.tells K.identity K.faults link.old link.new }
+    {
+        self.rest(link)?;
+        self.read_piece(link)
+    }
+
     /// Takes the bytes before `end` away, and returns those from `start` on.
     pub(crate) fn take(
         &mut self,
@@ -71,6 +112,7 @@ impl Kept {
     {
         let taken = self.bytes[start..end].to_vec(alloc)?;
         self.bytes = self.bytes[end..].to_vec(alloc)?;
+        self.used_up = self.bytes.is_empty();
         Ok(taken)
     }
 }

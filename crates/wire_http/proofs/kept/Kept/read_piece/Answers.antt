@@ -1,6 +1,6 @@
 use Rattle.std.proofs.Common.{rules, append_assoc}
 use Rattle.std.proofs.lemmas.List.{take-append-drop}
-use Rattle.wire_http.proofs.kept.Kept.receive.Goals as goal
+use Rattle.wire_http.proofs.kept.Kept.read_piece.Goals as goal
 
 pub returns-in-Err-clause-end : goal.returns-in-Err-clause-end
 returns-in-Err-clause-end g c = search rules

@@ -1,0 +1,36 @@
+// Errors of a listener that pass.
+use std::io;
+use std::io::ErrorKind;
+
+/// Whether a listener has an error that passes, of which standard error has a line.
+#[derive(Drop)]
+pub struct Trouble {
+    is_told: bool,
+}
+
+impl Trouble {
+    /// No error.
+    pub fn none() -> Trouble {
+        Trouble { is_told: false }
+    }
+
+    /// Writes a line on the first error. A connection that ended before it was accepted has none.
+    pub fn begin(&mut self, rt: &HostRuntime, cause: &io::Error) {
+        let is_of_connection = matches!(
+            cause.kind(),
+            ErrorKind::Interrupted | ErrorKind::ConnectionAborted | ErrorKind::ConnectionReset
+        );
+        if !self.is_told && !is_of_connection {
+            let _ = eprintln!(rt; "shadowd: connections have to wait: {cause}");
+            self.is_told = true;
+        }
+    }
+
+    /// Writes a line when connections are accepted again.
+    pub fn end(&mut self, rt: &HostRuntime) {
+        if self.is_told {
+            let _ = eprintln!(rt; "shadowd: connections are accepted again");
+            self.is_told = false;
+        }
+    }
+}
