@@ -8,6 +8,7 @@ use crate::HostLink;
 use crate::again::accept_again;
 use crate::fault_count::FaultCount;
 use crate::idle_streams::IdleStreams;
+use crate::trouble::tell_end;
 use exam_edge::{Door, Failed, Memory};
 use std::alloc::Global;
 use std::io;
@@ -142,10 +143,14 @@ impl HostDoor {
         let Some(listener) = &self.listener else {
             return Err(io::Error::new(ErrorKind::NotConnected, "no listener"));
         };
-        match &mut self.idle {
+        let given = match &mut self.idle {
             Some(idle) => idle.next(&self.rt, listener),
             None => accept_again(&self.rt, listener),
+        };
+        if let Err(cause) = &given {
+            tell_end(&self.rt, cause);
         }
+        given
     }
 
     // One link less is to come.

@@ -2,6 +2,11 @@
 use std::io;
 use std::io::ErrorKind;
 
+/// Writes a line on a worker that ends, since its door failed.
+pub fn tell_end(rt: &HostRuntime, cause: &io::Error) {
+    let _ = eprintln!(rt; "shadowd: a worker ends: {cause}");
+}
+
 /// Whether a listener has an error that passes, of which standard error has a line.
 #[derive(Drop)]
 pub struct Trouble {
