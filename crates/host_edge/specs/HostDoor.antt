@@ -15,6 +15,10 @@ left_of door = door.left
 abbrev pub out_of : HostDoor → Bool
 out_of door = door.out
 
+-- whether it gave its end since the journal is lost
+abbrev pub ended_of : HostDoor → Bool
+ended_of door = door.ended
+
 -- its faults
 abbrev pub faults_of : HostDoor → FaultCount
 faults_of door = door.faults

@@ -33,3 +33,8 @@ impl Closing {
         self.flag.load(Ordering::SeqCst)
     }
 }
+
+/// Whether a flag is there and set.
+pub(crate) fn is_closing(closing: Option<&Closing>) -> bool {
+    closing.is_some_and(|closing| closing.is_set())
+}

@@ -2,10 +2,11 @@
 ghost use Rattle.std.specs.Prelude.{◌≡◌, ◌≢◌, ◌≤◌, ◌-◌, [], All, vec_len, Ok, Some, None, true, false, is_ok, is_some, option_map, IsErr, IsNone, IfOk, OnErr};
 ghost use Rattle.exam_edge.specs.Faults.{Rose};
 ghost use Rattle.host_edge.specs.FaultCount.{count_of, cause_of, IsCounted};
-ghost use Rattle.host_edge.specs.HostDoor.{listens, left_of, out_of, faults_of, IsLinkCounted};
+ghost use Rattle.host_edge.specs.HostDoor.{listens, left_of, out_of, ended_of, faults_of, IsLinkCounted};
 
 use crate::HostLink;
 use crate::again::accept_again;
+use crate::closing::{Closing, is_closing};
 use crate::fault_count::FaultCount;
 use crate::idle_streams::IdleStreams;
 use crate::trouble::tell_end;
@@ -18,7 +19,8 @@ use std::time::Duration;
 
 /// The connections of a listener, which other doors may share, one after another. It gives no more after a stated number
 /// of links, if there is one. If there is none, a connection that has nothing to read is no link: the door keeps it aside, and
-/// gives it when it has. A door without a listener fails at each accept. It does not report its links.
+/// gives it when it has. A door without a listener fails at each accept. Where the journal is lost, it gives no more links from
+/// the flag on that the journal's file sets. It does not report its links.
 #[derive(Drop)]
 pub struct HostDoor {
     rt: HostRuntime,
@@ -27,7 +29,17 @@ pub struct HostDoor {
     idle: Option<IdleStreams>,
     left: Option<u64>,
     out: bool,
+    closing: Option<Closing>,
+    ended: bool,
     faults: FaultCount,
+}
+
+// The same flag for one door more.
+fn share_of(closing: Option<&Closing>) -> Result<Option<Closing>, Memory> {
+    match closing {
+        Some(closing) => Ok(Some(closing.share()?)),
+        None => Ok(None),
+    }
 }
 
 impl HostDoor {
@@ -52,6 +64,8 @@ impl HostDoor {
             idle: None,
             left: links,
             out: false,
+            closing: None,
+            ended: false,
             faults: FaultCount::none(),
         }
     }
@@ -105,8 +119,8 @@ impl HostDoor {
     }
 
     /// So many doors, which share the listener if there is one, and of which each gives so many links. A link waits so long
-    /// for the first byte of a message. A door for which the system shares the listener no more has none. `Memory` where there
-    /// is no room for them.
+    /// for the first byte of a message. A door for which the system shares the listener no more has none. They end by the flag, if
+    /// there is one. `Memory` where there is no room for them.
     pub fn several(
         rt: HostRuntime,
         alloc: Global,
@@ -114,6 +128,7 @@ impl HostDoor {
         doors: u8,
         limit: Duration,
         links: Option<u64>,
+        closing: Option<&Closing>,
     ) -> Result<Vec<HostDoor>, Memory>
         ensures count { IfOk result (λ all. vec_len all ≡ doors) }
         ensures home { IfOk result (λ all. All (λ d. out_of d ≡ false) all.items) }
@@ -127,25 +142,30 @@ impl HostDoor {
         }
         let mut all = Vec::new(alloc);
         for _made in 0..doors {
-            all.push(HostDoor::shared(rt, alloc, listener, limit, links))?;
+            let mut door = HostDoor::shared(rt, alloc, listener, limit, links);
+            door.closing = share_of(closing)?;
+            all.push(door)?;
         }
         Ok(all)
     }
 
-    // The next connection of the listener, or one that was kept aside.
-    fn next_stream(&mut self) -> io::Result<TcpStream>
+    // The next connection of the listener, or one that was kept aside; none where the journal is lost.
+    fn next_stream(&mut self) -> io::Result<Option<TcpStream>>
         ensures listens { listens self.new ≡ listens self.old }
         ensures left { left_of self.new ≡ left_of self.old }
         ensures out { out_of self.new ≡ out_of self.old }
+        ensures ended { ended_of self.new ≡ ended_of self.old }
         ensures faults { faults_of self.new ≡ faults_of self.old }
         ensures deaf { listens self.old ≡ false → IsErr result }
     {
         let Some(listener) = &self.listener else {
             return Err(io::Error::new(ErrorKind::NotConnected, "no listener"));
         };
+        let closing = self.closing.as_ref();
         let given = match &mut self.idle {
-            Some(idle) => idle.next(&self.rt, listener),
-            None => accept_again(&self.rt, listener),
+            Some(idle) => idle.next(&self.rt, listener, closing),
+            None if is_closing(closing) => Ok(None),
+            None => accept_again(&self.rt, listener).map(Some),
         };
         if let Err(cause) = &given {
             tell_end(&self.rt, cause);
@@ -158,6 +178,7 @@ impl HostDoor {
         ensures left { left_of self.new ≡ option_map (λ n. n - 1) (left_of self.old) }
         ensures listens { listens self.new ≡ listens self.old }
         ensures out { out_of self.new ≡ true }
+        ensures ended { ended_of self.new ≡ ended_of self.old }
         ensures faults { faults_of self.new ≡ faults_of self.old }
     {
         if let Some(left) = self.left {
@@ -188,18 +209,23 @@ impl Door for HostDoor {
         ensures none { OnErr result (out_of self.new ≡ false) }
         ensures deaf { listens self.old ≡ false → IsErr result }
         ensures last { listens self.old ≡ true → left_of self.old ≡ Some 0 → result ≡ Ok None }
-        ensures left { IfOk result
-            (λ link. IsLinkCounted (is_some link) (left_of self.old) (left_of self.new)) }
+        ensures left { IfOk result (λ link. ended_of self.new ≡ false
+            → IsLinkCounted (is_some link) (left_of self.old) (left_of self.new)) }
+        ensures ended { ended_of self.new ≡ true → result ≡ Ok None }
         ensures counted { IsCounted (is_ok result) (faults_of self.old) (faults_of self.new) }
         ensures grows { count_of (faults_of self.old) ≤ count_of (faults_of self.new) }
         ensures failed { OnErr result
             (Rose (count_of (faults_of self.old)) (count_of (faults_of self.new))) }
     {
+        self.ended = false;
         if self.left == Some(0) && self.listener.is_some() {
             return Ok(None);
         }
         let given = self.next_stream();
-        let stream = self.faults.answer(given)?;
+        let Some(stream) = self.faults.answer(given)? else {
+            self.ended = true;
+            return Ok(None);
+        };
         self.count_link();
         Ok(Some(HostLink::of(self.rt, stream, self.limit, self.idle.is_some())))
     }

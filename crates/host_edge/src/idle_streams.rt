@@ -1,5 +1,6 @@
 // The connections of one door that no worker serves.
 use crate::again::{Accepted, PAUSE, accept_once};
+use crate::closing::{Closing, is_closing};
 use crate::trouble::Trouble;
 use mio::unix::SourceFd;
 use mio::{Events, Interest, Poll, Token};
@@ -166,14 +167,19 @@ impl IdleStreams {
         }
     }
 
-    /// The next connection that has something to read, or that its client has ended.
+    /// The next connection that has something to read, or that its client has ended. None once the flag is set, at most a second
+    /// later.
     pub(crate) fn next(
         &mut self,
         rt: &HostRuntime,
         listener: &TcpListener,
-    ) -> io::Result<TcpStream> {
+        closing: Option<&Closing>,
+    ) -> io::Result<Option<TcpStream>> {
         let mut wait = 0;
         for _ in 0..u64::MAX {
+            if is_closing(closing) {
+                return Ok(None);
+            }
             self.look(wait)?;
             wait = if self.may_accept {
                 self.admit(rt, listener)?
@@ -181,7 +187,7 @@ impl IdleStreams {
                 TICK
             };
             if let Some(stream) = self.take_ready() {
-                return Ok(stream);
+                return Ok(Some(stream));
             }
             self.end_overdue(rt)?;
         }

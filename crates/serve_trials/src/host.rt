@@ -362,7 +362,7 @@ fn answers_and_rests<R: Abort>(rt: &R, door: &mut HostDoor) -> Result<(), Fail>
 
 fn gives_it_twice<R: Abort>(rt: &R, host: HostRuntime, listener: TcpListener) -> Result<(), Fail> {
     let limit = Duration::from_secs(60);
-    let mut doors = HostDoor::several(host, host.alloc(), Some(&listener), 1, limit, None)?;
+    let mut doors = HostDoor::several(host, host.alloc(), Some(&listener), 1, limit, None, None)?;
     let door = doors.as_mut_slice();
     match door.first_mut() {
         Some(door) => {

@@ -80,11 +80,12 @@ fn announce(rt: &HostRuntime, settings: &Settings, listener: &io::Result<TcpList
 }
 
 /// The doors of the workers, if the words ask for connections. They share one listener, and have
-/// none if the address can't be had.
+/// none if the address can't be had. Each ends by the flag.
 fn doors_of(
     rt: &HostRuntime,
     words: &[String],
     settings: &Settings,
+    closing: &Closing,
 ) -> Result<Vec<HostDoor>, AllocError>
     ensures few { IfOk result (λ doors. vec_len doors ≤ 255) }
     ensures home { IfOk result (λ doors. All (λ d. out_of d ≡ false) doors.items) }
@@ -102,6 +103,7 @@ fn doors_of(
         settings.workers,
         Duration::from_secs(settings.idle),
         settings.connections,
+        Some(closing),
     )
 }
 
@@ -132,7 +134,7 @@ fn begin(rt: &HostRuntime) -> io::Result<(Settings, Vec<String>, HostWorld)>
     let settings = Settings::of(rt)?;
     let words = words_of(rt)?;
     let closing = Closing::new(rt.alloc())?;
-    let doors = doors_of(rt, &words, &settings)?;
+    let doors = doors_of(rt, &words, &settings, &closing)?;
     let world = world_of(rt, &words, &settings, &closing, doors)?;
     Ok((settings, words, world))
 }
