@@ -7,3 +7,4 @@ pub mod SideLaws
 pub mod LinearLaws
 pub mod MaximumLaws
 pub mod WalkLaws
+pub mod RowsOfA
