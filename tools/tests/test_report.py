@@ -8,9 +8,11 @@ import random
 import re
 import unittest
 from statistics import NormalDist
+from types import SimpleNamespace
 
 from common import PAGE, Folder, needs_page
 from shadowtools.command import Refused
+from shadowtools.formats.examination import BankItem, Session, plan_of
 from shadowtools.needs import is_there
 from test_simulate import ATTRIBUTES, Examination
 
@@ -19,6 +21,7 @@ if is_there(*PAGE):
 
     from shadowtools.agency.irt import Item
     from shadowtools.page import measures
+    from shadowtools.page.sections import alike, rule_row
     from shadowtools.page.study import interval_bands, read_target, target_of
 
 NORMAL = NormalDist()
@@ -115,6 +118,22 @@ class Overlap(unittest.TestCase):
         found = measures.mean_overlap(shown, 3)
         self.assertAlmostEqual(10 * shown.mean(0).var() / 3 + 3 / 10, (39 * found + 1) / 40, 9)
         self.assertTrue(math.isnan(measures.mean_overlap(shown[:1], 3)))
+
+
+@needs_page
+class RulesOfPassages(unittest.TestCase):
+    def test_passages_with_the_same_bounds_are_one_row(self):
+        """Two tests: the first has two and three items of passages 1 and 2, the second two of passage 3 alone."""
+        rules = plan_of("# per passage\nstimulus 1 2 3\nstimulus 2 2 3\nstimulus 3 1 3\n# all\ncount 0 9 0-7\nstimulus 4 1 3\nstimulus 5 1 3\n").rules
+        groups = alike(rules)
+        self.assertEqual([[rule.number for rule in group] for group in groups], [[1, 2], [3], [0], [4, 5]])
+        bank = [BankItem(passage, [], [], []) for passage in (1, 1, 2, 2, 2, 3, 3, 0)]
+        sessions = [Session(items=[0, 1, 2, 3, 4]), Session(items=[5, 6])]
+        study = SimpleNamespace(sessions=sessions, examination=SimpleNamespace(bank=bank, map={"passages": list("ABCDE")}))
+        self.assertEqual(rule_row(study, groups[0], 0), ["per passage (2 passages)", "2", "3", "1", "2", "2.5", "3", "50%", "50%", "0"])
+        self.assertEqual(rule_row(study, groups[1], 0), ["per passage, passage 3 (C)", "1", "3", "1", "2", "2.0", "2", "0%", "0%", "0"])
+        self.assertEqual(rule_row(study, groups[2], 1), ["all", "0", "9", "2", "2", "3.5", "5", "0%", "0%", "1"])
+        self.assertEqual(rule_row(study, groups[3], 0)[:5], ["each passage (2 passages)", "1", "3", "0", "–"])
 
 
 @needs_page
@@ -261,8 +280,8 @@ class Pages(Examination):
         page = self.read("page.html")
         self.assertNotIn(key, page)
         self.assertIn("key (not shown)", page)
-        shown = [float(row["exposure"]) for row in self.rows("page.items.csv")]
-        self.assertIn(f"{sum(rate > 2 / 3 for rate in shown)} items are above the rate of 66.7%", page)
+        above = sum(float(row["exposure"]) > 2 / 3 for row in self.rows("page.items.csv"))
+        self.assertIn(f"{above} {'item is' if above == 1 else 'items are'} above the rate of 66.7%", page)
 
     def test_a_broken_rule_is_told(self):
         self.simulate(fake="rules")

@@ -1,7 +1,7 @@
 """The sections of the page below its verdicts, each from the study alone."""
 import os
 import re
-from typing import List
+from typing import List, Sequence, Tuple
 
 import numpy as np
 
@@ -64,29 +64,51 @@ def rate(study: Study) -> str:
 # ---------------------------------------------------------------- rules
 
 def rules(study: Study) -> Section:
-    broken = [sum(one.rule is rule for one in study.broken) for rule in study.rules]
+    groups = alike(study.rules)
+    broken = [len({one.session for one in study.broken if one.rule in group}) for group in groups]
     table = Table(["Rule", "Low", "High", "Tests", "Least", "Mean", "Greatest", "At low", "At high", "Broken in"],
-                  [rule_row(study, rule, bad) for rule, bad in zip(study.rules, broken)],
+                  [rule_row(study, group, bad) for group, bad in zip(groups, broken)],
                   marked=frozenset((row, 9) for row, bad in enumerate(broken) if bad))
     said = f"Rules are broken in {len({one.session for one in study.broken})} tests." if study.broken else "No rule is broken."
     return Section("rules", "Rules of the plan", [Note(said, "bad" if study.broken else "note"), table, Note(
         "Counted here from the items of each test, the tails with them, by a reader of the plan that shares nothing with the "
-        "product. The rule of a passage is counted in the tests that use it. A rule that is at a bound in most tests may cost "
-        "information.")])
+        "product. The rule of a passage is counted in the tests that use it; passages with the same bounds are in one row. A rule "
+        "that is at a bound in most tests may cost information.")])
 
 
-def rule_row(study: Study, rule: Rule, bad: int) -> List[str]:
-    """A rule with its bounds, and its values over the tests that it speaks of."""
-    label, passages = rule.label, study.examination.map["passages"]
-    if rule.kind == "stimulus" and rule.number <= len(passages):
-        label = f"{label} ({passages[rule.number - 1]})"
-    values = [rule.value(session.items, study.examination.bank) for session in study.sessions]
-    values = np.array([value for value in values if value is not None])
-    begin = [label, f"{rule.low:,}", f"{rule.high:,}", f"{len(values):,}"]
+def alike(found: Sequence[Rule]) -> List[List[Rule]]:
+    """The rules in order, each alone but for rules of passages that follow one another with the same remark and bounds."""
+    groups: List[List[Rule]] = []
+    for rule in found:
+        if groups and rule.kind == "stimulus" and family(rule) == family(groups[-1][0]):
+            groups[-1].append(rule)
+        else:
+            groups.append([rule])
+    return groups
+
+
+def family(rule: Rule) -> Tuple[str, str, int, int]:
+    """What rules of passages have in common: the kind, the remark and the bounds."""
+    remark = rule.label.removesuffix(f", passage {rule.number}")
+    return rule.kind, "" if remark == rule.text else remark, rule.low, rule.high
+
+
+def rule_row(study: Study, group: Sequence[Rule], bad: int) -> List[str]:
+    """A rule with its bounds, and its values over the tests that it speaks of; or rules of passages that are alike."""
+    first, passages = group[0], study.examination.map["passages"]
+    tests = [[value for rule in group if (value := rule.value(session.items, study.examination.bank)) is not None]
+             for session in study.sessions]
+    values = np.array([value for one in tests for value in one])
+    label = first.label
+    if len(group) > 1:
+        label = f"{family(first)[1] or 'each passage'} ({len(group)} passages)"
+    elif first.kind == "stimulus" and first.number <= len(passages):
+        label = f"{label} ({passages[first.number - 1]})"
+    begin = [label, f"{first.low:,}", f"{first.high:,}", f"{sum(map(bool, tests)):,}"]
     if len(values) == 0:
         return begin + ["–"] * 5 + ["0"]
-    return begin + [f"{values.min():,}", f"{values.mean():,.1f}", f"{values.max():,}", f"{(values == rule.low).mean():.0%}",
-                    f"{(values == rule.high).mean():.0%}", f"{bad:,}"]
+    return begin + [f"{values.min():,}", f"{values.mean():,.1f}", f"{values.max():,}", f"{(values == first.low).mean():.0%}",
+                    f"{(values == first.high).mean():.0%}", f"{bad:,}"]
 
 
 # ---------------------------------------------------------------- precision and recovery

@@ -65,19 +65,18 @@ def target(study: Study) -> Iterator[Verdict]:
 
 def exposure(study: Study) -> Iterator[Verdict]:
     rates = study.exposure(study.sample)
-    most, never = study.names[rates.argmax()], int((rates == 0).sum())
-    unseen = f"{never} of {len(rates)} items are never shown"
+    most, unseen = study.names[rates.argmax()], f"{counted((rates == 0).sum())} never shown"
     if not study.controlled:
-        yield Verdict(MEASURED, f"The plan has no exposure rate. {(rates > 0.9).sum()} items are shown in more than 90 % of the tests, "
-                             f"and {unseen}.")
+        yield Verdict(MEASURED, f"The plan has no exposure rate. Of {len(rates)} items {counted((rates > 0.9).sum())} shown in more than 90% of the "
+                                f"tests, and {unseen}.")
         return
     above = int((rates > study.rate).sum())
-    if above:
-        yield Verdict(NOT_MET, f"{above} items are above the rate of {study.rate:.1%}; the greatest exposure is {rates.max():.1%} "
-                               f"(item {most}). {unseen[0].upper()}{unseen[1:]}.")
-    else:
-        yield Verdict(MET, f"No item is above the rate of {study.rate:.1%}; the greatest exposure is {rates.max():.1%} "
-                           f"(item {most}). {unseen[0].upper()}{unseen[1:]}.")
+    yield Verdict(NOT_MET if above else MET, f"{above} {'item is' if above == 1 else 'items are'} above the rate of {study.rate:.1%}; the greatest exposure is {rates.max():.1%} "
+                                             f"(item {most}). Of {len(rates)} items {unseen}.")
+
+
+def counted(number: int) -> str:
+    return f"{number} is" if number == 1 else f"{number} are"
 
 
 def overlap(study: Study) -> Verdict:
