@@ -18,7 +18,7 @@ have, a rule without its condition, and a Number or Sum without a bound.
 """
 import math
 from dataclasses import dataclass, field
-from typing import List, Sequence
+from typing import Dict, List, Sequence
 
 from shadowtools.agency.conditions import BadCondition, chosen
 from shadowtools.agency.irt import Item
@@ -55,7 +55,7 @@ class Blueprint:
 class Compiler:
     """The rules of one table of constraints."""
 
-    def __init__(self, path, items, passages, quantities, dialect):
+    def __init__(self, path: str, items: List[Item], passages: List[str], quantities: Sequence[str], dialect: Dialect) -> None:
         self.path, self.items, self.passages, self.quantities, self.dialect = path, items, passages, quantities, dialect
         self.attributes = [item.attributes for item in items]
         self.length, self.covered, self.warnings = 0, set(), []
@@ -82,7 +82,7 @@ class Compiler:
             raise Refused(f"{self.path}: line {line} column {column}: {row[column]!r} is not a whole number from 0 up")
         return int(value)
 
-    def read(self):
+    def read(self) -> List[Rule]:
         head, rows = read_table(self.path, self.dialect)
         for needed in ("TYPE", "WHAT", "CONDITION", "LB", "UB"):
             if needed not in head:
@@ -237,7 +237,7 @@ class Compiler:
         return f"stimulus {len(self.passages)} {len(found)} {len(found)}"
 
 
-def is_length(row):
+def is_length(row: Dict[str, str]) -> bool:
     return (row["TYPE"].lower(), row["WHAT"].lower()) == ("number", "item") and row["CONDITION"] in ABSENT
 
 
@@ -258,7 +258,7 @@ def compile_blueprint(path: str, items: List[Item], passages: Sequence[str], qua
     return Blueprint(compiler.length, rules, passages, warnings + clashes, clashes)
 
 
-def disagreements(length, rules, items):
+def disagreements(length: int, rules: Sequence[Rule], items: int) -> List[str]:
     """Counts over disjoint sets whose lows pass the length, or, where they cover the bank, whose highs do not reach it."""
     found, groups = [], {}
     for rule in rules:

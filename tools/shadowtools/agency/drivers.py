@@ -12,6 +12,7 @@ import socket
 import subprocess
 import threading
 import time
+from typing import Any, Callable, List, Optional, Sequence, Tuple
 
 from shadowtools.command import Refused
 
@@ -27,11 +28,11 @@ class Stopped(Refused):
 class Progress:
     """Tells how many answers were given, at most every few seconds."""
 
-    def __init__(self, answers, tell, pause=5.0):
+    def __init__(self, answers: int, tell: Callable[[str], None], pause: float = 5.0) -> None:
         self.answers, self.tell, self.pause = answers, tell, pause
         self.begun = self.told = time.perf_counter()
 
-    def note(self, given):
+    def note(self, given: int) -> None:
         now = time.perf_counter()
         if now - self.told >= self.pause:
             self.told = now
@@ -43,12 +44,12 @@ class Progress:
 class Replay:
     """`shadowd replay` over one journal."""
 
-    def __init__(self, program, bank, plan, journal, folder):
+    def __init__(self, program: str, bank: str, plan: str, journal: str, folder: str) -> None:
         self.words = [program, "replay", bank, plan, os.path.join(folder, "script.txt")]
         self.environment = dict(os.environ, SHADOWD_JOURNAL=journal)
         self.runs = 0
 
-    def replies(self, requests):
+    def replies(self, requests: Sequence[str]) -> List[str]:
         """The reply to each request of one run."""
         with open(self.words[-1], "w", encoding="ascii") as file:
             file.write("".join(request + "\n" for request in requests))
@@ -63,7 +64,7 @@ class Replay:
         return lines
 
 
-def next_request(examinee, request, reply, responses):
+def next_request(examinee: int, request: str, reply: str, responses) -> Optional[str]:
     """The request after a reply, or None where the session is complete."""
     waiting = WAITING.fullmatch(reply)
     if waiting:
@@ -93,7 +94,7 @@ def by_replay(replay, responses, group, progress, examinees=None):
     return seconds
 
 
-def exposure_of_lines(lines):
+def exposure_of_lines(lines: Sequence[str]) -> Tuple[int, List[Tuple[int, int]]]:
     """The counts of an exposure reply: finished sessions, and by item how often shown and eligible."""
     finished = re.fullmatch(r"exposure finished (\d+)", lines[0])
     rows = [re.fullmatch(r"item \d+ shown (\d+) eligible (\d+)", line) for line in lines[1:]]
@@ -102,7 +103,7 @@ def exposure_of_lines(lines):
     return int(finished.group(1)), [(int(row.group(1)), int(row.group(2))) for row in rows]
 
 
-def replay_exposure(replay, items):
+def replay_exposure(replay: Replay, items: int) -> Tuple[int, List[Tuple[int, int]]]:
     with open(replay.words[-1], "w", encoding="ascii") as file:
         file.write("exposure\n")
     done = subprocess.run(replay.words, env=replay.environment, stdin=subprocess.DEVNULL, capture_output=True, text=True)
@@ -121,7 +122,7 @@ class Lost(Stopped):
 class Server:
     """`shadowd serve`, started here: as many workers as clients, each of which takes one connection and then ends."""
 
-    def __init__(self, program, bank, plan, journal, workers):
+    def __init__(self, program: str, bank: str, plan: str, journal: str, workers: int) -> None:
         environment = dict(os.environ, SHADOWD_JOURNAL=journal, SHADOWD_LISTEN="127.0.0.1:0",
                            SHADOWD_WORKERS=str(workers), SHADOWD_CONNECTIONS="1")
         self.process = subprocess.Popen([program, "serve", bank, plan], env=environment, stdin=subprocess.DEVNULL,
@@ -132,7 +133,7 @@ class Server:
             raise self.stopped(f"it names no address: {line.strip()!r}")
         self.address = found.group(1), int(found.group(2))
 
-    def connection(self):
+    def connection(self) -> http.client.HTTPConnection:
         try:
             made = http.client.HTTPConnection(*self.address, timeout=600)
             made.connect()
@@ -141,7 +142,7 @@ class Server:
         except OSError as error:
             raise self.stopped(error)
 
-    def stopped(self, why, patience=5.0):
+    def stopped(self, why: object, patience: float = 5.0) -> Stopped:
         """What to tell where no response came: how the server ended, if it did."""
         try:
             said, _ = self.process.communicate(timeout=patience)
@@ -149,7 +150,7 @@ class Server:
             return Stopped(f"serve goes on, but {why}")
         return Stopped(f"serve ended with status {self.process.returncode}: {' '.join(said.split())[:200]}; {why}")
 
-    def end(self, patience=20.0):
+    def end(self, patience: float = 20.0) -> str:
         """Waits for the end, and stops a server that does not end; the last line that it printed."""
         try:
             said, _ = self.process.communicate(timeout=patience)
@@ -162,10 +163,10 @@ class Server:
 class Client:
     """One connection, over which one examinee after the other is served."""
 
-    def __init__(self, connection):
+    def __init__(self, connection: http.client.HTTPConnection) -> None:
         self.connection, self.seconds, self.answers = connection, [], 0
 
-    def asked(self, method, path, body=None):
+    def asked(self, method: str, path: str, body: Any = None) -> Any:
         """The JSON of a response; refusals are exceptions."""
         begun = time.perf_counter()
         try:
@@ -179,7 +180,7 @@ class Client:
             raise Stopped(f"{method} {path}: status {response.status}: {text.decode()[:80]}")
         return json.loads(text)
 
-    def examinee(self, k, responses):
+    def examinee(self, k: int, responses) -> None:
         """One whole session."""
         told = self.asked("POST", "/sessions", {"booking": k})
         while told["state"] == "waiting":

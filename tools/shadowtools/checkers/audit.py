@@ -27,7 +27,7 @@ import re
 import struct
 import sys
 from collections import namedtuple
-from typing import BinaryIO, NamedTuple, Optional, Sequence
+from typing import BinaryIO, Callable, Dict, Iterator, List, NamedTuple, Optional, Sequence, Tuple
 
 from shadowtools.checkers import check_tree
 from shadowtools.command import Refused, as_command
@@ -42,7 +42,7 @@ Rules = namedtuple("Rules", "bank plan categories likelihood rate key budget ses
 
 # ---------------------------------------------------------------- bank and plan
 
-def read_responses(path, bank):
+def read_responses(path: str, bank: check_tree.Bank) -> Tuple[List[int], List[List[List[int]]]]:
     """The number of categories of each item, and its log-likelihoods by response and grid point."""
     with open(path, newline="") as file:
         header, *records = [record for record in csv.reader(file) if record]
@@ -53,7 +53,7 @@ def read_responses(path, bank):
     return categories, likelihood
 
 
-def read_limits(path):
+def read_limits(path: str) -> Dict[str, object]:
     """What the lines of the plan say that a form doesn't depend on."""
     limits = dict(DEFAULTS)
     with open(path) as file:
@@ -68,7 +68,7 @@ def read_limits(path):
     return limits
 
 
-def read_rules(bank_path, plan_path):
+def read_rules(bank_path: str, plan_path: str) -> Rules:
     bank = check_tree.read_bank(bank_path)
     plan = check_tree.read_plan(plan_path, bank)
     categories, likelihood = read_responses(bank_path, bank)
@@ -84,7 +84,7 @@ def quarter(x, a, b, c, d):
         x[other] = (mixed << turn | mixed >> 32 - turn) % 2**32
 
 
-def chacha_block(key, stream, number):
+def chacha_block(key: bytes, stream: int, number: int) -> List[int]:
     """The sixteen words of a block of ChaCha20, with a counter and a stream of 64 bits each."""
     start = list(struct.unpack("<16I", b"expand 32-byte k" + key + struct.pack("<QQ", number, stream)))
     x = list(start)
@@ -197,7 +197,7 @@ class Fields:
         return vectors, read
 
 
-def read_record(payload):
+def read_record(payload: bytes) -> Tuple[int, tuple]:
     """The kind of a record and its fields, in the order of the format."""
     fields = Fields(payload)
     kind = fields.number(1)
@@ -296,7 +296,7 @@ class Judge:
 
 # ---------------------------------------------------------------- the journal
 
-def frames(file, size):
+def frames(file: BinaryIO, size: int) -> Iterator[Tuple[int, int]]:
     """The place of each record's gate with its payload's place and length, and then the place of the first closed gate."""
     file.seek(0)
     if file.read(8) != HEADER:
@@ -318,7 +318,7 @@ def frames(file, size):
         at += 5 + length
 
 
-def audit(rules, file, note=lambda at, nodes, said, spent: None):
+def audit(rules: Rules, file: BinaryIO, note: Callable[[int, int, str, bool], None] = lambda at, nodes, said, spent: None) -> History:
     """The history of a journal. The frames are tested to the end before the first record."""
     size = file.seek(0, 2)
     if size > rules.journal:
@@ -333,7 +333,7 @@ def audit(rules, file, note=lambda at, nodes, said, spent: None):
     return judge.history
 
 
-def lines(history):
+def lines(history: History) -> Iterator[str]:
     H = history
     yield (f"entries {H.entries} sessions {len(H.sessions)} finished {H.finished} proved {H.proved} unproved {H.unproved} "
            f"aside {H.aside} nodes {H.nodes}")

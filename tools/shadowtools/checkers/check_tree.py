@@ -27,6 +27,7 @@ import math
 import random
 import sys
 from collections import namedtuple
+from typing import Dict, FrozenSet, Iterable, List, Optional, Sequence, Set, Tuple
 
 from shadowtools.command import as_command
 
@@ -37,9 +38,12 @@ Bank = namedtuple("Bank", "items grid stimuli")
 Row = namedtuple("Row", "kind low high members attribute")
 Plan = namedtuple("Plan", "length prior rows bounds")
 Problem = namedtuple("Problem", "bank plan theta given barred start")
+# The vectors of a tree, each a multiplier by the number of a side, and its nodes, each a kind and a value.
+Vectors = List[Dict[int, int]]
+Nodes = List[Tuple[int, Optional[int]]]
 
 
-def read_bank(path):
+def read_bank(path: str) -> Bank:
     with open(path, newline="") as f:
         records = [r for r in csv.reader(f) if r]
     header = records[0]
@@ -52,7 +56,7 @@ def read_bank(path):
     return Bank(items, grid, max(i.stimulus for i in items))
 
 
-def read_set(words):
+def read_set(words: Iterable[str]) -> FrozenSet[int]:
     out = set()
     for word in words:
         low, _, high = word.partition("-")
@@ -60,7 +64,7 @@ def read_set(words):
     return frozenset(out)
 
 
-def read_plan(path, bank):
+def read_plan(path: str, bank: Bank) -> Plan:
     length, prior, rows, bounds = None, None, [], {}
     with open(path) as f:
         for line in f:
@@ -85,7 +89,7 @@ def read_plan(path, bank):
     return Plan(length, prior, rows, [bounds.get(s, (1, 512)) for s in range(1, bank.stimuli + 1)])
 
 
-def amount(P, row, items, stimuli):
+def amount(P: Problem, row: Row, items: Iterable[int], stimuli: Iterable[int]) -> int:
     """What items and stimuli come to on a row."""
     if row.kind == "stimuli":
         return len(stimuli)
@@ -94,15 +98,15 @@ def amount(P, row, items, stimuli):
     return sum(1 for i in items if i in row.members)
 
 
-def stimuli_of(P, items):
+def stimuli_of(P: Problem, items: Iterable[int]) -> Set[int]:
     return {P.bank.items[i].stimulus for i in items} - {0}
 
 
-def of_stimulus(P, items, s):
+def of_stimulus(P: Problem, items: Iterable[int], s: int) -> int:
     return sum(1 for i in items if P.bank.items[i].stimulus == s)
 
 
-def is_form(P, X):
+def is_form(P: Problem, X: FrozenSet[int]) -> bool:
     if len(X) != P.plan.length or any(i >= len(P.bank.items) for i in X):
         return False
     if not (P.given <= X) or X & P.barred:
@@ -113,7 +117,7 @@ def is_form(P, X):
     return all(P.plan.bounds[s - 1][0] <= of_stimulus(P, X, s) <= P.plan.bounds[s - 1][1] for s in used)
 
 
-def objective(P, X):
+def objective(P: Problem, X: FrozenSet[int]) -> int:
     return sum(P.bank.items[i].info[P.theta] for i in X)
 
 
@@ -123,7 +127,7 @@ class Fault(Exception):
     pass
 
 
-def read_tree(data):
+def read_tree(data: bytes) -> Tuple[Vectors, Nodes, int]:
     """The vectors, the nodes and the number of bytes used."""
     at = 0
 
@@ -174,7 +178,7 @@ def read_tree(data):
     return vectors, nodes, at
 
 
-def write_tree(vectors, nodes):
+def write_tree(vectors: Vectors, nodes: Nodes) -> bytes:
     out = bytes([len(vectors)])
     for v in vectors:
         out += len(v).to_bytes(2, "big")
@@ -199,20 +203,20 @@ Reduced = namedtuple("Reduced", "constant weight stimulus cap")
 LOW_CAP, HIGH_CAP = 384, 385
 
 
-def root(P):
+def root(P: Problem) -> Path:
     free = frozenset(range(len(P.bank.items))) - P.given - P.barred
     return Path(P.given, free, frozenset())
 
 
-def chosen(P, p):
+def chosen(P: Problem, p: Path) -> Set[int]:
     return stimuli_of(P, p.taken) | p.branched
 
 
-def opened(P, p):
+def opened(P: Problem, p: Path) -> Set[int]:
     return stimuli_of(P, p.free) - chosen(P, p)
 
 
-def below(P, p, kind, value):
+def below(P: Problem, p: Path, kind: int, value: int) -> List[Path]:
     """The paths below a branch, left first."""
     if kind == ITEM:
         rest = p.free - {value}
@@ -237,7 +241,7 @@ def stimulus_impossible(P, p, s, sure):
     return of_stimulus(P, p.taken, s) > high or s in sure and of_stimulus(P, p.taken | p.free, s) < low
 
 
-def impossible(P, p, number):
+def impossible(P: Problem, p: Path, number: int) -> bool:
     """Whether a row is impossible by counting: 0 is the length, then the plan's rows, then the stimuli."""
     if number == 0:
         return length_impossible(P, p)
@@ -246,7 +250,7 @@ def impossible(P, p, number):
     return number in rows(P) and stimulus_impossible(P, p, number - len(P.plan.rows), chosen(P, p))
 
 
-def some_impossible(P, p):
+def some_impossible(P: Problem, p: Path) -> bool:
     """Whether any row is impossible by counting."""
     sure, may = chosen(P, p), chosen(P, p) | opened(P, p)
     return (length_impossible(P, p) or any(row_impossible(P, p, row, sure, may) for row in P.plan.rows)
@@ -257,7 +261,7 @@ def rows(P):
     return range(len(P.plan.rows) + P.bank.stimuli + 1)
 
 
-def reduced(P, vector, ray):
+def reduced(P: Problem, vector: Dict[int, int], ray: bool) -> Reduced:
     """The constant, and the weight of each item and each stimulus, which don't depend on the path."""
     constant = 0
     weight = [0 if ray else 256 * item.info[P.theta] for item in P.bank.items]
@@ -293,7 +297,7 @@ def cap_of(vector):
     return vector.get(LOW_CAP, 0) - vector.get(HIGH_CAP, 0)
 
 
-def maximum(P, p, r):
+def maximum(P: Problem, p: Path, r: Reduced) -> Optional[int]:
     """The relaxed maximum with reduced weights, or None where it isn't defined.
 
     What a free item of an open stimulus weighs above the cap goes to the stimulus."""
@@ -352,7 +356,7 @@ def reason(P, X, vectors, p, kind, value, known=None):
     return None if settled else "Better"
 
 
-def verdict(P, X, vectors, nodes):
+def verdict(P: Problem, X: Optional[FrozenSet[int]], vectors: Vectors, nodes: Nodes) -> str:
     if X is not None and not is_form(P, X):
         return "Bad 0 NotForm"
     waiting, open_leaves, known = [root(P)], 0, {}
@@ -369,7 +373,7 @@ def verdict(P, X, vectors, nodes):
     return "NoForm" if X is None else "Optimal"
 
 
-def spent(P, nodes, budget):
+def spent(P: Problem, nodes: Nodes, budget: int) -> bool:
     kinds = [kind for kind, _ in nodes]
     if len(nodes) != budget or OPEN not in kinds:
         return False
@@ -394,7 +398,7 @@ def spent(P, nodes, budget):
 
 # ---------------------------------------------------------------- all sets of items
 
-def best_of_all(P):
+def best_of_all(P: Problem) -> Optional[FrozenSet[int]]:
     """A best form over all sets of items, or None."""
     free = sorted(set(range(len(P.bank.items))) - P.given - P.barred)
     best = None
@@ -405,7 +409,7 @@ def best_of_all(P):
     return best
 
 
-def contradicts(P, X, said):
+def contradicts(P: Problem, X: Optional[FrozenSet[int]], said: str) -> bool:
     """Whether all sets of items say otherwise."""
     if said not in ("Optimal", "NoForm"):
         return False
@@ -417,7 +421,7 @@ def contradicts(P, X, said):
 
 # ---------------------------------------------------------------- trials
 
-def any_problem(rng):
+def any_problem(rng: random.Random) -> Problem:
     count, grid, kinds = rng.randint(3, 9), rng.randint(1, 3), rng.randint(0, 2)
     stimuli = rng.choice([0, 0, 1, 2, 3])
     items = [Item(rng.randint(0, stimuli), [rng.randint(0, 9) for _ in range(kinds)], [rng.randint(0, 20) for _ in range(grid)])
@@ -446,7 +450,7 @@ def any_problem(rng):
                    frozenset(sets[:given]), frozenset(sets[given:given + barred]), None)
 
 
-def any_vectors(rng, P):
+def any_vectors(rng: random.Random, P: Problem) -> Vectors:
     sides = 2 * len(P.plan.rows) + 2 * P.bank.stimuli
     vectors = [{s: rng.randint(1, 900) for s in rng.sample(range(sides), rng.randint(0, sides))} for _ in range(rng.randint(0, 4))]
     for vector in vectors:
@@ -473,7 +477,7 @@ def search(rng, P, X, vectors, p, nodes):
         search(rng, P, X, vectors, q, nodes)
 
 
-def trials(count, seed):
+def trials(count: int, seed: int) -> int:
     rng, seen, wrong = random.Random(seed), {}, 0
     for number in range(count):
         P = any_problem(rng)
@@ -516,7 +520,7 @@ def trials(count, seed):
 
 # ---------------------------------------------------------------- command line
 
-def main(words):
+def main(words: Sequence[str]) -> int:
     if words[:1] == ["--trials"] and len(words) in (2, 3):
         return trials(int(words[1]), int(words[2]) if len(words) == 3 else 1)
     options, plain = {}, []

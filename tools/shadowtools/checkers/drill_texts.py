@@ -8,6 +8,7 @@ so that the texts of crate bank_maker have a second source. Exit status: 0, or 2
 """
 import os
 import sys
+from typing import Sequence
 
 from shadowtools.command import as_command
 
@@ -28,7 +29,7 @@ def draw_items(draw):
     return [(next(draw) % 11, 200 + next(draw) % 801, 30 + next(draw) % 91) for _ in ITEMS]
 
 
-def bank_text(items):
+def bank_text(items: list) -> str:
     header = ["item", "stimulus", "categories", "q0"]
     header += [f"i{g}" for g in POINTS]
     header += [f"l{r}_{g}" for r in (0, 1) for g in POINTS]
@@ -42,7 +43,7 @@ def bank_text(items):
     return "".join(",".join(map(str, record)) + "\n" for record in records)
 
 
-def set_text(items):
+def set_text(items: Sequence[int]) -> str:
     """A set of items as its maximal runs."""
     runs = []
     for i in sorted(items):
@@ -53,7 +54,7 @@ def set_text(items):
     return " ".join(f"{low}" if low == high else f"{low}-{high}" for low, high in runs)
 
 
-def plan_text(number, sessions, items):
+def plan_text(number: int, sessions: int, items: list) -> str:
     high = sum(items[i][2] for i in range(30, 50)) + 50
     lines = ["length 20", "prior " + " ".join(str(-20 * (g - 5) ** 2) for g in POINTS), "rate 1 4"]
     lines += ["key " + number.to_bytes(8, "big").hex() * 4]
@@ -81,13 +82,13 @@ def script_text(sessions, draw):
     return "".join(line + "\n" for line in lines)
 
 
-def number_in(word, low, high):
+def number_in(word: str, low: int, high: int) -> int:
     if not (word.isascii() and word.isdigit() and (word == "0" or word[0] != "0") and low <= int(word) <= high):
         raise ValueError(word)
     return int(word)
 
 
-def main(words):
+def main(words: Sequence[str]) -> int:
     try:
         number, sessions, folder = words
         number, sessions = number_in(number, 0, 2**32 - 1), number_in(sessions, 1, 200)

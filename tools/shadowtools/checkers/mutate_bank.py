@@ -20,6 +20,7 @@ import os
 import subprocess
 import sys
 import tempfile
+from typing import List, Optional, Sequence, Tuple
 
 from shadowtools.command import Refused, as_command
 
@@ -43,7 +44,7 @@ EXAMINEES = list(itertools.product((0, 1), repeat=LENGTH))
 # ---- the records of a text
 
 
-def records(text):
+def records(text: bytes) -> List[List[bytes]]:
     """The records of a CSV text, as RFC 4180 and its usual readers have them.
 
     Fields are parted by commas. A field that begins with a quote goes on to the next quote that isn't doubled; what
@@ -96,7 +97,7 @@ def records(text):
 # ---- the bank in the records
 
 
-def number(text):
+def number(text: bytes) -> Optional[int]:
     """The number of at most nine digits that a text writes, or None."""
     if not text or len(text) > 9 or any(byte not in b"0123456789" for byte in text):
         return None
@@ -105,14 +106,14 @@ def number(text):
     return int(text)
 
 
-def signed(text):
+def signed(text: bytes) -> Optional[int]:
     if text.startswith(b"-"):
         found = number(text[1:])
         return -found if found else None
     return number(text)
 
 
-def names(quantities, grid, responses):
+def names(quantities: int, grid: int, responses: int) -> List[bytes]:
     """The header of so many quantities, grid points and responses."""
     result = ["item", "stimulus", "categories"]
     result += ["q%d" % k for k in range(quantities)]
@@ -127,7 +128,7 @@ def shapes():
     return {tuple(names(q, g, m)): (q, g, m) for q in range(9) for g in range(1, 62) for m in range(2, 6)}
 
 
-def shape_of(columns):
+def shape_of(columns: List[bytes]) -> Tuple[int, int, int]:
     """The shape of a header; a header that is none departs at the length of the longest front that some header has."""
     found = shapes().get(tuple(columns))
     if found:
@@ -141,7 +142,7 @@ def shape_of(columns):
     raise Refused("bank: header column %d" % longest, "header")
 
 
-def read(text):
+def read(text: bytes) -> Tuple[int, list]:
     """The numbers of a bank text: grid points, and for each item stimulus, information, log-likelihoods by response."""
     if len(text) > 4194304:
         raise Refused("bank: too long", "too long")
@@ -325,7 +326,7 @@ def place_answers(job):
     return counts, wrong
 
 
-def main(words):
+def main(words: Sequence[str]) -> int:
     rest, plain, has_check, jobs, places, every = list(words), [], False, 4, range(len(BANK)), 1
     while rest:
         word = rest.pop(0)

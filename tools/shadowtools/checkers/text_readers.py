@@ -6,6 +6,7 @@ the line that is printed.
 """
 import re
 from collections import namedtuple
+from typing import FrozenSet, List, Optional, Sequence
 
 from shadowtools.checkers import check_tree
 from shadowtools.checkers.mutate_bank import number, signed
@@ -39,7 +40,7 @@ Plan = namedtuple("Plan", "lines bounds rows")
 Request = namedtuple("Request", "kind numbers")
 
 
-def lines_of(text):
+def lines_of(text: bytes) -> List[bytes]:
     """The lines of a text; the last may lack its line feed."""
     lines = text.split(b"\n")
     return lines[:-1] if not lines[-1] else lines
@@ -47,7 +48,7 @@ def lines_of(text):
 
 # ---------------------------------------------------------------- a plan
 
-def set_of(words):
+def set_of(words: Sequence[bytes]) -> Optional[FrozenSet[int]]:
     """The items of a set, or None."""
     items, least = set(), 0
     for word in words:
@@ -152,7 +153,7 @@ def limit_faults(lines):
         yield "limit"
 
 
-def read_plan(text, grid, items):
+def read_plan(text: bytes, grid: int, items: list) -> Plan:
     """The plan of a text for the items of a bank, as `mutate_bank.read` gives them."""
     if len(text) > LONGEST_PLAN:
         raise Refused("plan: too long", "too long")
@@ -173,7 +174,7 @@ def read_plan(text, grid, items):
     return plan
 
 
-def problem_of(plan, grid, items):
+def problem_of(plan: Plan, grid: int, items: list) -> check_tree.Problem:
     """The problem of a plan alone, at the mode of its prior, for the checker of trees."""
     rows = [check_tree.Row(word.decode(), *((0, 1) if word == b"enemies" else values[-2:]), members,
                            values[0] if word == b"quantity" else None)
@@ -187,7 +188,7 @@ def problem_of(plan, grid, items):
     return check_tree.Problem(bank, form, prior.index(max(prior)), frozenset(), frozenset(), None)
 
 
-def canonical(plan, stimuli):
+def canonical(plan: Plan, stimuli: int) -> str:
     """The canonical text of a plan for a bank with so many stimuli."""
     lines = [[b"length", *plan.lines[b"length"]], [b"prior", *plan.lines[b"prior"]],
              [b"rate", *plan.lines[b"rate"]],
@@ -202,7 +203,7 @@ def canonical(plan, stimuli):
     return "".join(" ".join([line[0].decode(), *map(str, line[1:])]) + "\n" for line in lines)
 
 
-def bank_text(grid, items):
+def bank_text(grid: int, items: list) -> str:
     """The text of a bank with nothing to spare, for readers that take no other."""
     most = max(item[1] for item in items)
     head = ["item", "stimulus", "categories", *(f"q{k}" for k in range(len(items[0][2]))),
@@ -220,7 +221,7 @@ REQUESTS = {b"begin": [2**64 - 1], b"answer": [2**32 - 1, 65535, 255], b"close":
             b"look": [2**32 - 1], b"exposure": []}
 
 
-def request_of(line):
+def request_of(line: bytes) -> Optional[Request]:
     """The request of a line, or None."""
     word, *rest = line.split(b" ")
     greatest = REQUESTS.get(word)
@@ -233,7 +234,7 @@ def request_of(line):
     return Request(word.decode(), numbers) if fits else None
 
 
-def read_script(text):
+def read_script(text: bytes) -> List[Request]:
     """The requests of a script."""
     if len(text) > LONGEST_SCRIPT:
         raise Refused("script: too long", "too long")

@@ -7,6 +7,7 @@ import signal
 import socket
 import subprocess
 import time
+from typing import Any, Optional, Sequence, Tuple
 
 HEAD_END = b"\r\n\r\n"
 
@@ -15,7 +16,7 @@ class Lost(Exception):
     """The connection ended before its reply was whole."""
 
 
-def request_bytes(method, path, body=None):
+def request_bytes(method: str, path: str, body: Any = None) -> bytes:
     """One message; `body` is a value that becomes JSON, or None for no body."""
     text = b"" if body is None else json.dumps(body, separators=(",", ":")).encode("ascii")
     head = f"{method} {path} HTTP/1.1\r\nHost: exam\r\n"
@@ -24,15 +25,15 @@ def request_bytes(method, path, body=None):
     return head.encode("ascii") + b"\r\n" + text
 
 
-def begin(booking):
+def begin(booking: int) -> bytes:
     return request_bytes("POST", "/sessions", {"booking": booking})
 
 
-def answer(session, step, response):
+def answer(session: int, step: int, response: int) -> bytes:
     return request_bytes("POST", f"/sessions/{session}/answers", {"step": step, "response": response})
 
 
-def split_reply(data):
+def split_reply(data: bytes) -> Optional[Tuple[Tuple[int, Any], bytes]]:
     """The first reply of these bytes and the bytes after it, as ((status, body), rest), or None if it is not whole yet."""
     at = data.find(HEAD_END)
     if at < 0:
@@ -48,7 +49,7 @@ def split_reply(data):
 class Connection:
     """A connection on which one request after another is asked. `Lost` where the server is gone."""
 
-    def __init__(self, address, timeout=300):
+    def __init__(self, address: Tuple[str, int], timeout: float = 300) -> None:
         self.kept = b""
         try:
             self.socket = socket.create_connection(address, timeout)
@@ -58,7 +59,7 @@ class Connection:
             raise Lost  # nobody listens there, and the connection is to itself
         self.socket.setsockopt(socket.IPPROTO_TCP, socket.TCP_NODELAY, 1)
 
-    def ask(self, message):
+    def ask(self, message: bytes) -> Tuple[int, Any]:
         """The status and the body of the reply."""
         try:
             self.socket.sendall(message)
@@ -74,14 +75,14 @@ class Connection:
         except OSError as fault:
             raise Lost from fault
 
-    def close(self):
+    def close(self) -> None:
         self.socket.close()
 
 
 class Server:
     """A process of `shadowd serve BANK PLAN` on a free port of the loopback address."""
 
-    def __init__(self, program, bank, plan, journal, workers=4, wait=900):
+    def __init__(self, program: Sequence[str], bank: str, plan: str, journal: str, workers: int = 4, wait: float = 900) -> None:
         env = dict(os.environ, SHADOWD_JOURNAL=journal, SHADOWD_LISTEN="127.0.0.1:0", SHADOWD_WORKERS=str(workers))
         env.pop("SHADOWD_CONNECTIONS", None)
         self.process = subprocess.Popen([*program, "serve", bank, plan], env=env, stdin=subprocess.DEVNULL,
@@ -89,7 +90,7 @@ class Server:
         self.address = self.announced(time.monotonic() + wait)
         self.await_reply(time.monotonic() + wait)
 
-    def announced(self, until):
+    def announced(self, until: float) -> Tuple[str, int]:
         """The address that the line on standard error names."""
         said = b""
         while time.monotonic() < until:
@@ -105,7 +106,7 @@ class Server:
         self.kill()
         raise RuntimeError(f"the server did not begin: {said.decode('utf-8', 'replace')}")
 
-    def await_reply(self, until):
+    def await_reply(self, until: float) -> None:
         """Waits until the journal is open: from then on requests are answered."""
         while time.monotonic() < until:
             if self.process.poll() is not None:
@@ -120,7 +121,7 @@ class Server:
         self.kill()
         raise RuntimeError("the server does not answer")
 
-    def kill(self):
+    def kill(self) -> None:
         """SIGKILL: the process has no time to do anything more."""
         if self.process.poll() is None:
             self.process.send_signal(signal.SIGKILL)
