@@ -18,11 +18,12 @@ from test_simulate import ATTRIBUTES, Examination
 
 if is_there(*PAGE):
     import numpy as np
+    import pandas as pd
 
     from shadowtools.agency.irt import Item
     from shadowtools.page import measures
     from shadowtools.page.sections import alike, rule_row
-    from shadowtools.page.study import interval_bands, read_target, target_of
+    from shadowtools.page.study import Study, interval_bands, read_target, target_of
 
 NORMAL = NormalDist()
 
@@ -118,6 +119,21 @@ class Overlap(unittest.TestCase):
         found = measures.mean_overlap(shown, 3)
         self.assertAlmostEqual(10 * shown.mean(0).var() / 3 + 3 / 10, (39 * found + 1) / 40, 9)
         self.assertTrue(math.isnan(measures.mean_overlap(shown[:1], 3)))
+
+
+@needs_page
+class Lines(unittest.TestCase):
+    def test_tests_with_one_share_of_the_best(self):
+        """Where each test has 4 / 5 of the best information at its examinee's ability, so has the line at each ability."""
+        true, at = np.linspace(-2, 2, 41), np.array([-1.7, 0.0, 0.3])
+        items = [Item(f"I{k}", "2PL", [1.0 + k / 10, b]) for k, b in enumerate((-1.0, 0.0, 1.0))]
+        examination = SimpleNamespace(scaling=1.0)
+        best = Study.best_of_bank(SimpleNamespace(items=items, examination=examination, length=2), true)
+        study = SimpleNamespace(people=pd.DataFrame({"true": true, "information": 0.8 * best}), best=best,
+                                best_of_bank=lambda where: np.array([3.0, 2.0, 5.0]))
+        self.assertTrue(np.allclose(Study.mean_information(study, at), [2.4, 1.6, 4.0]))
+        each = [sorted((float(item.information(ability)[0]) for item in items), reverse=True) for ability in true]
+        self.assertTrue(np.allclose(best, [sum(one[:2]) for one in each]))
 
 
 @needs_page

@@ -231,10 +231,22 @@ class Refusals(Examination):
             self.assertEqual((status, f"{name}: not the" in errors, "SHA-256" in errors), (1, True, True), errors)
             self.write(name, text)
 
+    def test_a_map_that_is_none(self):
+        found = json.loads(self.read("e.map.json"))
+        first = found["items"][0]
+        for change in ({"prior": ["0", "0"]}, {"prior": ["+", "1"]}, {"passages": None}, {"quantities": [1]}, {"D": 0}, {"theta": [0, 1]},
+                       {"items": [dict(first, model="5PL")] + found["items"][1:]}, {"items": [dict(first, parameters=[0, 1])] + found["items"][1:]},
+                       {"items": [dict(first, model="GR", parameters=[1, 0, 1])] + found["items"][1:]}):
+            with self.subTest(change):
+                self.write("e.map.json", json.dumps(dict(found, **change)))
+                status, _, errors = self.simulate()
+                self.assertEqual((status, errors.count("\n"), "e.map.json" in errors), (1, 1, True), errors)
+
     def test_a_run_that_is_none(self):
         self.simulate()
         run = json.loads(self.read("run.run.json"))
-        for text in ("", "[]", "{}", json.dumps(dict(run, true=["x"])), json.dumps(dict(run, examinees=0)),
+        for text in ("", "[]", "{}", json.dumps(dict(run, true=["x"])), json.dumps(dict(run, examinees=0)), json.dumps(dict(run, tails=[1])),
+                     json.dumps(dict(run, seconds=[])), json.dumps(dict(run, seconds=[[0, 1]])), json.dumps(dict(run, of=[1])),
                      json.dumps({name: value for name, value in run.items() if name != "sha256"})):
             with self.subTest(text[:40]), self.assertRaises(Refused):
                 simulation.read_run(self.write("other", text))

@@ -43,7 +43,7 @@ class Examination:
 
 def load(prefix: str) -> Examination:
     """The examination of a prefix. Refused is a bank or a plan that is not the map's, by its digest, and a map whose items are
-    of no known model."""
+    of no known model, or whose prior is none."""
     documents = read_documents(prefix + ".bank.csv", prefix + ".plan.txt", prefix + ".map.json")
     found = documents.map
     items = [Item(r["id"], r["model"], r["parameters"], r["attributes"], r["passage"]) for r in found["items"]]
@@ -51,6 +51,11 @@ def load(prefix: str) -> Examination:
         why = fault(item) if item.model in (*DICHOTOMOUS, *POLYTOMOUS, FIELD) else "unknown model"
         if why or item.categories != row.categories:
             raise Refused(f"{prefix}.map.json: item {item.name}: {why or 'other categories than in the bank'}")
+    prior, names = found["prior"], (found.get("passages"), found.get("quantities"))
+    if prior != ["flat"] and not (all(map(is_number, prior)) and float(prior[1]) > 0):
+        raise Refused(f"{prefix}.map.json: the prior {' '.join(prior)} is no mean and standard deviation")
+    if not all(isinstance(one, list) and all(isinstance(name, str) for name in one) for one in names):
+        raise Refused(f"{prefix}.map.json: the names of passages and quantities are missing")
     return Examination(prefix, documents.bank, documents.plan, found, items, documents.sha256)
 
 
@@ -167,7 +172,10 @@ def read_run(path: str) -> dict:
     for name, kind in FIELDS.items():
         if not isinstance(run.get(name), kind):
             raise Refused(f"{path}: no run of this simulate.py: {name} is missing or of another type; simulate again")
-    numbers = all(map(is_finite, run["true"]))
-    if not numbers or not 0 < run["examinees"] <= len(run["true"]):
+    if not all(map(is_finite, run["true"])) or not 0 < run["examinees"] <= len(run["true"]):
         raise Refused(f"{path}: the abilities of {run['examinees']} examinees are not there as finite numbers")
+    pairs = all(isinstance(one, list) and len(one) == 2 and all(map(is_finite, one)) and one[0] > 0 for one in run["seconds"])
+    if not (pairs and run["seconds"] and run["tails"] == run["true"][run["examinees"]:]
+            and all(isinstance(word, str) for word in [*run["of"], *run["sha256"].values()])):
+        raise Refused(f"{path}: no run of this simulate.py: its tails, its times or its words are none; simulate again")
     return run

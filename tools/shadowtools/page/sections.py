@@ -129,7 +129,7 @@ def precision(study: Study) -> Section:
         Table(["True ability (logits)", "Examinees", "Bias (EAP)", "Its standard error", "RMSE (EAP)", "Mean posterior SD", "Standard error"],
               cells),
         Note("The standard error is 1 / √(mean information at the true ability) of the items that were given (Lord 1980). The lines are "
-             "of the mean information of the tests near each ability, the tails with them. Bias towards the middle at the ends is the prior's, and greater where "
+             "the best information of the bank times the mean share of it that the tests near each ability have, the tails with them. Bias towards the middle at the ends is the prior's, and greater where "
              "the bank informs little. The best information knows the true ability from the start and meets no rule: part of the "
              "difference is what the rules cost, part is that the ability has to be found first.")])
 

@@ -155,12 +155,11 @@ class Study:
         return found + point_bands(self.people.true.to_numpy()[self.tails], self.tails, True)
 
     def mean_information(self, at: np.ndarray) -> np.ndarray:
-        """At each ability the mean information of the tests of examinees near it, those of the tails with them.
-
-        It is the information of their items at that ability, so it is never above the best of the bank."""
-        each = np.array([item.information(at, self.examination.scaling) for item in self.items])
-        weights = local_weights(at, self.people.true.to_numpy())
-        return ((weights @ self.shown) * each.T).sum(1)
+        """At each ability what tests inform in the mean: the best of the bank there, times the mean share of it that the tests of
+        examinees near it have at their own abilities, those of the tails with them. It is never above the best."""
+        information = self.people.information.to_numpy()
+        shares = np.divide(information, self.best, out=np.zeros_like(information), where=self.best > 0)
+        return self.best_of_bank(at) * (local_weights(at, self.people.true.to_numpy()) @ shares)
 
     def abilities(self) -> np.ndarray:
         """The abilities of a curve: from the least to the greatest true ability."""
