@@ -1,4 +1,4 @@
-"""Inputs of the tools of agencies, changed at random from a seed: each ends with a status and a line, and none with a traceback."""
+"""Inputs of the tools, changed at random from a seed: each ends with a status and a line, and none with a traceback."""
 import contextlib
 import hashlib
 import importlib
@@ -62,7 +62,7 @@ class Cases(Folder):
             raise AssertionError(f"case {seed}: {tool} {' '.join(words)[:300]}: {fault!r}") from fault
         finally:
             os.chdir(before)
-        self.assertIn(status, (0, 1, 2, 3, 11, 12), f"case {seed}")
+        self.assertIn(status, (0, 1, 2, 3, 6, 11, 12), f"case {seed}")
         self.assertTrue(said.getvalue() or errors.getvalue(), f"case {seed}")
         return status
 
@@ -116,6 +116,51 @@ class Results(Cases):
                 words += [word for word in option if word not in words]
             ends.add(self.ends("score", words, case))
         self.assertLessEqual({0, 1, 2}, ends)
+
+
+class Others(Cases):
+    """The other tools with changed texts, and with programs that are not shadowd."""
+
+    def test_explain_audit_and_check_tree(self):
+        journal, ends = a.journal(a.history()), set()
+        for case in range(CASES):
+            rng = random.Random(SEED * 300_000 + case)
+            texts = {"bank": a.BANK.encode(), "plan": a.PLAN.encode(), "map": json.dumps(a.scale_map()).encode(), "j": journal,
+                     "seal": b"seal records 0 bytes 8 sha256 " + hashlib.sha256(b"SHADOWJ1").hexdigest().encode()}
+            damaged = rng.choice(tuple(texts))
+            texts[damaged] = self.changed(rng, texts[damaged])
+            for name, data in texts.items():
+                self.put(name, data)
+            tool, words = rng.choice((
+                ("explain", ["bank", "plan", "--program", rng.choice(("/bin/true", "/bin/false", "/bin/cat", "nowhere")), "--map", "map"]),
+                ("audit", ["bank", "plan", "j"]), ("audit", ["--seal", "j"]), ("audit", ["--against", "seal", "j"]),
+                ("check_tree", ["bank", "plan", rng.choice(("0006", "01000200000005040003000000410300", "", "zz", "00")), *rng.choice((
+                    (), ("--form", "1-3"), ("--form", "x"), ("--form", "1,99"), ("--given", "9-1"), ("--barred", "0"), ("--theta", "2"), ("--theta", "3"),
+                    ("--spent", "x"), ("--spent", "11"), ("--start", "1,2,4"), ("--brute",)))])))
+            ends.add(self.ends(tool, words, case))
+        self.assertLessEqual({0, 1, 6}, ends)
+
+    @needs_numpy
+    def test_simulate(self):
+        """A simulation that does not begin: the program is none, or the words or the texts are refused before."""
+        options = (("--examinees", "0"), ("--examinees", "1_0"), ("--seed", "-1"), ("--seed", "99999999999999999999"), ("--true", "normal"),
+                   ("--true", "normal", "nan", "1"), ("--true", "uniform", "1", "0"), ("--true", "points", "x"), ("--group", "0"), ("--clients", "17"),
+                   ("--through", "mail"), ("--rules", "plan"), ("--rules", "nowhere"), ("--tails", "x"), ("--each", "-1"), ("--out", "no/run"))
+        for case in range(CASES // 4):
+            rng = random.Random(SEED * 400_000 + case)
+            texts, found = {"bank": a.BANK.encode(), "plan": a.PLAN.encode()}, a.scale_map()
+            damaged = rng.choice(("bank", "plan", "map", "none"))
+            if damaged in texts:
+                texts[damaged] = self.changed(rng, texts[damaged])
+                found["sha256"][damaged] = hashlib.sha256(texts[damaged]).hexdigest()
+            told = json.dumps(found).encode()
+            for name, data in (("e.bank.csv", texts["bank"]), ("e.plan.txt", texts["plan"]), ("plan", texts["plan"]),
+                               ("e.map.json", self.changed(rng, told) if damaged == "map" else told)):
+                self.put(name, data)
+            words = ["e", "--program", rng.choice(("/bin/true", "/bin/false", "nowhere"))]
+            for option in [("--out", "run")] * rng.choice((0, 1, 1)) + rng.sample(options, rng.choice((0, 1, 2))):
+                words += option
+            self.assertIn(self.ends("simulate", words, case), (1, 2))
 
 
 if __name__ == "__main__":

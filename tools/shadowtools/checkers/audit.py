@@ -44,7 +44,7 @@ Rules = namedtuple("Rules", "bank plan categories likelihood rate key budget ses
 
 def read_responses(path: str, bank: check_tree.Bank) -> Tuple[List[int], List[List[List[int]]]]:
     """The number of categories of each item, and its log-likelihoods by response and grid point."""
-    with open(path, newline="") as file:
+    with open(path, newline="", encoding="utf-8", errors="surrogateescape") as file:
         header, *records = [record for record in csv.reader(file) if record]
     first = header.index("l0_0")
     categories = [int(record[2]) for record in records]
@@ -56,7 +56,7 @@ def read_responses(path: str, bank: check_tree.Bank) -> Tuple[List[int], List[Li
 def read_limits(path: str) -> Dict[str, object]:
     """What the lines of the plan say that a form doesn't depend on."""
     limits = dict(DEFAULTS)
-    with open(path) as file:
+    with open(path, encoding="utf-8", errors="surrogateescape", newline="\n") as file:
         for line in file:
             word, *rest = line.rstrip("\n").split(" ")
             if word == "rate":

@@ -27,9 +27,9 @@ import math
 import random
 import sys
 from collections import namedtuple
-from typing import Dict, FrozenSet, Iterable, List, Optional, Sequence, Set, Tuple
+from typing import Callable, Dict, FrozenSet, Iterable, List, Optional, Sequence, Set, Tuple
 
-from shadowtools.command import as_command
+from shadowtools.command import Refused, as_command
 
 # ---------------------------------------------------------------- bank, plan, problem
 
@@ -44,7 +44,7 @@ Nodes = List[Tuple[int, Optional[int]]]
 
 
 def read_bank(path: str) -> Bank:
-    with open(path, newline="") as f:
+    with open(path, newline="", encoding="utf-8", errors="surrogateescape") as f:
         records = [r for r in csv.reader(f) if r]
     header = records[0]
     quantities = sum(1 for name in header if name[0] == "q")
@@ -66,7 +66,7 @@ def read_set(words: Iterable[str]) -> FrozenSet[int]:
 
 def read_plan(path: str, bank: Bank) -> Plan:
     length, prior, rows, bounds = None, None, [], {}
-    with open(path) as f:
+    with open(path, encoding="utf-8", errors="surrogateescape", newline="\n") as f:
         for line in f:
             words = line.rstrip("\n").split(" ")
             if line.startswith("#") or words == [""]:
@@ -520,9 +520,17 @@ def trials(count: int, seed: int) -> int:
 
 # ---------------------------------------------------------------- command line
 
+def word_of(name: str, word: str, reader: Callable):
+    """A value of the command line; another word is refused."""
+    try:
+        return reader(word)
+    except (ValueError, IndexError):
+        raise Refused(f"{name} {word[:40]}: not what it should be")
+
+
 def main(words: Sequence[str]) -> int:
     if words[:1] == ["--trials"] and len(words) in (2, 3):
-        return trials(int(words[1]), int(words[2]) if len(words) == 3 else 1)
+        return trials(word_of("--trials", words[1], int), word_of("--trials", words[2], int) if len(words) == 3 else 1)
     options, plain = {}, []
     words = list(words)
     while words:
@@ -538,24 +546,28 @@ def main(words: Sequence[str]) -> int:
         return 2
 
     def items(name):
-        return read_set(options[name].split(",")) if options.get(name) else None
+        return word_of(name, options[name], lambda word: read_set(word.split(","))) if options.get(name) else None
+
+    def point(word):
+        return range(bank.grid).index(int(word))
 
     from shadowtools.checkers.audit import require_texts   # whose module reads trees by this one
     require_texts(*plain[:2])
     bank = read_bank(plain[0])
     plan = read_plan(plain[1], bank)
-    theta = int(options["--theta"]) if "--theta" in options else plan.prior.index(max(plan.prior))
+    theta = word_of("--theta", options["--theta"], point) if "--theta" in options \
+        else plan.prior.index(max(plan.prior))
     P = Problem(bank, plan, theta, items("--given") or frozenset(), items("--barred") or frozenset(), items("--start"))
     X = items("--form")
     try:
-        vectors, nodes, used = read_tree(bytes.fromhex(plain[2]))
+        vectors, nodes, used = read_tree(word_of("TREE", plain[2], bytes.fromhex))
     except Fault as fault:
         print(fault)
         return 0
     said = verdict(P, X, vectors, nodes)
     print(said)
     if "--spent" in options:
-        print("spent", "true" if spent(P, nodes, int(options["--spent"])) else "false")
+        print("spent", "true" if spent(P, nodes, word_of("--spent", options["--spent"], int)) else "false")
     if "--brute" in options:
         free = len(bank.items) - len(P.given) - len(P.barred)
         if math.comb(free, max(0, plan.length - len(P.given))) > 2000000:
