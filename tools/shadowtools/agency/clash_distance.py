@@ -53,8 +53,8 @@ def count_out_of_reach(count: Count, items: int, length: int) -> Optional[str]:
         return f"The set of line {count.line} has {len(count.items)} items, its low bound is {count.low}."
     outside = items - len(count.items)
     if length - outside > count.high:
-        return f"Only {outside} items are outside of the set of line {count.line}: a test of {length} has at least {length - outside} of it, " \
-               f"its high bound is {count.high}."
+        return (f"Only {outside} items are outside of the set of line {count.line}: a test of {length} has at least "
+                f"{length - outside} of it, its high bound is {count.high}.")
     return None
 
 
@@ -65,8 +65,9 @@ def lows_above(one: Count, others: Sequence[Count]) -> Optional[str]:
         return None
     if one.line == 0:
         return f"The low bounds add up to {sum(asked)}, the length is {one.high}."
-    return f"The low bounds of {lines(other for other, low in zip(others, asked) if low)} ask for at least {sum(asked)} items of the set of " \
-           f"line {one.line}, whose high bound is {one.high}."
+    named = lines([other for other, low in zip(others, asked) if low])
+    return (f"The low bounds of {named} ask for at least {sum(asked)} items of the set of line {one.line}, whose high bound is "
+            f"{one.high}.")
 
 
 def highs_below(one: Count, others: Sequence[Count]) -> Optional[str]:

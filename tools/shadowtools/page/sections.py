@@ -10,7 +10,7 @@ from shadowtools.formats.examination import Rule
 from shadowtools.page import pictures
 from shadowtools.page.measures import accuracy, consistency, level_chances, levels, marginal_reliability, standard_error
 from shadowtools.page.parts import Facts, Note, Pictures, Section, Table, Text
-from shadowtools.page.study import Study, plain, table_by_band, table_by_item
+from shadowtools.page.study import Study, interval_names, plain, table_by_band, table_by_item
 
 ESTIMATES = {"mode": "mode on the grid (shadowd)", "map": "continuous mode", "eap": "mean (EAP)",
              "mle": "maximum likelihood, on the grid's range"}
@@ -41,7 +41,8 @@ def identity(study: Study) -> Section:
     if tails:
         examinees += f"; {len(study.tails):,} more in the tails, at {', '.join(map(plain, tails))}"
     rows = [("Examination", os.path.basename(study.examination.prefix)),
-            ("Bank", f"items: {len(study.items)}; passages: {len(found['passages'])}; quantities: {', '.join(found['quantities']) or 'none'}"),
+            ("Bank", f"items: {len(study.items)}; passages: {len(found['passages'])}; "
+                     f"quantities: {', '.join(found['quantities']) or 'none'}"),
             ("Test", f"items: {study.length}; rules: {len(study.rules)}; exposure rate: {rate(study)}"),
             ("Examinees", examinees),
             ("Ability", f"{len(found['theta'])} points from {plain(found['theta'][0])} to {plain(found['theta'][-1])} logits; "
@@ -126,12 +127,13 @@ def precision(study: Study) -> Section:
               fixed(row.posterior_sd), fixed(row.standard_error)] for row in table.itertuples()]
     return Section("precision", "Precision by ability", [
         Pictures([pictures.standard_errors(study), pictures.information(study)]), Facts(rows),
-        Table(["True ability (logits)", "Examinees", "Bias (EAP)", "Its standard error", "RMSE (EAP)", "Mean posterior SD", "Standard error"],
-              cells),
+        Table(["True ability (logits)", "Examinees", "Bias (EAP)", "Its standard error", "RMSE (EAP)", "Mean posterior SD",
+               "Standard error"], cells),
         Note("The standard error is 1 / √(mean information at the true ability) of the items that were given (Lord 1980). The lines are "
-             "the best information of the bank times the mean share of it that the tests near each ability have, the tails with them. Bias towards the middle at the ends is the prior's, and greater where "
-             "the bank informs little. The best information knows the true ability from the start and meets no rule: part of the "
-             "difference is what the rules cost, part is that the ability has to be found first.")])
+             "the best information of the bank times the mean share of it that the tests near each ability have, the tails with "
+             "them. Bias towards the middle at the ends is the prior's, and greater where the bank informs little. The best "
+             "information knows the true ability from the start and meets no rule: part of the difference is what the rules cost, "
+             "part is that the ability has to be found first.")])
 
 
 def recovery(study: Study) -> Section:
@@ -179,15 +181,15 @@ def table_of_cuts(study: Study) -> Table:
         agreement, kappa = consistency(chances)
         rows.append([name, f"{(true == found).mean():.1%}", f"{(found > true).mean():.1%}", f"{(found < true).mean():.1%}",
                      f"{accuracy(chances, true):.1%}", f"{agreement:.1%}", fixed(kappa)])
-    return Table(["Cut score (logits)", "In the true level", "Above it", "Below it", "Accuracy by formula", "Consistency by formula", "Kappa"],
-                 rows)
+    return Table(["Cut score (logits)", "In the true level", "Above it", "Below it", "Accuracy by formula",
+                  "Consistency by formula", "Kappa"], rows)
 
 
 def table_of_levels(study: Study) -> Table:
     """How many examinees of each true level are in each level by their estimate."""
     people, cuts = study.people.iloc[study.sample], study.questions.cuts
     true, found = levels(people.true, cuts), levels(people.eap, cuts)
-    names = [f"below {plain(cuts[0])}"] + [f"{plain(a)} to {plain(b)}" for a, b in zip(cuts, list(cuts)[1:])] + [f"{plain(cuts[-1])} and above"]
+    names = interval_names(cuts)
     rows = [[name] + [f"{((true == k) & (found == j)).sum():,}" for j in range(len(names))] for k, name in enumerate(names)]
     return Table(["True level"] + [f"estimate {name}" for name in names], rows)
 
@@ -202,7 +204,8 @@ def exposure(study: Study) -> Section:
             ("Greatest exposure", f"{rates.max():.3f} (item {study.names[int(rates.argmax())]})"),
             ("Mean exposure", f"{study.length / count:.3f}"), ("Items above 0.3", f"{(rates > 0.3).sum()}")]
     if field.any():
-        rows.append(("Items in field test, in the mean for a test", f"{field.sum()} of {count}, {rates[field].sum():.2f}{named(study.names[field])}"))
+        rows.append(("Items in field test, in the mean for a test",
+                     f"{field.sum()} of {count}, {rates[field].sum():.2f}{named(study.names[field])}"))
     if study.controlled:
         above = rates > study.rate
         rows.append((f"Items above the rate {study.rate:.3f}", f"{above.sum()}, the greatest by {max(0, (rates - study.rate).max()):.3f}"
@@ -311,7 +314,8 @@ def times(run: dict):
 def items(study: Study) -> Section:
     table = table_by_item(study)
     passages = bool(study.examination.map["passages"])
-    head = ["Item"] + (["Passage"] if passages else []) + ["Shown", "Exposure", "Eligible", "Greatest information", "At (logits)", "Mean step"]
+    head = ["Item"] + (["Passage"] if passages else []) + [
+        "Shown", "Exposure", "Eligible", "Greatest information", "At (logits)", "Mean step"]
     rows = [[row.item] + ([row.passage] if passages else []) + [
         f"{row.shown:,}" if row.shown else "never", fixed(row.exposure), fixed(row.eligible), fixed(row.greatest_information),
         fixed(row.at_ability, 1), fixed(row.mean_step, 1)] for row in table.itertuples()]

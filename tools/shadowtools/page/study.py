@@ -85,10 +85,14 @@ class Band:
 
 def interval_bands(values: np.ndarray, rows: np.ndarray, edges: Sequence[float]) -> List[Band]:
     """The bands between the edges that have an examinee; an edge belongs to the band above it."""
-    names = [f"below {plain(edges[0])}"] + [f"{plain(a)} to {plain(b)}" for a, b in zip(edges, edges[1:])]
-    names.append(f"{plain(edges[-1])} and above")
-    where = levels(values, edges)
+    names, where = interval_names(edges), levels(values, edges)
     return [Band(names[k], rows[where == k]) for k in np.unique(where)]
+
+
+def interval_names(edges: Sequence[float]) -> List[str]:
+    """The names of the intervals below, between and above the edges."""
+    between = [f"{plain(low)} to {plain(high)}" for low, high in zip(edges, edges[1:])]
+    return [f"below {plain(edges[0])}", *between, f"{plain(edges[-1])} and above"]
 
 
 def point_bands(values: np.ndarray, rows: np.ndarray, added: bool) -> List[Band]:
@@ -193,7 +197,8 @@ def table_by_item(study: Study) -> pd.DataFrame:
     table = pd.DataFrame({
         "number": np.arange(len(study.items)), "item": study.names,
         "passage": [passages[item.passage - 1] if 0 < item.passage <= len(passages) else "" for item in study.items],
-        "field_test": [item.model == FIELD for item in study.items], "shown": study.shown[sample].sum(0), "exposure": exposure, "eligible": study.eligible[sample].mean(0),
+        "field_test": [item.model == FIELD for item in study.items], "shown": study.shown[sample].sum(0),
+        "exposure": exposure, "eligible": study.eligible[sample].mean(0),
         "rate": study.rate, "above_rate": exposure > study.rate, "never_shown": exposure == 0,
         "greatest_information": information.max(1), "at_ability": theta[information.argmax(1)],
         "mean_step": [float(np.mean(one)) if one else np.nan for one in steps]})

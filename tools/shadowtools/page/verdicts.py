@@ -67,12 +67,12 @@ def exposure(study: Study) -> Iterator[Verdict]:
     rates = study.exposure(study.sample)
     most, unseen = study.names[rates.argmax()], f"{counted((rates == 0).sum())} never shown"
     if not study.controlled:
-        yield Verdict(MEASURED, f"The plan has no exposure rate. Of {len(rates)} items {counted((rates > 0.9).sum())} shown in more than 90% of the "
-                                f"tests, and {unseen}.")
+        yield Verdict(MEASURED, f"The plan has no exposure rate. Of {len(rates)} items {counted((rates > 0.9).sum())} shown in more "
+                                f"than 90% of the tests, and {unseen}.")
         return
     above = int((rates > study.rate).sum())
-    yield Verdict(NOT_MET if above else MET, f"{above} {'item is' if above == 1 else 'items are'} above the rate of {study.rate:.1%}; the greatest exposure is {rates.max():.1%} "
-                                             f"(item {most}). Of {len(rates)} items {unseen}.")
+    yield Verdict(NOT_MET if above else MET, f"{above} {'item is' if above == 1 else 'items are'} above the rate of {study.rate:.1%}; "
+                                             f"the greatest exposure is {rates.max():.1%} (item {most}). Of {len(rates)} items {unseen}.")
 
 
 def counted(number: int) -> str:
@@ -107,9 +107,10 @@ def classification(study: Study) -> Iterator[Verdict]:
     chances = level_chances(people.true.to_numpy(), people.standard_error.to_numpy(), cuts)
     agreement, kappa = consistency(chances)
     names = " and ".join(map(plain, cuts))
-    yield Verdict(MEASURED, f"At {'cut score' if len(cuts) == 1 else 'cut scores'} {names}, {(true == found).mean():.1%} of the examinees are in "
-                         f"their true level, {(found > true).mean():.1%} above and {(found < true).mean():.1%} below it. By the formulas the "
-                         f"accuracy is {accuracy(chances, true):.1%}, and two tests agree in {agreement:.1%} (kappa {kappa:.2f}).")
+    cut = "cut score" if len(cuts) == 1 else "cut scores"
+    yield Verdict(MEASURED, f"At {cut} {names}, {(true == found).mean():.1%} of the examinees are in their true level, "
+                            f"{(found > true).mean():.1%} above and {(found < true).mean():.1%} below it. By the formulas the "
+                            f"accuracy is {accuracy(chances, true):.1%}, and two tests agree in {agreement:.1%} (kappa {kappa:.2f}).")
 
 
 def tails(study: Study) -> Iterator[Verdict]:
