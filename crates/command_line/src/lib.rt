@@ -8,5 +8,8 @@ mod command;
 pub mod laws;
 mod words;
 
+/// The version of the program.
+pub const VERSION: &str = "0.2.0";
+
 pub use command::Command;
 pub use words::command_of;

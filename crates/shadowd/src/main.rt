@@ -10,6 +10,7 @@ ghost use Rattle.host_edge.specs.HostDoor.{out_of};
 
 mod settings;
 
+use command_line::VERSION;
 use exam_edge::OpenGate;
 use exam_program::{Finish, World, run};
 use host_edge::{Closing, HostDisk, HostDoor, HostFiles, HostSink};
@@ -23,6 +24,9 @@ use std::{env, io};
 
 /// The status of a program that is out of memory.
 const NO_MEMORY: u8 = 10;
+
+/// The status of a program whose standard output failed.
+const NO_OUTPUT: u8 = 8;
 
 /// The outside of the host.
 type HostWorld = World<HostFiles, HostSink, HostDisk, HostDoor, OpenGate>;
@@ -48,6 +52,19 @@ fn ask_for_connections(words: &[String]) -> bool {
 /// Whether the words ask for an audit.
 fn ask_for_audit(words: &[String]) -> bool {
     words.first().is_some_and(|word| word.as_str() == "audit")
+}
+
+/// Whether the words ask for the version of the program, and nothing else.
+fn ask_for_version(words: &[String]) -> bool {
+    words.len() == 1 && words[0].as_str() == "version"
+}
+
+/// Prints the version, and gives the status to end with.
+fn print_version(rt: &HostRuntime) -> ExitCode {
+    match println!(rt; "shadowd {VERSION}") {
+        Ok(()) => ExitCode::from(0),
+        Err(_) => ExitCode::from(NO_OUTPUT),
+    }
 }
 
 /// The journal's file. An audit only reads it, and a server that loses it ends by the flag.
@@ -131,8 +148,8 @@ fn begin(rt: &HostRuntime) -> io::Result<(Settings, Vec<String>, HostWorld)>
     ensures few { IfOk result (λ begun. vec_len begun.2.doors ≤ 255) }
     ensures home { IfOk result (λ begun. All (λ d. out_of d ≡ false) begun.2.doors.items) }
 {
-    let settings = Settings::of(rt)?;
     let words = words_of(rt)?;
+    let settings = Settings::of(rt, ask_for_connections(&words))?;
     let closing = Closing::new(rt.alloc())?;
     let doors = doors_of(rt, &words, &settings, &closing)?;
     let world = world_of(rt, &words, &settings, &closing, doors)?;
@@ -173,6 +190,9 @@ fn main(rt: HostRuntime) -> ExitCode {
     let Ok((settings, words, world)) = begin(&rt) else {
         return ExitCode::from(NO_MEMORY);
     };
+    if ask_for_version(&words) {
+        return print_version(&rt);
+    }
     let finish = run(&rt, rt.alloc(), &words, world);
     explain(&rt, &settings, &finish);
     exit_code(finish)

@@ -1,6 +1,6 @@
 //! What the environment sets.
 
-ghost use Rattle.std.specs.Prelude.{◌≤◌};
+ghost use Rattle.std.specs.Prelude.{◌≤◌, IfOk, IfSome};
 
 use std::alloc::AllocError;
 use std::env;
@@ -32,41 +32,85 @@ fn value_or(rt: &HostRuntime, name: &str, default: &str) -> Result<String, Alloc
     }
 }
 
-// A number of workers from 1 to 16, else 4.
-fn workers_of(text: &str) -> u8
-    ensures least { 1 ≤ result }
-    ensures most { result ≤ 16 }
+// A number that a variable may have, and what stands for it.
+#[derive(Drop)]
+struct Bounds {
+    least: u64,
+    most: u64,
+    default: u64,
+}
+
+const WORKERS: Bounds = Bounds {
+    least: 1,
+    most: 16,
+    default: 4,
+};
+
+// Seconds: up to a day, else five minutes.
+const IDLE: Bounds = Bounds {
+    least: 1,
+    most: 86_400,
+    default: 300,
+};
+
+// The number of a variable, where it is within these bounds. Any other value counts as not set.
+fn number_in(text: &str, bounds: &Bounds) -> Option<u64>
+    ensures { IfSome result (λ n. (bounds.now.least ≤ n) × (n ≤ bounds.now.most)) }
 {
-    match text.parse::<u8>() {
-        Ok(count) if 1 <= count && count <= 16 => count,
-        _ => 4,
+    match text.parse::<u64>() {
+        Ok(number) if bounds.least <= number && number <= bounds.most => Some(number),
+        _ => None,
     }
 }
 
-// A number of seconds from 1 to 86,400, a day, else 300.
-fn idle_of(text: &str) -> u64
-    ensures least { 1 ≤ result }
-    ensures most { result ≤ 86400 }
+// Writes a line on a value that counts as not set.
+fn tell_unset(rt: &HostRuntime, name: &str, text: &str, bounds: &Bounds) {
+    let (least, most) = (bounds.least, bounds.most);
+    let _ = eprintln!(rt;
+        "shadowd: {name}={text} counts as not set: it is no number from {least} to {most}"
+    );
+}
+
+// The number of a variable, else what stands for it. If `tells`, a value that counts as not set has
+// a line on standard error.
+fn number_or(rt: &HostRuntime, name: &str, bounds: &Bounds, tells: bool) -> Result<u64, AllocError>
+    requires { (bounds.now.least ≤ bounds.now.default) × (bounds.now.default ≤ bounds.now.most) }
+    ensures { IfOk result (λ n. (bounds.now.least ≤ n) × (n ≤ bounds.now.most)) }
 {
-    match text.parse::<u64>() {
-        Ok(seconds) if 1 <= seconds && seconds <= 86_400 => seconds,
-        _ => 300,
+    let text = value_or(rt, name, "")?;
+    let found = number_in(text.as_str(), bounds);
+    if tells && found.is_none() && !text.is_empty() {
+        tell_unset(rt, name, text.as_str(), bounds);
     }
+    Ok(found.unwrap_or(bounds.default))
+}
+
+// The number of connections of a worker, if there is one.
+fn connections_of(rt: &HostRuntime, tells: bool) -> Result<Option<u64>, AllocError> {
+    let any = Bounds {
+        least: 0,
+        most: u64::MAX,
+        default: 0,
+    };
+    let text = value_or(rt, "SHADOWD_CONNECTIONS", "")?;
+    let found = number_in(text.as_str(), &any);
+    if tells && found.is_none() && !text.is_empty() {
+        tell_unset(rt, "SHADOWD_CONNECTIONS", text.as_str(), &any);
+    }
+    Ok(found)
 }
 
 impl Settings {
     /// The values of SHADOWD_JOURNAL, SHADOWD_LISTEN, SHADOWD_WORKERS, SHADOWD_IDLE and
-    /// SHADOWD_CONNECTIONS, or what stands for them.
-    pub fn of(rt: &HostRuntime) -> Result<Settings, AllocError> {
+    /// SHADOWD_CONNECTIONS, or what stands for them. If `tells`, a number that counts as not set has
+    /// a line on standard error.
+    pub fn of(rt: &HostRuntime, tells: bool) -> Result<Settings, AllocError> {
         Ok(Settings {
             journal: value_or(rt, "SHADOWD_JOURNAL", "shadowd.journal")?,
             listen: value_or(rt, "SHADOWD_LISTEN", "127.0.0.1:4710")?,
-            workers: workers_of(value_or(rt, "SHADOWD_WORKERS", "")?.as_str()),
-            idle: idle_of(value_or(rt, "SHADOWD_IDLE", "")?.as_str()),
-            connections: value_or(rt, "SHADOWD_CONNECTIONS", "")?
-                .as_str()
-                .parse::<u64>()
-                .ok(),
+            workers: number_or(rt, "SHADOWD_WORKERS", &WORKERS, tells)? as u8,
+            idle: number_or(rt, "SHADOWD_IDLE", &IDLE, tells)?,
+            connections: connections_of(rt, tells)?,
         })
     }
 }
