@@ -18,7 +18,7 @@ from flask import Flask, Response, render_template, request
 import web
 from booking_desk import Desk
 from exam_server import Away, ExamServer
-from readers import Refused, read_journal, read_map, sessions_of
+from readers import Refused, read_documents, read_journal, sessions_of
 
 FRESH, PATIENCE = 3, 120  # seconds for which a page is shown again; seconds for an audit
 
@@ -28,7 +28,8 @@ class ControlRoom:
 
     def __init__(self, settings):
         self.settings, self.server, self.lock, self.drawn = settings, ExamServer(settings.server, 2, settings.patience), threading.Lock(), None
-        self.names = [item["id"] for item in read_map(settings.map)["items"]]
+        documents = read_documents(settings.bank, settings.plan, settings.map, settings.program)
+        self.names = [item["id"] for item in documents.map["items"]]
         self.desk, self.password = Desk(settings.store, settings.secret_of("secret")), settings.secret_of("staff_password")
         said = self.shadowd("check").stdout.splitlines()
         self.plan = dict(line.split(" ", 1) for line in said[1:])

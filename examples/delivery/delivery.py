@@ -18,7 +18,7 @@ import web
 from booking_desk import Desk
 from exam_server import Away, ExamServer, Refused
 from item_texts import read_texts
-from readers import moments, posterior_sums, read_bank, read_map, read_plan
+from readers import moments, posterior_sums, read_documents
 
 WRONG_CODES, IN_SECONDS = 20, 60  # of one address
 COOKIE_SECONDS = 12 * 3600
@@ -34,8 +34,9 @@ class Delivery:
     """The pages of one examination. `turns` lets one request of a booking at a time talk to shadowd."""
 
     def __init__(self, settings, server):
-        self.settings, self.server, self.texts = settings, server, read_texts(settings)
-        self.plan, self.bank, self.map = read_plan(settings.plan), read_bank(settings.bank), read_map(settings.map)
+        self.settings, self.server = settings, server
+        self.documents = read_documents(settings.bank, settings.plan, settings.map, settings.program)
+        self.texts, self.length = read_texts(settings.texts, self.documents), self.documents.plan.length
         self.desk = Desk(settings.store, settings.secret_of("secret"))
         self.turns = collections.defaultdict(threading.Lock)
         self.wrong_codes = collections.deque(maxlen=10_000)
@@ -133,10 +134,11 @@ class Delivery:
 
     def score(self, answers):
         """The score and its standard error, if the agency shows them: the mean of the posterior on the reported scale."""
-        if not self.settings.show_score or [given.step for given in answers] != list(range(self.plan.length)):
+        if not self.settings.show_score or [given.step for given in answers] != list(range(self.length)):
             return None
-        sums = posterior_sums(self.bank, self.plan.prior, [given.item for given in answers], [given.response for given in answers])
-        mean, deviation = moments(sums, self.map["theta"], self.map["log_unit"])
+        bank, plan, found = self.documents.bank, self.documents.plan, self.documents.map
+        sums = posterior_sums(bank, plan.prior, [given.item for given in answers], [given.response for given in answers])
+        mean, deviation = moments(sums, found["theta"], found["log_unit"])
         return self.settings.scale[0] + self.settings.scale[1] * mean, self.settings.scale[1] * deviation
 
     @staticmethod
@@ -151,7 +153,7 @@ def make_app(settings, server=None):
         SESSION_COOKIE_NAME="__Host-delivery" if settings.secure_cookies else "delivery", SESSION_COOKIE_HTTPONLY=True,
         SESSION_COOKIE_SECURE=settings.secure_cookies, SESSION_COOKIE_SAMESITE="Lax", WTF_CSRF_TIME_LIMIT=None)
     CSRFProtect(app)
-    app.context_processor(lambda: {"title": settings.title, "length": pages.plan.length})
+    app.context_processor(lambda: {"title": settings.title, "length": pages.length})
     for rule, method, view in (("/", "GET", pages.entrance), ("/", "POST", pages.sign_in), ("/sign-out", "POST", pages.sign_out),
                                ("/begin", "POST", pages.begin), ("/test", "GET", pages.test), ("/test", "POST", pages.answer)):
         app.add_url_rule(rule, view.__name__, view, methods=[method])

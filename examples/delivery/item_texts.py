@@ -10,7 +10,6 @@ import os
 import re
 from typing import NamedTuple
 
-from readers import read_bank, read_map
 from settings import BadInput, read_table
 
 SAFE_NAME = re.compile(r"[A-Za-z0-9][A-Za-z0-9._-]{0,99}")
@@ -60,11 +59,8 @@ def read_item(folder, name, categories, passage):
     return Item(name, paragraphs(name, table), options, responses, passage)
 
 
-def read_texts(settings):
-    """The items by number, each with its passage, compared with bank and map."""
-    bank, found = read_bank(settings.bank), read_map(settings.map)
-    passages = [read_passage(settings.texts, name) for name in found["passages"]]
-    if [item["number"] for item in found["items"]] != list(range(len(bank))):
-        raise BadInput(f"{settings.map}: its items are not those of {settings.bank}")
-    return [read_item(settings.texts, item["id"], row.categories, passages[row.passage - 1] if row.passage else None)
-            for item, row in zip(found["items"], bank)]
+def read_texts(folder, documents):
+    """The items of a bank by number, each with its passage, by the names that the map has."""
+    passages = [None, *(read_passage(folder, name) for name in documents.map["passages"])]
+    return [read_item(folder, item["id"], row.categories, passages[row.passage])
+            for item, row in zip(documents.map["items"], documents.bank)]

@@ -27,6 +27,12 @@ if [ ! -f "$folder/settings.toml" ]; then
     random > "$folder/secret"
     random | cut -c 1-16 > "$folder/staff_password"
     { cat "$here/../$example/$example.plan.txt"; echo "rate 2 3"; echo "key $(random)"; } > "$folder/plan.txt"
+    "$python" - "$here/../$example/$example.map.json" "$folder" <<'MAP'  # a map has the digest of its plan
+import hashlib, json, sys
+found = json.load(open(sys.argv[1], encoding="utf-8"))
+found["sha256"]["plan"] = hashlib.sha256(open(sys.argv[2] + "/plan.txt", "rb").read()).hexdigest()
+json.dump(found, open(sys.argv[2] + "/map.json", "w", encoding="utf-8"))
+MAP
     cat > "$folder/settings.toml" <<SETTINGS
 title = "Example: $example"
 listen = "127.0.0.1:$port"
@@ -35,7 +41,7 @@ server = "127.0.0.1:$((port + 2))"
 program = "$program"
 bank = "$here/../$example/$example.bank.csv"
 plan = "plan.txt"
-map = "$here/../$example/$example.map.json"
+map = "map.json"
 texts = "$here/texts/$example"
 journal = "journal"
 store = "delivery.sqlite"

@@ -7,6 +7,7 @@ from flask import render_template, request
 from flask_wtf.csrf import CSRFError
 from werkzeug.exceptions import HTTPException, ServiceUnavailable
 
+from readers import Refused
 from settings import BadInput, read_settings
 
 HEADERS = {
@@ -51,7 +52,7 @@ def run(make_app, address, words):
     try:
         settings = read_settings(words[0])
         app = make_app(settings)
-    except (BadInput, OSError) as error:
+    except (BadInput, Refused, OSError) as error:
         print(error, file=sys.stderr)
         return 1
     host, _, port = getattr(settings, address).rpartition(":")

@@ -1,8 +1,10 @@
 """What the tests share: an examination in a folder of its own, a stand-in for shadowd, and the program as a process."""
 import base64
 import contextlib
+import hashlib
 import http.client
 import importlib.util
+import json
 import os
 import re
 import signal
@@ -62,7 +64,11 @@ class Examination(unittest.TestCase):
         data = os.path.join(EXAMPLES, self.example, self.example)
         with open(data + ".plan.txt", encoding="ascii") as plan:
             self.write("plan.txt", plan.read() + f"rate 2 3\nkey {'07' * 32}\n")
-        paths = {"program": PROGRAM, "bank": data + ".bank.csv", "plan": "plan.txt", "map": data + ".map.json",
+        with open(data + ".map.json", encoding="utf-8") as file:
+            found = json.load(file)
+        found["sha256"]["plan"] = hashlib.sha256(self.bytes_of("plan.txt")).hexdigest()
+        self.write("map.json", json.dumps(found))
+        paths = {"program": PROGRAM, "bank": data + ".bank.csv", "plan": "plan.txt", "map": "map.json",
                  "texts": os.path.join(HERE, "texts", self.example), "journal": "journal", "store": "store", "secret": "secret",
                  "staff_password": "staff_password", "title": "A <b>test</b>"}
         lines = [f'{name} = "127.0.0.1:{port}"' for name, port in self.ports.items()]
@@ -77,6 +83,14 @@ class Examination(unittest.TestCase):
         with open(self.path(name), "w", encoding="utf-8") as file:
             file.write(text)
         return self.path(name)
+
+    def read(self, name):
+        with open(self.path(name), encoding="utf-8") as file:
+            return file.read()
+
+    def bytes_of(self, name):
+        with open(self.path(name), "rb") as file:
+            return file.read()
 
     def change_settings(self, **changed):
         """Gives settings other values, in the spelling of TOML; an empty one leaves the setting out."""

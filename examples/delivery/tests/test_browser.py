@@ -1,4 +1,5 @@
 """The application in headless Chromium, over shadowd itself."""
+import functools
 import re
 
 from common import LIMIT, Examination, needs_browser, needs_flask, needs_program, wait_until
@@ -174,10 +175,14 @@ class Sittings(InBrowser):
         self.keys(driver, Keys.TAB, Keys.ENTER)
         self.title(driver, "Sign in")
 
+    @functools.cached_property
+    def texts(self):
+        from delivery import Delivery
+        return Delivery(self.settings(), None).texts
+
     def key_of(self, item, option):
         """The response that the option is by the item's own file."""
-        from item_texts import read_texts
-        return read_texts(self.settings())[item].responses[option]
+        return self.texts[item].responses[option]
 
     def test_a_second_tab_and_the_back_button(self):
         driver = self.browser()

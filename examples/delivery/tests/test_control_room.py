@@ -125,9 +125,9 @@ class ControlRoom(Examination):
     def test_the_journal_is_only_read(self):
         self.start_server()
         self.sit(70, 2)
-        before = open(self.path("journal"), "rb").read()
+        before = self.bytes_of("journal")
         self.assertEqual(self.page()[0], 200)
-        self.assertEqual(open(self.path("journal"), "rb").read(), before)
+        self.assertEqual(self.bytes_of("journal"), before)
         self.assertEqual(len(self.sit(70, 9)), 7)
 
 

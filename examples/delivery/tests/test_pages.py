@@ -15,7 +15,7 @@ import threading
 import unittest.mock
 import urllib.parse
 
-from common import EXAMPLES, HERE, LIMIT, Client, Examination, LossyDoor, StandIn, fetch, needs_flask, needs_program
+from common import EXAMPLES, HERE, LIMIT, PROGRAM, Client, Examination, LossyDoor, StandIn, fetch, needs_flask, needs_program
 
 KEY = re.compile(r'<input type="radio" name="option" value="(\d+)" required> <span>([^<]*)</span>')
 
@@ -98,8 +98,7 @@ class Admission(WithStandIn):
     def test_codes_are_long_and_kept_as_digests(self):
         codes = {self.desk().issue(booking) for booking in range(100)}
         self.assertEqual(len(codes), 100)
-        with open(self.path("store"), "rb") as file:
-            kept = file.read()
+        kept = self.bytes_of("store") + self.bytes_of("store-wal")
         for code in codes:
             self.assertRegex(code, r"\A[0-9A-HJKMNP-TV-Z]{4}(-[0-9A-HJKMNP-TV-Z]{4}){2}\Z")
             self.assertNotIn(code.replace("-", "").encode(), kept)
@@ -208,10 +207,9 @@ class Answers(WithStandIn):
     def test_a_page_does_not_show_the_key(self):
         """The page of an item is the same whichever option is right."""
         shutil.copytree(os.path.join(HERE, "texts", "knowledge"), self.path("texts"))
-        path, pages = self.path("texts/V1.toml"), []
+        pages = []
         for responses in ("[1, 0, 0, 0]", "[0, 0, 1, 0]"):
-            text = open(path, encoding="utf-8").read()
-            self.write("texts/V1.toml", re.sub(r"responses = .*", f"responses = {responses}", text))
+            self.write("texts/V1.toml", re.sub(r"responses = .*", f"responses = {responses}", self.read("texts/V1.toml")))
             self.change_settings(texts='"texts"')
             client = self.begun(70, self.make_app())
             pages.append(re.sub(r'name="csrf_token" value="[^"]*"', "", client.page))
@@ -374,7 +372,7 @@ class Texts(WithStandIn):
             for name in names:
                 made = os.path.join(folder, name)
                 kept = os.path.join(HERE, "texts", os.path.relpath(made, self.path("made")))
-                self.assertEqual(open(made, encoding="utf-8").read(), open(kept, encoding="utf-8").read(), name)
+                self.assertEqual(self.bytes_of(made), self.bytes_of(kept), name)
 
     def test_wrong_settings(self):
         import control_room
@@ -469,14 +467,15 @@ class WithProgram(Examination):
 
     def test_the_score_is_that_of_the_tools(self):
         self.change_settings(show_score="true", scale="[500, 100]")
-        self.start_server()
+        server = self.start_server()
         client = Client(self.app())
         client.begin(self.desk().issue(70))
         for step in range(20):
             client.answer(step % 4)
         shown = re.search(r"<strong>([\d.]+)</strong>, with a standard error of <strong>([\d.]+)</strong>", client.page)
+        self.kill(server)
         tool = [sys.executable, os.path.join(EXAMPLES, "..", "tools", "score.py"), self.bank, self.plan, self.settings().map,
-                "--journal", self.path("journal"), "--scale", "500", "100"]
+                "--journal", self.path("journal"), "--scale", "500", "100", "--program", PROGRAM]
         done = subprocess.run(tool, capture_output=True, text=True, timeout=LIMIT, check=False)
         row = next(csv.DictReader(done.stdout.splitlines()), None)
         self.assertIsNotNone(row, done.stderr)
