@@ -157,6 +157,9 @@ class Launcher(Examination):
         self.assertIn("0 of 3", page)
         for name in ("secret", "staff_password", "plan.txt", "settings.toml", "delivery.sqlite"):
             self.assertEqual(os.stat(os.path.join(self.path("run"), name)).st_mode & 0o077, 0, name)
+        first = self.read("run/shadowd.pid")
+        os.kill(int(first), signal.SIGKILL)
+        wait_until(lambda: self.read("run/shadowd.pid") not in ("", first) and listens(port + 2), "shadowd is started again")
         command.send_signal(signal.SIGTERM)
         command.wait(LIMIT)
         for one in range(3):
