@@ -3,9 +3,11 @@ import http.client
 import json
 import os
 import re
+import shutil
 import socket
 import subprocess
 import threading
+import time
 import unittest
 
 from common import PROGRAM, ROOT, Folder, needs_program
@@ -18,16 +20,22 @@ LIMIT = 60  # seconds for each wait
 class Serving(Folder):
     """One run of `serve` on a free port of the loopback address, of which each worker takes a stated number of connections."""
 
-    def start(self, listen="127.0.0.1:0", workers=1, connections=1):
-        environment = dict(os.environ, SHADOWD_JOURNAL=self.path("journal"), SHADOWD_LISTEN=listen,
+    def start(self, listen="127.0.0.1:0", workers=1, connections=1, idle=60):
+        """The first line of standard error. With "" for the connections the server has no end, and keeps idle ones aside."""
+        environment = dict(os.environ, SHADOWD_JOURNAL=self.path("journal"), SHADOWD_LISTEN=listen, SHADOWD_IDLE=str(idle),
                            SHADOWD_WORKERS=str(workers), SHADOWD_CONNECTIONS=str(connections))
         self.server = subprocess.Popen([PROGRAM, "serve", *FILES], env=environment, stdin=subprocess.DEVNULL,
                                        stdout=subprocess.PIPE, stderr=subprocess.PIPE, text=True)
         watch = threading.Timer(LIMIT, self.server.kill)
         watch.start()
         self.addCleanup(watch.cancel)
-        self.addCleanup(self.server.kill)
+        self.addCleanup(self.stop)
         return self.server.stderr.readline()
+
+    def stop(self):
+        self.server.kill()
+        if not self.server.stdout.closed:
+            self.server.communicate(timeout=LIMIT)
 
     def port(self, line):
         found = re.fullmatch(r"shadowd: listening on 127\.0\.0\.1:(\d+), journal (.*)\n", line)
@@ -118,6 +126,114 @@ class Session(Serving):
         self.assertEqual(self.end()[0], 0)
 
 
+# What is sent before the client falls silent.
+SILENT = {"nothing": b"", "half a head": b"POST /sess", "half a body": b"POST /sessions HTTP/1.1\r\nContent-Length: 14\r\n\r\n{",
+          "a whole request": b"GET /sessions/9 HTTP/1.1\r\n\r\n"}
+
+
+@needs_program
+class Time(Serving):
+    """Connections that wait: what a client beside them gets, and how they end."""
+
+    def connection(self, port):
+        made = socket.create_connection(("127.0.0.1", port), LIMIT)
+        self.addCleanup(made.close)
+        made.settimeout(LIMIT)
+        return made
+
+    def status(self, connection):
+        connection.sendall(b"GET /sessions/9 HTTP/1.1\r\n\r\n")
+        said = b""
+        while not said.endswith(b"}"):
+            piece = connection.recv(4096)
+            self.assertNotEqual(piece, b"", "no reply")
+            said += piece
+        return said.split(b" ", 2)[1]
+
+    def test_more_connections_than_workers(self):
+        """Forty clients that keep their connections open, in turn, on one worker, beside ten that send nothing."""
+        port = self.port(self.start(connections=""))
+        idle = [self.connection(port) for _ in range(10)]
+        clients = [self.connection(port) for _ in range(40)]
+        for _ in range(3):
+            for client in clients:
+                self.assertEqual(self.status(client), b"404")
+        self.assertEqual({self.status(client) for client in idle}, {b"404"})
+
+    def test_two_messages_in_pieces_on_a_connection_that_is_kept_aside(self):
+        """The server has the half of the second message when it answers the first: it must not set the connection aside then."""
+        port = self.port(self.start(connections=""))
+        message, client = b"GET /sessions/9 HTTP/1.1\r\n\r\n", self.connection(port)
+        client.sendall(message + message[:9])
+        self.assertTrue(client.recv(4096).startswith(b"HTTP/1.1 404 "))
+        time.sleep(0.2)
+        client.sendall(message[9:])
+        self.assertTrue(client.recv(4096).startswith(b"HTTP/1.1 404 "))
+
+    def test_silent_clients_lose_their_connections(self):
+        port = self.port(self.start(workers=8, connections="", idle=1))
+        clients = {name: self.connection(port) for name in SILENT}
+        for name, client in clients.items():
+            client.sendall(SILENT[name])
+        said = {name: b"".join(iter(lambda client=client: client.recv(4096), b"")) for name, client in clients.items()}
+        self.assertTrue(said.pop("a whole request").startswith(b"HTTP/1.1 404 "))
+        self.assertEqual(set(said.values()), {b""})
+        self.assertEqual(self.status(self.connection(port)), b"404")
+
+    def test_a_byte_a_second(self):
+        """A message that takes longer than its limit, though each byte comes soon."""
+        port = self.port(self.start(connections=""))
+        client, sent = self.connection(port), 0
+        try:
+            for sent in range(LIMIT):
+                client.sendall(b"GET /sessions/0 HTTP/1.1\r\nA: " + b"a" * 100 if sent == 0 else b"a")
+                time.sleep(1)
+        except OSError:
+            pass
+        self.assertLess(sent, 30)
+        self.assertEqual(self.status(self.connection(port)), b"404")
+
+    def test_a_client_that_does_not_read(self):
+        port = self.port(self.start(connections=""))
+        deaf = self.connection(port)
+        deaf.setblocking(False)
+        try:
+            while deaf.send(b"GET /exposure HTTP/1.1\r\n\r\n" * 1000):
+                pass
+        except BlockingIOError:
+            pass
+        self.assertEqual(self.status(self.connection(port)), b"404")
+
+
+@needs_program
+class Clients(Serving):
+    """A whole session by clients that are not ours."""
+
+    REQUESTS = [("/sessions", '{"booking":70}')] + [("/sessions/0/answers", '{"step":%d,"response":%d}' % answer)
+                                                    for answer in ((0, 1), (1, 0), (2, 1))]
+
+    def session(self, word, arguments):
+        """The state in each reply to the requests; `arguments` makes the words for an address and a body."""
+        if shutil.which(word) is None:
+            self.skipTest(f"needs {word}")
+        port = self.port(self.start(connections="", workers=2))
+        states = []
+        for path, body in self.REQUESTS:
+            done = subprocess.run([word, *arguments(f"http://127.0.0.1:{port}{path}", body)], capture_output=True, text=True, timeout=LIMIT)
+            states.append(json.loads(done.stdout)["state"])
+        self.assertEqual(states, ["waiting", "waiting", "waiting", "complete"])
+
+    def test_curl(self):
+        self.session("curl", lambda address, body: ["-s", "--http1.1", "-d", body, address])
+
+    def test_lwp(self):
+        """Perl's LWP sends `Connection: TE, close`."""
+        text = "use LWP::UserAgent; my ($to, $body) = @ARGV; print LWP::UserAgent->new->post($to, Content => $body)->content"
+        if shutil.which("perl") is None or subprocess.run(["perl", "-MLWP::UserAgent", "-e1"], stderr=subprocess.DEVNULL).returncode:
+            self.skipTest("needs libwww-perl")
+        self.session("perl", lambda address, body: ["-e", text, address, body])
+
+
 @needs_program
 class Pages(Serving):
     """The requests by curl and the responses beside them that the pages have."""
@@ -159,6 +275,12 @@ class Ends(Serving):
             self.assertTrue(line.startswith(f"shadowd: cannot listen on {address}: "), line)
             status, said, _ = self.end()
         self.assertEqual((status, said), (14, "door failed\n"))
+
+    def test_a_number_that_counts_as_not_set(self):
+        line = self.start(workers=32, connections=0)
+        self.assertEqual(line, "shadowd: SHADOWD_WORKERS=32 counts as not set: it is no number from 1 to 16\n")
+        self.port(self.server.stderr.readline())
+        self.assertEqual(self.end()[0], 0)
 
     def test_no_connections_give_the_summary(self):
         self.port(self.start(connections=0))

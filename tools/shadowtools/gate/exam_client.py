@@ -82,8 +82,10 @@ class Connection:
 class Server:
     """A process of `shadowd serve BANK PLAN` on a free port of the loopback address."""
 
-    def __init__(self, program: Sequence[str], bank: str, plan: str, journal: str, workers: int = 4, wait: float = 900) -> None:
-        env = dict(os.environ, SHADOWD_JOURNAL=journal, SHADOWD_LISTEN="127.0.0.1:0", SHADOWD_WORKERS=str(workers))
+    def __init__(self, program: Sequence[str], bank: str, plan: str, journal: str, workers: int = 4, wait: float = 900,
+                 idle: int = 300) -> None:
+        env = dict(os.environ, SHADOWD_JOURNAL=journal, SHADOWD_LISTEN="127.0.0.1:0", SHADOWD_WORKERS=str(workers),
+                   SHADOWD_IDLE=str(idle))
         env.pop("SHADOWD_CONNECTIONS", None)
         self.process = subprocess.Popen([*program, "serve", bank, plan], env=env, stdin=subprocess.DEVNULL,
                                         stdout=subprocess.PIPE, stderr=subprocess.PIPE)

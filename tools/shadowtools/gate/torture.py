@@ -17,10 +17,12 @@ Kinds of cases:
              with a full disk: each byte of each response
   crowd      many connections at once that end at any time, with kills and restarts of `serve`;
              what was acknowledged is in the journal
+  waits      connections that fall silent, or send a byte now and then, beside a client that has
+             all its responses; each of them ends
 
 Each case draws from its own seed. No text of a case depends on time. What does: when a process of
 `stops` is killed (one way to stop of eight; the others are by size and give the same again), and in
-`crowd` the order of requests and the moments of kills.
+`crowd` the order of requests and the moments of kills. The time of `waits` is mostly waiting.
 
 It stops at the first surprise, keeps the
 files of that case (FOLDER, by default `torture-SEED-CASE` in the folder of temporary files), and
@@ -40,6 +42,7 @@ from shadowtools.checkers import drill_texts
 from shadowtools.checkers import reply_model
 from shadowtools.gate import torture_draws as draws
 from shadowtools.gate import torture_http
+from shadowtools.gate import torture_waits
 from shadowtools.checkers.reply_model import Surprise
 from shadowtools.gate.torture_cases import Case, Exam, Stop, demand
 from shadowtools.command import as_command
@@ -163,8 +166,8 @@ def a_drill(case, number):
 
 
 KINDS = {"texts": texts, "commands": commands, "journals": journals, "stops": stops,
-         "messages": torture_http.messages, "crowd": torture_http.crowd}
-SHARES = {"texts": 8, "commands": 1, "journals": 4, "stops": 4, "messages": 4, "crowd": 1}
+         "messages": torture_http.messages, "crowd": torture_http.crowd, "waits": torture_waits.waits}
+SHARES = {"texts": 8, "commands": 1, "journals": 4, "stops": 4, "messages": 4, "crowd": 1, "waits": 0.1}
 
 
 def run_case(program, seed, number, kinds, folder):
