@@ -610,7 +610,8 @@ impl Model {
         Ok(multipliers)
     }
 
-    /// Adds the multipliers of common use: those of the lines of uses, or of a pool what its items count above the last that it takes.
+    /// Adds the multipliers of common use, which one form alone needs not: those of the lines of uses, or of a pool what its items
+    /// count above the last that it takes.
     fn add_uses_of(
         &self,
         alloc: Global,
@@ -618,6 +619,9 @@ impl Model {
         multipliers: &mut Multipliers,
         prices: &[i64],
     ) -> Result<(), Memory> {
+        if table.forms < 2 {
+            return Ok(());
+        }
         if self.is_pool {
             return set_pool_uses(alloc, table, multipliers);
         }
