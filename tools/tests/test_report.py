@@ -316,7 +316,7 @@ class Pages(Examination):
         self.refused("is not the journal of the run")
         with open(self.path("run.journal"), "wb") as file:
             file.write(journal)
-        self.write("run.run.json", json.dumps(dict(json.loads(run), true=[0.0], examinees=1)))
+        self.write("run.run.json", json.dumps(dict(json.loads(run), true=[0.0], examinees=1, tails=[])))
         self.refused("is not the journal of run.run.json")
         self.write("run.run.json", run.replace(json.loads(run)["sha256"]["plan"], "0" * 64))
         self.refused("is of another plan")

@@ -77,10 +77,11 @@ def sessions_of_run(given: argparse.Namespace, run: dict, examination: Examinati
     for name in ("bank", "plan", "map"):
         if run["sha256"].get(name) != examination.sha256[name]:
             raise Refused(f"{given.run}.run.json is of another {name} than that of {given.prefix}; simulate again")
-    sample, _ = parted(journal_of(given.run + ".journal", run, "journal"), run["examinees"])
+    sample = journal_of(given.run + ".journal", run, "journal")
     tails = parted(journal_of(given.run + ".tails.journal", run, "tails"), run["examinees"])[1] if run["tails"] else []
     whole = [[one for one in part if len(one.responses) == examination.plan.length] for part in (sample, tails)]
-    if not whole[0] or any(one.booking >= len(run["true"]) for part in whole for one in part):
+    last = [max((one.booking for one in part), default=0) for part in (sample, tails)]
+    if not whole[0] or last[0] >= run["examinees"] or last[1] >= len(run["true"]):
         raise Refused(f"{given.run}.journal has no whole session, or is not the journal of {given.run}.run.json")
     return whole[0], whole[1]
 
