@@ -55,9 +55,7 @@ class Crowd:
         while self.due and self.due[0][0] <= time.monotonic():
             _, seat, place = self.due.popleft()
             if seat is None:
-                seat = Seat(self.address, self.bookings, self.draws)
-                self.chosen.register(seat.socket, selectors.EVENT_READ, seat)
-                seat.begin()
+                Seat(self.address, self.bookings, self.draws, self.chosen).begin()
             else:
                 seat.go_on(place)
 

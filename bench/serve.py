@@ -1,10 +1,11 @@
 #!/usr/bin/env python3
 """Measures `shadowd serve` on a loopback socket. See serve.md.
 
-usage: serve.py PROGRAM FOLDER [--connections 1 2 4 8 16] [--sessions N] [--size]
+usage: serve.py PROGRAM FOLDER [--connections 1 2 4 8 16 60 200] [--sessions N] [--close] [--through nginx | haproxy] [--size]
 
-PROGRAM is the built program of crates/shadowd; the journal is written in FOLDER, and so are the records of the loop beside it. --size measures
-memory at 1,000 open sessions of the greatest bank in place of speed.
+PROGRAM is the built program of crates/shadowd; the journal is written in FOLDER, and so are the records of the loop beside it. With --close each
+request has a connection of its own. With --through the requests go through a proxy, in the set-up of docs/OPERATING.md. --size measures memory
+at 1,000 open sessions of the greatest bank in place of speed. The client is one process; `wrk` measures more than it can ask.
 """
 import argparse
 import os
@@ -19,6 +20,7 @@ from problems import Draws, drill
 
 sys.path.insert(0, os.path.join(os.path.dirname(os.path.abspath(__file__)), "..", "tools"))
 from exam_client import Connection, Server, answer, begin, split_reply  # noqa: E402
+from proxies import PROXIES, start  # noqa: E402
 
 WORKERS = 16
 SYNCED_RECORDS = 500  # of the loop beside each measurement
@@ -27,14 +29,26 @@ SYNCED_RECORDS = 500  # of the loop beside each measurement
 class Seat:
     """A connection that takes whole sessions, one request at a time."""
 
-    def __init__(self, address, bookings, draw):
-        self.socket = socket.create_connection(address)
-        self.socket.setsockopt(socket.IPPROTO_TCP, socket.TCP_NODELAY, 1)
+    def __init__(self, address, bookings, draw, chosen, close=False):
+        self.address, self.chosen, self.close, self.socket = address, chosen, close, None
         self.bookings, self.draw, self.kept, self.sent = bookings, draw, b"", 0.0
 
     def send(self, message):
         self.sent = time.perf_counter()
+        if self.close:
+            self.leave()
+        if self.socket is None:
+            self.socket = socket.create_connection(self.address)
+            self.socket.setsockopt(socket.IPPROTO_TCP, socket.TCP_NODELAY, 1)
+            self.chosen.register(self.socket, selectors.EVENT_READ, self)
         self.socket.sendall(message)
+
+    def leave(self):
+        """Ends the connection, if there is one."""
+        if self.socket is not None:
+            self.chosen.unregister(self.socket)
+            self.socket.close()
+            self.socket = None
 
     def begin(self):
         """Begins the next session; False if there is no other."""
@@ -64,15 +78,13 @@ class Seat:
         return self.begin()
 
 
-def load(address, connections, sessions):
+def load(address, connections, sessions, close):
     """Takes so many whole sessions over so many connections: the seconds, the time to each reply, and the items answered."""
     draws, bookings = Draws(7), iter(range(sessions))
     chosen = selectors.DefaultSelector()
     times, answered, begun = [], 0, time.perf_counter()
     for _ in range(connections):
-        seat = Seat(address, bookings, draws)
-        if seat.begin():
-            chosen.register(seat.socket, selectors.EVENT_READ, seat)
+        Seat(address, bookings, draws, chosen, close).begin()
     while chosen.get_map():
         for key, _ in chosen.select():
             seat = key.data
@@ -85,8 +97,7 @@ def load(address, connections, sessions):
                 raise RuntimeError(f"status {status}: {place}")
             answered += place["state"] == "complete" or place.get("step", 0) > 0
             if not seat.go_on(place):
-                chosen.unregister(seat.socket)
-                seat.socket.close()
+                seat.leave()
     return time.perf_counter() - begun, times, answered
 
 
@@ -122,13 +133,19 @@ def percent(times, share):
     return sorted(times)[min(len(times) - 1, int(len(times) * share))] * 1e3
 
 
-def measure(program, texts, folder, connections, sessions):
+def measure(program, texts, folder, connections, asked):
     """One row of the table."""
     journal = f"{folder}/journal"
-    server = Server(program, *texts, journal, WORKERS)
+    server, proxy, address = Server(program, *texts, journal, WORKERS), None, None
     try:
-        took, times, answered = load(server.address, connections, sessions)
+        if asked.through:
+            proxy, port = start(asked.through, folder, server.address[1])
+            address = ("127.0.0.1", port)
+        took, times, answered = load(address or server.address, connections, asked.sessions, asked.close)
     finally:
+        if proxy:
+            proxy.terminate()
+            proxy.wait()
         server.kill()
     entries, size = entries_of(journal)
     os.remove(journal)
@@ -146,7 +163,7 @@ def speed(program, folder, asked):
     print("| Connections | Requests a second | Items answered a second | Median ms | 95 % ms | 99 % ms | The disk's syncs allow | Part of it |")
     print("|---|---|---|---|---|---|---|---|")
     for connections in asked.connections:
-        measure(program, texts, folder, connections, asked.sessions)
+        measure(program, texts, folder, connections, asked)
     print(f"load {os.getloadavg()[0]:.1f} after")
 
 
@@ -202,12 +219,12 @@ def main():
     words = argparse.ArgumentParser(description="Measures the server on a loopback socket.")
     words.add_argument("program")
     words.add_argument("folder")
-    words.add_argument("--connections", type=int, nargs="+", default=[1, 2, 4, 8, 16])
+    words.add_argument("--connections", type=int, nargs="+", default=[1, 2, 4, 8, 16, 60, 200])
     words.add_argument("--sessions", type=int, default=200)
+    words.add_argument("--close", action="store_true")
+    words.add_argument("--through", choices=PROXIES)
     words.add_argument("--size", action="store_true")
     asked = words.parse_args()
-    if max(asked.connections) >= WORKERS + 1:
-        words.error(f"each connection holds a worker: at most {WORKERS}")
     program = [os.path.abspath(asked.program)]
     with tempfile.TemporaryDirectory(dir=asked.folder) as folder:
         if asked.size:
