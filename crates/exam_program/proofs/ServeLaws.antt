@@ -33,9 +33,9 @@ use Rattle.exam_program.specs.declared.halt.Halt.{Halt}
 use Rattle.exam_program.specs.declared.halt.Halt.TheVariants as halt
 use Rattle.exam_program.specs.Outcomes.{Outcome, without_memory, server_refused, server_without_journal, server_without_memory, PrintsBefore, Halts, EndsBy, Ends, IsStatus, IsStatusOfRun, IsStatusBefore}
 use Rattle.exam_program.specs.Outside.{Outside, DiskSeen, IsUntouched, WasSettled}
-use Rattle.exam_program.specs.Runs.{RunEnds, idle, busy, EndsWith, IsLastOf, IsLastWritten, IsStatusOfServing}
-use Rattle.exam_program.specs.Serves.{IsServeOf, IsExamined, WorkSeen, IsLast, numbers, no_numbers, a_door, IsServedBy}
-use Rattle.exam_program.specs.Texts.{door_failed}
+use Rattle.exam_program.specs.Runs.{RunEnds, idle, busy, EndsWith, IsEnding, IsLastOf, IsLastWritten, IsStatusOfEnding}
+use Rattle.exam_program.specs.Serves.{IsServeOf, IsExamined, WorkSeen, IsLast, numbers, no_numbers, a_disk, a_door, IsServedBy}
+use Rattle.exam_program.specs.Texts.{disk_failed, door_failed}
 use Rattle.exam_lines.specs.Texts.{summary_text}
 use Rattle.exam_program.specs.Stopping.{IsUnopened, refused, failed, out_of_memory, opening_halt}
 use Rattle.exam_program.specs.Writing.{IsWritten, WritesPart}
@@ -135,6 +135,31 @@ last_text bytes told old new result end s is (Err e) made whole none = record {
   written = none;
 }
 
+-- what is printed over a disk that works
+ending_allowed : (end : End) (s : Summary) (status : ℕ) (text : List ℕ) → IsLastOf end s status text → IsEnding end s status text
+ending_allowed Done s status text allowed = inl allowed
+ending_allowed DoorFailed s status text allowed = allowed
+ending_allowed Memory s status text allowed = allowed
+
+pub ends_over : (told : Bool) (old new : List ℕ) (result : ℕ) (end : End) (s : Summary) → EndsWith (IsLastOf end s) told old new result
+    → EndsWith (IsEnding end s) told old new result
+ends_over told old new result end s ends = record {
+  status = ends.status;
+  text = ends.text;
+  is_allowed = ending_allowed end s ends.status ends.text ends.is_allowed;
+  written = ends.written;
+}
+
+-- and over one that failed
+pub disk_ends : (told : Bool) (old new : List ℕ) (result : ℕ) (end : End) (s : Summary) → end ≡ Done → IsLastWritten told old new 9 disk_failed result
+    → EndsWith (IsEnding end s) told old new result
+disk_ends told old new result end s is whole = record {
+  status = 9;
+  text = disk_failed;
+  is_allowed = subst (λ (e : End). IsEnding e s 9 disk_failed) (sym is) (inr (refl, refl));
+  written = whole;
+}
+
 -- a part of a text that is printed last
 last_part : (words : List (List ℕ)) (o : Outside) (told : Bool) (old new : List ℕ) (result status : ℕ) (text : List ℕ) → Outcome words o status text
     → IsLastWritten told old new status text result → Ends words o told old new result
@@ -174,18 +199,23 @@ module _ {A D K : Type 0} (tells : D → Bool) (coming returned : D → List K) 
   last_of status text (inr e) = subst (λ (n : ℕ). IsLast p (history new.marks) false n text) (sym e.0)
       (subst (λ (t : List ℕ). IsLast p (history new.marks) false 10 t) (sym e.1) no_numbers)
 
+  ending_of : (status : ℕ) (text : List ℕ) → IsEnding Done numbers_of status text → IsLast p (history new.marks) false status text
+  ending_of status text (inl e) = last_of status text e
+  ending_of status text (inr e) = subst (λ (n : ℕ). IsLast p (history new.marks) false n text) (sym e.0)
+      (subst (λ (t : List ℕ). IsLast p (history new.marks) false 9 t) (sym e.1) a_disk)
+
   cut_of : (status : ℕ) (text : List ℕ) → IsLastOf DoorFailed numbers_of status text → IsLast p (history new.marks) true status text
   cut_of status text e = subst (λ (n : ℕ). IsLast p (history new.marks) true n text) (sym e.0)
       (subst (λ (t : List ℕ). IsLast p (history new.marks) true 14 t) (sym e.1) a_door)
 
   pub ends_serving : (end : End)
       → IsResult tells coming returned is_out faults identity link_tells left written link_faults link_identity old doors new back end
-      → (end ≡ Memory → new ≡ old) → (end ≡ Memory → Unused) → EndsWith (IsLastOf end numbers_of) told was now result
+      → (end ≡ Memory → new ≡ old) → (end ≡ Memory → Unused) → EndsWith (IsEnding end numbers_of) told was now result
       → RunEnds Served Unused words o told was now result
   ends_serving Done served none unused ends = busy (work_of false) served record {
     status = ends.status;
     text = ends.text;
-    is_allowed = by_last false ends.status ends.text (last_of ends.status ends.text ends.is_allowed);
+    is_allowed = by_last false ends.status ends.text (ending_of ends.status ends.text ends.is_allowed);
     written = ends.written;
   }
   ends_serving DoorFailed served none unused ends = busy (work_of true) served record {
@@ -208,19 +238,21 @@ pub halt_status : {R : Type 0} (h : Halt) (status : ℕ) → (EndsBy h status) �
 halt_status h status (inl e) = inl (ends_by h status e)
 halt_status h status (inr e) = inl (also 8 status e.0 is_8)
 
--- the status of work at doors, or that of a sink that failed
-pub serving_status : {R : Type 0} (end : End) (status : ℕ) → (IsStatusOfServing end status) ⊎ ((status ≡ 8) × R) → IsStatusOfRun status
-serving_status end status (inr e) = inl (also 8 status e.0 is_8)
-serving_status Done status (inl (inl e)) = inl (also 0 status e (0, omega arith, refl))
-serving_status Done status (inl (inr e)) = inl (also 10 status e (9, omega arith, refl))
-serving_status DoorFailed status (inl e) = inr e
-serving_status Memory status (inl e) = inl (also 10 status e (9, omega arith, refl))
+-- the status of work at doors, of a disk that failed then, or of a sink that failed
+pub ending_status : {R : Type 0} (end : End) (status : ℕ) → (IsStatusOfEnding end status) ⊎ ((status ≡ 8) × R) → IsStatusOfRun status
+ending_status end status (inr e) = inl (also 8 status e.0 is_8)
+ending_status Done status (inl (inl (inl e))) = inl (also 0 status e (0, omega arith, refl))
+ending_status Done status (inl (inl (inr e))) = inl (also 10 status e (9, omega arith, refl))
+ending_status Done status (inl (inr e)) = inl (also 9 status e (8, omega arith, refl))
+ending_status DoorFailed status (inl e) = inr e
+ending_status Memory status (inl e) = inl (also 10 status e (9, omega arith, refl))
 
 -- status 14 is that of a door that failed
-pub failed_door_so : {Q R : Type 0} (end : End) (status : ℕ) → (end ≡ DoorFailed → Q) → (IsStatusOfServing end status) ⊎ ((status ≡ 8) × R)
+pub failed_door_so : {Q R : Type 0} (end : End) (status : ℕ) → (end ≡ DoorFailed → Q) → (IsStatusOfEnding end status) ⊎ ((status ≡ 8) × R)
     → status ≡ 14 → Q
 failed_door_so end status why (inr e) is = let is_8 : status ≡ 8 = e.0 in absurd (omega (arith, is_8, is))
-failed_door_so Done status why (inl (inl e)) is = absurd (omega (arith, e, is))
+failed_door_so Done status why (inl (inl (inl e))) is = absurd (omega (arith, e, is))
+failed_door_so Done status why (inl (inl (inr e))) is = absurd (omega (arith, e, is))
 failed_door_so Done status why (inl (inr e)) is = absurd (omega (arith, e, is))
 failed_door_so DoorFailed status why (inl e) is = why refl
 failed_door_so Memory status why (inl e) is = absurd (omega (arith, e, is))

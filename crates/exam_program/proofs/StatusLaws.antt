@@ -12,7 +12,7 @@ use Rattle.exam_program.specs.declared.halt.Halt.{Halt}
 use Rattle.exam_program.specs.declared.halt.Halt.TheVariants as halt
 use Rattle.exam_program.specs.Halts.{IsBeforeJournal}
 use Rattle.exam_program.specs.Outcomes.{EndsBy, IsStatus, IsStatusBefore}
-use Rattle.exam_program.specs.Runs.{IsStatusOfServing}
+use Rattle.exam_program.specs.Runs.{IsStatusOfEnding, IsStatusOfServing}
 use Rattle.exam_program.specs.Stopping.{opening_halt}
 
 -- the status of a halt whose text found memory
@@ -188,13 +188,6 @@ no_memory_unprinted status (inr e) is = e.1
 
 -- ---- the status of a server, or 8 where the sink failed
 module _ {R : Type 0} where
-  pub serving_unprinted : (end : End) (status : ℕ) → (IsStatusOfServing end status) ⊎ ((status ≡ 8) × R) → status ≡ 8 → R
-  serving_unprinted end status (inr e) is = e.1
-  serving_unprinted Done status (inl (inl e)) is = absurd (omega (arith, e, is))
-  serving_unprinted Done status (inl (inr e)) is = absurd (omega (arith, e, is))
-  serving_unprinted DoorFailed status (inl e) is = absurd (omega (arith, e, is))
-  serving_unprinted Memory status (inl e) is = absurd (omega (arith, e, is))
-
   pub serving_not_9 : (end : End) (status : ℕ) → (IsStatusOfServing end status) ⊎ ((status ≡ 8) × R) → status ≡ 9 → ⊥
   serving_not_9 end status (inr e) is = let is_8 : status ≡ 8 = e.0 in omega (arith, is_8, is)
   serving_not_9 Done status (inl (inl e)) is = omega (arith, e, is)
@@ -202,12 +195,32 @@ module _ {R : Type 0} where
   serving_not_9 DoorFailed status (inl e) is = omega (arith, e, is)
   serving_not_9 Memory status (inl e) is = omega (arith, e, is)
 
-  pub serving_late : (end : End) (status : ℕ) → (IsStatusOfServing end status) ⊎ ((status ≡ 8) × R) → IsStatusBefore status → ⊥
-  serving_late end status (inr e) before = false≢true (subst (λ (s : ℕ). IsStatusBefore s) e.0 before)
-  serving_late Done status (inl (inl e)) before = false≢true (subst (λ (s : ℕ). IsStatusBefore s) e before)
-  serving_late Done status (inl (inr e)) before = false≢true (subst (λ (s : ℕ). IsStatusBefore s) e before)
-  serving_late DoorFailed status (inl e) before = false≢true (subst (λ (s : ℕ). IsStatusBefore s) e before)
-  serving_late Memory status (inl e) before = false≢true (subst (λ (s : ℕ). IsStatusBefore s) e before)
+  -- the same of a server that asks the disk a last time
+  pub ending_so : (end : End) (status : ℕ) → (IsStatusOfServing end status) ⊎ ((status ≡ 8) × R) → (IsStatusOfEnding end status) ⊎ ((status ≡ 8) × R)
+  ending_so end status (inr e) = inr e
+  ending_so Done status (inl e) = inl (inl e)
+  ending_so DoorFailed status (inl e) = inl e
+  ending_so Memory status (inl e) = inl e
+
+  pub disk_ending_so : (end : End) (status : ℕ) → end ≡ Done → (status ≡ 9) ⊎ ((status ≡ 8) × R) → (IsStatusOfEnding end status) ⊎ ((status ≡ 8) × R)
+  disk_ending_so end status is (inr e) = inr e
+  disk_ending_so end status is (inl e) = inl (subst (λ (x : End). IsStatusOfEnding x status) (sym is) (inr e))
+
+  pub ending_unprinted : (end : End) (status : ℕ) → (IsStatusOfEnding end status) ⊎ ((status ≡ 8) × R) → status ≡ 8 → R
+  ending_unprinted end status (inr e) is = e.1
+  ending_unprinted Done status (inl (inl (inl e))) is = absurd (omega (arith, e, is))
+  ending_unprinted Done status (inl (inl (inr e))) is = absurd (omega (arith, e, is))
+  ending_unprinted Done status (inl (inr e)) is = absurd (omega (arith, e, is))
+  ending_unprinted DoorFailed status (inl e) is = absurd (omega (arith, e, is))
+  ending_unprinted Memory status (inl e) is = absurd (omega (arith, e, is))
+
+  pub ending_late : (end : End) (status : ℕ) → (IsStatusOfEnding end status) ⊎ ((status ≡ 8) × R) → IsStatusBefore status → ⊥
+  ending_late end status (inr e) before = false≢true (subst (λ (s : ℕ). IsStatusBefore s) e.0 before)
+  ending_late Done status (inl (inl (inl e))) before = false≢true (subst (λ (s : ℕ). IsStatusBefore s) e before)
+  ending_late Done status (inl (inl (inr e))) before = false≢true (subst (λ (s : ℕ). IsStatusBefore s) e before)
+  ending_late Done status (inl (inr e)) before = false≢true (subst (λ (s : ℕ). IsStatusBefore s) e before)
+  ending_late DoorFailed status (inl e) before = false≢true (subst (λ (s : ℕ). IsStatusBefore s) e before)
+  ending_late Memory status (inl e) before = false≢true (subst (λ (s : ℕ). IsStatusBefore s) e before)
 
 -- ---- the halt of a journal that was not opened
 pub disk_fault : (f : OpenFault) → opening_halt f ≡ halt.Disk → f ≡ fault.Disk

@@ -12,7 +12,7 @@ use Rattle.exam_lines.specs.Texts.{summary_text}
 use Rattle.exam_program.specs.Outcomes.{Ends, LeavesJournal}
 use Rattle.exam_program.specs.Outside.{Outside}
 use Rattle.exam_program.specs.Serves.{WorkSeen, IsServeOf, IsExamined, IsServedBy}
-use Rattle.exam_program.specs.Texts.{door_failed}
+use Rattle.exam_program.specs.Texts.{disk_failed, door_failed}
 use Rattle.exam_program.specs.Writing.{IsWritten, WritesPart}
 
 -- a text was written with its status; or, where the sink failed, a part of it, and the status is 8
@@ -53,7 +53,18 @@ IsLastOf Done s status text = ((status ≡ 0) × (text ≡ summary_text s)) ⊎ 
 IsLastOf DoorFailed s status text = (status ≡ 14) × (text ≡ door_failed)
 IsLastOf Memory s status text = (status ≡ 10) × (text ≡ no_memory)
 
+-- so where the disk is asked a last time: it may have failed once the work was done
+abbrev pub IsEnding : End → Summary → ℕ → List ℕ → Type 0
+IsEnding Done s status text = IsLastOf Done s status text ⊎ ((status ≡ 9) × (text ≡ disk_failed))
+IsEnding DoorFailed s status text = IsLastOf DoorFailed s status text
+IsEnding Memory s status text = IsLastOf Memory s status text
+
 abbrev pub IsStatusOfServing : End → ℕ → Type 0
 IsStatusOfServing Done status = (status ≡ 0) ⊎ (status ≡ 10)
 IsStatusOfServing DoorFailed status = status ≡ 14
 IsStatusOfServing Memory status = status ≡ 10
+
+abbrev pub IsStatusOfEnding : End → ℕ → Type 0
+IsStatusOfEnding Done status = IsStatusOfServing Done status ⊎ (status ≡ 9)
+IsStatusOfEnding DoorFailed status = IsStatusOfServing DoorFailed status
+IsStatusOfEnding Memory status = IsStatusOfServing Memory status

@@ -15,7 +15,7 @@ use Rattle.exam_program.specs.Bases.{IsBaseForm}
 use Rattle.command_line.specs.Commands.{Serve, command_of}
 use Rattle.exam_program.specs.Halts.{Reads}
 use Rattle.exam_program.specs.Outside.{Outside, DiskSeen, WasSettled}
-use Rattle.exam_program.specs.Texts.{door_failed}
+use Rattle.exam_program.specs.Texts.{disk_failed, door_failed}
 use Rattle.exam_lines.specs.Texts.{summary_text}
 use Rattle.exam_text.specs.Texts.{no_memory}
 use Rattle.history_model.specs.Summaries.{summary}
@@ -82,10 +82,11 @@ pub record WorkSeen : Type 0 where
   pub failed : Bool
 
 -- what is printed after the work, with the status: the numbers of the history, or that memory for
--- them ran out; or that a door failed
+-- them ran out, or that the disk failed; or that a door failed
 pub data IsLast (plan : Plan) (H : List Entry) : Bool → ℕ → List ℕ → Type 0 where
   numbers : IsLast plan H false 0 (summary_text (summary plan H))
   no_numbers : IsLast plan H false 10 no_memory
+  a_disk : IsLast plan H false 9 disk_failed
   a_door : IsLast plan H true 14 door_failed
 
 -- a server's journal was opened, connections were served, and this is printed at the end

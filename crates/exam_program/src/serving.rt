@@ -1,9 +1,9 @@
 //! The command `serve`: connections over the journal.
 
-ghost use Rattle.std.specs.Prelude.{◌≡◌, ℕ, ◌≤◌, ◌⊎◌, List, All, Some, None, false, IsTrue, IfErr, IfOk, length, vec_len};
+ghost use Rattle.std.specs.Prelude.{◌≡◌, ℕ, ◌≤◌, ◌⊎◌, List, All, Some, None, false, IsTrue, IfErr, IfOk, OnErr, length, vec_len};
 ghost use Rattle.bank_tables.specs.Items.{has};
 ghost use Rattle.exam_edge.specs.Faults.{Rose};
-ghost use Rattle.exam_edge.specs.Lent.{IsLent};
+ghost use Rattle.exam_edge.specs.Lent.{FailsOnly, IsLent};
 ghost use Rattle.answer_journal.specs.Frames.{shadowj1};
 ghost use Rattle.answer_journal.specs.Standing.{IsAsLeft};
 ghost use Rattle.exam_model.specs.Forms.{Meets};
@@ -12,7 +12,9 @@ ghost use Rattle.exam_serve.specs.Doors.{AreLent, AreServed, HasFailedDoor};
 ghost use Rattle.command_line.specs.Commands.{Serve, command_of};
 ghost use Rattle.exam_program.specs.Outcomes.{IsStatusBefore, IsStatusOfRun};
 ghost use Rattle.exam_program.specs.Outside.{Outside, outside, disk_seen};
-ghost use Rattle.exam_program.specs.Runs.{RunEnds, EndsWith, IsLastOf, IsStatusOfServing};
+ghost use Rattle.exam_program.specs.Runs.{RunEnds, EndsWith, IsEnding, IsLastOf, IsLastWritten, IsStatusOfEnding, IsStatusOfServing};
+ghost use Rattle.exam_program.specs.Texts.{disk_failed};
+ghost use Rattle.exam_serve.specs.declared.serve.End.TheVariants.{Done};
 ghost use Rattle.exam_program.specs.Serves.{IsServeOf};
 
 use crate::base::base_form;
@@ -21,7 +23,7 @@ use crate::replay::halt_of_opening;
 use crate::report::{print, print_text, report};
 use bank_tables::{Bank, ItemSet};
 use constraint_model::Spec;
-use exam_edge::{Disk, Door, Files, Gate, Sink};
+use exam_edge::{Disk, Door, Failed, Files, Gate, Sink};
 use exam_lines::summary_line;
 use exam_office::Office;
 use exam_serve::{End, Served, serve_doors};
@@ -52,6 +54,63 @@ fn end_with<O: Sink>(alloc: Global, out: &mut O, end: End, summary: &Summary) ->
         End::Done => print_text(out, summary_line(alloc, summary), 0),
         End::DoorFailed => print(out, b"door failed\n", 14),
         End::Memory => print(out, b"no memory\n", 10),
+    }
+}
+
+/// Prints that the disk failed, and gives the status to end with.
+#[tactic(auto, unfolding(crate::specs::Texts::disk_failed))]
+fn print_disk_failed<O: Sink>(out: &mut O) -> u8
+    ensures printed { IsLastWritten (O.tells out.old) (O.written out.old) (O.written out.new)
+        9 disk_failed result }
+    ensures status { (result ≡ 9)
+        ⊎ ((result ≡ 8) × Rose (O.faults out.old) (O.faults out.new)) }
+    ensures grows { O.faults out.old ≤ O.faults out.new }
+    ensures tells { O.tells out.new ≡ O.tells out.old }
+{
+    print(out, b"disk failed\n", 9)
+}
+
+/// Asks the disk for its length once the work at the doors is done: a journal that was lost gives none.
+fn ask_disk<D: Disk>(disk: &mut D, end: End) -> Result<(), Failed>
+    ensures done { OnErr result (end ≡ Done) }
+    ensures failed { FailsOnly D.faults disk.old disk.new result }
+    ensures content { IsTrue (D.tells disk.old) → D.content disk.new ≡ D.content disk.old }
+    ensures accounts { IsTrue (D.tells disk.old) → D.accounts disk.new ≡ D.accounts disk.old }
+    ensures frame { IsLent D.tells D.identity D.faults disk.old disk.new }
+{
+    match end {
+        End::Done => match disk.len() {
+            Ok(_) => Ok(()),
+            Err(failed) => Err(failed),
+        },
+        End::DoorFailed => Ok(()),
+        End::Memory => Ok(()),
+    }
+}
+
+/// Prints how the work at the doors ended, and gives the status to end with. The numbers of the
+/// history are printed only over a disk that works.
+fn end_over<O: Sink, D: Disk>(
+    alloc: Global,
+    out: &mut O,
+    disk: &mut D,
+    end: End,
+    summary: &Summary,
+) -> u8
+    ensures printed { EndsWith (IsEnding end summary.now) (O.tells out.old) (O.written out.old)
+        (O.written out.new) result }
+    ensures status { IsStatusOfEnding end result
+        ⊎ ((result ≡ 8) × Rose (O.faults out.old) (O.faults out.new)) }
+    ensures failed { result ≡ 9 → Rose (D.faults disk.old) (D.faults disk.new) }
+    ensures grows { O.faults out.old ≤ O.faults out.new }
+    ensures tells { O.tells out.new ≡ O.tells out.old }
+    ensures content { IsTrue (D.tells disk.old) → D.content disk.new ≡ D.content disk.old }
+    ensures accounts { IsTrue (D.tells disk.old) → D.accounts disk.new ≡ D.accounts disk.old }
+    ensures frame { IsLent D.tells D.identity D.faults disk.old disk.new }
+{
+    match ask_disk(disk, end) {
+        Ok(()) => end_with(alloc, out, end, summary),
+        Err(_) => print_disk_failed(out),
     }
 }
 
@@ -111,11 +170,12 @@ where
     // What the type of an office keeps of its marks.
     office.keeps();
     let summary = office.summary();
-    let disk = office.into_disk();
+    let mut disk = office.into_disk();
+    let status = end_over(alloc, out, &mut disk, end, &summary);
     Left {
         disk,
         doors,
-        status: end_with(alloc, out, end, &summary),
+        status,
     }
 }
 

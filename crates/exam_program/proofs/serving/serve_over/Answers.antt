@@ -1,5 +1,5 @@
-use Rattle.std.proofs.Common.{◌≡◌, ◌∙◌, ℕ, List, true, refl, sym, ap, subst, arith}
-use Rattle.exam_edge.specs.Images.{Account, IsSettled}
+use Rattle.std.proofs.Common.{◌≡◌, ◌∙◌, ℕ, List, length, true, refl, sym, ap, subst, arith}
+use Rattle.exam_edge.specs.Images.{Account, AllImages, IsSettled, latest}
 use Rattle.exam_model.specs.Plan.{Plan}
 use Rattle.history_model.specs.Summaries.{summary}
 use Rattle.exam_office.specs.declared.fault.OpenFault.TheVariants.{Disk as FailedDisk}
@@ -7,6 +7,7 @@ use Rattle.exam_office.specs.Marks.{history, AreCounted}
 use Rattle.answer_journal.specs.Journal.{accounts_of, faults_of}
 use Rattle.exam_office.specs.Moments.{AreMoments}
 use Rattle.exam_office.specs.Noting.{OpenedWith}
+use Rattle.exam_office.specs.Writing.{IsMending}
 use Rattle.exam_office.specs.Running.{HandedDisk, handed}
 use Rattle.exam_serve.specs.Results.{notes_of}
 use Rattle.exam_serve.proofs.Left.{still_lent}
@@ -17,10 +18,11 @@ use Rattle.exam_program.specs.Runs.{idle}
 use Rattle.exam_program.specs.Serves.{IsExamined}
 use Rattle.exam_program.specs.Stopping.{IsUnopened, opening_halt}
 use Rattle.exam_program.specs.Halts.{IsBeforeJournal}
+use Rattle.exam_program.proofs.OutcomeLaws.{rose_later}
 use Rattle.exam_program.proofs.ReplayLaws.{failing_so, unwritten_so, unopened_so, no_sink}
 use Rattle.exam_program.proofs.RequestLaws.{nothing_written}
-use Rattle.exam_program.proofs.ServeLaws.{server_unopened, IsClosed, same_plan, examined_so, ends_serving, halt_status, serving_status, failed_door_so}
-use Rattle.exam_program.proofs.StatusLaws.{at_sink, at_disk, at_before, not_door, disk_fault, late_fault, serving_unprinted, serving_not_9, serving_late}
+use Rattle.exam_program.proofs.ServeLaws.{server_unopened, IsClosed, same_plan, examined_so, ends_serving, halt_status, ending_status, failed_door_so}
+use Rattle.exam_program.proofs.StatusLaws.{at_sink, at_disk, at_before, not_door, disk_fault, late_fault, ending_unprinted, ending_late}
 use Rattle.exam_program.proofs.serving.serve_over.Goals as goal
 
 -- ---- the journal was not opened
@@ -63,10 +65,11 @@ returns-clause-answers g c = λ words o is same.
     let new = c.serve_doors-office.result.office in
     let end = c.serve_doors-office.result.end in
     let back = c.serve_doors-office.result.doors in
-    let disk = disk_seen g.D.Disk.tells g.D.Disk.content g.D.Disk.accounts faults c.args.disk c.into_disk-disk.result in
+    let disk = disk_seen g.D.Disk.tells g.D.Disk.content g.D.Disk.accounts faults c.args.disk c.end_over-status.new.disk in
     let opened = c.in-Ok.ensures in
     let done = c.serve_doors-office.ensures in
     let gone = c.into_disk-disk.ensures in
+    let asked = c.end_over-status.ensures in
     let still = λ (t : disk.told ≡ true). gone.tells ∙ (ap (λ (w : OpenedWith). w.tells) done.same ∙ (opened.tells ∙ t)) in
     let handed_so : new.opened ≡ handed g.D.Disk.content g.D.Disk.accounts faults c.args.disk = ap (λ (w : OpenedWith). w.disk) done.same ∙ opened.opened in
     let closed : IsClosed b plan base disk old new = record {
@@ -83,12 +86,15 @@ returns-clause-answers g c = λ words o is same.
       legal = c.keeps.ensures.run;
       doubt = c.keeps.ensures.doubt;
       marks_are = c.keeps.ensures.marks;
-      counted = subst (λ (n : ℕ). AreCounted new.marks (faults c.args.disk) n) (sym gone.faults) (subst (λ (d : HandedDisk). AreCounted new.marks d.faults (faults_of new.journal)) handed_so c.keeps.ensures.counted);
-      length_is = λ t. gone.length (still t);
-      left = λ t. gone.content (still t);
-      images = λ t. gone.images (still t);
+      counted =
+          let held : AreCounted new.marks (faults c.args.disk) (faults_of new.journal) =
+          subst (λ (d : HandedDisk). AreCounted new.marks d.faults (faults_of new.journal)) handed_so c.keeps.ensures.counted in
+          omega (arith, held, gone.faults, asked.frame.grows);
+      length_is = λ t sure. ap (λ (file : List ℕ). length file) (asked.content (still t)) ∙ gone.length (still t) sure;
+      left = λ t. subst (λ (file : List ℕ). IsMending new.bank new.plan (history new.marks) new.doubt file) (sym (asked.content (still t))) (gone.content (still t));
+      images = λ t. subst (λ (accounts : List Account). AllImages (IsMending new.bank new.plan (history new.marks) new.doubt) (latest accounts)) (sym (asked.accounts (still t))) (gone.images (still t));
       moments = λ t settled.
-          subst (λ (accounts : List Account). AreMoments new.bank new.plan disk.moments_before new.marks accounts) (sym gone.accounts)
+          subst (λ (accounts : List Account). AreMoments new.bank new.plan disk.moments_before new.marks accounts) (sym (asked.accounts (still t) ∙ gone.accounts))
           (subst (λ (d : HandedDisk). IsSettled d.content d.accounts → AreMoments new.bank new.plan d.accounts new.marks (accounts_of new.journal)) handed_so
           (c.keeps.ensures.moments (sym gone.tells ∙ still t)) settled);
     } in
@@ -97,27 +103,28 @@ returns-clause-answers g c = λ words o is same.
     let are = c.summary-summary.ensures ∙ ap (λ (p : Plan). summary p (history new.marks)) (same_plan b plan base disk old new closed) in
     ends_serving g.L.Door.tells g.L.Door.coming g.L.Door.returned g.L.Door.is_out g.L.Door.faults g.L.Door.identity
     g.L.Link.Link.tells g.L.Link.Link.left g.L.Link.Link.written g.L.Link.Link.faults g.L.Link.Link.identity
-    words o told was (g.O.Sink.written c.end_with.new.out) c.end_with.result b plan base is old new examined c.summary-summary.result are
-    c.args.doors.items back.items (back ≡ c.args.doors) end done.result (λ e. (done.unused e).0) (λ e. (done.unused e).1) c.end_with.ensures.printed
+    words o told was (g.O.Sink.written c.end_over-status.new.out) c.end_over-status.result b plan base is old new examined c.summary-summary.result are
+    c.args.doors.items back.items (back ≡ c.args.doors) end done.result (λ e. (done.unused e).0) (λ e. (done.unused e).1) c.end_over-status.ensures.printed
 
 pub returns-clause-status : goal.returns-clause-status
-returns-clause-status g c = serving_status c.serve_doors-office.result.end c.end_with.result c.end_with.ensures.status
+returns-clause-status g c = ending_status c.serve_doors-office.result.end c.end_over-status.result c.end_over-status.ensures.status
 
 pub returns-clause-door : goal.returns-clause-door
 returns-clause-door g c =
-    failed_door_so c.serve_doors-office.result.end c.end_with.result c.serve_doors-office.ensures.failed c.end_with.ensures.status
+    failed_door_so c.serve_doors-office.result.end c.end_over-status.result c.serve_doors-office.ensures.failed c.end_over-status.ensures.status
 
 pub returns-clause-disk : goal.returns-clause-disk
 returns-clause-disk g c =
     let opened = c.in-Ok.ensures in
     let done = c.serve_doors-office.ensures in
     let gone = c.into_disk-disk.ensures in
+    let asked = c.end_over-status.ensures.frame in
     let before : c.serve_doors-office.result.office.opened.faults ≡ g.D.Disk.faults c.args.disk =
     ap (λ (w : OpenedWith). w.disk.faults) done.same ∙ ap (λ (d : HandedDisk). d.faults) opened.opened in
     record {
-      grows = omega (arith, c.keeps.ensures.grows, before, gone.faults);
-      tells = gone.tells ∙ (ap (λ (w : OpenedWith). w.tells) done.same ∙ opened.tells);
-      identity = gone.identity ∙ (ap (λ (w : OpenedWith). w.identity) done.same ∙ opened.identity);
+      grows = omega (arith, c.keeps.ensures.grows, before, gone.faults, asked.grows);
+      tells = asked.tells ∙ (gone.tells ∙ (ap (λ (w : OpenedWith). w.tells) done.same ∙ opened.tells));
+      identity = asked.identity ∙ (gone.identity ∙ (ap (λ (w : OpenedWith). w.identity) done.same ∙ opened.identity));
     }
 
 -- ---- what each status shows
@@ -135,10 +142,17 @@ returns-in-Err-clause-opened g c = λ before.
     late_fault c.in-Err.fault (subst (λ (h : Halt). IsBeforeJournal h) c.halt_of_opening.ensures (at_before c.halt_of_opening.result c.report-status.result c.report-status.ensures.status before))
 
 pub returns-clause-sink : goal.returns-clause-sink
-returns-clause-sink g c = serving_unprinted c.serve_doors-office.result.end c.end_with.result c.end_with.ensures.status
+returns-clause-sink g c = ending_unprinted c.serve_doors-office.result.end c.end_over-status.result c.end_over-status.ensures.status
 
 pub returns-clause-failed : goal.returns-clause-failed
-returns-clause-failed g c = λ is. absurd (serving_not_9 c.serve_doors-office.result.end c.end_with.result c.end_with.ensures.status is)
+returns-clause-failed g c = λ is.
+    let opened = c.in-Ok.ensures in
+    let done = c.serve_doors-office.ensures in
+    let gone = c.into_disk-disk.ensures in
+    let before : c.serve_doors-office.result.office.opened.faults ≡ g.D.Disk.faults c.args.disk =
+    ap (λ (w : OpenedWith). w.disk.faults) done.same ∙ ap (λ (d : HandedDisk). d.faults) opened.opened in
+    rose_later (g.D.Disk.faults c.args.disk) (g.D.Disk.faults c.into_disk-disk.result) (g.D.Disk.faults c.end_over-status.new.disk)
+    (omega (arith, c.keeps.ensures.grows, before, gone.faults)) (c.end_over-status.ensures.failed is)
 
 pub returns-clause-opened : goal.returns-clause-opened
-returns-clause-opened g c = serving_late c.serve_doors-office.result.end c.end_with.result c.end_with.ensures.status
+returns-clause-opened g c = ending_late c.serve_doors-office.result.end c.end_over-status.result c.end_over-status.ensures.status
