@@ -42,6 +42,7 @@ from shadowtools.places import DATA, TOOLS
 
 BANK, PLAN = os.path.join(DATA, "bank.csv"), os.path.join(DATA, "plan.txt")
 DEBIAN = "/usr/bin/python3"
+FUSEPY = "python3-fusepy"  # the last thing that is asked for: Debian's interpreter may have it
 BLOCK = 4096
 IMAGE = 32 << 20
 ROOM = 64  # blocks behind the last one of the journal, into which it grows
@@ -72,7 +73,7 @@ def missing():
     """The first thing that is needed and not there, or None."""
     needs = [("root", lambda: os.geteuid() == 0), ("/dev/fuse", lambda: os.access("/dev/fuse", os.R_OK | os.W_OK)),
              ("loop device", has_loop_device), ("mkfs.ext4", lambda: shutil.which("mkfs.ext4")),
-             ("filefrag", lambda: shutil.which("filefrag")), ("python3-fusepy", fuse_module)]
+             ("filefrag", lambda: shutil.which("filefrag")), (FUSEPY, fuse_module)]
     return next((name for name, is_there in needs if not is_there()), None)
 
 
@@ -378,9 +379,9 @@ def main(words):
     asked.add_argument("--bases", type=int, default=1, choices=range(1, 5))
     asked.add_argument("--only", default="")
     asked = asked.parse_args(words)
-    if fuse_module() is None and sys.executable != DEBIAN and os.path.exists(DEBIAN):
-        os.execv(DEBIAN, [DEBIAN, os.path.join(TOOLS, "lost_sync.py"), *words])
     lacking = missing()
+    if lacking == FUSEPY and sys.executable != DEBIAN and os.path.exists(DEBIAN):
+        os.execv(DEBIAN, [DEBIAN, os.path.join(TOOLS, "lost_sync.py"), *words])
     if lacking:
         print(f"skipped: lost sync: no {lacking}")
         return 0
