@@ -11,6 +11,7 @@ import subprocess
 import sys
 import unittest
 
+from shadowtools import places
 from shadowtools.command import as_command
 from shadowtools.places import TOOLS
 
@@ -28,7 +29,7 @@ def main(words):
     if importlib.util.find_spec("numpy") is None and sys.executable != DEBIAN and has_numpy(DEBIAN):
         os.execv(DEBIAN, [DEBIAN, os.path.join(TOOLS, "run_tests.py"), *words])
     if words:
-        os.environ["SHADOWD"] = os.path.abspath(words[0])
+        os.environ["SHADOWD"] = places.BUILT = os.path.abspath(words[0])
     sys.path[:0] = [TOOLS, os.path.join(TOOLS, "tests")]
     suite = unittest.defaultTestLoader.discover(os.path.join(TOOLS, "tests"), top_level_dir=os.path.join(TOOLS, "tests"))
     result = unittest.TextTestRunner(stream=sys.stdout, verbosity=1).run(suite)
