@@ -7,7 +7,8 @@ each call: `replay`, `audit` and `drill` on the example, and `serve` with one cl
 is refused. What has to hold:
 - The status is 0 with the whole output, or 10; or 7, 8, 9 or 14 where a call of the system had no memory. `no memory` is printed at 10 where
   nothing was printed before.
-- The lines that a replay printed are a beginning of those of a whole run. A second run, of the requests that have no line, prints the others.
+- The lines that a replay printed are a beginning of those of a whole run. A second run, of the requests that have no line, prints the others; a session
+  that was closed without a line is refused as closed.
 - An audit and a drill print the whole output or none of it, and an audit leaves the file as it was.
 - Each response of a server that a client got is in the journal: a second server gives each answer's place again, and the session is completed.
 It needs gcc; without it, or over a program that brings its own allocator, it prints that it is skipped. The last line is 'N passed, M failed'.
@@ -28,6 +29,7 @@ from shadowtools.places import DATA
 SOURCE = os.path.join(os.path.dirname(os.path.abspath(__file__)), "refused_memory.c")
 DONE, NO_MEMORY = 0, 10
 OF_THE_SYSTEM = (7, 8, 9, 14)
+ENDINGS = ("no memory", "files failed", "disk failed", "door failed")
 SCRIPT = ["begin 70", "answer 0 0 1", "answer 0 1 0", "begin 71", "answer 0 2 1", "answer 1 0 2", "close 1", "look 0", "exposure"]
 
 
@@ -68,8 +70,16 @@ class Trial:
 
 
 def replies_of(lines):
-    """The lines of replies, each request's together: exposure has more than one line, and is the last request."""
-    return [line for line in lines if line != "no memory"]
+    """The lines without the one that ends a run early. `exposure` has more than one line, and is the last request."""
+    return [line for line in lines if line not in ENDINGS]
+
+
+def as_again(wanted, done):
+    """The lines that may come if the first request without a line is sent again: a session that was closed is closed."""
+    again = list(wanted)
+    if SCRIPT[done].startswith("close"):
+        again[done] = "refused is-closed closed"
+    return again
 
 
 def without_nodes(line):
@@ -83,9 +93,12 @@ def replays(trial, every):
     status, wanted = trial.replay(SCRIPT, journal)
     total = trial.calls()
     audit = [without_nodes(it) for it in trial.run(["audit", trial.bank, trial.plan], journal)[1]]
-    assert status == DONE and audit
+    if status != DONE or not audit:
+        yield f"replay, nothing refused: status {status}, {wanted}"
+        return
     for at in range(1, total + 1, every):
-        os.remove(journal)
+        if os.path.exists(journal):
+            os.remove(journal)
         status, lines = trial.replay(SCRIPT, journal, at)
         said = replies_of(lines)
         if status not in (DONE, NO_MEMORY, *OF_THE_SYSTEM) or (status == DONE and said != wanted) or wanted[:len(said)] != said:
@@ -94,18 +107,21 @@ def replays(trial, every):
         done = min(len(said), len(SCRIPT) - 1)
         second, rest = trial.replay(SCRIPT[done:], journal)
         found = [without_nodes(it) for it in trial.run(["audit", trial.bank, trial.plan], journal)[1]]
-        is_right = second == DONE and said[:done] + rest == wanted and found == audit
+        is_right = second == DONE and said[:done] + rest in (wanted, as_again(wanted, done)) and found == audit
         yield None if is_right else f"replay, call {at}: then status {second}, {rest}, and the audit {found}"
 
 
 def others(trial, every):
     """Each refusal in an audit and in a drill."""
-    journal = os.path.join(trial.folder, "journal")
+    journal = os.path.join(trial.folder, "audited")
+    trial.replay(SCRIPT, journal)
     with open(journal, "rb") as file:
         before = file.read()
     for words in (["audit", trial.bank, trial.plan], ["drill", "7", "1"]):
         status, wanted = trial.run(words, journal)
-        assert status == DONE
+        if status != DONE:
+            yield f"{words[0]}, nothing refused: status {status}"
+            continue
         for at in range(1, trial.calls() + 1, every):
             status, lines = trial.run(words, journal, at)
             with open(journal, "rb") as file:
@@ -138,15 +154,17 @@ def servers(trial, every):
         journal = os.path.join(trial.folder, f"served{at}")
         known, again = {}, {}
         os.environ.update({key: value for key, value in trial.environment(journal, at).items() if key in ("LD_PRELOAD", "REFUSE_AT", "REFUSE_COUNT")})
+        server = None
         try:
             server = Server([trial.program], trial.bank, trial.plan, journal, workers=2, wait=30)
             session_on(server.address, known)
-            server.kill()
         except (Lost, RuntimeError, KeyError):
             pass  # the server or the connection ended for memory
         finally:
             for key in ("LD_PRELOAD", "REFUSE_AT", "REFUSE_COUNT"):
                 os.environ.pop(key)
+            if server:
+                server.kill()
         if total is None:
             total, at = trial.calls(), 1
             continue
