@@ -80,6 +80,8 @@ def counted(number: int) -> str:
 
 
 def overlap(study: Study) -> Verdict:
+    if len(study.sample) < 2:
+        return Verdict(MEASURED, "One examinee alone has no overlap with another, and tells little of a test.")
     text = f"Two examinees share {study.overlap(study.sample):.1%} of their items in the mean"
     bands = [band for band in study.bands if not band.added and len(band.members) > 1]
     if len(bands) < 2:
@@ -95,7 +97,8 @@ def reliability(study: Study) -> Verdict:
     value = marginal_reliability(people.true, people.posterior_sd ** 2)
     if np.isnan(value):
         return Verdict(MEASURED, "All examinees have one ability, so there is no marginal reliability.")
-    return Verdict(MEASURED, f"The marginal reliability is {value:.3f} for abilities {' '.join(study.run['of'])}.")
+    return Verdict(MEASURED, f"The marginal reliability is {value:.3f}, by the variance of the {len(people)} abilities that were simulated "
+                             f"({' '.join(study.run['of'])}).")
 
 
 def classification(study: Study) -> Iterator[Verdict]:
@@ -114,11 +117,13 @@ def classification(study: Study) -> Iterator[Verdict]:
 
 
 def tails(study: Study) -> Iterator[Verdict]:
-    bands = table_by_band(study, [band for band in study.bands_of_truth if band.added])
+    added = [band for band in study.bands_of_truth if band.added]
+    bands = table_by_band(study, added)
     if not len(bands):
         return
+    fewest = min(len(band.members) for band in added)
     worst = bands.loc[bands.bias.abs().idxmax()]
-    yield Verdict(MEASURED, f"In the tails the bias is at most {abs(worst.bias):.2f} logits "
+    yield Verdict(MEASURED, f"In the tails, of {fewest} or more examinees at each ability, the bias is at most {abs(worst.bias):.2f} logits "
                          f"({'up' if worst.bias > 0 else 'down'}, {worst.band}), and the standard error at most "
                          f"{bands.standard_error.max():.2f} ({bands.loc[bands.standard_error.idxmax()].band}).")
 
