@@ -89,7 +89,8 @@ class Delivery:
         except (Away, Refused) as fault:
             self.log(booking, fault)
             on_its_way = self.desk.given(booking, False)
-            return render_template("away.html", on_its_way=on_its_way, renew=request.args.get("renew") != "no"), 503
+            return render_template("away.html", on_its_way=on_its_way, refused=isinstance(fault, Refused),
+                                   renew=request.args.get("renew") != "no"), 503
         if place.state == "waiting":
             return render_template("item.html", item=self.texts[place.item], step=place.step)
         answers = self.desk.given(booking, True)

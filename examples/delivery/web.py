@@ -20,16 +20,26 @@ HEADERS = {
 }
 
 
+# The heading and the text of a fault's page, by its status, in place of the framework's.
+FAULTS = {
+    404: ("There is no such page", "Nothing was changed by it. If a link led you here, call the staff."),
+    405: ("This page is not used so", "Nothing was changed by it. If a link led you here, call the staff."),
+    413: ("That was too long", "Nothing was recorded from it."),
+}
+HEADINGS = {400: "This page can't be used any more", 503: "Please try again"}
+
+
 def secured(app, home):
     """The application with these headers, and with a page for each fault that leads to `home`."""
     def fault_page(fault):
         if isinstance(fault, CSRFError):
-            fault.description = "This page has expired, or it belongs to another sign-in. Nothing was recorded from it."
-        return render_template("fault.html", fault=fault, home=home), fault.code
+            fault.description = "This page has expired, or it belongs to another sign-in. Nothing was recorded from it. Cookies have to be allowed."
+        name, text = FAULTS.get(fault.code, (HEADINGS.get(fault.code, fault.name), fault.description))
+        return render_template("fault.html", name=name, text=text, home=home), fault.code
 
     def store_fault(fault):
         print(f"delivery: {fault}", file=sys.stderr, flush=True)
-        return fault_page(ServiceUnavailable("Your last answer is perhaps not kept. Go on, and answer the item that you see then."))
+        return fault_page(ServiceUnavailable("If you gave an answer, it is perhaps not kept. Go on, and answer the item that you see then. If this page comes again, call the staff."))
 
     def with_headers(response):
         response.headers.update(HEADERS)

@@ -137,7 +137,7 @@ class Forgery(WithStandIn):
         asked = self.server.asked
         body, _, rest = good.partition(".")
         other = self.cookie({"booking": 71, "seat": seat}, "a guessed key")
-        for cookie in (other, good[:-1] + ("A" if good[-1] != "A" else "B"), body[:-2] + "AA." + rest, other.partition(".")[0] + "." + rest,
+        for cookie in (other, good[:-4] + ("A" if good[-4] != "A" else "B") + good[-3:], body[:-2] + "AA." + rest, other.partition(".")[0] + "." + rest,
                        body, "", ".", "a.b.c", "{}", self.cookie({"booking": 71, "seat": seat}),
                        self.cookie({"booking": 71, "seat": ""}), self.cookie({"seat": seat}), self.cookie({"booking": 70})):
             with self.subTest(cookie):
@@ -305,7 +305,7 @@ class Answers(WithStandIn):
         page = client.hidden()
         with unittest.mock.patch("booking_desk.Desk.give", side_effect=sqlite3.OperationalError("disk I/O error")):
             self.assertEqual(client.post("/test", **page, option=0).status_code, 503)
-        self.assertIn("Your last answer is perhaps not kept.", client.page)
+        self.assertIn("If you gave an answer, it is perhaps not kept.", client.page)
         client.get()
         self.assertEqual((client.place(), self.recorded(70)), (1, []))
 
