@@ -1,7 +1,7 @@
 -- Running sums over the ability grid.
 use Rattle.std.specs.Prelude.{◌≡◌, ℕ, ◌+◌, ◌*◌, ◌≤◌, ◌<◌, List, length, get_or, ℤ, pos, negsuc, ◌≤ℤ◌, ◌<ℤ◌}
 use Rattle.bank_tables.specs.Tables.{Tables}
-use Rattle.exam_model.specs.Ability.{AnswerList, log_posterior}
+use Rattle.form_model.specs.Ability.{AnswerList, log_posterior}
 
 -- a grid of so many points, how many answers were added, and a sum at each point; the values past
 -- the grid are not read

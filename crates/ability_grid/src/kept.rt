@@ -2,7 +2,7 @@
 
 ghost use Rattle.std.specs.Prelude.{◌≡◌, ℕ, ◌+◌, ◌<◌, ◌≤◌, [], ◌∷◌, ◌++◌, length, List, ℤ, ◌+ℤ◌, IfOk};
 ghost use Rattle.bank_tables.specs.Tables.{Tables, size, categories, loglik};
-ghost use Rattle.exam_model.specs.Ability.{AnswerList};
+ghost use Rattle.form_model.specs.Ability.{AnswerList};
 ghost use Rattle.ability_grid.specs.Running.{sum_at, IsSumsOf};
 
 use crate::Memory;

@@ -2,7 +2,7 @@
 
 ghost use Rattle.std.specs.Prelude.{◌≡◌, ℕ, ◌+◌, ◌<◌, ◌≤◌, [], ◌∷◌, ◌++◌, length, get_or, List, ℤ, pos, negsuc, ◌+ℤ◌, ◌≤ℤ◌};
 ghost use Rattle.bank_tables.specs.Tables.{Tables, size, categories, loglik};
-ghost use Rattle.exam_model.specs.Ability.{AnswerList, IsPosteriorMode};
+ghost use Rattle.form_model.specs.Ability.{AnswerList, IsPosteriorMode};
 ghost use Rattle.ability_grid.specs.Running.{sum_at, IsSumsOf, IsLowestGreatest};
 
 use bank_tables::Bank;

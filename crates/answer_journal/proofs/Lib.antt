@@ -11,5 +11,6 @@ mod Reading
 mod Settling
 mod Staging
 mod Syncing
+mod Tails
 mod Tidying
 mod Walking

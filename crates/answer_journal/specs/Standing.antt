@@ -1,7 +1,9 @@
 -- The state of a journal's disk: at rest, or with a record in doubt.
-use Rattle.std.specs.Prelude.{◌≡◌, ◌≢◌, ◌⊎◌, ℕ, ◌+◌, ◌-◌, ◌≤◌, List, [], ◌∷◌, ◌++◌, length, take, nat_le, if◌then◌else◌, Some, unwrap_or}
+use Rattle.std.specs.Prelude.{◌≡◌, ◌≢◌, ◌⊎◌, ℕ, ◌+◌, ◌-◌, ◌≤◌, nat_le, if◌then◌else◌}
+use Rattle.std.specs.Prelude.{List, [], ◌∷◌, ◌++◌, length, take, Some, unwrap_or}
 use Rattle.std.specs.List.{AllByRecursion}
-use Rattle.exam_edge.specs.Images.{Account, latest, settled, written, dropped, IsClean, IsWithin, IsSettled, IsImage, AllImages}
+use Rattle.exam_edge.specs.Images.{Account, latest, settled, written, dropped}
+use Rattle.exam_edge.specs.Images.{IsClean, IsWithin, IsSettled, IsImage, AllImages}
 use Rattle.answer_journal.specs.Frames.{FileHeader, IsPayload, frame_of, front, payloads}
 
 -- the payloads of a file, none where a rule is broken
@@ -9,7 +11,8 @@ abbrev pub payload_list : FileHeader → List ℕ → List (List ℕ)
 payload_list h file = unwrap_or (payloads h file) []
 
 -- the file is header, frames and a closed gate, all of it on the disk
-pub record IsAtRest (h : FileHeader) (content : List ℕ) (accounts : List Account) (size : ℕ) : Type 0 where
+pub record IsAtRest (h : FileHeader) (content : List ℕ) (accounts : List Account)
+    (size : ℕ) : Type 0 where
   pub gives : payloads h content ≡ Some (payload_list h content)
   pub gate : ℕ
   pub closed : gate ≢ 1
@@ -19,7 +22,8 @@ pub record IsAtRest (h : FileHeader) (content : List ℕ) (accounts : List Accou
   pub settled : IsSettled content accounts
 
 -- one more record is whole after the closed gate, all of it on the disk
-pub record IsStaged (h : FileHeader) (ps : List (List ℕ)) (payload content : List ℕ) (accounts : List Account) (size : ℕ) : Type 0 where
+pub record IsStaged (h : FileHeader) (ps : List (List ℕ)) (payload content : List ℕ)
+    (accounts : List Account) (size : ℕ) : Type 0 where
   pub fits : AllByRecursion IsPayload ps
   pub one : IsPayload payload
   pub size_is : size ≡ length (front h ps) + 1
@@ -41,27 +45,34 @@ IsEither h ps payload file = Unopened h ps file ⊎ (file ≡ front h (ps ++ pay
 
 -- the file gives these payloads, or one more
 abbrev pub IsBeforeOrWith : FileHeader → List (List ℕ) → List ℕ → List ℕ → Type 0
-IsBeforeOrWith h ps payload file = (payloads h file ≡ Some ps) ⊎ (payloads h file ≡ Some (ps ++ payload ∷ []))
+IsBeforeOrWith h ps payload file =
+    (payloads h file ≡ Some ps) ⊎ (payloads h file ≡ Some (ps ++ payload ∷ []))
 
 -- a record was being written after a closed gate, and what was written there may be suspect
-pub record IsBeingWritten (h : FileHeader) (ps : List (List ℕ)) (accounts : List Account) (size : ℕ) : Type 0 where
+pub record IsBeingWritten (h : FileHeader) (ps : List (List ℕ)) (accounts : List Account)
+    (size : ℕ) : Type 0 where
   pub gate : ℕ
   pub closed : gate ≢ 1
   pub n : ℕ
-  pub within : IsWithin (latest accounts) (dropped (written size n (settled (front h ps ++ gate ∷ []))))
+  pub within : IsWithin (latest accounts)
+      (dropped (written size n (settled (front h ps ++ gate ∷ []))))
 
 -- a record is whole on the disk, its gate was being opened, and that gate may be suspect
-pub record IsBeingOpened (h : FileHeader) (ps : List (List ℕ)) (payload : List ℕ) (accounts : List Account) (size : ℕ) : Type 0 where
+pub record IsBeingOpened (h : FileHeader) (ps : List (List ℕ)) (payload : List ℕ)
+    (accounts : List Account) (size : ℕ) : Type 0 where
   pub gate : ℕ
   pub closed : gate ≢ 1
-  pub within : IsWithin (latest accounts) (dropped (written (size - 1) 1 (settled (front h ps ++ gate ∷ frame_of payload))))
+  pub within : IsWithin (latest accounts)
+      (dropped (written (size - 1) 1 (settled (front h ps ++ gate ∷ frame_of payload))))
 
 -- how far the calls for a record in doubt came
 abbrev pub IsStage : FileHeader → List (List ℕ) → List ℕ → List Account → ℕ → Type 0
-IsStage h ps payload accounts size = IsBeingWritten h ps accounts size ⊎ IsBeingOpened h ps payload accounts size
+IsStage h ps payload accounts size =
+    IsBeingWritten h ps accounts size ⊎ IsBeingOpened h ps payload accounts size
 
 -- a record may have been added or not, and the file ends after its gate or after the next
-pub record IsInDoubt (h : FileHeader) (ps : List (List ℕ)) (payload : List ℕ) (accounts : List Account) (size with_it : ℕ) : Type 0 where
+pub record IsInDoubt (h : FileHeader) (ps : List (List ℕ)) (payload : List ℕ)
+    (accounts : List Account) (size with_it : ℕ) : Type 0 where
   pub fits : AllByRecursion IsPayload ps
   pub one : IsPayload payload
   pub size_is : size ≡ length (front h ps) + 1
@@ -77,7 +88,8 @@ pub record HasDoubt (h : FileHeader) (accounts : List Account) : Type 0 where
   pub with_it : ℕ
   pub doubt : IsInDoubt h before payload accounts size with_it
 
--- an empty journal was being made of a file of at most nine bytes, and what was written may be suspect
+-- an empty journal was being made of a file of at most nine bytes, and what was written may be
+-- suspect
 pub record IsBeingMade (accounts : List Account) : Type 0 where
   pub bytes : List ℕ
   pub few : length bytes ≤ 9

@@ -6,6 +6,7 @@ ghost use Rattle.exam_edge.specs.Lent.{IsLent, FailsOnly};
 ghost use Rattle.exam_edge.specs.Images.{AllImages, AtEachMoment, IsClean, IsImage, IsSettled, latest};
 ghost use Rattle.answer_journal.specs.Frames.{shadowj1, front, payloads};
 ghost use Rattle.answer_journal.specs.OpenFault.{IsAnswerTo, first_fault};
+ghost use Rattle.answer_journal.specs.Opening.{PutsTailAside, tail_gates};
 ghost use Rattle.answer_journal.specs.Outcome.{OnFull, OnDisk, payloads_after, size_after};
 ghost use Rattle.answer_journal.specs.Payload.{bytes_of, at_of, places_of};
 ghost use Rattle.answer_journal.specs.Standing.{IsAsLeft, IsBeforeOrWith, IsImageOrGives, opened_file, payload_list};
@@ -69,6 +70,7 @@ impl<D: Disk> Model for Journal<D> {
       tells = D.tells j.disk;
       content = D.content j.disk;
       accounts = D.accounts j.disk;
+      aside = D.aside j.disk;
       faults = D.faults j.disk;
       identity = D.identity j.disk;
       size = j.size;
@@ -80,7 +82,10 @@ impl<D: Disk> Model for Journal<D> {
 }
 
 impl<D: Disk> Journal<D> {
-    ghost use Rattle.answer_journal.specs.Journal.{disk_of, tells_of, content_of, accounts_of, faults_of, identity_of, length_of, limit_of, doubt_of, payloads_of, AreLengths, IsReady, IsDoubtful};
+    ghost use Rattle.answer_journal.specs.Journal.{disk_of, tells_of, content_of, accounts_of};
+    ghost use Rattle.answer_journal.specs.Journal.{aside_of, faults_of, identity_of, length_of};
+    ghost use Rattle.answer_journal.specs.Journal.{limit_of, doubt_of, payloads_of};
+    ghost use Rattle.answer_journal.specs.Journal.{AreLengths, IsReady, IsDoubtful};
 
     /// Tests the frames of a file, to walk over its payloads one after another. It syncs first, and writes nothing. The
     /// disk is as a reboot or a journal left it: a record may be in doubt. It takes no memory. The limit of the journal's
@@ -127,6 +132,11 @@ impl<D: Disk> Journal<D> {
         ensures images { IfOk result (λ walk. IsTrue (D.tells disk)
             → IsClean (latest (D.accounts disk))
             → AllImages (λ file. file ≡ D.content disk) (latest (D.accounts walk.disk))) }
+
+        ensures aside { IfOk result (λ walk. IsTrue (D.tells disk)
+            → D.aside walk.disk ≡ D.aside disk) }
+        ensures aside_err { IfErr result (λ e. IsTrue (D.tells disk)
+            → D.aside e.0 ≡ D.aside disk) }
 
         ensures frame { IfOk result
             (λ walk. IsLent D.tells D.identity D.faults disk walk.disk) }
@@ -197,6 +207,13 @@ impl<D: Disk> Journal<D> {
             → AllImages (λ file. payloads shadowj1 file ≡ Some (map bytes_of opened.1.items))
             (latest (accounts_of opened.0))) }
 
+        // What is cut was put aside before, and nothing else was.
+        ensures aside { IfOk result (λ opened. IsTrue (D.tells disk) → aside_of opened.0
+            ≡ D.aside disk ++ tail_gates shadowj1 (D.content disk)) }
+        ensures aside_err { IfErr result (λ e. IsTrue (D.tells disk)
+            → PutsTailAside shadowj1 (D.content disk) (D.content e.0)
+            (D.accounts disk) (D.accounts e.0) (D.aside disk) (D.aside e.0)) }
+
         ensures grows { IfOk result (λ opened. D.faults disk ≤ faults_of opened.0) }
         ensures tells { IfOk result (λ opened. tells_of opened.0 ≡ D.tells disk) }
         ensures identity { IfOk result (λ opened. identity_of opened.0 ≡ D.identity disk) }
@@ -249,6 +266,7 @@ impl<D: Disk> Journal<D> {
         ensures length_err { OnErr result (length_of self.new ≡ length_of self.old) }
 
         ensures limit { limit_of self.new ≡ limit_of self.old }
+        ensures aside { IsTrue (tells_of self.old) → aside_of self.new ≡ aside_of self.old }
         ensures frame { IsLent tells_of identity_of faults_of self.old self.new }
     {
         let with_it = self.size + frame.record_bytes().len() as u64;
@@ -304,6 +322,7 @@ impl<D: Disk> Journal<D> {
             → IsDoubtful ps payload self.new) }
 
         ensures limit { limit_of self.new ≡ limit_of self.old }
+        ensures aside { IsTrue (tells_of self.old) → aside_of self.new ≡ aside_of self.old }
         ensures frame { IsLent tells_of identity_of faults_of self.old self.new }
     {
         match resolve_record(&mut self.disk, self.size) {
@@ -329,6 +348,7 @@ impl<D: Disk> Journal<D> {
         ensures disk { result ≡ disk_of self }
         ensures content { D.content result ≡ content_of self }
         ensures accounts { D.accounts result ≡ accounts_of self }
+        ensures aside { D.aside result ≡ aside_of self }
         ensures faults { D.faults result ≡ faults_of self }
         ensures tells { D.tells result ≡ tells_of self }
         ensures identity { D.identity result ≡ identity_of self }

@@ -1,11 +1,12 @@
 // How a file is opened: what is read first, and what is written then.
 ghost use Rattle.std.specs.Prelude.{◌≡◌, ◌≢◌, ◌≤◌, ◌<◌, ◌+◌, ◌^◌, ◌⊎◌, length, Some, None};
-ghost use Rattle.std.specs.Prelude.{IsTrue, IfOk, IfErr, OnOk};
+ghost use Rattle.std.specs.Prelude.{◌++◌, IsTrue, IfOk, IfErr, OnOk, OnErr};
 ghost use Rattle.exam_edge.specs.Faults.{Rose};
 ghost use Rattle.exam_edge.specs.Lent.{IsLent, FailsOnly};
 ghost use Rattle.exam_edge.specs.Images.{AtEachMoment, Grows, IsClean, IsImage, IsSettled, dropped, latest};
 ghost use Rattle.answer_journal.specs.Frames.{shadowj1, payloads};
-ghost use Rattle.answer_journal.specs.Opening.{AreGatesSettled, IsExtent, last_gate};
+ghost use Rattle.answer_journal.specs.Opening.{AreGatesSettled, IsExtent, PutsTailAside};
+ghost use Rattle.answer_journal.specs.Opening.{gate_of_tail, last_gate, tail_gates};
 ghost use Rattle.answer_journal.specs.OpenFault.{IsAnswerTo, first_fault};
 ghost use Rattle.answer_journal.specs.Standing.{payload_list, IsAsLeft, IsAtRest, IsBeingMade, IsImageOrGives, opened_file};
 ghost use Rattle.answer_journal.specs.Reading.{IsRead};
@@ -48,6 +49,7 @@ pub fn test_file<D: Disk>(disk: &mut D, limit: u64) -> Result<Extent, OpenFault>
     ensures crash { IsTrue (D.tells disk.old)
         → Grows (dropped (latest (D.accounts disk.old))) (D.accounts disk.old)
         (D.accounts disk.new) }
+    ensures aside { IsTrue (D.tells disk.old) → D.aside disk.new ≡ D.aside disk.old }
     ensures frame { IsLent D.tells D.identity D.faults disk.old disk.new }
 {
     match disk.sync() {
@@ -84,6 +86,7 @@ fn settle_short<D: Disk>(disk: &mut D, extent: Extent) -> Result<(), Failed>
     ensures moments { IsTrue (D.tells disk.old)
         → AtEachMoment (D.accounts disk.old) (D.accounts disk.new)
         (IsImage (latest (D.accounts disk.old))) }
+    ensures aside { IsTrue (D.tells disk.old) → D.aside disk.new ≡ D.aside disk.old }
     ensures failed { FailsOnly D.faults disk.old disk.new result }
     ensures frame { IsLent D.tells D.identity D.faults disk.old disk.new }
 {
@@ -107,6 +110,7 @@ fn write_header<D: Disk>(disk: &mut D) -> Result<(), Failed>
     ensures moments { IsTrue (D.tells disk.old)
         → AtEachMoment (D.accounts disk.old) (D.accounts disk.new)
         (λ file. payloads shadowj1 file ≡ payloads shadowj1 (D.content disk.old)) }
+    ensures aside { IsTrue (D.tells disk.old) → D.aside disk.new ≡ D.aside disk.old }
     ensures failed { FailsOnly D.faults disk.old disk.new result }
     ensures frame { IsLent D.tells D.identity D.faults disk.old disk.new }
 {
@@ -114,15 +118,19 @@ fn write_header<D: Disk>(disk: &mut D) -> Result<(), Failed>
     Ok(())
 }
 
-/// Puts aside what follows the first closed gate of a file of this extent and is to be cut, where anything does. The file
-/// stays as it is.
+/// Puts aside what follows the first closed gate of a file of this extent and is to be cut, where
+/// anything does. The file stays as it is.
 pub fn put_tail_aside<D: Disk>(disk: &mut D, extent: Extent) -> Result<(), Failed>
     ensures content { IsTrue (D.tells disk.old) → D.content disk.new ≡ D.content disk.old }
     ensures accounts { IsTrue (D.tells disk.old) → D.accounts disk.new ≡ D.accounts disk.old }
+    ensures aside { OnOk result (IsTrue (D.tells disk.old) → D.aside disk.new
+        ≡ D.aside disk.old ++ gate_of_tail extent.size extent.end) }
+    ensures kept { OnErr result (IsTrue (D.tells disk.old)
+        → D.aside disk.new ≡ D.aside disk.old) }
     ensures failed { FailsOnly D.faults disk.old disk.new result }
     ensures frame { IsLent D.tells D.identity D.faults disk.old disk.new }
 {
-    if 9 < extent.size && extent.end < extent.size - 1 {
+    if extent.end < extent.size.saturating_sub(1) {
         disk.put_aside(extent.end)
     } else {
         Ok(())
@@ -143,6 +151,7 @@ fn settle_gates<D: Disk>(disk: &mut D, extent: Extent, last: u64) -> Result<(), 
     ensures moments { IsTrue (D.tells disk.old)
         → AtEachMoment (D.accounts disk.old) (D.accounts disk.new)
         (IsImage (latest (D.accounts disk.old))) }
+    ensures aside { IsTrue (D.tells disk.old) → D.aside disk.new ≡ D.aside disk.old }
     ensures failed { FailsOnly D.faults disk.old disk.new result }
     ensures frame { IsLent D.tells D.identity D.faults disk.old disk.new }
 {
@@ -171,6 +180,7 @@ fn cut_file<D: Disk>(disk: &mut D, end: u64) -> Result<(), Failed>
     ensures moments { IsTrue (D.tells disk.old)
         → AtEachMoment (D.accounts disk.old) (D.accounts disk.new)
         (λ file. payloads shadowj1 file ≡ payloads shadowj1 (D.content disk.old)) }
+    ensures aside { IsTrue (D.tells disk.old) → D.aside disk.new ≡ D.aside disk.old }
     ensures failed { FailsOnly D.faults disk.old disk.new result }
     ensures frame { IsLent D.tells D.identity D.faults disk.old disk.new }
 {
@@ -195,6 +205,12 @@ pub fn finish_file<D: Disk>(disk: &mut D, extent: Extent, last: u64) -> Result<(
     ensures moments { IsTrue (D.tells disk.old)
         → AtEachMoment (D.accounts disk.old) (D.accounts disk.new)
         (IsImageOrGives shadowj1 (latest (D.accounts disk.old)) (D.content disk.old)) }
+    // What is cut was put aside before, and nothing else was.
+    ensures aside { OnOk result (IsTrue (D.tells disk.old) → D.aside disk.new
+        ≡ D.aside disk.old ++ tail_gates shadowj1 (D.content disk.old)) }
+    ensures aside_err { OnErr result (IsTrue (D.tells disk.old)
+        → PutsTailAside shadowj1 (D.content disk.old) (D.content disk.new)
+        (D.accounts disk.old) (D.accounts disk.new) (D.aside disk.old) (D.aside disk.new)) }
     ensures failed { FailsOnly D.faults disk.old disk.new result }
     ensures frame { IsLent D.tells D.identity D.faults disk.old disk.new }
 {

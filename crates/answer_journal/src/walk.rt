@@ -6,6 +6,7 @@ ghost use Rattle.exam_edge.specs.Lent.{IsLent, FailsOnly};
 ghost use Rattle.exam_edge.specs.Images.{AllImages, AtEachMoment, latest};
 ghost use Rattle.answer_journal.specs.Frames.{IsPayload, shadowj1, payloads};
 ghost use Rattle.answer_journal.specs.OpenFault.{IsOfDevice};
+ghost use Rattle.answer_journal.specs.Opening.{PutsTailAside, tail_gates};
 ghost use Rattle.answer_journal.specs.Payload.{at_of, bytes_of, places_of};
 ghost use Rattle.answer_journal.specs.Reading.{IsRoomFor};
 ghost use Rattle.answer_journal.specs.Standing.{payload_list, IsImageOrGives, opened_file};
@@ -84,6 +85,7 @@ fn find_record<D: Disk>(disk: &mut D, at: u64, extent: Extent) -> Result<Option<
         → found ≡ Some (length p)) }
     ensures content { IsTrue (D.tells disk.old) → D.content disk.new ≡ D.content disk.old }
     ensures accounts { IsTrue (D.tells disk.old) → D.accounts disk.new ≡ D.accounts disk.old }
+    ensures aside { IsTrue (D.tells disk.old) → D.aside disk.new ≡ D.aside disk.old }
     ensures failed { FailsOnly D.faults disk.old disk.new result }
     ensures frame { IsLent D.tells D.identity D.faults disk.old disk.new }
 {
@@ -115,6 +117,7 @@ fn read_payload<D: Disk>(
         (λ e. e ≡ WalkFault.Disk → Rose (D.faults disk.old) (D.faults disk.new)) }
     ensures content { IsTrue (D.tells disk.old) → D.content disk.new ≡ D.content disk.old }
     ensures accounts { IsTrue (D.tells disk.old) → D.accounts disk.new ≡ D.accounts disk.old }
+    ensures aside { IsTrue (D.tells disk.old) → D.aside disk.new ≡ D.aside disk.old }
     ensures frame { IsLent D.tells D.identity D.faults disk.old disk.new }
 {
     let mut bytes = vec![in alloc; 0u8; count]?;
@@ -158,6 +161,7 @@ fn read_record<D: Disk>(
         (λ e. e ≡ WalkFault.Disk → Rose (D.faults disk.old) (D.faults disk.new)) }
     ensures content { IsTrue (D.tells disk.old) → D.content disk.new ≡ D.content disk.old }
     ensures accounts { IsTrue (D.tells disk.old) → D.accounts disk.new ≡ D.accounts disk.old }
+    ensures aside { IsTrue (D.tells disk.old) → D.aside disk.new ≡ D.aside disk.old }
     ensures frame { IsLent D.tells D.identity D.faults disk.old disk.new }
 {
     match find_record(disk, at, extent) {
@@ -168,7 +172,8 @@ fn read_record<D: Disk>(
 }
 
 impl<D: Disk> Walk<D> {
-    ghost use Rattle.answer_journal.specs.Journal.{tells_of, content_of, accounts_of, faults_of};
+    ghost use Rattle.answer_journal.specs.Journal.{tells_of, content_of, accounts_of, aside_of};
+    ghost use Rattle.answer_journal.specs.Journal.{faults_of};
     ghost use Rattle.answer_journal.specs.Journal.{identity_of, length_of, limit_of, payloads_of};
     ghost use Rattle.answer_journal.specs.Journal.{IsReady};
 
@@ -211,6 +216,8 @@ impl<D: Disk> Walk<D> {
             → D.content self.new.disk ≡ D.content self.old.disk }
         ensures accounts { IsTrue (D.tells self.old.disk)
             → D.accounts self.new.disk ≡ D.accounts self.old.disk }
+        ensures aside { IsTrue (D.tells self.old.disk)
+            → D.aside self.new.disk ≡ D.aside self.old.disk }
         ensures frame { IsLent D.tells D.identity D.faults self.old.disk self.new.disk }
     {
         if self.extent.end <= self.at {
@@ -255,6 +262,10 @@ impl<D: Disk> Walk<D> {
             → D.content self.new.disk ≡ D.content self.old.disk }
         ensures accounts { IsTrue (D.tells self.old.disk)
             → D.accounts self.new.disk ≡ D.accounts self.old.disk }
+        ensures aside { OnOk result (IsTrue (D.tells self.old.disk) → D.aside self.new.disk
+            ≡ D.aside self.old.disk ++ tail_gates shadowj1 (D.content self.old.disk)) }
+        ensures kept { OnErr result (IsTrue (D.tells self.old.disk)
+            → D.aside self.new.disk ≡ D.aside self.old.disk) }
         ensures cause { OnErr result
             (Rose (D.faults self.old.disk) (D.faults self.new.disk)) }
         ensures frame { IsLent D.tells D.identity D.faults self.old.disk self.new.disk }
@@ -305,6 +316,13 @@ impl<D: Disk> Walk<D> {
         ensures images { IfOk result (λ journal. IsTrue (D.tells self.disk)
             → AllImages (λ file. payloads shadowj1 file ≡ payloads shadowj1 (D.content self.disk))
             (latest (accounts_of journal))) }
+
+        // What is cut was put aside before, and nothing else was.
+        ensures aside { IfOk result (λ journal. IsTrue (D.tells self.disk) → aside_of journal
+            ≡ D.aside self.disk ++ tail_gates shadowj1 (D.content self.disk)) }
+        ensures aside_err { IfErr result (λ e. IsTrue (D.tells self.disk)
+            → PutsTailAside shadowj1 (D.content self.disk) (D.content e.0)
+            (D.accounts self.disk) (D.accounts e.0) (D.aside self.disk) (D.aside e.0)) }
 
         ensures grows { IfOk result (λ journal. D.faults self.disk ≤ faults_of journal) }
         ensures tells { IfOk result (λ journal. tells_of journal ≡ D.tells self.disk) }
@@ -369,6 +387,8 @@ pub fn read_all<D: Disk>(alloc: Global, walk: &mut Walk<D>) -> Result<Vec<Payloa
         → D.content walk.new.disk ≡ D.content walk.old.disk }
     ensures accounts { IsTrue (D.tells walk.old.disk)
         → D.accounts walk.new.disk ≡ D.accounts walk.old.disk }
+    ensures aside { IsTrue (D.tells walk.old.disk)
+        → D.aside walk.new.disk ≡ D.aside walk.old.disk }
     ensures frame { IsLent D.tells D.identity D.faults walk.old.disk walk.new.disk }
 {
     let mut read = Vec::new(alloc);

@@ -2,13 +2,13 @@
 use Rattle.std.proofs.Common.{◌≡◌, ℕ, ◌+◌, ◌<◌, List, [], ◌∷◌, ◌++◌, length, length-append, arith}
 use Rattle.bank_tables.specs.Items.{has}
 use Rattle.bank_tables.specs.Tables.{Tables, categories}
-use Rattle.exam_model.specs.declared.seat.Seat.{Seat}
-use Rattle.exam_model.specs.Plan.{Plan}
-use Rattle.exam_model.specs.Problem.{Problem}
-use Rattle.exam_model.specs.Forms.{Form}
-use Rattle.exam_model.specs.Seats.{IsSeat, IsPending, IsSeatProblem, with_item, with_response}
-use Rattle.exam_model.specs.Serving.{IsNext}
-use Rattle.exam_model.proofs.Staying.{last_shown-push}
+use Rattle.serving_model.specs.declared.seat.Seat.{Seat}
+use Rattle.form_model.specs.Plan.{Plan}
+use Rattle.form_model.specs.Problem.{Problem}
+use Rattle.form_model.specs.Forms.{Form}
+use Rattle.serving_model.specs.Seats.{IsSeat, IsPending, IsSeatProblem, with_item, with_response}
+use Rattle.serving_model.specs.Serving.{IsNext}
+use Rattle.serving_model.proofs.Staying.{last_shown-push}
 use Rattle.shadow_select.proofs.StepLaws.{served_seat, answered_seat}
 
 -- the next item of a form was shown and answered

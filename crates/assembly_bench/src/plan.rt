@@ -112,6 +112,7 @@ pub fn draft(alloc: Global, size: &Size) -> Result<Draft, AllocError> {
         bounds: List::of(bounds(alloc, size)?),
         rate: Rate { num: 1, den: 1 },
         key: [0; 32],
+        bands: List::of(Vec::new(alloc)),
         budget: 4_095,
         base_budget: 4_095,
         sessions: 1,

@@ -1,7 +1,7 @@
 //! The bank and the plan of a session.
 
 ghost use Rattle.std.specs.Prelude.{IfOk};
-ghost use Rattle.exam_model.specs.Validity.{IsPlanFor};
+ghost use Rattle.form_model.specs.Validity.{IsPlanFor};
 
 use anyhow::{Context, Result};
 use bank_reader::{ReadFault, read_bank};

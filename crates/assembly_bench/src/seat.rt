@@ -3,16 +3,16 @@
 ghost use Rattle.std.specs.Prelude.{◌<◌};
 ghost use Rattle.bank_tables.specs.Items.{has};
 ghost use Rattle.bank_tables.specs.Tables.{categories};
-ghost use Rattle.exam_model.specs.Plan.{Plan};
-ghost use Rattle.exam_model.specs.Forms.{Form};
-ghost use Rattle.exam_model.specs.Seats.{IsSeat, IsPending, IsSeatProblem};
-ghost use Rattle.exam_model.specs.Serving.{IsNext};
-ghost use Rattle.exam_model.specs.Validity.{IsPlanFor};
+ghost use Rattle.form_model.specs.Plan.{Plan};
+ghost use Rattle.form_model.specs.Forms.{Form};
+ghost use Rattle.serving_model.specs.Seats.{IsSeat, IsPending, IsSeatProblem};
+ghost use Rattle.serving_model.specs.Serving.{IsNext};
+ghost use Rattle.form_model.specs.Validity.{IsPlanFor};
 ghost use Rattle.constraint_model.specs.Views.{problem_of};
 
 use bank_tables::{Bank, ItemSet};
 use constraint_model::{Problem, Spec};
-use exam_model::Seat;
+use serving_model::Seat;
 use shadow_select::laws::a_new_seat_is_a_seat;
 use shadow_select::{with_item, with_response};
 
@@ -28,12 +28,12 @@ fn eligible_items(bank: &Bank, left_out: &ItemSet) -> ItemSet {
     eligible
 }
 
-/// The seat of a session that begins.
+/// The seat of a session that begins. The same items are eligible in every band.
 pub fn new_seat(bank: &Bank, left_out: &ItemSet) -> Seat
     ensures { (plan : Plan) → IsSeat bank.now plan result }
 {
     a_new_seat_is_a_seat();
-    shadow_select::new_seat(&eligible_items(bank, left_out))
+    shadow_select::new_seat(&[eligible_items(bank, left_out); 8])
 }
 
 /// The result of a step: the form, the item served from it, and the response.

@@ -3,9 +3,9 @@
 ghost use Rattle.std.specs.Prelude.{IfOk, IfSome};
 ghost use Rattle.bank_tables.specs.Items.{has};
 ghost use Rattle.branch_bound.specs.Assemblies.{IsTrueOutcome};
-ghost use Rattle.exam_model.specs.Forms.{Form};
-ghost use Rattle.exam_model.specs.Seats.{IsSeat, IsPending, IsSeatProblem};
-ghost use Rattle.exam_model.specs.Validity.{IsBudget, IsPlanFor, IsWellMade};
+ghost use Rattle.form_model.specs.Forms.{Form};
+ghost use Rattle.serving_model.specs.Seats.{IsSeat, IsPending, IsSeatProblem};
+ghost use Rattle.form_model.specs.Validity.{IsBudget, IsPlanFor, IsWellMade};
 ghost use Rattle.constraint_model.specs.Views.{problem_of};
 ghost use Rattle.shadow_select.specs.Next.{HasFreeItem};
 
@@ -19,8 +19,8 @@ use anyhow::{Result, bail};
 use bank_tables::{Bank, ItemSet};
 use branch_bound::{Assembled, Outcome, assemble_from};
 use constraint_model::{Problem, Spec};
-use exam_model::Seat;
 use proof_tree::Vector;
+use serving_model::Seat;
 use shadow_select::laws::a_free_item_is_left;
 use shadow_select::{next_item, next_problem};
 use std::rt::{Clock, Files};

@@ -2,8 +2,8 @@
 
 ghost use Rattle.std.specs.Prelude.{IfSome};
 ghost use Rattle.std.specs.Option.{option_copied};
-ghost use Rattle.exam_model.specs.Validity.{IsWellMade};
-ghost use Rattle.exam_model.specs.Verdicts.{NamesOnlySides};
+ghost use Rattle.form_model.specs.Validity.{IsWellMade};
+ghost use Rattle.certificate_model.specs.Verdicts.{NamesOnlySides};
 ghost use Rattle.constraint_model.specs.Views.{problem_of};
 
 use constraint_model::{Problem, names_only_sides};

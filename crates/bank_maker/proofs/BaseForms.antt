@@ -8,8 +8,8 @@ use Rattle.std.proofs.Math.Nat.{mul-suc}
 use Rattle.bank_tables.specs.Items.{Set}
 use Rattle.bank_tables.specs.Sums.{sum_in, any_below, count_in, greatest_below}
 use Rattle.bank_tables.specs.Tables.{Tables, Item, size, item, stimulus, quantity, no_item as no_row}
-use Rattle.exam_model.specs.Forms.{stimuli_of, used, stimuli_in, items_of}
-use Rattle.exam_model.proofs.SumLaws.{either, count_none}
+use Rattle.form_model.specs.Forms.{stimuli_of, used, stimuli_in, items_of}
+use Rattle.form_model.proofs.SumLaws.{either, count_none}
 use Rattle.bank_maker.specs.declared.item.DrawnItem.{DrawnItem}
 use Rattle.bank_maker.specs.Items.{drawn, items, stimulus_of, row_of}
 use Rattle.bank_maker.specs.Banks.{no_item}

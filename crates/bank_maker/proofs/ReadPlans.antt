@@ -13,12 +13,12 @@ use Rattle.bank_tables.specs.Tables.{Tables, size, quantity}
 use Rattle.bank_tables.specs.Sums.{sum_in, count_in}
 use Rattle.bank_tables.specs.Validity.{IsBank, IsLogLik}
 use Rattle.bank_tables.proofs.Bits.{has_past}
-use Rattle.exam_model.specs.declared.row.Row.{Row}
-use Rattle.exam_model.specs.declared.row.Row.TheVariants as row
-use Rattle.exam_model.specs.declared.row.StimulusBound.{StimulusBound}
-use Rattle.exam_model.specs.Plan.{Plan, no_row, no_bound, bound_at}
-use Rattle.exam_model.specs.Forms.{stimuli_of, used, stimuli_in, activity, lower_bound, upper_bound, Meets}
-use Rattle.exam_model.specs.Validity.{IsRowSet, IsRow, IsPlanFor}
+use Rattle.form_model.specs.declared.row.Row.{Row}
+use Rattle.form_model.specs.declared.row.Row.TheVariants as row
+use Rattle.form_model.specs.declared.row.StimulusBound.{StimulusBound}
+use Rattle.form_model.specs.Plan.{Plan, no_row, no_bound, bound_at}
+use Rattle.form_model.specs.Forms.{stimuli_of, used, stimuli_in, activity, lower_bound, upper_bound, Meets}
+use Rattle.form_model.specs.Validity.{IsRowSet, IsRow, IsPlanFor}
 use Rattle.exam_records.specs.Sets.{words_of}
 use Rattle.exam_records.proofs.SetLaws.{numbers_len, has_words}
 use Rattle.spec_reader.specs.Rules.{Said, Count, Quantity, Enemies, Stimuli}
@@ -197,6 +197,7 @@ numbers number sessions =
       bounds = (plan number sessions (items number)).bounds;
       rate = record { num = 1; den = 4 };
       key = key_of number;
+      bands = [];
       budget = 501;
       base_budget = 4095;
       sessions = sessions;
@@ -278,6 +279,12 @@ is_plan number sessions some few = record {
   some_rate = omega arith;
   rate = omega arith;
   rate_high = omega arith;
+  bands = record {
+    few = omega arith;
+    some = λ k lt. absurd (omega (arith, lt));
+    within = λ k lt. absurd (omega (arith, lt));
+    rising = λ j k less lt. absurd (omega (arith, lt));
+  };
   budget = record { uneven = refl; high = omega arith };
   base_budget = record { uneven = refl; high = omega arith };
   some_sessions = some;

@@ -13,9 +13,9 @@ use Rattle.history_model.specs.declared.request.Request.{Request}
 use Rattle.history_model.specs.declared.request.Request.TheVariants.{Begin, Answer, Close, Look, Exposure}
 use Rattle.exam_text.specs.Words.{text_of_lines}
 use Rattle.replay_cli.specs.Scripts.{request_line, text_of_requests, IsInRange, IsScript}
-use Rattle.bank_maker.specs.declared.turn.Turn.{Turn}
-use Rattle.bank_maker.specs.declared.turn.Turn.TheVariants.{Begins, Answers, Closes}
-use Rattle.bank_maker.specs.Scripts.{group, turn_of, step_turns, group_turns, turns, request_at, state_behind, requests_from, script_text}
+use Rattle.bank_maker.specs.declared.act.Act.{Act}
+use Rattle.bank_maker.specs.declared.act.Act.TheVariants.{Begins, Answers, Closes}
+use Rattle.bank_maker.specs.Scripts.{group, act_of, step_acts, group_acts, acts, request_at, state_behind, requests_from, script_text}
 
 -- ---- lists
 All-flat_map : {X Y : Type 0} (P : Y → Type 0) (f : X → List Y) (xs : List X) → All (λ x. All P (f x)) xs → All P (flat_map f xs)
@@ -32,50 +32,50 @@ All-range a n k d lt =
 All-weaken : {X : Type 0} (P Q : X → Type 0) (xs : List X) → ((x : X) → P x → Q x) → All P xs → All Q xs
 All-weaken P Q xs f each k d lt = f (get_or xs k d) (each k d lt)
 
--- ---- the turns
--- a turn of so many sessions
-abbrev IsTurn : ℕ → Turn → Type 0
-IsTurn n (Begins s) = s < n
-IsTurn n (Answers s k) = (s < n) × (k < 20)
-IsTurn n (Closes s) = s < n
+-- ---- the acts
+-- an act of so many sessions
+abbrev IsAct : ℕ → Act → Type 0
+IsAct n (Begins s) = s < n
+IsAct n (Answers s k) = (s < n) × (k < 20)
+IsAct n (Closes s) = s < n
 
 group_within : (n first : ℕ) → All (λ s. s < n) (group n first)
 group_within n first =
     All-weaken (λ s. (first ≤ s) × (s < first + min 10 (n - first))) (λ s. s < n) (group n first)
     (λ s h. omega (arith, h.0, h.1)) (All-range first (min 10 (n - first)))
 
-one_turn : (n s k : ℕ) → s < n → k < 20 → All (IsTurn n) (option_to_list (turn_of n s k))
-one_turn n s k lt step = go (nat_lt (s + 1) n) (nat_lt k 10) (nat_eq k 10)
+one_act : (n s k : ℕ) → s < n → k < 20 → All (IsAct n) (option_to_list (act_of n s k))
+one_act n s k lt step = go (nat_lt (s + 1) n) (nat_lt k 10) (nat_eq k 10)
   where
-    answers : All (IsTurn n) (Answers s k ∷ [])
-    answers = All-cons (IsTurn n) (Answers s k) [] (lt, step) (All-nil (IsTurn n))
+    answers : All (IsAct n) (Answers s k ∷ [])
+    answers = All-cons (IsAct n) (Answers s k) [] (lt, step) (All-nil (IsAct n))
 
-    closes : All (IsTurn n) (Closes s ∷ [])
-    closes = All-cons (IsTurn n) (Closes s) [] lt (All-nil (IsTurn n))
+    closes : All (IsAct n) (Closes s ∷ [])
+    closes = All-cons (IsAct n) (Closes s) [] lt (All-nil (IsAct n))
 
-    go : (a b c : Bool) → All (IsTurn n) (option_to_list (cond a (Some (Answers s k)) (cond b (Some (Answers s k)) (cond c (Some (Closes s)) None))))
+    go : (a b c : Bool) → All (IsAct n) (option_to_list (cond a (Some (Answers s k)) (cond b (Some (Answers s k)) (cond c (Some (Closes s)) None))))
     go true b c = answers
     go false true c = answers
     go false false true = closes
-    go false false false = All-nil (IsTurn n)
+    go false false false = All-nil (IsAct n)
 
-step_within : (n first k : ℕ) → k < 20 → All (IsTurn n) (step_turns n first k)
+step_within : (n first k : ℕ) → k < 20 → All (IsAct n) (step_acts n first k)
 step_within n first k step =
-    All-flat_map (IsTurn n) (λ s. option_to_list (turn_of n s k)) (group n first)
-    (All-weaken (λ s. s < n) (λ s. All (IsTurn n) (option_to_list (turn_of n s k))) (group n first) (λ s lt. one_turn n s k lt step) (group_within n first))
+    All-flat_map (IsAct n) (λ s. option_to_list (act_of n s k)) (group n first)
+    (All-weaken (λ s. s < n) (λ s. All (IsAct n) (option_to_list (act_of n s k))) (group n first) (λ s lt. one_act n s k lt step) (group_within n first))
 
-group_turns_within : (n first : ℕ) → All (IsTurn n) (group_turns n first)
-unfolding group_turns
-group_turns_within n first =
-    All-append (IsTurn n) (map (λ s. Begins s) (group n first)) (flat_map (step_turns n first) (range_with_len 0 20))
-    (All-map (IsTurn n) (λ s. Begins s) (group n first) (group_within n first))
-    (All-flat_map (IsTurn n) (step_turns n first) (range_with_len 0 20)
-    (All-weaken (λ k. (0 ≤ k) × (k < 0 + 20)) (λ k. All (IsTurn n) (step_turns n first k)) (range_with_len 0 20) (λ k h. step_within n first k (omega (arith, h.1))) (All-range 0 20)))
+group_acts_within : (n first : ℕ) → All (IsAct n) (group_acts n first)
+unfolding group_acts
+group_acts_within n first =
+    All-append (IsAct n) (map (λ s. Begins s) (group n first)) (flat_map (step_acts n first) (range_with_len 0 20))
+    (All-map (IsAct n) (λ s. Begins s) (group n first) (group_within n first))
+    (All-flat_map (IsAct n) (step_acts n first) (range_with_len 0 20)
+    (All-weaken (λ k. (0 ≤ k) × (k < 0 + 20)) (λ k. All (IsAct n) (step_acts n first k)) (range_with_len 0 20) (λ k h. step_within n first k (omega (arith, h.1))) (All-range 0 20)))
 
-turns_within : (n : ℕ) → All (IsTurn n) (turns n)
-unfolding turns
-turns_within n =
-    All-flat_map (IsTurn n) (λ g. group_turns n (10 * g)) (range_with_len 0 ((n + 9) / 10)) (λ k d lt. group_turns_within n (10 * get_or (range_with_len 0 ((n + 9) / 10)) k d))
+acts_within : (n : ℕ) → All (IsAct n) (acts n)
+unfolding acts
+acts_within n =
+    All-flat_map (IsAct n) (λ g. group_acts n (10 * g)) (range_with_len 0 ((n + 9) / 10)) (λ k d lt. group_acts_within n (10 * get_or (range_with_len 0 ((n + 9) / 10)) k d))
 
 -- ---- the requests
 -- its numbers are small
@@ -85,17 +85,17 @@ IsSmall (Answer session step response) = (session < 1000) × (step < 100) × (re
 IsSmall (Close session) = session < 1000
 IsSmall request = ⊥
 
-small_at : (n state : ℕ) (t : Turn) → n ≤ 200 → IsTurn n t → IsSmall (request_at state t)
+small_at : (n state : ℕ) (t : Act) → n ≤ 200 → IsAct n t → IsSmall (request_at state t)
 small_at n state (Begins s) few lt = omega (arith, few, lt)
 small_at n state (Answers s k) few h = (omega (arith, few, h.0), omega (arith, h.1), omega arith)
 small_at n state (Closes s) few lt = omega (arith, few, lt)
 
-requests_small : (n state : ℕ) (ts : List Turn) → n ≤ 200 → All (IsTurn n) ts → All IsSmall (requests_from state ts)
+requests_small : (n state : ℕ) (ts : List Act) → n ≤ 200 → All (IsAct n) ts → All IsSmall (requests_from state ts)
 unfolding requests_from
 requests_small n state [] few within = All-nil IsSmall
 requests_small n state (t ∷ ts) few within =
-    All-cons IsSmall (request_at state t) (requests_from (state_behind state t) ts) (small_at n state t few (All-head (IsTurn n) t ts within))
-    (requests_small n (state_behind state t) ts few (All-tail (IsTurn n) t ts within))
+    All-cons IsSmall (request_at state t) (requests_from (state_behind state t) ts) (small_at n state t few (All-head (IsAct n) t ts within))
+    (requests_small n (state_behind state t) ts few (All-tail (IsAct n) t ts within))
 
 small_in_range : (r : Request) → IsSmall r → IsInRange r
 small_in_range (Begin booking) lt = omega (arith, lt)
@@ -135,7 +135,7 @@ text_short (r ∷ rs) small =
       length-append (request_line r) (10 ∷ text_of_lines (map request_line rs)),
     )
 
-requests_many : (state : ℕ) (ts : List Turn) → length (requests_from state ts) ≡ length ts
+requests_many : (state : ℕ) (ts : List Act) → length (requests_from state ts) ≡ length ts
 unfolding requests_from
 requests_many state [] = refl
 requests_many state (t ∷ ts) = ap suc (requests_many (state_behind state t) ts)
@@ -146,40 +146,40 @@ length-flat_map-le f m xs each = rw (length-flat_map f xs) (sum_by-le (λ x. len
 group_few : (n first : ℕ) → length (group n first) ≤ 10
 group_few n first = rw (length-range_with_len first (min 10 (n - first))) (omega arith)
 
-one_turn_few : (o : Option Turn) → length (option_to_list o) ≤ 1
-one_turn_few None = omega arith
-one_turn_few (Some t) = omega arith
+one_act_few : (o : Option Act) → length (option_to_list o) ≤ 1
+one_act_few None = omega arith
+one_act_few (Some t) = omega arith
 
-step_few : (n first k : ℕ) → length (step_turns n first k) ≤ 10
+step_few : (n first k : ℕ) → length (step_acts n first k) ≤ 10
 step_few n first k =
-    omega (arith, group_few n first, length-flat_map-le (λ s. option_to_list (turn_of n s k)) 1 (group n first) (λ s. one_turn_few (turn_of n s k)))
+    omega (arith, group_few n first, length-flat_map-le (λ s. option_to_list (act_of n s k)) 1 (group n first) (λ s. one_act_few (act_of n s k)))
 
-group_turns_few : (n first : ℕ) → length (group_turns n first) ≤ 210
-unfolding group_turns
-group_turns_few n first =
+group_acts_few : (n first : ℕ) → length (group_acts n first) ≤ 210
+unfolding group_acts
+group_acts_few n first =
     omega (
       arith,
       group_few n first,
-      length-append (map (λ s. Begins s) (group n first)) (flat_map (step_turns n first) (range_with_len 0 20)),
-      length-map {B = Turn} (group n first) (λ s. Begins s),
+      length-append (map (λ s. Begins s) (group n first)) (flat_map (step_acts n first) (range_with_len 0 20)),
+      length-map {B = Act} (group n first) (λ s. Begins s),
       length-range_with_len 0 20,
-      length-flat_map-le (step_turns n first) 10 (range_with_len 0 20) (step_few n first),
+      length-flat_map-le (step_acts n first) 10 (range_with_len 0 20) (step_few n first),
     )
 
-turns_few : (n : ℕ) → n ≤ 200 → length (turns n) ≤ 5000
-unfolding turns
-turns_few n few =
-    omega (arith, few, length-range_with_len 0 ((n + 9) / 10), length-flat_map-le (λ g. group_turns n (10 * g)) 210 (range_with_len 0 ((n + 9) / 10)) (λ g. group_turns_few n (10 * g)))
+acts_few : (n : ℕ) → n ≤ 200 → length (acts n) ≤ 5000
+unfolding acts
+acts_few n few =
+    omega (arith, few, length-range_with_len 0 ((n + 9) / 10), length-flat_map-le (λ g. group_acts n (10 * g)) 210 (range_with_len 0 ((n + 9) / 10)) (λ g. group_acts_few n (10 * g)))
 
 -- ---- the script
 module _ (state n : ℕ) (few : n ≤ 200) where
-  small : All IsSmall (requests_from state (turns n))
-  small = requests_small n state (turns n) few (turns_within n)
+  small : All IsSmall (requests_from state (acts n))
+  small = requests_small n state (acts n) few (acts_within n)
 
-  pub is_script : IsScript (script_text state (turns n)) (requests_from state (turns n))
+  pub is_script : IsScript (script_text state (acts n)) (requests_from state (acts n))
   unfolding script_text
-  is_script = record { in_range = All-weaken IsSmall IsInRange (requests_from state (turns n)) small_in_range small; lines = inl refl }
+  is_script = record { in_range = All-weaken IsSmall IsInRange (requests_from state (acts n)) small_in_range small; lines = inl refl }
 
-  pub is_short : length (script_text state (turns n)) ≤ 100000
+  pub is_short : length (script_text state (acts n)) ≤ 100000
   unfolding script_text
-  is_short = omega (arith, text_short (requests_from state (turns n)) small, requests_many state (turns n), turns_few n few)
+  is_short = omega (arith, text_short (requests_from state (acts n)) small, requests_many state (acts n), acts_few n few)

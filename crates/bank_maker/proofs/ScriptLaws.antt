@@ -1,27 +1,27 @@
--- The text of a script, turn by turn.
+-- The text of a script, act by act.
 use Rattle.std.proofs.Common.{◌≡◌, ℕ, suc, ◌+◌, ◌<◌, List, [], ◌∷◌, ◌++◌, length, get_or, drop, refl, sym, ap, ◌∙◌, append_assoc, add-one, drop-cons, codes}
 use Rattle.std.proofs.lemmas.List.{append-nil}
 use Rattle.std.proofs.Math.Seq.{drop-length}
 use Rattle.std.specs.Fmt.{decimal}
 use Rattle.history_model.specs.declared.request.Request.TheVariants.{Answer}
 use Rattle.replay_cli.specs.Scripts.{request_line, text_of_requests}
-use Rattle.bank_maker.specs.declared.turn.Turn.{Turn}
+use Rattle.bank_maker.specs.declared.act.Act.{Act}
 use Rattle.bank_maker.specs.Scripts.{answer_text, request_at, state_behind, requests_from, script_text}
 
-pub script_cons : (state : ℕ) (t : Turn) (ts : List Turn) → script_text state (t ∷ ts) ≡ (request_line (request_at state t) ++ 10 ∷ []) ++ script_text (state_behind state t) ts
+pub script_cons : (state : ℕ) (t : Act) (ts : List Act) → script_text state (t ∷ ts) ≡ (request_line (request_at state t) ++ 10 ∷ []) ++ script_text (state_behind state t) ts
 unfolding script_text requests_from text_of_requests
 script_cons state t ts = sym (append_assoc (request_line (request_at state t)) (10 ∷ []) (script_text (state_behind state t) ts))
 
--- a turn's line goes from what is left to what is written
-pub one_turn : (whole out now : List ℕ) (state behind : ℕ) (ts : List Turn) (i : ℕ) (d : Turn) → i < length ts
+-- an act's line goes from what is left to what is written
+pub one_act : (whole out now : List ℕ) (state behind : ℕ) (ts : List Act) (i : ℕ) (d : Act) → i < length ts
     → whole ≡ out ++ script_text state (drop i ts)
     → now ≡ out ++ (request_line (request_at state (get_or ts i d)) ++ 10 ∷ [])
     → behind ≡ state_behind state (get_or ts i d)
     → whole ≡ now ++ script_text behind (drop (i + 1) ts)
-one_turn whole out now state behind ts i d lt e f g =
-    let t : Turn = get_or ts i d in
+one_act whole out now state behind ts i d lt e f g =
+    let t : Act = get_or ts i d in
     let first : drop i ts ≡ t ∷ drop (i + 1) ts = rw add-one (drop-cons ts i d lt) in
-    e ∙ ap (λ (rest : List Turn). out ++ script_text state rest) first
+    e ∙ ap (λ (rest : List Act). out ++ script_text state rest) first
     ∙ ap (λ (text : List ℕ). out ++ text) (script_cons state t (drop (i + 1) ts))
     ∙ sym (append_assoc out (request_line (request_at state t) ++ 10 ∷ []) (script_text (state_behind state t) (drop (i + 1) ts)))
     ∙ (rw (f, g) refl)
@@ -30,10 +30,10 @@ nothing_left : (state : ℕ) → script_text state [] ≡ []
 unfolding script_text requests_from text_of_requests
 nothing_left state = refl
 
--- no turn is left
-pub last_turn : (whole out : List ℕ) (state : ℕ) (ts : List Turn) (i : ℕ) → i ≡ length ts → whole ≡ out ++ script_text state (drop i ts) → out ≡ whole
-last_turn whole out state ts i e is =
-    sym (is ∙ ap (λ (rest : List Turn). out ++ script_text state rest) (ap (λ (n : ℕ). drop n ts) e ∙ drop-length ts)
+-- no act is left
+pub last_act : (whole out : List ℕ) (state : ℕ) (ts : List Act) (i : ℕ) → i ≡ length ts → whole ≡ out ++ script_text state (drop i ts) → out ≡ whole
+last_act whole out state ts i e is =
+    sym (is ∙ ap (λ (rest : List Act). out ++ script_text state rest) (ap (λ (n : ℕ). drop n ts) e ∙ drop-length ts)
     ∙ ap (λ (rest : List ℕ). out ++ rest) (nothing_left state) ∙ append-nil out)
 
 -- the words of an answer are parted by spaces

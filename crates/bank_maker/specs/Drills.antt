@@ -7,7 +7,7 @@ use Rattle.bank_maker.specs.Draws.{state_after}
 use Rattle.bank_maker.specs.Items.{items, draws_of_items}
 use Rattle.bank_maker.specs.Banks.{tables_of, bank_text}
 use Rattle.bank_maker.specs.Plans.{plan_text}
-use Rattle.bank_maker.specs.Scripts.{turns, requests_from, script_text}
+use Rattle.bank_maker.specs.Scripts.{acts, requests_from, script_text}
 
 -- the bank of the items that are drawn from the number
 abbrev pub bank_of_drill : ℕ → List ℕ
@@ -23,11 +23,11 @@ plan_of_drill number sessions = plan_text number sessions (items number)
 
 -- the requests of the script, which draws on after the items
 abbrev pub requests_of_drill : ℕ → ℕ → List Request
-requests_of_drill number sessions = requests_from (state_after number draws_of_items) (turns sessions)
+requests_of_drill number sessions = requests_from (state_after number draws_of_items) (acts sessions)
 
 -- the script
 abbrev pub script_of_drill : ℕ → ℕ → List ℕ
-script_of_drill number sessions = script_text (state_after number draws_of_items) (turns sessions)
+script_of_drill number sessions = script_text (state_after number draws_of_items) (acts sessions)
 
 -- the texts of a drill of so many sessions from this number
 pub record IsDrill (number sessions : ℕ) (made : Made) : Type 0 where

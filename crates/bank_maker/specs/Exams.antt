@@ -1,8 +1,8 @@
 -- The plan of a drill, as it is read.
 use Rattle.std.specs.Prelude.{◌≡◌, ℕ}
 use Rattle.exam_text.specs.Keys.{IsKey}
-use Rattle.exam_model.specs.Plan.{Plan}
-use Rattle.exam_model.specs.Validity.{IsPlanFor}
+use Rattle.form_model.specs.Plan.{Plan}
+use Rattle.form_model.specs.Validity.{IsPlanFor}
 use Rattle.spec_reader.specs.Plans.{plan_said}
 use Rattle.spec_reader.specs.Reading.{IsPlanText}
 use Rattle.bank_maker.specs.Items.{items}

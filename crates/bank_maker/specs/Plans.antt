@@ -51,6 +51,7 @@ plan number sessions xs =
       bounds = replicate 6 (record { low = 2; high = 4 });
       rate = record { num = 1; den = 4 };
       key = key_of number;
+      bands = [];
       budget = 501;
       base_budget = 4095;
       sessions = sessions;

@@ -6,8 +6,8 @@ use Rattle.std.specs.List.{flat_map, range_with_len}
 use Rattle.history_model.specs.declared.request.Request.{Request}
 use Rattle.history_model.specs.declared.request.Request.TheVariants.{Begin, Answer, Close}
 use Rattle.replay_cli.specs.Scripts.{text_of_requests}
-use Rattle.bank_maker.specs.declared.turn.Turn.{Turn}
-use Rattle.bank_maker.specs.declared.turn.Turn.TheVariants.{Begins, Answers, Closes}
+use Rattle.bank_maker.specs.declared.act.Act.{Act}
+use Rattle.bank_maker.specs.declared.act.Act.TheVariants.{Begins, Answers, Closes}
 use Rattle.bank_maker.specs.Draws.{next_state, upper_bits}
 
 -- the sessions from first on that are in its group of ten
@@ -15,47 +15,47 @@ abbrev pub group : ℕ → ℕ → List ℕ
 group sessions first = range_with_len first (min 10 (sessions - first))
 
 -- each session answers at each step, but the last of all closes at step 10 and ends there
-abbrev pub turn_of : ℕ → ℕ → ℕ → Option Turn
-turn_of sessions session step =
+abbrev pub act_of : ℕ → ℕ → ℕ → Option Act
+act_of sessions session step =
     if nat_lt (session + 1) sessions then Some (Answers session step)
     else if nat_lt step 10 then Some (Answers session step)
     else if (step == 10) then Some (Closes session)
     else None
 
--- the turns of a group at a step
-abbrev pub step_turns : ℕ → ℕ → ℕ → List Turn
-step_turns sessions first step =
-    flat_map (λ session. option_to_list (turn_of sessions session step)) (group sessions first)
+-- the acts of a group at a step
+abbrev pub step_acts : ℕ → ℕ → ℕ → List Act
+step_acts sessions first step =
+    flat_map (λ session. option_to_list (act_of sessions session step)) (group sessions first)
 
 -- a group begins all its sessions, and then takes its twenty steps, each session in turn
-unfoldable pub group_turns : ℕ → ℕ → List Turn
-group_turns sessions first = map (λ session. Begins session) (group sessions first)
-    ++ flat_map (step_turns sessions first) (range_with_len 0 20)
+unfoldable pub group_acts : ℕ → ℕ → List Act
+group_acts sessions first = map (λ session. Begins session) (group sessions first)
+    ++ flat_map (step_acts sessions first) (range_with_len 0 20)
 
 -- groups of ten, in order
-unfoldable pub turns : ℕ → List Turn
-turns sessions = flat_map (λ g. group_turns sessions (10 * g)) (range_with_len 0 ((sessions + 9) / 10))
+unfoldable pub acts : ℕ → List Act
+acts sessions = flat_map (λ g. group_acts sessions (10 * g)) (range_with_len 0 ((sessions + 9) / 10))
 
 -- the line of an answer, with its line feed
 abbrev pub answer_text : ℕ → ℕ → ℕ → List ℕ
 answer_text session step response = codes "answer " ++ (decimal session ++ (codes " " ++ (decimal step ++ (codes " " ++ (decimal response ++ codes "\n")))))
 
--- what is asked at a turn: session s has the booking s + 1, and an answer takes the next draw for its
+-- what is asked at an act: session s has the booking s + 1, and an answer takes the next draw for its
 -- response
-abbrev pub request_at : ℕ → Turn → Request
+abbrev pub request_at : ℕ → Act → Request
 request_at state (Begins s) = Begin (s + 1)
 request_at state (Answers s k) = Answer s k (upper_bits (next_state state) % 2)
 request_at state (Closes s) = Close s
 
--- the state after a turn
-abbrev pub state_behind : ℕ → Turn → ℕ
+-- the state after an act
+abbrev pub state_behind : ℕ → Act → ℕ
 state_behind state (Answers s k) = next_state state
 state_behind state _ = state
 
--- the requests of turns, in order
-unfoldable pub requests_from : ℕ → List Turn → List Request
+-- the requests of acts, in order
+unfoldable pub requests_from : ℕ → List Act → List Request
 requests_from state [] = []
-requests_from state (turn ∷ turns) = request_at state turn ∷ requests_from (state_behind state turn) turns
+requests_from state (act ∷ acts) = request_at state act ∷ requests_from (state_behind state act) acts
 
-unfoldable pub script_text : ℕ → List Turn → List ℕ
+unfoldable pub script_text : ℕ → List Act → List ℕ
 script_text state ts = text_of_requests (requests_from state ts)

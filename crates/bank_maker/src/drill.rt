@@ -3,12 +3,12 @@
 ghost use Rattle.std.specs.Prelude.{◌≤◌, IfOk};
 ghost use Rattle.bank_maker.specs.Drills.{IsDrill};
 
+use crate::act::acts_of;
 use crate::bank::bank_text;
 use crate::draws::Draws;
 use crate::item::draw_items;
 use crate::plan::plan_text;
 use crate::script::script_text;
-use crate::turn::turns_of;
 use exam_edge::Memory;
 use std::alloc::Global;
 
@@ -33,7 +33,7 @@ pub fn make(alloc: Global, number: u32, sessions: u32) -> Result<Made, Memory>
     let items = draw_items(alloc, &mut draws)?;
     let bank = bank_text(alloc, &items)?;
     let plan = plan_text(alloc, number, sessions, &items)?;
-    let turns = turns_of(alloc, sessions)?;
-    let script = script_text(alloc, &mut draws, &turns)?;
+    let acts = acts_of(alloc, sessions)?;
+    let script = script_text(alloc, &mut draws, &acts)?;
     Ok(Made { bank, plan, script })
 }

@@ -9,9 +9,9 @@ ghost use Rattle.bank_maker.specs.Draws.{draw, state_after};
 ghost use Rattle.bank_maker.specs.Items.{drawn, items, draws_of_items};
 ghost use Rattle.bank_maker.specs.Drills.{bank_of_drill, tables_of_drill, plan_of_drill, script_of_drill, requests_of_drill};
 ghost use Rattle.bank_maker.specs.Plans.{base_quantity, plan};
-ghost use Rattle.bank_maker.specs.Scripts.{turns, requests_from};
+ghost use Rattle.bank_maker.specs.Scripts.{acts, requests_from};
 ghost use Rattle.bank_maker.specs.Exams.{IsPlanOfDrill};
-ghost use Rattle.exam_model.specs.Plan.{Plan};
+ghost use Rattle.form_model.specs.Plan.{Plan};
 ghost use Rattle.spec_reader.specs.Plans.{plan_said};
 ghost use Rattle.spec_reader.specs.Reading.{IsPlanText, most_bytes as most_of_plan};
 
@@ -22,7 +22,7 @@ pub fn drill_of_seven()
     ensures first_item { drawn 7 0 ≡ record { peak = 6; height = 505; quantity = 53 } }
     ensures last_item { drawn 7 119 ≡ record { peak = 5; height = 828; quantity = 81 } }
     ensures base { base_quantity (items 7) ≡ 1357 }
-    ensures script { requests_from (state_after 7 draws_of_items) (turns 1)
+    ensures script { requests_from (state_after 7 draws_of_items) (acts 1)
         ≡ Begin 1 ∷ Answer 0 0 1 ∷ Answer 0 1 0 ∷ Answer 0 2 1 ∷ Answer 0 3 0 ∷ Answer 0 4 0
         ∷ Answer 0 5 0
         ∷ Answer 0 6 1 ∷ Answer 0 7 1 ∷ Answer 0 8 0 ∷ Answer 0 9 0 ∷ Close 0 ∷ [] }

@@ -4,6 +4,7 @@
 //! and the script are read. It reads no text, and does not examine.
 #![tactic(auto)]
 
+mod act;
 mod bank;
 mod draws;
 mod drill;
@@ -11,6 +12,5 @@ mod item;
 pub mod laws;
 mod plan;
 mod script;
-mod turn;
 
 pub use drill::{Made, make};

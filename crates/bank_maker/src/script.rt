@@ -4,8 +4,8 @@ ghost use Rattle.std.specs.Prelude.{◌≡◌, ◌++◌, ◌∷◌, [], IfOk, st
 ghost use Rattle.bank_maker.specs.Scripts.{answer_text, request_at, state_behind, script_text};
 ghost use Rattle.replay_cli.specs.Scripts.{request_line};
 
+use crate::act::Act;
 use crate::draws::Draws;
-use crate::turn::Turn;
 use exam_edge::Memory;
 use history_model::Request;
 use std::alloc::Global;
@@ -34,14 +34,14 @@ fn request_text(alloc: Global, request: Request) -> Result<String, Memory>
     }
 }
 
-/// What is asked at a turn. An answer takes a draw for its response.
-fn request_at(draws: &mut Draws, turn: Turn) -> Request
-    ensures request { result ≡ request_at draws.old.state turn }
-    ensures state { draws.new.state ≡ state_behind draws.old.state turn }
+/// What is asked at an act. An answer takes a draw for its response.
+fn request_at(draws: &mut Draws, act: Act) -> Request
+    ensures request { result ≡ request_at draws.old.state act }
+    ensures state { draws.new.state ≡ state_behind draws.old.state act }
 {
-    match turn {
-        Turn::Begins(session) => Request::Begin(u64::from(session) + 1),
-        Turn::Answers { session, step } => {
+    match act {
+        Act::Begins(session) => Request::Begin(u64::from(session) + 1),
+        Act::Answers { session, step } => {
             let response = (draws.draw() % 2) as u8;
             Request::Answer {
                 session,
@@ -49,17 +49,17 @@ fn request_at(draws: &mut Draws, turn: Turn) -> Request
                 response,
             }
         }
-        Turn::Closes(session) => Request::Close(session),
+        Act::Closes(session) => Request::Close(session),
     }
 }
 
-/// The script of turns.
-pub fn script_text(alloc: Global, draws: &mut Draws, turns: &[Turn]) -> Result<Vec<u8>, Memory>
-    ensures { IfOk result (λ text. text.items ≡ script_text draws.old.state turns.now) }
+/// The script of acts.
+pub fn script_text(alloc: Global, draws: &mut Draws, acts: &[Act]) -> Result<Vec<u8>, Memory>
+    ensures { IfOk result (λ text. text.items ≡ script_text draws.old.state acts.now) }
 {
     let mut out = Vec::new(alloc);
-    for turn in turns {
-        let request = request_at(draws, *turn);
+    for act in acts {
+        let request = request_at(draws, *act);
         let line = request_text(alloc, request)?;
         out.extend_from_slice(line.as_bytes())?;
     }

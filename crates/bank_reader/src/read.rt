@@ -4,6 +4,7 @@ ghost use Rattle.std.specs.Prelude.{◌≡◌, ℕ, ◌≤◌, ◌⊎◌, List, 
 ghost use Rattle.csv.specs.Records.{fields_of};
 ghost use Rattle.exam_text.specs.First.{Gives};
 ghost use Rattle.exam_edge.specs.Faults.{Rose};
+ghost use Rattle.exam_edge.specs.Lent.{IsLent};
 ghost use Rattle.bank_tables.specs.Tables.{Tables};
 ghost use Rattle.bank_reader.specs.Columns.{IsShape};
 ghost use Rattle.bank_reader.specs.Grammar.{IsBankText, IsTextFault, records_of, longest};
@@ -79,9 +80,7 @@ fn read_whole<S: Source>(alloc: Global, source: &mut S) -> Result<Bank, ReadFaul
         → S.has source.new name ≡ S.has source.old name }
     ensures beside { IsTrue (S.tells source.old) → (name : List ℕ)
         → S.beside source.new name ≡ S.beside source.old name }
-    ensures grows { S.faults source.old ≤ S.faults source.new }
-    ensures tells { S.tells source.new ≡ S.tells source.old }
-    ensures identity { S.identity source.new ≡ S.identity source.old }
+    ensures frame { IsLent S.tells S.identity S.faults source.old source.new }
 {
     let text = text_of(alloc, source, LONGEST)?;
     bank_in(alloc, &text)
@@ -115,9 +114,7 @@ pub fn read_bank<S: Source>(alloc: Global, source: &mut S) -> Result<Bank, ReadF
         → S.has source.new name ≡ S.has source.old name }
     ensures beside { IsTrue (S.tells source.old) → (name : List ℕ)
         → S.beside source.new name ≡ S.beside source.old name }
-    ensures grows { S.faults source.old ≤ S.faults source.new }
-    ensures tells { S.tells source.new ≡ S.tells source.old }
-    ensures identity { S.identity source.new ≡ S.identity source.old }
+    ensures frame { IsLent S.tells S.identity S.faults source.old source.new }
 {
     read_whole(alloc, source)
 }

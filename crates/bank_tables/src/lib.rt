@@ -1,4 +1,5 @@
-//! What every crate needs of items: sets of items, lists, limits, and the item bank with its accessors.
+//! What every crate needs of items: sets of items, lists, limits, the sides of the cap, and the item bank with its
+//! accessors.
 //!
 //! Upward it promises that each set operation is the operation on members, that `Bank::of` takes exactly the rows whose
 //! numbers are within their bounds, else names their first fault, and that a bank's accessors give its numbers. Threads may
@@ -14,6 +15,7 @@ pub mod limits;
 mod list;
 mod rows;
 mod short;
+pub mod sides;
 
 pub use bank::Bank;
 pub use bank_fault::BankFault;

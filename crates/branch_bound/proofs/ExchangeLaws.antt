@@ -7,9 +7,9 @@ use Rattle.bank_tables.specs.Items.{Set}
 use Rattle.bank_tables.specs.Sums.{sum_in, any_below}
 use Rattle.bank_tables.specs.Tables.{size, info}
 use Rattle.bank_tables.specs.Validity.{IsBank}
-use Rattle.exam_model.specs.Problem.{Problem}
-use Rattle.exam_model.specs.Forms.{Form, Firm, objective}
-use Rattle.exam_model.proofs.SumLaws.{either, or_true, or_left, any_intro, any_elim, same_from_count}
+use Rattle.form_model.specs.Problem.{Problem}
+use Rattle.form_model.specs.Forms.{Form, Firm, objective}
+use Rattle.form_model.proofs.SumLaws.{either, or_true, or_left, any_intro, any_elim, same_from_count}
 use Rattle.std.specs.Prelude.{None}
 use Rattle.branch_bound.specs.Exchanges.{exchange, IsExchange, IsBetter}
 

@@ -11,18 +11,18 @@ use Rattle.bank_tables.specs.Tables.{Tables, size, stimulus}
 use Rattle.bank_tables.specs.Validity.{IsBank, HoldsItems}
 use Rattle.bank_tables.proofs.Bits.{size_of-below}
 use Rattle.bank_tables.proofs.BankLaws.{greatest_at_most}
-use Rattle.exam_model.specs.declared.node.Node.TheVariants.{BranchItem, BranchStimulus, Bound, Ray, Count, Whole, Open}
-use Rattle.exam_model.specs.declared.node.Node.{Node}
-use Rattle.exam_model.specs.Counting.{taken_or_free, length_impossible, is_impossible, stimulus_impossible, IsFirstImpossible}
-use Rattle.exam_model.specs.Forms.{objective, size_in, stimuli_of}
-use Rattle.exam_model.specs.Paths.{Path, is_free, is_open, is_chosen}
-use Rattle.exam_model.specs.Problem.{Problem}
-use Rattle.exam_model.specs.Relaxed.{Multipliers}
+use Rattle.certificate_model.specs.declared.node.Node.TheVariants.{BranchItem, BranchStimulus, Bound, Ray, Count, Whole, Open}
+use Rattle.certificate_model.specs.declared.node.Node.{Node}
+use Rattle.certificate_model.specs.Counting.{taken_or_free, length_impossible, is_impossible, stimulus_impossible, IsFirstImpossible}
+use Rattle.form_model.specs.Forms.{objective, size_in, stimuli_of}
+use Rattle.certificate_model.specs.Paths.{Path, is_free, is_open, is_chosen}
+use Rattle.form_model.specs.Problem.{Problem}
+use Rattle.certificate_model.specs.Relaxed.{Multipliers}
 use Rattle.lagrange_bound.specs.Bounds.{IsBound}
-use Rattle.exam_model.specs.Validity.{IsWellMade}
-use Rattle.exam_model.specs.Verdicts.{IsStimulusBranch, only_candidate, CandidateIsSettled, ClosesByBound, IsFormOrNone, below}
-use Rattle.exam_model.specs.Spending.{IsBranch, ExceedsStart}
-use Rattle.exam_model.proofs.SumLaws.{at_most_greatest, either, any_elim, any_intro, or_right, or_true}
+use Rattle.form_model.specs.Validity.{IsWellMade}
+use Rattle.certificate_model.specs.Verdicts.{IsStimulusBranch, only_candidate, CandidateIsSettled, ClosesByBound, IsFormOrNone, below}
+use Rattle.certificate_model.specs.Spending.{IsBranch, ExceedsStart}
+use Rattle.form_model.proofs.SumLaws.{at_most_greatest, either, any_elim, any_intro, or_right, or_true}
 use Rattle.branch_bound.specs.Comparing.{IsAsGood}
 use Rattle.branch_bound.specs.Searches.{Suits, ExceedsForm, Ends, GoesOn, IsBranchOn, side_of}
 use Rattle.branch_bound.proofs.Comparisons.{as_good-refl}

@@ -1,17 +1,17 @@
 -- What a verdict shows of an outcome, and what an outcome means.
 use Rattle.std.proofs.Common.{◌≡◌, ℕ, zero, suc, ◌+◌, ◌^◌, ◌≤◌, ◌<◌, inl, inr, true, false, List, refl, arith, Option, Some, None}
 use Rattle.bank_tables.specs.Items.{Set, has}
-use Rattle.exam_model.specs.declared.verdict.Verdict.TheVariants.{Optimal, Partial}
-use Rattle.exam_model.specs.declared.verdict.Verdict.TheVariants as verdict
-use Rattle.exam_model.specs.Forms.{Form, Firm, objective}
-use Rattle.exam_model.specs.Paths.{root, undecided}
-use Rattle.exam_model.specs.Problem.{Problem}
-use Rattle.exam_model.specs.ProofTrees.{ProofTree}
-use Rattle.exam_model.specs.Spending.{IsSpent}
-use Rattle.exam_model.specs.Verdicts.{verdict_of, IsVerdict}
-use Rattle.exam_model.proofs.TreeLaws.{optimal_is_best, no_form_is_none}
-use Rattle.exam_model.proofs.Bettering.{bettering_keeps}
-use Rattle.exam_model.proofs.Undecided.{partial_is_small}
+use Rattle.certificate_model.specs.declared.verdict.Verdict.TheVariants.{Optimal, Partial}
+use Rattle.certificate_model.specs.declared.verdict.Verdict.TheVariants as verdict
+use Rattle.form_model.specs.Forms.{Form, Firm, objective}
+use Rattle.certificate_model.specs.Paths.{root, undecided}
+use Rattle.form_model.specs.Problem.{Problem}
+use Rattle.certificate_model.specs.ProofTrees.{ProofTree}
+use Rattle.certificate_model.specs.Spending.{IsSpent}
+use Rattle.certificate_model.specs.Verdicts.{verdict_of, IsVerdict}
+use Rattle.certificate_model.proofs.TreeLaws.{optimal_is_best, no_form_is_none}
+use Rattle.certificate_model.proofs.Bettering.{bettering_keeps}
+use Rattle.certificate_model.proofs.Undecided.{partial_is_small}
 use Rattle.branch_bound.specs.declared.outcome.Outcome.{Outcome}
 use Rattle.branch_bound.specs.declared.outcome.Outcome.TheVariants.{Found, NoForm, NoneFound}
 use Rattle.branch_bound.specs.Assemblies.{IsUndecided, IsShown, IsFirmOutcome, IsNoWorseThan, IsTrueOutcome, IsDecided}

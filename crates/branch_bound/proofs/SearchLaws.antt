@@ -3,14 +3,14 @@ use Rattle.std.proofs.Common.{◌≡◌, ℕ, ◌+◌, ◌⊎◌, inl, inr, List
 use Rattle.std.specs.Prelude.{All}
 use Rattle.std.proofs.lemmas.List.Elements.{All-nil, All-cons}
 use Rattle.bank_tables.specs.Items.{Set}
-use Rattle.exam_model.specs.declared.node.Node.{Node}
-use Rattle.exam_model.specs.declared.node.Node.TheVariants.{BranchItem, BranchStimulus, Bound, Ray, Count, Whole, Open}
-use Rattle.exam_model.specs.Problem.{Problem}
-use Rattle.exam_model.specs.Paths.{Path}
-use Rattle.exam_model.specs.ProofTrees.{AreTrees}
-use Rattle.exam_model.specs.Pruning.{ArePruned}
-use Rattle.exam_model.specs.Verdicts.{IsSound, below, open_leaf, verdict_of, GivesFrom}
-use Rattle.exam_model.specs.Spending.{open_leaves, IsBranch, HasNoBranch, IsDepthFirst, AreSpentNodes}
+use Rattle.certificate_model.specs.declared.node.Node.{Node}
+use Rattle.certificate_model.specs.declared.node.Node.TheVariants.{BranchItem, BranchStimulus, Bound, Ray, Count, Whole, Open}
+use Rattle.form_model.specs.Problem.{Problem}
+use Rattle.certificate_model.specs.Paths.{Path}
+use Rattle.certificate_model.specs.ProofTrees.{AreTrees}
+use Rattle.certificate_model.specs.Pruning.{ArePruned}
+use Rattle.certificate_model.specs.Verdicts.{IsSound, below, open_leaf, verdict_of, GivesFrom}
+use Rattle.certificate_model.specs.Spending.{open_leaves, IsBranch, HasNoBranch, IsDepthFirst, AreSpentNodes}
 use Rattle.proof_tree.specs.Shape.{IsNode}
 use Rattle.branch_bound.specs.Comparing.{IsAsGood}
 use Rattle.branch_bound.specs.Searches.{plain_tree, Suits, AllSuit, IsSearch, Ends}

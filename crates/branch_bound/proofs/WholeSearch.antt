@@ -3,14 +3,14 @@ use Rattle.std.proofs.Common.{◌≡◌, ℕ, zero, suc, ◌+◌, ◌-◌, ◌/�
 use Rattle.std.proofs.lemmas.List.{append-nil}
 use Rattle.std.proofs.lemmas.List.Elements.{All-nil}
 use Rattle.bank_tables.specs.Items.{Set}
-use Rattle.exam_model.specs.declared.node.Node.{Node}
-use Rattle.exam_model.specs.Problem.{Problem}
-use Rattle.exam_model.specs.Paths.{root}
-use Rattle.exam_model.specs.ProofTrees.{ProofTree}
-use Rattle.exam_model.specs.Relaxed.{Multipliers}
-use Rattle.exam_model.specs.Spending.{open_leaves, IsSpent}
-use Rattle.exam_model.specs.Validity.{IsBudget}
-use Rattle.exam_model.specs.Verdicts.{verdict_of, GivesFrom, IsFormOrNone, IsVerdict}
+use Rattle.certificate_model.specs.declared.node.Node.{Node}
+use Rattle.form_model.specs.Problem.{Problem}
+use Rattle.certificate_model.specs.Paths.{root}
+use Rattle.certificate_model.specs.ProofTrees.{ProofTree}
+use Rattle.certificate_model.specs.Relaxed.{Multipliers}
+use Rattle.certificate_model.specs.Spending.{open_leaves, IsSpent}
+use Rattle.form_model.specs.Validity.{IsBudget}
+use Rattle.certificate_model.specs.Verdicts.{verdict_of, GivesFrom, IsFormOrNone, IsVerdict}
 use Rattle.proof_tree.specs.Shape.{IsTree}
 use Rattle.branch_bound.specs.declared.outcome.Outcome.{Outcome}
 use Rattle.branch_bound.specs.Assemblies.{IsAssembly}

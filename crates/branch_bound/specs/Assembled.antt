@@ -2,8 +2,8 @@
 use Rattle.std.specs.Prelude.{ℕ, Bool, List, Option}
 use Rattle.std.specs.Option.{option_map}
 use Rattle.bank_tables.specs.Items.{has}
-use Rattle.exam_model.specs.ProofTrees.{ProofTree}
-use Rattle.exam_model.specs.Pruning.{IsPruned}
+use Rattle.certificate_model.specs.ProofTrees.{ProofTree}
+use Rattle.certificate_model.specs.Pruning.{IsPruned}
 use Rattle.constraint_model.specs.declared.problem.Problem.{Problem}
 use Rattle.constraint_model.specs.Views.{problem_of}
 use Rattle.branch_bound.specs.declared.outcome.Outcome.{Outcome}

@@ -1,14 +1,14 @@
 -- The outcome of an assembly, and the tree that shows it.
 use Rattle.std.specs.Prelude.{◌≡◌, ℕ, ◌≤◌, true, false, Option, Some, None}
 use Rattle.bank_tables.specs.Items.{Set, has}
-use Rattle.exam_model.specs.declared.verdict.Verdict.TheVariants.{Optimal, Partial}
-use Rattle.exam_model.specs.declared.verdict.Verdict.TheVariants as verdict
-use Rattle.exam_model.specs.Problem.{Problem}
-use Rattle.exam_model.specs.Forms.{Form, Best, Firm, HasNoForm, objective}
-use Rattle.exam_model.specs.ProofTrees.{ProofTree}
-use Rattle.exam_model.specs.Pruning.{IsPruned}
-use Rattle.exam_model.specs.Spending.{IsSpent}
-use Rattle.exam_model.specs.Verdicts.{IsVerdict}
+use Rattle.certificate_model.specs.declared.verdict.Verdict.TheVariants.{Optimal, Partial}
+use Rattle.certificate_model.specs.declared.verdict.Verdict.TheVariants as verdict
+use Rattle.form_model.specs.Problem.{Problem}
+use Rattle.form_model.specs.Forms.{Form, Best, Firm, HasNoForm, objective}
+use Rattle.certificate_model.specs.ProofTrees.{ProofTree}
+use Rattle.certificate_model.specs.Pruning.{IsPruned}
+use Rattle.certificate_model.specs.Spending.{IsSpent}
+use Rattle.certificate_model.specs.Verdicts.{IsVerdict}
 use Rattle.branch_bound.specs.declared.outcome.Outcome.{Outcome}
 use Rattle.branch_bound.specs.declared.outcome.Outcome.TheVariants.{Found, NoForm, NoneFound}
 

@@ -1,8 +1,8 @@
 -- Comparing the forms that a search is given and finds.
 use Rattle.std.specs.Prelude.{◌≤◌, Option, Some, None}
 use Rattle.bank_tables.specs.Items.{Set}
-use Rattle.exam_model.specs.Problem.{Problem}
-use Rattle.exam_model.specs.Forms.{Form, objective}
+use Rattle.form_model.specs.Problem.{Problem}
+use Rattle.form_model.specs.Forms.{Form, objective}
 
 -- Z is there and a form only where X is there and no worse
 abbrev pub IsAsGood : Problem → Option Set → Option Set → Type 0

@@ -1,8 +1,8 @@
 -- Exchanges of one item of a form.
 use Rattle.std.specs.Prelude.{◌≡◌, ℕ, ◌≤◌, ◌<◌, not, ◌&&◌, ◌||◌, ◌==◌, IsTrue, Option, Some, None}
 use Rattle.bank_tables.specs.Items.{Set}
-use Rattle.exam_model.specs.Problem.{Problem}
-use Rattle.exam_model.specs.Forms.{Form, Firm, objective}
+use Rattle.form_model.specs.Problem.{Problem}
+use Rattle.form_model.specs.Forms.{Form, Firm, objective}
 
 -- X with an item in and another out
 abbrev pub exchange : Set → ℕ → ℕ → Set

@@ -1,11 +1,11 @@
 -- A walk through a tree that may be pruned by counting.
 use Rattle.std.specs.Prelude.{◌≡◌, ℕ, suc, ◌≤◌, ◌<◌, List, ◌∷◌, length, drop, Option, Some, None}
-use Rattle.exam_model.specs.declared.node.Node.{Node}
-use Rattle.exam_model.specs.declared.node.Node.TheVariants.{Count}
-use Rattle.exam_model.specs.Problem.{Problem}
-use Rattle.exam_model.specs.Paths.{Path}
-use Rattle.exam_model.specs.ProofTrees.{ProofTree, AreTrees}
-use Rattle.exam_model.specs.Pruning.{ArePruned}
+use Rattle.certificate_model.specs.declared.node.Node.{Node}
+use Rattle.certificate_model.specs.declared.node.Node.TheVariants.{Count}
+use Rattle.form_model.specs.Problem.{Problem}
+use Rattle.certificate_model.specs.Paths.{Path}
+use Rattle.certificate_model.specs.ProofTrees.{ProofTree, AreTrees}
+use Rattle.certificate_model.specs.Pruning.{ArePruned}
 
 -- the node is the Count leaf of the row, if there is a row
 abbrev pub IsCountOf : Option ℕ → Node → Type 0

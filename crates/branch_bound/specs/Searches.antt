@@ -1,14 +1,14 @@
 -- What the fallback search did on a path: nodes in preorder, and the best form known.
 use Rattle.std.specs.Prelude.{◌≡◌, ℕ, ◌+◌, ◌*◌, ◌⊎◌, List, [], ◌∷◌, ◌++◌, length, IsTrue, Bool, Option, Some, None}
 use Rattle.bank_tables.specs.Items.{Set}
-use Rattle.exam_model.specs.declared.node.Node.{Node}
-use Rattle.exam_model.specs.declared.node.Node.TheVariants.{BranchItem, BranchStimulus, Count}
-use Rattle.exam_model.specs.Problem.{Problem}
-use Rattle.exam_model.specs.Paths.{Path, is_free, with_item, with_stimulus}
-use Rattle.exam_model.specs.Counting.{IsFirstImpossible}
-use Rattle.exam_model.specs.ProofTrees.{ProofTree}
-use Rattle.exam_model.specs.Verdicts.{IsStimulusBranch, IsFormOrNone, IsSound, below, only_candidate}
-use Rattle.exam_model.specs.Spending.{open_leaves, IsBranch, HasNoBranch, IsDepthFirst, IsSpentNode, PlainBoundExceeds, IsUnresolved}
+use Rattle.certificate_model.specs.declared.node.Node.{Node}
+use Rattle.certificate_model.specs.declared.node.Node.TheVariants.{BranchItem, BranchStimulus, Count}
+use Rattle.form_model.specs.Problem.{Problem}
+use Rattle.certificate_model.specs.Paths.{Path, is_free, with_item, with_stimulus}
+use Rattle.certificate_model.specs.Counting.{IsFirstImpossible}
+use Rattle.certificate_model.specs.ProofTrees.{ProofTree}
+use Rattle.certificate_model.specs.Verdicts.{IsStimulusBranch, IsFormOrNone, IsSound, below, only_candidate}
+use Rattle.certificate_model.specs.Spending.{open_leaves, IsBranch, HasNoBranch, IsDepthFirst, IsSpentNode, PlainBoundExceeds, IsUnresolved}
 use Rattle.proof_tree.specs.Shape.{IsNode}
 use Rattle.branch_bound.specs.Comparing.{IsAsGood}
 

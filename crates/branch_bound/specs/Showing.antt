@@ -1,8 +1,8 @@
 -- What a tree shows with a form or none.
 use Rattle.std.specs.Prelude.{ℕ, Option}
 use Rattle.bank_tables.specs.Items.{Set}
-use Rattle.exam_model.specs.Problem.{Problem}
-use Rattle.exam_model.specs.ProofTrees.{ProofTree}
+use Rattle.form_model.specs.Problem.{Problem}
+use Rattle.certificate_model.specs.ProofTrees.{ProofTree}
 use Rattle.branch_bound.specs.declared.outcome.Outcome.{Outcome}
 use Rattle.branch_bound.specs.Assemblies.{IsShown, IsFirmOutcome, IsNoWorseThan}
 use Rattle.branch_bound.specs.Comparing.{IsAsGood}

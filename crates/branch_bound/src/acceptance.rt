@@ -3,7 +3,7 @@
 ghost use Rattle.std.specs.Prelude.{IfSome, Some, None};
 ghost use Rattle.std.specs.Option.{option_map};
 ghost use Rattle.bank_tables.specs.Items.{has};
-ghost use Rattle.exam_model.specs.Validity.{IsWellMade};
+ghost use Rattle.form_model.specs.Validity.{IsWellMade};
 ghost use Rattle.constraint_model.specs.Views.{problem_of};
 ghost use Rattle.branch_bound.specs.Assemblies.{IsAssembly};
 ghost use Rattle.branch_bound.specs.Showing.{Shows};

@@ -3,9 +3,9 @@
 ghost use Rattle.std.specs.Prelude.{◌≡◌, ◌+◌, ◌^◌, ◌≤◌, IfOk, IfSome};
 ghost use Rattle.std.specs.Option.{option_map, option_copied};
 ghost use Rattle.bank_tables.specs.Items.{has};
-ghost use Rattle.exam_model.specs.Paths.{root, undecided};
-ghost use Rattle.exam_model.specs.Validity.{IsBudget, IsWellMade};
-ghost use Rattle.exam_model.specs.Verdicts.{NamesOnlySides};
+ghost use Rattle.certificate_model.specs.Paths.{root, undecided};
+ghost use Rattle.form_model.specs.Validity.{IsBudget, IsWellMade};
+ghost use Rattle.certificate_model.specs.Verdicts.{NamesOnlySides};
 ghost use Rattle.constraint_model.specs.Views.{problem_of};
 ghost use Rattle.branch_bound.specs.Assembled.{KeepsPromise};
 ghost use Rattle.branch_bound.specs.Assemblies.{IsAssembly, IsTrueOutcome, IsDecided};

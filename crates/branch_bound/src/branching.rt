@@ -1,15 +1,15 @@
 //! Branches, and the cuts of their two sides.
 
 ghost use Rattle.std.specs.Prelude.{◌≡◌, ◌↔◌, IsTrue, None};
-ghost use Rattle.exam_model.specs.Paths.{Path};
-ghost use Rattle.exam_model.specs.Validity.{IsWellMade};
-ghost use Rattle.exam_model.specs.Verdicts.{only_candidate};
+ghost use Rattle.certificate_model.specs.Paths.{Path};
+ghost use Rattle.form_model.specs.Validity.{IsWellMade};
+ghost use Rattle.certificate_model.specs.Verdicts.{only_candidate};
 ghost use Rattle.constraint_model.specs.Views.{problem_of};
 ghost use Rattle.lagrange_bound.specs.Cuts.{IsCut, IsCutOf};
 ghost use Rattle.branch_bound.specs.Searches.{IsBranchOn, side_of};
 
+use certificate_model::Node;
 use constraint_model::Problem;
-use exam_model::Node;
 use lagrange_bound::Cut;
 
 /// Whether a node is a branch on a free item or an open stimulus.

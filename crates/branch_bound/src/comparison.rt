@@ -3,8 +3,8 @@
 ghost use Rattle.std.specs.Prelude.{◌↔◌, IsTrue, Some};
 ghost use Rattle.std.specs.Option.{option_map};
 ghost use Rattle.bank_tables.specs.Items.{has};
-ghost use Rattle.exam_model.specs.Validity.{IsWellMade};
-ghost use Rattle.exam_model.specs.Verdicts.{IsFormOrNone};
+ghost use Rattle.form_model.specs.Validity.{IsWellMade};
+ghost use Rattle.certificate_model.specs.Verdicts.{IsFormOrNone};
 ghost use Rattle.constraint_model.specs.Views.{problem_of};
 ghost use Rattle.branch_bound.specs.Comparing.{IsAsGood};
 

@@ -1,10 +1,10 @@
 //! Whether a tree is pruned by counting.
 
 ghost use Rattle.std.specs.Prelude.{◌≡◌, ℕ, suc, ◌↔◌, IsTrue, drop};
-ghost use Rattle.exam_model.specs.Paths.{Path};
-ghost use Rattle.exam_model.specs.ProofTrees.{AreTrees};
-ghost use Rattle.exam_model.specs.Pruning.{IsPruned};
-ghost use Rattle.exam_model.specs.Validity.{IsWellMade};
+ghost use Rattle.certificate_model.specs.Paths.{Path};
+ghost use Rattle.certificate_model.specs.ProofTrees.{AreTrees};
+ghost use Rattle.certificate_model.specs.Pruning.{IsPruned};
+ghost use Rattle.form_model.specs.Validity.{IsWellMade};
 ghost use Rattle.constraint_model.specs.Views.{problem_of};
 ghost use Rattle.lagrange_bound.specs.Cuts.{IsCut, IsCutOf};
 ghost use Rattle.branch_bound.specs.Prunings.{IsCountOf, IsPruning};

@@ -6,15 +6,15 @@ use Rattle.std.proofs.lemmas.Bool.{ne_eqb}
 use Rattle.bank_tables.specs.Items.{Set}
 use Rattle.bank_tables.specs.Sums.{sum_in_z}
 use Rattle.bank_tables.specs.Tables.{size, stimulus}
-use Rattle.exam_model.specs.Forms.{stimuli_of}
-use Rattle.exam_model.specs.Problem.{Problem}
-use Rattle.exam_model.specs.Paths.{Path}
-use Rattle.exam_model.specs.ProofTrees.{IsVector}
-use Rattle.exam_model.specs.Ranges.{at}
-use Rattle.exam_model.specs.Weights.{price, item_weight}
-use Rattle.exam_model.specs.Relaxed.{Multipliers, multiplier, names, cap, cap_side, excess_over, is_linked, link_multiplier}
-use Rattle.exam_model.specs.ClosedForm.{excess_of_items}
-use Rattle.exam_model.proofs.SumLaws.{either}
+use Rattle.form_model.specs.Forms.{stimuli_of}
+use Rattle.form_model.specs.Problem.{Problem}
+use Rattle.certificate_model.specs.Paths.{Path}
+use Rattle.certificate_model.specs.ProofTrees.{IsVector}
+use Rattle.certificate_model.specs.Ranges.{at}
+use Rattle.certificate_model.specs.Weights.{price, item_weight}
+use Rattle.certificate_model.specs.Relaxed.{Multipliers, multiplier, names, cap, cap_side, excess_over, is_linked, link_multiplier}
+use Rattle.certificate_model.specs.ClosedForm.{excess_of_items}
+use Rattle.form_model.proofs.SumLaws.{either}
 use Rattle.certificate_check.specs.Caps.{has_cap, AreCapped}
 use Rattle.certificate_check.specs.Weights.{excess_at}
 

@@ -3,16 +3,16 @@ use Rattle.std.proofs.Common.{◌≡◌, ℕ, zero, suc, ◌+◌, inl, inr, List
 use Rattle.std.specs.Prelude.{IsSomeAnd}
 use Rattle.std.specs.Option.{option_map}
 use Rattle.bank_tables.specs.Items.{Set, has}
-use Rattle.exam_model.specs.declared.node.Node.{Node}
-use Rattle.exam_model.specs.declared.verdict.Reason.{Reason}
-use Rattle.exam_model.specs.declared.verdict.Verdict.{Verdict}
-use Rattle.exam_model.specs.declared.verdict.Verdict.TheVariants.{Optimal, NoForm, Bad}
-use Rattle.exam_model.specs.Forms.{Best, HasNoForm}
-use Rattle.exam_model.specs.Problem.{Problem}
-use Rattle.exam_model.specs.Paths.{Path, root}
-use Rattle.exam_model.specs.ProofTrees.{ProofTree, AreTrees}
-use Rattle.exam_model.specs.Verdicts.{below, open_leaf, verdict_of, GivesFrom, IsVerdict}
-use Rattle.exam_model.proofs.TreeLaws.{optimal_is_best, no_form_is_none}
+use Rattle.certificate_model.specs.declared.node.Node.{Node}
+use Rattle.certificate_model.specs.declared.verdict.Reason.{Reason}
+use Rattle.certificate_model.specs.declared.verdict.Verdict.{Verdict}
+use Rattle.certificate_model.specs.declared.verdict.Verdict.TheVariants.{Optimal, NoForm, Bad}
+use Rattle.form_model.specs.Forms.{Best, HasNoForm}
+use Rattle.form_model.specs.Problem.{Problem}
+use Rattle.certificate_model.specs.Paths.{Path, root}
+use Rattle.certificate_model.specs.ProofTrees.{ProofTree, AreTrees}
+use Rattle.certificate_model.specs.Verdicts.{below, open_leaf, verdict_of, GivesFrom, IsVerdict}
+use Rattle.certificate_model.proofs.TreeLaws.{optimal_is_best, no_form_is_none}
 use Rattle.certificate_check.specs.Walks.{Passes}
 
 no_tree : (xs : List Node) → AreTrees 0 xs → xs ≡ []

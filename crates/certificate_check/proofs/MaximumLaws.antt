@@ -7,17 +7,17 @@ use Rattle.std.proofs.Math.Bool.{true≢false}
 use Rattle.bank_tables.specs.Items.{Set}
 use Rattle.bank_tables.specs.Sums.{sum_in_z, total_z, count_in}
 use Rattle.bank_tables.specs.Tables.{size}
-use Rattle.exam_model.specs.Forms.{stimuli_of, size_in}
-use Rattle.exam_model.specs.Counting.{taken_or_free}
-use Rattle.exam_model.specs.Paths.{Path, is_free}
-use Rattle.exam_model.specs.Problem.{Problem}
-use Rattle.exam_model.specs.Ranges.{IsWithin, at}
-use Rattle.exam_model.specs.Weights.{item_weight, rows_constant}
-use Rattle.exam_model.specs.Relaxed.{Multipliers, multiplier, link_multiplier, IsRelaxedMaximum}
-use Rattle.exam_model.specs.ClosedForm.{capped_weight, IsGreatestFill, stimulus_gain}
-use Rattle.exam_model.proofs.ClosedFormLaws.{closed_form_is}
-use Rattle.exam_model.proofs.Reduced.{total_z-same, taken_no_link}
-use Rattle.exam_model.proofs.SumLaws.{either, sum_in-le, or_left, or_right}
+use Rattle.form_model.specs.Forms.{stimuli_of, size_in}
+use Rattle.certificate_model.specs.Counting.{taken_or_free}
+use Rattle.certificate_model.specs.Paths.{Path, is_free}
+use Rattle.form_model.specs.Problem.{Problem}
+use Rattle.certificate_model.specs.Ranges.{IsWithin, at}
+use Rattle.certificate_model.specs.Weights.{item_weight, rows_constant}
+use Rattle.certificate_model.specs.Relaxed.{Multipliers, multiplier, link_multiplier, IsRelaxedMaximum}
+use Rattle.certificate_model.specs.ClosedForm.{capped_weight, IsGreatestFill, stimulus_gain}
+use Rattle.certificate_model.proofs.ClosedFormLaws.{closed_form_is}
+use Rattle.certificate_model.proofs.Reduced.{total_z-same, taken_no_link}
+use Rattle.form_model.proofs.SumLaws.{either, sum_in-le, or_left, or_right}
 use Rattle.certificate_check.specs.Caps.{AreCapped}
 use Rattle.certificate_check.specs.Maximum.{gain_of_stimulus}
 use Rattle.certificate_check.specs.Tops.{IsTopOf}

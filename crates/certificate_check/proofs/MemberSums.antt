@@ -5,8 +5,8 @@ use Rattle.std.proofs.lemmas.Int.{ints}
 use Rattle.std.proofs.lemmas.Bool.{cases_lt, eq-eqb, ne_eqb}
 use Rattle.bank_tables.specs.Items.{Set}
 use Rattle.bank_tables.specs.Sums.{sum_in_z}
-use Rattle.exam_model.specs.Ranges.{IsWithin}
-use Rattle.exam_model.proofs.SumLaws.{either}
+use Rattle.certificate_model.specs.Ranges.{IsWithin}
+use Rattle.form_model.proofs.SumLaws.{either}
 use Rattle.certificate_check.specs.Weights.{item_top}
 
 pub none_below : (n : ℕ) (X : Set) (f : ℕ → ℤ) → ((i : ℕ) → i < n → X i ≡ false) → sum_in_z n X f ≡ pos 0

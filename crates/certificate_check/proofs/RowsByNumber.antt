@@ -1,11 +1,11 @@
 -- Rows by number.
 use Rattle.std.proofs.Common.{◌≡◌, ℕ, zero, suc, ◌+◌, ◌-◌, ◌<◌, ◌≤◌, false, inl, inr, length, refl, sym, ap, ◌∙◌, arith}
 use Rattle.std.proofs.lemmas.Bool.{lt-ltb, le-ltb, cases_lt}
-use Rattle.exam_model.specs.Problem.{Problem}
-use Rattle.exam_model.specs.Paths.{Path}
-use Rattle.exam_model.specs.Plan.{row_at}
-use Rattle.exam_model.specs.Forms.{stimuli_of}
-use Rattle.exam_model.specs.Counting.{is_impossible, length_impossible, row_impossible, stimulus_impossible}
+use Rattle.form_model.specs.Problem.{Problem}
+use Rattle.certificate_model.specs.Paths.{Path}
+use Rattle.form_model.specs.Plan.{row_at}
+use Rattle.form_model.specs.Forms.{stimuli_of}
+use Rattle.certificate_model.specs.Counting.{is_impossible, length_impossible, row_impossible, stimulus_impossible}
 
 module _ (P : Problem) (p : Path) where
   pub number_zero : (row : ℕ) → row ≡ 0 → length_impossible P p ≡ is_impossible P p row

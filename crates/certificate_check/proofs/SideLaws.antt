@@ -4,8 +4,8 @@ use Rattle.std.proofs.lemmas.List.{get_or_past, get_or-set_same, get_or-set_othe
 use Rattle.std.proofs.Math.ListN.{replicate}
 use Rattle.std.proofs.lemmas.Bool.{cases_lt, cases_eq}
 use Rattle.std.proofs.lemmas.Bool.Decides.{eqb_tells}
-use Rattle.exam_model.specs.ProofTrees.{IsVector}
-use Rattle.exam_model.specs.Relaxed.{Multipliers, multiplier}
+use Rattle.certificate_model.specs.ProofTrees.{IsVector}
+use Rattle.certificate_model.specs.Relaxed.{Multipliers, multiplier}
 
 none_below : (from k : ℕ) (v : Multipliers) → IsVector from v → k < from → multiplier v k ≡ 0
 none_below from k [] is low = refl

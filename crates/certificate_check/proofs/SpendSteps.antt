@@ -2,12 +2,12 @@
 use Rattle.std.proofs.Common.{◌≡◌, ℕ, suc, ◌+◌, ◌<◌, List, [], ◌∷◌, length, drop, Option, Some, None, Bool, true, refl, sym, subst, ◌∙◌, arith}
 use Rattle.std.specs.Prelude.{is_some}
 use Rattle.std.proofs.Math.Bool.{true≢false}
-use Rattle.exam_model.specs.declared.node.Node.{Node}
-use Rattle.exam_model.specs.Problem.{Problem}
-use Rattle.exam_model.specs.Paths.{Path, root}
-use Rattle.exam_model.specs.ProofTrees.{ProofTree, AreTrees}
-use Rattle.exam_model.specs.Spending.{AreSpentNodes, IsSpentNode}
-use Rattle.exam_model.specs.Verdicts.{below}
+use Rattle.certificate_model.specs.declared.node.Node.{Node}
+use Rattle.form_model.specs.Problem.{Problem}
+use Rattle.certificate_model.specs.Paths.{Path, root}
+use Rattle.certificate_model.specs.ProofTrees.{ProofTree, AreTrees}
+use Rattle.certificate_model.specs.Spending.{AreSpentNodes, IsSpentNode}
+use Rattle.certificate_model.specs.Verdicts.{below}
 use Rattle.certificate_check.specs.Spends.{SpendsTo, IsSpending}
 
 -- a leaf

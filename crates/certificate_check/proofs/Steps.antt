@@ -7,11 +7,11 @@ use Rattle.bank_tables.specs.Items.{Set}
 use Rattle.bank_tables.specs.Sums.{sum_in, greatest_below}
 use Rattle.bank_tables.specs.Tables.{size, info}
 use Rattle.bank_tables.specs.Validity.{IsBank}
-use Rattle.exam_model.specs.Forms.{objective}
-use Rattle.exam_model.specs.Problem.{Problem}
-use Rattle.exam_model.specs.declared.row.Row.{Row}
-use Rattle.exam_model.specs.Plan.{Plan, no_row, row_at}
-use Rattle.exam_model.specs.Ranges.{IsWithin}
+use Rattle.form_model.specs.Forms.{objective}
+use Rattle.form_model.specs.Problem.{Problem}
+use Rattle.form_model.specs.declared.row.Row.{Row}
+use Rattle.form_model.specs.Plan.{Plan, no_row, row_at}
+use Rattle.certificate_model.specs.Ranges.{IsWithin}
 
 -- the sum of two numbers in range is what the code computes
 pub item_step : (r : ℕ) (a b a' : ℤ) → r < 128 → a' ≡ a → IsWithin (r * 1099494850560) a → IsWithin 1099494850560 b → to_z w64 (of_z w64 (a' +ℤ to_z w64 (of_z w64 b))) ≡ a +ℤ b

@@ -8,8 +8,8 @@ use Rattle.std.proofs.lemmas.Int.{ints}
 use Rattle.std.proofs.Math.Bool.{true≢false}
 use Rattle.bank_tables.specs.Items.{Set}
 use Rattle.bank_tables.specs.Sums.{sum_in, count_in}
-use Rattle.exam_model.proofs.SumLaws.{either, or_true, or_false, or_right, sum_in-le}
-use Rattle.exam_model.specs.Ranges.{at}
+use Rattle.form_model.proofs.SumLaws.{either, or_true, or_false, or_right, sum_in-le}
+use Rattle.certificate_model.specs.Ranges.{at}
 use Rattle.certificate_check.specs.Tops.{IsBest, AreLeaders, IsNextBest, IsTopOf}
 
 sum_in-same : (n : ℕ) (X Y : Set) (f : ℕ → ℕ) → ((i : ℕ) → i < n → X i ≡ Y i) → sum_in n X f ≡ sum_in n Y f

@@ -1,15 +1,15 @@
 -- A branch and the walks through its two subtrees make one walk.
 use Rattle.std.proofs.Common.{◌≡◌, ℕ, zero, suc, ◌+◌, ◌<◌, List, [], ◌∷◌, length, drop, get_or, Option, Result, Ok, Err, sym, ap, ◌∙◌, arith, add-zero, add-one, drop-cons, inl, inr, refl, ◌≤◌}
 use Rattle.bank_tables.specs.Items.{Set}
-use Rattle.exam_model.specs.declared.node.Node.{Node}
-use Rattle.exam_model.specs.declared.node.Node.TheVariants.{Open}
-use Rattle.exam_model.specs.declared.verdict.Reason.{Reason}
-use Rattle.exam_model.specs.declared.verdict.Verdict.{Verdict}
-use Rattle.exam_model.specs.declared.verdict.Verdict.TheVariants.{Bad}
-use Rattle.exam_model.specs.Problem.{Problem}
-use Rattle.exam_model.specs.Paths.{Path}
-use Rattle.exam_model.specs.ProofTrees.{ProofTree, AreTrees}
-use Rattle.exam_model.specs.Verdicts.{IsSound, IsUnsound, below, open_leaf, GivesFrom}
+use Rattle.certificate_model.specs.declared.node.Node.{Node}
+use Rattle.certificate_model.specs.declared.node.Node.TheVariants.{Open}
+use Rattle.certificate_model.specs.declared.verdict.Reason.{Reason}
+use Rattle.certificate_model.specs.declared.verdict.Verdict.{Verdict}
+use Rattle.certificate_model.specs.declared.verdict.Verdict.TheVariants.{Bad}
+use Rattle.form_model.specs.Problem.{Problem}
+use Rattle.certificate_model.specs.Paths.{Path}
+use Rattle.certificate_model.specs.ProofTrees.{ProofTree, AreTrees}
+use Rattle.certificate_model.specs.Verdicts.{IsSound, IsUnsound, below, open_leaf, GivesFrom}
 use Rattle.certificate_check.specs.declared.walk.Walked.{Walked}
 use Rattle.certificate_check.specs.declared.walk.Unsound.{Unsound}
 use Rattle.certificate_check.specs.Walks.{Passes, IsWalk}

@@ -1,12 +1,12 @@
 -- The cap, and the weights under it.
 use Rattle.std.specs.Prelude.{◌≡◌, ℕ, suc, ◌+◌, ◌<◌, Bool, not, ◌||◌, ◌==◌, List, ℤ}
 use Rattle.bank_tables.specs.Tables.{size}
-use Rattle.exam_model.specs.Problem.{Problem}
-use Rattle.exam_model.specs.Forms.{stimuli_of}
-use Rattle.exam_model.specs.Paths.{Path}
-use Rattle.exam_model.specs.Ranges.{at}
-use Rattle.exam_model.specs.Relaxed.{Multipliers, cap_side}
-use Rattle.exam_model.specs.ClosedForm.{capped_weight, excess_of_items}
+use Rattle.form_model.specs.Problem.{Problem}
+use Rattle.form_model.specs.Forms.{stimuli_of}
+use Rattle.certificate_model.specs.Paths.{Path}
+use Rattle.certificate_model.specs.Ranges.{at}
+use Rattle.certificate_model.specs.Relaxed.{Multipliers, cap_side}
+use Rattle.certificate_model.specs.ClosedForm.{capped_weight, excess_of_items}
 
 -- there is a cap where one of its sides has a multiplier
 abbrev pub has_cap : (ℕ → ℕ) → Bool

@@ -1,9 +1,9 @@
 -- What the checker keeps of a path.
 use Rattle.std.specs.Prelude.{◌≡◌}
 use Rattle.bank_tables.specs.Items.{has}
-use Rattle.exam_model.specs.Problem.{Problem}
-use Rattle.exam_model.specs.Paths.{Path, is_free, is_chosen, is_open}
-use Rattle.exam_model.specs.Counting.{taken_or_free, chosen_or_open}
+use Rattle.form_model.specs.Problem.{Problem}
+use Rattle.certificate_model.specs.Paths.{Path, is_free, is_chosen, is_open}
+use Rattle.certificate_model.specs.Counting.{taken_or_free, chosen_or_open}
 use Rattle.certificate_check.specs.declared.cut.Cut.{Cut}
 use Rattle.certificate_check.specs.declared.standing.Standing.{Standing}
 

@@ -1,10 +1,10 @@
 -- The relaxed maximum, if there is one.
 use Rattle.std.specs.Prelude.{ℕ, Bool, cond, ℤ, pos, ◌+ℤ◌, Option, Some, None}
 use Rattle.std.specs.Int.{int_max}
-use Rattle.exam_model.specs.Problem.{Problem}
-use Rattle.exam_model.specs.Paths.{Path, is_chosen, is_open}
-use Rattle.exam_model.specs.Relaxed.{Multipliers, IsRelaxedMaximum}
-use Rattle.exam_model.specs.Weights.{stimulus_weight}
+use Rattle.form_model.specs.Problem.{Problem}
+use Rattle.certificate_model.specs.Paths.{Path, is_chosen, is_open}
+use Rattle.certificate_model.specs.Relaxed.{Multipliers, IsRelaxedMaximum}
+use Rattle.certificate_model.specs.Weights.{stimulus_weight}
 
 -- the number is the relaxed maximum, or there is none
 abbrev pub IsMaximum : Problem → Path → Multipliers → Bool → Option ℤ → Type 0

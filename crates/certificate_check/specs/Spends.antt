@@ -1,10 +1,10 @@
 -- A walk through a tree that may have spent its node budget.
 use Rattle.std.specs.Prelude.{ℕ, suc, ◌≤◌, ◌<◌, List, ◌∷◌, length, drop, Option, Some, None}
 use Rattle.bank_tables.specs.Items.{Set}
-use Rattle.exam_model.specs.Problem.{Problem}
-use Rattle.exam_model.specs.Paths.{Path}
-use Rattle.exam_model.specs.ProofTrees.{ProofTree, AreTrees}
-use Rattle.exam_model.specs.Spending.{PlainBoundExceeds, ExceedsStart, AreSpentNodes}
+use Rattle.form_model.specs.Problem.{Problem}
+use Rattle.certificate_model.specs.Paths.{Path}
+use Rattle.certificate_model.specs.ProofTrees.{ProofTree, AreTrees}
+use Rattle.certificate_model.specs.Spending.{PlainBoundExceeds, ExceedsStart, AreSpentNodes}
 
 -- where there is a form, the plain bound exceeds it
 abbrev pub ExceedsForm : Problem → Path → Option Set → Type 0

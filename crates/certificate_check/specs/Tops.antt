@@ -2,7 +2,7 @@
 use Rattle.std.specs.Prelude.{◌≡◌, ℕ, ◌+◌, ◌*◌, ◌<◌, ◌≤◌, List, length, get_or, ◌≤ℤ◌, ℤ, true, IsTrue, IsFalse, Option, Some, None}
 use Rattle.bank_tables.specs.Items.{Set}
 use Rattle.bank_tables.specs.Sums.{count_in}
-use Rattle.exam_model.specs.Ranges.{at}
+use Rattle.certificate_model.specs.Ranges.{at}
 
 -- a member of F outside T below n with the greatest weight of these, or none
 abbrev pub IsNextBest : ℕ → List ℤ → Set → Set → Option ℕ → Type 0

@@ -1,12 +1,12 @@
 -- A walk through a subtree of a proof tree.
 use Rattle.std.specs.Prelude.{ℕ, suc, ◌+◌, ◌-◌, ◌≤◌, ◌<◌, List, ◌∷◌, length, drop, Option, Result, Ok, Err}
 use Rattle.bank_tables.specs.Items.{Set}
-use Rattle.exam_model.specs.declared.verdict.Verdict.{Verdict}
-use Rattle.exam_model.specs.declared.verdict.Verdict.TheVariants.{Bad}
-use Rattle.exam_model.specs.Problem.{Problem}
-use Rattle.exam_model.specs.Paths.{Path}
-use Rattle.exam_model.specs.ProofTrees.{ProofTree, AreTrees}
-use Rattle.exam_model.specs.Verdicts.{GivesFrom}
+use Rattle.certificate_model.specs.declared.verdict.Verdict.{Verdict}
+use Rattle.certificate_model.specs.declared.verdict.Verdict.TheVariants.{Bad}
+use Rattle.form_model.specs.Problem.{Problem}
+use Rattle.certificate_model.specs.Paths.{Path}
+use Rattle.certificate_model.specs.ProofTrees.{ProofTree, AreTrees}
+use Rattle.certificate_model.specs.Verdicts.{GivesFrom}
 use Rattle.certificate_check.specs.declared.walk.Walked.{Walked}
 use Rattle.certificate_check.specs.declared.walk.Unsound.{Unsound}
 

@@ -2,11 +2,11 @@
 use Rattle.std.specs.Prelude.{◌≡◌, ℕ, Bool, if◌then◌else◌, List, ℤ, pos, ◌+ℤ◌, Some}
 use Rattle.bank_tables.specs.Sums.{total_z}
 use Rattle.bank_tables.specs.Tables.{stimulus}
-use Rattle.exam_model.specs.Problem.{Problem}
-use Rattle.exam_model.specs.Paths.{Path}
-use Rattle.exam_model.specs.Ranges.{IsWithin, at}
-use Rattle.exam_model.specs.Weights.{price, weight, item_share, price_of_stimulus}
-use Rattle.exam_model.specs.Relaxed.{cap_side, excess_over, is_linked}
+use Rattle.form_model.specs.Problem.{Problem}
+use Rattle.certificate_model.specs.Paths.{Path}
+use Rattle.certificate_model.specs.Ranges.{IsWithin, at}
+use Rattle.certificate_model.specs.Weights.{price, weight, item_share, price_of_stimulus}
+use Rattle.certificate_model.specs.Relaxed.{cap_side, excess_over, is_linked}
 
 -- the new number is the old one with some added, that lies within so much of 0
 pub record IsAdded (top : ℕ) (old some new : ℤ) : Type 0 where

@@ -1,7 +1,7 @@
 //! The path below a branch on a stimulus.
 
 ghost use Rattle.std.specs.Prelude.{◌≡◌};
-ghost use Rattle.exam_model.specs.Paths.{with_stimulus};
+ghost use Rattle.certificate_model.specs.Paths.{with_stimulus};
 ghost use Rattle.constraint_model.specs.Views.{problem_of};
 ghost use Rattle.certificate_check.specs.Cuts.{path_of, IsStanding};
 

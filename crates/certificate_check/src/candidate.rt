@@ -5,8 +5,8 @@ ghost use Rattle.std.specs.Option.{option_map};
 ghost use Rattle.bank_tables.specs.Items.{has};
 ghost use Rattle.bank_tables.specs.Sums.{any_below};
 ghost use Rattle.bank_tables.specs.Tables.{size};
-ghost use Rattle.exam_model.specs.Validity.{IsWellMade};
-ghost use Rattle.exam_model.specs.Verdicts.{only_candidate, IsAtLeast, LacksChosen, CandidateIsSettled};
+ghost use Rattle.form_model.specs.Validity.{IsWellMade};
+ghost use Rattle.certificate_model.specs.Verdicts.{only_candidate, IsAtLeast, LacksChosen, CandidateIsSettled};
 ghost use Rattle.constraint_model.specs.Views.{problem_of};
 ghost use Rattle.certificate_check.specs.Cuts.{path_of, IsStanding};
 

@@ -3,23 +3,24 @@
 ghost use Rattle.std.specs.Prelude.{◌≡◌, ℕ, suc, ◌+◌, ◌<◌, ◌==◌, cond, ◌+ℤ◌, ◌-ℤ◌, ◌≤ℤ◌, pos, Some, slice_index};
 ghost use Rattle.bank_tables.specs.Sums.{sum_in_z};
 ghost use Rattle.bank_tables.specs.Tables.{size, stimulus};
-ghost use Rattle.exam_model.specs.Relaxed.{cap_side, excess_over, is_linked};
-ghost use Rattle.exam_model.specs.Weights.{price};
-ghost use Rattle.exam_model.specs.Ranges.{AreMultipliers, IsWithin, at};
-ghost use Rattle.exam_model.specs.Validity.{IsWellMade};
+ghost use Rattle.certificate_model.specs.Relaxed.{cap_side, excess_over, is_linked};
+ghost use Rattle.certificate_model.specs.Weights.{price};
+ghost use Rattle.certificate_model.specs.Ranges.{AreMultipliers, IsWithin, at};
+ghost use Rattle.form_model.specs.Validity.{IsWellMade};
 ghost use Rattle.constraint_model.specs.Views.{problem_of};
 ghost use Rattle.certificate_check.specs.Caps.{has_cap};
 ghost use Rattle.certificate_check.specs.Cuts.{path_of, IsStanding};
 ghost use Rattle.certificate_check.specs.Weights.{item_top, excess_top, excess_at};
 
 use crate::standing::Standing;
+use bank_tables::sides::{CAP_HIGH, CAP_LOW};
 use constraint_model::Problem;
 
 /// Whether a vector with these multipliers has a cap: it names one of the cap's sides.
 pub fn has_cap(sides: &[u32; 386]) -> bool
     ensures { result ≡ has_cap (slice_index sides.now) }
 {
-    sides[384] != 0 || sides[385] != 0
+    sides[CAP_LOW as usize] != 0 || sides[CAP_HIGH as usize] != 0
 }
 
 /// The cap: the multiplier of its low side less that of its high side.
@@ -28,7 +29,7 @@ fn cap(sides: &[u32; 386]) -> i64
     ensures cap { result ≡ price (slice_index sides.now) cap_side }
     ensures within { IsWithin 16777216 result }
 {
-    sides[384] as i64 - sides[385] as i64
+    sides[CAP_LOW as usize] as i64 - sides[CAP_HIGH as usize] as i64
 }
 
 /// What a weight has above the cap.

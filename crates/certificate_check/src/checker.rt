@@ -3,16 +3,16 @@
 ghost use Rattle.std.specs.Prelude.{◌≡◌, ◌↔◌, IsTrue, IsSomeAnd};
 ghost use Rattle.std.specs.Option.{option_map, option_copied};
 ghost use Rattle.bank_tables.specs.Items.{has};
-ghost use Rattle.exam_model.specs.Forms.{Best, HasNoForm};
-ghost use Rattle.exam_model.specs.Validity.{IsWellMade};
-ghost use Rattle.exam_model.specs.Verdicts.{verdict_of, IsFormOrNone, IsVerdict};
+ghost use Rattle.form_model.specs.Forms.{Best, HasNoForm};
+ghost use Rattle.form_model.specs.Validity.{IsWellMade};
+ghost use Rattle.certificate_model.specs.Verdicts.{verdict_of, IsFormOrNone, IsVerdict};
 ghost use Rattle.constraint_model.specs.Views.{problem_of};
 
 use crate::cut::root_cut;
 use crate::walk::walk;
 use bank_tables::ItemSet;
+use certificate_model::{Reason, Verdict};
 use constraint_model::{Problem, is_form};
-use exam_model::{Reason, Verdict};
 use proof_tree::Tree;
 
 /// The verdict where all nodes are sound.

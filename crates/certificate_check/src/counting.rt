@@ -4,10 +4,10 @@ ghost use Rattle.std.specs.Prelude.{◌≡◌, ℕ, suc, ◌<◌, ◌≤◌, ◌
 ghost use Rattle.bank_tables.specs.Items.{has};
 ghost use Rattle.bank_tables.specs.Sums.{sum_in};
 ghost use Rattle.bank_tables.specs.Tables.{size, quantity};
-ghost use Rattle.exam_model.specs.Counting.{length_impossible, row_impossible, stimulus_impossible, is_impossible};
-ghost use Rattle.exam_model.specs.Forms.{items_of, stimuli_of};
-ghost use Rattle.exam_model.specs.Plan.{row_at};
-ghost use Rattle.exam_model.specs.Validity.{IsRow, IsWellMade};
+ghost use Rattle.certificate_model.specs.Counting.{length_impossible, row_impossible, stimulus_impossible, is_impossible};
+ghost use Rattle.form_model.specs.Forms.{items_of, stimuli_of};
+ghost use Rattle.form_model.specs.Plan.{row_at};
+ghost use Rattle.form_model.specs.Validity.{IsRow, IsWellMade};
 ghost use Rattle.constraint_model.specs.Views.{problem_of};
 ghost use Rattle.certificate_check.specs.Columns.{IsColumn};
 ghost use Rattle.certificate_check.specs.Cuts.{path_of, IsStanding};

@@ -3,11 +3,11 @@
 ghost use Rattle.std.specs.Prelude.{◌≡◌, ◌+◌, ◌*◌, ◌<◌, ◌≤◌, ◌↔◌, All, IsTrue, false, pos};
 ghost use Rattle.std.specs.Option.{option_map};
 ghost use Rattle.bank_tables.specs.Items.{has};
-ghost use Rattle.exam_model.specs.Forms.{objective};
-ghost use Rattle.exam_model.specs.declared.node.Node.TheVariants.{Bound, Ray};
-ghost use Rattle.exam_model.specs.ProofTrees.{IsVector};
-ghost use Rattle.exam_model.specs.Validity.{IsWellMade};
-ghost use Rattle.exam_model.specs.Verdicts.{NamesOnlySides, MaximumIsAtMost, ClosesByBound};
+ghost use Rattle.form_model.specs.Forms.{objective};
+ghost use Rattle.certificate_model.specs.declared.node.Node.TheVariants.{Bound, Ray};
+ghost use Rattle.certificate_model.specs.ProofTrees.{IsVector};
+ghost use Rattle.form_model.specs.Validity.{IsWellMade};
+ghost use Rattle.certificate_model.specs.Verdicts.{NamesOnlySides, MaximumIsAtMost, ClosesByBound};
 ghost use Rattle.constraint_model.specs.Views.{problem_of};
 ghost use Rattle.certificate_check.specs.Answers.{IsNodeAnswer};
 ghost use Rattle.certificate_check.specs.Cuts.{path_of, IsStanding};
@@ -15,8 +15,8 @@ ghost use Rattle.certificate_check.specs.Cuts.{path_of, IsStanding};
 use crate::relaxed::relaxed_maximum;
 use crate::standing::Standing;
 use bank_tables::ItemSet;
+use certificate_model::Reason;
 use constraint_model::{Problem, names_only_sides, objective};
-use exam_model::Reason;
 use proof_tree::Tree;
 
 /// Whether the relaxed maximum is defined and at most this number.

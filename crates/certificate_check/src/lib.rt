@@ -24,6 +24,6 @@ mod unresolved;
 mod walk;
 mod weights;
 
+pub use certificate_model::{Reason, Verdict};
 pub use checker::check;
-pub use exam_model::{Reason, Verdict};
 pub use spender::spent;

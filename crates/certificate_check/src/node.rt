@@ -3,9 +3,9 @@
 ghost use Rattle.std.specs.Prelude.{◌↔◌, IsTrue};
 ghost use Rattle.std.specs.Option.{option_map};
 ghost use Rattle.bank_tables.specs.Items.{has};
-ghost use Rattle.exam_model.specs.declared.node.Node.TheVariants.{Whole, Open};
-ghost use Rattle.exam_model.specs.Validity.{IsWellMade};
-ghost use Rattle.exam_model.specs.Verdicts.{IsStimulusBranch};
+ghost use Rattle.certificate_model.specs.declared.node.Node.TheVariants.{Whole, Open};
+ghost use Rattle.form_model.specs.Validity.{IsWellMade};
+ghost use Rattle.certificate_model.specs.Verdicts.{IsStimulusBranch};
 ghost use Rattle.constraint_model.specs.Views.{problem_of};
 ghost use Rattle.certificate_check.specs.Answers.{IsNodeAnswer};
 ghost use Rattle.certificate_check.specs.Cuts.{path_of, IsStanding};
@@ -15,8 +15,8 @@ use crate::counting::is_impossible;
 use crate::leaf::{bound_fault, ray_fault};
 use crate::standing::Standing;
 use bank_tables::ItemSet;
+use certificate_model::{Node, Reason};
 use constraint_model::Problem;
-use exam_model::{Node, Reason};
 use proof_tree::Tree;
 
 /// Whether a stimulus is one of the bank's, and open.

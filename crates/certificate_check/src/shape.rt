@@ -1,7 +1,7 @@
 //! The shape of a tree that was searched depth first.
 
 ghost use Rattle.std.specs.Prelude.{◌↔◌, IsTrue};
-ghost use Rattle.exam_model.specs.Spending.{IsDepthFirst};
+ghost use Rattle.certificate_model.specs.Spending.{IsDepthFirst};
 
 use proof_tree::{Node, is_branch};
 

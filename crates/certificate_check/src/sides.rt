@@ -1,9 +1,9 @@
 //! The multiplier of each side of a plan.
 
 ghost use Rattle.std.specs.Prelude.{◌≡◌, ℕ, ◌<◌, All, slice_index};
-ghost use Rattle.exam_model.specs.ProofTrees.{IsVector};
-ghost use Rattle.exam_model.specs.Relaxed.{multiplier};
-ghost use Rattle.exam_model.specs.Ranges.{AreMultipliers};
+ghost use Rattle.certificate_model.specs.ProofTrees.{IsVector};
+ghost use Rattle.certificate_model.specs.Relaxed.{multiplier};
+ghost use Rattle.certificate_model.specs.Ranges.{AreMultipliers};
 
 /// The multiplier of each side; 0 where the vector doesn't name it.
 pub fn sides_of(vector: &[(u16, u32)]) -> [u32; 386]

@@ -3,9 +3,9 @@
 ghost use Rattle.std.specs.Prelude.{ℕ, suc, ◌↔◌, IsTrue, drop};
 ghost use Rattle.std.specs.Option.{option_map};
 ghost use Rattle.bank_tables.specs.Items.{has};
-ghost use Rattle.exam_model.specs.ProofTrees.{AreTrees};
-ghost use Rattle.exam_model.specs.Spending.{IsSpent};
-ghost use Rattle.exam_model.specs.Validity.{IsWellMade};
+ghost use Rattle.certificate_model.specs.ProofTrees.{AreTrees};
+ghost use Rattle.certificate_model.specs.Spending.{IsSpent};
+ghost use Rattle.form_model.specs.Validity.{IsWellMade};
 ghost use Rattle.constraint_model.specs.Views.{problem_of};
 ghost use Rattle.certificate_check.specs.Cuts.{path_of};
 ghost use Rattle.certificate_check.specs.Spends.{IsStartForm, IsSpending};
@@ -16,8 +16,8 @@ use crate::shape::is_depth_first;
 use crate::standing::standing_on;
 use crate::unresolved::{is_spent_node, start_form};
 use bank_tables::ItemSet;
+use certificate_model::Node;
 use constraint_model::Problem;
-use exam_model::Node;
 use proof_tree::{Tree, has_open_leaf};
 
 /// The number of the first node after the subtree at a node whose path is given; None if a node of

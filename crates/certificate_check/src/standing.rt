@@ -2,7 +2,7 @@
 
 ghost use Rattle.std.specs.Prelude.{◌≡◌, ℕ};
 ghost use Rattle.bank_tables.specs.Items.{has};
-ghost use Rattle.exam_model.specs.Paths.{is_free};
+ghost use Rattle.certificate_model.specs.Paths.{is_free};
 ghost use Rattle.constraint_model.specs.Views.{problem_of};
 ghost use Rattle.certificate_check.specs.Cuts.{path_of, IsStanding};
 

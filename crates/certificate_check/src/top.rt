@@ -4,7 +4,7 @@ ghost use Rattle.std.specs.Prelude.{◌≡◌, ℕ, ◌+◌, ◌*◌, ◌<◌, �
 ghost use Rattle.bank_tables.specs.Items.{Set, has};
 ghost use Rattle.bank_tables.specs.Sums.{count_in, sum_in_z};
 ghost use Rattle.certificate_check.specs.Tops.{IsBest, AreLeaders, IsNextBest, IsTopOf};
-ghost use Rattle.exam_model.specs.Ranges.{IsWithin, at};
+ghost use Rattle.certificate_model.specs.Ranges.{IsWithin, at};
 ghost use Rattle.certificate_check.specs.Weights.{item_top};
 
 use bank_tables::ItemSet;

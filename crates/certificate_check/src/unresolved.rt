@@ -3,8 +3,8 @@
 ghost use Rattle.std.specs.Prelude.{◌≡◌, ◌↔◌, IsTrue};
 ghost use Rattle.std.specs.Option.{option_map};
 ghost use Rattle.bank_tables.specs.Items.{has};
-ghost use Rattle.exam_model.specs.Spending.{PlainBoundExceeds, IsUnresolved, IsSpentNode};
-ghost use Rattle.exam_model.specs.Validity.{IsWellMade};
+ghost use Rattle.certificate_model.specs.Spending.{PlainBoundExceeds, IsUnresolved, IsSpentNode};
+ghost use Rattle.form_model.specs.Validity.{IsWellMade};
 ghost use Rattle.constraint_model.specs.Views.{problem_of};
 ghost use Rattle.certificate_check.specs.Cuts.{path_of, IsStanding};
 ghost use Rattle.certificate_check.specs.Spends.{ExceedsForm, IsStartForm};
@@ -15,8 +15,8 @@ use crate::node::is_open_stimulus;
 use crate::relaxed::relaxed_maximum;
 use crate::standing::Standing;
 use bank_tables::ItemSet;
+use certificate_model::Node;
 use constraint_model::{Problem, is_form};
-use exam_model::Node;
 
 /// The start of the problem, if it is a form.
 pub fn start_form(problem: &Problem) -> Option<ItemSet>

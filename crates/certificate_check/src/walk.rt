@@ -3,8 +3,8 @@
 ghost use Rattle.std.specs.Prelude.{ℕ, suc, ◌≤◌, drop};
 ghost use Rattle.std.specs.Option.{option_map};
 ghost use Rattle.bank_tables.specs.Items.{has};
-ghost use Rattle.exam_model.specs.ProofTrees.{AreTrees};
-ghost use Rattle.exam_model.specs.Validity.{IsWellMade};
+ghost use Rattle.certificate_model.specs.ProofTrees.{AreTrees};
+ghost use Rattle.form_model.specs.Validity.{IsWellMade};
 ghost use Rattle.constraint_model.specs.Views.{problem_of};
 ghost use Rattle.certificate_check.specs.Cuts.{path_of};
 ghost use Rattle.certificate_check.specs.Walks.{IsWalk};
@@ -14,8 +14,8 @@ use crate::cut::{Cut, below_item};
 use crate::node::node_fault;
 use crate::standing::standing_on;
 use bank_tables::ItemSet;
+use certificate_model::{Node, Reason};
 use constraint_model::Problem;
-use exam_model::{Node, Reason};
 use proof_tree::Tree;
 
 /// Where a walk goes on: the number of the next node, and the Open leaves so far.

@@ -5,11 +5,11 @@ ghost use Rattle.bank_tables.specs.Items.{has};
 ghost use Rattle.bank_tables.specs.Sums.{total_z};
 ghost use Rattle.bank_tables.specs.Tables.{size, quantity};
 ghost use Rattle.bank_tables.specs.Validity.{IsBank, HoldsItems};
-ghost use Rattle.exam_model.specs.Forms.{stimuli_of};
-ghost use Rattle.exam_model.specs.Weights.{weight, item_activity, stimulus_activity, price, item_share, stimulus_share, price_of_stimulus, rows_constant, item_weight, stimulus_weight};
-ghost use Rattle.exam_model.specs.Validity.{IsRow, IsWellMade};
+ghost use Rattle.form_model.specs.Forms.{stimuli_of};
+ghost use Rattle.certificate_model.specs.Weights.{weight, item_activity, stimulus_activity, price, item_share, stimulus_share, price_of_stimulus, rows_constant, item_weight, stimulus_weight};
+ghost use Rattle.form_model.specs.Validity.{IsRow, IsWellMade};
 ghost use Rattle.constraint_model.specs.Views.{problem_of};
-ghost use Rattle.exam_model.specs.Ranges.{AreMultipliers, IsWithin, at};
+ghost use Rattle.certificate_model.specs.Ranges.{AreMultipliers, IsWithin, at};
 ghost use Rattle.certificate_check.specs.Columns.{IsColumn};
 ghost use Rattle.certificate_check.specs.Weights.{IsAdded, weight_up_to, item_top, stimulus_top};
 

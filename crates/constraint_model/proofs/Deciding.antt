@@ -5,16 +5,16 @@ use Rattle.std.proofs.Math.Bool.{true≢false}
 use Rattle.bank_tables.specs.Items.{Set, has}
 use Rattle.bank_tables.specs.Sums.{size_of}
 use Rattle.bank_tables.specs.Tables.{Tables}
-use Rattle.exam_model.specs.declared.breach.Breach.{Breach}
-use Rattle.exam_model.specs.declared.breach.Breach.TheVariants.{Length, Row, Stimulus, Given, Barred}
-use Rattle.exam_model.specs.Plan.{Plan, row_at, bound_at}
-use Rattle.exam_model.specs.Problem.{whole}
-use Rattle.exam_model.specs.Forms.{activity, used, items_of, size_in, stimuli_of, lower_bound, upper_bound, HasLength, RowHolds, StimulusHolds, Meets, Form}
-use Rattle.exam_model.specs.Breaches.{IsFirstBreach}
-use Rattle.exam_model.specs.Validity.{IsPlanFor}
-use Rattle.exam_model.proofs.SumLaws.{either}
-use Rattle.exam_model.proofs.BreachLaws.{breach_no_form}
-use Rattle.exam_model.proofs.OneBreach.{one_breach}
+use Rattle.form_model.specs.declared.breach.Breach.{Breach}
+use Rattle.form_model.specs.declared.breach.Breach.TheVariants.{Length, Row, Stimulus, Given, Barred}
+use Rattle.form_model.specs.Plan.{Plan, row_at, bound_at}
+use Rattle.form_model.specs.Problem.{whole}
+use Rattle.form_model.specs.Forms.{activity, used, items_of, size_in, stimuli_of, lower_bound, upper_bound, HasLength, RowHolds, StimulusHolds, Meets, Form}
+use Rattle.form_model.specs.Breaches.{IsFirstBreach}
+use Rattle.form_model.specs.Validity.{IsPlanFor}
+use Rattle.form_model.proofs.SumLaws.{either}
+use Rattle.form_model.proofs.BreachLaws.{breach_no_form}
+use Rattle.form_model.proofs.OneBreach.{one_breach}
 use Rattle.constraint_model.specs.declared.spec_fault.SpecFault.{SpecFault}
 use Rattle.constraint_model.specs.declared.spec_fault.SpecFault.TheVariants.{BadBase, Memory}
 use Rattle.constraint_model.specs.FirstBreaches.{RowsHoldBelow, StimuliHoldBelow, IsPlanBreach}

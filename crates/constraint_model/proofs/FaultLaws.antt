@@ -2,12 +2,12 @@
 use Rattle.std.proofs.Common.{◌≡◌, ℕ, zero, suc, Bool, true, false, Option, Some, None, List, length, get_or, ◌+◌, subst, refl}
 use Rattle.exam_text.specs.First.{fault_where, ◌orelse◌, first_below}
 use Rattle.bank_tables.specs.Tables.{Tables}
-use Rattle.exam_model.specs.declared.row.Row.{Row}
-use Rattle.exam_model.specs.declared.row.Row.TheVariants.{Count, Quantity, Enemies, Stimuli}
-use Rattle.exam_model.specs.Plan.{Plan, row_at, no_bound}
-use Rattle.exam_model.specs.Forms.{stimuli_of}
+use Rattle.form_model.specs.declared.row.Row.{Row}
+use Rattle.form_model.specs.declared.row.Row.TheVariants.{Count, Quantity, Enemies, Stimuli}
+use Rattle.form_model.specs.Plan.{Plan, row_at, no_bound}
+use Rattle.form_model.specs.Forms.{stimuli_of}
 use Rattle.constraint_model.specs.declared.spec_fault.SpecFault.{SpecFault}
-use Rattle.constraint_model.specs.declared.spec_fault.SpecFault.TheVariants.{Length, BadPrior, TooManyRows, RowBounds, EmptySet, BadItem, BadQuantity, BadStimulus, BadRate, BadBudget, BadLimit, BadBase, Memory}
+use Rattle.constraint_model.specs.declared.spec_fault.SpecFault.TheVariants.{Length, BadPrior, TooManyRows, RowBounds, EmptySet, BadItem, BadQuantity, BadStimulus, BadRate, BadBands, BadBudget, BadLimit, BadBase, Memory}
 use Rattle.constraint_model.specs.Faults.{set_fault, row_fault, front_fault, bound_fault, bounds_fault, limits_fault, numbers_fault, IsSpecFault}
 
 -- the tests of numbers give neither a breach of the base nor lack of memory
@@ -56,12 +56,15 @@ bounds_gives b plan =
     (orelse_gives _ _ (where_gives _ (BadStimulus (stimuli_of b + 1)) tt)
     (first_gives (stimuli_of b) (λ k. bound_fault (k + 1) (get_or plan.bounds k no_bound)) (λ k. where_gives _ (BadStimulus (k + 1)) tt)))
 
-limits_gives : (plan : Plan) → GivesNumbers (limits_fault plan)
+limits_gives : (b : Tables) (plan : Plan) → GivesNumbers (limits_fault b plan)
 unfolding limits_fault
-limits_gives plan = orelse_gives _ _ (where_gives _ BadRate tt) (orelse_gives _ _ (where_gives _ BadBudget tt) (where_gives _ BadLimit tt))
+limits_gives b plan =
+    orelse_gives _ _ (where_gives _ BadRate tt)
+    (orelse_gives _ _ (where_gives _ BadBands tt)
+    (orelse_gives _ _ (where_gives _ BadBudget tt) (where_gives _ BadLimit tt)))
 
 numbers_give : (b : Tables) (plan : Plan) → GivesNumbers (numbers_fault b plan)
-numbers_give b plan = orelse_gives _ _ (front_gives b plan) (orelse_gives _ _ (bounds_gives b plan) (limits_gives plan))
+numbers_give b plan = orelse_gives _ _ (front_gives b plan) (orelse_gives _ _ (bounds_gives b plan) (limits_gives b plan))
 
 -- so the fault that they give is the first
 pub numbers_first : (b : Tables) (plan : Plan) (fault : SpecFault) → numbers_fault b plan ≡ Some fault → IsSpecFault b plan fault
@@ -70,7 +73,7 @@ numbers_first b plan Memory e = (numbers_give b plan).each Memory e
 numbers_first b plan fault e = e
 
 -- past the tests of the front only the others are left
-pub after_front : (b : Tables) (plan : Plan) → front_fault b plan ≡ None → numbers_fault b plan ≡ (bounds_fault b plan orelse limits_fault plan)
+pub after_front : (b : Tables) (plan : Plan) → front_fault b plan ≡ None → numbers_fault b plan ≡ (bounds_fault b plan orelse limits_fault b plan)
 after_front b plan e = rw e refl
 
 -- a fault of the front is the first

@@ -1,5 +1,5 @@
 -- A draft whose tests find nothing is a plan, and the tests find nothing in a plan.
-use Rattle.std.proofs.Common.{◌≡◌, ℕ, ◌+◌, ◌-◌, ◌%◌, ◌<◌, ◌≤◌, ◌||◌, ◌&&◌, ◌==◌, not, true, List, length, get_or, Some, None, ℤ, pos, refl, subst, arith, inl, inr}
+use Rattle.std.proofs.Common.{◌≡◌, ℕ, zero, suc, ◌+◌, ◌-◌, ◌%◌, ◌<◌, ◌≤◌, ◌||◌, ◌&&◌, ◌==◌, not, true, List, [], ◌∷◌, length, get_or, Some, None, ℤ, pos, refl, subst, arith, inl, inr}
 use Rattle.std.specs.Prelude.{nat_le, nat_lt, int_lt, neg_ℤ}
 use Rattle.std.specs.List.{list_all}
 use Rattle.std.proofs.lemmas.Int.{ints}
@@ -12,15 +12,15 @@ use Rattle.bank_tables.specs.Tables.{Tables, size}
 use Rattle.bank_tables.specs.Validity.{IsLogLik}
 use Rattle.bank_tables.specs.Faults.{is_loglik}
 use Rattle.bank_tables.proofs.BankLaws.{each_passes, all_pass}
-use Rattle.exam_model.specs.declared.draft.Rate.{Rate}
-use Rattle.exam_model.specs.declared.row.Row.{Row}
-use Rattle.exam_model.specs.declared.row.Row.TheVariants.{Count, Quantity, Enemies, Stimuli}
-use Rattle.exam_model.specs.declared.row.StimulusBound.{StimulusBound}
-use Rattle.exam_model.specs.Plan.{Plan, row_at, bound_at, no_bound}
-use Rattle.exam_model.specs.Forms.{Meets, stimuli_of}
-use Rattle.exam_model.specs.Validity.{IsRowSet, IsRow, IsBudget, IsPlanFor}
+use Rattle.form_model.specs.declared.draft.Rate.{Rate}
+use Rattle.form_model.specs.declared.row.Row.{Row}
+use Rattle.form_model.specs.declared.row.Row.TheVariants.{Count, Quantity, Enemies, Stimuli}
+use Rattle.form_model.specs.declared.row.StimulusBound.{StimulusBound}
+use Rattle.form_model.specs.Plan.{Plan, row_at, bound_at, no_bound}
+use Rattle.form_model.specs.Forms.{Meets, stimuli_of}
+use Rattle.form_model.specs.Validity.{IsRowSet, IsRow, IsBudget, AreBands, IsPlanFor}
 use Rattle.constraint_model.specs.Countable.{IsCountable}
-use Rattle.constraint_model.specs.Faults.{range_fault, set_fault, quantity_fault, row_fault, is_prior, front_fault, bound_fault, bounds_fault, is_rate, is_budget, is_between, limits_fault, numbers_fault}
+use Rattle.constraint_model.specs.Faults.{range_fault, set_fault, quantity_fault, row_fault, is_prior, front_fault, bound_fault, bounds_fault, is_rate, rise, are_bands, is_budget, is_between, limits_fault, numbers_fault}
 use Rattle.constraint_model.proofs.SetLaws.{member_of, not_empty_from, none_unknown, no_unknown_from}
 
 above : (n : ℕ) → (n ≡ 0 → ⊥) → 0 < n
@@ -183,7 +183,65 @@ bounds_from b plan h =
       le-ltb (stimuli_of b) (length plan.bounds) (omega arith),
     ) (none_from (stimuli_of b) (λ k. bound_fault (k + 1) (get_or plan.bounds k no_bound)) each)
 
--- ---- the rate, the budgets and the limits
+-- ---- the bands
+-- points that rise from `low` on
+record Rising (low high : ℕ) (points : List ℕ) : Type 0 where
+  above : (k : ℕ) → k < length points → low < get_or points k 0
+  within : (k : ℕ) → k < length points → get_or points k 0 < high
+  order : (j k : ℕ) → j < k → k < length points → get_or points j 0 < get_or points k 0
+
+rise_is : (low high : ℕ) (points : List ℕ) → rise low high points ≡ true → Rising low high points
+rise_is low high [] e = record {
+  above = λ k lt. absurd (omega (arith, lt));
+  within = λ k lt. absurd (omega (arith, lt));
+  order = λ j k less lt. absurd (omega (arith, lt));
+}
+rise_is low high (p ∷ ps) e =
+    let first = and_parts (nat_lt low p) (nat_lt p high && rise p high ps) e in
+    let second = and_parts (nat_lt p high) (rise p high ps) first.1 in
+    let above : low < p = ltb-true low p first.0 in
+    let rest = rise_is p high ps second.1 in
+    record {
+      above = λ k lt. above_at ps p low above rest.above k lt;
+      within = λ k lt. within_at ps p high (ltb-true p high second.0) rest.within k lt;
+      order = λ j k less lt. order_at ps p rest.above rest.order j k less lt;
+    }
+  where
+    above_at : (ps : List ℕ) (p low : ℕ) → low < p → ((k : ℕ) → k < length ps → p < get_or ps k 0) → (k : ℕ) → k < length (p ∷ ps) → low < get_or (p ∷ ps) k 0
+    above_at ps p low h each zero lt = h
+    above_at ps p low h each (suc k) lt = omega (arith, h, each k (omega (arith, lt)))
+
+    within_at : (ps : List ℕ) (p high : ℕ) → p < high → ((k : ℕ) → k < length ps → get_or ps k 0 < high) → (k : ℕ) → k < length (p ∷ ps) → get_or (p ∷ ps) k 0 < high
+    within_at ps p high h each zero lt = h
+    within_at ps p high h each (suc k) lt = each k (omega (arith, lt))
+
+    order_at : (ps : List ℕ) (p : ℕ) → ((k : ℕ) → k < length ps → p < get_or ps k 0) → ((j k : ℕ) → j < k → k < length ps → get_or ps j 0 < get_or ps k 0) → (j k : ℕ) → j < k → k < length (p ∷ ps) → get_or (p ∷ ps) j 0 < get_or (p ∷ ps) k 0
+    order_at ps p above order j zero less lt = absurd (omega (arith, less))
+    order_at ps p above order zero (suc k) less lt = above k (omega (arith, lt))
+    order_at ps p above order (suc j) (suc k) less lt = order j k (omega (arith, less)) (omega (arith, lt))
+
+rise_from : (low high : ℕ) (points : List ℕ) → Rising low high points → rise low high points ≡ true
+rise_from low high [] h = refl
+rise_from low high (p ∷ ps) h =
+    let some : 0 < length (p ∷ ps) = omega arith in
+    let rest : Rising p high ps = record {
+      above = λ k lt. h.order 0 (suc k) (omega arith) (omega (arith, lt));
+      within = λ k lt. h.within (suc k) (omega (arith, lt));
+      order = λ j k less lt. h.order (suc j) (suc k) (omega (arith, less)) (omega (arith, lt));
+    } in
+    and_from _ _ (lt-ltb low p (h.above 0 some)) (and_from _ _ (lt-ltb p high (h.within 0 some)) (rise_from p high ps rest))
+
+bands_is : (grid : ℕ) (points : List ℕ) → are_bands grid points ≡ true → AreBands grid points
+bands_is grid points e =
+    let p = and_parts (nat_le (length points) 7) (rise 0 grid points) e in
+    let rising = rise_is 0 grid points p.1 in
+    record { few = leb-true _ _ p.0; some = rising.above; within = rising.within; rising = rising.order }
+
+bands_from : (grid : ℕ) (points : List ℕ) → AreBands grid points → are_bands grid points ≡ true
+bands_from grid points h =
+    and_from _ _ (le-leb _ _ h.few) (rise_from 0 grid points (record { above = h.some; within = h.within; order = h.rising }))
+
+-- ---- the rate, the bands, the budgets and the limits
 budget_is : (nodes : ℕ) → is_budget nodes ≡ true → IsBudget nodes
 budget_is nodes e = let p = and_parts (nodes % 2 == 1) (nat_le nodes 4095) e in record { uneven = eqb-true _ _ p.0; high = leb-true _ _ p.1 }
 
@@ -210,10 +268,11 @@ rate_is rate e =
 rate_from : (rate : Rate) → RateStands rate → is_rate rate ≡ true
 rate_from rate h = and_from _ _ (lt-ltb _ _ h.some) (and_from _ _ (le-leb _ _ h.most) (le-leb _ _ h.high))
 
-pub record LimitsStand (plan : Plan) : Type 0 where
+pub record LimitsStand (b : Tables) (plan : Plan) : Type 0 where
   pub some_rate : 0 < plan.rate.num
   pub rate : plan.rate.num ≤ plan.rate.den
   pub rate_high : plan.rate.den ≤ 65535
+  pub bands : AreBands b.grid plan.bands
   pub budget : IsBudget plan.budget
   pub base_budget : IsBudget plan.base_budget
   pub some_sessions : 0 < plan.sessions
@@ -221,11 +280,12 @@ pub record LimitsStand (plan : Plan) : Type 0 where
   pub journal_low : 64 ≤ plan.journal
   pub journal_high : plan.journal ≤ 536870912
 
-pub limits_is : (plan : Plan) → limits_fault plan ≡ None → LimitsStand plan
+pub limits_is : (b : Tables) (plan : Plan) → limits_fault b plan ≡ None → LimitsStand b plan
 unfolding limits_fault
-limits_is plan e =
+limits_is b plan e =
     let p = none_split _ _ e in
-    let q = none_split _ _ p.1 in
+    let r = none_split _ _ p.1 in
+    let q = none_split _ _ r.1 in
     let rate = rate_is plan.rate (not-false _ (none_where _ _ p.0)) in
     let budgets = and_parts (is_budget plan.budget) (is_budget plan.base_budget) (not-false _ (none_where _ _ q.0)) in
     let limits = and_parts (is_between 1 65536 plan.sessions) (is_between 64 536870912 plan.journal) (not-false _ (none_where _ _ q.1)) in
@@ -235,6 +295,7 @@ limits_is plan e =
       some_rate = rate.some;
       rate = rate.most;
       rate_high = rate.high;
+      bands = bands_is b.grid plan.bands (not-false _ (none_where _ _ r.0));
       budget = budget_is plan.budget budgets.0;
       base_budget = budget_is plan.base_budget budgets.1;
       some_sessions = omega (arith, sessions.0);
@@ -243,12 +304,13 @@ limits_is plan e =
       journal_high = journal.1;
     }
 
-limits_from : (b : Tables) (plan : Plan) → IsPlanFor b plan → limits_fault plan ≡ None
+limits_from : (b : Tables) (plan : Plan) → IsPlanFor b plan → limits_fault b plan ≡ None
 unfolding limits_fault
 limits_from b plan h =
     let some : 1 ≤ plan.sessions = omega (arith, h.some_sessions) in
     rw (
       rate_from plan.rate (record { some = h.some_rate; most = h.rate; high = h.rate_high }),
+      bands_from b.grid plan.bands h.bands,
       budget_from plan.budget h.budget,
       budget_from plan.base_budget h.base_budget,
       between_from 1 65536 plan.sessions some h.few_sessions,
@@ -257,10 +319,10 @@ limits_from b plan h =
 
 -- ---- the plan
 -- none of the three finds a fault
-numbers_split : (b : Tables) (plan : Plan) → numbers_fault b plan ≡ None → (front_fault b plan ≡ None) × (bounds_fault b plan ≡ None) × (limits_fault plan ≡ None)
+numbers_split : (b : Tables) (plan : Plan) → numbers_fault b plan ≡ None → (front_fault b plan ≡ None) × (bounds_fault b plan ≡ None) × (limits_fault b plan ≡ None)
 numbers_split b plan e =
-    let p = none_split (front_fault b plan) (bounds_fault b plan orelse limits_fault plan) e in
-    let q = none_split (bounds_fault b plan) (limits_fault plan) p.1 in
+    let p = none_split (front_fault b plan) (bounds_fault b plan orelse limits_fault b plan) e in
+    let q = none_split (bounds_fault b plan) (limits_fault b plan) p.1 in
     (p.0, q.0, q.1)
 
 pub countable_from : (b : Tables) (plan : Plan) → numbers_fault b plan ≡ None → IsCountable b plan
@@ -274,7 +336,7 @@ plan_from b plan e base =
     let none = numbers_split b plan e in
     let f = front_is b plan none.0 in
     let s = bounds_is b plan none.1 in
-    let l = limits_is plan none.2 in
+    let l = limits_is b plan none.2 in
     record {
       some_items = f.some_items;
       few_items = f.few_items;
@@ -289,6 +351,7 @@ plan_from b plan e base =
       some_rate = l.some_rate;
       rate = l.rate;
       rate_high = l.rate_high;
+      bands = l.bands;
       budget = l.budget;
       base_budget = l.base_budget;
       some_sessions = l.some_sessions;

@@ -10,7 +10,7 @@ use Rattle.bank_tables.specs.Sums.{count_in, size_of}
 use Rattle.bank_tables.specs.Tables.{Tables, size}
 use Rattle.bank_tables.specs.Validity.{HoldsItems}
 use Rattle.bank_tables.proofs.Bits.{size_of-below}
-use Rattle.exam_model.proofs.SumLaws.{either, any_intro, any_elim}
+use Rattle.form_model.proofs.SumLaws.{either, any_intro, any_elim}
 use Rattle.constraint_model.specs.Faults.{is_empty, has_unknown}
 
 -- a number past the words is not in the set

@@ -2,9 +2,9 @@
 use Rattle.std.specs.Prelude.{◌≡◌, ℕ, ◌<◌, ◌≤◌, length, cond}
 use Rattle.bank_tables.specs.Items.{Set}
 use Rattle.bank_tables.specs.Tables.{Tables, quantity}
-use Rattle.exam_model.specs.Plan.{Plan, row_at}
-use Rattle.exam_model.specs.Forms.{stimuli_of}
-use Rattle.exam_model.specs.Validity.{IsRow}
+use Rattle.form_model.specs.Plan.{Plan, row_at}
+use Rattle.form_model.specs.Forms.{stimuli_of}
+use Rattle.form_model.specs.Validity.{IsRow}
 
 -- there are at most 128 rows, each is a row for the bank, and each stimulus of the bank has bounds
 pub record IsCountable (b : Tables) (plan : Plan) : Type 0 where

@@ -3,7 +3,7 @@ use Rattle.std.specs.Prelude.{ℕ, ◌++◌, List, codes}
 use Rattle.std.specs.Fmt.{decimal}
 use Rattle.exam_text.specs.Texts.{no_memory}
 use Rattle.constraint_model.specs.declared.spec_fault.SpecFault.{SpecFault}
-use Rattle.constraint_model.specs.declared.spec_fault.SpecFault.TheVariants.{Length, BadPrior, TooManyRows, RowBounds, EmptySet, BadItem, BadQuantity, BadStimulus, BadRate, BadBudget, BadLimit, BadBase, Memory}
+use Rattle.constraint_model.specs.declared.spec_fault.SpecFault.TheVariants.{Length, BadPrior, TooManyRows, RowBounds, EmptySet, BadItem, BadQuantity, BadStimulus, BadRate, BadBands, BadBudget, BadLimit, BadBase, Memory}
 
 unfoldable pub draft_text : SpecFault → List ℕ
 draft_text Length = codes "plan: length\n"
@@ -15,6 +15,7 @@ draft_text (BadItem row) = codes "plan: row " ++ (decimal row ++ codes " item\n"
 draft_text (BadQuantity row) = codes "plan: row " ++ (decimal row ++ codes " quantity\n")
 draft_text (BadStimulus stimulus) = codes "plan: stimulus " ++ (decimal stimulus ++ codes "\n")
 draft_text BadRate = codes "plan: rate\n"
+draft_text BadBands = codes "plan: bands\n"
 draft_text BadBudget = codes "plan: budget\n"
 draft_text BadLimit = codes "plan: limit\n"
 draft_text (BadBase breach) = codes "plan: base\n"

@@ -1,7 +1,7 @@
 -- What the definitions see of a problem.
 use Rattle.std.specs.Option.{option_map}
 use Rattle.bank_tables.specs.Items.{has}
-use Rattle.exam_model.specs.Problem.{Problem}
+use Rattle.form_model.specs.Problem.{Problem}
 use Rattle.constraint_model.specs.declared.problem.Problem.{Problem as Given}
 
 abbrev pub problem_of : Given → Problem

@@ -3,9 +3,9 @@
 ghost use Rattle.std.specs.Prelude.{◌≡◌, ◌<◌, ◌↔◌, ℕ, IsTrue};
 ghost use Rattle.bank_tables.specs.Items.{has};
 ghost use Rattle.bank_tables.specs.Validity.{HoldsItems};
-ghost use Rattle.exam_model.specs.Breaches.{IsFirstBreach};
-ghost use Rattle.exam_model.specs.Forms.{Form, activity, items_of, used};
-ghost use Rattle.exam_model.specs.Validity.{IsRow, IsWellMade};
+ghost use Rattle.form_model.specs.Breaches.{IsFirstBreach};
+ghost use Rattle.form_model.specs.Forms.{Form, activity, items_of, used};
+ghost use Rattle.form_model.specs.Validity.{IsRow, IsWellMade};
 ghost use Rattle.constraint_model.specs.Views.{problem_of};
 ghost use Rattle.constraint_model.specs.Countable.{IsCountable};
 ghost use Rattle.constraint_model.specs.FirstBreaches.{IsLengthBreach, IsRowBreach, IsStimulusBreach, IsFirstMissing, IsFirstCommon, IsPlanBreach};
@@ -13,7 +13,7 @@ ghost use Rattle.constraint_model.specs.FirstBreaches.{IsLengthBreach, IsRowBrea
 use crate::counts::{activity, items_of, lower_bound, stimuli_used, upper_bound};
 use crate::problem::Problem;
 use bank_tables::{Bank, ItemSet};
-use exam_model::{Breach, Draft, Row};
+use form_model::{Breach, Draft, Row};
 
 /// The number of items of the form, where it isn't the plan's or an item isn't of the bank.
 fn wrong_length(bank: &Bank, plan: &Draft, form: &ItemSet) -> Option<u32>

@@ -5,12 +5,12 @@ ghost use Rattle.bank_tables.specs.Items.{has};
 ghost use Rattle.bank_tables.specs.Tables.{size, quantity};
 ghost use Rattle.bank_tables.specs.Sums.{count_in, sum_in};
 ghost use Rattle.bank_tables.specs.Validity.{HoldsItems};
-ghost use Rattle.exam_model.specs.Forms.{activity, items_of, size_in, used, stimuli_in, stimuli_of, lower_bound, upper_bound};
-ghost use Rattle.exam_model.specs.Validity.{IsRow};
+ghost use Rattle.form_model.specs.Forms.{activity, items_of, size_in, used, stimuli_in, stimuli_of, lower_bound, upper_bound};
+ghost use Rattle.form_model.specs.Validity.{IsRow};
 ghost use Rattle.constraint_model.specs.Countable.{quantity_of};
 
 use bank_tables::{Bank, ItemSet};
-use exam_model::Row;
+use form_model::Row;
 
 /// The number of items of the bank in a set.
 pub fn size_in(bank: &Bank, items: &ItemSet) -> u32

@@ -23,6 +23,7 @@ impl SpecFault {
             SpecFault::BadQuantity(row) => format!(in alloc; "plan: row {row} quantity\n"),
             SpecFault::BadStimulus(stimulus) => format!(in alloc; "plan: stimulus {stimulus}\n"),
             SpecFault::BadRate => String::from_str(alloc, "plan: rate\n"),
+            SpecFault::BadBands => String::from_str(alloc, "plan: bands\n"),
             SpecFault::BadBudget => String::from_str(alloc, "plan: budget\n"),
             SpecFault::BadLimit => String::from_str(alloc, "plan: limit\n"),
             SpecFault::BadBase(_) => String::from_str(alloc, "plan: base\n"),

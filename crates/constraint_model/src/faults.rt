@@ -4,16 +4,16 @@ ghost use Rattle.std.specs.Prelude.{◌≡◌, ◌≤◌, length, None, MatchOpt
 ghost use Rattle.exam_text.specs.First.{◌orelse◌};
 ghost use Rattle.std.specs.List.{list_all};
 ghost use Rattle.bank_tables.specs.Faults.{is_loglik};
-ghost use Rattle.exam_model.specs.Forms.{stimuli_of};
-ghost use Rattle.exam_model.specs.Validity.{IsPlanFor};
+ghost use Rattle.form_model.specs.Forms.{stimuli_of};
+ghost use Rattle.form_model.specs.Validity.{IsPlanFor};
 ghost use Rattle.constraint_model.specs.Countable.{IsCountable};
-ghost use Rattle.constraint_model.specs.Faults.{is_empty, has_unknown, range_fault, set_fault, quantity_fault, row_fault, rows_fault, is_prior, front_fault, bound_fault, bounds_fault, is_rate, is_budget, limits_fault, IsBaseFault, IsSpecFault};
+ghost use Rattle.constraint_model.specs.Faults.{is_empty, has_unknown, range_fault, set_fault, quantity_fault, row_fault, rows_fault, is_prior, front_fault, bound_fault, bounds_fault, is_rate, rise, are_bands, is_budget, limits_fault, IsBaseFault, IsSpecFault};
 
 use crate::breaches::plan_breach;
 use crate::spec_fault::SpecFault;
 use bank_tables::limits::{ITEMS, JOURNAL, NODES, ROWS, SESSIONS, STIMULI};
 use bank_tables::{Bank, ItemSet};
-use exam_model::{Breach, Draft, Rate, Row, StimulusBound};
+use form_model::{Breach, Draft, Rate, Row, StimulusBound};
 
 fn is_empty(set: &ItemSet) -> bool
     ensures { result ≡ is_empty set.now }
@@ -177,19 +177,44 @@ fn is_rate(rate: Rate) -> bool
     0 < rate.num && rate.num <= rate.den && rate.den <= 65_535
 }
 
+/// Whether the points rise, each above the one before it and the first one above 0, and are below
+/// the number of grid points.
+fn rise(points: &[u8], grid: u8) -> bool
+    ensures { result ≡ rise 0 grid points.now }
+{
+    let mut last = 0;
+    for point in points {
+        if *point <= last || *point >= grid {
+            return false;
+        }
+        last = *point;
+    }
+    true
+}
+
+/// Whether these are points at which bands begin.
+fn are_bands(points: &[u8], grid: u8) -> bool
+    ensures { result ≡ are_bands grid points.now }
+{
+    points.len() <= 7 && rise(points, grid)
+}
+
 fn is_budget(nodes: u32) -> bool
     ensures { result ≡ is_budget nodes }
 {
     nodes % 2 == 1 && nodes <= NODES as u32
 }
 
-/// The first fault of a draft's exposure rate, node budgets and limits.
+/// The first fault of a draft's exposure rate, bands, node budgets and limits.
 #[tactic(auto, unfolding(crate::specs::Faults::limits_fault))]
-fn limits_fault(draft: &Draft) -> Option<SpecFault>
-    ensures { result ≡ limits_fault draft.now }
+fn limits_fault(bank: &Bank, draft: &Draft) -> Option<SpecFault>
+    ensures { result ≡ limits_fault bank.now draft.now }
 {
     if !is_rate(draft.rate) {
         return Some(SpecFault::BadRate);
+    }
+    if !are_bands(draft.bands.as_slice(), bank.grid()) {
+        return Some(SpecFault::BadBands);
     }
     if !(is_budget(draft.budget) && is_budget(draft.base_budget)) {
         return Some(SpecFault::BadBudget);
@@ -217,12 +242,12 @@ fn base_breach(bank: &Bank, draft: &Draft) -> Option<Breach>
 
 /// The first fault of a draft's bounds and limits.
 fn end_fault(bank: &Bank, draft: &Draft) -> Option<SpecFault>
-    ensures { result ≡ (bounds_fault bank.now draft.now orelse limits_fault draft.now) }
+    ensures { result ≡ (bounds_fault bank.now draft.now orelse limits_fault bank.now draft.now) }
 {
     if let Some(fault) = bounds_fault(bank, draft) {
         return Some(fault);
     }
-    limits_fault(draft)
+    limits_fault(bank, draft)
 }
 
 /// The first fault of a draft whose length, prior and rows have none, or none where it is a plan for the bank.

@@ -22,8 +22,8 @@ mod spec;
 mod spec_fault;
 
 pub use breaches::{is_form, meets};
-pub use exam_model::{Breach, Draft, Rate, Row, StimulusBound};
 pub use faults::front_fault;
+pub use form_model::{Breach, Draft, Rate, Row, StimulusBound};
 pub use information::objective;
 pub use problem::Problem;
 pub use sides::names_only_sides;

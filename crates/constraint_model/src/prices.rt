@@ -1,8 +1,8 @@
 //! The prices that multipliers put on a row or stimulus and on its bounds (Lagrangian relaxation; Geoffrion, 1974).
 
 ghost use Rattle.std.specs.Prelude.{◌≡◌, ◌+◌, ◌*◌, ◌<◌, ◌≤◌, pos, slice_index, ◌*ℤ◌, ◌≤ℤ◌};
-ghost use Rattle.exam_model.specs.Ranges.{AreMultipliers, IsWithin};
-ghost use Rattle.exam_model.specs.Weights.{price, bounds_price};
+ghost use Rattle.certificate_model.specs.Ranges.{AreMultipliers, IsWithin};
+ghost use Rattle.certificate_model.specs.Weights.{price, bounds_price};
 
 /// The price of the row or stimulus with the low side.
 pub fn price(sides: &[u32; 386], low_side: usize) -> i64

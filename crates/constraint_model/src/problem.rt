@@ -1,7 +1,7 @@
 //! The problem of assembling a form.
 
 ghost use Rattle.std.specs.Prelude.{◌≡◌};
-ghost use Rattle.exam_model.specs.Validity.{IsPlanFor, IsWellMade, IsWhole};
+ghost use Rattle.form_model.specs.Validity.{IsPlanFor, IsWellMade, IsWhole};
 ghost use Rattle.constraint_model.specs.Views.{problem_of};
 
 use crate::spec::Spec;

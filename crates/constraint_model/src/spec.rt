@@ -1,14 +1,15 @@
 //! A plan that was tested against an item bank.
 
-ghost use Rattle.std.specs.Prelude.{◌≡◌, None, IfOk, IfErr};
-ghost use Rattle.exam_model.specs.Validity.{IsPlanFor};
+ghost use Rattle.std.specs.Prelude.{◌≡◌, ◌<◌, ◌≤◌, length, None, IfOk, IfErr};
+ghost use Rattle.form_model.specs.Plan.{band_of, bands_of};
+ghost use Rattle.form_model.specs.Validity.{IsPlanFor};
 ghost use Rattle.constraint_model.specs.Faults.{front_fault, IsSpecFault};
 ghost use Rattle.exam_text.specs.Keys.{IsKey};
 
 use crate::faults::{first_fault, remaining_fault};
 use crate::spec_fault::SpecFault;
 use bank_tables::{Bank, ItemSet};
-use exam_model::{Draft, Rate, Row, StimulusBound};
+use form_model::{Draft, Rate, Row, StimulusBound};
 use std::alloc::Global;
 use std::marker::Model;
 
@@ -19,14 +20,15 @@ pub struct Spec {
 }
 
 impl Model for Spec {
-    ghost use Rattle.exam_model.specs.Plan.{Plan};
+    ghost use Rattle.std.specs.Prelude.{◌≤◌, length};
+    ghost use Rattle.form_model.specs.Plan.{Plan};
     ghost use Rattle.exam_text.specs.Keys.{IsKey};
 
     ghost Value = { Plan };
 
     ghost view = { λ s. s.draft };
 
-    ghost invariant = { λ s. IsKey s.draft.key };
+    ghost invariant = { λ s. IsKey s.draft.key × (length s.draft.bands ≤ 7) };
 }
 
 /// What is true of a key by its type.
@@ -53,6 +55,7 @@ impl Spec {
     }
 
     fn tested(draft: Draft) -> Spec
+        requires { length draft.bands ≤ 7 }
         ensures { result ≡ draft }
     {
         facts_of_key(&draft.key);
@@ -120,6 +123,25 @@ impl Spec {
         ensures bytes { IsKey self.now.key }
     {
         &self.draft.key
+    }
+
+    /// The grid points at which a new band of abilities begins, in rising order; none where there
+    /// is one band.
+    pub fn bands(&self) -> &[u8]
+        ensures points { result.now ≡ self.now.bands }
+        ensures few { length self.now.bands ≤ 7 }
+    {
+        self.draft.bands.as_slice()
+    }
+
+    /// The band of a grid point, numbered from 0 on: how many of the points at which bands begin
+    /// are at most this one.
+    pub fn band(&self, point: u8) -> u8
+        ensures band { result ≡ band_of self.now point }
+        ensures of_plan { result < bands_of self.now }
+        ensures few { result < 8 }
+    {
+        self.bands().iter().filter(|first| **first <= point).count() as u8
     }
 
     /// Nodes of a proof tree for a step, at most.

@@ -1,6 +1,6 @@
 //! The first fault of a draft.
 
-use exam_model::Breach;
+use form_model::Breach;
 
 /// Why a draft is no plan for an item bank. Of several faults it is the first in this order, row by row from `RowBounds` to
 /// `BadQuantity`, and stimulus by stimulus once each has bounds.
@@ -27,6 +27,9 @@ pub enum SpecFault {
     BadStimulus(u8),
     /// The exposure rate is not a fraction above 0 and at most 1 with a denominator of at most 65,535.
     BadRate,
+    /// There are more than 7 points at which bands begin, or they don't rise, or one is not a grid
+    /// point, or is the first.
+    BadBands,
     /// A node budget is even, or not 1 to 4,095.
     BadBudget,
     /// The number of sessions is not 1 to 65,536, or the journal's not 64 to 536,870,912 bytes.

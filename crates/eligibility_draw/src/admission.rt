@@ -3,7 +3,7 @@
 ghost use Rattle.std.specs.Prelude.{◌≡◌};
 ghost use Rattle.history_model.specs.Draws.{is_admitted};
 
-use exam_model::Rate;
+use form_model::Rate;
 use history_model::Counts;
 
 /// Whether an item of these counts is eligible at this word: always where it was never shown, and otherwise where the word, as

@@ -5,8 +5,8 @@ use Rattle.bank_tables.specs.Items.{Set, has}
 use Rattle.bank_tables.specs.Tables.{Tables}
 use Rattle.bank_reader.specs.Grammar.{IsBankText}
 use Rattle.bank_reader.proofs.BankLaws.{one_bank}
-use Rattle.exam_model.specs.Plan.{Plan}
-use Rattle.exam_model.specs.Validity.{IsPlanFor}
+use Rattle.form_model.specs.Plan.{Plan}
+use Rattle.form_model.specs.Validity.{IsPlanFor}
 use Rattle.spec_reader.specs.Plans.{SaidPlan, plan_said}
 use Rattle.spec_reader.specs.Reading.{IsPlanText}
 use Rattle.history_model.specs.declared.entry.Entry.{Entry}

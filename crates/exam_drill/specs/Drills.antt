@@ -2,8 +2,8 @@
 use Rattle.std.specs.Prelude.{⊤, ℕ, List}
 use Rattle.bank_tables.specs.Tables.{Tables}
 use Rattle.bank_reader.specs.Grammar.{IsBankText}
-use Rattle.exam_model.specs.Plan.{Plan}
-use Rattle.exam_model.specs.Validity.{IsPlanFor}
+use Rattle.form_model.specs.Plan.{Plan}
+use Rattle.form_model.specs.Validity.{IsPlanFor}
 use Rattle.spec_reader.specs.Reading.{IsPlanText}
 use Rattle.history_model.specs.declared.request.Request.{Request}
 use Rattle.history_model.specs.declared.summary.Summary.{Summary}

@@ -4,8 +4,8 @@ ghost use Rattle.std.specs.Prelude.{◌≡◌, ◌≤◌, ◌⊎◌, List, lengt
 ghost use Rattle.bank_reader.specs.Grammar.{IsBankText};
 ghost use Rattle.bank_reader.specs.declared.fault.ReadFault.TheVariants as read_fault;
 ghost use Rattle.bank_tables.specs.Tables.{Tables};
-ghost use Rattle.exam_model.specs.Plan.{Plan};
-ghost use Rattle.exam_model.specs.Validity.{IsPlanFor};
+ghost use Rattle.form_model.specs.Plan.{Plan};
+ghost use Rattle.form_model.specs.Validity.{IsPlanFor};
 ghost use Rattle.history_model.specs.declared.request.Request.{Request};
 ghost use Rattle.replay_cli.specs.Scripts.{IsScript};
 ghost use Rattle.replay_cli.specs.Reading.{most_bytes};

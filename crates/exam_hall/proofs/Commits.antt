@@ -4,9 +4,10 @@ use Rattle.std.specs.List.{list_any}
 use Rattle.std.proofs.lemmas.Bool.{true≢false}
 use Rattle.bank_tables.specs.Items.{has}
 use Rattle.bank_tables.specs.Tables.{Tables}
-use Rattle.exam_model.specs.Plan.{Plan}
-use Rattle.exam_model.specs.Problem.{Problem as Model}
-use Rattle.exam_model.specs.declared.seat.Seat.{Seat}
+use Rattle.form_model.specs.Plan.{Plan, band_of}
+use Rattle.form_model.specs.Validity.{IsPlanFor}
+use Rattle.form_model.specs.Problem.{Problem as Model}
+use Rattle.serving_model.specs.declared.seat.Seat.{Seat}
 use Rattle.exam_edge.specs.Lent.{IsLent}
 use Rattle.answer_journal.specs.Journal.{tells_of, faults_of, identity_of}
 use Rattle.constraint_model.specs.declared.problem.Problem.{Problem}
@@ -19,11 +20,11 @@ use Rattle.history_model.specs.declared.place.Place.{Place}
 use Rattle.history_model.specs.declared.place.Place.TheVariants.{Pending}
 use Rattle.history_model.specs.declared.refusal.Refusal.{Refusal}
 use Rattle.history_model.specs.declared.refusal.Refusal.TheVariants.{NoSession, WrongStep, Other, BadResponse, IsClosed, Stale, SessionsFull, JournalFull, Disk, Memory}
-use Rattle.history_model.specs.Entries.{Serving, servings, step_answers, is_set_aside, seat_of}
-use Rattle.history_model.specs.Laws.{seat_place}
+use Rattle.history_model.specs.Entries.{Serving, servings, step_answers, seat_of}
+use Rattle.history_model.specs.Laws.{raised, seat_place}
 use Rattle.history_model.specs.Legality.{Legal, LegalRun}
 use Rattle.history_model.specs.Places.{place}
-use Rattle.history_model.specs.SessionProblems.{IsProblemOf}
+use Rattle.history_model.specs.SessionProblems.{IsProblemOf, is_aside_now}
 use Rattle.history_model.proofs.SessionEntries.{servings_by, answers_by}
 use Rattle.history_model.proofs.Running.{place_is_of_seat, the_seat_goes_on}
 use Rattle.history_model.proofs.RunParts.{beginning_is_legal}
@@ -43,6 +44,7 @@ use Rattle.exam_office.specs.Noting.{IsDoubtOf}
 use Rattle.exam_office.specs.Running.{Running}
 use Rattle.exam_office.specs.Writing.{IsSameOffice}
 use Rattle.exam_office.proofs.Committed.{asked_now, still_may}
+use Rattle.exam_office.proofs.Flags.{flag_now, aside_then}
 use Rattle.exam_hall.specs.Parts.{owns, NoFault, AtMostOne, IsAside, IsServing, IsCommitted, Fails}
 use Rattle.exam_hall.specs.Good.{IsFirm, IsGoodMark}
 use Rattle.exam_hall.specs.Rounds.{IsGoodFor, IsPlaced, EndsRound, EndsGood}
@@ -75,22 +77,17 @@ served_waits b plan H s step item form proved nodes k j run before now =
     omega arith
 
 -- after eligibility was set aside the session is where it was
-aside_place : (b : Tables) (plan : Plan) (H : List Entry) (s : ℕ) (cause : Cause) (nodes : ℕ) (at : Place) → LegalRun b plan (H ++ SetAside s cause nodes ∷ []) → Legal b plan H (SetAside s cause nodes)
-    → place plan H s ≡ Some at → (place plan (H ++ SetAside s cause nodes ∷ []) s ≡ Some at) × (is_set_aside (H ++ SetAside s cause nodes ∷ []) s ≡ true)
-aside_place b plan H s cause nodes at run legal stands =
-    let e : Entry = SetAside s cause nodes in
+aside_place : (b : Tables) (plan : Plan) (H : List Entry) (s step band : ℕ) (cause : Cause) (nodes : ℕ) (at : Place) → LegalRun b plan (H ++ SetAside s step band cause nodes ∷ []) → Legal b plan H (SetAside s step band cause nodes)
+    → place plan H s ≡ Some at → place plan (H ++ SetAside s step band cause nodes ∷ []) s ≡ Some at
+aside_place b plan H s step band cause nodes at run legal stands =
+    let e : Entry = SetAside s step band cause nodes in
     let early = beginning_is_legal b plan H (e ∷ []) run in
     let started = there plan H s at stands in
-    let seat : seat_of (H ++ e ∷ []) s ≡ record (seat_of H s) { aside = true } =
-    the_seat_goes_on b plan H e s early legal ∙ ap (λ t. cond t (record (seat_of H s) { aside = true }) (seat_of H s)) (eq-eqb s s refl) in (
-      place_is_of_seat b plan (H ++ e ∷ []) s run (still_started H (e ∷ []) s started)
-          ∙ (ap (λ (x : Seat). Some (seat_place plan x)) seat ∙ (sym (place_is_of_seat b plan H s early started) ∙ stands)),
-      ap (λ (x : Seat). x.aside) seat,
-    )
-
--- the flag of a session's problem is the session's
-pub flag_is : (b : Tables) (plan : Plan) (H : List Entry) (P : Problem) → IsProblemOf b plan H P.session P.step (problem_of P) → P.aside ≡ is_set_aside H P.session
-flag_is b plan H P h = ap (λ (R : Model). R.aside) h.of_seat.is
+    let flags = raised (seat_of H s).aside band in
+    let seat : seat_of (H ++ e ∷ []) s ≡ record (seat_of H s) { aside = flags } =
+    the_seat_goes_on b plan H e s early legal ∙ ap (λ t. cond t (record (seat_of H s) { aside = flags }) (seat_of H s)) (eq-eqb s s refl) in
+    place_is_of_seat b plan (H ++ e ∷ []) s run (still_started H (e ∷ []) s started)
+    ∙ (ap (λ (x : Seat). Some (seat_place plan x)) seat ∙ (sym (place_is_of_seat b plan H s early started) ∙ stands))
 
 same_place : (p r : Place) → Some p ≡ Some r → p ≡ r
 same_place p r e = cc
@@ -105,22 +102,22 @@ module _ (b : Tables) (plan : Plan) (P : Problem) (S T : List Mark) (at : Place)
   after_serving (Again next) never one whole is = absurd (never next.step (subst (λ n. place plan (history S) n ≡ Some (Pending next.step)) is.1 is.0.is_problem.pending))
   after_serving (Failed r) never one whole is = absurd is
 
-  -- eligibility was set aside
-  after_aside : (round : Round) → place plan (history S) P.session ≡ Some (Pending P.step) → is_set_aside (history S) P.session ≡ true → P.aside ≡ false → AtMostOne (IsAside P.session) (owns T) → NoFault T
+  -- eligibility was set aside, and a problem of the session has its flag raised now
+  after_aside : (round : Round) → place plan (history S) P.session ≡ Some (Pending P.step) → ((k : ℕ) (Q : Model) → IsProblemOf b plan (history S) P.session k Q → Q.aside ≡ true) → P.aside ≡ false → AtMostOne (IsAside P.session) (owns T) → NoFault T
       → IsRoundAt b plan (history S) P at round → EndsRound b plan P S T round
   after_aside (Placed same) waits aside flag one whole is = absurd (is.1 (same_place at (Pending P.step) (sym stands ∙ waits)))
   after_aside (Again next) waits aside flag one whole is = record {
     asked = is.0;
     session = is.1;
     step = is.2;
-    aside = λ e. true≢false (sym (flag_is b plan (history S) next is.0.is_problem ∙ (ap (λ n. is_set_aside (history S) n) is.1 ∙ aside)) ∙ (e ∙ flag));
+    aside = λ e. true≢false (sym (aside next.step (problem_of next) (subst (λ n. IsProblemOf b plan (history S) n next.step (problem_of next)) is.1 is.0.is_problem)) ∙ (e ∙ flag));
     one = one;
     no_fault = whole;
   }
   after_aside (Failed r) waits aside flag one whole is = absurd is
 
   -- it doesn't wait for the item any more
-  after_stale : (round : Round) (aside : Bool) → IsStaleBy plan (history S) P.session P.step P.aside at aside → owns T ≡ [] → NoFault T
+  after_stale : (round : Round) (aside : Bool) → IsStaleBy b plan (history S) P.session P.step P.aside at aside → owns T ≡ [] → NoFault T
       → IsRoundAt b plan (history S) P at round → EndsRound b plan P S T round
   after_stale (Placed same) aside stale none whole is = subst (λ x. IsPlaced plan P S T x) (sym is.0)
       (record { stands = stands; one = inl none; no_fault = whole; other = λ k e. ((λ n. is.1 (e ∙ ap (λ m. Pending m) n)), none) })
@@ -130,7 +127,7 @@ module _ (b : Tables) (plan : Plan) (P : Problem) (S T : List Mark) (at : Place)
     step = is.2;
     aside = λ e. stale.other (record {
       pending = subst (λ n. place plan (history S) n ≡ Some (Pending P.step)) is.1 (subst (λ k. place plan (history S) next.session ≡ Some (Pending k)) is.2 is.0.is_problem.pending);
-      aside = sym (ap (λ n. is_set_aside (history S) n) is.1) ∙ (sym (flag_is b plan (history S) next is.0.is_problem) ∙ e);
+      aside = sym (ap (λ n. is_aside_now b plan (history S) n) is.1) ∙ (sym (flag_now b plan (history S) next.session next.step (problem_of next) is.0.is_problem) ∙ e);
     });
     one = inl none;
     no_fault = whole;
@@ -155,7 +152,7 @@ committed_good b plan base H Q n (Found form proved) e asked at firm start hint 
 committed_good b plan base H Q n NoForm e asked at firm start hint made legal = subst (λ y. IsFirm b plan H y × IsGood b plan base H y) (sym made) (tt, tt)
 committed_good b plan base H Q n NoneFound e asked at firm start hint made legal =
     subst (λ y. IsFirm b plan H y × IsGood b plan base H y) (sym made)
-    (tt, record { problem = Q; is_problem = subst (λ k. IsProblemOf b plan H Q.session k Q) at.0 asked; no_base = at.2 })
+    (tt, record { problem = Q; is_problem = asked; no_base = at.1 })
 
 module _ (b : Tables) (plan : Plan) (base : List ℕ) (a : Assembly) (fits : IsGoodFor base a) where
   mark_good : (H : List Entry) (m : Mark) → MayBeCommitted b plan base H a → LegalRun b plan H → IsFoundMark (FindsCommit b plan a) H m → IsGoodMark b plan base H m
@@ -183,7 +180,7 @@ round_there old new same P Q is at round h =
     (subst (λ (p : Plan). IsRoundAt old.bank p (history new.marks) P at round) same.plan (subst (λ (b : Tables). IsRoundAt b new.plan (history new.marks) P at round) same.bank h))
 
 module _ {D : Type 0} (old new : Running D) (a : Assembly) (same : IsSameOffice old new) (frame : IsLent tells_of identity_of faults_of old.journal new.journal)
-    (may : MayBeCommitted old.bank old.plan old.base (history old.marks) a) (fits : IsGoodFor old.base a) (run : LegalRun old.bank old.plan (history new.marks)) where
+    (valid : IsPlanFor old.bank old.plan) (may : MayBeCommitted old.bank old.plan old.base (history old.marks) a) (fits : IsGoodFor old.base a) (run : LegalRun old.bank old.plan (history new.marks)) where
   abbrev b : Tables
   b = old.bank
 
@@ -199,7 +196,7 @@ module _ {D : Type 0} (old new : Running D) (a : Assembly) (same : IsSameOffice 
   leads : (H : List Entry) (e : Entry) → FindsCommit old.bank old.plan a H (Rattle.exam_office.specs.Calls.add e) → IsCommitted P.session e × Legal old.bank old.plan H e
   leads H e says = (committed P (length a.tree.nodes) a.outcome e says.1, says.2)
 
-  made_ends : (H : List Entry) (T : List Mark) (o : Outcome) (e : Entry) (at : Place) (round : Round) → IsOfStart (problem_of P) old.base o → IsStillAsked old.plan H (problem_of P)
+  made_ends : (H : List Entry) (T : List Mark) (o : Outcome) (e : Entry) (at : Place) (round : Round) → IsOfStart (problem_of P) old.base o → IsStillAsked old.bank old.plan H (problem_of P)
       → IsEntryFor (problem_of P) (length a.tree.nodes) o e → Legal old.bank old.plan H e → history new.marks ≡ H ++ e ∷ [] → owns T ≡ e ∷ [] → NoFault T
       → place old.plan (history new.marks) P.session ≡ Some at → IsRoundAt old.bank old.plan (history new.marks) P at round → EndsRound old.bank old.plan P new.marks T round
   made_ends H T (Found form proved) e at round start still made legal grown own whole stands is =
@@ -210,18 +207,24 @@ module _ {D : Type 0} (old new : Running D) (a : Assembly) (same : IsSameOffice 
       (subst (λ l. place old.plan l P.session ≡ Some (Pending j)) hist h))
       (inr (e, own, subst (λ y. IsServing P.session y) (sym made.2) refl)) whole is
   made_ends H T NoForm e at round start still made legal grown own whole stands is =
-      let x : Entry = SetAside P.session CauseNoForm (length a.tree.nodes) in
+      let n = band_of (problem_of P).plan (problem_of P).theta in
+      let x : Entry = SetAside P.session P.step n CauseNoForm (length a.tree.nodes) in
       let hist : history new.marks ≡ H ++ x ∷ [] = grown ∙ ap (λ y. H ++ y ∷ []) made in
-      let now = aside_place old.bank old.plan H P.session CauseNoForm (length a.tree.nodes) (Pending P.step) (subst (λ l. LegalRun old.bank old.plan l) hist run) (subst (λ y. Legal old.bank old.plan H y) made legal) still.pending in
+      let lawful : Legal old.bank old.plan H x = subst (λ y. Legal old.bank old.plan H y) made legal in
+      let now = aside_place old.bank old.plan H P.session P.step n CauseNoForm (length a.tree.nodes) (Pending P.step) (subst (λ l. LegalRun old.bank old.plan l) hist run) lawful still.pending in
       after_aside old.bank old.plan P new.marks T at stands round
-      (subst (λ l. place old.plan l P.session ≡ Some (Pending P.step)) (sym hist) now.0) (subst (λ l. is_set_aside l P.session ≡ true) (sym hist) now.1) start.1
+      (subst (λ l. place old.plan l P.session ≡ Some (Pending P.step)) (sym hist) now)
+      (λ k Q h. aside_then old.bank old.plan valid H P.session P.step n (length a.tree.nodes) CauseNoForm lawful k Q (subst (λ l. IsProblemOf old.bank old.plan l P.session k Q) hist h)) start
       (inr (e, own, subst (λ y. IsAside P.session y) (sym made) refl)) whole is
   made_ends H T NoneFound e at round start still made legal grown own whole stands is =
-      let x : Entry = SetAside P.session Spent (length a.tree.nodes) in
+      let n = band_of (problem_of P).plan (problem_of P).theta in
+      let x : Entry = SetAside P.session P.step n Spent (length a.tree.nodes) in
       let hist : history new.marks ≡ H ++ x ∷ [] = grown ∙ ap (λ y. H ++ y ∷ []) made in
-      let now = aside_place old.bank old.plan H P.session Spent (length a.tree.nodes) (Pending P.step) (subst (λ l. LegalRun old.bank old.plan l) hist run) (subst (λ y. Legal old.bank old.plan H y) made legal) still.pending in
+      let lawful : Legal old.bank old.plan H x = subst (λ y. Legal old.bank old.plan H y) made legal in
+      let now = aside_place old.bank old.plan H P.session P.step n Spent (length a.tree.nodes) (Pending P.step) (subst (λ l. LegalRun old.bank old.plan l) hist run) lawful still.pending in
       after_aside old.bank old.plan P new.marks T at stands round
-      (subst (λ l. place old.plan l P.session ≡ Some (Pending P.step)) (sym hist) now.0) (subst (λ l. is_set_aside l P.session ≡ true) (sym hist) now.1) start.1
+      (subst (λ l. place old.plan l P.session ≡ Some (Pending P.step)) (sym hist) now)
+      (λ k Q h. aside_then old.bank old.plan valid H P.session P.step n (length a.tree.nodes) Spent lawful k Q (subst (λ l. IsProblemOf old.bank old.plan l P.session k Q) hist h)) start.0
       (inr (e, own, subst (λ y. IsAside P.session y) (sym made) refl)) whole is
 
   done_ends : (at : Place) (round : Round) (T : List Mark) (o : Option Refusal) → None ≡ o → CameTo old.bank old.plan finds new.marks T o → place old.plan (history new.marks) P.session ≡ Some at

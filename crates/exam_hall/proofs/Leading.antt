@@ -7,7 +7,7 @@ use Rattle.std.proofs.lemmas.List.{append-nil}
 use Rattle.std.proofs.lemmas.List.Elements.{Contains-push}
 use Rattle.std.proofs.lemmas.Option.{slice_get-map}
 use Rattle.bank_tables.specs.Tables.{Tables}
-use Rattle.exam_model.specs.Plan.{Plan}
+use Rattle.form_model.specs.Plan.{Plan}
 use Rattle.exam_edge.specs.Lent.{IsLent}
 use Rattle.answer_journal.specs.Journal.{tells_of, faults_of, identity_of}
 use Rattle.history_model.specs.declared.entry.Entry.{Entry}
@@ -48,8 +48,8 @@ later_one x e H c = (let lt = c.1 in (suc c.0, omega arith, c.2))
 
 answered_at : (s : ℕ) (H : List Entry) (k : ℕ) (a : StepAnswer) → slice_get (filter_map (session_answer s) H) k ≡ Some a → Contains H (Answered s a.step a.response)
 answered_at s [] k a e = absurd (cc)
-answered_at s (Started session booking eligible ∷ H) k a e = later_one (Started session booking eligible) (Answered s a.step a.response) H (answered_at s H k a e)
-answered_at s (SetAside session cause nodes ∷ H) k a e = later_one (SetAside session cause nodes) (Answered s a.step a.response) H (answered_at s H k a e)
+answered_at s (Started session booking eligible without ∷ H) k a e = later_one (Started session booking eligible without) (Answered s a.step a.response) H (answered_at s H k a e)
+answered_at s (SetAside session step band cause nodes ∷ H) k a e = later_one (SetAside session step band cause nodes) (Answered s a.step a.response) H (answered_at s H k a e)
 answered_at s (Served session step item form proved nodes ∷ H) k a e = later_one (Served session step item form proved nodes) (Answered s a.step a.response) H (answered_at s H k a e)
 answered_at s (Closed session ∷ H) k a e = later_one (Closed session) (Answered s a.step a.response) H (answered_at s H k a e)
 answered_at s (Answered session step response ∷ H) k a e = by (session == s) refl k (answered_at s H) e

@@ -5,7 +5,7 @@ use Rattle.std.proofs.lemmas.Bool.{eqb-true, cases_Bool}
 use Rattle.std.proofs.lemmas.List.Elements.{filter_map-append}
 use Rattle.std.proofs.lemmas.List.Folds.{list_any-append}
 use Rattle.bank_tables.specs.Tables.{Tables}
-use Rattle.exam_model.specs.Plan.{Plan}
+use Rattle.form_model.specs.Plan.{Plan}
 use Rattle.history_model.specs.declared.entry.Entry.{Entry}
 use Rattle.history_model.specs.declared.entry.Entry.TheVariants.{Started, SetAside, Served, Answered, Closed}
 use Rattle.history_model.specs.declared.place.Place.TheVariants.{Pending}
@@ -43,11 +43,6 @@ more_answers H G s =
     answers_by (H ++ G) s
     ∙ (filter_map-append (session_answer s) H G
     ∙ (ap (λ (xs : List StepAnswer). xs ++ filter_map (session_answer s) G) (sym (answers_by H s)) ∙ ap (λ (xs : List StepAnswer). step_answers H s ++ xs) (sym (answers_by G s))))
-
-pub aside_stays : (H G : List Entry) (s : ℕ) → is_set_aside H s ≡ true → is_set_aside (H ++ G) s ≡ true
-aside_stays H G s e =
-    let before : list_any (sets_session_aside s) H ≡ true = sym (aside_by H s) ∙ e in
-    aside_by (H ++ G) s ∙ (list_any-append (sets_session_aside s) H G ∙ rw before refl)
 
 -- a session that waits for an item has as many items as answers, and its step is their number
 pub record IsEven (H : List Entry) (s k : ℕ) : Type 0 where
@@ -89,15 +84,15 @@ either : {A : Type 0} (x s : ℕ) (a : A) → (x ≡ s) ⊎ (cond (x == s) (Some
 either x s a = elim (cases_Bool (x == s)) [ inl t ↦ inl (eqb-true x s t) | inr f ↦ inr (rw f refl) ]
 
 serving_or : (s : ℕ) (e : Entry) → IsServing s e ⊎ (session_serving s e ≡ None)
-serving_or s (Started session booking eligible) = inr refl
-serving_or s (SetAside session cause nodes) = inr refl
+serving_or s (Started session booking eligible without) = inr refl
+serving_or s (SetAside session step band cause nodes) = inr refl
 serving_or s (Served session step item form proved nodes) = either session s (record { step = step; item = item; form = form; proved = proved })
 serving_or s (Answered session step response) = inr refl
 serving_or s (Closed session) = inr refl
 
 answer_or : (s : ℕ) (e : Entry) → IsAnswer s e ⊎ (session_answer s e ≡ None)
-answer_or s (Started session booking eligible) = inr refl
-answer_or s (SetAside session cause nodes) = inr refl
+answer_or s (Started session booking eligible without) = inr refl
+answer_or s (SetAside session step band cause nodes) = inr refl
 answer_or s (Served session step item form proved nodes) = inr refl
 answer_or s (Answered session step response) = either session s (record { step = step; response = response })
 answer_or s (Closed session) = inr refl
@@ -161,15 +156,15 @@ not_own s S ps p (Adopted d n) e h apart at is c = refl
 not_own s S ps p (Fault d) e h apart at is c = refl
 
 serving_aside : (s : ℕ) (e : Entry) → IsServing s e → IsAside s e → ⊥
-serving_aside s (Started session booking eligible) h k = absurd h
-serving_aside s (SetAside session cause nodes) h k = absurd h
+serving_aside s (Started session booking eligible without) h k = absurd h
+serving_aside s (SetAside session step band cause nodes) h k = absurd h
 serving_aside s (Served session step item form proved nodes) h k = absurd k
 serving_aside s (Answered session step response) h k = absurd h
 serving_aside s (Closed session) h k = absurd h
 
 answer_aside : (s : ℕ) (e : Entry) → IsAnswer s e → IsAside s e → ⊥
-answer_aside s (Started session booking eligible) h k = absurd h
-answer_aside s (SetAside session cause nodes) h k = absurd h
+answer_aside s (Started session booking eligible without) h k = absurd h
+answer_aside s (SetAside session step band cause nodes) h k = absurd h
 answer_aside s (Served session step item form proved nodes) h k = absurd h
 answer_aside s (Answered session step response) h k = absurd k
 answer_aside s (Closed session) h k = absurd h

@@ -3,7 +3,7 @@ use Rattle.std.proofs.Common.{◌≡◌, ℕ, suc, ◌-◌, ◌<◌, List, [], �
 use Rattle.std.proofs.lemmas.List.{length-map, map-append}
 use Rattle.std.proofs.lemmas.List.Elements.{Contains-append_left, Contains-push}
 use Rattle.bank_tables.specs.Tables.{Tables}
-use Rattle.exam_model.specs.Plan.{Plan}
+use Rattle.form_model.specs.Plan.{Plan}
 use Rattle.turn_lock.specs.Histories.{StartsWith, places}
 use Rattle.turn_lock.specs.Passes.{Known, LockId, TakesTurn, TakesIn, new_pass}
 use Rattle.turn_lock.proofs.Lists.{contains_cons, contains_nothing}

@@ -1,11 +1,11 @@
 -- From the turns of a request to what its reply tells.
 use Rattle.std.proofs.Common.{◌≡◌, ℕ, ◌||◌, Bool, true, false, List, [], ◌∷◌, ◌++◌, length, refl, sym, ap, ◌∙◌, subst, inl, inr, ⊎_elim, arith, Option, Ok, Err}
-use Rattle.exam_model.specs.Relaxed.{Multipliers}
+use Rattle.certificate_model.specs.Relaxed.{Multipliers}
 use Rattle.std.specs.List.{list_any}
 use Rattle.std.proofs.lemmas.List.{append-nil}
 use Rattle.std.proofs.lemmas.List.Elements.{Contains-append_left}
 use Rattle.bank_tables.specs.Tables.{Tables}
-use Rattle.exam_model.specs.Plan.{Plan}
+use Rattle.form_model.specs.Plan.{Plan}
 use Rattle.constraint_model.specs.declared.problem.Problem.{Problem}
 use Rattle.history_model.specs.declared.entry.Entry.{Entry}
 use Rattle.history_model.specs.declared.entry.Entry.TheVariants.{Started, SetAside, Served, Answered, Closed}
@@ -24,12 +24,12 @@ use Rattle.history_model.proofs.Staying.{holder_stays, still_started}
 use Rattle.turn_lock.specs.Histories.{StartsWith}
 use Rattle.turn_lock.specs.Passes.{Known, TakesTurn}
 use Rattle.exam_office.specs.declared.mark.Mark.{Mark}
-use Rattle.exam_office.specs.Handling.{IsRefusal, IsReply}
+use Rattle.exam_handler.specs.Handling.{IsRefusal, IsReply}
 use Rattle.exam_office.specs.Marks.{history}
 use Rattle.exam_office.specs.Noting.{NotedMark}
 use Rattle.exam_office.proofs.Asked.{refused_so}
-use Rattle.exam_hall.specs.declared.asking.Begun.{Begun}
-use Rattle.exam_hall.specs.declared.asking.Begun.TheVariants.{Done, Waits}
+use Rattle.exam_hall.specs.declared.asking.FirstAnswer.{FirstAnswer}
+use Rattle.exam_hall.specs.declared.asking.FirstAnswer.TheVariants.{Done, Waits}
 use Rattle.exam_hall.specs.Known.{HallKnown, marked, IsOf}
 use Rattle.exam_hall.specs.Went.{Went, taken}
 use Rattle.exam_hall.specs.Good.{AreGoodAt}
@@ -45,7 +45,7 @@ use Rattle.exam_hall.proofs.Owned.{firsts_good, both_good}
 use Rattle.exam_hall.proofs.Served.{here, went_here, legal_here, made_here, fails_more}
 
 -- ---- the first turn
-pub begun_turn : (h : HallKnown) (old new : Known NotedMark) (before : List NotedMark) → TakesTurn old new before → IsOf old h → (q : Request) (begun : Begun)
+pub begun_turn : (h : HallKnown) (old new : Known NotedMark) (before : List NotedMark) → TakesTurn old new before → IsOf old h → (q : Request) (begun : FirstAnswer)
     → BeginsRequest q before new.seen begun → HasBegun h (marked old) (marked new) q begun
 begun_turn h old new before t is q begun g =
     let makes : Tables → Plan → List ℕ → List Mark → List Mark → Type 0 = λ b p s S T. IsBegun b p q S T begun in
@@ -102,15 +102,15 @@ no_closing Exposure k E ends = tt
 
 -- ---- only a Started entry starts a session
 aside_starts : (s : ℕ) (e : Entry) → IsAside s e → starts e ≡ false
-aside_starts s (Started session booking eligible) h = absurd h
-aside_starts s (SetAside session cause nodes) h = refl
+aside_starts s (Started session booking eligible without) h = absurd h
+aside_starts s (SetAside session step band cause nodes) h = refl
 aside_starts s (Served session step item form proved nodes) h = refl
 aside_starts s (Answered session step response) h = refl
 aside_starts s (Closed session) h = refl
 
 serving_starts : (s : ℕ) (e : Entry) → IsServing s e → starts e ≡ false
-serving_starts s (Started session booking eligible) h = absurd h
-serving_starts s (SetAside session cause nodes) h = refl
+serving_starts s (Started session booking eligible without) h = absurd h
+serving_starts s (SetAside session step band cause nodes) h = refl
 serving_starts s (Served session step item form proved nodes) h = refl
 serving_starts s (Answered session step response) h = refl
 serving_starts s (Closed session) h = refl

@@ -3,9 +3,9 @@ use Rattle.std.proofs.Common.{◌≡◌, ◌≢◌, ℕ, ◌+◌, ◌-◌, Bool,
 use Rattle.std.proofs.lemmas.Bool.{cases_Bool, true≢false}
 use Rattle.std.proofs.lemmas.List.{append-nil}
 use Rattle.bank_tables.specs.Tables.{Tables}
-use Rattle.exam_model.specs.Plan.{Plan}
-use Rattle.exam_model.specs.Forms.{Meets}
-use Rattle.exam_model.specs.Problem.{Problem as Model}
+use Rattle.form_model.specs.Plan.{Plan}
+use Rattle.form_model.specs.Forms.{Meets}
+use Rattle.form_model.specs.Problem.{Problem as Model}
 use Rattle.bank_tables.specs.Items.{has}
 use Rattle.constraint_model.specs.Views.{problem_of}
 use Rattle.branch_bound.specs.Assembled.{Assembly}
@@ -19,7 +19,6 @@ use Rattle.history_model.specs.declared.place.Place.{Place}
 use Rattle.history_model.specs.declared.place.Place.TheVariants.{Pending}
 use Rattle.history_model.specs.declared.refusal.Refusal.{Refusal}
 use Rattle.history_model.specs.declared.refusal.Refusal.TheVariants.{NoSession, WrongStep, Other, BadResponse, IsClosed, Stale, SessionsFull, JournalFull, Disk, Memory}
-use Rattle.history_model.specs.Entries.{is_set_aside}
 use Rattle.history_model.specs.Legality.{LegalRun}
 use Rattle.history_model.specs.Places.{place}
 use Rattle.turn_lock.specs.Histories.{StartsWith, places}
@@ -36,12 +35,12 @@ use Rattle.exam_hall.specs.Good.{AreGoodAt}
 use Rattle.exam_hall.specs.Rounds.{EndsRound, EndsGood, Rounds, Assembles}
 use Rattle.exam_hall.specs.declared.committing.Round.{Round}
 use Rattle.exam_hall.specs.declared.committing.Round.TheVariants.{Placed, Again, Failed}
+use Rattle.exam_office.proofs.Flags.{raised_stays}
 use Rattle.exam_hall.proofs.Went.{went_once, went_nowhere, went_through, taken_once, taken_both, starts_through}
 use Rattle.exam_hall.proofs.Passes.{turn_marked, opening_later, opening_office}
 use Rattle.exam_hall.proofs.Calls.{cancel, none_faulty, both_faultless}
-use Rattle.exam_hall.proofs.Moved.{history_append, owns_append, aside_stays, others_moved}
+use Rattle.exam_hall.proofs.Moved.{history_append, owns_append, others_moved}
 use Rattle.exam_hall.proofs.Owned.{both_good}
-use Rattle.exam_hall.proofs.Commits.{flag_is}
 
 -- ---- one turn of a pass on the hall's office
 module _ (h : HallKnown) (old new : Known NotedMark) (before : List NotedMark) (t : TakesTurn old new before) (is : IsOf old h)
@@ -131,14 +130,18 @@ fails_more b plan K L w S A T Disk n h = record {
 }
 fails_more b plan K L w S A T Memory n h = both_faultless A T n h
 
-aside_through : (F S : List Mark) (s : ℕ) → StartsWith S F → is_set_aside (history F) s ≡ true → is_set_aside (history S) s ≡ true
-aside_through F S s h a = ap (λ l. is_set_aside (history l) s) h.1 ∙ (ap (λ l. is_set_aside l s) (history_append F h.0) ∙ aside_stays (history F) (history h.0) s a)
+-- the flag of a problem of the same step stays raised
+flag_through : (b : Tables) (plan : Plan) (F S : List Mark) (s step : ℕ) (P Q : Model) → StartsWith S F → LegalRun b plan (history S) → IsProblemOf b plan (history F) s step P → IsProblemOf b plan (history S) s step Q → P.aside ≡ true → Q.aside ≡ true
+flag_through b plan F S s step P Q h run one other flag =
+    let is : history S ≡ history F ++ history h.0 = ap history h.1 ∙ history_append F h.0 in
+    raised_stays b plan (history F) (history h.0) s step P Q (subst (λ l. LegalRun b plan l) is run) one (subst (λ l. IsProblemOf b plan l s step Q) is other) flag
 
-no_third : (F S U : List Mark) (s : ℕ) (p a b : Bool) → StartsWith S F → StartsWith U S → is_set_aside (history F) s ≡ p → is_set_aside (history S) s ≡ a → is_set_aside (history U) s ≡ b → a ≢ p → b ≢ a → ⊥
-no_third F S U s p a b fs su pe ae be n m = ⊎_elim
-    (λ t. m (sym be ∙ (aside_through S U s su (ae ∙ t) ∙ sym t)))
+-- so it changes once
+no_third : (p a b : Bool) → (p ≡ true → a ≡ true) → (a ≡ true → b ≡ true) → a ≢ p → b ≢ a → ⊥
+no_third p a b one two n m = ⊎_elim
+    (λ t. m (two t ∙ sym t))
     (λ f. ⊎_elim
-    (λ t. true≢false (sym (aside_through F S s fs (pe ∙ t)) ∙ (ae ∙ f)))
+    (λ t. true≢false (sym (one t) ∙ f))
     (λ g. n (f ∙ sym g))
     (cases_Bool p))
     (cases_Bool a)
@@ -243,10 +246,16 @@ module _ (h : HallKnown) (P : Problem) (old : Known Mark) (asked : IsAsked h.ban
     never_thrice R q =
         let same = r.ends.session in
         let also = q.ends.session ∙ same in
-        no_third old.seen mid.seen new.seen P.session P.aside Q.aside R.aside r.went.seen q.went.seen
-        (sym (flag_is h.bank h.plan (history old.seen) P asked.is_problem))
-        (subst (λ s. is_set_aside (history mid.seen) s ≡ Q.aside) same (sym (flag_is h.bank h.plan (history mid.seen) Q r.ends.asked.is_problem)))
-        (subst (λ s. is_set_aside (history new.seen) s ≡ R.aside) also (sym (flag_is h.bank h.plan (history new.seen) R q.ends.asked.is_problem)))
+        let one = asked.is_problem in
+        let two : IsProblemOf h.bank h.plan (history mid.seen) P.session P.step (problem_of Q) =
+        subst (λ s. IsProblemOf h.bank h.plan (history mid.seen) s P.step (problem_of Q)) same
+        (subst (λ k. IsProblemOf h.bank h.plan (history mid.seen) Q.session k (problem_of Q)) r.ends.step r.ends.asked.is_problem) in
+        let three : IsProblemOf h.bank h.plan (history new.seen) P.session P.step (problem_of R) =
+        subst (λ s. IsProblemOf h.bank h.plan (history new.seen) s P.step (problem_of R)) also
+        (subst (λ k. IsProblemOf h.bank h.plan (history new.seen) R.session k (problem_of R)) (q.ends.step ∙ r.ends.step) q.ends.asked.is_problem) in
+        no_third P.aside Q.aside R.aside
+        (flag_through h.bank h.plan old.seen mid.seen P.session P.step (problem_of P) (problem_of Q) r.went.seen r.legal one two)
+        (flag_through h.bank h.plan mid.seen new.seen P.session P.step (problem_of Q) (problem_of R) q.went.seen q.legal two three)
         r.ends.aside q.ends.aside
 
 -- ---- an assembly

@@ -1,12 +1,12 @@
 -- From what a call does to an office to what a turn does to its history.
 use Rattle.std.proofs.Common.{◌≡◌, ℕ, Bool, List, ◌++◌, refl, sym, ap, ◌∙◌, subst, arith, Option, Some, IfSome}
-use Rattle.exam_model.specs.Relaxed.{Multipliers}
+use Rattle.certificate_model.specs.Relaxed.{Multipliers}
 use Rattle.exam_office.specs.Warm.{FitsPlan}
 use Rattle.std.proofs.lemmas.List.{map-append}
 use Rattle.bank_tables.specs.Tables.{Tables}
-use Rattle.exam_model.specs.Plan.{Plan}
-use Rattle.exam_model.specs.Problem.{Problem as Model}
-use Rattle.exam_model.specs.Validity.{IsWellMade}
+use Rattle.form_model.specs.Plan.{Plan}
+use Rattle.form_model.specs.Problem.{Problem as Model}
+use Rattle.form_model.specs.Validity.{IsWellMade}
 use Rattle.constraint_model.specs.declared.problem.Problem.{Problem}
 use Rattle.constraint_model.specs.Views.{problem_of}
 use Rattle.history_model.specs.declared.entry.Entry.{Entry}
@@ -25,8 +25,8 @@ use Rattle.exam_office.specs.declared.mark.Mark.{Mark}
 use Rattle.exam_office.specs.Marks.{history}
 use Rattle.exam_office.specs.Noting.{OpenedWith, noted, marks_of, opened_with}
 use Rattle.exam_office.specs.Running.{HandedDisk, Running}
-use Rattle.exam_hall.specs.declared.asking.Begun.{Begun}
-use Rattle.exam_hall.specs.declared.asking.Begun.TheVariants.{Done, Waits}
+use Rattle.exam_hall.specs.declared.asking.FirstAnswer.{FirstAnswer}
+use Rattle.exam_hall.specs.declared.asking.FirstAnswer.TheVariants.{Done, Waits}
 use Rattle.exam_hall.specs.declared.committing.Round.{Round}
 use Rattle.exam_hall.specs.Leading.{Leads, IsLed, IsNoWait, IsBegun, GoesOn, BeginsRequest}
 use Rattle.exam_hall.specs.Rounds.{IsGoodFor, IsCommittable, EndsRound, EndsGood, Commits}
@@ -78,7 +78,7 @@ module _ {D : Type 0} (old new : Running D) (a : Adds old new) where
 same_at : (p r : Place) → Some p ≡ Some r → p ≡ r
 same_at p r e = cc
 
-begun_so : (b : Tables) (plan : Plan) (q : Request) (S T : List Mark) (begun : Begun) (answer : Reply) → Leads b plan q S T answer → IsBegunAt b plan (history S) answer begun → IsBegun b plan q S T begun
+begun_so : (b : Tables) (plan : Plan) (q : Request) (S T : List Mark) (begun : FirstAnswer) (answer : Reply) → Leads b plan q S T answer → IsBegunAt b plan (history S) answer begun → IsBegun b plan q S T begun
 begun_so b plan q S T (Done same) answer leads h = (subst (λ r. Leads b plan q S T r) (sym h.0) leads, subst IsNoWait (sym h.0) h.1)
 begun_so b plan q S T (Waits started P warm) (reply.At session at fresh) leads h =
     let stands : place plan (history S) P.session ≡ Some at = subst (λ s. place plan (history S) s ≡ Some at) (sym h.0) leads.is_at.stands in
@@ -90,7 +90,7 @@ begun_so b plan q S T (Waits started P warm) (reply.At session at fresh) leads h
 begun_so b plan q S T (Waits started P warm) (reply.Exposure exposure) leads h = absurd h
 begun_so b plan q S T (Waits started P warm) (reply.Refused r) leads h = absurd h
 
-pub first_made : {D : Type 0} (old new : Running D) (q : Request) (answer : Reply) (begun : Begun) → Led q old new answer → LegalRun new.bank new.plan (history new.marks)
+pub first_made : {D : Type 0} (old new : Running D) (q : Request) (answer : Reply) (begun : FirstAnswer) → Led q old new answer → LegalRun new.bank new.plan (history new.marks)
     → IsBegunAt new.bank new.plan (history new.marks) answer begun → BeginsRequest q (noted (opened_with old) old.marks) (noted (opened_with new) new.marks) begun
 first_made old new q answer begun led run h =
     let there : IsBegunAt old.bank old.plan (history new.marks) answer begun =

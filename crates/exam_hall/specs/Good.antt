@@ -1,7 +1,7 @@
 -- How good the servings of a call are.
 use Rattle.std.specs.Prelude.{⊤, ℕ, List, take, slice_get, All, IfSome}
 use Rattle.bank_tables.specs.Tables.{Tables}
-use Rattle.exam_model.specs.Plan.{Plan}
+use Rattle.form_model.specs.Plan.{Plan}
 use Rattle.history_model.specs.declared.entry.Entry.{Entry}
 use Rattle.history_model.specs.declared.entry.Entry.TheVariants.{Served}
 use Rattle.history_model.specs.Requests.{IsFirmServing}

@@ -2,8 +2,8 @@
 use Rattle.std.specs.Prelude.{◌≡◌, ◌⊎◌, ⊤, ℕ, Bool, List, ◌++◌, IfSome}
 use Rattle.exam_office.specs.Warm.{FitsPlan}
 use Rattle.bank_tables.specs.Tables.{Tables}
-use Rattle.exam_model.specs.Plan.{Plan}
-use Rattle.exam_model.specs.Validity.{IsWellMade}
+use Rattle.form_model.specs.Plan.{Plan}
+use Rattle.form_model.specs.Validity.{IsWellMade}
 use Rattle.constraint_model.specs.declared.problem.Problem.{Problem}
 use Rattle.constraint_model.specs.Views.{problem_of}
 use Rattle.history_model.specs.declared.entry.Entry.{Entry}
@@ -20,8 +20,8 @@ use Rattle.exam_office.specs.Marks.{history}
 use Rattle.exam_office.specs.Noting.{OpenedWith, NotedMark, noted, marks_of}
 use Rattle.exam_hall.specs.Parts.{owns, AtMostOne, IsFirst, LacksFirst, IsRefusedBy, Fails}
 use Rattle.exam_hall.specs.Sees.{IsAt, IsExposed}
-use Rattle.exam_hall.specs.declared.asking.Begun.{Begun}
-use Rattle.exam_hall.specs.declared.asking.Begun.TheVariants.{Done, Waits}
+use Rattle.exam_hall.specs.declared.asking.FirstAnswer.{FirstAnswer}
+use Rattle.exam_hall.specs.declared.asking.FirstAnswer.TheVariants.{Done, Waits}
 
 -- the problem of a session that waits for an item
 pub record IsAsked (b : Tables) (plan : Plan) (H : List Entry) (P : Problem) : Type 0 where
@@ -51,7 +51,7 @@ IsNoWait (reply.At session at fresh) = (step : ℕ) → at ≡ Pending step → 
 IsNoWait answer = ⊤
 
 -- the request is done, or its session waits for an item, with this problem; a search of it may begin with the vector
-abbrev pub IsBegun : Tables → Plan → Request → List Mark → List Mark → Begun → Type 0
+abbrev pub IsBegun : Tables → Plan → Request → List Mark → List Mark → FirstAnswer → Type 0
 IsBegun b plan q S T (Done answer) = Leads b plan q S T answer × IsNoWait answer
 IsBegun b plan q S T (Waits fresh P warm) = IsLed plan q S T P.session (Pending P.step) fresh × IsAsked b plan (history S) P
     × IfSome warm (FitsPlan b plan)
@@ -67,5 +67,5 @@ pub record GoesOn (before after : List NotedMark) (makes : OpenedWith → List M
   pub made : makes office (marks_of after) added
 
 -- the first turn of a request
-abbrev pub BeginsRequest : Request → List NotedMark → List NotedMark → Begun → Type 0
+abbrev pub BeginsRequest : Request → List NotedMark → List NotedMark → FirstAnswer → Type 0
 BeginsRequest q before after begun = GoesOn before after (λ office S T. IsBegun office.bank office.plan q S T begun)

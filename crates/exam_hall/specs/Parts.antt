@@ -2,7 +2,7 @@
 use Rattle.std.specs.Prelude.{◌≡◌, ◌≢◌, ◌⊎◌, ⊤, ℕ, ◌≤◌, List, [], ◌∷◌, ◌++◌, length, slice_get, All, Contains, Option, Some, None, IsTrue}
 use Rattle.std.specs.List.{filter_map}
 use Rattle.bank_tables.specs.Tables.{Tables}
-use Rattle.exam_model.specs.Plan.{Plan}
+use Rattle.form_model.specs.Plan.{Plan}
 use Rattle.history_model.specs.declared.entry.Entry.{Entry}
 use Rattle.history_model.specs.declared.entry.Entry.TheVariants.{SetAside, Served, Answered, Closed}
 use Rattle.history_model.specs.declared.place.Place.TheVariants.{Pending}
@@ -46,7 +46,7 @@ IsFirst Exposure e = ⊥
 
 -- eligibility is set aside for the session; an item is served in it; an item is answered
 abbrev pub IsAside : ℕ → Entry → Type 0
-IsAside s (SetAside session cause nodes) = session ≡ s
+IsAside s (SetAside session step band cause nodes) = session ≡ s
 IsAside s e = ⊥
 
 abbrev pub IsServing : ℕ → Entry → Type 0

@@ -2,7 +2,7 @@
 use Rattle.std.specs.Prelude.{◌≡◌, ◌≢◌, ◌⊎◌, ℕ, ◌-◌, ◌≤◌, List, [], ◌++◌, length, Contains, Result, Ok, Err, Some}
 use Rattle.bank_tables.specs.Items.{has}
 use Rattle.bank_tables.specs.Tables.{Tables}
-use Rattle.exam_model.specs.Plan.{Plan}
+use Rattle.form_model.specs.Plan.{Plan}
 use Rattle.turn_lock.specs.Histories.{places}
 use Rattle.turn_lock.specs.Passes.{Known}
 use Rattle.constraint_model.specs.declared.problem.Problem.{Problem}

@@ -2,7 +2,7 @@
 use Rattle.std.specs.Prelude.{◌≡◌, ⊤, ℕ, ◌≤◌, List, [], ◌∷◌, ◌++◌, length, Some, IfSome}
 use Rattle.exam_office.specs.Warm.{FitsPlan}
 use Rattle.bank_tables.specs.Tables.{Tables}
-use Rattle.exam_model.specs.Plan.{Plan}
+use Rattle.form_model.specs.Plan.{Plan}
 use Rattle.exam_edge.specs.Lent.{IsLent}
 use Rattle.answer_journal.specs.Journal.{tells_of, faults_of, identity_of}
 use Rattle.constraint_model.specs.declared.problem.Problem.{Problem}
@@ -25,8 +25,8 @@ use Rattle.exam_hall.specs.Leading.{Leads, IsAsked, IsNoWait, IsBegun}
 use Rattle.exam_hall.specs.Rounds.{EndsRound, EndsGood}
 use Rattle.exam_hall.specs.declared.committing.Round.{Round}
 use Rattle.exam_hall.specs.declared.committing.Round.TheVariants.{Placed, Again, Failed}
-use Rattle.exam_hall.specs.declared.asking.Begun.{Begun}
-use Rattle.exam_hall.specs.declared.asking.Begun.TheVariants.{Done, Waits}
+use Rattle.exam_hall.specs.declared.asking.FirstAnswer.{FirstAnswer}
+use Rattle.exam_hall.specs.declared.asking.FirstAnswer.TheVariants.{Done, Waits}
 
 -- the office is the same, with at most two marks more
 pub record Adds {D : Type 0} (old new : Running D) : Type 0 where
@@ -47,7 +47,7 @@ IsPlacedReply plan H (reply.At session at fresh) = place plan H session ≡ Some
 IsPlacedReply plan H answer = ⊤
 
 -- the problem of the session of the reply, where it waits for an item, and a vector for its search
-abbrev pub IsBegunAt : Tables → Plan → List Entry → Reply → Begun → Type 0
+abbrev pub IsBegunAt : Tables → Plan → List Entry → Reply → FirstAnswer → Type 0
 IsBegunAt b plan H answer (Done same) = (same ≡ answer) × IsNoWait answer
 IsBegunAt b plan H (reply.At session at fresh) (Waits started P warm) = (P.session ≡ session) × (started ≡ fresh) × IsAsked b plan H P
     × IfSome warm (FitsPlan b plan)
@@ -66,7 +66,7 @@ pub record Ended {D : Type 0} (P : Problem) (old new : Running D) (round : Round
   pub good : EndsGood old.bank old.plan old.base new.marks adds.added
 
 -- what the first turn of a request does to a pass
-pub record HasBegun (h : HallKnown) (old new : Known Mark) (q : Request) (begun : Begun) : Type 0 where
+pub record HasBegun (h : HallKnown) (old new : Known Mark) (q : Request) (begun : FirstAnswer) : Type 0 where
   pub places : List ℕ
   pub went : Went old new (length new.seen ∷ []) places
   pub legal : LegalRun h.bank h.plan (history new.seen)

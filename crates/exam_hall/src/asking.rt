@@ -15,9 +15,9 @@ use proof_tree::Vector;
 use std::alloc::Global;
 use turn_lock::Move as TurnMove;
 
-/// What the first turn of a request did.
+/// What the first turn of a request answers.
 #[derive(Drop)]
-pub enum Begun<'a> {
+pub enum FirstAnswer<'a> {
     /// The request is done, with this reply.
     Done(Reply),
     /// Its session waits for an item, with this problem; whether the request started the session;
@@ -134,7 +134,7 @@ fn vector_for<'a, D: Disk>(office: &Office<'a, D>, alloc: Global, session: u32) 
 }
 
 /// The problem of the session of a reply, where it waits for an item, and the vector of the session.
-fn begun_by<'a, D: Disk>(office: &Office<'a, D>, alloc: Global, reply: Reply) -> Begun<'a>
+fn begun_by<'a, D: Disk>(office: &Office<'a, D>, alloc: Global, reply: Reply) -> FirstAnswer<'a>
     requires { IsPlacedReply office.now.plan (history office.now.marks) reply }
     ensures { IsBegunAt office.now.bank office.now.plan
         (history office.now.marks) reply result }
@@ -147,30 +147,30 @@ fn begun_by<'a, D: Disk>(office: &Office<'a, D>, alloc: Global, reply: Reply) ->
         } => match office.problem(session) {
             Some(problem) => {
                 let warm = vector_for(office, alloc, session);
-                Begun::Waits {
+                FirstAnswer::Waits {
                     fresh,
                     problem,
                     warm,
                 }
             }
-            None => Begun::Done(Reply::At {
+            None => FirstAnswer::Done(Reply::At {
                 session,
                 place,
                 fresh,
             }),
         },
-        other => Begun::Done(other),
+        other => FirstAnswer::Done(other),
     }
 }
 
 impl<'a, D: Disk> TurnMove<Office<'a, D>> for First {
-    type Answer = Begun<'a>;
+    type Answer = FirstAnswer<'a>;
 
     ghost needs = { λ _ _. Unit {0} };
 
     ghost makes = { λ m before after _ begun. BeginsRequest m.request before after begun };
 
-    fn make(&mut self, value: &mut Office<'a, D>) -> Begun<'a> {
+    fn make(&mut self, value: &mut Office<'a, D>) -> FirstAnswer<'a> {
         let reply = lead(value, self.alloc, &self.request);
         value.keeps();
         begun_by(value, self.alloc, reply)

@@ -5,7 +5,8 @@ ghost use Rattle.exam_hall.specs.Known.{IsOf};
 
 use crate::hall::Hall;
 use exam_edge::{Disk, Gate};
-use exam_office::{Handler, Office, Reply, Request};
+use exam_handler::Handler;
+use exam_office::{Office, Reply, Request};
 use std::alloc::Global;
 use std::marker::Model;
 use std::sync::Wait;

@@ -2,8 +2,8 @@
 
 ghost use Rattle.std.specs.Prelude.{◌≡◌, ◌<◌, ◌+◌, List, IfOk, IfErr, IfSome};
 ghost use Rattle.std.specs.Option.{option_copied};
-ghost use Rattle.exam_model.specs.Validity.{IsWellMade};
-ghost use Rattle.exam_model.specs.Verdicts.{NamesOnlySides};
+ghost use Rattle.form_model.specs.Validity.{IsWellMade};
+ghost use Rattle.certificate_model.specs.Verdicts.{NamesOnlySides};
 ghost use Rattle.constraint_model.specs.Views.{problem_of};
 ghost use Rattle.turn_lock.specs.Histories.{StartsWith};
 ghost use Rattle.turn_lock.specs.Passes.{TakesIn, new_pass};
@@ -11,7 +11,7 @@ ghost use Rattle.history_model.specs.declared.entry.Entry.{Entry};
 ghost use Rattle.history_model.specs.Legality.{LegalRun};
 ghost use Rattle.history_model.specs.SessionProblems.{IsProblemOf};
 ghost use Rattle.exam_office.specs.Commits.{MayBeCommitted};
-ghost use Rattle.exam_office.specs.Handling.{IsReply};
+ghost use Rattle.exam_handler.specs.Handling.{IsReply};
 ghost use Rattle.exam_office.specs.Marks.{history};
 ghost use Rattle.exam_office.specs.Noting.{noted, marks_of, opened_with};
 ghost use Rattle.exam_office.specs.Serving.{IsAssembledFor};
@@ -22,7 +22,7 @@ ghost use Rattle.exam_hall.specs.Rounds.{IsGoodFor, Rounds, Assembles};
 ghost use Rattle.exam_hall.specs.Sees.{Sees};
 ghost use Rattle.exam_hall.specs.Turns.{HasBegun};
 
-use crate::asking::{Begun, First};
+use crate::asking::{First, FirstAnswer};
 use crate::committing::{Commit, Round};
 use bank_tables::{Bank, ItemSet};
 use branch_bound::{Assembled, assemble_from};
@@ -46,7 +46,7 @@ pub struct Hall<'a, D: Disk> {
 
 impl<'a, D: Disk> Model for Hall<'a, D> {
     ghost use Rattle.bank_tables.specs.Items.{has};
-    ghost use Rattle.exam_model.specs.Forms.{Meets};
+    ghost use Rattle.form_model.specs.Forms.{Meets};
     ghost use Rattle.exam_hall.specs.Known.{HallKnown};
 
     ghost Value = { HallKnown };
@@ -150,8 +150,8 @@ impl<'a, D: Disk> Hall<'a, D> {
         ensures reply { IsReply result }
     {
         match self.begin(rt, alloc, pass, request) {
-            Begun::Done(reply) => reply,
-            Begun::Waits {
+            FirstAnswer::Done(reply) => reply,
+            FirstAnswer::Waits {
                 fresh,
                 problem,
                 warm,
@@ -176,7 +176,7 @@ impl<'a, D: Disk> Hall<'a, D> {
         alloc: Global,
         pass: &mut Pass<Office<'a, D>>,
         request: &Request,
-    ) -> Begun<'a>
+    ) -> FirstAnswer<'a>
         requires of { IsOf pass.old self.now }
         ensures of { IsOf pass.new self.now }
         ensures begun { HasBegun self.now (marked pass.old) (marked pass.new) request.now result }

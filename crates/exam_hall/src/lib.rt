@@ -10,7 +10,7 @@ mod caller;
 mod committing;
 mod hall;
 
-pub use crate::asking::Begun;
+pub use crate::asking::FirstAnswer;
 pub use crate::caller::Caller;
 pub use crate::committing::Round;
 pub use crate::hall::Hall;

@@ -2,4 +2,4 @@ pub mod Bodies
 pub mod Names
 pub mod RoutePaths
 pub mod ServingLaws
-pub mod Turns
+pub mod AfterMessages

@@ -11,6 +11,7 @@ use Rattle.history_model.specs.declared.refusal.Refusal.{Refusal}
 use Rattle.history_model.specs.declared.refusal.Refusal.TheVariants as refusal
 use Rattle.history_model.specs.declared.request.Reply.{Reply}
 use Rattle.history_model.specs.declared.request.Reply.TheVariants.{At, Exposure, Refused}
+use Rattle.history_model.specs.Words.{refusal_word}
 use Rattle.wire_http.specs.declared.message.WireFault.{WireFault}
 use Rattle.wire_http.specs.declared.message.WireFault.TheVariants as wire
 use Rattle.exam_http.specs.declared.message_fault.MessageFault.{MessageFault}
@@ -67,16 +68,23 @@ end_word place.Complete = codes "complete"
 end_word place.Closed = codes "closed"
 
 abbrev pub refusal_body : Refusal → Data
-refusal_body (refusal.NoSession sessions) = error_body_with (codes "no-session") (whole_number sessions)
-refusal_body (refusal.WrongStep step) = error_body_with (codes "wrong-step") (whole_number step)
-refusal_body (refusal.Other response) = error_body_with (codes "other") (whole_number response)
-refusal_body (refusal.BadResponse categories) = error_body_with (codes "bad-response") (whole_number categories)
-refusal_body (refusal.IsClosed place) = error_body_with (codes "is-closed") (string (end_word place))
-refusal_body (refusal.Stale place aside) = error_body (codes "stale")
-refusal_body (refusal.SessionsFull sessions) = error_body_with (codes "sessions-full") (whole_number sessions)
-refusal_body (refusal.JournalFull length) = error_body_with (codes "journal-full") (whole_number length)
-refusal_body refusal.Disk = error_body (codes "disk")
-refusal_body refusal.Memory = error_body (codes "memory")
+refusal_body (refusal.NoSession sessions) =
+    error_body_with (refusal_word (refusal.NoSession sessions)) (whole_number sessions)
+refusal_body (refusal.WrongStep step) =
+    error_body_with (refusal_word (refusal.WrongStep step)) (whole_number step)
+refusal_body (refusal.Other response) =
+    error_body_with (refusal_word (refusal.Other response)) (whole_number response)
+refusal_body (refusal.BadResponse categories) =
+    error_body_with (refusal_word (refusal.BadResponse categories)) (whole_number categories)
+refusal_body (refusal.IsClosed place) =
+    error_body_with (refusal_word (refusal.IsClosed place)) (string (end_word place))
+refusal_body (refusal.Stale place aside) = error_body (refusal_word (refusal.Stale place aside))
+refusal_body (refusal.SessionsFull sessions) =
+    error_body_with (refusal_word (refusal.SessionsFull sessions)) (whole_number sessions)
+refusal_body (refusal.JournalFull length) =
+    error_body_with (refusal_word (refusal.JournalFull length)) (whole_number length)
+refusal_body refusal.Disk = error_body (refusal_word refusal.Disk)
+refusal_body refusal.Memory = error_body (refusal_word refusal.Memory)
 
 unfoldable pub reply_body : Reply → Data
 reply_body (At session place fresh) = place_body session place

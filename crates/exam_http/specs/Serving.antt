@@ -7,8 +7,8 @@ use Rattle.wire_http.specs.declared.message.WireFault.{WireFault}
 use Rattle.wire_http.specs.Messages.{IsMessage, IsFault}
 use Rattle.exam_http.specs.declared.ended.Ended.{Ended}
 use Rattle.exam_http.specs.declared.ended.Ended.TheVariants.{Done, BadInput, Link, Memory}
-use Rattle.exam_http.specs.declared.ended.Turn.{Turn}
-use Rattle.exam_http.specs.declared.ended.Turn.TheVariants.{Answered, Over}
+use Rattle.exam_http.specs.declared.ended.AfterMessage.{AfterMessage}
+use Rattle.exam_http.specs.declared.ended.AfterMessage.TheVariants.{Answered, Over}
 use Rattle.exam_http.specs.declared.message_fault.MessageFault.{MessageFault}
 use Rattle.exam_http.specs.Asks.{Asks}
 use Rattle.exam_http.specs.Replies.{reply_text, message_fault_text, wire_fault_text}
@@ -18,7 +18,7 @@ abbrev pub Begins : List ℕ → List ℕ → Type 0
 Begins text whole = (rest : List ℕ) × (whole ≡ text ++ rest)
 
 -- what became of a fault
-abbrev pub Refuses : WireFault → List ℕ → Turn → Type 0
+abbrev pub Refuses : WireFault → List ℕ → AfterMessage → Type 0
 Refuses fault text Answered = ⊥
 Refuses fault text (Over Done) = ⊥
 Refuses fault text (Over (BadInput found)) = (found ≡ fault) × (text ≡ wire_fault_text fault)
@@ -106,15 +106,15 @@ module _ {H : Type 0} (does : H → Request → Reply → H → Type 0) where
           → LeadsTo start new
       then_idle : (old new : H) → LeadsTo start old → idles old new → LeadsTo start new
 
-    -- ---- one turn of the loop
+    -- ---- one message of the loop
 
     -- what became of the message that the bytes begin with
-    abbrev pub Turns : H → List ℕ → List ℕ → List ℕ → H → Turn → Type 0
-    Turns old bytes text left new Answered = IsAnswered false old bytes text left new
-    Turns old bytes text left new (Over ended) = Ends old bytes text new ended
+    abbrev pub IsAfter : H → List ℕ → List ℕ → List ℕ → H → AfterMessage → Type 0
+    IsAfter old bytes text left new Answered = IsAnswered false old bytes text left new
+    IsAfter old bytes text left new (Over ended) = Ends old bytes text new ended
 
     -- what became of a message
-    abbrev pub Becomes : H → Message → List ℕ → H → Turn → Type 0
+    abbrev pub Becomes : H → Message → List ℕ → H → AfterMessage → Type 0
     Becomes old m text new Answered = (m.close ≡ false) × IsAnswer old m text new
     Becomes old m text new (Over Done) = (m.close ≡ true) × IsAnswer old m text new
     Becomes old m text new (Over (BadInput fault)) = ⊥

@@ -5,7 +5,7 @@ ghost use Rattle.serde_json.specs.View.{view};
 ghost use Rattle.history_model.specs.declared.place.Place.TheVariants as place;
 ghost use Rattle.exam_http.specs.Replies.{whole_number, error_body, error_body_with, state_body, place_body, counts_body, exposure_body, end_word, refusal_body, reply_body};
 
-use history_model::{Counts, Exposure, Place, Refusal, Reply};
+use history_model::{Counts, Exposure, Place, Refusal, Reply, refusal_word};
 use serde_json::{Value, json};
 use std::alloc::{AllocError, Global};
 
@@ -106,21 +106,18 @@ fn end_word(place: Place) -> &'static str
 fn refusal_value(alloc: Global, refusal: Refusal) -> Result<Value, AllocError>
     ensures { IfOk result (λ v. view v ≡ refusal_body refusal) }
 {
+    let word = refusal_word(refusal);
     match refusal {
-        Refusal::NoSession(sessions) => error_with_number(alloc, "no-session", u64::from(sessions)),
-        Refusal::WrongStep(step) => error_with_number(alloc, "wrong-step", u64::from(step)),
-        Refusal::Other(response) => error_with_number(alloc, "other", u64::from(response)),
-        Refusal::BadResponse(categories) => {
-            error_with_number(alloc, "bad-response", u64::from(categories))
-        }
-        Refusal::IsClosed(place) => error_with_word(alloc, "is-closed", end_word(place)),
-        Refusal::Stale(_, _) => error_value(alloc, "stale"),
-        Refusal::SessionsFull(sessions) => {
-            error_with_number(alloc, "sessions-full", u64::from(sessions))
-        }
-        Refusal::JournalFull(length) => error_with_number(alloc, "journal-full", length),
-        Refusal::Disk => error_value(alloc, "disk"),
-        Refusal::Memory => error_value(alloc, "memory"),
+        Refusal::NoSession(sessions) => error_with_number(alloc, word, u64::from(sessions)),
+        Refusal::WrongStep(step) => error_with_number(alloc, word, u64::from(step)),
+        Refusal::Other(response) => error_with_number(alloc, word, u64::from(response)),
+        Refusal::BadResponse(categories) => error_with_number(alloc, word, u64::from(categories)),
+        Refusal::IsClosed(place) => error_with_word(alloc, word, end_word(place)),
+        Refusal::Stale(_, _) => error_value(alloc, word),
+        Refusal::SessionsFull(sessions) => error_with_number(alloc, word, u64::from(sessions)),
+        Refusal::JournalFull(length) => error_with_number(alloc, word, length),
+        Refusal::Disk => error_value(alloc, word),
+        Refusal::Memory => error_value(alloc, word),
     }
 }
 

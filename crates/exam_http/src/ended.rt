@@ -15,9 +15,9 @@ pub enum Ended {
     Memory,
 }
 
-/// What became of one message.
+/// What is after one message.
 #[derive(Clone, Copy, Debug, PartialEq, Eq)]
-pub enum Turn {
+pub enum AfterMessage {
     /// It was answered, and the connection goes on.
     Answered,
     /// The connection has ended.

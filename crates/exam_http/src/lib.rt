@@ -14,7 +14,7 @@ mod status;
 mod texts;
 
 pub use ended::Ended;
-pub use exam_office::Handler;
+pub use exam_handler::Handler;
 pub use message_fault::MessageFault;
 pub use route::Route;
 pub use serve::serve_connection;

@@ -3,11 +3,11 @@ ghost use Rattle.std.specs.Prelude.{◌≡◌, ◌≢◌, ◌++◌, ◌⊎◌, L
 ghost use Rattle.exam_edge.specs.Faults.{Rose};
 ghost use Rattle.exam_edge.specs.Lent.{IsLent, FailsOnly};
 ghost use Rattle.wire_http.specs.Messages.{bytes_of};
-ghost use Rattle.exam_http.specs.Serving.{Begins, IsResponse, Becomes, Refuses, Turns, IsServed, LeadsTo};
+ghost use Rattle.exam_http.specs.Serving.{Begins, IsResponse, Becomes, Refuses, IsAfter, IsServed, LeadsTo};
 ghost use Rattle.exam_http.specs.Table.{table};
 
 use crate::asking::request_of;
-use crate::ended::Turn;
+use crate::ended::AfterMessage;
 use crate::route::{RouteKind, router};
 use crate::texts::{message_fault_text, reply_text, wire_fault_text};
 use crate::{Ended, Handler};
@@ -72,26 +72,27 @@ fn answer<R: Wait + Sync, H: Handler, K: Link>(
     handler: &mut H,
     link: &mut K,
     message: &Message,
-) -> Turn
+) -> AfterMessage
     requires { router.now ≡ table }
     ensures leads { LeadsTo H.does H.idles handler.old handler.new }
     ensures becomes { IsTrue (K.tells link.old) → (text : List ℕ)
         × (K.written link.new ≡ K.written link.old ++ text)
         × Becomes H.does H.idles handler.old message.now text handler.new result }
     ensures left { IsTrue (K.tells link.old) → K.left link.new ≡ K.left link.old }
-    ensures failed { result ≡ Turn.Over Ended.Link → Rose (K.faults link.old) (K.faults link.new) }
+    ensures failed { result ≡ AfterMessage.Over Ended.Link
+        → Rose (K.faults link.old) (K.faults link.new) }
     ensures frame { IsLent K.tells K.identity K.faults link.old link.new }
 {
     match respond(rt, alloc, router, handler, message) {
-        Err(_) => Turn::Over(Ended::Memory),
+        Err(_) => AfterMessage::Over(Ended::Memory),
         Ok(text) => match write_all(link, &text) {
-            Err(Failed) => Turn::Over(Ended::Link),
+            Err(Failed) => AfterMessage::Over(Ended::Link),
             Ok(()) => {
                 handler.idle(rt, alloc);
                 if message.close {
-                    Turn::Over(Ended::Done)
+                    AfterMessage::Over(Ended::Done)
                 } else {
-                    Turn::Answered
+                    AfterMessage::Answered
                 }
             }
         },
@@ -99,24 +100,25 @@ fn answer<R: Wait + Sync, H: Handler, K: Link>(
 }
 
 // Writes the response of a fault.
-fn refuse<K: Link>(alloc: Global, link: &mut K, fault: WireFault) -> Turn
+fn refuse<K: Link>(alloc: Global, link: &mut K, fault: WireFault) -> AfterMessage
     ensures refuses { IsTrue (K.tells link.old) → (text : List ℕ)
         × (K.written link.new ≡ K.written link.old ++ text) × Refuses fault text result }
     ensures left { IsTrue (K.tells link.old) → K.left link.new ≡ K.left link.old }
-    ensures over { result ≢ Turn.Answered }
-    ensures failed { result ≡ Turn.Over Ended.Link → Rose (K.faults link.old) (K.faults link.new) }
+    ensures over { result ≢ AfterMessage.Answered }
+    ensures failed { result ≡ AfterMessage.Over Ended.Link
+        → Rose (K.faults link.old) (K.faults link.new) }
     ensures frame { IsLent K.tells K.identity K.faults link.old link.new }
 {
     match wire_fault_text(alloc, fault) {
-        Err(_) => Turn::Over(Ended::Memory),
+        Err(_) => AfterMessage::Over(Ended::Memory),
         Ok(text) => match write_all(link, &text) {
-            Err(Failed) => Turn::Over(Ended::Link),
-            Ok(()) => Turn::Over(Ended::BadInput(fault)),
+            Err(Failed) => AfterMessage::Over(Ended::Link),
+            Ok(()) => AfterMessage::Over(Ended::BadInput(fault)),
         },
     }
 }
 
-#[tactic(auto, using(crate::proofs::Turns::nothing_leads))]
+#[tactic(auto, using(crate::proofs::AfterMessages::nothing_leads))]
 // Reads one message and answers it.
 fn serve_message<R: Wait + Sync, H: Handler, K: Link>(
     rt: &R,
@@ -125,21 +127,22 @@ fn serve_message<R: Wait + Sync, H: Handler, K: Link>(
     handler: &mut H,
     link: &mut K,
     kept: &mut Kept,
-) -> Turn
+) -> AfterMessage
     requires { router.now ≡ table }
     ensures leads { LeadsTo H.does H.idles handler.old handler.new }
-    ensures turns { IsTrue (K.tells link.old) → (text : List ℕ)
+    ensures after { IsTrue (K.tells link.old) → (text : List ℕ)
         × (K.written link.new ≡ K.written link.old ++ text)
-        × Turns H.does H.idles handler.old (bytes_of kept.old ++ K.left link.old) text
+        × IsAfter H.does H.idles handler.old (bytes_of kept.old ++ K.left link.old) text
         (bytes_of kept.new ++ K.left link.new) handler.new result }
-    ensures failed { result ≡ Turn.Over Ended.Link → Rose (K.faults link.old) (K.faults link.new) }
+    ensures failed { result ≡ AfterMessage.Over Ended.Link
+        → Rose (K.faults link.old) (K.faults link.new) }
     ensures frame { IsLent K.tells K.identity K.faults link.old link.new }
 {
     match read_request(alloc, link, kept) {
         Ok(Some(message)) => answer(rt, alloc, router, handler, link, &message),
-        Ok(None) => Turn::Over(Ended::Done),
-        Err(WireFault::Link) => Turn::Over(Ended::Link),
-        Err(WireFault::Memory) => Turn::Over(Ended::Memory),
+        Ok(None) => AfterMessage::Over(Ended::Done),
+        Err(WireFault::Link) => AfterMessage::Over(Ended::Link),
+        Err(WireFault::Memory) => AfterMessage::Over(Ended::Memory),
         Err(fault) => refuse(alloc, link, fault),
     }
 }
@@ -164,8 +167,8 @@ fn serve_all<R: Wait + Sync, H: Handler, K: Link>(
 {
     'messages: for _ in rt.forever() {
         match serve_message(rt, alloc, router, handler, link, kept) {
-            Turn::Answered => {}
-            Turn::Over(ended) => return ended,
+            AfterMessage::Answered => {}
+            AfterMessage::Over(ended) => return ended,
         }
     }
     unreachable!()

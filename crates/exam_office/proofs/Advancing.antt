@@ -7,18 +7,20 @@ use Rattle.std.proofs.lemmas.Bool.{eq-eqb}
 use Rattle.std.proofs.lemmas.List.Folds.{find-append}
 use Rattle.std.proofs.Math.Bool.{true≢false}
 use Rattle.bank_tables.specs.Tables.{Tables}
-use Rattle.exam_model.specs.Plan.{Plan}
+use Rattle.form_model.specs.Plan.{Plan}
+use Rattle.form_model.specs.Validity.{IsPlanFor}
 use Rattle.history_model.specs.declared.entry.Entry.{Entry}
 use Rattle.history_model.specs.declared.entry.Entry.TheVariants.{SetAside, Served, Closed as OfClosed}
 use Rattle.history_model.specs.declared.place.Place.{Place}
 use Rattle.history_model.specs.declared.place.Place.TheVariants.{Pending, Waiting, Complete, Closed}
 use Rattle.history_model.specs.declared.refusal.Refusal.{Refusal}
-use Rattle.history_model.specs.Entries.{Serving, StepAnswer, is_started, is_closed, is_set_aside, servings, step_answers}
+use Rattle.history_model.specs.Entries.{Serving, StepAnswer, is_started, is_closed, servings, step_answers}
 use Rattle.history_model.specs.Legality.{Legal}
 use Rattle.history_model.specs.Places.{place, place_at}
 use Rattle.history_model.specs.Requests.{IsFirmServing, IsSettingAside, Serves, at_once, AdvancesFrom, Advances}
 use Rattle.history_model.specs.Requests.{after_setting_aside as then_served}
-use Rattle.history_model.proofs.Pushed.{list_end, or_end, started-push, closed-push, aside-push, answers-push, servings-push}
+use Rattle.history_model.specs.SessionProblems.{IsProblemOf}
+use Rattle.history_model.proofs.Pushed.{list_end, or_end, started-push, closed-push, answers-push, servings-push}
 use Rattle.history_model.proofs.Standing.{pending, there}
 use Rattle.answer_journal.specs.Journal.{faults_of}
 use Rattle.exam_office.specs.Asking.{IsGood, AreGood, no_more, one_more, IsStoppedBy, IsDurable, Steps, IsSettled}
@@ -27,6 +29,7 @@ use Rattle.exam_office.specs.Marks.{history}
 use Rattle.exam_office.specs.Running.{Running}
 use Rattle.exam_office.specs.Serving.{IsTry, IsTriedAlong, untried, with_try, IsTried, tried, stopped, IsBeforeItem, waits, set_aside, ServesNext, aside, item, IsServedAlong, not_served, with_next, IsServed, served, unserved}
 use Rattle.exam_office.specs.Writing.{IsSameOffice}
+use Rattle.exam_office.proofs.Flags.{aside_then}
 use Rattle.exam_office.proofs.Surely.{moved, stopped_weaker, steps_weaker, steps_joined, stayed_steps}
 
 -- ---- where a session is after an entry of its own
@@ -40,7 +43,7 @@ standing plan t c A S = cond (not t) None (cond c (Some Closed) (cond (nat_le pl
 -- setting aside leaves the session where it is
 stays_pending : (b : Tables) (plan : Plan) (H : List Entry) (s : ℕ) (e : Entry) → IsSettingAside b plan H s e → place plan (H ++ e ∷ []) s ≡ place plan H s
 stays_pending b plan H s e setting =
-    let x : Entry = SetAside s setting.cause setting.nodes in
+    let x : Entry = SetAside s setting.step setting.band setting.cause setting.nodes in
     let K = H ++ x ∷ [] in
     let t : is_started K s ≡ is_started H s = started-push H x s ∙ or_end (is_started H s) in
     let c : is_closed K s ≡ is_closed H s = closed-push H x s ∙ or_end (is_closed H s) in
@@ -53,15 +56,15 @@ stays_pending b plan H s e setting =
     ∙ ap (λ (u : List Serving). standing plan (is_started H s) (is_closed H s) (step_answers H s) u) S)) in
     ap (λ (y : Entry). place plan (H ++ y ∷ []) s) setting.is ∙ same
 
--- it is set aside once
-not_twice : (b : Tables) (plan : Plan) (H : List Entry) (s : ℕ) (e f : Entry) → IsSettingAside b plan H s e → IsSettingAside b plan (H ++ e ∷ []) s f → ⊥
-not_twice b plan H s e f setting again =
-    let x : Entry = SetAside s setting.cause setting.nodes in
-    let self : (s == s) ≡ true = eq-eqb s s refl in
-    let flag : is_set_aside (H ++ x ∷ []) s ≡ true = aside-push H x s ∙ (ap (λ (t : Bool). is_set_aside H s || (t || false)) self ∙ or_on (is_set_aside H s)) in
-    let here : is_set_aside (H ++ e ∷ []) s ≡ true = ap (λ (y : Entry). is_set_aside (H ++ y ∷ []) s) setting.is ∙ flag in
-    let legal : Legal b plan (H ++ e ∷ []) (SetAside s again.cause again.nodes) = subst (λ (y : Entry). Legal b plan (H ++ e ∷ []) y) again.is again.legal in
-    true≢false (sym here ∙ legal.not_aside)
+-- it is set aside once in the band of an estimate
+not_twice : (b : Tables) (plan : Plan) → IsPlanFor b plan → (H : List Entry) (s : ℕ) (e f : Entry) → IsSettingAside b plan H s e → IsSettingAside b plan (H ++ e ∷ []) s f → ⊥
+not_twice b plan fits H s e f setting again =
+    let legal : Legal b plan H (SetAside s setting.step setting.band setting.cause setting.nodes) = subst (λ (y : Entry). Legal b plan H y) setting.is setting.legal in
+    let legal1 : Legal b plan (H ++ e ∷ []) (SetAside s again.step again.band again.cause again.nodes) = subst (λ (y : Entry). Legal b plan (H ++ e ∷ []) y) again.is again.legal in
+    let Q = legal1.problem in
+    let then : IsProblemOf b plan (H ++ SetAside s setting.step setting.band setting.cause setting.nodes ∷ []) s again.step Q =
+    subst (λ (y : Entry). IsProblemOf b plan (H ++ y ∷ []) s again.step Q) setting.is legal1.is_problem in
+    true≢false (sym (aside_then b plan fits H s setting.step setting.band setting.nodes setting.cause legal again.step Q then) ∙ legal1.not_aside)
 
 -- a session that was served doesn't wait for an item
 not_pending : (b : Tables) (plan : Plan) (H : List Entry) (s k : ℕ) (e : Entry) → IsFirmServing b plan H s e → place plan (H ++ e ∷ []) s ≡ Some (Pending k) → ⊥
@@ -124,13 +127,13 @@ module _ (b : Tables) (plan : Plan) (base : List ℕ) (H : List Entry) (s : ℕ)
   first_along G (with_try e try good) = with_next H e (first_next e try) (good_one e good)
 
   -- and of a second one
-  module _ (a : Entry) (setting : IsSettingAside b plan H s a) (good_a : IsGood b plan base H a) where
+  module _ (fits : IsPlanFor b plan) (a : Entry) (setting : IsSettingAside b plan H s a) (good_a : IsGood b plan base H a) where
     good_two : (e : Entry) → IsGood b plan base (H ++ a ∷ []) e → AreGood b plan base H ((H ++ a ∷ []) ++ e ∷ [])
     good_two e good = one_more (H ++ a ∷ []) e (good_one a good_a) good
 
     second_next : (e : Entry) → IsTry b plan (H ++ a ∷ []) s e → ServesNext b plan H s (H ++ a ∷ []) e
     second_next e (inl firm) = item (H ++ a ∷ []) e (set_aside a setting) firm
-    second_next e (inr again) = absurd (not_twice b plan H s a e setting again)
+    second_next e (inr again) = absurd (not_twice b plan fits H s a e setting again)
 
     second_along : (G : List Entry) → IsTriedAlong b plan base (H ++ a ∷ []) s G → IsServedAlong b plan base H s G
     second_along G untried = with_next H a (aside a setting) (good_one a good_a)
@@ -182,7 +185,7 @@ module _ {D : Type 0} (s : ℕ) (old : Running D) where
     pub aside_first : (k : ℕ) → IsSameOffice old mid → place mid.plan (history mid.marks) s ≡ Some (Pending k) → IsTried old.bank old.plan old.base s old mid None → IsAsideFirst
     aside_first k same stands first = aside_so k (subst (λ (p : Plan). place p (history mid.marks) s ≡ Some (Pending k)) same.plan stands) first
 
-    module _ (new : Running D) (a : IsAsideFirst) (grows : faults_of old.journal ≤ faults_of mid.journal) where
+    module _ (fits : IsPlanFor old.bank old.plan) (new : Running D) (a : IsAsideFirst) (grows : faults_of old.journal ≤ faults_of mid.journal) where
       then_so : (o : Option Refusal) → IsTried old.bank old.plan old.base s mid new o → IsServed old.bank old.plan old.base s old new o
       then_so o (tried e grown (inl firm) good durable) =
           let H = history old.marks in
@@ -191,16 +194,16 @@ module _ {D : Type 0} (s : ℕ) (old : Running D) where
           let good1 : IsGood old.bank old.plan old.base J e = subst (λ (G : List Entry). IsGood old.bank old.plan old.base G e) a.grown good in
           let grown1 : history new.marks ≡ J ++ e ∷ [] = grown ∙ ap (λ (G : List Entry). G ++ e ∷ []) a.grown in
           served (subst (λ (G : List Entry). Advances old.bank old.plan H s G) (sym grown1) (advances step waiting (J ++ e ∷ []) (then_served a.entry e a.setting firm1)))
-          (subst (λ (G : List Entry). AreGood old.bank old.plan old.base H G) (sym grown1) (good_two old.bank old.plan old.base H s a.entry a.setting a.good e good1)) durable
+          (subst (λ (G : List Entry). AreGood old.bank old.plan old.base H G) (sym grown1) (good_two old.bank old.plan old.base H s fits a.entry a.setting a.good e good1)) durable
       then_so o (tried e grown (inr again) good durable) =
-          absurd (not_twice old.bank old.plan (history old.marks) s a.entry e a.setting (subst (λ (G : List Entry). IsSettingAside old.bank old.plan G s e) a.grown again))
+          absurd (not_twice old.bank old.plan fits (history old.marks) s a.entry e a.setting (subst (λ (G : List Entry). IsSettingAside old.bank old.plan G s e) a.grown again))
       then_so o (stopped r same why) =
           let H = history old.marks in
           let J = H ++ a.entry ∷ [] in
           let grown1 : history new.marks ≡ J = same ∙ a.grown in
           let here : IsStoppedBy old.bank old.plan J (IsTry old.bank old.plan J s) mid new r =
           subst (λ (G : List Entry). IsStoppedBy old.bank old.plan G (IsTry old.bank old.plan G s) mid new r) a.grown why in
-          let why1 = stopped_weaker old.bank old.plan J (IsTry old.bank old.plan J s) (ServesNext old.bank old.plan H s J) (second_next old.bank old.plan old.base H s a.entry a.setting a.good) old mid new grows (λ e. a.durable.sure) r here in
+          let why1 = stopped_weaker old.bank old.plan J (IsTry old.bank old.plan J s) (ServesNext old.bank old.plan H s J) (second_next old.bank old.plan old.base H s fits a.entry a.setting a.good) old mid new grows (λ e. a.durable.sure) r here in
           unserved r
           (subst (λ (G : List Entry). IsBeforeItem old.bank old.plan H s G) (sym grown1) (set_aside a.entry a.setting))
           (subst (λ (G : List Entry). AreGood old.bank old.plan old.base H G) (sym grown1) (good_one old.bank old.plan old.base H s a.entry a.good))
@@ -214,7 +217,7 @@ module _ {D : Type 0} (s : ℕ) (old : Running D) where
           let H = history old.marks in
           steps_joined old mid new (IsTriedAlong old.bank old.plan old.base H s) (IsTriedAlong mid.bank mid.plan mid.base (history mid.marks) s) (IsServedAlong old.bank old.plan old.base H s)
           (first_along old.bank old.plan old.base H s)
-          (λ G along. second_along old.bank old.plan old.base H s a.entry a.setting a.good G (subst (λ (J : List Entry). IsTriedAlong old.bank old.plan old.base J s G) a.grown (moved old mid same (λ (t : Tables) (p : Plan) (c : List ℕ). IsTriedAlong t p c (history mid.marks) s G) along)))
+          (λ G along. second_along old.bank old.plan old.base H s fits a.entry a.setting a.good G (subst (λ (J : List Entry). IsTriedAlong old.bank old.plan old.base J s G) a.grown (moved old mid same (λ (t : Tables) (p : Plan) (c : List ℕ). IsTriedAlong t p c (history mid.marks) s G) along)))
           one two
 
       -- then the session doesn't wait for an item
@@ -222,7 +225,7 @@ module _ {D : Type 0} (s : ℕ) (old : Running D) where
       settled_so o is (tried e grown (inl firm) good durable) at stands =
           settled_unless at (λ k same. not_pending old.bank old.plan (history mid.marks) s k e firm (subst (λ (G : List Entry). place old.plan G s ≡ Some (Pending k)) grown (stands ∙ ap (λ (p : Place). Some p) same)))
       settled_so o is (tried e grown (inr again) good durable) at stands =
-          absurd (not_twice old.bank old.plan (history old.marks) s a.entry e a.setting (subst (λ (G : List Entry). IsSettingAside old.bank old.plan G s e) a.grown again))
+          absurd (not_twice old.bank old.plan fits (history old.marks) s a.entry e a.setting (subst (λ (G : List Entry). IsSettingAside old.bank old.plan G s e) a.grown again))
       settled_so o is (stopped r grown why) at stands = absurd (cc)
 
       pub settled_twice : (result : Result Place Refusal) → IsSameOffice old mid → IsSameOffice mid new → IsTried mid.bank mid.plan mid.base s mid new (refused_with result) → IfOk result (λ at. place new.plan (history new.marks) s ≡ Some at) → IfOk result IsSettled

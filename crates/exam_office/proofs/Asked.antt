@@ -5,7 +5,7 @@ use Rattle.bank_tables.specs.Tables.{Tables, categories}
 use Rattle.exam_edge.specs.Images.{AllImages, AtEachMoment, latest}
 use Rattle.exam_edge.specs.ImageLaws.{weaker}
 use Rattle.exam_edge.specs.Lent.{IsLent}
-use Rattle.exam_model.specs.Plan.{Plan}
+use Rattle.form_model.specs.Plan.{Plan}
 use Rattle.history_model.specs.declared.entry.Entry.{Entry}
 use Rattle.history_model.specs.declared.entry.Entry.TheVariants.{Started, Answered, Closed as OfClosed}
 use Rattle.history_model.specs.declared.place.Place.{Place}
@@ -27,7 +27,7 @@ use Rattle.answer_journal.specs.Journal.{tells_of, accounts_of, faults_of, ident
 use Rattle.exam_office.specs.Asking.{IsStoppedBy, AreGood, no_more, one_more, IsDurable, StandsForOne, Steps, IsBegunBy, not_begun, begun, IsOnTheWay, IsSettled, IsSettledReply, Becomes, done, halted, IsAsked, IsAskedSurely, reply_of}
 use Rattle.exam_office.specs.Calls.{refused_with}
 use Rattle.exam_office.specs.Files.{Stands}
-use Rattle.exam_office.specs.Handling.{IsRefusal, IsReply}
+use Rattle.exam_handler.specs.Handling.{IsRefusal, IsReply}
 use Rattle.exam_office.specs.Marks.{history}
 use Rattle.exam_office.specs.Running.{Running}
 use Rattle.exam_office.specs.Serving.{IsBeforeItem, waits, set_aside, ServesNext, aside, item, IsServedAlong, not_served, with_next, IsServed, served, unserved}
@@ -104,7 +104,7 @@ module _ (b : Tables) (plan : Plan) (base : List ℕ) (H : List Entry) where
   begun_lead : (asked : Request) (s : ℕ) (fresh : Bool) (G : List Entry) → Leads b plan H asked s fresh G → IsBegunBy b plan base H asked G
   begun_lead asked s fresh G (by_begin booking session flag K (Begins.is_there n held)) = not_begun
   begun_lead asked s fresh G (by_begin booking session flag K (Begins.is_new n eligible none legal)) =
-      let e = Started n booking eligible in
+      let e = Started n booking eligible None in
       begun H e (first n true e (by_begin booking n true (H ++ e ∷ []) (Begins.is_new n eligible none legal))) (one_more H e no_more tt)
   begun_lead asked s fresh G (by_answer session step response K (RecordsAnswer.is_there known)) = not_begun
   begun_lead asked s fresh G (by_answer session step response K (RecordsAnswer.is_new none legal)) =
@@ -114,7 +114,7 @@ module _ (b : Tables) (plan : Plan) (base : List ℕ) (H : List Entry) where
 
   good_lead : (asked : Request) (s : ℕ) (fresh : Bool) (G : List Entry) → Leads b plan H asked s fresh G → AreGood b plan base H G
   good_lead asked s fresh G (by_begin booking session flag K (Begins.is_there n held)) = no_more
-  good_lead asked s fresh G (by_begin booking session flag K (Begins.is_new n eligible none legal)) = one_more H (Started n booking eligible) no_more tt
+  good_lead asked s fresh G (by_begin booking session flag K (Begins.is_new n eligible none legal)) = one_more H (Started n booking eligible None) no_more tt
   good_lead asked s fresh G (by_answer session step response K (RecordsAnswer.is_there known)) = no_more
   good_lead asked s fresh G (by_answer session step response K (RecordsAnswer.is_new none legal)) = one_more H (Answered session step response) no_more tt
   good_lead asked s fresh G (by_look session) = no_more

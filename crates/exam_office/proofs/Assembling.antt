@@ -4,19 +4,17 @@ use Rattle.std.specs.Prelude.{unwrap_or}
 use Rattle.std.specs.Option.{option_map}
 use Rattle.bank_tables.specs.Items.{Set, has}
 use Rattle.bank_tables.specs.Tables.{Tables}
-use Rattle.exam_model.specs.Plan.{Plan}
-use Rattle.exam_model.specs.Problem.{Problem}
-use Rattle.exam_model.specs.Forms.{Meets, Form}
+use Rattle.form_model.specs.Plan.{Plan}
+use Rattle.form_model.specs.Problem.{Problem}
+use Rattle.form_model.specs.Forms.{Meets, Form}
 use Rattle.constraint_model.specs.Views.{problem_of}
 use Rattle.branch_bound.specs.Assembled.{Assembly}
 use Rattle.branch_bound.specs.Assemblies.{IsNoWorseThan, IsAssembly}
 use Rattle.branch_bound.specs.declared.outcome.Outcome.{Outcome}
 use Rattle.branch_bound.specs.declared.outcome.Outcome.TheVariants.{Found, NoForm, NoneFound}
 use Rattle.history_model.specs.declared.entry.Entry.{Entry}
-use Rattle.history_model.specs.Entries.{seat_of}
 use Rattle.history_model.specs.Legality.{LegalRun}
 use Rattle.history_model.specs.SessionProblems.{IsProblemOf}
-use Rattle.history_model.proofs.Running.{last_form_stays, pending_is_of_seat, seat_is_seat}
 use Rattle.history_model.proofs.AsideForms.{form_where_aside}
 use Rattle.exam_office.specs.Commits.{IsOfStart}
 use Rattle.exam_office.specs.Serving.{IsAssembledFor}
@@ -30,30 +28,16 @@ no_fallback P (Some X) base o lacks begun hint form = lacks X begun form
 no_fallback P None base o lacks begun hint form = lacks base hint form
 
 module _ (b : Tables) (plan : Plan) (base : List ℕ) (H : List Entry) (session step : ℕ) (run : LegalRun b plan H) (meets : Meets b plan (has base)) (P : Problem) (asked : IsProblemOf b plan H session step P) where
-  -- then the session is at its start, with eligibility not set aside
+  -- then eligibility is not set aside
   module _ (o : Outcome) (lacks : Lacks P o) (begun : IsNoWorseThan P P.start o) (hint : IsNoWorseThan P (Some (has base)) o) where
     not_aside : (t : Bool) → P.aside ≡ t → P.aside ≡ false
     not_aside false e = e
     not_aside true e = absurd (no_fallback P P.start (has base) o lacks begun hint (form_where_aside b plan H session step P (has base) run asked meets e))
 
-    at_first : (f : Option (List ℕ)) → (seat_of H session).form ≡ f → P.step ≡ 0
-    at_first (Some words) e =
-        let is = asked.of_seat.is in
-        let start : P.start ≡ Some (has words) = ap (λ (R : Problem). R.start) is ∙ ap (λ (f : Option (List ℕ)). option_map has f) e in
-        let form : Form P (has words) = subst (λ (R : Problem). Form R (has words)) (sym is) (last_form_stays b plan H session asked.of_seat.theta words run e) in
-        absurd (lacks (has words) (subst (λ (s : Option Set). IsNoWorseThan P s o) start begun) form)
-    at_first None e =
-        let none : length (seat_of H session).shown ≡ 0 = (seat_is_seat b plan H session run).form_none e in
-        let waits = (pending_is_of_seat b plan H session step run asked.pending).0 in
-        ap (λ (R : Problem). R.step) asked.of_seat.is ∙ (sym waits.answered ∙ none)
-
-    at_start : (P.step ≡ 0) × IsFalse P.aside
-    at_start = (at_first (seat_of H session).form refl, not_aside P.aside refl)
-
   of_start : (o : Outcome) → IsNoWorseThan P P.start o → IsNoWorseThan P (Some (has base)) o → IsOfStart P base o
   of_start (Found form proved) begun hint = tt
-  of_start NoForm begun hint = at_start NoForm (λ X no. no) begun hint
-  of_start NoneFound begun hint = let at = at_start NoneFound (λ X no. no) begun hint in (at.0, at.1, hint)
+  of_start NoForm begun hint = not_aside NoForm (λ X no. no) begun hint P.aside refl
+  of_start NoneFound begun hint = (not_aside NoneFound (λ X no. no) begun hint P.aside refl, hint)
 
 pub assembled_so : (b : Tables) (plan : Plan) (base : List ℕ) (H : List Entry) (session : ℕ) (run : LegalRun b plan H) (meets : Meets b plan (has base)) (a : Assembly) → IsProblemOf b plan H session (problem_of a.problem).step (problem_of a.problem) → a.budget ≡ plan.budget → (n : ℕ) → IsAssembly (problem_of a.problem) (Some (has base)) n a.tree a.outcome → IsAssembledFor b plan base H session a
 assembled_so b plan base H session run meets a asked budget n is =

@@ -5,7 +5,7 @@ use Rattle.std.proofs.lemmas.Bool.{eq-eqb}
 use Rattle.bank_tables.specs.Tables.{Tables}
 use Rattle.exam_edge.specs.Images.{AllImages, AtEachMoment, latest}
 use Rattle.exam_edge.specs.Lent.{IsLent}
-use Rattle.exam_model.specs.Plan.{Plan}
+use Rattle.form_model.specs.Plan.{Plan}
 use Rattle.history_model.specs.declared.entry.Entry.{Entry}
 use Rattle.history_model.specs.declared.entry.Entry.TheVariants.{Started, SetAside, Served, Answered, Closed}
 use Rattle.history_model.specs.declared.place.Place.{Place}
@@ -171,8 +171,8 @@ held_by booking s e H (Some x) is held tail =
     by_test false session e = absurd (cc)
 
     starts_it : (f : Entry) → holder_of booking f ≡ Some s → starts_session s f ≡ true
-    starts_it (Started session other eligible) is = eq-eqb session s (by_test (other == booking) session is)
-    starts_it (SetAside session cause nodes) is = absurd (cc)
+    starts_it (Started session other eligible without) is = eq-eqb session s (by_test (other == booking) session is)
+    starts_it (SetAside session step band cause nodes) is = absurd (cc)
     starts_it (Served session step item form proved nodes) is = absurd (cc)
     starts_it (Answered session step response) is = absurd (cc)
     starts_it (Closed session) is = absurd (cc)
@@ -188,10 +188,10 @@ module _ {D : Type 0} (booking : ℕ) (old new : Running D) (durable : IsDurable
   next_start e says =
       let H = history old.marks in
       let s = says.2 in
-      let legal : Legal old.bank old.plan H (Started s.session booking s.eligible) = subst (λ (x : Entry). Legal old.bank old.plan H x) s.is says.3 in (
+      let legal : Legal old.bank old.plan H (Started s.session booking s.eligible None) = subst (λ (x : Entry). Legal old.bank old.plan H x) s.is says.3 in (
         s.session,
         subst (λ (x : Entry). Leads old.bank old.plan H (Begin booking) s.session true (H ++ x ∷ [])) (sym s.is)
-            (by_begin booking s.session true (H ++ Started s.session booking s.eligible ∷ []) (Begins.is_new s.session s.eligible says.1 legal)),
+            (by_begin booking s.session true (H ++ Started s.session booking s.eligible None ∷ []) (Begins.is_new s.session s.eligible says.1 legal)),
         ap (λ (x : Entry). holder (H ++ x ∷ []) booking) s.is ∙ held_then H s.session booking s.eligible says.1,
       )
 

@@ -1,3 +1,5 @@
+pub mod Flags
+pub mod Backing
 pub mod Records
 pub mod Marking
 pub mod Kept

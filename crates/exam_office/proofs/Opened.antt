@@ -5,8 +5,8 @@ use Rattle.std.proofs.lemmas.List.{map-append, append-nil}
 use Rattle.std.proofs.lemmas.List.Elements.{filter_map-append}
 use Rattle.bank_tables.specs.Items.{has}
 use Rattle.bank_tables.specs.Tables.{Tables}
-use Rattle.exam_model.specs.Plan.{Plan}
-use Rattle.exam_model.specs.Forms.{Meets}
+use Rattle.form_model.specs.Plan.{Plan}
+use Rattle.form_model.specs.Forms.{Meets}
 use Rattle.exam_edge.specs.Images.{Account, AllImages, AtEachMoment, IsSettled, latest}
 use Rattle.exam_edge.specs.ImageLaws.{joined, weaker, at_end}
 use Rattle.history_model.specs.declared.entry.Entry.{Entry}
@@ -21,12 +21,11 @@ use Rattle.std.specs.Prelude.{nat_lt}
 use Rattle.answer_journal.specs.Payload.{end_of}
 use Rattle.answer_journal.specs.Standing.{payload_list}
 use Rattle.answer_journal.specs.Walk.{first_payloads}
-use Rattle.exam_records.specs.Spelling.{payload_of}
 use Rattle.exam_office.specs.declared.mark.Mark.{Mark}
 use Rattle.exam_office.specs.declared.mark.Mark.TheVariants.{Old, Opened}
 use Rattle.exam_office.specs.declared.fault.OpenFault.{OpenFault}
 use Rattle.exam_office.specs.declared.fault.OpenFault.TheVariants.{Journal as OfJournal, BadRecord, BadTree, Illegal, Disk, Memory}
-use Rattle.exam_office.specs.Files.{AreRecordsOf, Stands}
+use Rattle.exam_office.specs.Files.{payload_in, AreRecordsOf, Stands}
 use Rattle.exam_office.specs.Marks.{entry_of, history, reach, is_fault, AreMarks, opened}
 use Rattle.exam_office.specs.Keeping.{IsSure, IsKept}
 use Rattle.exam_office.specs.Moments.{AreMoments, opening}
@@ -67,13 +66,13 @@ module _ (b : Tables) (plan : Plan) (tells : Bool) (file : List ℕ) where
     -- the payload is taken
     pub taken_more : (p : List ℕ) (given1 at1 : ℕ) → at1 ≡ at + 5 + length p → (IsTrue tells → first_payloads given1 file ≡ first_payloads given file ++ p ∷ []) → (entry : Entry) → IsTaken b plan H p entry → AreTaken b plan tells file given1 at1 (H ++ entry ∷ [])
     taken_more p given1 at1 at_is more entry one =
-        let now : map payload_of (so_far.records ++ one.last ∷ []) ≡ map payload_of so_far.records ++ p ∷ [] =
-        map-append payload_of so_far.records (one.last ∷ []) ∙ ap (λ (q : List ℕ). map payload_of so_far.records ++ q ∷ []) one.spelling in
+        let now : map (payload_in b plan) (so_far.records ++ one.last ∷ []) ≡ map (payload_in b plan) so_far.records ++ p ∷ [] =
+        map-append (payload_in b plan) so_far.records (one.last ∷ []) ∙ ap (λ (q : List ℕ). map (payload_in b plan) so_far.records ++ q ∷ []) one.spelling in
         record {
           records = so_far.records ++ one.last ∷ [];
           are = subst (λ (e : Entry). AreRecordsOf b plan (H ++ e ∷ []) (so_far.records ++ one.last ∷ [])) one.is_entry (are_more b plan H so_far.records so_far.are one.last one.spells one.may);
           bytes = λ told. now ∙ (ap (λ (ps : List (List ℕ)). ps ++ p ∷ []) (so_far.bytes told) ∙ sym (more told));
-          place = λ told. at_is ∙ (ap (λ (k : ℕ). k + 5 + length p) (so_far.place told) ∙ (sym (end-push 8 (map payload_of so_far.records) p) ∙ ap (end_of 8) (sym now)));
+          place = λ told. at_is ∙ (ap (λ (k : ℕ). k + 5 + length p) (so_far.place told) ∙ (sym (end-push 8 (map (payload_in b plan) so_far.records) p) ∙ ap (end_of 8) (sym now)));
         }
 
     -- the payload is refused
@@ -81,10 +80,10 @@ module _ (b : Tables) (plan : Plan) (tells : Bool) (file : List ℕ) where
     refused_here told gives p more fault why =
         let ps = payload_list shadowj1 file in
         let R = so_far.records in
-        let split : ps ≡ map payload_of R ++ p ∷ drop (given + 1) ps =
+        let split : ps ≡ map (payload_in b plan) R ++ p ∷ drop (given + 1) ps =
         sym (take-append-drop (given + 1) ps)
         ∙ (ap (λ (qs : List (List ℕ)). qs ++ drop (given + 1) ps) (more ∙ ap (λ (qs : List (List ℕ)). qs ++ p ∷ []) (sym (so_far.bytes told)))
-        ∙ append_assoc (map payload_of R) (p ∷ []) (drop (given + 1) ps)) in
+        ∙ append_assoc (map (payload_in b plan) R) (p ∷ []) (drop (given + 1) ps)) in
         open_answer b plan file fault (record {
           H = H;
           records = R;
@@ -96,7 +95,7 @@ module _ (b : Tables) (plan : Plan) (tells : Bool) (file : List ℕ) where
         })
 
     -- all payloads were taken
-    pub all_taken : IsTrue tells → first_payloads given file ≡ payload_list shadowj1 file → map payload_of so_far.records ≡ payload_list shadowj1 file
+    pub all_taken : IsTrue tells → first_payloads given file ≡ payload_list shadowj1 file → map (payload_in b plan) so_far.records ≡ payload_list shadowj1 file
     all_taken told all = so_far.bytes told ∙ all
 
     pub stood : IsTrue tells → payloads shadowj1 file ≡ Some (payload_list shadowj1 file) → first_payloads given file ≡ payload_list shadowj1 file → Stands b plan H file

@@ -3,24 +3,23 @@ use Rattle.std.proofs.Common.{◌≡◌, ◌⊎◌, inl, inr, ℕ, List, [], ◌
 use Rattle.std.specs.List.{AllByRecursion}
 use Rattle.std.proofs.lemmas.List.{map-append}
 use Rattle.bank_tables.specs.Tables.{Tables}
-use Rattle.exam_model.specs.Plan.{Plan}
-use Rattle.exam_model.specs.ProofTrees.{ProofTree}
+use Rattle.form_model.specs.Plan.{Plan}
+use Rattle.certificate_model.specs.ProofTrees.{ProofTree}
 use Rattle.history_model.specs.declared.entry.Entry.{Entry}
 use Rattle.history_model.specs.declared.entry.Entry.TheVariants.{Started, SetAside, Served, Answered, Closed}
 use Rattle.history_model.specs.Judging.{MayFollow, Record, entries_of, Backed, more}
 use Rattle.exam_records.specs.Shape.{GoesWith, IsRecord}
 use Rattle.answer_journal.specs.Frames.{payloads, shadowj1}
 use Rattle.answer_journal.specs.Standing.{IsBeforeOrWith}
-use Rattle.exam_records.specs.Spelling.{payload_of}
-use Rattle.exam_office.specs.Files.{AreRecordsOf, Stands}
+use Rattle.exam_office.specs.Files.{payload_in, AreRecordsOf, Stands}
 use Rattle.exam_office.specs.Writing.{IsWriting}
 
 -- a record that may follow has a tree if its entry needs one, with as many nodes as its entry has
 pub goes_with : (b : Tables) (plan : Plan) (H : List Entry) (entry : Entry) (tree : Option ProofTree) → MayFollow b plan H entry tree → GoesWith entry tree
-goes_with b plan H (Started session booking eligible) None may = tt
-goes_with b plan H (Started session booking eligible) (Some T) may = let e = may.1 in absurd (cc)
-goes_with b plan H (SetAside session cause nodes) None may = absurd may.shows.has_tree
-goes_with b plan H (SetAside session cause nodes) (Some T) may = may.shows.has_tree.number
+goes_with b plan H (Started session booking eligible without) None may = tt
+goes_with b plan H (Started session booking eligible without) (Some T) may = let e = may.1 in absurd (cc)
+goes_with b plan H (SetAside session step band cause nodes) None may = absurd may.shows.has_tree
+goes_with b plan H (SetAside session step band cause nodes) (Some T) may = may.shows.has_tree.number
 goes_with b plan H (Served session step item form proved nodes) None may = absurd may.shows.has_tree
 goes_with b plan H (Served session step item form proved nodes) (Some T) may = may.shows.has_tree.number
 goes_with b plan H (Answered session step response) None may = tt
@@ -40,17 +39,17 @@ module _ (b : Tables) (plan : Plan) (H : List Entry) (R : List Record) (are : Ar
     entries = map-append (λ (q : Record). q.entry) R (r ∷ []) ∙ ap (λ (G : List Entry). G ++ r.entry ∷ []) are.entries;
   }
 
-  pub stands_so : (file : List ℕ) → payloads shadowj1 file ≡ Some (map payload_of R) → Stands b plan H file
+  pub stands_so : (file : List ℕ) → payloads shadowj1 file ≡ Some (map (payload_in b plan) R) → Stands b plan H file
   stands_so file holds = record { records = R; are = are; holds = holds }
 
-  pub stands_more : (r : Record) → IsRecord r → MayFollow b plan H r.entry r.tree → (file : List ℕ) → payloads shadowj1 file ≡ Some (map payload_of R ++ payload_of r ∷ []) → Stands b plan (H ++ r.entry ∷ []) file
+  pub stands_more : (r : Record) → IsRecord r → MayFollow b plan H r.entry r.tree → (file : List ℕ) → payloads shadowj1 file ≡ Some (map (payload_in b plan) R ++ payload_in b plan r ∷ []) → Stands b plan (H ++ r.entry ∷ []) file
   stands_more r spells may file holds = record {
     records = R ++ r ∷ [];
     are = are_more r spells may;
-    holds = holds ∙ ap Some (sym (map-append payload_of R (r ∷ [])));
+    holds = holds ∙ ap Some (sym (map-append (payload_in b plan) R (r ∷ [])));
   }
 
-  pub writes : (r : Record) → IsRecord r → MayFollow b plan H r.entry r.tree → (file : List ℕ) → IsBeforeOrWith shadowj1 (map payload_of R) (payload_of r) file → IsWriting b plan H r.entry file
+  pub writes : (r : Record) → IsRecord r → MayFollow b plan H r.entry r.tree → (file : List ℕ) → IsBeforeOrWith shadowj1 (map (payload_in b plan) R) (payload_in b plan r) file → IsWriting b plan H r.entry file
   writes r spells may file either = elim either [
     | inl before ↦ inl (stands_so file before)
     | inr after ↦ inr (stands_more r spells may file after)

@@ -1,7 +1,7 @@
 -- An office that isn't opened.
 use Rattle.std.proofs.Common.{◌≡◌, ℕ, ◌≤◌, Bool, List, refl, ◌∙◌, arith}
 use Rattle.bank_tables.specs.Tables.{Tables}
-use Rattle.exam_model.specs.Plan.{Plan}
+use Rattle.form_model.specs.Plan.{Plan}
 use Rattle.exam_edge.specs.Faults.{Rose}
 use Rattle.exam_edge.specs.Lent.{IsLent}
 use Rattle.answer_journal.specs.Frames.{shadowj1}

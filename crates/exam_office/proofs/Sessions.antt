@@ -4,9 +4,9 @@ use Rattle.std.specs.Prelude.{nat_le}
 use Rattle.std.proofs.lemmas.Option.{slice_get-get_or}
 use Rattle.bank_tables.specs.Tables.{Tables, categories}
 use Rattle.bank_tables.specs.Validity.{IsBank}
-use Rattle.exam_model.specs.declared.seat.Seat.{Seat}
-use Rattle.exam_model.specs.Plan.{Plan}
-use Rattle.exam_model.specs.Seats.{IsSeat}
+use Rattle.serving_model.specs.declared.seat.Seat.{Seat}
+use Rattle.form_model.specs.Plan.{Plan}
+use Rattle.serving_model.specs.Seats.{IsSeat}
 use Rattle.history_model.specs.declared.entry.Entry.{Entry}
 use Rattle.history_model.specs.declared.entry.Entry.TheVariants.{Answered, Closed}
 use Rattle.history_model.specs.declared.place.Place.{Place}

@@ -1,7 +1,7 @@
 -- What resolving the entry in doubt does to an office that is open.
 use Rattle.std.proofs.Common.{◌≡◌, ℕ, ◌<◌, ◌≤◌, List, [], ◌∷◌, ◌++◌, map, Option, Some, None, IsTrue, sym, subst}
 use Rattle.bank_tables.specs.Tables.{Tables}
-use Rattle.exam_model.specs.Plan.{Plan}
+use Rattle.form_model.specs.Plan.{Plan}
 use Rattle.exam_edge.specs.Faults.{Rose}
 use Rattle.exam_edge.specs.Images.{Account, latest, AllImages, AtEachMoment}
 use Rattle.history_model.specs.declared.entry.Entry.{Entry}
@@ -10,16 +10,15 @@ use Rattle.history_model.specs.Laws.{MayIsLegal}
 use Rattle.exam_session.specs.Ledgers.{Ledger}
 use Rattle.answer_journal.specs.Journal.{JournalState, length_of, limit_of, tells_of, accounts_of, payloads_of, IsReady, IsDoubtful, faults_of}
 use Rattle.answer_journal.specs.Standing.{IsBeforeOrWith}
-use Rattle.exam_records.specs.Spelling.{payload_of}
 use Rattle.answer_journal.specs.Frames.{shadowj1}
 use Rattle.exam_office.specs.declared.mark.Mark.{Mark}
 use Rattle.exam_office.specs.declared.mark.Mark.TheVariants.{Adopted, Fault}
-use Rattle.exam_office.specs.Files.{Stands}
+use Rattle.exam_office.specs.Files.{payload_in, Stands}
 use Rattle.exam_office.specs.Marks.{history}
 use Rattle.exam_office.specs.Running.{HandedDisk, Running}
 use Rattle.exam_office.specs.Keeping.{IsUnsure, IsKept}
 use Rattle.exam_office.specs.Writing.{IsMending, IsWriting, IsMended, sure, dropped, kept}
-use Rattle.exam_model.specs.Relaxed.{Multipliers}
+use Rattle.certificate_model.specs.Relaxed.{Multipliers}
 use Rattle.exam_office.specs.declared.vectors.NewVector.{NewVector}
 use Rattle.exam_office.specs.KeptVectors.{AreVectorsWith, AreKeptVectors}
 use Rattle.exam_office.proofs.Marking.{history-adopted, history-fault}
@@ -66,7 +65,7 @@ module _ {D : Type 0} (b : Tables) (plan : Plan) (base : List ℕ) (book : Ledge
     unsure = kept_some.backed
 
     pub has_doubt : (ps : List (List ℕ)) × (payload : List ℕ) × IsDoubtful ps payload j
-    has_doubt = (map payload_of unsure.records, payload_of unsure.last, unsure.doubtful)
+    has_doubt = (map (payload_in b plan) unsure.records, payload_in b plan unsure.last, unsure.doubtful)
 
     pub room_is : 0 < book.room
     room_is = unsure.has_room
@@ -86,7 +85,7 @@ module _ {D : Type 0} (b : Tables) (plan : Plan) (base : List ℕ) (book : Ledge
     pub moments_mended : (later : List Account) → (IsTrue (tells_of j) → (ps : List (List ℕ)) (payload : List ℕ) → IsDoubtful ps payload j → AtEachMoment (accounts_of j) later (IsBeforeOrWith shadowj1 ps payload)) → IsTrue (tells_of now.journal) → AtEachMoment (accounts_of now.journal) later (IsMending now.bank now.plan (history now.marks) now.doubt)
     moments_mended later moments told =
         seen later (subst (λ (d : Option Entry). AtEachMoment (accounts_of j) later (IsMending b plan (history M) d)) (sym is)
-        (mending_moments b plan j M entry book.room unsure later (moments (told_here told) (map payload_of unsure.records) (payload_of unsure.last) unsure.doubtful)))
+        (mending_moments b plan j M entry book.room unsure later (moments (told_here told) (map (payload_in b plan) unsure.records) (payload_in b plan unsure.last) unsure.doubtful)))
 
     pub mended_kept : (size : ℕ) → IsMended now.marks now.doubt (M ++ Adopted entry size ∷ [])
     mended_kept size = subst (λ (o : Running D). IsMended o.marks o.doubt (M ++ Adopted entry size ∷ [])) view (subst (λ (d : Option Entry). IsMended M d (M ++ Adopted entry size ∷ [])) (sym is) (kept entry size))
@@ -97,7 +96,7 @@ module _ {D : Type 0} (b : Tables) (plan : Plan) (base : List ℕ) (book : Ledge
     in_hand : (j1 : JournalState D) → (IsTrue (tells_of j) → (ps : List (List ℕ)) (payload : List ℕ) → IsDoubtful ps payload j → AtEachMoment (accounts_of j) (accounts_of j1) (IsBeforeOrWith shadowj1 ps payload))
         → IsTrue (tells_of j) → AtEachMoment (accounts_of j) (accounts_of j1) (IsWriting b plan (history M) entry)
     in_hand j1 moments told =
-        in_hand_moments b plan j M entry book.room unsure (accounts_of j1) (moments told (map payload_of unsure.records) (payload_of unsure.last) unsure.doubtful)
+        in_hand_moments b plan j M entry book.room unsure (accounts_of j1) (moments told (map (payload_in b plan) unsure.records) (payload_in b plan unsure.last) unsure.doubtful)
 
     module _ (book1 : Ledger) (j1 : JournalState D) where
       pub kept_so : book1.bank ≡ book.bank → book1.plan ≡ book.plan → book1.entries ≡ book.entries ++ entry ∷ []

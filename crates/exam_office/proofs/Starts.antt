@@ -4,12 +4,12 @@ use Rattle.std.specs.Prelude.{nat_le}
 use Rattle.std.specs.List.{filter_map}
 use Rattle.std.proofs.lemmas.Bool.{eq-eqb}
 use Rattle.std.proofs.lemmas.List.Elements.{filter_map-append}
-use Rattle.bank_tables.specs.Items.{has}
 use Rattle.bank_tables.specs.Tables.{Tables}
-use Rattle.exam_model.specs.Plan.{Plan}
+use Rattle.form_model.specs.Plan.{Plan}
+use Rattle.history_model.specs.declared.entry.Bands.{Bands}
 use Rattle.history_model.specs.declared.entry.Entry.{Entry}
 use Rattle.history_model.specs.declared.entry.Entry.TheVariants.{Started}
-use Rattle.history_model.specs.Draws.{draw, SameItems}
+use Rattle.history_model.specs.Draws.{AreDrawn}
 use Rattle.history_model.specs.Entries.{sessions, holder_of, holder}
 use Rattle.history_model.specs.Judging.{MayFollow}
 use Rattle.history_model.specs.Legality.{Legal}
@@ -26,11 +26,11 @@ first_none : (xs : List ℕ) → slice_get xs 0 ≡ None → xs ≡ []
 first_none [] e = refl
 first_none (x ∷ xs) e = absurd (cc)
 
-pub held_then : (H : List Entry) (session booking : ℕ) (eligible : List ℕ) → holder H booking ≡ None → holder (H ++ Started session booking eligible ∷ []) booking ≡ Some session
+pub held_then : (H : List Entry) (session booking : ℕ) (eligible : Bands) → holder H booking ≡ None → holder (H ++ Started session booking eligible None ∷ []) booking ≡ Some session
 held_then H session booking eligible none =
     let empty : filter_map (holder_of booking) H ≡ [] = first_none (filter_map (holder_of booking) H) none in
     let same : (booking == booking) ≡ true = eq-eqb booking booking refl in
-    ap (λ (xs : List ℕ). slice_get xs 0) (filter_map-append (holder_of booking) H (Started session booking eligible ∷ []) ∙ ap (λ (xs : List ℕ). xs ++ filter_map (holder_of booking) (Started session booking eligible ∷ [])) empty) ∙ rw same refl
+    ap (λ (xs : List ℕ). slice_get xs 0) (filter_map-append (holder_of booking) H (Started session booking eligible None ∷ []) ∙ ap (λ (xs : List ℕ). xs ++ filter_map (holder_of booking) (Started session booking eligible None ∷ [])) empty) ∙ rw same refl
 
 not_refused : (plan : Plan) (H : List Entry) (o : Option ℕ) → o ≡ None → sessions H < plan.sessions → refusal_of_new plan H o ≡ None
 not_refused plan H (Some s) e lt = absurd (cc)
@@ -40,8 +40,8 @@ not_refused plan H None e lt = by (nat_le plan.sessions (sessions H)) refl
     by true is = absurd (omega (arith, Rattle.std.proofs.lemmas.Bool.leb-true plan.sessions (sessions H) is))
     by false is = rw is refl
 
-pub start_found : (b : Tables) (plan : Plan) (H : List Entry) (session booking : ℕ) (eligible : List ℕ) → None ≡ holder H booking → session ≡ sessions H → session < plan.sessions → SameItems (has eligible) (draw b plan H (sessions H))
-    → IsStartFound b plan H booking session (Some (Started session booking eligible))
+pub start_found : (b : Tables) (plan : Plan) (H : List Entry) (session booking : ℕ) (eligible : Bands) → None ≡ holder H booking → session ≡ sessions H → session < plan.sessions → AreDrawn b plan H (sessions H) eligible
+    → IsStartFound b plan H booking session (Some (Started session booking eligible None))
 start_found b plan H session booking eligible none number within is_drawn = (
   (
     not_refused plan H (holder H booking) (sym none) (subst (λ (n : ℕ). n < plan.sessions) number within),
@@ -50,7 +50,8 @@ start_found b plan H session booking eligible none number within is_drawn = (
     record {
       number = record { next = number; within = within };
       not_booked = sym none;
-      drawn = subst (λ (n : ℕ). SameItems (has eligible) (draw b plan H n)) (sym number) is_drawn;
+      drawn = subst (λ (n : ℕ). AreDrawn b plan H n eligible) (sym number) is_drawn;
+      no_list = refl;
     },
   ),
   held_then H session booking eligible (sym none),

@@ -1,19 +1,17 @@
 -- Records as they are taken.
 use Rattle.std.proofs.Common.{◌≡◌, ℕ, List, Option, Some, None, Result, Ok, Err, refl, sym, ◌∙◌, ap, subst}
 use Rattle.bank_tables.specs.Tables.{Tables}
-use Rattle.exam_model.specs.Plan.{Plan}
+use Rattle.form_model.specs.Plan.{Plan}
 use Rattle.history_model.specs.declared.entry.Entry.{Entry}
 use Rattle.history_model.specs.declared.illegal.Illegal.{Illegal}
-use Rattle.history_model.specs.declared.illegal.Illegal.TheVariants.{NotNumber, Booked, NotDrawn, NoSession, NotPending, IsAside, NotForm, NotItem, NotSpent, Tree, NotWaiting, BadResponse, Ended}
+use Rattle.history_model.specs.declared.illegal.Illegal.TheVariants.{NotNumber, Booked, NotDrawn, HasList, NoSession, NotPending, IsAside, NotStep, NotBand, NotForm, NotItem, NotSpent, Tree, NotWaiting, BadResponse, Ended}
 use Rattle.history_model.specs.Judging.{Record, MayFollow}
 use Rattle.history_model.specs.Reasons.{IsIllegal}
-use Rattle.exam_records.specs.Reading.{record_of}
 use Rattle.exam_records.specs.Shape.{IsRecord}
-use Rattle.exam_records.specs.Spelling.{payload_of}
-use Rattle.exam_records.proofs.AgainLaws.{written_is_read}
 use Rattle.exam_office.specs.declared.fault.OpenFault.{OpenFault}
 use Rattle.exam_office.specs.declared.fault.OpenFault.TheVariants.{Journal as OfJournal, BadRecord, BadTree, Illegal as NotLegal, Disk, Memory}
-use Rattle.exam_office.specs.Opening.{fault_of, IsTaken, IsUnlawful, IsNotFollowing, IsNotTaken, IsRefusedFor}
+use Rattle.exam_office.specs.Files.{payload_in}
+use Rattle.exam_office.specs.Opening.{fault_of, IsTaken, IsUnlawful, IsNotFollowing, IsReadAs, IsNotTaken, IsRefusedFor}
 
 -- a reason why a record may not follow, as a fault
 pub not_following : (b : Tables) (plan : Plan) (H : List Entry) (at : ℕ) (last : Record) (reason : Illegal) → IsIllegal b plan H last.entry last.tree reason → IsNotFollowing b plan H at last (fault_of at reason)
@@ -22,22 +20,26 @@ not_following b plan H at last (NotSpent nodes) why = record { reason = NotSpent
 not_following b plan H at last (NotNumber n) why = record { reason = NotNumber n; illegal = why; is = refl }
 not_following b plan H at last (Booked n) why = record { reason = Booked n; illegal = why; is = refl }
 not_following b plan H at last (NotDrawn n) why = record { reason = NotDrawn n; illegal = why; is = refl }
+not_following b plan H at last HasList why = record { reason = HasList; illegal = why; is = refl }
 not_following b plan H at last (NoSession n) why = record { reason = NoSession n; illegal = why; is = refl }
 not_following b plan H at last (NotPending p) why = record { reason = NotPending p; illegal = why; is = refl }
 not_following b plan H at last IsAside why = record { reason = IsAside; illegal = why; is = refl }
+not_following b plan H at last (NotStep n) why = record { reason = NotStep n; illegal = why; is = refl }
+not_following b plan H at last (NotBand n) why = record { reason = NotBand n; illegal = why; is = refl }
 not_following b plan H at last (NotForm breach) why = record { reason = NotForm breach; illegal = why; is = refl }
 not_following b plan H at last (NotItem n) why = record { reason = NotItem n; illegal = why; is = refl }
 not_following b plan H at last (NotWaiting p) why = record { reason = NotWaiting p; illegal = why; is = refl }
 not_following b plan H at last (BadResponse n) why = record { reason = BadResponse n; illegal = why; is = refl }
 not_following b plan H at last (Ended p) why = record { reason = Ended p; illegal = why; is = refl }
 
-pub taken_so : (b : Tables) (plan : Plan) (H : List Entry) (payload : List ℕ) (rec : Record) → IsRecord rec → payload ≡ payload_of rec → MayFollow b plan H rec.entry rec.tree → IsTaken b plan H payload rec.entry
-taken_so b plan H payload rec is spelling may = record { last = record { entry = rec.entry; tree = rec.tree }; is_entry = refl; spells = is; spelling = sym spelling; may = may }
+pub taken_so : (b : Tables) (plan : Plan) (H : List Entry) (payload : List ℕ) (rec : Record) → IsRecord rec → payload_in b plan rec ≡ payload → MayFollow b plan H rec.entry rec.tree → IsTaken b plan H payload rec.entry
+taken_so b plan H payload rec is spelling may = record { last = record { entry = rec.entry; tree = rec.tree }; is_entry = refl; spells = is; spelling = spelling; may = may }
 
-pub not_taken_so : (b : Tables) (plan : Plan) (H : List Entry) (at : ℕ) (payload : List ℕ) (rec : Record) (fault : OpenFault) → IsRecord rec → payload ≡ payload_of rec → IsNotFollowing b plan H at rec fault → IsNotTaken b plan H at payload fault
-not_taken_so b plan H at payload rec (BadTree place) is spelling why = record { last = rec; reads = ap record_of spelling ∙ written_is_read rec is; reason = why.reason; illegal = why.illegal; is = why.is }
-not_taken_so b plan H at payload rec (NotLegal place reason) is spelling why = record { last = rec; reads = ap record_of spelling ∙ written_is_read rec is; reason = why.reason; illegal = why.illegal; is = why.is }
-not_taken_so b plan H at payload rec Memory is spelling why = tt
-not_taken_so b plan H at payload rec (OfJournal fault) is spelling why = absurd why
-not_taken_so b plan H at payload rec (BadRecord place fault) is spelling why = absurd why
-not_taken_so b plan H at payload rec Disk is spelling why = absurd why
+module _ (b : Tables) (plan : Plan) (H : List Entry) (at : ℕ) (payload : List ℕ) (rec : Record) (reads : IsReadAs b plan H payload rec) where
+  pub not_taken_so : (fault : OpenFault) → IsNotFollowing b plan H at rec fault → IsNotTaken b plan H at payload fault
+  not_taken_so (BadTree place) why = record { last = rec; reads = reads; reason = why.reason; illegal = why.illegal; is = why.is }
+  not_taken_so (NotLegal place reason) why = record { last = rec; reads = reads; reason = why.reason; illegal = why.illegal; is = why.is }
+  not_taken_so Memory why = tt
+  not_taken_so (OfJournal fault) why = absurd why
+  not_taken_so (BadRecord place fault) why = absurd why
+  not_taken_so Disk why = absurd why

@@ -4,8 +4,8 @@ use Rattle.bank_tables.specs.Items.{Set, has}
 use Rattle.bank_tables.specs.Tables.{Tables}
 use Rattle.exam_edge.specs.Images.{AllImages, AtEachMoment, latest}
 use Rattle.exam_edge.specs.Lent.{IsLent}
-use Rattle.exam_model.specs.Plan.{Plan}
-use Rattle.exam_model.specs.Problem.{Problem}
+use Rattle.form_model.specs.Plan.{Plan, band_of}
+use Rattle.form_model.specs.Problem.{Problem}
 use Rattle.constraint_model.specs.Views.{problem_of}
 use Rattle.branch_bound.specs.Assembled.{Assembly}
 use Rattle.branch_bound.specs.Assemblies.{IsFirmOutcome, IsNoWorseThan}
@@ -27,6 +27,7 @@ use Rattle.exam_office.specs.Marks.{history}
 use Rattle.exam_office.specs.Running.{Running}
 use Rattle.exam_office.specs.Serving.{IsAssembledFor, IsTry, IsTriedAlong, untried, with_try, IsTried, tried, stopped}
 use Rattle.exam_office.specs.Writing.{IsSameOffice}
+use Rattle.exam_office.proofs.Flags.{flag_now}
 use Rattle.exam_office.proofs.Committed.{may_be_committed}
 use Rattle.exam_office.proofs.Surely.{CallsSurely, is_refused, is_found, is_written, is_stopped, surely, call_steps, stopped_weaker}
 
@@ -44,12 +45,12 @@ tried_by b plan base H P n (Found form proved) entry asked at firm start hint e 
       (record { problem = P; is_problem = asked; base_is = hint; start = λ X is. subst (λ (s : Option Set). IsNoWorseThan P s (Found form proved)) is start }),
 )
 tried_by b plan base H P n NoForm entry asked at firm start hint e legal = (
-  inr (record { cause = CauseNoForm; nodes = n; is = e; legal = legal }),
+  inr (record { step = P.step; band = band_of P.plan P.theta; cause = CauseNoForm; nodes = n; is = e; legal = legal }),
   subst (λ (x : Entry). IsGood b plan base H x) (sym e) tt,
 )
 tried_by b plan base H P n NoneFound entry asked at firm start hint e legal = (
-  inr (record { cause = Spent; nodes = n; is = e; legal = legal }),
-  subst (λ (x : Entry). IsGood b plan base H x) (sym e) (record { problem = P; is_problem = subst (λ (k : ℕ). IsProblemOf b plan H P.session k P) at.0 asked; no_base = at.2 }),
+  inr (record { step = P.step; band = band_of P.plan P.theta; cause = Spent; nodes = n; is = e; legal = legal }),
+  subst (λ (x : Entry). IsGood b plan base H x) (sym e) (record { problem = P; is_problem = asked; no_base = at.1 }),
 )
 
 module _ {D : Type 0} (session : ℕ) (old new : Running D) (a : Assembly) (for : IsAssembledFor old.bank old.plan old.base (history old.marks) session a) where
@@ -72,7 +73,7 @@ module _ {D : Type 0} (session : ℕ) (old new : Running D) (a : Assembly) (for 
       let P = problem_of a.problem in
       let H = history old.marks in
       let asked : IsProblemOf old.bank old.plan H P.session P.step P = subst (λ (n : ℕ). IsProblemOf old.bank old.plan H n P.step P) (sym session_is) for.asked in
-      says.other (record { pending = asked.pending; aside = sym (ap (λ (R : Problem). R.aside) asked.of_seat.is) })
+      says.other (record { pending = asked.pending; aside = sym (flag_now old.bank old.plan H P.session P.step P asked) })
   not_stale Memory says = says
   not_stale Disk says = says
   not_stale (JournalFull size) says = says

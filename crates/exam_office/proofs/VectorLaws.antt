@@ -6,15 +6,15 @@ use Rattle.std.specs.List.{filter}
 use Rattle.std.proofs.lemmas.List.{append-nil}
 use Rattle.std.proofs.lemmas.List.Elements.{filter-append}
 use Rattle.bank_tables.specs.Tables.{Tables}
-use Rattle.exam_model.specs.Plan.{Plan}
-use Rattle.exam_model.specs.Relaxed.{Multipliers}
+use Rattle.form_model.specs.Plan.{Plan}
+use Rattle.certificate_model.specs.Relaxed.{Multipliers}
 use Rattle.history_model.specs.Judging.{Record}
 use Rattle.exam_office.specs.Warm.{first_vector, serves, servings, vector_of, warm_of}
 use Rattle.exam_office.specs.KeptVectors.{vector_at, AreVectorsOf, new_by, new_vector}
 use Rattle.exam_office.specs.declared.vectors.NewVector.{NewVector}
 use Rattle.history_model.specs.declared.entry.Entry.{Entry}
 use Rattle.history_model.specs.declared.entry.Entry.TheVariants.{Started, SetAside, Served, Answered, Closed}
-use Rattle.exam_model.specs.ProofTrees.{ProofTree}
+use Rattle.certificate_model.specs.ProofTrees.{ProofTree}
 use Rattle.std.proofs.lemmas.Bool.{eqb-true, eqb-false}
 
 -- the last of a list with one element more
@@ -68,8 +68,8 @@ set_else (w ∷ each) (suc k) (suc s) v other = set_else each k s v (λ e. other
 module _ (b : Tables) (plan : Plan) where
   new_is : (entry : Entry) (tree : Option ProofTree) (new : NewVector) → Some new ≡ new_by b plan entry tree
       → ((s : ℕ) → serves s entry ≡ (new.session == s)) × (new.vector ≡ option_and_then (first_vector b plan) tree)
-  new_is (Started session booking eligible) tree new e = absurd (cc)
-  new_is (SetAside session cause nodes) tree new e = absurd (cc)
+  new_is (Started session booking eligible without) tree new e = absurd (cc)
+  new_is (SetAside session step band cause nodes) tree new e = absurd (cc)
   new_is (Served session step item form proved nodes) tree new e =
       let same : new ≡ record { session = session; vector = option_and_then (first_vector b plan) tree } = cc in
       ((λ s. ap (λ (n : NewVector). n.session == s) (sym same)), ap (λ (n : NewVector). n.vector) same)
@@ -77,8 +77,8 @@ module _ (b : Tables) (plan : Plan) where
   new_is (Closed session) tree new e = absurd (cc)
 
   none_is : (entry : Entry) (tree : Option ProofTree) → None ≡ new_by b plan entry tree → (s : ℕ) → serves s entry ≡ false
-  none_is (Started session booking eligible) tree e s = refl
-  none_is (SetAside session cause nodes) tree e s = refl
+  none_is (Started session booking eligible without) tree e s = refl
+  none_is (SetAside session step band cause nodes) tree e s = refl
   none_is (Served session step item form proved nodes) tree e s = absurd (cc)
   none_is (Answered session step response) tree e s = refl
   none_is (Closed session) tree e s = refl

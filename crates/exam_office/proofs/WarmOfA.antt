@@ -1,14 +1,14 @@
 -- The vectors of sessions of the worked bank without stimuli, whose plan has two rows: its sides are 0 to 3.
 use Rattle.std.proofs.Common.{◌≡◌, ℕ, true, List, [], ◌∷◌, None, Some, refl}
-use Rattle.exam_model.specs.declared.node.Node.TheVariants.{Bound}
-use Rattle.exam_model.specs.Relaxed.{Multipliers}
-use Rattle.exam_model.proofs.BankA.{item_a, bank_a, plan_of_rows, plan_a}
+use Rattle.certificate_model.specs.declared.node.Node.TheVariants.{Bound}
+use Rattle.certificate_model.specs.Relaxed.{Multipliers}
+use Rattle.form_model.proofs.BankA.{item_a, bank_a, plan_of_rows, plan_a}
 use Rattle.history_model.specs.declared.entry.Entry.TheVariants.{Started, Served, Answered}
 use Rattle.history_model.specs.Judging.{Record}
 use Rattle.exam_office.specs.Warm.{warm_of}
 
 unfoldable started : ℕ → Record
-started s = record { entry = Started s 70 (0 ∷ 1 ∷ 2 ∷ 3 ∷ 4 ∷ 5 ∷ []); tree = None }
+started s = record { entry = Started s 70 (record { count = 1; sets = (0 ∷ 1 ∷ 2 ∷ 3 ∷ 4 ∷ 5 ∷ []) ∷ [] }) None; tree = None }
 
 -- an item is served in a session at a step, and its tree has these vectors
 unfoldable served : ℕ → ℕ → List Multipliers → Record

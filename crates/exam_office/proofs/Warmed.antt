@@ -3,14 +3,14 @@ use Rattle.std.proofs.Common.{◌≡◌, ℕ, Bool, true, false, List, Option, S
 use Rattle.std.specs.Prelude.{slice_get, IfSome}
 use Rattle.std.specs.Option.{option_and_then}
 use Rattle.bank_tables.specs.Tables.{Tables}
-use Rattle.exam_model.specs.Plan.{Plan}
-use Rattle.exam_model.specs.Problem.{Problem}
-use Rattle.exam_model.specs.declared.seat.Seat.{Seat}
-use Rattle.exam_model.specs.Seats.{IsSeatProblem}
-use Rattle.exam_model.specs.ProofTrees.{ProofTree}
-use Rattle.exam_model.specs.Relaxed.{Multipliers}
-use Rattle.exam_model.specs.Verdicts.{NamesOnlySides}
-use Rattle.exam_model.proofs.Computed.{names_sides as sides_named}
+use Rattle.form_model.specs.Plan.{Plan}
+use Rattle.form_model.specs.Problem.{Problem}
+use Rattle.serving_model.specs.declared.seat.Seat.{Seat}
+use Rattle.serving_model.specs.Seats.{IsSeatProblem}
+use Rattle.certificate_model.specs.ProofTrees.{ProofTree}
+use Rattle.certificate_model.specs.Relaxed.{Multipliers}
+use Rattle.certificate_model.specs.Verdicts.{NamesOnlySides}
+use Rattle.certificate_model.proofs.Computed.{names_sides as sides_named}
 use Rattle.history_model.specs.Judging.{Record}
 use Rattle.exam_office.specs.Warm.{names_sides, if_of_plan, first_vector, vector_of, last_serving, warm_of, FitsPlan}
 

@@ -5,9 +5,9 @@ use Rattle.bank_tables.specs.Tables.{Tables}
 use Rattle.exam_edge.specs.Faults.{Rose}
 use Rattle.exam_edge.specs.Images.{AllImages, AtEachMoment, latest}
 use Rattle.exam_edge.specs.Lent.{IsLent}
-use Rattle.exam_model.specs.Plan.{Plan}
-use Rattle.exam_model.specs.Problem.{Problem}
-use Rattle.exam_model.specs.Forms.{Form, objective}
+use Rattle.form_model.specs.Plan.{Plan}
+use Rattle.form_model.specs.Problem.{Problem}
+use Rattle.form_model.specs.Forms.{Form, objective}
 use Rattle.history_model.specs.declared.entry.Cause.{Cause}
 use Rattle.history_model.specs.declared.entry.Cause.TheVariants.{NoForm, Spent}
 use Rattle.history_model.specs.declared.entry.Entry.{Entry}
@@ -25,10 +25,9 @@ use Rattle.history_model.specs.Refusals.{refusal_of}
 use Rattle.history_model.specs.Requests.{Does}
 use Rattle.history_model.specs.SessionProblems.{IsProblemOf}
 use Rattle.exam_records.specs.Shape.{IsRecord}
-use Rattle.exam_records.specs.Spelling.{payload_of}
 use Rattle.answer_journal.specs.Journal.{tells_of, accounts_of, faults_of, identity_of}
-use Rattle.exam_office.specs.Files.{Stands}
-use Rattle.exam_office.specs.Handling.{IsRefusal}
+use Rattle.exam_office.specs.Files.{payload_in, Stands}
+use Rattle.exam_handler.specs.Handling.{IsRefusal}
 use Rattle.exam_office.specs.Marks.{history, reach}
 use Rattle.exam_office.specs.Running.{Running}
 use Rattle.exam_office.specs.Writing.{IsOneOf, IsSameOffice, IsUnmended}
@@ -42,7 +41,7 @@ pub record IsTooLongWith {D : Type 0} (b : Tables) (plan : Plan) (H : List Entry
   pub next : comes_next last.entry
   pub spells : IsRecord last
   pub may : MayFollow b plan H last.entry last.tree
-  pub size_is : size ≡ reach new.marks + 5 + length (payload_of last)
+  pub size_is : size ≡ reach new.marks + 5 + length (payload_in b plan last)
   pub above : plan.journal < size
   pub sure : new.doubt ≡ None
 
@@ -77,18 +76,18 @@ pub record IsGoodServing (b : Tables) (plan : Plan) (base : List ℕ) (H : List 
   pub start : (X : Set) → problem.start ≡ Some X → IsNoLessThan problem X (has form)
 
 -- eligibility is set aside with the budget spent only if the base is no form
-pub record IsGoodAside (b : Tables) (plan : Plan) (base : List ℕ) (H : List Entry) (session : ℕ) : Type 0 where
+pub record IsGoodAside (b : Tables) (plan : Plan) (base : List ℕ) (H : List Entry) (session step : ℕ) : Type 0 where
   pub problem : Problem
-  pub is_problem : IsProblemOf b plan H session 0 problem
+  pub is_problem : IsProblemOf b plan H session step problem
   pub no_base : Form problem (has base) → ⊥
 
-abbrev pub IsGoodCause : Tables → Plan → List ℕ → List Entry → ℕ → Cause → Type 0
-IsGoodCause b plan base H session NoForm = ⊤
-IsGoodCause b plan base H session Spent = IsGoodAside b plan base H session
+abbrev pub IsGoodCause : Tables → Plan → List ℕ → List Entry → ℕ → ℕ → Cause → Type 0
+IsGoodCause b plan base H session step NoForm = ⊤
+IsGoodCause b plan base H session step Spent = IsGoodAside b plan base H session step
 
 abbrev pub IsGood : Tables → Plan → List ℕ → List Entry → Entry → Type 0
 IsGood b plan base H (Served session step item form proved nodes) = IsGoodServing b plan base H session step form
-IsGood b plan base H (SetAside session cause nodes) = IsGoodCause b plan base H session cause
+IsGood b plan base H (SetAside session step band cause nodes) = IsGoodCause b plan base H session step cause
 IsGood b plan base H entry = ⊤
 
 -- good entries lead from a history to another

@@ -1,20 +1,20 @@
 -- One call of an office that may write one entry.
 use Rattle.std.specs.Prelude.{◌≡◌, ◌⊎◌, ℕ, ◌+◌, ◌<◌, Bool, true, false, List, [], ◌∷◌, ◌++◌, length, Option, Some, None, Result, Ok, Err}
 use Rattle.bank_tables.specs.Tables.{Tables}
-use Rattle.exam_model.specs.Plan.{Plan}
+use Rattle.form_model.specs.Plan.{Plan}
+use Rattle.history_model.specs.declared.entry.Bands.{Bands}
 use Rattle.history_model.specs.declared.entry.Entry.{Entry}
 use Rattle.history_model.specs.declared.entry.Entry.TheVariants.{Started, Answered, Closed}
 use Rattle.history_model.specs.Entries.{holder}
 use Rattle.history_model.specs.Judging.{Record, MayFollow}
 use Rattle.history_model.specs.Legality.{Legal}
 use Rattle.exam_records.specs.Shape.{IsRecord}
-use Rattle.exam_records.specs.Spelling.{payload_of}
 use Rattle.exam_office.specs.declared.mark.Mark.{Mark}
 use Rattle.exam_office.specs.declared.mark.Mark.TheVariants.{Own}
 use Rattle.history_model.specs.declared.refusal.Refusal.{Refusal}
 use Rattle.history_model.specs.declared.refusal.Refusal.TheVariants.{JournalFull, Disk, Memory}
 use Rattle.history_model.specs.declared.request.Request.TheVariants.{Begin, Answer, Close}
-use Rattle.exam_office.specs.Files.{Stands}
+use Rattle.exam_office.specs.Files.{payload_in, Stands}
 use Rattle.exam_office.specs.Marks.{reach, history}
 use Rattle.history_model.specs.Refusals.{recorded, refusal_of}
 use Rattle.exam_office.specs.Running.{Running}
@@ -50,7 +50,7 @@ pub record IsTooLong (b : Tables) (plan : Plan) (marks : List Mark) (entry : Ent
   pub is_entry : last.entry ≡ entry
   pub spells : IsRecord last
   pub may : MayFollow b plan (history marks) last.entry last.tree
-  pub size_is : size ≡ reach marks + 5 + length (payload_of last)
+  pub size_is : size ≡ reach marks + 5 + length (payload_in b plan last)
   pub above : plan.journal < size
 
 -- why the entry that was to be added after these marks was not
@@ -81,11 +81,11 @@ FindsAnswer b plan session step response H (add entry) =
     (refusal_of b plan H (Answer session step response) ≡ None) × (recorded H session step ≡ None)
     × (entry ≡ Answered session step response) × Legal b plan H entry
 
--- the entry starts a session for a booking
+-- the entry starts a session for a booking, without a list
 pub record IsStartFor (booking : ℕ) (entry : Entry) : Type 0 where
   pub session : ℕ
-  pub eligible : List ℕ
-  pub is : entry ≡ Started session booking eligible
+  pub eligible : Bands
+  pub is : entry ≡ Started session booking eligible None
 
 -- those of a booking: no more sessions are allowed; it has a session; or one is to be started
 abbrev pub FindsStart : Tables → Plan → ℕ → List Entry → Finding → Type 0

@@ -2,9 +2,9 @@
 use Rattle.std.specs.Prelude.{◌≡◌, ⊤, ℕ, ◌<◌, Bool, List, [], ◌∷◌, ◌++◌, length, slice_get, Option, Some, None, IfSome}
 use Rattle.std.specs.Option.{option_and_then, option_flatten}
 use Rattle.bank_tables.specs.Tables.{Tables}
-use Rattle.exam_model.specs.Plan.{Plan}
-use Rattle.exam_model.specs.ProofTrees.{ProofTree}
-use Rattle.exam_model.specs.Relaxed.{Multipliers}
+use Rattle.form_model.specs.Plan.{Plan}
+use Rattle.certificate_model.specs.ProofTrees.{ProofTree}
+use Rattle.certificate_model.specs.Relaxed.{Multipliers}
 use Rattle.history_model.specs.declared.entry.Entry.{Entry}
 use Rattle.history_model.specs.declared.entry.Entry.TheVariants.{Served}
 use Rattle.history_model.specs.Judging.{Record}

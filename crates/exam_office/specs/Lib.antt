@@ -8,7 +8,6 @@ pub mod Calls
 pub mod Opening
 pub mod Laws
 pub mod Commits
-pub mod Handling
 pub mod Asking
 pub mod Serving
 pub mod Noting

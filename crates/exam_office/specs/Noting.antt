@@ -1,7 +1,7 @@
 -- Marks, each with what its office was opened with.
 use Rattle.std.specs.Prelude.{◌≡◌, ⊤, ℕ, Bool, List, [], ◌∷◌, ◌++◌, map, Option, Some, None}
 use Rattle.bank_tables.specs.Tables.{Tables}
-use Rattle.exam_model.specs.Plan.{Plan}
+use Rattle.form_model.specs.Plan.{Plan}
 use Rattle.answer_journal.specs.Journal.{tells_of, identity_of}
 use Rattle.history_model.specs.declared.entry.Entry.{Entry}
 use Rattle.exam_office.specs.declared.mark.Mark.{Mark}

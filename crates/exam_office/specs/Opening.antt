@@ -1,24 +1,24 @@
 -- How an office is opened.
 use Rattle.std.specs.Prelude.{◌≡◌, ℕ, Bool, IsTrue, List, ◌∷◌, ◌++◌, map, Some, Ok, Err}
 use Rattle.bank_tables.specs.Tables.{Tables}
-use Rattle.exam_model.specs.Plan.{Plan}
+use Rattle.form_model.specs.Plan.{Plan}
 use Rattle.history_model.specs.declared.entry.Entry.{Entry}
 use Rattle.history_model.specs.declared.illegal.Illegal.{Illegal}
 use Rattle.history_model.specs.declared.illegal.Illegal.TheVariants.{Tree, NotSpent}
 use Rattle.history_model.specs.Judging.{Record, MayFollow}
+use Rattle.history_model.specs.Lifting.{IsLifted}
 use Rattle.history_model.specs.Reasons.{IsIllegal}
-use Rattle.exam_records.specs.Reading.{record_of}
+use Rattle.exam_records.specs.Reading.{old_record_of}
 use Rattle.answer_journal.specs.Frames.{payloads, shadowj1}
 use Rattle.answer_journal.specs.OpenFault.{first_fault}
 use Rattle.answer_journal.specs.declared.open_fault.OpenFault.{OpenFault as JournalFault}
 use Rattle.answer_journal.specs.declared.open_fault.OpenFault.TheVariants.{Disk as OfDisk, Memory as OfMemory}
 use Rattle.answer_journal.specs.Payload.{end_of}
 use Rattle.answer_journal.specs.Walk.{first_payloads}
-use Rattle.exam_records.specs.Spelling.{payload_of}
 use Rattle.exam_records.specs.Shape.{IsRecord}
 use Rattle.exam_office.specs.declared.fault.OpenFault.{OpenFault}
 use Rattle.exam_office.specs.declared.fault.OpenFault.TheVariants.{Journal, BadRecord, BadTree, Illegal as NotLegal, Disk, Memory}
-use Rattle.exam_office.specs.Files.{AreRecordsOf}
+use Rattle.exam_office.specs.Files.{payload_in, AreRecordsOf}
 
 -- the fault of a record that may not follow: of its tree, or of its entry
 abbrev pub fault_of : ℕ → Illegal → OpenFault
@@ -31,13 +31,22 @@ pub record IsTaken (b : Tables) (plan : Plan) (H : List Entry) (payload : List �
   pub last : Record
   pub is_entry : last.entry ≡ entry
   pub spells : IsRecord last
-  pub spelling : payload_of last ≡ payload
+  pub spelling : payload_in b plan last ≡ payload
   pub may : MayFollow b plan H last.entry last.tree
+
+-- the payload is read by the first version, and what that leaves out is added after the history: this is the record then
+pub record IsReadAs (b : Tables) (plan : Plan) (H : List Entry) (payload : List ℕ) (last : Record) : Type 0 where
+  pub old : Record
+  pub reads : old_record_of payload ≡ Ok old
+  pub lifted : IsLifted b plan H old.entry last.entry
+  pub tree : last.tree ≡ old.tree
+  pub spells : IsRecord last
+  pub spelling : payload_in b plan last ≡ payload
 
 -- the payload spells no record, or one that may not follow; the first reason
 pub record IsRefusedFor (b : Tables) (plan : Plan) (H : List Entry) (at : ℕ) (payload : List ℕ) (fault : OpenFault) : Type 0 where
   pub last : Record
-  pub reads : record_of payload ≡ Ok last
+  pub reads : IsReadAs b plan H payload last
   pub reason : Illegal
   pub illegal : IsIllegal b plan H last.entry last.tree reason
   pub is : fault ≡ fault_of at reason
@@ -55,7 +64,7 @@ IsNotFollowing b plan H at last Memory = Unit {0}
 IsNotFollowing b plan H at last fault = ⊥
 
 abbrev pub IsNotTaken : Tables → Plan → List Entry → ℕ → List ℕ → OpenFault → Type 0
-IsNotTaken b plan H at payload (BadRecord place fault) = (place ≡ at) × (record_of payload ≡ Err fault)
+IsNotTaken b plan H at payload (BadRecord place fault) = (place ≡ at) × (old_record_of payload ≡ Err fault)
 IsNotTaken b plan H at payload (BadTree place) = IsRefusedFor b plan H at payload (BadTree place)
 IsNotTaken b plan H at payload (NotLegal place reason) = IsRefusedFor b plan H at payload (NotLegal place reason)
 IsNotTaken b plan H at payload Memory = Unit {0}
@@ -66,8 +75,8 @@ IsNotTaken b plan H at payload fault = ⊥
 pub record AreTaken (b : Tables) (plan : Plan) (tells : Bool) (file : List ℕ) (given at : ℕ) (H : List Entry) : Type 0 where
   pub records : List Record
   pub are : AreRecordsOf b plan H records
-  pub bytes : IsTrue tells → map payload_of records ≡ first_payloads given file
-  pub place : IsTrue tells → at ≡ end_of 8 (map payload_of records)
+  pub bytes : IsTrue tells → map (payload_in b plan) records ≡ first_payloads given file
+  pub place : IsTrue tells → at ≡ end_of 8 (map (payload_in b plan) records)
 
 -- the fault of a file that is no journal
 abbrev pub journal_fault : JournalFault → OpenFault
@@ -82,8 +91,8 @@ pub record IsRefusedFile (b : Tables) (plan : Plan) (file : List ℕ) (fault : O
   pub are : AreRecordsOf b plan H records
   pub first : List ℕ
   pub rest : List (List ℕ)
-  pub gives : payloads shadowj1 file ≡ Some (map payload_of records ++ first ∷ rest)
-  pub refused : IsNotTaken b plan H (end_of 8 (map payload_of records)) first fault
+  pub gives : payloads shadowj1 file ≡ Some (map (payload_in b plan) records ++ first ∷ rest)
+  pub refused : IsNotTaken b plan H (end_of 8 (map (payload_in b plan) records)) first fault
 
 -- what opening a file may answer: out of memory, a fault of the disk, the first thing that is wrong with its frames, or
 -- the first record that is refused

@@ -3,12 +3,12 @@ use Rattle.std.specs.Prelude.{◌≡◌, ℕ, ◌+◌, ◌*◌, ◌-◌, Bool, f
 use Rattle.std.specs.List.{filter, list_all}
 use Rattle.std.specs.Option.{option_and_then}
 use Rattle.bank_tables.specs.Tables.{Tables}
-use Rattle.exam_model.specs.Plan.{Plan}
-use Rattle.exam_model.specs.Problem.{Problem}
-use Rattle.exam_model.specs.Forms.{stimuli_of}
-use Rattle.exam_model.specs.ProofTrees.{ProofTree}
-use Rattle.exam_model.specs.Relaxed.{Multipliers, cap_side}
-use Rattle.exam_model.specs.Verdicts.{NamesOnlySides}
+use Rattle.form_model.specs.Plan.{Plan}
+use Rattle.form_model.specs.Problem.{Problem}
+use Rattle.form_model.specs.Forms.{stimuli_of}
+use Rattle.certificate_model.specs.ProofTrees.{ProofTree}
+use Rattle.certificate_model.specs.Relaxed.{Multipliers, cap_side}
+use Rattle.certificate_model.specs.Verdicts.{NamesOnlySides}
 use Rattle.history_model.specs.declared.entry.Entry.{Entry}
 use Rattle.history_model.specs.declared.entry.Entry.TheVariants.{Served}
 use Rattle.history_model.specs.Judging.{Record, MayFollow}
@@ -17,9 +17,8 @@ use Rattle.history_model.specs.declared.refusal.Refusal.TheVariants.{Memory}
 use Rattle.history_model.specs.declared.request.Request.TheVariants.{Look}
 use Rattle.history_model.specs.Refusals.{refusal_of}
 use Rattle.answer_journal.specs.Journal.{JournalState, tells_of, payloads_of, IsDoubtful}
-use Rattle.exam_records.specs.Spelling.{payload_of}
 use Rattle.exam_records.specs.Shape.{IsRecord}
-use Rattle.exam_office.specs.Files.{AreRecordsOf}
+use Rattle.exam_office.specs.Files.{payload_in, AreRecordsOf}
 use Rattle.exam_office.specs.Marks.{history}
 use Rattle.exam_office.specs.Running.{Running}
 
@@ -64,11 +63,11 @@ pub record IsInDoubtAfter {D : Type 0} (b : Tables) (plan : Plan) (H : List Entr
   pub is_entry : last.entry ≡ entry
   pub spells : IsRecord last
   pub may : MayFollow b plan H last.entry last.tree
-  pub doubtful : IsDoubtful (map payload_of R) (payload_of last) journal
+  pub doubtful : IsDoubtful (map (payload_in b plan) R) (payload_in b plan last) journal
 
 -- the journal holds these records; with an entry in doubt, perhaps one of it after them
 abbrev pub Holds : {D : Type 0} → Tables → Plan → List Entry → JournalState D → List Record → Option Entry → Option Record → Type 0
-Holds b plan H journal R None None = IsTrue (tells_of journal) → payloads_of journal ≡ map payload_of R
+Holds b plan H journal R None None = IsTrue (tells_of journal) → payloads_of journal ≡ map (payload_in b plan) R
 Holds b plan H journal R None (Some last) = ⊥
 Holds b plan H journal R (Some entry) None = ⊥
 Holds b plan H journal R (Some entry) (Some last) = IsInDoubtAfter b plan H journal R entry last

@@ -2,11 +2,11 @@
 
 ghost use Rattle.std.specs.Prelude.{◌≡◌};
 ghost use Rattle.exam_office.specs.Asking.{IsAsked, IsSettledReply};
-ghost use Rattle.exam_office.specs.Handling.{IsReply};
+ghost use Rattle.exam_handler.specs.Handling.{IsReply};
 
-use crate::handler::Handler;
 use crate::office::Office;
 use exam_edge::Disk;
+use exam_handler::Handler;
 use history_model::{Reply, Request};
 use std::alloc::Global;
 use std::sync::Wait;

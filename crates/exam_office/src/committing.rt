@@ -1,15 +1,18 @@
 //! What was assembled is made an entry.
 
-ghost use Rattle.std.specs.Prelude.{◌≡◌, ◌≤◌, ℕ, true, Some, IsTrue, IfOk, IfErr, IfSome, IfNone, OnOk};
+ghost use Rattle.std.specs.Prelude.{◌≡◌, ◌↔◌, ◌≤◌, ℕ, true, Some, IsTrue, IfOk, IfErr, IfSome, IfNone, OnOk};
 ghost use Rattle.bank_tables.specs.Items.{Set, has};
 ghost use Rattle.exam_edge.specs.Lent.{IsLent};
 ghost use Rattle.exam_edge.specs.Images.{AllImages, AtEachMoment, latest};
-ghost use Rattle.exam_model.specs.Forms.{Form};
-ghost use Rattle.exam_model.specs.Validity.{IsWellMade};
+ghost use Rattle.form_model.specs.Forms.{Form};
+ghost use Rattle.form_model.specs.Plan.{band_of};
+ghost use Rattle.form_model.specs.Validity.{IsWellMade};
 ghost use Rattle.constraint_model.specs.Views.{problem_of};
 ghost use Rattle.shadow_select.specs.Next.{HasFreeItem};
 ghost use Rattle.branch_bound.specs.Assemblies.{IsFirmOutcome};
+ghost use Rattle.history_model.specs.declared.entry.Entry.TheVariants.{SetAside};
 ghost use Rattle.history_model.specs.Judging.{MayFollow};
+ghost use Rattle.history_model.specs.declared.place.Place.TheVariants.{Pending};
 ghost use Rattle.history_model.specs.Places.{place};
 ghost use Rattle.answer_journal.specs.Journal.{tells_of, accounts_of, faults_of, identity_of};
 ghost use Rattle.exam_office.specs.Files.{Stands};
@@ -28,6 +31,28 @@ use history_model::{Cause, Entry, Place, Refusal};
 use shadow_select::next_item;
 use std::alloc::Global;
 
+/// Whether the place waits for the item of a step, and two flags are the same.
+fn is_still(place: &Place, step: u16, now: bool, then: bool) -> bool
+    ensures { IsTrue result ↔ (place.now ≡ Pending step) × (now ≡ then) }
+{
+    *place == Place::Pending(step) && now == then
+}
+
+/// The entry that sets eligibility aside in the band of the problem's estimate.
+fn setting_aside(asked: &Problem, cause: Cause, nodes: u16) -> Entry
+    requires { IsWellMade (problem_of asked.now) }
+    ensures { result ≡ SetAside asked.now.session asked.now.step
+        (band_of (problem_of asked.now).plan asked.now.theta) cause nodes }
+{
+    Entry::SetAside {
+        session: asked.session,
+        step: asked.step,
+        band: asked.spec.band(asked.theta),
+        cause,
+        nodes,
+    }
+}
+
 /// The entry that an outcome of a problem is made.
 fn entry_for(asked: &Problem, outcome: &Outcome, nodes: u16) -> Entry
     requires well_made { IsWellMade (problem_of asked.now) }
@@ -45,37 +70,26 @@ fn entry_for(asked: &Problem, outcome: &Outcome, nodes: u16) -> Entry
             proved: *proved,
             nodes,
         },
-        Outcome::NoForm => Entry::SetAside {
-            session: asked.session,
-            cause: Cause::NoForm,
-            nodes,
-        },
-        Outcome::NoneFound => Entry::SetAside {
-            session: asked.session,
-            cause: Cause::Spent,
-            nodes,
-        },
+        Outcome::NoForm => setting_aside(asked, Cause::NoForm, nodes),
+        Outcome::NoneFound => setting_aside(asked, Cause::Spent, nodes),
     }
 }
 
 impl<'a, D: Disk> Office<'a, D> {
-    /// The place of a session and whether its eligibility is set aside, unless it still waits for
-    /// the item of this step with this flag.
+    /// The place of a session and whether its eligibility is set aside in the band of its estimate,
+    /// unless it still waits for the item of this step with this flag.
     fn find_stale(&self, session: u32, step: u16, aside: bool) -> Option<(Place, bool)>
         requires { is_started (history self.now.marks) session ≡ true }
-        ensures none { IfNone result (IsWaitingFor self.now.plan
+        ensures none { IfNone result (IsWaitingFor self.now.bank self.now.plan
             (history self.now.marks) session step aside) }
-        ensures some { IfSome result (λ at. IsStaleBy self.now.plan
+        ensures some { IfSome result (λ at. IsStaleBy self.now.bank self.now.plan
             (history self.now.marks) session step aside at.0 at.1) }
     {
-        let Some(seat) = self.book.seat(session) else {
-            unreachable!()
-        };
-        let now_aside = seat.aside;
+        let now_aside = self.book.is_aside(session);
         let Some(place) = self.book.place(session) else {
             unreachable!()
         };
-        if place == Place::Pending(step) && now_aside == aside {
+        if is_still(&place, step, now_aside, aside) {
             return None;
         }
         Some((place, now_aside))

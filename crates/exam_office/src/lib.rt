@@ -12,7 +12,6 @@ mod begun;
 mod committing;
 mod fault;
 mod handed_in;
-mod handler;
 pub mod laws;
 mod mark;
 mod noted;
@@ -30,8 +29,8 @@ mod writing;
 
 pub use alone::Alone;
 pub use begun::Begun;
+pub use exam_handler::Handler;
 pub use fault::OpenFault;
-pub use handler::Handler;
 pub use history_model::{Entry, Exposure, Place, Refusal, Reply, Request, Summary};
 pub use mark::Mark;
 pub use noted::Noted;

@@ -1,7 +1,7 @@
 //! What an office reports, and what it was opened with.
 
 ghost use Rattle.std.specs.Prelude.{◌≡◌, ℕ, ◌≤◌, Some, IsTrue, IfOk, IfErr, IfSome, IfNone};
-ghost use Rattle.exam_model.specs.Validity.{IsWellMade};
+ghost use Rattle.form_model.specs.Validity.{IsPlanFor, IsWellMade};
 ghost use Rattle.constraint_model.specs.Views.{problem_of};
 ghost use Rattle.history_model.specs.declared.place.Place.TheVariants.{Pending};
 ghost use Rattle.history_model.specs.declared.refusal.Refusal.TheVariants.{Memory as OutOfMemory};
@@ -11,7 +11,7 @@ ghost use Rattle.history_model.specs.SessionProblems.{IsProblemOf};
 ghost use Rattle.history_model.specs.Summaries.{summary};
 ghost use Rattle.exam_office.specs.Marks.{history, AreMarks, AreCounted};
 ghost use Rattle.exam_office.specs.Noting.{IsDoubtOf};
-ghost use Rattle.exam_model.specs.Forms.{Meets};
+ghost use Rattle.form_model.specs.Forms.{Meets};
 ghost use Rattle.bank_tables.specs.Items.{has};
 ghost use Rattle.history_model.specs.Legality.{LegalRun};
 ghost use Rattle.exam_edge.specs.Images.{IsSettled};
@@ -96,12 +96,13 @@ impl<'a, D: Disk> Office<'a, D> {
         self.spec
     }
 
-    /// What the type keeps of the marks, as a law: the history is a legal run; the marks are in order; there are no more
-    /// faults among them than the disk's count rose since it was handed in, and that count is no lower; an entry in doubt
-    /// is that of the last mark, a fault. The base is a form of the plan alone. If the disk was settled when it was handed
-    /// in, then at each moment since, each file that a crash may leave represents the history of the marks so far, or that
-    /// with the one entry in hand.
+    /// What the type keeps, as a law: the plan is valid for the bank; the history is a legal run; the marks are in order;
+    /// there are no more faults among them than the disk's count rose since it was handed in, and that count is no lower; an
+    /// entry in doubt is that of the last mark, a fault. The base is a form of the plan alone. If the disk was settled when
+    /// it was handed in, then at each moment since, each file that a crash may leave represents the history of the marks so
+    /// far, or that with the one entry in hand.
     pub fn keeps(&self)
+        ensures plan { IsPlanFor self.now.bank self.now.plan }
         ensures run { LegalRun self.now.bank self.now.plan (history self.now.marks) }
         ensures marks { AreMarks self.now.marks }
         ensures counted { AreCounted self.now.marks self.now.opened.faults

@@ -67,6 +67,7 @@ impl<'a, D: Disk> Office<'a, D> {
             ≡ Some at) }
         ensures settled { IfOk result IsSettled }
     {
+        let _ = self.book.entries();
         match self.try_to_serve(alloc, session) {
             Ok(at) => match at {
                 Place::Pending(_) => self.try_to_serve(alloc, session),

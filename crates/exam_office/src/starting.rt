@@ -38,6 +38,7 @@ impl<'a, D: Disk> Office<'a, D> {
             session,
             booking,
             eligible,
+            without: None,
         };
         Ok((session, Some(entry)))
     }

@@ -1,11 +1,13 @@
 //! The records of a file, taken into a book one after another.
 
-ghost use Rattle.std.specs.Prelude.{◌≡◌, ◌+◌, List, [], ◌∷◌, ◌++◌, map, Some, IsTrue, IfOk, IfErr, OnOk};
+ghost use Rattle.std.specs.Prelude.{◌≡◌, ◌⊎◌, ◌+◌, List, [], ◌∷◌, ◌++◌, map, Some, Err, IsTrue, IfOk, IfErr, OnOk};
 ghost use Rattle.std.specs.Option.{is_some};
 ghost use Rattle.exam_edge.specs.Faults.{Rose};
 ghost use Rattle.exam_edge.specs.Lent.{IsLent};
-ghost use Rattle.exam_model.specs.Validity.{IsPlanFor};
+ghost use Rattle.form_model.specs.Validity.{IsPlanFor};
 ghost use Rattle.history_model.specs.Judging.{MayFollow};
+ghost use Rattle.exam_records.specs.declared.fault.RecordFault.TheVariants.{Memory as NoMemory};
+ghost use Rattle.exam_records.specs.Reading.{old_record_of};
 ghost use Rattle.answer_journal.specs.Frames.{payloads, shadowj1};
 ghost use Rattle.answer_journal.specs.Standing.{payload_list};
 ghost use Rattle.answer_journal.specs.Walk.{first_payloads};
@@ -13,7 +15,7 @@ ghost use Rattle.exam_office.specs.declared.fault.OpenFault.TheVariants.{Disk as
 ghost use Rattle.exam_office.specs.declared.mark.Mark.TheVariants.{Old, Opened};
 ghost use Rattle.exam_office.specs.Files.{Stands};
 ghost use Rattle.exam_office.specs.KeptVectors.{AreOf, AreWith, IsTakenWith, AreTakenWith};
-ghost use Rattle.exam_office.specs.Opening.{IsNotFollowing, AreTaken, IsNotTaken, IsOpenAnswer};
+ghost use Rattle.exam_office.specs.Opening.{IsNotFollowing, IsReadAs, AreTaken, IsNotTaken, IsOpenAnswer};
 
 use crate::fault::OpenFault;
 use crate::mark::{Mark, note};
@@ -22,7 +24,7 @@ use answer_journal::{OpenFault as JournalFault, Walk, WalkFault};
 use bank_tables::Bank;
 use constraint_model::Spec;
 use exam_edge::{Disk, Memory};
-use exam_records::{Record, RecordFault, decode};
+use exam_records::{Record, RecordFault, decode_old};
 use exam_session::Book;
 use history_log::Counted;
 use history_model::laws::may_is_legal;
@@ -90,6 +92,19 @@ fn keep_vector(
     }
 }
 
+/// The record of a payload: what the first version of the journal leaves out is that of the book.
+fn read_record(alloc: Global, payload: &[u8], book: &Book) -> Result<Record, RecordFault>
+    ensures reads { IfOk result
+        (IsReadAs book.now.bank book.now.plan book.now.entries payload.now) }
+    ensures fault { IfErr result
+        (λ fault. (fault ≡ NoMemory) ⊎ (old_record_of payload.now ≡ Err fault)) }
+{
+    match decode_old(alloc, payload) {
+        Ok(old) => Ok(book.lift(old)),
+        Err(fault) => Err(fault),
+    }
+}
+
 /// Takes the record of a payload into the book, where it may follow, and gives its entry.
 fn take_record(
     alloc: Global,
@@ -107,7 +122,7 @@ fn take_record(
     ensures refused { IfErr result
         (IsNotTaken book.old.bank book.old.plan book.old.entries at payload.now) }
 {
-    let rec = match decode(alloc, payload) {
+    let rec = match read_record(alloc, payload, book) {
         Ok(rec) => rec,
         Err(RecordFault::Memory) => return Err(OpenFault::Memory),
         Err(fault) => return Err(OpenFault::BadRecord(at, fault)),

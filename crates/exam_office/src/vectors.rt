@@ -6,6 +6,7 @@ ghost use Rattle.exam_office.specs.Warm.{names_sides};
 ghost use Rattle.exam_office.specs.KeptVectors.{vector_at, new_by, HasRoom, AreVectorsWith, AreVectorsAfter};
 
 use bank_tables::Bank;
+use bank_tables::sides::{CAP_HIGH, CAP_LOW};
 use constraint_model::Spec;
 use exam_records::Record;
 use history_model::Entry;
@@ -25,7 +26,7 @@ fn names_only_sides(bank: &Bank, spec: &Spec, vector: &Vector) -> bool
 {
     let sides = 2 * spec.rows().len() as u128 + 2 * bank.stimuli() as u128;
     let pairs = vector.pairs();
-    pairs.iter().all(|pair| (pair.0 as u128) < sides || pair.0 == 384 || pair.0 == 385)
+    pairs.iter().all(|pair| (pair.0 as u128) < sides || pair.0 == CAP_LOW || pair.0 == CAP_HIGH)
 }
 
 /// A copy of the first vector of a tree, if each side that it names is one of the plan's, or of

@@ -4,11 +4,11 @@ use Rattle.std.specs.Option.{option_map}
 use Rattle.std.proofs.Math.Bool.{true≢false}
 use Rattle.bank_tables.specs.Items.{Set, has}
 use Rattle.bank_tables.specs.Tables.{Tables}
-use Rattle.exam_model.specs.Plan.{Plan}
-use Rattle.exam_model.specs.Problem.{Problem, whole}
-use Rattle.exam_model.specs.Forms.{Form, Meets}
-use Rattle.exam_model.specs.ProofTrees.{ProofTree}
-use Rattle.exam_model.specs.Validity.{IsPlanFor, IsWhole}
+use Rattle.form_model.specs.Plan.{Plan}
+use Rattle.form_model.specs.Problem.{Problem, whole}
+use Rattle.form_model.specs.Forms.{Form, Meets}
+use Rattle.certificate_model.specs.ProofTrees.{ProofTree}
+use Rattle.form_model.specs.Validity.{IsPlanFor, IsWhole}
 use Rattle.proof_tree.specs.Shape.{IsTree}
 use Rattle.branch_bound.specs.declared.outcome.Outcome.{Outcome}
 use Rattle.branch_bound.specs.declared.outcome.Outcome.TheVariants.{NoneFound}

@@ -8,8 +8,8 @@ use Rattle.spec_reader.specs.declared.plan_fault.PlanFault.{PlanFault}
 use Rattle.spec_reader.specs.Reading.{IsReadFault}
 use Rattle.spec_reader.proofs.SameLaws.{only_outside}
 use Rattle.exam_edge.specs.Faults.{Rose}
-use Rattle.exam_model.specs.Plan.{Plan}
-use Rattle.exam_model.specs.ProofTrees.{ProofTree}
+use Rattle.form_model.specs.Plan.{Plan}
+use Rattle.certificate_model.specs.ProofTrees.{ProofTree}
 use Rattle.history_model.specs.declared.entry.Entry.{Entry}
 use Rattle.history_model.specs.declared.request.Request.{Request}
 use Rattle.exam_office.specs.declared.fault.OpenFault.{OpenFault}

@@ -5,11 +5,11 @@ use Rattle.std.specs.Option.{option_map}
 use Rattle.bank_tables.specs.Items.{Set, has, AreWords}
 use Rattle.bank_tables.specs.Tables.{Tables}
 use Rattle.bank_tables.proofs.Bits.{same_sets}
-use Rattle.exam_model.specs.declared.draft.Rate.{Rate as Fraction}
-use Rattle.exam_model.specs.declared.row.Row.{Row}
-use Rattle.exam_model.specs.declared.row.Row.TheVariants as row
-use Rattle.exam_model.specs.declared.row.StimulusBound.{StimulusBound}
-use Rattle.exam_model.specs.Plan.{Plan, no_row}
+use Rattle.form_model.specs.declared.draft.Rate.{Rate as Fraction}
+use Rattle.form_model.specs.declared.row.Row.{Row}
+use Rattle.form_model.specs.declared.row.Row.TheVariants as row
+use Rattle.form_model.specs.declared.row.StimulusBound.{StimulusBound}
+use Rattle.form_model.specs.Plan.{Plan, no_row}
 use Rattle.spec_reader.specs.Plans.{SaidPlan, row_said, plan_said}
 use Rattle.spec_reader.specs.Rules.{Said, Count, Quantity, Enemies, Stimuli}
 use Rattle.spec_reader.proofs.SameLaws.{one_plan}
@@ -74,8 +74,8 @@ same_rows (x ∷ xs) (y ∷ ys) a b e =
     (same_rows xs ys (λ r lt. a (suc r) (omega (arith, lt))) (λ r lt. b (suc r) (omega (arith, lt))) tail)
 
 -- a plan by its fields
-plan_of : ℕ → List ℤ → List Row → List StimulusBound → Fraction → List ℕ → ℕ → ℕ → ℕ → ℕ → Option (List ℕ) → Plan
-plan_of length prior rows bounds rate key budget base_budget sessions journal base =
+plan_of : ℕ → List ℤ → List Row → List StimulusBound → Fraction → List ℕ → List ℕ → ℕ → ℕ → ℕ → ℕ → Option (List ℕ) → Plan
+plan_of length prior rows bounds rate key bands budget base_budget sessions journal base =
     record {
       length = length;
       prior = prior;
@@ -83,6 +83,7 @@ plan_of length prior rows bounds rate key budget base_budget sessions journal ba
       bounds = bounds;
       rate = rate;
       key = key;
+      bands = bands;
       budget = budget;
       base_budget = base_budget;
       sessions = sessions;
@@ -90,7 +91,7 @@ plan_of length prior rows bounds rate key budget base_budget sessions journal ba
       base = base;
     }
 
-plan_is : (p : Plan) → plan_of p.length p.prior p.rows p.bounds p.rate p.key p.budget p.base_budget p.sessions p.journal p.base ≡ p
+plan_is : (p : Plan) → plan_of p.length p.prior p.rows p.bounds p.rate p.key p.bands p.budget p.base_budget p.sessions p.journal p.base ≡ p
 unfolding plan_of
 plan_is p = refl
 
@@ -103,6 +104,7 @@ same_plan p q a b e =
     let bounds : p.bounds ≡ q.bounds = ap (λ (s : SaidPlan). s.bounds) e in
     let rate : p.rate ≡ q.rate = ap (λ (s : SaidPlan). s.rate) e in
     let key : p.key ≡ q.key = ap (λ (s : SaidPlan). s.key) e in
+    let bands : p.bands ≡ q.bands = ap (λ (s : SaidPlan). s.bands) e in
     let budget : p.budget ≡ q.budget = ap (λ (s : SaidPlan). s.budget) e in
     let base_budget : p.base_budget ≡ q.base_budget = ap (λ (s : SaidPlan). s.base_budget) e in
     let sessions : p.sessions ≡ q.sessions = ap (λ (s : SaidPlan). s.sessions) e in

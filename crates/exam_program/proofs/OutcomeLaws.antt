@@ -5,7 +5,7 @@ use Rattle.bank_tables.specs.Tables.{Tables}
 use Rattle.spec_reader.specs.Canonical.{canonical}
 use Rattle.exam_edge.specs.Faults.{Rose}
 use Rattle.exam_edge.specs.Images.{Account}
-use Rattle.exam_model.specs.Plan.{Plan}
+use Rattle.form_model.specs.Plan.{Plan}
 use Rattle.exam_text.specs.Texts.{no_memory}
 use Rattle.history_model.specs.declared.request.Request.{Request}
 use Rattle.replay_cli.specs.Replies.{lines_of}

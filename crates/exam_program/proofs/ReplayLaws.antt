@@ -4,7 +4,7 @@ use Rattle.bank_tables.specs.Tables.{Tables}
 use Rattle.exam_edge.specs.Faults.{Rose}
 use Rattle.exam_edge.specs.Images.{Account, IsImage, AtEachMoment, IsSettled, latest}
 use Rattle.exam_edge.specs.ImageLaws.{at_end, joined, weaker}
-use Rattle.exam_model.specs.Plan.{Plan}
+use Rattle.form_model.specs.Plan.{Plan}
 use Rattle.history_model.specs.declared.entry.Entry.{Entry}
 use Rattle.history_model.specs.declared.request.Reply.{Reply}
 use Rattle.history_model.specs.declared.request.Request.{Request}

@@ -6,7 +6,7 @@ use Rattle.std.specs.Prelude.{Result, Ok, Err, IfOk, IfErr}
 use Rattle.std.specs.declared.alloc.AllocError.{AllocError}
 use Rattle.bank_tables.specs.Tables.{Tables}
 use Rattle.exam_edge.specs.Images.{AllImages}
-use Rattle.exam_model.specs.Plan.{Plan}
+use Rattle.form_model.specs.Plan.{Plan}
 use Rattle.exam_text.specs.Texts.{no_memory}
 use Rattle.turn_lock.specs.Histories.{StartsWith}
 use Rattle.history_model.specs.declared.entry.Entry.{Entry}

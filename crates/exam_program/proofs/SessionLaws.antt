@@ -1,7 +1,7 @@
 -- The history that a replay leads to is a legal run.
 use Rattle.std.proofs.Common.{ℕ, Bool, List, [], ◌∷◌, ◌++◌, Option, Some, None, sym, subst}
 use Rattle.bank_tables.specs.Tables.{Tables}
-use Rattle.exam_model.specs.Plan.{Plan}
+use Rattle.form_model.specs.Plan.{Plan}
 use Rattle.history_model.specs.declared.entry.Entry.{Entry}
 use Rattle.history_model.specs.declared.entry.Entry.TheVariants.{Closed}
 use Rattle.history_model.specs.declared.place.Place.{Place}

@@ -3,14 +3,14 @@ use Rattle.std.specs.Prelude.{◌≡◌, ℕ, List, Bool, Some, None}
 use Rattle.std.specs.Option.{option_map}
 use Rattle.bank_tables.specs.Items.{has}
 use Rattle.bank_tables.specs.Tables.{Tables}
-use Rattle.exam_model.specs.declared.verdict.Verdict.TheVariants.{NoForm}
-use Rattle.exam_model.specs.Plan.{Plan}
-use Rattle.exam_model.specs.Problem.{Problem}
-use Rattle.exam_model.specs.Forms.{Firm, HasNoForm}
-use Rattle.exam_model.specs.ProofTrees.{ProofTree}
-use Rattle.exam_model.specs.Pruning.{IsPruned}
-use Rattle.exam_model.specs.Validity.{IsWhole, IsWellMade}
-use Rattle.exam_model.specs.Verdicts.{IsVerdict}
+use Rattle.certificate_model.specs.declared.verdict.Verdict.TheVariants.{NoForm}
+use Rattle.form_model.specs.Plan.{Plan}
+use Rattle.form_model.specs.Problem.{Problem}
+use Rattle.form_model.specs.Forms.{Firm, HasNoForm}
+use Rattle.certificate_model.specs.ProofTrees.{ProofTree}
+use Rattle.certificate_model.specs.Pruning.{IsPruned}
+use Rattle.form_model.specs.Validity.{IsWhole, IsWellMade}
+use Rattle.certificate_model.specs.Verdicts.{IsVerdict}
 use Rattle.proof_tree.specs.Shape.{IsTree}
 use Rattle.branch_bound.specs.declared.outcome.Outcome.{Outcome}
 use Rattle.branch_bound.specs.declared.outcome.Outcome.TheVariants.{Found}

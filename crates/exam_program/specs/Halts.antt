@@ -2,9 +2,9 @@
 use Rattle.std.specs.Prelude.{◌≡◌, ℕ, ◌≤◌, Bool, IsTrue, List, length, Ok, Err}
 use Rattle.bank_tables.specs.Tables.{Tables}
 use Rattle.bank_reader.specs.Reading.{bank_of}
-use Rattle.exam_model.specs.Plan.{Plan as Numbers}
-use Rattle.exam_model.specs.ProofTrees.{ProofTree}
-use Rattle.exam_model.specs.Validity.{IsPlanFor}
+use Rattle.form_model.specs.Plan.{Plan as Numbers}
+use Rattle.certificate_model.specs.ProofTrees.{ProofTree}
+use Rattle.form_model.specs.Validity.{IsPlanFor}
 use Rattle.spec_reader.specs.declared.plan_fault.PlanFault.{PlanFault}
 use Rattle.spec_reader.specs.declared.plan_fault.PlanFault.TheVariants as fault
 use Rattle.spec_reader.specs.Reading.{IsPlanText, IsReadFault, most_bytes}

@@ -1,9 +1,9 @@
 -- The sets of items of a plan: what is true of them by their type.
 use Rattle.std.specs.Prelude.{ℕ, ◌<◌, List, length, IfSome, Option, Some, None}
 use Rattle.bank_tables.specs.Items.{AreWords}
-use Rattle.exam_model.specs.declared.row.Row.{Row}
-use Rattle.exam_model.specs.declared.row.Row.TheVariants.{Count, Quantity, Enemies, Stimuli}
-use Rattle.exam_model.specs.Plan.{Plan, row_at}
+use Rattle.form_model.specs.declared.row.Row.{Row}
+use Rattle.form_model.specs.declared.row.Row.TheVariants.{Count, Quantity, Enemies, Stimuli}
+use Rattle.form_model.specs.Plan.{Plan, row_at}
 
 -- the words of a row's set, if it has one
 abbrev pub set_of : Row → Option (List ℕ)

@@ -3,8 +3,8 @@ use Rattle.std.specs.Prelude.{◌≡◌, ℕ, ◌⊎◌, ◌<◌, ◌≤◌, IsT
 use Rattle.hex.specs.Hex.{decode_of, encode_lower}
 use Rattle.bank_tables.specs.Tables.{Tables}
 use Rattle.exam_edge.specs.Faults.{Rose}
-use Rattle.exam_model.specs.Forms.{Meets}
-use Rattle.exam_model.specs.Seats.{is_shown}
+use Rattle.form_model.specs.Forms.{Meets}
+use Rattle.serving_model.specs.Seats.{is_shown}
 use Rattle.history_model.specs.declared.entry.Entry.{Entry}
 use Rattle.history_model.specs.declared.place.Place.TheVariants.{Complete}
 use Rattle.history_model.specs.declared.refusal.Refusal.TheVariants.{SessionsFull}
@@ -15,8 +15,8 @@ use Rattle.history_model.specs.Places.{place}
 use Rattle.history_model.specs.Refusals.{refusal_of}
 use Rattle.exam_office.specs.Files.{Stands}
 use Rattle.exam_office.specs.Noting.{NotedMark}
-use Rattle.exam_model.specs.Plan.{Plan}
-use Rattle.exam_model.specs.ProofTrees.{ProofTree}
+use Rattle.form_model.specs.Plan.{Plan}
+use Rattle.certificate_model.specs.ProofTrees.{ProofTree}
 use Rattle.proof_tree.specs.Shape.{IsTree}
 use Rattle.proof_tree.specs.Spelling.{bytes_of}
 use Rattle.proof_tree.specs.Reading.{read}

@@ -10,9 +10,9 @@ use Rattle.spec_reader.specs.Reading.{IsReadFault}
 use Rattle.spec_reader.specs.Canonical.{canonical}
 use Rattle.spec_reader.specs.Texts.{plan_text}
 use Rattle.exam_edge.specs.Faults.{Rose}
-use Rattle.exam_model.specs.Plan.{Plan}
-use Rattle.exam_model.specs.Problem.{Problem}
-use Rattle.exam_model.specs.ProofTrees.{ProofTree}
+use Rattle.form_model.specs.Plan.{Plan}
+use Rattle.form_model.specs.Problem.{Problem}
+use Rattle.certificate_model.specs.ProofTrees.{ProofTree}
 use Rattle.exam_text.specs.Texts.{files_failed, no_memory}
 use Rattle.history_model.specs.declared.entry.Entry.{Entry}
 use Rattle.history_model.specs.declared.refusal.Refusal.TheVariants.{SessionsFull}

@@ -4,7 +4,7 @@ use Rattle.std.specs.Prelude.{◌≡◌, ℕ, ◌+◌, ◌<◌, ⊤, Bool, IsTru
 use Rattle.bank_tables.specs.Tables.{Tables}
 use Rattle.exam_edge.specs.Faults.{Rose}
 use Rattle.exam_edge.specs.Images.{Account, AllImages, AtEachMoment}
-use Rattle.exam_model.specs.Plan.{Plan}
+use Rattle.form_model.specs.Plan.{Plan}
 use Rattle.history_model.specs.declared.entry.Entry.{Entry}
 use Rattle.history_model.specs.declared.refusal.Refusal.TheVariants.{SessionsFull, JournalFull, Disk as DiskFault, Memory as NoMemory}
 use Rattle.history_model.specs.declared.request.Reply.{Reply}
@@ -17,10 +17,9 @@ use Rattle.history_model.specs.Requests.{Does}
 use Rattle.exam_office.specs.declared.fault.OpenFault.{OpenFault}
 use Rattle.exam_office.specs.declared.fault.OpenFault.TheVariants as open_fault
 use Rattle.exam_office.specs.Asking.{AreGood, IsBegunBy, StandsForOne}
-use Rattle.exam_office.specs.Files.{Stands}
+use Rattle.exam_office.specs.Files.{payload_in, Stands}
 use Rattle.exam_office.specs.Opening.{IsOpenAnswer}
 use Rattle.exam_records.specs.Shape.{IsRecord}
-use Rattle.exam_records.specs.Spelling.{payload_of}
 use Rattle.exam_program.specs.declared.halt.Halt.{Halt}
 use Rattle.exam_program.specs.declared.halt.Halt.TheVariants as halt
 use Rattle.exam_program.specs.Outside.{DiskSeen, IsUntouched, WasSettled}
@@ -110,7 +109,7 @@ pub record IsFullAt (b : Tables) (plan : Plan) (G : List Entry) (request : Reque
   pub next : IsNextOf b plan G request K last.entry
   pub spells : IsRecord last
   pub may : MayFollow b plan K last.entry last.tree
-  pub size_is : size ≡ now + 5 + length (payload_of last)
+  pub size_is : size ≡ now + 5 + length (payload_in b plan last)
   pub above : plan.journal < size
 
 -- ---- a journal that is refused

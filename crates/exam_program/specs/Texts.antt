@@ -4,9 +4,9 @@ use Rattle.std.specs.Fmt.{decimal}
 use Rattle.hex.specs.Hex.{encode_lower}
 use Rattle.bank_tables.specs.Items.{Set, has}
 use Rattle.bank_tables.specs.Tables.{Tables, size}
-use Rattle.exam_model.specs.Problem.{Problem}
-use Rattle.exam_model.specs.Forms.{stimuli_of, objective}
-use Rattle.exam_model.specs.ProofTrees.{ProofTree}
+use Rattle.form_model.specs.Problem.{Problem}
+use Rattle.form_model.specs.Forms.{stimuli_of, objective}
+use Rattle.certificate_model.specs.ProofTrees.{ProofTree}
 use Rattle.proof_tree.specs.Spelling.{bytes_of}
 use Rattle.exam_text.specs.Texts.{no_memory}
 use Rattle.answer_journal.specs.declared.open_fault.OpenFault.TheVariants.{TooLong, Header, Length, Cut, Disk as OfDisk, Memory as OfMemory}

@@ -7,7 +7,7 @@ ghost use Rattle.answer_journal.specs.Frames.{shadowj1};
 ghost use Rattle.answer_journal.specs.Standing.{IsAsLeft};
 ghost use Rattle.history_model.specs.declared.request.Reply.TheVariants.{Exposure as Exposed};
 ghost use Rattle.command_line.specs.Commands.{Audit, command_of};
-ghost use Rattle.exam_model.specs.Validity.{IsPlanFor};
+ghost use Rattle.form_model.specs.Validity.{IsPlanFor};
 ghost use Rattle.exam_lines.specs.Texts.{summary_text};
 ghost use Rattle.replay_cli.specs.Replies.{line_of};
 ghost use Rattle.exam_program.specs.Halts.{IsBeforeJournal};

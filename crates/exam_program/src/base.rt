@@ -3,8 +3,8 @@
 ghost use Rattle.std.specs.Prelude.{◌≡◌, IfOk, IfErr};
 ghost use Rattle.bank_tables.specs.Items.{has};
 ghost use Rattle.constraint_model.specs.Views.{problem_of};
-ghost use Rattle.exam_model.specs.Forms.{Meets};
-ghost use Rattle.exam_model.specs.Validity.{IsPlanFor};
+ghost use Rattle.form_model.specs.Forms.{Meets};
+ghost use Rattle.form_model.specs.Validity.{IsPlanFor};
 ghost use Rattle.exam_program.specs.Bases.{IsWholeAssembly, FindsForm, IsBaseForm, TellsForm};
 ghost use Rattle.exam_program.specs.Halts.{HaltsAtBase};
 

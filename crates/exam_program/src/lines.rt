@@ -3,7 +3,7 @@
 ghost use Rattle.std.specs.Prelude.{◌≡◌, IfOk, string_bytes};
 ghost use Rattle.exam_program.specs.Texts.{bank_line, mark_text, journal_text, sessions_limit, journal_limit};
 
-use answer_journal::OpenFault as FileFault;
+use answer_journal::OpenFault as JournalFault;
 use bank_tables::Bank;
 use exam_office::OpenFault;
 use std::alloc::{AllocError, Global};
@@ -33,20 +33,22 @@ pub(crate) fn journal_text(alloc: Global, fault: OpenFault) -> Result<String, Al
     ensures { IfOk result (λ line. string_bytes line ≡ journal_text fault) }
 {
     match fault {
-        OpenFault::Journal(FileFault::TooLong(size)) => format!(in alloc;
+        OpenFault::Journal(JournalFault::TooLong(size)) => format!(in alloc;
             "journal: too long {size}\n"
         ),
-        OpenFault::Journal(FileFault::Header) => String::from_str(alloc, "journal: header\n"),
-        OpenFault::Journal(FileFault::Length(at)) => format!(in alloc; "journal: length at {at}\n"),
-        OpenFault::Journal(FileFault::Cut(at)) => format!(in alloc; "journal: cut at {at}\n"),
+        OpenFault::Journal(JournalFault::Header) => String::from_str(alloc, "journal: header\n"),
+        OpenFault::Journal(JournalFault::Length(at)) => format!(in alloc;
+            "journal: length at {at}\n"
+        ),
+        OpenFault::Journal(JournalFault::Cut(at)) => format!(in alloc; "journal: cut at {at}\n"),
         OpenFault::BadRecord(at, _) => format!(in alloc; "journal: record at {at}\n"),
         OpenFault::Illegal(at, _) => format!(in alloc; "journal: illegal at {at}\n"),
         OpenFault::BadTree(at) => format!(in alloc; "journal: bad tree at {at}\n"),
-        OpenFault::Disk | OpenFault::Journal(FileFault::Disk) => String::from_str(
+        OpenFault::Disk | OpenFault::Journal(JournalFault::Disk) => String::from_str(
             alloc,
             "disk failed\n",
         ),
-        OpenFault::Memory | OpenFault::Journal(FileFault::Memory) => String::from_str(
+        OpenFault::Memory | OpenFault::Journal(JournalFault::Memory) => String::from_str(
             alloc,
             "no memory\n",
         ),

@@ -2,6 +2,7 @@
 
 ghost use Rattle.std.specs.Prelude.{◌≡◌, ℕ, ◌≤◌, ◌++◌, List, OnOk, OnErr, IfSome, IfErr};
 ghost use Rattle.exam_edge.specs.Faults.{Rose};
+ghost use Rattle.exam_edge.specs.Lent.{IsLent, FailsOnly};
 ghost use Rattle.exam_program.specs.Drilling.{IsOfDrill};
 ghost use Rattle.exam_program.specs.Halts.{IsBeforeJournal, IsOfNoDisk};
 ghost use Rattle.exam_program.specs.Stopping.{IsUnprinted};
@@ -17,10 +18,8 @@ pub(crate) fn put<O: Sink>(out: &mut O, piece: &[u8]) -> Result<(), Failed>
         (IsWritten (O.tells out.old) (O.written out.old) (O.written out.new) piece.now) }
     ensures err { OnErr result
         (WritesPart (O.tells out.old) (O.written out.old) (O.written out.new) piece.now) }
-    ensures failed { OnErr result (Rose (O.faults out.old) (O.faults out.new)) }
-    ensures grows { O.faults out.old ≤ O.faults out.new }
-    ensures tells { O.tells out.new ≡ O.tells out.old }
-    ensures identity { O.identity out.new ≡ O.identity out.old }
+    ensures failed { FailsOnly O.faults out.old out.new result }
+    ensures frame { IsLent O.tells O.identity O.faults out.old out.new }
 {
     let mut done = 0;
     'piece: while done < piece.len() {

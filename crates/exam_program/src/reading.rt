@@ -3,7 +3,7 @@
 ghost use Rattle.std.specs.Prelude.{◌≡◌, ℕ, ◌≤◌, List, IsTrue, IfOk, IfErr};
 ghost use Rattle.exam_edge.specs.Faults.{Rose};
 ghost use Rattle.bank_reader.specs.Reading.{bank_of};
-ghost use Rattle.exam_model.specs.Validity.{IsPlanFor};
+ghost use Rattle.form_model.specs.Validity.{IsPlanFor};
 ghost use Rattle.exam_program.specs.Halts.{HaltsAtBank, IsPlanIn, HaltsAtPlan, Reads, HaltsAtExam, IsScriptIn, HaltsAtScript, IsEarly};
 
 use crate::halt::Halt;

@@ -3,7 +3,7 @@
 ghost use Rattle.std.specs.Prelude.{◌≡◌, ◌++◌, OnOk, IfOk, string_bytes};
 ghost use Rattle.bank_tables.specs.Items.{has};
 ghost use Rattle.constraint_model.specs.Views.{problem_of};
-ghost use Rattle.exam_model.specs.Validity.{IsWellMade};
+ghost use Rattle.form_model.specs.Validity.{IsWellMade};
 ghost use Rattle.exam_program.specs.Texts.{tree_text, no_form, no_base_form, items_text, objective_line, form_text};
 
 use crate::lines::mark_text;

@@ -1,12 +1,12 @@
 -- The first bytes of a record, cut off anywhere before its end, are Short before the tree, and within it the tree's own fault.
-use Rattle.std.proofs.Common.{◌≡◌, ℕ, ◌+◌, ◌-◌, ◌^◌, ◌<◌, ◌≤◌, ◌⊎◌, inl, inr, Bool, true, false, ltb, List, [], ◌∷◌, ◌++◌, length, take, drop, Option, Some, None, Result, Ok, Err, refl, sym, ap, subst, ◌∙◌, arith, length-append}
+use Rattle.std.proofs.Common.{◌≡◌, ℕ, ◌+◌, ◌-◌, ◌^◌, ◌<◌, ◌≤◌, ◌⊎◌, inl, inr, Bool, true, false, ltb, List, [], ◌∷◌, ◌++◌, length, take, drop, get_or, Option, Some, None, Result, Ok, Err, refl, sym, ap, subst, ◌∙◌, arith, length-append}
 use Rattle.std.specs.Int.{Width, w16, w32, w64, byte_len, to_be_bytes}
 use Rattle.std.proofs.lemmas.Bool.{cases_lt, lt-ltb, le-ltb}
 use Rattle.std.proofs.lemmas.List.{append-nil, drop-take, length-take-le}
 use Rattle.std.proofs.Math.Seq.{take-append-add, drop-length}
 use Rattle.bank_tables.specs.Items.{has, AreWords}
 use Rattle.exam_text.specs.First.{◌>>=◌, unless, fault_where}
-use Rattle.exam_model.specs.ProofTrees.{ProofTree}
+use Rattle.certificate_model.specs.ProofTrees.{ProofTree}
 use Rattle.history_model.specs.declared.entry.Cause.{Cause}
 use Rattle.history_model.specs.declared.entry.Cause.TheVariants.{NoForm, Spent}
 use Rattle.history_model.specs.declared.entry.Entry.{Entry}
@@ -23,11 +23,14 @@ use Rattle.exam_records.specs.declared.fault.RecordFault.{RecordFault}
 use Rattle.exam_records.specs.declared.fault.RecordFault.TheVariants.{Short, Tree, Extra}
 use Rattle.history_model.specs.Judging.{Record}
 use Rattle.exam_records.specs.Shape.{GoesWith, IsInRange, IsTreeOrNone, IsRecord}
+use Rattle.exam_records.specs.Old.{one_band, old_entry, old_record, IsOldRecord}
 use Rattle.exam_records.specs.Sets.{set_bytes}
-use Rattle.exam_records.specs.Spelling.{cause_byte, mark_byte, entry_bytes, tree_bytes, payload_of}
-use Rattle.exam_records.specs.Reading.{field, of_tree, set_at, flag_at, tree_at, started, set_aside, served, answered, closed, record_of_kind, record_of}
+use Rattle.exam_records.specs.Spelling.{cause_byte, mark_byte, served_bytes, answered_bytes, closed_bytes, tree_bytes, old_entry_bytes, old_payload_of}
+use Rattle.exam_records.specs.Reading.{field, of_tree, set_at, flag_at, tree_at, served, answered, closed, record_by, old_started, old_set_aside, old_record_of_kind, old_record_of}
 use Rattle.exam_records.specs.Cuts.{IsCutOff}
 use Rattle.exam_records.proofs.SetLaws.{numbers_len}
+use Rattle.exam_records.proofs.BandLaws.{kept_is_old, kept_payload, kept_entry_bytes}
+use Rattle.exam_records.proofs.AgainLaws.{Kinds, alone, old_kind_3, old_kind_4, old_kind_5}
 use Rattle.exam_records.proofs.FieldLaws.{wide64, number_read, byte_read, set_read, flag_read}
 
 -- what was read up to `next` is read of the first k bytes too, or they are short
@@ -115,58 +118,15 @@ cut_tree nodes bytes k at T is lt le p =
 -- ---- each kind
 
 -- the first byte, and the fields after it
-from_kind : (bytes : List ℕ) (k kind tree : ℕ) → k ≤ length bytes → 1 ≤ tree → Stands bytes 0 (kind ∷ []) 1 → (1 ≤ k → IsCutOff tree k (record_of_kind kind (take k bytes))) → IsCutOff tree k (record_of (take k bytes))
-unfolding record_of
-from_kind bytes k kind tree kb some p g =
-    and_then tree k 1 (field (byte_at (take k bytes) 0)) kind (λ first. record_of_kind first (take k bytes) >>= λ found. unless (fault_where (ltb found.1 (length (take k bytes))) (Extra found.1)) (Ok found.0)) some (cut_byte bytes k 0 kind 1 kb p)
-    (λ le. and_stays tree k (record_of_kind kind (take k bytes)) (λ found. unless (fault_where (ltb found.1 (length (take k bytes))) (Extra found.1)) (Ok found.0)) (g le))
+pub from_kind : (kinds : Kinds) (bytes : List ℕ) (k kind tree : ℕ) → k ≤ length bytes → 1 ≤ tree → Stands bytes 0 (kind ∷ []) 1 → (1 ≤ k → IsCutOff tree k (kinds kind (take k bytes))) → IsCutOff tree k (record_by kinds (take k bytes))
+unfolding record_by
+from_kind kinds bytes k kind tree kb some p g =
+    and_then tree k 1 (field (byte_at (take k bytes) 0)) kind (λ first. kinds first (take k bytes) >>= λ found. unless (fault_where (ltb found.1 (length (take k bytes))) (Extra found.1)) (Ok found.0)) some (cut_byte bytes k 0 kind 1 kb p)
+    (λ le. and_stays tree k (kinds kind (take k bytes)) (λ found. unless (fault_where (ltb found.1 (length (take k bytes))) (Extra found.1)) (Ok found.0)) (g le))
 
-cut_started : (session booking : ℕ) (eligible bytes : List ℕ) (k : ℕ) → k < length bytes → (session < 2 ^ 32) × (booking < 2 ^ 64) × AreWords eligible → Stands bytes 0 (entry_bytes (Started session booking eligible)) (length bytes) → IsCutOff (length (entry_bytes (Started session booking eligible))) k (record_of (take k bytes))
-unfolding entry_bytes record_of_kind started
-cut_started session booking eligible bytes k lt fits p =
-    let S : List ℕ = to_be_bytes w32 session in
-    let B : List ℕ = to_be_bytes w64 booking in
-    let X : List ℕ = set_bytes (has eligible) in
-    let kb : k ≤ length bytes = omega (arith, lt) in
-    let fields : Stands bytes 1 (S ++ (B ++ X)) (length bytes) = stand_second bytes 0 (1 ∷ []) (S ++ (B ++ X)) (length bytes) p in
-    let later : Stands bytes 5 (B ++ X) (length bytes) = stand_second bytes 1 S (B ++ X) (length bytes) fields in
-    let last : Stands bytes 13 X (length bytes) = stand_second bytes 5 B X (length bytes) later in
-    let len = numbers_len 64 8 (has eligible) in
-    let end : length bytes ≡ 77 = omega (arith, last.ends, len) in
-    let whole : 77 ≡ length (1 ∷ (S ++ (B ++ X))) = omega (arith, len) in
-    let cut : IsCutOff 77 k (record_of (take k bytes)) = from_kind bytes k 1 77 kb (omega arith) (stand_first bytes 0 (1 ∷ []) (S ++ (B ++ X)) (length bytes) p) (λ _.
-    and_then 77 k 5 (field (number_at w32 (take k bytes) 1)) session _ (omega arith) (cut_number w32 (2 ^ 32) wide32 bytes k 1 session 5 kb fits.0 (stand_first bytes 1 S (B ++ X) (length bytes) fields)) (λ _.
-    and_then 77 k 13 (field (number_at w64 (take k bytes) 5)) booking _ (omega arith) (cut_number w64 (2 ^ 64) wide64 bytes k 5 booking 13 kb fits.1 (stand_first bytes 5 B X (length bytes) later)) (λ _.
-    and_then 77 k (length bytes) (set_at (take k bytes) 13) eligible _ (omega (arith, end)) (cut_set bytes k 13 eligible (length bytes) kb fits.2 last) (λ le. no_tree 77 k _ (omega (arith, lt, end)) (omega (arith, le, end)))))) in
-    subst (λ (n : ℕ). IsCutOff n k (record_of (take k bytes))) whole cut
-
-cause_cut : (cause : Cause) (bytes : List ℕ) (k at next : ℕ) → k ≤ length bytes → Stands bytes at (cause_byte cause ∷ []) next → (spent : Bool) × ReadsOrShort k next (flag_at (take k bytes) at) spent
-cause_cut NoForm bytes k at next kb p = (false, cut_flag bytes k at false next kb p)
-cause_cut Spent bytes k at next kb p = (true, cut_flag bytes k at true next kb p)
-
-cut_set_aside : (session : ℕ) (cause : Cause) (nodes : ℕ) (T : ProofTree) (bytes : List ℕ) (k : ℕ) → k < length bytes → session < 2 ^ 32 → nodes ≡ length T.nodes → IsTree T → Stands bytes 0 (entry_bytes (SetAside session cause nodes) ++ bytes_of T) (length bytes) → IsCutOff (length (entry_bytes (SetAside session cause nodes))) k (record_of (take k bytes))
-unfolding entry_bytes record_of_kind set_aside
-cut_set_aside session cause nodes T bytes k lt fits number is p =
-    let S : List ℕ = to_be_bytes w32 session in
-    let N : List ℕ = to_be_bytes w16 nodes in
-    let C : List ℕ = cause_byte cause ∷ [] in
-    let kb : k ≤ length bytes = omega (arith, lt) in
-    let few : nodes < 2 ^ 16 = omega (arith, number, is.shape.few_nodes) in
-    let entry : Stands bytes 0 (2 ∷ (S ++ (C ++ N))) 8 = stand_first bytes 0 (2 ∷ (S ++ (C ++ N))) (bytes_of T) (length bytes) p in
-    let tree : Stands bytes 8 (bytes_of T) (length bytes) = stand_second bytes 0 (2 ∷ (S ++ (C ++ N))) (bytes_of T) (length bytes) p in
-    let fields : Stands bytes 1 (S ++ (C ++ N)) 8 = stand_second bytes 0 (2 ∷ []) (S ++ (C ++ N)) 8 entry in
-    let later : Stands bytes 5 (C ++ N) 8 = stand_second bytes 1 S (C ++ N) 8 fields in
-    let last : Stands bytes 6 N 8 = stand_second bytes 5 C N 8 later in
-    let flag = cause_cut cause bytes k 5 6 kb (stand_first bytes 5 C N 8 later) in
-    from_kind bytes k 2 8 kb (omega arith) (stand_first bytes 0 (2 ∷ []) (S ++ (C ++ N)) 8 entry) (λ _.
-    and_then 8 k 5 (field (number_at w32 (take k bytes) 1)) session _ (omega arith) (cut_number w32 (2 ^ 32) wide32 bytes k 1 session 5 kb fits (stand_first bytes 1 S (C ++ N) 8 fields)) (λ _.
-    and_then 8 k 6 (flag_at (take k bytes) 5) flag.0 _ (omega arith) flag.1 (λ _.
-    and_then 8 k 8 (field (number_at w16 (take k bytes) 6)) nodes _ (omega arith) (cut_number w16 (2 ^ 16) wide16 bytes k 6 nodes 8 kb few last) (λ le.
-    and_stays 8 k (tree_at nodes (take k bytes) 8) _ (cut_tree nodes bytes k 8 T is lt le tree)))))
-
-cut_served : (session step item : ℕ) (form : List ℕ) (proved : Bool) (nodes : ℕ) (T : ProofTree) (bytes : List ℕ) (k : ℕ) → k < length bytes → (session < 2 ^ 32) × (step < 2 ^ 16) × (item < 2 ^ 16) × AreWords form → nodes ≡ length T.nodes → IsTree T → Stands bytes 0 (entry_bytes (Served session step item form proved nodes) ++ bytes_of T) (length bytes) → IsCutOff (length (entry_bytes (Served session step item form proved nodes))) k (record_of (take k bytes))
-unfolding entry_bytes record_of_kind served
-cut_served session step item form proved nodes T bytes k lt fits number is p =
+pub cut_served : (kinds : Kinds) → ((bytes : List ℕ) → kinds 3 bytes ≡ served bytes) → (session step item : ℕ) (form : List ℕ) (proved : Bool) (nodes : ℕ) (T : ProofTree) (bytes : List ℕ) (k : ℕ) → k < length bytes → (session < 2 ^ 32) × (step < 2 ^ 16) × (item < 2 ^ 16) × AreWords form → nodes ≡ length T.nodes → IsTree T → Stands bytes 0 (served_bytes session step item form proved nodes ++ bytes_of T) (length bytes) → IsCutOff (length (served_bytes session step item form proved nodes)) k (record_by kinds (take k bytes))
+unfolding served
+cut_served kinds is_kind session step item form proved nodes T bytes k lt fits number is p =
     let S : List ℕ = to_be_bytes w32 session in
     let P : List ℕ = to_be_bytes w16 step in
     let I : List ℕ = to_be_bytes w16 item in
@@ -188,20 +148,20 @@ cut_served session step item form proved nodes T bytes k lt fits number is p =
     let form_there : Stands bytes 9 X 73 = subst (λ (n : ℕ). Stands bytes 9 X n) set_len (stand_first bytes 9 X (M ++ N) 76 from_form) in
     let from_mark : Stands bytes 73 (M ++ N) 76 = subst (λ (n : ℕ). Stands bytes n (M ++ N) 76) set_len (stand_second bytes 9 X (M ++ N) 76 from_form) in
     let last : Stands bytes 74 N 76 = stand_second bytes 73 M N 76 from_mark in
-    let cut : IsCutOff 76 k (record_of (take k bytes)) = from_kind bytes k 3 76 kb (omega arith) (stand_first bytes 0 (3 ∷ []) (S ++ (P ++ (I ++ (X ++ (M ++ N))))) 76 entry) (λ _.
+    let cut : IsCutOff 76 k (record_by kinds (take k bytes)) = from_kind kinds bytes k 3 76 kb (omega arith) (stand_first bytes 0 (3 ∷ []) (S ++ (P ++ (I ++ (X ++ (M ++ N))))) 76 entry) (λ _. subst (λ (x : Result (Record × ℕ) RecordFault). IsCutOff 76 k x) (sym (is_kind (take k bytes))) (
     and_then 76 k 5 (field (number_at w32 (take k bytes) 1)) session _ (omega arith) (cut_number w32 (2 ^ 32) wide32 bytes k 1 session 5 kb fits.0 (stand_first bytes 1 S (P ++ (I ++ (X ++ (M ++ N)))) 76 fields)) (λ _.
     and_then 76 k 7 (field (number_at w16 (take k bytes) 5)) step _ (omega arith) (cut_number w16 (2 ^ 16) wide16 bytes k 5 step 7 kb fits.1 (stand_first bytes 5 P (I ++ (X ++ (M ++ N))) 76 from_step)) (λ _.
     and_then 76 k 9 (field (number_at w16 (take k bytes) 7)) item _ (omega arith) (cut_number w16 (2 ^ 16) wide16 bytes k 7 item 9 kb fits.2 (stand_first bytes 7 I (X ++ (M ++ N)) 76 from_item)) (λ _.
     and_then 76 k 73 (set_at (take k bytes) 9) form _ (omega arith) (cut_set bytes k 9 form 73 kb fits.3 form_there) (λ _.
     and_then 76 k 74 (flag_at (take k bytes) 73) proved _ (omega arith) (cut_flag bytes k 73 proved 74 kb (stand_first bytes 73 M N 76 from_mark)) (λ _.
     and_then 76 k 76 (field (number_at w16 (take k bytes) 74)) nodes _ (omega arith) (cut_number w16 (2 ^ 16) wide16 bytes k 74 nodes 76 kb few last) (λ le.
-    and_stays 76 k (tree_at nodes (take k bytes) 76) _ (cut_tree nodes bytes k 76 T is lt le tree)))))))) in
+    and_stays 76 k (tree_at nodes (take k bytes) 76) _ (cut_tree nodes bytes k 76 T is lt le tree))))))))) in
     let whole : 76 ≡ length (3 ∷ (S ++ (P ++ (I ++ (X ++ (M ++ N)))))) = omega (arith, len) in
-    subst (λ (n : ℕ). IsCutOff n k (record_of (take k bytes))) whole cut
+    subst (λ (n : ℕ). IsCutOff n k (record_by kinds (take k bytes))) whole cut
 
-cut_answered : (session step response : ℕ) (bytes : List ℕ) (k : ℕ) → k < length bytes → (session < 2 ^ 32) × (step < 2 ^ 16) × (response < 2 ^ 8) → Stands bytes 0 (entry_bytes (Answered session step response)) (length bytes) → IsCutOff (length (entry_bytes (Answered session step response))) k (record_of (take k bytes))
-unfolding entry_bytes record_of_kind answered
-cut_answered session step response bytes k lt fits p =
+pub cut_answered : (kinds : Kinds) → ((bytes : List ℕ) → kinds 4 bytes ≡ answered bytes) → (session step response : ℕ) (bytes : List ℕ) (k : ℕ) → k < length bytes → (session < 2 ^ 32) × (step < 2 ^ 16) × (response < 2 ^ 8) → Stands bytes 0 (answered_bytes session step response) (length bytes) → IsCutOff (length (answered_bytes session step response)) k (record_by kinds (take k bytes))
+unfolding answered
+cut_answered kinds is_kind session step response bytes k lt fits p =
     let S : List ℕ = to_be_bytes w32 session in
     let P : List ℕ = to_be_bytes w16 step in
     let R : List ℕ = response ∷ [] in
@@ -210,38 +170,89 @@ cut_answered session step response bytes k lt fits p =
     let later : Stands bytes 5 (P ++ R) (length bytes) = stand_second bytes 1 S (P ++ R) (length bytes) fields in
     let last : Stands bytes 7 R (length bytes) = stand_second bytes 5 P R (length bytes) later in
     let end : length bytes ≡ 8 = omega (arith, last.ends) in
-    from_kind bytes k 4 8 kb (omega arith) (stand_first bytes 0 (4 ∷ []) (S ++ (P ++ R)) (length bytes) p) (λ _.
+    from_kind kinds bytes k 4 8 kb (omega arith) (stand_first bytes 0 (4 ∷ []) (S ++ (P ++ R)) (length bytes) p) (λ _. subst (λ (x : Result (Record × ℕ) RecordFault). IsCutOff 8 k x) (sym (is_kind (take k bytes))) (
     and_then 8 k 5 (field (number_at w32 (take k bytes) 1)) session _ (omega arith) (cut_number w32 (2 ^ 32) wide32 bytes k 1 session 5 kb fits.0 (stand_first bytes 1 S (P ++ R) (length bytes) fields)) (λ _.
     and_then 8 k 7 (field (number_at w16 (take k bytes) 5)) step _ (omega arith) (cut_number w16 (2 ^ 16) wide16 bytes k 5 step 7 kb fits.1 (stand_first bytes 5 P R (length bytes) later)) (λ _.
-    and_then 8 k (length bytes) (field (byte_at (take k bytes) 7)) response _ (omega (arith, end)) (cut_byte bytes k 7 response (length bytes) kb last) (λ le. no_tree 8 k _ (omega (arith, lt, end)) (omega (arith, le, end))))))
+    and_then 8 k (length bytes) (field (byte_at (take k bytes) 7)) response _ (omega (arith, end)) (cut_byte bytes k 7 response (length bytes) kb last) (λ le. no_tree 8 k _ (omega (arith, lt, end)) (omega (arith, le, end)))))))
 
-cut_closed : (session : ℕ) (bytes : List ℕ) (k : ℕ) → k < length bytes → session < 2 ^ 32 → Stands bytes 0 (entry_bytes (Closed session)) (length bytes) → IsCutOff (length (entry_bytes (Closed session))) k (record_of (take k bytes))
-unfolding entry_bytes record_of_kind closed
-cut_closed session bytes k lt fits p =
+pub cut_closed : (kinds : Kinds) → ((bytes : List ℕ) → kinds 5 bytes ≡ closed bytes) → (session : ℕ) (bytes : List ℕ) (k : ℕ) → k < length bytes → session < 2 ^ 32 → Stands bytes 0 (closed_bytes session) (length bytes) → IsCutOff (length (closed_bytes session)) k (record_by kinds (take k bytes))
+unfolding closed
+cut_closed kinds is_kind session bytes k lt fits p =
     let S : List ℕ = to_be_bytes w32 session in
     let kb : k ≤ length bytes = omega (arith, lt) in
     let fields : Stands bytes 1 S (length bytes) = stand_second bytes 0 (5 ∷ []) S (length bytes) p in
     let end : length bytes ≡ 5 = omega (arith, fields.ends) in
-    from_kind bytes k 5 5 kb (omega arith) (stand_first bytes 0 (5 ∷ []) S (length bytes) p) (λ _.
-    and_then 5 k (length bytes) (field (number_at w32 (take k bytes) 1)) session _ (omega (arith, end)) (cut_number w32 (2 ^ 32) wide32 bytes k 1 session (length bytes) kb fits fields) (λ le. no_tree 5 k _ (omega (arith, lt, end)) (omega (arith, le, end))))
+    from_kind kinds bytes k 5 5 kb (omega arith) (stand_first bytes 0 (5 ∷ []) S (length bytes) p) (λ _. subst (λ (x : Result (Record × ℕ) RecordFault). IsCutOff 5 k x) (sym (is_kind (take k bytes))) (
+    and_then 5 k (length bytes) (field (number_at w32 (take k bytes) 1)) session _ (omega (arith, end)) (cut_number w32 (2 ^ 32) wide32 bytes k 1 session (length bytes) kb fits fields) (λ le. no_tree 5 k _ (omega (arith, lt, end)) (omega (arith, le, end)))))
 
-alone : (bytes text : List ℕ) (next : ℕ) → Stands bytes 0 (text ++ []) next → Stands bytes 0 text next
-alone bytes text next p = subst (λ (t : List ℕ). Stands bytes 0 t next) (append-nil text) p
+-- ---- the first version
 
-cut_entry : (entry : Entry) (tree : Option ProofTree) (bytes : List ℕ) (k : ℕ) → GoesWith entry tree → IsInRange entry → IsTreeOrNone tree → k < length bytes → Stands bytes 0 (entry_bytes entry ++ tree_bytes tree) (length bytes) → IsCutOff (length (entry_bytes entry)) k (record_of (take k bytes))
-cut_entry (Started session booking eligible) None bytes k goes fits is lt p = cut_started session booking eligible bytes k lt fits (alone bytes (entry_bytes (Started session booking eligible)) (length bytes) p)
-cut_entry (Started session booking eligible) (Some T) bytes k goes fits is lt p = absurd goes
-cut_entry (SetAside session cause nodes) None bytes k goes fits is lt p = absurd goes
-cut_entry (SetAside session cause nodes) (Some T) bytes k goes fits is lt p = cut_set_aside session cause nodes T bytes k lt fits goes is p
+cut_old_started : (session booking : ℕ) (eligible bytes : List ℕ) (k : ℕ) → k < length bytes → (session < 2 ^ 32) × (booking < 2 ^ 64) × AreWords eligible → Stands bytes 0 (old_entry_bytes 0 (Started session booking (one_band eligible) None)) (length bytes) → IsCutOff (length (old_entry_bytes 0 (Started session booking (one_band eligible) None))) k (record_by old_record_of_kind (take k bytes))
+unfolding old_entry_bytes old_record_of_kind old_started
+cut_old_started session booking eligible bytes k lt fits p =
+    let S : List ℕ = to_be_bytes w32 session in
+    let B : List ℕ = to_be_bytes w64 booking in
+    let X : List ℕ = set_bytes (has eligible) in
+    let kb : k ≤ length bytes = omega (arith, lt) in
+    let fields : Stands bytes 1 (S ++ (B ++ X)) (length bytes) = stand_second bytes 0 (1 ∷ []) (S ++ (B ++ X)) (length bytes) p in
+    let later : Stands bytes 5 (B ++ X) (length bytes) = stand_second bytes 1 S (B ++ X) (length bytes) fields in
+    let last : Stands bytes 13 X (length bytes) = stand_second bytes 5 B X (length bytes) later in
+    let len = numbers_len 64 8 (has eligible) in
+    let end : length bytes ≡ 77 = omega (arith, last.ends, len) in
+    let whole : 77 ≡ length (1 ∷ (S ++ (B ++ X))) = omega (arith, len) in
+    let cut : IsCutOff 77 k (record_by old_record_of_kind (take k bytes)) = from_kind old_record_of_kind bytes k 1 77 kb (omega arith) (stand_first bytes 0 (1 ∷ []) (S ++ (B ++ X)) (length bytes) p) (λ _.
+    and_then 77 k 5 (field (number_at w32 (take k bytes) 1)) session _ (omega arith) (cut_number w32 (2 ^ 32) wide32 bytes k 1 session 5 kb fits.0 (stand_first bytes 1 S (B ++ X) (length bytes) fields)) (λ _.
+    and_then 77 k 13 (field (number_at w64 (take k bytes) 5)) booking _ (omega arith) (cut_number w64 (2 ^ 64) wide64 bytes k 5 booking 13 kb fits.1 (stand_first bytes 5 B X (length bytes) later)) (λ _.
+    and_then 77 k (length bytes) (set_at (take k bytes) 13) eligible _ (omega (arith, end)) (cut_set bytes k 13 eligible (length bytes) kb fits.2 last) (λ le. no_tree 77 k _ (omega (arith, lt, end)) (omega (arith, le, end)))))) in
+    subst (λ (n : ℕ). IsCutOff n k (record_by old_record_of_kind (take k bytes))) whole cut
+
+pub cause_cut : (cause : Cause) (bytes : List ℕ) (k at next : ℕ) → k ≤ length bytes → Stands bytes at (cause_byte cause ∷ []) next → (spent : Bool) × ReadsOrShort k next (flag_at (take k bytes) at) spent
+cause_cut NoForm bytes k at next kb p = (false, cut_flag bytes k at false next kb p)
+cause_cut Spent bytes k at next kb p = (true, cut_flag bytes k at true next kb p)
+
+cut_old_set_aside : (session : ℕ) (cause : Cause) (nodes : ℕ) (T : ProofTree) (bytes : List ℕ) (k : ℕ) → k < length bytes → session < 2 ^ 32 → nodes ≡ length T.nodes → IsTree T → Stands bytes 0 (old_entry_bytes 0 (SetAside session 0 0 cause nodes) ++ bytes_of T) (length bytes) → IsCutOff (length (old_entry_bytes 0 (SetAside session 0 0 cause nodes))) k (record_by old_record_of_kind (take k bytes))
+unfolding old_entry_bytes old_record_of_kind old_set_aside
+cut_old_set_aside session cause nodes T bytes k lt fits number is p =
+    let S : List ℕ = to_be_bytes w32 session in
+    let N : List ℕ = to_be_bytes w16 nodes in
+    let C : List ℕ = cause_byte cause ∷ [] in
+    let kb : k ≤ length bytes = omega (arith, lt) in
+    let few : nodes < 2 ^ 16 = omega (arith, number, is.shape.few_nodes) in
+    let entry : Stands bytes 0 (2 ∷ (S ++ (C ++ N))) 8 = stand_first bytes 0 (2 ∷ (S ++ (C ++ N))) (bytes_of T) (length bytes) p in
+    let tree : Stands bytes 8 (bytes_of T) (length bytes) = stand_second bytes 0 (2 ∷ (S ++ (C ++ N))) (bytes_of T) (length bytes) p in
+    let fields : Stands bytes 1 (S ++ (C ++ N)) 8 = stand_second bytes 0 (2 ∷ []) (S ++ (C ++ N)) 8 entry in
+    let later : Stands bytes 5 (C ++ N) 8 = stand_second bytes 1 S (C ++ N) 8 fields in
+    let last : Stands bytes 6 N 8 = stand_second bytes 5 C N 8 later in
+    let flag = cause_cut cause bytes k 5 6 kb (stand_first bytes 5 C N 8 later) in
+    from_kind old_record_of_kind bytes k 2 8 kb (omega arith) (stand_first bytes 0 (2 ∷ []) (S ++ (C ++ N)) 8 entry) (λ _.
+    and_then 8 k 5 (field (number_at w32 (take k bytes) 1)) session _ (omega arith) (cut_number w32 (2 ^ 32) wide32 bytes k 1 session 5 kb fits (stand_first bytes 1 S (C ++ N) 8 fields)) (λ _.
+    and_then 8 k 6 (flag_at (take k bytes) 5) flag.0 _ (omega arith) flag.1 (λ _.
+    and_then 8 k 8 (field (number_at w16 (take k bytes) 6)) nodes _ (omega arith) (cut_number w16 (2 ^ 16) wide16 bytes k 6 nodes 8 kb few last) (λ le.
+    and_stays 8 k (tree_at nodes (take k bytes) 8) _ (cut_tree nodes bytes k 8 T is lt le tree)))))
+
+cut_entry : (entry : Entry) (tree : Option ProofTree) (bytes : List ℕ) (k : ℕ) → GoesWith entry tree → IsInRange entry → IsTreeOrNone tree → k < length bytes → Stands bytes 0 (old_entry_bytes 0 entry ++ tree_bytes tree) (length bytes) → IsCutOff (length (old_entry_bytes 0 entry)) k (record_by old_record_of_kind (take k bytes))
+unfolding old_entry_bytes
+cut_entry (Started session booking eligible without) None bytes k goes fits is lt p = cut_old_started session booking (get_or eligible.sets 0 []) bytes k lt (fits.0, fits.1, fits.2.each 0 (omega arith)) (alone bytes (old_entry_bytes 0 (Started session booking eligible without)) (length bytes) p)
+cut_entry (Started session booking eligible without) (Some T) bytes k goes fits is lt p = absurd goes
+cut_entry (SetAside session step band cause nodes) None bytes k goes fits is lt p = absurd goes
+cut_entry (SetAside session step band cause nodes) (Some T) bytes k goes fits is lt p = cut_old_set_aside session cause nodes T bytes k lt fits.0 goes is p
 cut_entry (Served session step item form proved nodes) None bytes k goes fits is lt p = absurd goes
-cut_entry (Served session step item form proved nodes) (Some T) bytes k goes fits is lt p = cut_served session step item form proved nodes T bytes k lt fits goes is p
-cut_entry (Answered session step response) None bytes k goes fits is lt p = cut_answered session step response bytes k lt fits (alone bytes (entry_bytes (Answered session step response)) (length bytes) p)
+cut_entry (Served session step item form proved nodes) (Some T) bytes k goes fits is lt p = cut_served old_record_of_kind old_kind_3 session step item form proved nodes T bytes k lt fits goes is p
+cut_entry (Answered session step response) None bytes k goes fits is lt p = cut_answered old_record_of_kind old_kind_4 session step response bytes k lt fits (alone bytes (answered_bytes session step response) (length bytes) p)
 cut_entry (Answered session step response) (Some T) bytes k goes fits is lt p = absurd goes
-cut_entry (Closed session) None bytes k goes fits is lt p = cut_closed session bytes k lt fits (alone bytes (entry_bytes (Closed session)) (length bytes) p)
+cut_entry (Closed session) None bytes k goes fits is lt p = cut_closed old_record_of_kind old_kind_5 session bytes k lt fits (alone bytes (closed_bytes session) (length bytes) p)
 cut_entry (Closed session) (Some T) bytes k goes fits is lt p = absurd goes
 
-pub cut_off_is_told : (r : Record) (k : ℕ) → IsRecord r → k < length (payload_of r) → IsCutOff (length (entry_bytes r.entry)) k (record_of (take k (payload_of r)))
-unfolding payload_of
-cut_off_is_told r k is lt =
-    let p : Stands (payload_of r) 0 (payload_of r) (length (payload_of r)) = record { parts = sym (ap (λ (t : List ℕ). payload_of r ++ t) (drop-length (payload_of r)) ∙ append-nil (payload_of r)); ends = omega arith } in
-    cut_entry r.entry r.tree (payload_of r) k is.goes_with is.fits is.tree lt p
+old_cut : (r : Record) (k : ℕ) → IsOldRecord r → k < length (old_payload_of 0 r) → IsCutOff (length (old_entry_bytes 0 r.entry)) k (old_record_of (take k (old_payload_of 0 r)))
+unfolding old_payload_of old_record_of
+old_cut r k is lt =
+    let payload : List ℕ = old_entry_bytes 0 r.entry ++ tree_bytes r.tree in
+    let p : Stands payload 0 payload (length payload) = record { parts = sym (ap (λ (t : List ℕ). payload ++ t) (drop-length payload) ∙ append-nil payload); ends = omega arith } in
+    cut_entry r.entry r.tree payload k is.is_record.goes_with is.is_record.fits is.is_record.tree lt p
+
+pub cut_off_is_told : (first : ℕ) (r : Record) (k : ℕ) → first < 8 → IsRecord r → k < length (old_payload_of first r) → IsCutOff (length (old_entry_bytes first r.entry)) k (old_record_of (take k (old_payload_of first r)))
+cut_off_is_told first r k below is lt =
+    let same = kept_payload first r in
+    subst (λ (p : List ℕ). IsCutOff (length (old_entry_bytes first r.entry)) k (old_record_of (take k p))) same
+    (subst (λ (e : List ℕ). IsCutOff (length e) k (old_record_of (take k (old_payload_of 0 (old_record first r))))) (kept_entry_bytes first r.entry)
+    (old_cut (old_record first r) k (kept_is_old first r below is) (subst (λ (p : List ℕ). k < length p) (sym same) lt)))

@@ -7,7 +7,7 @@ use Rattle.std.proofs.lemmas.Nat.{be_bytes_8, from_be_bytes-to_be_bytes_8}
 use Rattle.bank_tables.specs.Items.{has, AreWords}
 use Rattle.exam_text.specs.First.{unless, fault_where}
 use Rattle.exam_text.proofs.Firsts.{bind_ok, unless_ok, none_where, ok_is}
-use Rattle.exam_model.specs.ProofTrees.{ProofTree}
+use Rattle.certificate_model.specs.ProofTrees.{ProofTree}
 use Rattle.proof_tree.specs.declared.fault.TreeFault.{TreeFault}
 use Rattle.proof_tree.specs.Shape.{IsTree}
 use Rattle.proof_tree.specs.Spelling.{bytes_of}

@@ -2,8 +2,8 @@
 use Rattle.std.proofs.Common.{◌≡◌, ℕ, true, List, [], ◌∷◌, ◌++◌, length, take, None, Some, Ok, Err, refl}
 use Rattle.std.specs.Prelude.{replicate}
 use Rattle.bank_tables.specs.Items.{has}
-use Rattle.exam_model.specs.declared.node.Node.TheVariants.{Bound, Open}
-use Rattle.exam_model.specs.ProofTrees.{ProofTree}
+use Rattle.certificate_model.specs.declared.node.Node.TheVariants.{Bound, Open}
+use Rattle.certificate_model.specs.ProofTrees.{ProofTree}
 use Rattle.history_model.specs.declared.entry.Cause.TheVariants.{Spent}
 use Rattle.history_model.specs.declared.entry.Entry.TheVariants.{Started, SetAside, Served, Answered, Closed}
 use Rattle.proof_tree.specs.declared.fault.TreeFault.TheVariants as tree
@@ -12,27 +12,28 @@ use Rattle.proof_tree.specs.Reading.{pair_at, pairs_at, multipliers_at, vectors_
 use Rattle.exam_records.specs.declared.fault.RecordFault.TheVariants.{Short, Kind, Field, Tree, Extra}
 use Rattle.history_model.specs.Judging.{Record}
 use Rattle.exam_records.specs.Sets.{number_of, numbers_of, items_at}
-use Rattle.exam_records.specs.Spelling.{entry_bytes, payload_of}
-use Rattle.exam_records.specs.Reading.{set_at, flag_at, tree_at, started, set_aside, served, answered, record_of_kind, record_of}
+use Rattle.exam_records.specs.Old.{one_band, old_record}
+use Rattle.exam_records.specs.Spelling.{old_entry_bytes, old_payload_of}
+use Rattle.exam_records.specs.Reading.{set_at, flag_at, tree_at, served, answered, record_by, old_started, old_set_aside, old_record_of_kind, old_record_of}
 
 -- ---- session 0 starts for booking 70, with the items 0 to 5 eligible: 77 bytes
 
 first : Record
-first = record { entry = Started 0 70 (63 ∷ 0 ∷ 0 ∷ 0 ∷ 0 ∷ 0 ∷ 0 ∷ 0 ∷ []); tree = None }
+first = record { entry = Started 0 70 (one_band (63 ∷ 0 ∷ 0 ∷ 0 ∷ 0 ∷ 0 ∷ 0 ∷ 0 ∷ [])) None; tree = None }
 
 first_bytes : List ℕ
 first_bytes = 1 ∷ 0 ∷ 0 ∷ 0 ∷ 0 ∷ 0 ∷ 0 ∷ 0 ∷ 0 ∷ 0 ∷ 0 ∷ 0 ∷ 70 ∷ 63 ∷ replicate 63 0
 
-first_spelled : payload_of first ≡ first_bytes
-unfolding first first_bytes payload_of entry_bytes numbers_of number_of has
+first_spelled : old_payload_of 0 first ≡ first_bytes
+unfolding first first_bytes old_payload_of old_entry_bytes numbers_of number_of has
 first_spelled = refl
 
 first_length : length first_bytes ≡ 77
 unfolding first_bytes
 first_length = refl
 
-first_read : record_of first_bytes ≡ Ok first
-unfolding first first_bytes record_of record_of_kind started set_at items_at numbers_of number_of
+first_read : old_record_of first_bytes ≡ Ok first
+unfolding first first_bytes old_record_of record_by old_record_of_kind old_started set_at items_at numbers_of number_of
 first_read = refl
 
 -- ---- item 2 is served at step 0 of session 0 from the form of the items 1 to 3, proved best by a tree of one leaf
@@ -54,52 +55,52 @@ second_with behind = 3 ∷ 0 ∷ 0 ∷ 0 ∷ 0 ∷ 0 ∷ 0 ∷ 0 ∷ 2 ∷ 14 �
 second_bytes : List ℕ
 second_bytes = second_with (1 ∷ 0 ∷ 1 ∷ leaf_bytes)
 
-second_spelled : payload_of second ≡ second_bytes
-unfolding one_leaf leaf_bytes second second_with second_bytes payload_of entry_bytes numbers_of number_of has bytes_of
+second_spelled : old_payload_of 0 second ≡ second_bytes
+unfolding one_leaf leaf_bytes second second_with second_bytes old_payload_of old_entry_bytes numbers_of number_of has bytes_of
 second_spelled = refl
 
-second_read : record_of second_bytes ≡ Ok second
-unfolding one_leaf leaf_bytes second second_with second_bytes record_of record_of_kind served set_at flag_at tree_at items_at numbers_of number_of read vectors_at multipliers_at pairs_at pair_at nodes_at node_at node_of_kind bound_at
+second_read : old_record_of second_bytes ≡ Ok second
+unfolding one_leaf leaf_bytes second second_with second_bytes old_record_of record_by old_record_of_kind served set_at flag_at tree_at items_at numbers_of number_of read vectors_at multipliers_at pairs_at pair_at nodes_at node_at node_of_kind bound_at
 second_read = refl
 
 -- a mark of 2 is reported before what is cut off after it
-mark_2 : record_of (second_with (2 ∷ [])) ≡ Err (Field 73)
-unfolding second_with record_of record_of_kind served set_at flag_at items_at numbers_of number_of
+mark_2 : old_record_of (second_with (2 ∷ [])) ≡ Err (Field 73)
+unfolding second_with old_record_of record_by old_record_of_kind served set_at flag_at items_at numbers_of number_of
 mark_2 = refl
 
 -- the number of nodes is known once the tree is read, and is reported before what follows the
 -- record
-two_nodes : record_of (second_with (1 ∷ 0 ∷ 2 ∷ (leaf_bytes ++ 9 ∷ []))) ≡ Err (Field 74)
-unfolding one_leaf leaf_bytes second_with record_of record_of_kind served set_at flag_at tree_at items_at numbers_of number_of read vectors_at multipliers_at pairs_at pair_at nodes_at node_at node_of_kind bound_at
+two_nodes : old_record_of (second_with (1 ∷ 0 ∷ 2 ∷ (leaf_bytes ++ 9 ∷ []))) ≡ Err (Field 74)
+unfolding one_leaf leaf_bytes second_with old_record_of record_by old_record_of_kind served set_at flag_at tree_at items_at numbers_of number_of read vectors_at multipliers_at pairs_at pair_at nodes_at node_at node_of_kind bound_at
 two_nodes = refl
 
 -- a fault of the tree is reported before its number of nodes, with its place in the tree
-kind_9 : record_of (second_with (1 ∷ 0 ∷ 2 ∷ 0 ∷ 9 ∷ [])) ≡ Err (Tree (tree.BadKind 1))
-unfolding second_with record_of record_of_kind served set_at flag_at tree_at items_at numbers_of number_of read vectors_at nodes_at node_at node_of_kind
+kind_9 : old_record_of (second_with (1 ∷ 0 ∷ 2 ∷ 0 ∷ 9 ∷ [])) ≡ Err (Tree (tree.BadKind 1))
+unfolding second_with old_record_of record_by old_record_of_kind served set_at flag_at tree_at items_at numbers_of number_of read vectors_at nodes_at node_at node_of_kind
 kind_9 = refl
 
-no_tree : record_of (second_with (1 ∷ 0 ∷ 1 ∷ [])) ≡ Err (Tree tree.Short)
-unfolding second_with record_of record_of_kind served set_at flag_at tree_at items_at numbers_of number_of read
+no_tree : old_record_of (second_with (1 ∷ 0 ∷ 1 ∷ [])) ≡ Err (Tree tree.Short)
+unfolding second_with old_record_of record_by old_record_of_kind served set_at flag_at tree_at items_at numbers_of number_of read
 no_tree = refl
 
 -- ---- eligibility set aside for session 0, as the search was spent with one open node
 
 aside : Record
-aside = record { entry = SetAside 0 Spent 1; tree = Some (record { vectors = []; nodes = Open ∷ [] }) }
+aside = record { entry = SetAside 0 0 0 Spent 1; tree = Some (record { vectors = []; nodes = Open ∷ [] }) }
 
 aside_bytes : List ℕ
 aside_bytes = 2 ∷ 0 ∷ 0 ∷ 0 ∷ 0 ∷ 1 ∷ 0 ∷ 1 ∷ 0 ∷ 7 ∷ []
 
-aside_spelled : payload_of aside ≡ aside_bytes
-unfolding aside aside_bytes payload_of entry_bytes bytes_of
+aside_spelled : old_payload_of 0 aside ≡ aside_bytes
+unfolding aside aside_bytes old_payload_of old_entry_bytes bytes_of
 aside_spelled = refl
 
-aside_read : record_of aside_bytes ≡ Ok aside
-unfolding aside aside_bytes record_of record_of_kind set_aside flag_at tree_at read vectors_at nodes_at node_at node_of_kind
+aside_read : old_record_of aside_bytes ≡ Ok aside
+unfolding aside aside_bytes old_record_of record_by old_record_of_kind old_set_aside flag_at tree_at read vectors_at nodes_at node_at node_of_kind
 aside_read = refl
 
-cause_2 : record_of (2 ∷ 0 ∷ 0 ∷ 0 ∷ 0 ∷ 2 ∷ []) ≡ Err (Field 5)
-unfolding record_of record_of_kind set_aside flag_at
+cause_2 : old_record_of (2 ∷ 0 ∷ 0 ∷ 0 ∷ 0 ∷ 2 ∷ []) ≡ Err (Field 5)
+unfolding old_record_of record_by old_record_of_kind old_set_aside flag_at
 cause_2 = refl
 
 -- ---- step 0 of session 0 answered with response 1
@@ -110,37 +111,37 @@ third = record { entry = Answered 0 0 1; tree = None }
 third_bytes : List ℕ
 third_bytes = 4 ∷ 0 ∷ 0 ∷ 0 ∷ 0 ∷ 0 ∷ 0 ∷ 1 ∷ []
 
-third_spelled : payload_of third ≡ third_bytes
-unfolding third third_bytes payload_of entry_bytes
+third_spelled : old_payload_of 0 third ≡ third_bytes
+unfolding third third_bytes old_payload_of old_entry_bytes
 third_spelled = refl
 
-third_read : record_of third_bytes ≡ Ok third
-unfolding third third_bytes record_of record_of_kind answered
+third_read : old_record_of third_bytes ≡ Ok third
+unfolding third third_bytes old_record_of record_by old_record_of_kind answered
 third_read = refl
 
-third_cut : record_of (take 7 third_bytes) ≡ Err Short
-unfolding third_bytes record_of record_of_kind answered
+third_cut : old_record_of (take 7 third_bytes) ≡ Err Short
+unfolding third_bytes old_record_of record_by old_record_of_kind answered
 third_cut = refl
 
-third_and_more : record_of (third_bytes ++ 0 ∷ []) ≡ Err (Extra 8)
-unfolding third_bytes record_of record_of_kind answered
+third_and_more : old_record_of (third_bytes ++ 0 ∷ []) ≡ Err (Extra 8)
+unfolding third_bytes old_record_of record_by old_record_of_kind answered
 third_and_more = refl
 
 -- ---- and the rest
 
-kind_6 : record_of (6 ∷ []) ≡ Err (Kind 0)
-unfolding record_of record_of_kind
+kind_6 : old_record_of (6 ∷ []) ≡ Err (Kind 0)
+unfolding old_record_of record_by old_record_of_kind
 kind_6 = refl
 
-no_bytes : record_of [] ≡ Err Short
-unfolding record_of
+no_bytes : old_record_of [] ≡ Err Short
+unfolding old_record_of record_by
 no_bytes = refl
 
 -- item 511 is the highest bit of the last byte
-last_item : payload_of (record { entry = Started 1 0 (0 ∷ 0 ∷ 0 ∷ 0 ∷ 0 ∷ 0 ∷ 0 ∷ 9223372036854775808 ∷ []); tree = None }) ≡ 1 ∷ 0 ∷ 0 ∷ 0 ∷ 1 ∷ 0 ∷ 0 ∷ 0 ∷ 0 ∷ 0 ∷ 0 ∷ 0 ∷ 0 ∷ (replicate 63 0 ++ 128 ∷ [])
-unfolding payload_of entry_bytes numbers_of number_of has
+last_item : old_payload_of 0 (record { entry = Started 1 0 (one_band (0 ∷ 0 ∷ 0 ∷ 0 ∷ 0 ∷ 0 ∷ 0 ∷ 9223372036854775808 ∷ [])) None; tree = None }) ≡ 1 ∷ 0 ∷ 0 ∷ 0 ∷ 1 ∷ 0 ∷ 0 ∷ 0 ∷ 0 ∷ 0 ∷ 0 ∷ 0 ∷ 0 ∷ (replicate 63 0 ++ 128 ∷ [])
+unfolding old_payload_of old_entry_bytes numbers_of number_of has
 last_item = refl
 
-close : payload_of (record { entry = Closed 258; tree = None }) ≡ 5 ∷ 0 ∷ 0 ∷ 1 ∷ 2 ∷ []
-unfolding payload_of entry_bytes
+close : old_payload_of 0 (record { entry = Closed 258; tree = None }) ≡ 5 ∷ 0 ∷ 0 ∷ 1 ∷ 2 ∷ []
+unfolding old_payload_of old_entry_bytes
 close = refl

@@ -3,7 +3,7 @@
 use Rattle.std.specs.Prelude.{ℕ, ◌+◌, ◌-◌, ◌==◌, not, Bool, true, false, nat_lt, List, length, drop, Some, None, Result, Ok, Err, if◌then◌else◌}
 use Rattle.std.specs.Int.{w16, w32, w64}
 use Rattle.exam_text.specs.First.{◌>>=◌, unless, fault_where}
-use Rattle.exam_model.specs.ProofTrees.{ProofTree}
+use Rattle.certificate_model.specs.ProofTrees.{ProofTree}
 use Rattle.history_model.specs.declared.entry.Cause.{Cause}
 use Rattle.history_model.specs.declared.entry.Cause.TheVariants.{NoForm, Spent}
 use Rattle.history_model.specs.declared.entry.Entry.TheVariants.{Started, SetAside, Served, Answered, Closed}
@@ -13,6 +13,7 @@ use Rattle.exam_records.specs.declared.fault.RecordFault.{RecordFault}
 use Rattle.exam_records.specs.declared.fault.RecordFault.TheVariants.{Short, Kind, Field, Tree, Extra}
 use Rattle.history_model.specs.Judging.{Record}
 use Rattle.exam_records.specs.Sets.{words_of, items_at}
+use Rattle.exam_records.specs.Old.{one_band}
 
 -- a field before the tree: where it isn't whole, the payload is short
 abbrev pub field : {A : Type 0} → Result A TreeFault → Result A RecordFault
@@ -47,21 +48,6 @@ tree_at nodes bytes at = do
 
 -- ---- each kind of record after its first byte, and the place after it
 
-unfoldable pub started : List ℕ → Result (Record × ℕ) RecordFault
-started bytes = do
-  session ← field (number_at w32 bytes 1)
-  booking ← field (number_at w64 bytes 5)
-  eligible ← set_at bytes 13
-  Ok (record { entry = Started session booking eligible; tree = None }, 77)
-
-unfoldable pub set_aside : List ℕ → Result (Record × ℕ) RecordFault
-set_aside bytes = do
-  session ← field (number_at w32 bytes 1)
-  spent ← flag_at bytes 5
-  nodes ← field (number_at w16 bytes 6)
-  found ← tree_at nodes bytes 8
-  Ok (record { entry = SetAside session (cause_of spent) nodes; tree = Some found.0 }, found.1)
-
 unfoldable pub served : List ℕ → Result (Record × ℕ) RecordFault
 served bytes = do
   session ← field (number_at w32 bytes 1)
@@ -85,18 +71,38 @@ closed bytes = do
   session ← field (number_at w32 bytes 1)
   Ok (record { entry = Closed session; tree = None }, 5)
 
+-- the record of a payload, by what follows each kind: nothing may follow it
+unfoldable pub record_by : (ℕ → List ℕ → Result (Record × ℕ) RecordFault) → List ℕ → Result Record RecordFault
+record_by record_of_kind payload = do
+  kind ← field (byte_at payload 0)
+  found ← record_of_kind kind payload
+  unless (fault_where (nat_lt found.1 (length payload)) (Extra found.1)) (Ok found.0)
+
+-- ---- the first version of the journal
+unfoldable pub old_started : List ℕ → Result (Record × ℕ) RecordFault
+old_started bytes = do
+  session ← field (number_at w32 bytes 1)
+  booking ← field (number_at w64 bytes 5)
+  eligible ← set_at bytes 13
+  Ok (record { entry = Started session booking (one_band eligible) None; tree = None }, 77)
+
+unfoldable pub old_set_aside : List ℕ → Result (Record × ℕ) RecordFault
+old_set_aside bytes = do
+  session ← field (number_at w32 bytes 1)
+  spent ← flag_at bytes 5
+  nodes ← field (number_at w16 bytes 6)
+  found ← tree_at nodes bytes 8
+  Ok (record { entry = SetAside session 0 0 (cause_of spent) nodes; tree = Some found.0 }, found.1)
+
 -- what follows the kind of a record
-unfoldable pub record_of_kind : ℕ → List ℕ → Result (Record × ℕ) RecordFault
-record_of_kind kind bytes =
-    if kind == 1 then started bytes else
-    (if kind == 2 then set_aside bytes else
+unfoldable pub old_record_of_kind : ℕ → List ℕ → Result (Record × ℕ) RecordFault
+old_record_of_kind kind bytes =
+    if kind == 1 then old_started bytes else
+    (if kind == 2 then old_set_aside bytes else
     (if kind == 3 then served bytes else
     (if kind == 4 then answered bytes else
     (if kind == 5 then closed bytes else Err (Kind 0)))))
 
--- the record of a payload: nothing may follow it
-unfoldable pub record_of : List ℕ → Result Record RecordFault
-record_of payload = do
-  kind ← field (byte_at payload 0)
-  found ← record_of_kind kind payload
-  unless (fault_where (nat_lt found.1 (length payload)) (Extra found.1)) (Ok found.0)
+-- the record of a payload, with one band, and no step and band of setting aside
+unfoldable pub old_record_of : List ℕ → Result Record RecordFault
+old_record_of payload = record_by old_record_of_kind payload

@@ -1,5 +1,5 @@
 -- Sets of items in numbers, a bit for each item.
-use Rattle.std.specs.Prelude.{ℕ, zero, suc, ◌+◌, ◌*◌, ◌/◌, ◌%◌, ◌^◌, ◌==◌, ◌&&◌, nat_lt, List, [], ◌∷◌, ◌++◌, slice_index}
+use Rattle.std.specs.Prelude.{ℕ, false, zero, suc, ◌+◌, ◌*◌, ◌/◌, ◌%◌, ◌^◌, ◌==◌, ◌&&◌, nat_lt, List, [], ◌∷◌, ◌++◌, slice_index}
 use Rattle.std.specs.Int.{bit_at}
 use Rattle.bank_tables.specs.Items.{Set}
 use Rattle.bank_tables.specs.Sums.{sum_in}
@@ -20,6 +20,10 @@ set_bytes X = numbers_of 64 8 X
 -- a set of items as contracts see it, in 8 words of 64 bits
 abbrev pub words_of : Set → List ℕ
 words_of X = numbers_of 8 64 X
+
+-- no items
+abbrev pub no_items : List ℕ
+no_items = words_of (λ _. false)
 
 -- the set of items in the 64 bytes from a place on
 unfoldable pub items_at : List ℕ → ℕ → Set

@@ -6,14 +6,15 @@ ghost use Rattle.exam_text.specs.First.{Gives};
 ghost use Rattle.proof_tree.specs.Reading.{number_at, byte_at};
 ghost use Rattle.exam_records.specs.declared.fault.RecordFault.TheVariants.{Memory};
 ghost use Rattle.history_model.specs.Judging.{Record};
-ghost use Rattle.exam_records.specs.Shape.{IsRecord};
-ghost use Rattle.exam_records.specs.Spelling.{payload_of};
-ghost use Rattle.exam_records.specs.Reading.{field, flag_at, cause_of, tree_at, started, set_aside, served, answered, closed, record_of_kind, record_of};
+ghost use Rattle.exam_records.specs.Old.{one_band, IsOldRecord};
+ghost use Rattle.exam_records.specs.Spelling.{old_payload_of};
+ghost use Rattle.exam_records.specs.Reading.{field, flag_at, cause_of, tree_at, served, answered, closed, old_started, old_set_aside, old_record_of_kind, old_record_of};
 
 use crate::fault::RecordFault;
 use crate::record::Record;
-use crate::sets::set_of;
-use history_model::{Cause, Entry};
+use crate::sets::{no_items, set_of};
+use bank_tables::ItemSet;
+use history_model::{Bands, Cause, Entry};
 use proof_tree::{Tree, TreeFault};
 use std::alloc::Global;
 
@@ -106,45 +107,6 @@ fn tree_of(alloc: Global, nodes: u16, bytes: &[u8], at: usize) -> Result<(Tree, 
     Ok((tree, at + used))
 }
 
-#[tactic(auto, unfolding(crate::specs::Reading::started))]
-fn started(bytes: &[u8]) -> Result<(Record, usize), RecordFault>
-    requires { 1 ≤ length bytes.now }
-    ensures { result ≡ started bytes.now }
-{
-    let session = u32_of(bytes, 1)?;
-    let booking = u64_of(bytes, 5)?;
-    let eligible = set_of(bytes, 13)?;
-    let entry = Entry::Started {
-        session,
-        booking,
-        eligible,
-    };
-    Ok((Record { entry, tree: None }, 77))
-}
-
-#[tactic(auto, unfolding(crate::specs::Reading::set_aside))]
-fn set_aside(alloc: Global, bytes: &[u8]) -> Result<(Record, usize), RecordFault>
-    requires { 1 ≤ length bytes.now }
-    ensures { Gives Memory (λ x. x) result (set_aside bytes.now) }
-{
-    let session = u32_of(bytes, 1)?;
-    let spent = flag_of(bytes, 5)?;
-    let nodes = u16_of(bytes, 6)?;
-    let (tree, next) = tree_of(alloc, nodes, bytes, 8)?;
-    let entry = Entry::SetAside {
-        session,
-        cause: cause(spent),
-        nodes,
-    };
-    Ok((
-        Record {
-            entry,
-            tree: Some(tree),
-        },
-        next,
-    ))
-}
-
 #[tactic(auto, unfolding(crate::specs::Reading::served))]
 fn served(alloc: Global, bytes: &[u8]) -> Result<(Record, usize), RecordFault>
     requires { 1 ≤ length bytes.now }
@@ -200,14 +162,65 @@ fn closed(bytes: &[u8]) -> Result<(Record, usize), RecordFault>
     Ok((Record { entry, tree: None }, 5))
 }
 
-#[tactic(auto, unfolding(crate::specs::Reading::record_of_kind))]
-fn record_of_kind(alloc: Global, kind: u8, bytes: &[u8]) -> Result<(Record, usize), RecordFault>
+/// One eligible set.
+fn one_band(eligible: ItemSet) -> Bands
+    ensures { result ≡ one_band eligible }
+{
+    let mut sets = [no_items(); 8];
+    sets[0] = eligible;
+    Bands { count: 1, sets }
+}
+
+#[tactic(auto, unfolding(crate::specs::Reading::old_started))]
+fn old_started(bytes: &[u8]) -> Result<(Record, usize), RecordFault>
     requires { 1 ≤ length bytes.now }
-    ensures { Gives Memory (λ x. x) result (record_of_kind kind bytes.now) }
+    ensures { result ≡ old_started bytes.now }
+{
+    let session = u32_of(bytes, 1)?;
+    let booking = u64_of(bytes, 5)?;
+    let eligible = one_band(set_of(bytes, 13)?);
+    let entry = Entry::Started {
+        session,
+        booking,
+        eligible,
+        without: None,
+    };
+    Ok((Record { entry, tree: None }, 77))
+}
+
+#[tactic(auto, unfolding(crate::specs::Reading::old_set_aside))]
+fn old_set_aside(alloc: Global, bytes: &[u8]) -> Result<(Record, usize), RecordFault>
+    requires { 1 ≤ length bytes.now }
+    ensures { Gives Memory (λ x. x) result (old_set_aside bytes.now) }
+{
+    let session = u32_of(bytes, 1)?;
+    let spent = flag_of(bytes, 5)?;
+    let nodes = u16_of(bytes, 6)?;
+    let (tree, next) = tree_of(alloc, nodes, bytes, 8)?;
+    let entry = Entry::SetAside {
+        session,
+        step: 0,
+        band: 0,
+        cause: cause(spent),
+        nodes,
+    };
+    Ok((
+        Record {
+            entry,
+            tree: Some(tree),
+        },
+        next,
+    ))
+}
+
+#[tactic(auto, unfolding(crate::specs::Reading::old_record_of_kind))]
+fn old_record_of_kind(alloc: Global, kind: u8, bytes: &[u8]) -> Result<(Record, usize), RecordFault>
+    requires { 1 ≤ length bytes.now }
+    ensures { Gives Memory (λ x. x) result (old_record_of_kind kind bytes.now) }
 {
     match kind {
-        1 => started(bytes),
-        2 => set_aside(alloc, bytes),
+        1 => old_started(bytes),
+        2 => old_set_aside(alloc, bytes),
         3 => served(alloc, bytes),
         4 => answered(bytes),
         5 => closed(bytes),
@@ -215,29 +228,30 @@ fn record_of_kind(alloc: Global, kind: u8, bytes: &[u8]) -> Result<(Record, usiz
     }
 }
 
-#[tactic(auto, unfolding(crate::specs::Reading::record_of))]
-fn record_of(alloc: Global, payload: &[u8]) -> Result<Record, RecordFault>
-    ensures { Gives Memory (λ x. x) result (record_of payload.now) }
+#[tactic(auto, unfolding(crate::specs::Reading::old_record_of, crate::specs::Reading::record_by))]
+fn old_record_of(alloc: Global, payload: &[u8]) -> Result<Record, RecordFault>
+    ensures { Gives Memory (λ x. x) result (old_record_of payload.now) }
 {
     let kind = byte_of(payload, 0)?;
-    let (rec, next) = record_of_kind(alloc, kind, payload)?;
+    let (rec, next) = old_record_of_kind(alloc, kind, payload)?;
     if next < payload.len() {
         return Err(RecordFault::Extra(next as u64));
     }
     Ok(rec)
 }
 
-/// The record that the payload spells, all of its bytes. The payload is the bytes of one record: the kind in a byte, the
-/// fields of the entry, and the tree where there is one; numbers are big-endian (docs/FORMATS.md has the table). Fails
-/// with the first fault in the order of reading, or out of memory.
-pub fn decode(alloc: Global, payload: &[u8]) -> Result<Record, RecordFault>
-    // What is read is a record, and the payload its one spelling.
-    ensures found { IfOk result (λ rec. IsRecord rec × (payload.now ≡ payload_of rec)) }
+/// The record that the payload spells, all of its bytes, in the first version of the journal: a start has one eligible set,
+/// and a setting aside has step 0 and band 0. The payload is the bytes of one record: the kind in a byte, the fields of the
+/// entry, and the tree where there is one; numbers are big-endian (docs/FORMATS.md has the table). Fails with the first
+/// fault in the order of reading, or out of memory.
+pub fn decode_old(alloc: Global, payload: &[u8]) -> Result<Record, RecordFault>
+    // What is read is a record of the first version, and the payload its one spelling.
+    ensures found { IfOk result (λ rec. IsOldRecord rec × (payload.now ≡ old_payload_of 0 rec)) }
     // What is spelled so is read, unless memory runs out.
-    ensures only { (r : Record) → IsRecord r → payload.now ≡ payload_of r
+    ensures only { (r : Record) → IsOldRecord r → payload.now ≡ old_payload_of 0 r
         → Gives Memory (λ x. x) result (Ok r) }
     // Which fault it is, and where.
-    ensures exact { Gives Memory (λ x. x) result (record_of payload.now) }
+    ensures exact { Gives Memory (λ x. x) result (old_record_of payload.now) }
 {
-    record_of(alloc, payload)
+    old_record_of(alloc, payload)
 }

@@ -1,8 +1,8 @@
 //! Sets of items in 64 bytes.
 
-ghost use Rattle.std.specs.Prelude.{◌≡◌, ◌+◌, ◌≤◌, ◌++◌, length, OnOk};
+ghost use Rattle.std.specs.Prelude.{◌≡◌, ◌+◌, ◌<◌, ◌≤◌, [], ◌++◌, get_or, length, OnOk};
 ghost use Rattle.bank_tables.specs.Items.{has, AreWords};
-ghost use Rattle.exam_records.specs.Sets.{number_of, set_bytes, items_at, words_of};
+ghost use Rattle.exam_records.specs.Sets.{number_of, set_bytes, items_at, words_of, no_items};
 ghost use Rattle.exam_records.specs.Reading.{set_at};
 
 use crate::fault::RecordFault;
@@ -23,6 +23,14 @@ fn eight_items(set: &ItemSet, first: u16) -> u8
     bits
 }
 
+/// The set of a band.
+pub(crate) fn set_in(sets: &[ItemSet; 8], band: u8) -> ItemSet
+    requires { band < 8 }
+    ensures { result ≡ get_or sets.now band [] }
+{
+    sets[band as usize]
+}
+
 /// Writes the bytes of the set after what was written before.
 pub(crate) fn push_set(out: &mut Vec<u8>, set: &ItemSet) -> Result<(), AllocError>
     ensures { OnOk result (out.new.items ≡ out.old.items ++ set_bytes (has set.now)) }
@@ -38,6 +46,15 @@ pub(crate) fn is_set(set: &ItemSet)
     ensures { AreWords set.now }
 {
     let _ = set.count();
+}
+
+/// No items.
+pub(crate) fn no_items() -> ItemSet
+    ensures { result ≡ no_items }
+{
+    let set = ItemSet::empty();
+    is_set(&set);
+    set
 }
 
 /// The items whose bits are set in 64 bytes.

@@ -1,14 +1,28 @@
 //! What every record has that goes with its tree: a spelling.
 
+ghost use Rattle.std.specs.Prelude.{◌≡◌, ◌<◌, ℕ, [], get_or, length};
 ghost use Rattle.std.specs.Option.{option_copied};
-ghost use Rattle.exam_records.specs.Shape.{GoesWith, IsInRange, IsTreeOrNone, IsRecord};
+ghost use Rattle.bank_tables.specs.Items.{AreWords};
+ghost use Rattle.exam_records.specs.Shape.{GoesWith, HasBands, IsInRange, IsTreeOrNone, IsRecord};
 
 use crate::sets::is_set;
+use bank_tables::ItemSet;
 use history_model::Entry;
 use proof_tree::Tree;
 
-/// The numbers of an entry fit the bytes that they are written in, and its set is one of items.
-fn is_entry(entry: &Entry)
+/// What eight sets are by their type, for a caller's proof: each is one of items. It does nothing.
+pub fn are_sets(sets: &[ItemSet; 8])
+    ensures eight { length sets.now ≡ 8 }
+    ensures each { (band : ℕ) → band < 8 → AreWords (get_or sets.now band []) }
+{
+    for set in sets {
+        is_set(set);
+    }
+}
+
+/// What every entry is by its type, for a caller's proof: its numbers fit the bytes that they are written in, and its sets
+/// are of items. It does nothing.
+pub fn is_in_range(entry: &Entry)
     ensures { IsInRange entry.now }
 {
     match entry {
@@ -16,12 +30,13 @@ fn is_entry(entry: &Entry)
             session,
             booking,
             eligible,
+            ..
         } => {
             let _numbers = (*session, *booking);
-            is_set(eligible);
+            are_sets(&eligible.sets);
         }
-        Entry::SetAside { session, .. } => {
-            let _number = *session;
+        Entry::SetAside { session, step, .. } => {
+            let _numbers = (*session, *step);
         }
         Entry::Served {
             session,
@@ -55,11 +70,13 @@ fn is_tree(tree: Option<&Tree>)
     }
 }
 
-/// An entry and the tree that goes with it have a spelling.
+/// An entry and the tree that goes with it have a spelling, if its bands are few.
 pub(crate) fn is_record(entry: &Entry, tree: Option<&Tree>)
     requires { GoesWith entry.now (option_copied tree) }
-    ensures { IsRecord (record { entry = entry.now; tree = option_copied tree.entry }) }
+    ensures is_record { HasBands entry.now
+        → IsRecord (record { entry = entry.now; tree = option_copied tree.entry }) }
+    ensures tree { IsTreeOrNone (option_copied tree.entry) }
 {
-    is_entry(entry);
+    is_in_range(entry);
     is_tree(tree);
 }

@@ -3,12 +3,13 @@
 ghost use Rattle.std.specs.Prelude.{◌≡◌, ◌≤◌, ◌<◌, ◌∷◌, ◌++◌, length, OnOk, IfOk};
 ghost use Rattle.std.specs.Int.{w32, to_be_bytes};
 ghost use Rattle.std.specs.Option.{option_copied};
-ghost use Rattle.exam_records.specs.Shape.{GoesWith, IsRecord};
-ghost use Rattle.exam_records.specs.Spelling.{cause_byte, entry_bytes, tree_bytes, payload_of};
+ghost use Rattle.exam_records.specs.Shape.{GoesWith, HasBands, IsRecord};
+ghost use Rattle.exam_records.specs.Spelling.{cause_byte, served_bytes, tree_bytes, old_entry_bytes, old_payload_of};
 
 use crate::record::Record;
-use crate::sets::push_set;
+use crate::sets::{push_set, set_in};
 use crate::spellable::is_record;
+use bank_tables::ItemSet;
 use history_model::{Cause, Entry};
 use proof_tree::{Memory, Tree};
 use std::alloc::{AllocError, Global};
@@ -30,24 +31,48 @@ fn push_front(out: &mut Vec<u8>, kind: u8, session: u32) -> Result<(), AllocErro
     out.extend_from_slice(&session.to_be_bytes())
 }
 
-#[tactic(auto, unfolding(crate::specs::Spelling::entry_bytes))]
-fn push_entry(out: &mut Vec<u8>, entry: &Entry) -> Result<(), AllocError>
-    ensures { OnOk result (out.new.items ≡ out.old.items ++ entry_bytes entry.now) }
+/// The bytes of the entry of a serving.
+fn push_served(
+    out: &mut Vec<u8>,
+    session: u32,
+    step: u16,
+    item: u16,
+    form: &ItemSet,
+    proved: bool,
+    nodes: u16,
+) -> Result<(), AllocError>
+    ensures { OnOk result (out.new.items
+        ≡ out.old.items ++ served_bytes session step item form.now proved nodes) }
+{
+    push_front(out, 3, session)?;
+    out.extend_from_slice(&step.to_be_bytes())?;
+    out.extend_from_slice(&item.to_be_bytes())?;
+    push_set(out, form)?;
+    out.push(u8::from(proved))?;
+    out.extend_from_slice(&nodes.to_be_bytes())
+}
+
+#[tactic(auto, unfolding(crate::specs::Spelling::old_entry_bytes))]
+fn push_old_entry(out: &mut Vec<u8>, first: u8, entry: &Entry) -> Result<(), AllocError>
+    requires { first < 8 }
+    ensures { OnOk result (out.new.items ≡ out.old.items ++ old_entry_bytes first entry.now) }
 {
     match entry {
         Entry::Started {
             session,
             booking,
             eligible,
+            ..
         } => {
             push_front(out, 1, *session)?;
             out.extend_from_slice(&booking.to_be_bytes())?;
-            push_set(out, eligible)
+            push_set(out, &set_in(&eligible.sets, first))
         }
         Entry::SetAside {
             session,
             cause,
             nodes,
+            ..
         } => {
             push_front(out, 2, *session)?;
             out.push(cause_byte(cause))?;
@@ -60,14 +85,7 @@ fn push_entry(out: &mut Vec<u8>, entry: &Entry) -> Result<(), AllocError>
             form,
             proved,
             nodes,
-        } => {
-            push_front(out, 3, *session)?;
-            out.extend_from_slice(&step.to_be_bytes())?;
-            out.extend_from_slice(&item.to_be_bytes())?;
-            push_set(out, form)?;
-            out.push(u8::from(*proved))?;
-            out.extend_from_slice(&nodes.to_be_bytes())
-        }
+        } => push_served(out, *session, *step, *item, form, *proved, *nodes),
         Entry::Answered {
             session,
             step,
@@ -91,33 +109,42 @@ fn push_tree(alloc: Global, out: &mut Vec<u8>, tree: Option<&Tree>) -> Result<()
     Ok(())
 }
 
-/// The one spelling of the record of an entry and its tree, at most 86,600 bytes. The condition is
-/// that there is a tree exactly where the entry is SetAside or Served, and that the entry's number
-/// of nodes is the tree's. Fails only where it is out of memory.
-#[tactic(auto, unfolding(crate::specs::Spelling::payload_of))]
-pub fn encode_parts(alloc: Global, entry: &Entry, tree: Option<&Tree>) -> Result<Vec<u8>, Memory>
-    requires { GoesWith entry.now (option_copied tree) }
+/// The spelling of the record of an entry and its tree in the first version of the journal, at most 86,600 bytes. Of a
+/// start it keeps the set of one band, `first`, which is to be the band where each session begins; of a setting aside it
+/// keeps neither the step nor the band. The conditions are that there is such a band, that there is a tree exactly where the
+/// entry is SetAside or Served, and that the entry's number of nodes is the tree's. Fails only where it is out of memory.
+#[tactic(auto, unfolding(crate::specs::Spelling::old_payload_of))]
+pub fn encode_old_parts(
+    alloc: Global,
+    first: u8,
+    entry: &Entry,
+    tree: Option<&Tree>,
+) -> Result<Vec<u8>, Memory>
+    requires first { first < 8 }
+    requires tree { GoesWith entry.now (option_copied tree) }
     ensures spelling { IfOk result (λ bytes. bytes.items
-        ≡ payload_of (record { entry = entry.now; tree = option_copied tree.entry })) }
-    // A record that keeps the condition is one that `decode` gives.
-    ensures is_record { IsRecord (record { entry = entry.now; tree = option_copied tree.entry }) }
+        ≡ old_payload_of first (record { entry = entry.now; tree = option_copied tree.entry })) }
+    // The entry and its tree are a record, if the entry has at most eight bands.
+    ensures is_record { HasBands entry.now
+        → IsRecord (record { entry = entry.now; tree = option_copied tree.entry }) }
     ensures some { IfOk result (λ bytes. 0 < length bytes.items) }
     ensures few { IfOk result (λ bytes. length bytes.items ≤ 86600) }
 {
     is_record(entry, tree);
     let mut out = Vec::new(alloc);
-    push_entry(&mut out, entry)?;
+    push_old_entry(&mut out, first, entry)?;
     push_tree(alloc, &mut out, tree)?;
     Ok(out)
 }
 
-/// The one spelling of the record, as that of its entry and its tree.
-pub fn encode(alloc: Global, rec: &Record) -> Result<Vec<u8>, Memory>
-    requires { GoesWith rec.now.entry rec.now.tree }
-    ensures spelling { IfOk result (λ bytes. bytes.items ≡ payload_of rec.now) }
-    ensures is_record { IsRecord rec.now }
+/// The spelling of the record in the first version of the journal, as that of its entry and its tree.
+pub fn encode_old(alloc: Global, first: u8, rec: &Record) -> Result<Vec<u8>, Memory>
+    requires first { first < 8 }
+    requires tree { GoesWith rec.now.entry rec.now.tree }
+    ensures spelling { IfOk result (λ bytes. bytes.items ≡ old_payload_of first rec.now) }
+    ensures is_record { HasBands rec.now.entry → IsRecord rec.now }
     ensures some { IfOk result (λ bytes. 0 < length bytes.items) }
     ensures few { IfOk result (λ bytes. length bytes.items ≤ 86600) }
 {
-    encode_parts(alloc, &rec.entry, rec.tree.as_ref())
+    encode_old_parts(alloc, first, &rec.entry, rec.tree.as_ref())
 }

@@ -9,7 +9,7 @@ use Rattle.exam_http.specs.Serving as serving
 use Rattle.exam_http.specs.Serving.{LeadsTo}
 use Rattle.exam_hall.specs.Known.{HallKnown, CallerKnown}
 use Rattle.exam_serve.specs.Connections.{Asks, Idles, IsConnection}
-use Rattle.exam_serve.specs.Doors.{IsSeated, IsWorked}
+use Rattle.exam_serve.specs.Doors.{IsNewStation, IsWorked}
 
 leads_same : (start new : CallerKnown) → LeadsTo Asks Idles start new → new.hall ≡ start.hall
 leads_same start _ serving.unchanged = refl
@@ -32,23 +32,23 @@ module _ {D K : Type 0} (tells : D → Bool) (coming returned : D → List K) (i
   abbrev Worked : Station D CallerKnown K → Station D CallerKnown K → Type 0
   Worked = IsWorked tells coming returned is_out faults identity link_tells left written link_faults link_identity hall opened
 
-  -- seated stations that were worked at
-  pub worked_all : (old new : List (Station D CallerKnown K)) → All (IsSeated is_out hall opened) old → length new ≡ length old
+  -- new stations that were worked at
+  pub worked_all : (old new : List (Station D CallerKnown K)) → All (IsNewStation is_out hall opened) old → length new ≡ length old
       → EachServes tells coming returned is_out faults identity Links old new → AllZip Worked old new
-  worked_all [] [] seated e h = tt
-  worked_all [] (b ∷ new) seated e h = absurd (omega arith)
-  worked_all (a ∷ old) [] seated e h = absurd (omega arith)
-  worked_all (a ∷ old) (b ∷ new) seated e h =
-      let first = All-head (IsSeated is_out hall opened) a old seated in
+  worked_all [] [] made e h = tt
+  worked_all [] (b ∷ new) made e h = absurd (omega arith)
+  worked_all (a ∷ old) [] made e h = absurd (omega arith)
+  worked_all (a ∷ old) (b ∷ new) made e h =
+      let first = All-head (IsNewStation is_out hall opened) a old made in
       let works = h 0 a (omega arith) in (
         record {
-          seated = first;
+          made = first;
           serves = works.0;
           ends = works.1;
           same_hall = links_same link_tells left written link_faults link_identity a.token works.0.given works.0.back b.token works.0.served
               ∙ ap (λ (c : CallerKnown). c.hall) first.token;
         },
-        worked_all old new (All-tail (IsSeated is_out hall opened) a old seated) (omega arith) (λ k s lt. h (suc k) s (omega arith)),
+        worked_all old new (All-tail (IsNewStation is_out hall opened) a old made) (omega arith) (λ k s lt. h (suc k) s (omega arith)),
       )
 
   -- they are with the hall

@@ -12,7 +12,7 @@ use Rattle.exam_workers.specs.declared.Station.{Station}
 use Rattle.exam_office.specs.Noting.{NotedMark}
 use Rattle.exam_hall.specs.Known.{CallerKnown}
 use Rattle.exam_serve.specs.Doors.{door_of, seen_of, own_of, has_failed}
-use Rattle.exam_serve.specs.Joining.{AreJoined, IsUnseated}
+use Rattle.exam_serve.specs.Joining.{AreJoined, AreCleared}
 use Rattle.exam_serve.proofs.Orders.{moved}
 
 pub starts_through : {E : Type 0} (a b c : List E) → StartsWith a b → StartsWith b c → StartsWith a c
@@ -65,13 +65,13 @@ or_false true = refl
 or_false false = refl
 
 module _ {D K : Type 0} where
-  pub unseated_none : (p : Known NotedMark) (all : List (Station D CallerKnown K)) → IsUnseated p all all [] false
-  unseated_none p all = record { done = []; order = refl; doors_are = refl; joined = joined_none p; failed_is = refl }
+  pub cleared_none : (p : Known NotedMark) (all : List (Station D CallerKnown K)) → AreCleared p all all [] false
+  cleared_none p all = record { done = []; order = refl; doors_are = refl; joined = joined_none p; failed_is = refl }
 
-  pub unseated_more : (old new : Known NotedMark) (all now left : List (Station D CallerKnown K)) (s : Station D CallerKnown K)
-      (doors : List D) (failed : Bool) → now ≡ left ++ s ∷ [] → TakesIn old s.token.pass new → IsUnseated old all now doors failed
-      → IsUnseated new all left (doors ++ s.door ∷ []) (failed || s.failed)
-  unseated_more old new all now left s doors failed last t u = record {
+  pub cleared_more : (old new : Known NotedMark) (all now left : List (Station D CallerKnown K)) (s : Station D CallerKnown K)
+      (doors : List D) (failed : Bool) → now ≡ left ++ s ∷ [] → TakesIn old s.token.pass new → AreCleared old all now doors failed
+      → AreCleared new all left (doors ++ s.door ∷ []) (failed || s.failed)
+  cleared_more old new all now left s doors failed last t u = record {
     done = u.done ++ s ∷ [];
     order = moved (reverse all) u.done now left s last u.order;
     doors_are = ap (λ l. l ++ s.door ∷ []) u.doors_are ∙ sym (map-append door_of u.done (s ∷ []));
@@ -81,16 +81,16 @@ module _ {D K : Type 0} where
   }
 
   -- when no station is left
-  unseated_whole : (p : Known NotedMark) (all : List (Station D CallerKnown K)) (doors : List D) (failed : Bool)
-      (u : IsUnseated p all [] doors failed) → reverse all ≡ u.done
-  unseated_whole p all doors failed u = u.order ∙ append-nil u.done
+  cleared_whole : (p : Known NotedMark) (all : List (Station D CallerKnown K)) (doors : List D) (failed : Bool)
+      (u : AreCleared p all [] doors failed) → reverse all ≡ u.done
+  cleared_whole p all doors failed u = u.order ∙ append-nil u.done
 
   pub all_doors : (p : Known NotedMark) (all left : List (Station D CallerKnown K)) (doors : List D) (failed : Bool) → left ≡ []
-      → IsUnseated p all left doors failed
+      → AreCleared p all left doors failed
       → (doors ≡ map door_of (reverse all)) × AreJoined p (reverse all) × (failed ≡ list_any has_failed (reverse all))
   all_doors p all left doors failed none v =
-      let u : IsUnseated p all [] doors failed = subst (λ l. IsUnseated p all l doors failed) none v in
-      let whole = sym (unseated_whole p all doors failed u) in (
+      let u : AreCleared p all [] doors failed = subst (λ l. AreCleared p all l doors failed) none v in
+      let whole = sym (cleared_whole p all doors failed u) in (
         u.doors_are ∙ ap (map door_of) whole,
         subst (λ l. AreJoined p l) whole u.joined,
         u.failed_is ∙ ap (list_any has_failed) whole,

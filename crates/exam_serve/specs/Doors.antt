@@ -45,8 +45,8 @@ module _ {D K : Type 0} where
   has_failed station = station.failed
 
   -- the station has a new pass of the hall, and its door no link out
-  pub record IsSeated (is_out : D → Bool) (hall : HallKnown) (opened : List NotedMark) (station : Station D CallerKnown K)
-      : Type 0 where
+  pub record IsNewStation (is_out : D → Bool) (hall : HallKnown) (opened : List NotedMark)
+      (station : Station D CallerKnown K) : Type 0 where
     pub number : ℕ
     pub token : station.token ≡ record { hall = hall; pass = new_pass hall.lock number opened }
     pub home : is_out station.door ≡ false
@@ -56,7 +56,7 @@ module _ {D K : Type 0} (tells : D → Bool) (coming returned : D → List K) (i
   -- a station before and after its work. It began with a new pass of the hall. Each link that its door gave was served, in
   -- order, on this one pass, and then went back to the door. It ended where the door failed, or gave no more
   pub record IsWorked (hall : HallKnown) (opened : List NotedMark) (before after : Station D CallerKnown K) : Type 0 where
-    pub seated : IsSeated is_out hall opened before
+    pub made : IsNewStation is_out hall opened before
     pub serves : Serves tells coming returned is_out faults identity
         (IsConnection link_tells left written link_faults link_identity) before after
     pub ends : Ends tells coming faults before after

@@ -17,8 +17,8 @@ pub record AreJoined {D K : Type 0} (pass : Known NotedMark) (stations : List (S
   pub apart : AllPairs AreDisjoint (map own_of stations)
 
 -- of all stations these are left; the doors of the others are back, the last station's first, and their passes joined
-pub record IsUnseated {D K : Type 0} (pass : Known NotedMark) (all left : List (Station D CallerKnown K)) (doors : List D)
-    (failed : Bool) : Type 0 where
+pub record AreCleared {D K : Type 0} (pass : Known NotedMark)
+    (all left : List (Station D CallerKnown K)) (doors : List D) (failed : Bool) : Type 0 where
   pub done : List (Station D CallerKnown K)
   pub order : reverse all ≡ done ++ reverse left
   pub doors_are : doors ≡ map door_of done

@@ -4,7 +4,7 @@
 #![tactic(auto)]
 
 mod connections;
-mod seating;
 mod serve;
+mod stations;
 
 pub use serve::{End, Served, serve_doors};

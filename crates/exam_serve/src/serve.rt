@@ -10,7 +10,7 @@ ghost use Rattle.exam_serve.specs.Results.{IsResult};
 ghost use Rattle.exam_office.specs.Noting.{opened_with};
 
 use crate::connections::Connections;
-use crate::seating::{seat_all, unseat_all};
+use crate::stations::{clear_stations, make_stations};
 use exam_edge::{Disk, Door, Gate};
 use exam_hall::{Caller, Hall};
 use exam_office::Office;
@@ -75,9 +75,9 @@ where
     ensures of { IsOf pass.new hall.now }
 {
     let mut stations = stations;
-    seat_all(hall, gate, pass, doors, &mut stations);
+    make_stations(hall, gate, pass, doors, &mut stations);
     run_workers(rt, alloc, &mut stations, &Connections { hall, gate });
-    let failed = unseat_all(hall, pass, doors, &mut stations);
+    let failed = clear_stations(hall, pass, doors, &mut stations);
     stations.destroy_empty();
     failed
 }

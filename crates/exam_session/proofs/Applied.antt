@@ -1,12 +1,14 @@
 -- What a book needs for an entry that is legal after its own.
 use Rattle.std.proofs.Common.{◌≡◌, ℕ, ◌+◌, ◌-◌, ◌≤◌, ◌<◌, inl, inr, Bool, true, false, cond, List, length, map, slice_get, Option, Some, None, refl, sym, ap, ◌∙◌, arith}
-use Rattle.std.specs.Prelude.{min}
+use Rattle.std.specs.Prelude.{min, IfSome}
 use Rattle.bank_tables.specs.Tables.{Tables}
 use Rattle.bank_tables.specs.Validity.{IsBank}
-use Rattle.exam_model.specs.declared.seat.Seat.{Seat}
-use Rattle.exam_model.specs.Plan.{Plan}
-use Rattle.exam_model.specs.Validity.{IsPlanFor}
+use Rattle.serving_model.specs.declared.seat.Seat.{Seat}
+use Rattle.form_model.specs.Plan.{Plan, bands_of}
+use Rattle.form_model.specs.Validity.{IsPlanFor}
+use Rattle.history_model.specs.declared.entry.Bands.{Bands}
 use Rattle.history_model.specs.declared.entry.Entry.{Entry}
+use Rattle.history_model.specs.declared.entry.Without.{Without}
 use Rattle.history_model.specs.declared.entry.Entry.TheVariants.{Started, SetAside, Served, Answered, Closed}
 use Rattle.history_model.specs.Entries.{session_of, starts, sessions, is_started, seat_of}
 use Rattle.history_model.specs.Legality.{Legal, LegalRun}
@@ -16,21 +18,22 @@ use Rattle.std.specs.Option.{option_map}
 use Rattle.std.proofs.lemmas.Option.{slice_get-map}
 use Rattle.std.proofs.lemmas.Slice.Zip.{length-zip}
 use Rattle.exam_session.specs.declared.kept_seat.KeptSeat.{KeptSeat}
-use Rattle.exam_session.specs.KeptSeats.{seat_kept, HasRoom, HasRoomFor, TakesAnswer, IsSeated, AreKept, HasSums, HaveSums}
+use Rattle.exam_session.specs.KeptSeats.{seat_kept, sets_of, HasRoom, HasRoomFor, TakesAnswer, IsSpare, IsSeated, AreKept, HasSums, HaveSums}
 use Rattle.exam_session.proofs.BookLaws.{found_seat, waiting_shown, waiting_item}
 use Rattle.exam_session.proofs.KeptLaws.{is_of}
+use Rattle.exam_session.proofs.LiftLaws.{drawn_eligible, legal_has_bands}
 
 session_there : (b : Tables) (plan : Plan) (H : List Entry) (e : Entry) → starts e ≡ false → Legal b plan H e → is_started H (session_of e) ≡ true
-session_there b plan H (Started session booking eligible) no_start legal = absurd (cc)
-session_there b plan H (SetAside session cause nodes) no_start legal = there plan H session _ legal.is_problem.pending
+session_there b plan H (Started session booking eligible without) no_start legal = absurd (cc)
+session_there b plan H (SetAside session step band cause nodes) no_start legal = there plan H session _ legal.is_problem.pending
 session_there b plan H (Served session step item form proved nodes) no_start legal = there plan H session _ legal.is_problem.pending
 session_there b plan H (Answered session step response) no_start legal = there plan H session _ legal.waiting
 session_there b plan H (Closed session) no_start legal = there plan H session legal.at legal.stands
 
-has_room : (b : Tables) (plan : Plan) (H : List Entry) (e : Entry) (kept : KeptSeat) → LegalRun b plan H → Legal b plan H e → seat_kept kept ≡ seat_of H (session_of e) → HasRoom plan.length kept → HasRoomFor e kept
-has_room b plan H (Started session booking eligible) kept run legal is room = tt
-has_room b plan H (SetAside session cause nodes) kept run legal is room = tt
-has_room b plan H (Served session step item form proved nodes) kept run legal is room =
+has_room : (b : Tables) (plan : Plan) (H : List Entry) (e : Entry) (kept : KeptSeat) → IsPlanFor b plan → starts e ≡ false → LegalRun b plan H → Legal b plan H e → seat_kept kept ≡ seat_of H (session_of e) → HasRoom plan kept → HasRoomFor e kept
+has_room b plan H (Started session booking eligible without) kept valid no_start run legal is room = absurd (cc)
+has_room b plan H (SetAside session step band cause nodes) kept valid no_start run legal is room = legal_has_bands b plan H (SetAside session step band cause nodes) valid legal
+has_room b plan H (Served session step item form proved nodes) kept valid no_start run legal is room =
     let waits = (pending_is_of_seat b plan H session step run legal.is_problem.pending).0 in
     let answered = waits.answered in
     let more = waits.not_complete in
@@ -38,14 +41,14 @@ has_room b plan H (Served session step item form proved nodes) kept run legal is
     let number = kept.shown.ok.0 in
     let free = room.shown in
     omega arith
-has_room b plan H (Answered session step response) kept run legal is room =
+has_room b plan H (Answered session step response) kept valid no_start run legal is room =
     let more = (waiting plan H session step legal.item legal.proved legal.waiting).not_full in
     let answered = responses_number H session in
     let responses : length kept.responses.items ≡ length (seat_of H session).responses = ap (λ (x : Seat). length x.responses) is in
     let number = kept.responses.ok.0 in
     let free = room.responses in
     omega arith
-has_room b plan H (Closed session) kept run legal is room = tt
+has_room b plan H (Closed session) kept valid no_start run legal is room = tt
 
 -- the sums of a seat that waits for a response have room for it
 few_answers : (b : Tables) (plan : Plan) (kept : KeptSeat) → length kept.responses.items < 512 → HasSums b plan kept → kept.sums.additions < 512
@@ -55,8 +58,8 @@ few_answers b plan kept few sums =
     omega arith
 
 takes_answer : (b : Tables) (plan : Plan) (H : List Entry) (e : Entry) (kept : KeptSeat) → IsBank b → IsPlanFor b plan → LegalRun b plan H → Legal b plan H e → seat_kept kept ≡ seat_of H (session_of e) → HasSums b plan kept → TakesAnswer b e kept
-takes_answer b plan H (Started session booking eligible) kept bank valid run legal is sums = tt
-takes_answer b plan H (SetAside session cause nodes) kept bank valid run legal is sums = tt
+takes_answer b plan H (Started session booking eligible without) kept bank valid run legal is sums = tt
+takes_answer b plan H (SetAside session step band cause nodes) kept bank valid run legal is sums = tt
 takes_answer b plan H (Served session step item form proved nodes) kept bank valid run legal is sums = tt
 takes_answer b plan H (Answered session step response) kept bank valid run legal is sums =
     let more = (waiting plan H session step legal.item legal.proved legal.waiting).not_full in
@@ -98,7 +101,7 @@ is_seated b plan H seats e bank valid no_start run legal are have = by (slice_ge
         record {
           kept = kept;
           there = at;
-          room = has_room b plan H e kept run legal is (are.room (session_of e) kept at);
+          room = has_room b plan H e kept valid no_start run legal is (are.room (session_of e) kept at);
           answered = answered_shown b plan H (session_of e) kept run is;
           answer = takes_answer b plan H e kept bank valid run legal is (have (session_of e) kept at);
         }
@@ -109,8 +112,8 @@ room_left len cap room new_len new_cap added fits some longer same few = omega a
 
 -- the session that starts is below the plan's limit
 pub is_below : (b : Tables) (plan : Plan) (H : List Entry) (e : Entry) → Legal b plan H e → starts e ≡ true → sessions H < plan.sessions
-is_below b plan H (Started session booking eligible) legal start = let number = legal.number.next in let within = legal.number.within in omega arith
-is_below b plan H (SetAside session cause nodes) legal start = absurd (cc)
+is_below b plan H (Started session booking eligible without) legal start = let number = legal.number.next in let within = legal.number.within in omega arith
+is_below b plan H (SetAside session step band cause nodes) legal start = absurd (cc)
 is_below b plan H (Served session step item form proved nodes) legal start = absurd (cc)
 is_below b plan H (Answered session step response) legal start = absurd (cc)
 is_below b plan H (Closed session) legal start = absurd (cc)
@@ -125,9 +128,28 @@ seats_left limit count len cap room new_len new_cap true fits some number below 
 seats_left limit count len cap room new_len new_cap false fits some number below longer same = omega arith
 
 -- an entry that isn't Started isn't a start
-pub no_start : (e : Entry) → ((session booking : ℕ) (eligible : List ℕ) → e ≡ Started session booking eligible → ⊥) → starts e ≡ false
-no_start (Started session booking eligible) other = absurd (other session booking eligible refl)
-no_start (SetAside session cause nodes) other = refl
+pub no_start : (e : Entry) → ((session booking : ℕ) (eligible : Bands) (without : Option Without) → e ≡ Started session booking eligible without → ⊥) → starts e ≡ false
+no_start (Started session booking eligible without) other = absurd (other session booking eligible without refl)
+no_start (SetAside session step band cause nodes) other = refl
 no_start (Served session step item form proved nodes) other = refl
 no_start (Answered session step response) other = refl
 no_start (Closed session) other = refl
+
+-- the spare seat takes a start that is legal
+pub takes_start : (b : Tables) (plan : Plan) (H : List Entry) (e : Entry) (spare : Option KeptSeat) → IsPlanFor b plan → Legal b plan H e → starts e ≡ true → IfSome spare (IsSpare plan) → IfSome spare (HasRoomFor e)
+takes_start b plan H e None valid legal start ready = tt
+takes_start b plan H (Started session booking eligible without) (Some kept) valid legal start ready =
+    let number : eligible.count ≡ bands_of plan = legal.drawn.number in
+    let sets : sets_of eligible without ≡ eligible.count = ap (sets_of eligible) legal.no_list in
+    let free = ready.room.sets in
+    record {
+      no_sets = ready.unused.no_sets;
+      no_list = ready.unused.no_list;
+      no_form = ap (λ (x : Seat). x.form) ready.unused.empty;
+      fit = drawn_eligible b plan H session eligible valid legal.drawn;
+      room = omega (arith, number, sets, free);
+    }
+takes_start b plan H (SetAside session step band cause nodes) (Some kept) valid legal start ready = absurd (cc)
+takes_start b plan H (Served session step item form proved nodes) (Some kept) valid legal start ready = absurd (cc)
+takes_start b plan H (Answered session step response) (Some kept) valid legal start ready = absurd (cc)
+takes_start b plan H (Closed session) (Some kept) valid legal start ready = absurd (cc)

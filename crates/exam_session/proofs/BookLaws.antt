@@ -1,5 +1,5 @@
 -- What the seats of a book give for its sessions.
-use Rattle.std.proofs.Common.{◌≡◌, ℕ, ◌≤◌, ◌<◌, Bool, true, false, cond, List, length, slice_get, Option, Some, None, refl, sym, ap, ◌∙◌, subst, arith, Bor}
+use Rattle.std.proofs.Common.{◌≡◌, ℕ, zero, suc, ◌≤◌, ◌<◌, Bool, true, false, cond, List, length, get_or, slice_get, Option, Some, None, refl, sym, ap, ◌∙◌, subst, arith, Bor}
 use Rattle.std.specs.Prelude.{nat_le, IsSome, IfSome, IfNone, ◌↔◌}
 use Rattle.std.specs.Option.{option_copied}
 use Rattle.std.proofs.Math.Bool.{true≢false}
@@ -7,11 +7,11 @@ use Rattle.std.proofs.lemmas.Bool.{leb-true}
 use Rattle.std.proofs.lemmas.Option.{slice_get_past, slice_get-get_or}
 use Rattle.std.specs.Slice.{IsItemAt}
 use Rattle.bank_tables.specs.Tables.{Tables, size}
-use Rattle.exam_model.specs.declared.seat.Seat.{Seat}
-use Rattle.exam_model.specs.Plan.{Plan}
-use Rattle.exam_model.specs.Problem.{Problem}
-use Rattle.exam_model.specs.Forms.{Form}
-use Rattle.exam_model.specs.Seats.{IsPending, IsSeatProblem, IsSeat}
+use Rattle.serving_model.specs.declared.seat.Seat.{Seat}
+use Rattle.form_model.specs.Plan.{Plan}
+use Rattle.form_model.specs.Problem.{Problem}
+use Rattle.form_model.specs.Forms.{Form}
+use Rattle.serving_model.specs.Seats.{answers, band_at, eight, is_aside_in, IsPending, IsSeatProblem, IsSeat}
 use Rattle.history_model.specs.declared.entry.Entry.{Entry}
 use Rattle.history_model.specs.declared.place.Place.{Place}
 use Rattle.history_model.specs.declared.place.Place.TheVariants.{Pending, Waiting, Complete, Closed}
@@ -20,12 +20,12 @@ use Rattle.constraint_model.specs.Views.{problem_of}
 use Rattle.bank_tables.specs.Items.{Set}
 use Rattle.history_model.specs.Entries.{sessions, is_started, seat_of}
 use Rattle.history_model.specs.Places.{place}
-use Rattle.history_model.specs.SessionProblems.{IsProblemOf}
+use Rattle.history_model.specs.SessionProblems.{IsProblemOf, is_aside_now}
 use Rattle.history_model.specs.Legality.{LegalRun}
-use Rattle.history_model.specs.Laws.{seat_place, step_place}
+use Rattle.history_model.specs.Laws.{no_seat, seat_place, step_place}
 use Rattle.history_model.proofs.Standing.{past_end, before_end, there}
 use Rattle.history_model.proofs.SeatSteps.{shown_at}
-use Rattle.history_model.proofs.Running.{sessions_are_numbered, place_is_of_seat, pending_is_of_seat, seat_is_seat}
+use Rattle.history_model.proofs.Running.{sessions_are_numbered, seat_before_start, place_is_of_seat, pending_is_of_seat, seat_is_seat}
 use Rattle.shadow_select.specs.Next.{HasFreeItem}
 use Rattle.shadow_select.proofs.ProblemLaws.{free_item_is_left}
 use Rattle.exam_session.specs.Kept.{AreSeats}
@@ -147,3 +147,23 @@ free_given b plan H s seat (Some p) pending of_seat = free_item b plan H s seat 
 pub none_given : (b : Tables) (plan : Plan) (H : List Entry) (s : ℕ) (seat : Seat) (r : Option Given) → LegalRun b plan H → Some seat ≡ seat_if_started H s → (IsSome r ↔ IsPending plan seat) → IfNone r ((step : ℕ) → place plan H s ≡ Some (Pending step) → ⊥)
 none_given b plan H s seat None run found pending = λ step e. true≢false (sym (pending.1 (seat_waits b plan H s step seat run found e)))
 none_given b plan H s seat (Some p) run found pending = tt
+
+-- ---- eligibility set aside in the band of the estimate
+no_flag : (k : ℕ) → get_or (eight (λ _. false)) k false ≡ false
+no_flag zero = refl
+no_flag (suc zero) = refl
+no_flag (suc (suc zero)) = refl
+no_flag (suc (suc (suc zero))) = refl
+no_flag (suc (suc (suc (suc zero)))) = refl
+no_flag (suc (suc (suc (suc (suc zero))))) = refl
+no_flag (suc (suc (suc (suc (suc (suc zero)))))) = refl
+no_flag (suc (suc (suc (suc (suc (suc (suc zero))))))) = refl
+no_flag (suc (suc (suc (suc (suc (suc (suc (suc k)))))))) = refl
+
+-- not where there is no such session
+pub not_aside : (b : Tables) (plan : Plan) (H : List Entry) (s : ℕ) → LegalRun b plan H → None ≡ seat_if_started H s → false ≡ is_aside_now b plan H s
+not_aside b plan H s run e = by (is_started H s) refl e
+  where
+    by : (t : Bool) → is_started H s ≡ t → ◌≡◌ {A = Option Seat} None (cond t (Some (seat_of H s)) None) → false ≡ is_aside_now b plan H s
+    by true is same = absurd (cc)
+    by false is same = sym (ap (λ (x : Seat). is_aside_in x (band_at b plan x (length (answers x)))) (seat_before_start b plan H s run is) ∙ no_flag (band_at b plan no_seat (length (answers no_seat))))

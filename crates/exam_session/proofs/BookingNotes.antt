@@ -6,8 +6,10 @@ use Rattle.std.proofs.Math.Seq.{get_or-append_seam}
 use Rattle.std.proofs.lemmas.Bool.{eqb-true}
 use Rattle.std.proofs.lemmas.List.Elements.{filter_map-append}
 use Rattle.bank_tables.specs.Tables.{Tables}
-use Rattle.exam_model.specs.Plan.{Plan}
+use Rattle.form_model.specs.Plan.{Plan}
+use Rattle.history_model.specs.declared.entry.Bands.{Bands}
 use Rattle.history_model.specs.declared.entry.Entry.{Entry}
+use Rattle.history_model.specs.declared.entry.Without.{Without}
 use Rattle.history_model.specs.declared.entry.Entry.TheVariants.{Started, SetAside, Served, Answered, Closed}
 use Rattle.history_model.specs.Entries.{starts, sessions, holder_of, holder}
 use Rattle.history_model.specs.Legality.{Legal}
@@ -35,19 +37,19 @@ only_new : (H : List Entry) (e : Entry) (booking : ℕ) → holder H booking ≡
 only_new H e booking none = holder-push H e booking ∙ first_after (filter_map (holder_of booking) H) (filter_map (holder_of booking) (e ∷ [])) none
 
 -- the sessions of the bookings after a start
-given : (session booking : ℕ) (eligible : List ℕ) (other : ℕ) → slice_get (filter_map (holder_of other) (Started session booking eligible ∷ [])) 0 ≡ cond (booking == other) (Some session) None
-given session booking eligible other = by (booking == other)
+given : (session booking : ℕ) (eligible : Bands) (without : Option Without) (other : ℕ) → slice_get (filter_map (holder_of other) (Started session booking eligible without ∷ [])) 0 ≡ cond (booking == other) (Some session) None
+given session booking eligible without other = by (booking == other)
   where
-    by : (t : Bool) → slice_get (filter_map (λ (x : Entry). cond t (Some session) None) (Started session booking eligible ∷ [])) 0 ≡ cond t (Some session) None
+    by : (t : Bool) → slice_get (filter_map (λ (x : Entry). cond t (Some session) None) (Started session booking eligible without ∷ [])) 0 ≡ cond t (Some session) None
     by true = refl
     by false = refl
 
-goes_on : (H : List Entry) (session booking : ℕ) (eligible : List ℕ) → holder H booking ≡ None → (other : ℕ) → holder (H ++ Started session booking eligible ∷ []) other ≡ cond (booking == other) (Some session) (holder H other)
-goes_on H session booking eligible unbooked other = by (holder H other) refl (booking == other) refl
+goes_on : (H : List Entry) (session booking : ℕ) (eligible : Bands) (without : Option Without) → holder H booking ≡ None → (other : ℕ) → holder (H ++ Started session booking eligible without ∷ []) other ≡ cond (booking == other) (Some session) (holder H other)
+goes_on H session booking eligible without unbooked other = by (holder H other) refl (booking == other) refl
   where
-    by : (o : Option ℕ) → holder H other ≡ o → (t : Bool) → (booking == other) ≡ t → holder (H ++ Started session booking eligible ∷ []) other ≡ cond t (Some session) (holder H other)
-    by None was true same = only_new H _ other was ∙ (given session booking eligible other ∙ ap (λ (t : Bool). cond t (Some session) None) same)
-    by None was false same = only_new H _ other was ∙ (given session booking eligible other ∙ (ap (λ (t : Bool). cond t (Some session) None) same ∙ sym was))
+    by : (o : Option ℕ) → holder H other ≡ o → (t : Bool) → (booking == other) ≡ t → holder (H ++ Started session booking eligible without ∷ []) other ≡ cond t (Some session) (holder H other)
+    by None was true same = only_new H _ other was ∙ (given session booking eligible without other ∙ ap (λ (t : Bool). cond t (Some session) None) same)
+    by None was false same = only_new H _ other was ∙ (given session booking eligible without other ∙ (ap (λ (t : Bool). cond t (Some session) None) same ∙ sym was))
     by (Some s) was true same = let equal = eqb-true booking other same in absurd (differ s (sym was ∙ (ap (holder H) (sym equal) ∙ unbooked)))
       where
         differ : (x : ℕ) → Some x ≡ None → ⊥
@@ -55,9 +57,9 @@ goes_on H session booking eligible unbooked other = by (holder H other) refl (bo
     by (Some s) was false same = still_held H _ other s was ∙ sym was
 
 -- a start adds its booking, and its session at the place for it
-pub bookings_started : (b : Tables) (plan : Plan) (H : List Entry) (bookings order : List ℕ) (session booking place : ℕ) (eligible : List ℕ) → IsPlaceFor bookings order booking place → Legal b plan H (Started session booking eligible) → AreBookings H bookings order
-    → AreBookings (H ++ Started session booking eligible ∷ []) (bookings ++ booking ∷ []) (insert order place session)
-bookings_started b plan H bookings order session booking place eligible is legal kept = record {
+pub bookings_started : (b : Tables) (plan : Plan) (H : List Entry) (bookings order : List ℕ) (session booking place : ℕ) (eligible : Bands) (without : Option Without) → IsPlaceFor bookings order booking place → Legal b plan H (Started session booking eligible without) → AreBookings H bookings order
+    → AreBookings (H ++ Started session booking eligible without ∷ []) (bookings ++ booking ∷ []) (insert order place session)
+bookings_started b plan H bookings order session booking place eligible without is legal kept = record {
   number = number;
   ordered = ordered;
   known = known;
@@ -66,7 +68,7 @@ bookings_started b plan H bookings order session booking place eligible is legal
 }
   where
     e : Entry
-    e = Started session booking eligible
+    e = Started session booking eligible without
 
     new : List ℕ
     new = bookings ++ booking ∷ []
@@ -103,12 +105,12 @@ bookings_started b plan H bookings order session booking place eligible is legal
     each : (other : ℕ) → session_with new (insert order place session) other ≡ holder (H ++ e ∷ []) other
     each other =
         inserted new order booking session place has_it (new_before new order booking place at) other
-        ∙ (ap (λ (o : Option ℕ). cond (booking == other) (Some session) o) (same_found bookings booking order kept.known other ∙ kept.each other) ∙ sym (goes_on H session booking eligible legal.not_booked other))
+        ∙ (ap (λ (o : Option ℕ). cond (booking == other) (Some session) o) (same_found bookings booking order kept.known other ∙ kept.each other) ∙ sym (goes_on H session booking eligible without legal.not_booked other))
 
 -- ---- any other entry changes nothing
 no_holder : (H : List Entry) (e : Entry) (booking : ℕ) → starts e ≡ false → holder (H ++ e ∷ []) booking ≡ holder H booking
-no_holder H (Started session other eligible) booking no_start = absurd (cc)
-no_holder H (SetAside session cause nodes) booking no_start = holder-push H (SetAside session cause nodes) booking ∙ ap (λ (xs : List ℕ). slice_get xs 0) (list_end (filter_map (holder_of booking) H))
+no_holder H (Started session other eligible without) booking no_start = absurd (cc)
+no_holder H (SetAside session step band cause nodes) booking no_start = holder-push H (SetAside session step band cause nodes) booking ∙ ap (λ (xs : List ℕ). slice_get xs 0) (list_end (filter_map (holder_of booking) H))
 no_holder H (Served session step item form proved nodes) booking no_start = holder-push H (Served session step item form proved nodes) booking ∙ ap (λ (xs : List ℕ). slice_get xs 0) (list_end (filter_map (holder_of booking) H))
 no_holder H (Answered session step response) booking no_start = holder-push H (Answered session step response) booking ∙ ap (λ (xs : List ℕ). slice_get xs 0) (list_end (filter_map (holder_of booking) H))
 no_holder H (Closed session) booking no_start = holder-push H (Closed session) booking ∙ ap (λ (xs : List ℕ). slice_get xs 0) (list_end (filter_map (holder_of booking) H))

@@ -5,9 +5,9 @@ use Rattle.std.specs.Slice.{IsItemAt}
 use Rattle.std.proofs.lemmas.Option.{slice_get-map}
 use Rattle.bank_tables.specs.Tables.{Tables}
 use Rattle.bank_tables.specs.Validity.{IsBank}
-use Rattle.exam_model.specs.declared.seat.Seat.{Seat}
-use Rattle.exam_model.specs.Plan.{Plan}
-use Rattle.exam_model.specs.Validity.{IsPlanFor}
+use Rattle.serving_model.specs.declared.seat.Seat.{Seat}
+use Rattle.form_model.specs.Plan.{Plan}
+use Rattle.form_model.specs.Validity.{IsPlanFor}
 use Rattle.history_model.specs.declared.entry.Entry.{Entry}
 use Rattle.history_model.specs.Entries.{seat_of}
 use Rattle.history_model.specs.Laws.{seat_place, step_place}

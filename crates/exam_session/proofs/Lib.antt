@@ -13,4 +13,8 @@ pub mod ReasonNotes
 pub mod TotalLaws
 pub mod EmptyBook
 pub mod Applied
-pub mod FormLaws
+pub mod LiftLaws
+pub mod BandNotes
+pub mod FilledNotes
+pub mod VisitNotes
+pub mod FlagNotes

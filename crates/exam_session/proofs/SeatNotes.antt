@@ -1,13 +1,15 @@
 -- The seats of a book after one entry more.
-use Rattle.std.proofs.Common.{◌≡◌, ℕ, zero, suc, ◌+◌, inl, inr, Bool, true, false, cond, ◌==◌, List, [], ◌∷◌, ◌++◌, length, slice_get, Some, refl, sym, ap, ◌∙◌, arith, length-append}
+use Rattle.std.proofs.Common.{◌≡◌, ℕ, zero, suc, ◌+◌, inl, inr, Bool, true, false, cond, ◌==◌, List, [], ◌∷◌, ◌++◌, length, slice_get, Option, Some, refl, sym, ap, ◌∙◌, arith, length-append}
 use Rattle.std.proofs.Math.Bool.{true≢false}
 use Rattle.std.proofs.Math.ListN.{set}
 use Rattle.std.proofs.lemmas.Bool.{eqb-true, eq-eqb}
 use Rattle.std.proofs.lemmas.List.{length-set}
 use Rattle.bank_tables.specs.Tables.{Tables}
-use Rattle.exam_model.specs.declared.seat.Seat.{Seat}
-use Rattle.exam_model.specs.Plan.{Plan}
+use Rattle.serving_model.specs.declared.seat.Seat.{Seat}
+use Rattle.form_model.specs.Plan.{Plan}
+use Rattle.history_model.specs.declared.entry.Bands.{Bands}
 use Rattle.history_model.specs.declared.entry.Entry.{Entry}
+use Rattle.history_model.specs.declared.entry.Without.{Without}
 use Rattle.history_model.specs.declared.entry.Entry.TheVariants.{Started, SetAside, Served, Answered, Closed}
 use Rattle.history_model.specs.Entries.{session_of, starts, sessions, is_started, seat_of}
 use Rattle.history_model.specs.Legality.{Legal, LegalRun}
@@ -16,12 +18,13 @@ use Rattle.history_model.proofs.Pushed.{sessions-push}
 use Rattle.history_model.proofs.Standing.{before_end}
 use Rattle.history_model.proofs.Running.{sessions_are_numbered, seat_before_start, the_seat_goes_on}
 use Rattle.exam_session.specs.Kept.{AreSeats}
+use Rattle.exam_session.specs.KeptSeats.{started_seat}
 use Rattle.exam_session.proofs.Lists.{pushed}
 
 -- an entry of another session leaves a seat as it is
 not_of : (s : ℕ) (seat : Seat) (e : Entry) → (session_of e == s) ≡ false → seat_with s seat e ≡ seat
-not_of s seat (Started session booking eligible) other = rw other refl
-not_of s seat (SetAside session cause nodes) other = rw other refl
+not_of s seat (Started session booking eligible without) other = rw other refl
+not_of s seat (SetAside session step band cause nodes) other = rw other refl
 not_of s seat (Served session step item form proved nodes) other = rw other refl
 not_of s seat (Answered session step response) other = rw other refl
 not_of s seat (Closed session) other = rw other refl
@@ -30,20 +33,20 @@ not_of s seat (Closed session) other = rw other refl
 pub same_sessions : (H : List Entry) (e : Entry) → starts e ≡ false → sessions (H ++ e ∷ []) ≡ sessions H
 same_sessions H e no_start = sessions-push H e ∙ (ap (λ (t : Bool). sessions H + cond t 1 0) no_start ∙ omega arith)
 
--- two seats that differ in nothing else are the same with the same eligible items
-started_same : (s booking : ℕ) (eligible : List ℕ) (seat : Seat) → seat ≡ no_seat → seat_with s seat (Started s booking eligible) ≡ record no_seat { eligible = eligible }
-started_same s booking eligible seat e = rw (eq-eqb s s refl) (ap (λ (x : Seat). let y : Seat = record x { eligible = eligible } in y) e)
+-- a session that starts has the seat of one before its start, with the sets of the start
+started_same : (s booking : ℕ) (eligible : Bands) (without : Option Without) (seat : Seat) → seat ≡ no_seat → seat_with s seat (Started s booking eligible without) ≡ started_seat no_seat eligible without
+started_same s booking eligible without seat e = rw (eq-eqb s s refl) (ap (λ (x : Seat). started_seat x eligible without) e)
 
 -- ---- a start adds a seat
-pub seats_started : (b : Tables) (plan : Plan) (H : List Entry) (seats : List Seat) (session booking : ℕ) (eligible : List ℕ) → LegalRun b plan H → Legal b plan H (Started session booking eligible) → AreSeats H seats
-    → AreSeats (H ++ Started session booking eligible ∷ []) (seats ++ record no_seat { eligible = eligible } ∷ [])
-seats_started b plan H seats session booking eligible run legal kept = record { number = number; each = each }
+pub seats_started : (b : Tables) (plan : Plan) (H : List Entry) (seats : List Seat) (session booking : ℕ) (eligible : Bands) (without : Option Without) → LegalRun b plan H → Legal b plan H (Started session booking eligible without) → AreSeats H seats
+    → AreSeats (H ++ Started session booking eligible without ∷ []) (seats ++ started_seat no_seat eligible without ∷ [])
+seats_started b plan H seats session booking eligible without run legal kept = record { number = number; each = each }
   where
     e : Entry
-    e = Started session booking eligible
+    e = Started session booking eligible without
 
     new : Seat
-    new = record no_seat { eligible = eligible }
+    new = started_seat no_seat eligible without
 
     number : length (seats ++ new ∷ []) ≡ sessions (H ++ e ∷ [])
     number = let more = sessions-push H e in let before = kept.number in let one = length-append seats (new ∷ []) in omega arith
@@ -73,7 +76,7 @@ seats_started b plan H seats session booking eligible run legal kept = record { 
         let next = legal.number.next in
         let before = kept.number in
         let same : session ≡ s = omega arith in
-        is ∙ (sym (started_same session booking eligible (seat_of H session) (seat_before_start b plan H session run not_started)) ∙ (sym (goes_on session) ∙ ap (seat_of (H ++ e ∷ [])) same))
+        is ∙ (sym (started_same session booking eligible without (seat_of H session) (seat_before_start b plan H session run not_started)) ∙ (sym (goes_on session) ∙ ap (seat_of (H ++ e ∷ [])) same))
 
     each : (s : ℕ) (seat : Seat) → slice_get (seats ++ new ∷ []) s ≡ Some seat → seat ≡ seat_of (H ++ e ∷ []) s
     each s seat found = elim (pushed seats new seat s found) [ inl here ↦ old s seat here | inr at_end ↦ last s seat at_end.0 at_end.1 ]

@@ -5,13 +5,15 @@ use Rattle.std.specs.List.{zip}
 use Rattle.std.proofs.Math.Bool.{true≢false}
 use Rattle.std.proofs.lemmas.Bool.{eqb-true, eq-eqb}
 use Rattle.bank_tables.specs.Tables.{Tables}
-use Rattle.exam_model.specs.declared.seat.Seat.{Seat}
-use Rattle.exam_model.specs.Ability.{AnswerList}
-use Rattle.exam_model.specs.Plan.{Plan}
-use Rattle.exam_model.specs.Seats.{answers}
-use Rattle.ability_grid.specs.Running.{IsSumsOf}
+use Rattle.serving_model.specs.declared.seat.Seat.{Seat}
+use Rattle.form_model.specs.Ability.{AnswerList}
+use Rattle.form_model.specs.Plan.{Plan}
+use Rattle.serving_model.specs.Seats.{answers}
+use Rattle.ability_grid.specs.Running.{Running, IsSumsOf}
+use Rattle.history_model.specs.declared.entry.Bands.{Bands}
+use Rattle.history_model.specs.declared.entry.Without.{Without}
 use Rattle.exam_session.specs.declared.kept_seat.KeptSeat.{KeptSeat}
-use Rattle.exam_session.specs.KeptSeats.{IsSpare, HasSums, HaveSums, StartsSeat}
+use Rattle.exam_session.specs.KeptSeats.{seat_kept, IsSpare, HasSums, HaveSums, StartsSeat}
 use Rattle.exam_session.proofs.Lists.{pushed}
 use Rattle.exam_session.proofs.SeatNotes.{same_place, other_place}
 
@@ -45,12 +47,17 @@ sums_changed b plan seats s kept after there goes_on have k x at = by (s == k) r
 spare_sums : (b : Tables) (plan : Plan) (spare : KeptSeat) → b.grid ≡ length plan.prior → IsSpare plan spare → HasSums b plan spare
 spare_sums b plan spare grid ready = subst (λ (list : AnswerList). IsSumsOf b plan.prior list spare.sums) (sym (ap (λ (x : Seat). answers x) ready.unused.empty)) (ready.sums b grid)
 
-pub sums_started : (b : Tables) (plan : Plan) (seats new : List KeptSeat) (eligible : List ℕ) (spare : Option KeptSeat) → b.grid ≡ length plan.prior → IsSome spare → IfSome spare (IsSpare plan) → IfSome spare (StartsSeat seats eligible new) → HaveSums b plan seats → HaveSums b plan new
-sums_started b plan seats new eligible None grid some ready starts_seat have = absurd (true≢false (sym some))
-sums_started b plan seats new eligible (Some spare) grid some ready is have = λ s k at. elim (pushed seats kept k s (ap (λ (xs : List KeptSeat). slice_get xs s) (sym is) ∙ at)) [
+pub sums_started : (b : Tables) (plan : Plan) (seats new : List KeptSeat) (eligible : Bands) (without : Option Without) (spare : Option KeptSeat) → b.grid ≡ length plan.prior → IsSome spare → IfSome spare (IsSpare plan) → IfSome spare (StartsSeat seats eligible without new) → HaveSums b plan seats → HaveSums b plan new
+sums_started b plan seats new eligible without None grid some ready starts_seat have = absurd (true≢false (sym some))
+sums_started b plan seats new eligible without (Some spare) grid some ready start have = λ s k at. elim (pushed seats start.seat k s (ap (λ (xs : List KeptSeat). slice_get xs s) (sym start.is) ∙ at)) [
   | inl here ↦ have s k here
-  | inr last ↦ subst (HasSums b plan) (sym last.1) (spare_sums b plan spare grid ready)
+  | inr last ↦ subst (HasSums b plan) (sym last.1) first
 ]
   where
-    kept : KeptSeat
-    kept = record spare { eligible = eligible }
+    same : answers (seat_kept start.seat) ≡ answers (seat_kept spare)
+    same = ap (λ (x : Seat). answers x) start.starts
+
+    first : HasSums b plan start.seat
+    first =
+        subst (λ (list : AnswerList). IsSumsOf b plan.prior list start.seat.sums) (sym same)
+        (subst (λ (sums : Running). IsSumsOf b plan.prior (answers (seat_kept spare)) sums) (sym start.sums) (spare_sums b plan spare grid ready))

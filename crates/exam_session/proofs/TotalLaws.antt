@@ -33,8 +33,8 @@ none_more : (n : ℕ) → n + 0 ≡ n
 none_more n = omega arith
 
 pub totals_go_on : (H : List Entry) (e : Entry) → totals_of (H ++ e ∷ []) ≡ totals_with (totals_of H) e
-totals_go_on H (Started session booking eligible) = pushed H (Started session booking eligible) ∙ same_totals _ _ _ _ _ _ _ _ (none_more _) (none_more _) (none_more _) (none_more _)
-totals_go_on H (SetAside session cause nodes) = pushed H (SetAside session cause nodes) ∙ same_totals _ _ _ _ _ _ _ _ (none_more _) (none_more _) refl refl
+totals_go_on H (Started session booking eligible without) = pushed H (Started session booking eligible without) ∙ same_totals _ _ _ _ _ _ _ _ (none_more _) (none_more _) (none_more _) (none_more _)
+totals_go_on H (SetAside session step band cause nodes) = pushed H (SetAside session step band cause nodes) ∙ same_totals _ _ _ _ _ _ _ _ (none_more _) (none_more _) refl refl
 totals_go_on H (Served session step item form true nodes) = pushed H (Served session step item form true nodes) ∙ same_totals _ _ _ _ _ _ _ _ refl refl (none_more _) refl
 totals_go_on H (Served session step item form false nodes) = pushed H (Served session step item form false nodes) ∙ same_totals _ _ _ _ _ _ _ _ refl refl (none_more _) refl
 totals_go_on H (Answered session step response) = pushed H (Answered session step response) ∙ same_totals _ _ _ _ _ _ _ _ (none_more _) (none_more _) (none_more _) (none_more _)

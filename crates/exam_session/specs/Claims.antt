@@ -1,8 +1,8 @@
 -- Why a tree doesn't show what an entry claims of it.
 use Rattle.std.specs.Prelude.{◌≡◌, ℕ, Option}
 use Rattle.bank_tables.specs.Items.{Set}
-use Rattle.exam_model.specs.Problem.{Problem}
-use Rattle.exam_model.specs.ProofTrees.{ProofTree}
+use Rattle.form_model.specs.Problem.{Problem}
+use Rattle.certificate_model.specs.ProofTrees.{ProofTree}
 use Rattle.history_model.specs.declared.illegal.Illegal.{Illegal}
 use Rattle.history_model.specs.declared.illegal.Illegal.TheVariants.{NotSpent, Tree}
 use Rattle.history_model.specs.declared.claim.Claim.{Claim}

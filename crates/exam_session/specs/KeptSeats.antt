@@ -1,32 +1,74 @@
 -- The seats of a book, each in as few bytes as its content needs.
-use Rattle.std.specs.Prelude.{◌≡◌, ℕ, ◌<◌, ◌≤◌, List, [], ◌∷◌, ◌++◌, map, length, slice_get, Some}
+use Rattle.std.specs.Prelude.{◌≡◌, ℕ, ◌+◌, ◌<◌, ◌≤◌, Bool, true, false, List, [], ◌∷◌, ◌++◌, map, get_or, length, slice_get, Option, Some, None, if◌then◌else◌}
+use Rattle.std.specs.Option.{option_map}
 use Rattle.std.specs.Vec.{vec_len, vec_capacity}
 use Rattle.bank_tables.specs.Tables.{Tables, size, categories}
-use Rattle.exam_model.specs.declared.seat.Seat.{Seat}
-use Rattle.exam_model.specs.Plan.{Plan}
-use Rattle.exam_model.specs.Seats.{answers}
+use Rattle.serving_model.specs.declared.seat.Seat.{Seat}
+use Rattle.form_model.specs.Plan.{Plan, bands_of}
+use Rattle.serving_model.specs.Seats.{answers, eight}
 use Rattle.ability_grid.specs.Running.{IsSumsOf}
+use Rattle.history_model.specs.declared.entry.Bands.{Bands}
 use Rattle.history_model.specs.declared.entry.Entry.{Entry}
-use Rattle.history_model.specs.declared.entry.Entry.TheVariants.{Served, Answered}
+use Rattle.history_model.specs.declared.entry.Entry.TheVariants.{Started, SetAside, Served, Answered}
+use Rattle.history_model.specs.declared.entry.Without.{Without}
 use Rattle.history_model.specs.Entries.{session_of}
 use Rattle.history_model.specs.Laws.{no_seat}
+use Rattle.exam_records.specs.Sets.{no_items}
+use Rattle.exam_records.specs.Shape.{AreEligible}
 use Rattle.exam_session.specs.declared.kept_seat.KeptSeat.{KeptSeat}
+use Rattle.exam_session.specs.Flags.{flags_of}
 use Rattle.exam_session.specs.Kept.{AreSeats}
+
+-- the sets of the eight bands, from a place of a list on, and no items past its end
+abbrev pub filled : ℕ → List (List ℕ) → List (List ℕ)
+filled first sets = eight (λ band. get_or sets (first + band) no_items)
+
+-- how many sets there are before those of the bands: the items withheld, if there is a list of them
+abbrev pub before_bands : Bool → ℕ
+before_bands true = 1
+before_bands false = 0
 
 -- the seat whose content is kept
 abbrev pub seat_kept : KeptSeat → Seat
 seat_kept kept =
-    record { shown = kept.shown.items; responses = kept.responses.items; eligible = kept.eligible; aside = kept.aside; form = kept.form; proved = kept.proved; closed = kept.closed }
+    record {
+      shown = kept.shown.items;
+      responses = kept.responses.items;
+      eligible = filled (before_bands kept.has_list) kept.sets.items;
+      aside = flags_of kept.aside;
+      without = if kept.has_list then Some (get_or kept.sets.items 0 no_items) else None;
+      form = kept.form;
+      proved = kept.proved;
+      closed = kept.closed;
+    }
 
--- each list has room for so many items in all
-pub record HasRoom (items : ℕ) (kept : KeptSeat) : Type 0 where
-  pub shown : items ≤ vec_capacity kept.shown
-  pub responses : items ≤ vec_capacity kept.responses
+-- each list has room for what a test of the plan needs in all
+pub record HasRoom (plan : Plan) (kept : KeptSeat) : Type 0 where
+  pub shown : plan.length ≤ vec_capacity kept.shown
+  pub responses : plan.length ≤ vec_capacity kept.responses
+  pub sets : bands_of plan ≤ vec_capacity kept.sets
 
--- there is room for what the entry adds
+-- how many sets a start brings
+abbrev pub sets_of : Bands → Option Without → ℕ
+sets_of eligible (Some list) = eligible.count + 1
+sets_of eligible None = eligible.count
+
+-- the seat is unused, and has room for the sets of a start
+pub record TakesStart (eligible : Bands) (without : Option Without) (kept : KeptSeat) : Type 0 where
+  pub no_sets : kept.sets.items ≡ []
+  pub no_list : kept.has_list ≡ false
+  pub no_form : kept.form ≡ None
+  pub fit : AreEligible eligible
+  pub room : sets_of eligible without ≤ vec_capacity kept.sets
+
+-- there is room for what the entry adds, and a flag for its band
 abbrev pub HasRoomFor : Entry → KeptSeat → Type 0
-HasRoomFor (Served session step item form proved nodes) kept = vec_len kept.shown < vec_capacity kept.shown
-HasRoomFor (Answered session step response) kept = vec_len kept.responses < vec_capacity kept.responses
+HasRoomFor (Started session booking eligible without) kept = TakesStart eligible without kept
+HasRoomFor (SetAside session step band cause nodes) kept = band < 8
+HasRoomFor (Served session step item form proved nodes) kept =
+    vec_len kept.shown < vec_capacity kept.shown
+HasRoomFor (Answered session step response) kept =
+    vec_len kept.responses < vec_capacity kept.responses
 HasRoomFor entry kept = Unit {0}
 
 -- the item shown last waits for the response; the response is one of it, and the sums have room for it
@@ -51,26 +93,29 @@ HasSums b plan kept = IsSumsOf b plan.prior (answers (seat_kept kept)) kept.sums
 pub record KeepsRoom (old new : KeptSeat) : Type 0 where
   pub shown : vec_capacity new.shown ≡ vec_capacity old.shown
   pub responses : vec_capacity new.responses ≡ vec_capacity old.responses
+  pub sets : vec_capacity new.sets ≡ vec_capacity old.sets
 
 -- the lists are as short as those of a seat
 pub record IsShort (kept : KeptSeat) : Type 0 where
   pub shown : length kept.shown.items ≤ 512
   pub responses : length kept.responses.items ≤ 512
 
--- a seat before its session is started; its eligible items are set then
+-- a seat before its session is started; its sets are noted then
 pub record IsUnused (kept : KeptSeat) : Type 0 where
-  pub empty : seat_kept kept ≡ record no_seat { eligible = kept.eligible }
+  pub empty : seat_kept kept ≡ record no_seat { eligible = filled 0 [] }
+  pub no_sets : kept.sets.items ≡ []
+  pub no_list : kept.has_list ≡ false
 
 -- such a seat with room for a test of the plan, and the sums of the plan's prior
 pub record IsSpare (plan : Plan) (kept : KeptSeat) : Type 0 where
   pub unused : IsUnused kept
-  pub room : HasRoom plan.length kept
+  pub room : HasRoom plan kept
   pub sums : (b : Tables) → b.grid ≡ length plan.prior → IsSumsOf b plan.prior [] kept.sums
 
 -- the seat of each session of the entries, with room for a test of the plan
 pub record AreKept (plan : Plan) (H : List Entry) (seats : List KeptSeat) : Type 0 where
   pub are : AreSeats H (map seat_kept seats)
-  pub room : (s : ℕ) (kept : KeptSeat) → slice_get seats s ≡ Some kept → HasRoom plan.length kept
+  pub room : (s : ℕ) (kept : KeptSeat) → slice_get seats s ≡ Some kept → HasRoom plan kept
 
 -- the sums of each seat are those of the plan's prior and the seat's answers
 abbrev pub HaveSums : Tables → Plan → List KeptSeat → Type 0
@@ -89,6 +134,19 @@ pub record IsSeated (b : Tables) (seats : List KeptSeat) (entry : Entry) : Type 
   pub answered : length kept.responses.items ≤ length kept.shown.items
   pub answer : TakesAnswer b entry kept
 
--- the new seats are the old ones and the spare one, with the items that are eligible
-abbrev pub StartsSeat : List KeptSeat → List ℕ → List KeptSeat → KeptSeat → Type 0
-StartsSeat old eligible new spare = new ≡ old ++ record spare { eligible = eligible } ∷ []
+-- the seat of a session that starts
+abbrev pub started_seat : Seat → Bands → Option Without → Seat
+started_seat seat eligible without =
+    record seat {
+      eligible = eligible.sets;
+      without = option_map (λ (list : Without). list.items) without;
+      form = option_map (λ (list : Without). list.form) without;
+    }
+
+-- the new seats are the old ones and the spare one, which starts with these sets
+pub record StartsSeat (old : List KeptSeat) (eligible : Bands) (without : Option Without) (new : List KeptSeat) (spare : KeptSeat) : Type 0 where
+  pub seat : KeptSeat
+  pub is : new ≡ old ++ seat ∷ []
+  pub starts : seat_kept seat ≡ started_seat (seat_kept spare) eligible without
+  pub room : KeepsRoom spare seat
+  pub sums : seat.sums ≡ spare.sums

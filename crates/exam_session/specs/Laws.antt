@@ -1,25 +1,30 @@
--- That a session which has begun never lacks a form.
-use Rattle.std.specs.Prelude.{◌≡◌, ℕ, ◌<◌, List, IsTrue, Some}
-use Rattle.bank_tables.specs.Items.{Set}
+-- What lifting promises of the records of the first version of the journal.
+use Rattle.std.specs.Prelude.{◌≡◌, ℕ, List, Option}
 use Rattle.bank_tables.specs.Tables.{Tables}
-use Rattle.exam_model.specs.Plan.{Plan}
-use Rattle.exam_model.specs.Problem.{Problem}
-use Rattle.exam_model.specs.Forms.{Meets, Form}
+use Rattle.form_model.specs.Plan.{Plan}
+use Rattle.certificate_model.specs.ProofTrees.{ProofTree}
+use Rattle.serving_model.specs.Seats.{first_band}
+use Rattle.form_model.specs.Validity.{IsPlanFor}
 use Rattle.history_model.specs.declared.entry.Entry.{Entry}
-use Rattle.history_model.specs.Entries.{is_set_aside}
-use Rattle.history_model.specs.SessionProblems.{IsProblemOf}
-use Rattle.history_model.specs.Legality.{LegalRun}
+use Rattle.history_model.specs.Judging.{Record, MayFollow}
+use Rattle.history_model.specs.Legality.{Legal}
+use Rattle.history_model.specs.Lifting.{IsLifted}
+use Rattle.exam_records.specs.Old.{old_entry}
+use Rattle.exam_records.specs.Shape.{HasBands, IsInRange}
 
--- the problem starts from a form of it
-pub record StartsFromForm (P : Problem) : Type 0 where
-  pub form : Set
-  pub start : P.start ≡ Some form
-  pub is_form : Form P form
+-- the bands of an entry that is legal are as many as an entry may have
+abbrev pub LegalHasBands : Type 0
+LegalHasBands = (b : Tables) (plan : Plan) (H : List Entry) (entry : Entry)
+    → IsPlanFor b plan → Legal b plan H entry → HasBands entry
 
--- after its first step a session's problem starts from a form of it
-abbrev pub FormIsThere : Type 0
-FormIsThere = (b : Tables) (plan : Plan) (H : List Entry) (s step : ℕ) (P : Problem) → LegalRun b plan H → IsProblemOf b plan H s step P → 0 < step → StartsFromForm P
+-- what the first version keeps of an entry that may follow is lifted to that entry
+abbrev pub MayIsLifted : Type 0
+MayIsLifted = (b : Tables) (plan : Plan) (H : List Entry) (entry : Entry) (tree : Option ProofTree)
+    → MayFollow b plan H entry tree
+    → IsLifted b plan H (old_entry (first_band b plan) entry) entry
 
--- at its first step, once eligibility was set aside, each set of items that meets the plan is a form of a session's problem
-abbrev pub PlanIsEnough : Type 0
-PlanIsEnough = (b : Tables) (plan : Plan) (H : List Entry) (s : ℕ) (P : Problem) (X : Set) → LegalRun b plan H → IsProblemOf b plan H s 0 P → IsTrue (is_set_aside H s) → Meets b plan X → Form P X
+-- and to nothing else
+abbrev pub LiftedIsOne : Type 0
+LiftedIsOne = (b : Tables) (plan : Plan) (H : List Entry) (entry new : Entry) (tree : Option ProofTree)
+    → IsInRange entry → IsInRange new → MayFollow b plan H entry tree
+    → IsLifted b plan H (old_entry (first_band b plan) entry) new → new ≡ entry

@@ -1,8 +1,10 @@
+pub mod Claims
 pub mod Ledgers
 pub mod Kept
+pub mod Flags
 pub mod KeptSeats
+pub mod Visits
 pub mod Bookings
 pub mod Totals
-pub mod Claims
 pub mod Waits
 pub mod Laws

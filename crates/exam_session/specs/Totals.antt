@@ -11,7 +11,7 @@ totals_of H = record { proved = count_by serves_proved H; unproved = count_by se
 
 -- the totals with an entry more
 abbrev pub totals_with : Totals → Entry → Totals
-totals_with totals (SetAside session cause nodes) = record totals { aside = totals.aside + 1; nodes = totals.nodes + nodes }
+totals_with totals (SetAside session step band cause nodes) = record totals { aside = totals.aside + 1; nodes = totals.nodes + nodes }
 totals_with totals (Served session step item form proved nodes) =
     record totals { proved = totals.proved + (if proved then 1 else 0); unproved = totals.unproved + (if proved then 0 else 1); nodes = totals.nodes + nodes }
 totals_with totals entry = totals

@@ -59,6 +59,7 @@ impl<'a> Book<'a> {
             self.spec,
             self.seats.as_slice(),
             &mut self.counters,
+            self.band_counters.as_mut_slice(),
             &entry,
         );
         note_seat(self.bank, &mut self.seats, &mut self.spare, &entry);

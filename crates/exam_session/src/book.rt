@@ -2,34 +2,38 @@
 
 ghost use Rattle.std.specs.Prelude.{◌≡◌, ◌↔◌, ℕ, Bool, ◌+◌, ◌<◌, ◌≤◌, [], length, Option, Some, None, IsTrue, IsSome, IfOk, IfSome, IfNone, OnOk, OnErr, if◌then◌else◌};
 ghost use Rattle.std.specs.Vec.{vec_len, vec_capacity};
-ghost use Rattle.bank_tables.specs.Items.{Set, has};
+ghost use Rattle.bank_tables.specs.Items.{Set};
 ghost use Rattle.bank_tables.specs.Tables.{size};
 ghost use Rattle.bank_tables.specs.Validity.{HoldsItems};
-ghost use Rattle.exam_model.specs.Forms.{Form};
-ghost use Rattle.exam_model.specs.Validity.{IsPlanFor, IsWellMade};
+ghost use Rattle.form_model.specs.Forms.{Form};
+ghost use Rattle.form_model.specs.Plan.{bands_of};
+ghost use Rattle.serving_model.specs.Seats.{first_band};
+ghost use Rattle.form_model.specs.Validity.{IsPlanFor, IsWellMade};
 ghost use Rattle.constraint_model.specs.Views.{problem_of};
 ghost use Rattle.shadow_select.specs.Next.{HasFreeItem};
 ghost use Rattle.history_model.specs.declared.place.Place.TheVariants.{Pending, Waiting};
-ghost use Rattle.history_model.specs.Entries.{sessions, is_started, holder, seat_of};
+ghost use Rattle.history_model.specs.Entries.{sessions, is_started, holder, items_in, seat_of};
 ghost use Rattle.history_model.specs.Places.{place};
 ghost use Rattle.history_model.specs.Counts.{counts, finished};
-ghost use Rattle.history_model.specs.Draws.{draw, SameItems};
+ghost use Rattle.history_model.specs.Draws.{AreDrawn};
 ghost use Rattle.history_model.specs.Refusals.{recorded};
 ghost use Rattle.history_model.specs.Summaries.{summary};
-ghost use Rattle.history_model.specs.SessionProblems.{IsProblemOf};
+ghost use Rattle.history_model.specs.SessionProblems.{IsProblemOf, is_aside_now};
 ghost use Rattle.exam_session.specs.Ledgers.{IsExamination};
-ghost use Rattle.exam_session.specs.Kept.{AreCounts};
+ghost use Rattle.exam_session.specs.Kept.{AreCounts, AreBandCounts};
 
+use crate::bands::first_band;
 use crate::bookings::{Bookings, session_with};
+use crate::counting::new_counters;
+use crate::drawing::draw_bands;
 use crate::kept_seat::KeptSeat;
 use crate::totals::Totals;
-use bank_tables::{Bank, ItemSet};
+use bank_tables::Bank;
 use constraint_model::{Problem, Spec};
-use eligibility_draw::draw;
-use exam_model::Seat;
 use exposure_counters::{Counters, Memory};
 use history_log::Counted;
-use history_model::{Entry, Place, Summary};
+use history_model::{Bands, Entry, Place, Summary};
+use serving_model::Seat;
 use shadow_select::next_problem_from;
 use std::alloc::Global;
 use std::marker::Model;
@@ -46,7 +50,10 @@ pub struct Book<'a> {
     /// The seat for the next session, where there is room for it.
     pub(crate) spare: Option<KeptSeat>,
     pub(crate) bookings: Bookings,
+    /// The exposure counts in all.
     pub(crate) counters: Counters,
+    /// Those of each band of the plan.
+    pub(crate) band_counters: Vec<Counters>,
     pub(crate) totals: Totals,
     /// For how many entries more there is room, one or none: in the seats and the bookings up to the plan's limit of sessions.
     pub(crate) room: usize,
@@ -56,7 +63,7 @@ impl<'a> Model for Book<'a> {
     ghost use Rattle.std.specs.Prelude.{◌+◌, ◌^◌, ◌<◌, ◌≤◌, min, length, IsSome, IfSome};
     ghost use Rattle.std.specs.Vec.{vec_len, vec_capacity};
     ghost use Rattle.exam_session.specs.Ledgers.{Ledger, IsExamination};
-    ghost use Rattle.exam_session.specs.Kept.{AreCounts};
+    ghost use Rattle.exam_session.specs.Kept.{AreCounts, AreCountsByBand};
     ghost use Rattle.exam_session.specs.KeptSeats.{IsSpare, AreKeptWithSums};
     ghost use Rattle.exam_session.specs.Bookings.{AreBookings, places};
     ghost use Rattle.exam_session.specs.Totals.{AreTotals};
@@ -76,7 +83,8 @@ impl<'a> Model for Book<'a> {
         × IfSome b.spare (IsSpare b.spec.now)
         × (0 < b.room → vec_len b.seats < b.spec.now.sessions → IsSome b.spare)
         × (min b.spec.now.sessions (vec_len b.seats + b.room) ≤ vec_capacity b.seats)
-        × (min b.spec.now.sessions (vec_len b.bookings.each + b.room) ≤ places b.bookings) };
+        × (min b.spec.now.sessions (vec_len b.bookings.each + b.room) ≤ places b.bookings)
+        × AreCountsByBand b.bank.now b.spec.now b.entries b.band_counters.items };
 }
 
 /// A book may be moved to another thread.
@@ -96,6 +104,7 @@ impl<'a> Book<'a> {
         ensures room { IfOk result (λ book. book.room ≡ 0) }
     {
         let counters = Counters::new(alloc, bank.items())?;
+        let band_counters = new_counters(alloc, bank, spec)?;
         Ok(Book {
             bank,
             spec,
@@ -104,6 +113,7 @@ impl<'a> Book<'a> {
             spare: None,
             bookings: Bookings::new(alloc),
             counters,
+            band_counters,
             totals: Totals {
                 proved: 0,
                 unproved: 0,
@@ -177,21 +187,62 @@ impl<'a> Book<'a> {
         }
     }
 
-    /// The exposure counts of the bank's items, and the number of finished sessions.
+    /// Whether eligibility is set aside for a session in the band of its estimate now; not where there is no such session.
+    pub fn is_aside(&self, session: u32) -> bool
+        ensures { result
+            ≡ is_aside_now self.now.bank self.now.plan self.now.entries session }
+    {
+        match self.seats.get(session as usize) {
+            Some(kept) => kept.is_aside(self.spec),
+            None => false,
+        }
+    }
+
+    /// The exposure counts of the bank's items in all, and the number of finished sessions.
     pub fn counters(&self) -> &Counters
         ensures { AreCounts self.now.bank self.now.plan self.now.entries result.now }
     {
         &self.counters
     }
 
-    /// The items that are eligible for the next session: its draw, at the counts of the entries so far.
-    pub fn drawn(&self) -> ItemSet
-        ensures drawn { SameItems (has result)
-            (draw self.now.bank self.now.plan self.now.entries (sessions self.now.entries)) }
-        ensures items { HoldsItems self.now.bank (has result) }
+    /// The exposure counts of the bank's items in a band of the plan, and the number of finished sessions that visited it.
+    pub fn band_counters(&self, band: u8) -> &Counters
+        requires { band < bands_of self.now.plan }
+        ensures { AreBandCounts self.now.bank self.now.plan self.now.entries band result.now }
     {
-        let session = self.sessions();
-        draw(self.spec.key(), self.spec.rate(), session, &self.counters)
+        &self.band_counters[band as usize]
+    }
+
+    /// The band in which each session begins: that of the estimate before any answer.
+    pub fn first_band(&self) -> u8
+        ensures band { result ≡ first_band self.now.bank self.now.plan }
+        ensures of_plan { result < bands_of self.now.plan }
+        ensures few { result < 8 }
+    {
+        first_band(self.spec)
+    }
+
+    /// The draw for a session in each band, at the counts of the entries so far.
+    pub(crate) fn drawn_for(&self, session: u32) -> Bands
+        ensures drawn { AreDrawn self.now.bank self.now.plan self.now.entries session result }
+        ensures items { (band : ℕ) → HoldsItems self.now.bank (items_in result.sets band) }
+        ensures eight { length result.sets ≡ 8 }
+    {
+        draw_bands(
+            self.spec.key(),
+            self.spec.rate(),
+            session,
+            self.band_counters.as_slice(),
+        )
+    }
+
+    /// The items that are eligible for the next session in each band: its draw there.
+    pub fn drawn(&self) -> Bands
+        ensures drawn { AreDrawn self.now.bank self.now.plan self.now.entries
+            (sessions self.now.entries) result }
+        ensures items { (band : ℕ) → HoldsItems self.now.bank (items_in result.sets band) }
+    {
+        self.drawn_for(self.sessions())
     }
 
     /// The response that is recorded for a step of a session; none where there is none.

@@ -3,7 +3,7 @@
 ghost use Rattle.std.specs.Prelude.{◌≡◌, ◌+◌, ◌<◌, ◌≤◌, [], ◌∷◌, ◌++◌, List, IsTrue, OnOk, if◌then◌else◌};
 ghost use Rattle.std.specs.Vec.{vec_len, vec_capacity};
 ghost use Rattle.bank_tables.specs.Tables.{Tables};
-ghost use Rattle.exam_model.specs.Plan.{Plan};
+ghost use Rattle.form_model.specs.Plan.{Plan};
 ghost use Rattle.history_model.specs.declared.entry.Entry.{Entry};
 ghost use Rattle.history_model.specs.Entries.{starts};
 ghost use Rattle.history_model.specs.Legality.{Legal, LegalRun};

@@ -1,37 +1,47 @@
 //! Whether a record may follow the entries of a book.
 
-ghost use Rattle.std.specs.Prelude.{◌≡◌, ℕ, Option, Some, None, IfOk, IfErr, IfSome, IfNone};
+ghost use Rattle.std.specs.Prelude.{◌≡◌, ℕ, Option, Some, None, IfOk, IfErr};
 ghost use Rattle.std.specs.Option.{option_copied};
-ghost use Rattle.bank_tables.specs.Items.{Set, has};
-ghost use Rattle.exam_model.specs.Forms.{Form};
+ghost use Rattle.bank_tables.specs.Items.{Set};
+ghost use Rattle.form_model.specs.Forms.{Form};
 ghost use Rattle.shadow_select.specs.Next.{HasFreeItem};
-ghost use Rattle.exam_model.specs.Validity.{IsWellMade};
+ghost use Rattle.form_model.specs.Validity.{IsWellMade};
 ghost use Rattle.constraint_model.specs.Views.{problem_of};
 ghost use Rattle.history_model.specs.declared.entry.Entry.TheVariants.{Started, SetAside, Served, Answered, Closed};
-ghost use Rattle.history_model.specs.Draws.{SameItems, IsFirstDifference};
 ghost use Rattle.history_model.specs.SessionProblems.{IsProblemOf};
 ghost use Rattle.history_model.specs.Judging.{MayFollow};
 ghost use Rattle.history_model.specs.Reasons.{IsIllegal};
-ghost use Rattle.exam_session.specs.Waits.{IsNotPending};
+ghost use Rattle.exam_session.specs.Waits.{IsNotPending, WaitsForNone};
 
 use crate::book::Book;
 use crate::claims::{claim_of_cause, claim_of_mark, shows};
+use crate::drawing::first_difference;
 use bank_tables::ItemSet;
 use constraint_model::{Problem, meets};
 use exam_records::Record;
-use history_model::{Cause, Entry, Illegal, Place};
+use history_model::{Bands, Cause, Entry, Illegal, Place, Without};
 use proof_tree::Tree;
 use shadow_select::next_item;
 
-/// The lowest item at which two sets differ.
-fn first_difference(one: ItemSet, other: ItemSet) -> Option<u16>
-    ensures differ { IfSome result (IsFirstDifference (has one) (has other)) }
-    ensures same { IfNone result (SameItems (has one) (has other)) }
-{
-    one.minus(other).union(other.minus(one)).first()
-}
-
 impl<'a> Book<'a> {
+    /// The problem of a session that waits for an item, at whatever step.
+    fn problem_now(&self, session: u32) -> Result<Problem<'a>, Illegal>
+        ensures problem { IfOk result
+            (λ p. IsProblemOf self.now.bank self.now.plan self.now.entries session p.step
+            (problem_of p)) }
+        ensures well_made { IfOk result (λ p. IsWellMade (problem_of p)) }
+        ensures reason { IfErr result
+            (WaitsForNone self.now.plan self.now.entries session) }
+    {
+        let Some(place) = self.place(session) else {
+            return Err(Illegal::NoSession(self.sessions()));
+        };
+        match self.problem(session) {
+            Some(problem) => Ok(problem),
+            None => Err(Illegal::NotPending(place)),
+        }
+    }
+
     /// The problem of a session that waits for an item at a step.
     fn problem_at(&self, session: u32, step: u16) -> Result<Problem<'a>, Illegal>
         ensures problem { IfOk result
@@ -58,15 +68,18 @@ impl<'a> Book<'a> {
         &self,
         session: u32,
         booking: u64,
-        eligible: ItemSet,
+        eligible: &Bands,
+        without: Option<&Without>,
         tree: Option<&Tree>,
     ) -> Result<(), Illegal>
         ensures may { IfOk result
             (λ _. MayFollow self.now.bank self.now.plan self.now.entries
-            (Started session booking eligible) (option_copied tree.entry)) }
+            (Started session booking eligible.now (option_copied without.entry))
+            (option_copied tree.entry)) }
         ensures reason { IfErr result
             (IsIllegal self.now.bank self.now.plan self.now.entries
-            (Started session booking eligible) (option_copied tree.entry)) }
+            (Started session booking eligible.now (option_copied without.entry))
+            (option_copied tree.entry)) }
     {
         let count = self.sessions();
         if session != count || session >= self.spec.sessions() {
@@ -75,8 +88,11 @@ impl<'a> Book<'a> {
         if let Some(holder) = self.booked(booking) {
             return Err(Illegal::Booked(holder));
         }
-        if let Some(item) = first_difference(eligible, self.drawn()) {
+        if let Some(item) = first_difference(eligible, &self.drawn()) {
             return Err(Illegal::NotDrawn(item));
+        }
+        if without.is_some() {
+            return Err(Illegal::HasList);
         }
         if tree.is_some() {
             return Err(Illegal::NotSpent(0));
@@ -87,23 +103,32 @@ impl<'a> Book<'a> {
     fn judge_aside(
         &self,
         session: u32,
+        step: u16,
+        band: u8,
         cause: Cause,
         nodes: u16,
         tree: Option<&Tree>,
     ) -> Result<(), Illegal>
         ensures may { IfOk result
             (λ _. MayFollow self.now.bank self.now.plan self.now.entries
-            (SetAside session cause nodes) (option_copied tree.entry)) }
+            (SetAside session step band cause nodes) (option_copied tree.entry)) }
         ensures reason { IfErr result
-            (IsIllegal self.now.bank self.now.plan self.now.entries (SetAside session cause nodes)
-            (option_copied tree.entry)) }
+            (IsIllegal self.now.bank self.now.plan self.now.entries
+            (SetAside session step band cause nodes) (option_copied tree.entry)) }
     {
-        let problem = match self.problem_at(session, 0) {
+        let problem = match self.problem_now(session) {
             Ok(problem) => problem,
             Err(reason) => return Err(reason),
         };
         if problem.aside {
             return Err(Illegal::IsAside);
+        }
+        if step != problem.step {
+            return Err(Illegal::NotStep(problem.step));
+        }
+        let now = self.spec.band(problem.theta);
+        if band != now {
+            return Err(Illegal::NotBand(now));
         }
         shows(&problem, None, claim_of_cause(cause), nodes, tree)
     }
@@ -207,12 +232,15 @@ impl<'a> Book<'a> {
                 session,
                 booking,
                 eligible,
-            } => self.judge_start(session, booking, eligible, tree),
+                without,
+            } => self.judge_start(session, booking, &eligible, without.as_ref(), tree),
             Entry::SetAside {
                 session,
+                step,
+                band,
                 cause,
                 nodes,
-            } => self.judge_aside(session, cause, nodes, tree),
+            } => self.judge_aside(session, step, band, cause, nodes, tree),
             Entry::Served {
                 session,
                 step,

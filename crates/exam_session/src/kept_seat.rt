@@ -1,33 +1,40 @@
 //! A session's seat in as few bytes as its content needs.
 
-ghost use Rattle.std.specs.Prelude.{◌≡◌, ◌<◌, ◌≤◌, length, slice_get, IfOk};
+ghost use Rattle.std.specs.Prelude.{◌≡◌, ◌+◌, ◌<◌, ◌≤◌, ◌++◌, length, take, get_or, slice_get, IfOk};
+ghost use Rattle.std.specs.Option.{option_copied};
+ghost use Rattle.std.specs.Vec.{vec_len, vec_capacity};
 ghost use Rattle.bank_tables.specs.Tables.{Tables};
-ghost use Rattle.exam_model.specs.Plan.{Plan};
-ghost use Rattle.exam_model.specs.Seats.{answers};
+ghost use Rattle.form_model.specs.Plan.{Plan};
+ghost use Rattle.serving_model.specs.Seats.{answers, band_at, is_aside_in};
 ghost use Rattle.ability_grid.specs.Running.{IsSumsOf};
-ghost use Rattle.std.specs.Vec.{vec_capacity};
 ghost use Rattle.history_model.specs.Entries.{session_of};
 ghost use Rattle.history_model.specs.Laws.{seat_with, seat_place};
-ghost use Rattle.exam_session.specs.KeptSeats.{seat_kept, IsSpare, IsShort, HasRoomFor, TakesAnswer, HasSums, KeepsRoom};
+ghost use Rattle.exam_records.specs.Sets.{no_items};
+ghost use Rattle.exam_session.specs.KeptSeats.{filled, before_bands, seat_kept, started_seat, IsSpare, IsShort, HasRoomFor, TakesStart, TakesAnswer, HasSums, KeepsRoom};
 
+use crate::flags::{all_flags, has_flag, with_flag};
 use ability_grid::{KeptSums, Sums};
 use bank_tables::{Bank, ItemSet, Short};
 use constraint_model::Spec;
-use exam_model::Seat;
+use exam_records::are_sets;
 use exposure_counters::Memory;
-use history_model::{Entry, Place};
+use history_model::{Bands, Entry, Place, Without};
+use serving_model::Seat;
 use std::alloc::Global;
 
-/// The content of a `Seat`, in lists that have room for the items of a test and no more, and the sums
-/// of the plan's prior and its answers.
+/// The content of a `Seat`, in lists that have room for the items of a test and the bands of the plan and no more, and the
+/// sums of the plan's prior and its answers.
 #[derive(Drop)]
 pub(crate) struct KeptSeat {
     pub(crate) shown: Vec<u16>,
     pub(crate) responses: Vec<u8>,
     pub(crate) sums: KeptSums,
-    pub(crate) eligible: ItemSet,
+    /// The set of the items withheld, if there is a list of them, and then the eligible set of each band.
+    pub(crate) sets: Vec<ItemSet>,
     pub(crate) form: Option<ItemSet>,
-    pub(crate) aside: bool,
+    /// A bit for each band in which eligibility is set aside.
+    pub(crate) aside: u8,
+    pub(crate) has_list: bool,
     pub(crate) proved: bool,
     pub(crate) closed: bool,
 }
@@ -56,6 +63,62 @@ fn responses_of(list: &[u8]) -> Short
     responses
 }
 
+/// No items.
+fn no_items() -> ItemSet
+    ensures { result ≡ no_items }
+{
+    let none = ItemSet::empty();
+    let _ = none.count();
+    none
+}
+
+/// The set at a place; no items past the end of the list.
+fn set_at(sets: &[ItemSet], place: usize) -> ItemSet
+    ensures { result ≡ get_or sets.now place no_items }
+{
+    match sets.get(place) {
+        Some(set) => *set,
+        None => no_items(),
+    }
+}
+
+/// The sets of the eight bands, from a place on; no items past the end of the list.
+fn filled(sets: &[ItemSet], first: usize) -> [ItemSet; 8]
+    requires { first ≤ 1 }
+    ensures { result ≡ filled first sets.now }
+{
+    [
+        set_at(sets, first),
+        set_at(sets, first + 1),
+        set_at(sets, first + 2),
+        set_at(sets, first + 3),
+        set_at(sets, first + 4),
+        set_at(sets, first + 5),
+        set_at(sets, first + 6),
+        set_at(sets, first + 7),
+    ]
+}
+
+/// How many sets there are before those of the bands.
+fn before_bands(has_list: bool) -> usize
+    ensures result { result ≡ before_bands has_list }
+    ensures few { result ≤ 1 }
+{
+    if has_list { 1 } else { 0 }
+}
+
+/// Adds the eligible set of each band.
+fn push_bands(sets: &mut Vec<ItemSet>, eligible: &Bands)
+    requires few { eligible.now.count ≤ 8 }
+    requires room { vec_len sets.old + eligible.now.count ≤ vec_capacity sets.old }
+    ensures sets { sets.new.items ≡ sets.old.items ++ take eligible.now.count eligible.now.sets }
+    ensures capacity { vec_capacity sets.new ≡ vec_capacity sets.old }
+{
+    for band in 0..eligible.count {
+        sets.push_reserved(eligible.sets[band as usize]);
+    }
+}
+
 impl KeptSeat {
     /// The seat before its session is started, with room for the items of a test.
     pub(crate) fn new(alloc: Global, spec: &Spec) -> Result<KeptSeat, Memory>
@@ -68,12 +131,24 @@ impl KeptSeat {
             shown: Vec::with_capacity(alloc, items)?,
             responses: Vec::with_capacity(alloc, items)?,
             sums: KeptSums::of_prior(alloc, spec.prior())?,
-            eligible: ItemSet::empty(),
+            sets: Vec::with_capacity(alloc, spec.bands().len() + 1)?,
             form: None,
-            aside: false,
+            aside: 0,
+            has_list: false,
             proved: false,
             closed: false,
         })
+    }
+
+    /// The items withheld, if there is a list of them.
+    fn withheld(&self) -> Option<ItemSet>
+        ensures { result ≡ (seat_kept self.now).without }
+    {
+        if self.has_list {
+            Some(set_at(self.sets.as_slice(), 0))
+        } else {
+            None
+        }
     }
 
     /// The seat.
@@ -84,8 +159,9 @@ impl KeptSeat {
         Seat {
             shown: items_of(self.shown.as_slice()),
             responses: responses_of(self.responses.as_slice()),
-            eligible: self.eligible,
-            aside: self.aside,
+            eligible: filled(self.sets.as_slice(), before_bands(self.has_list)),
+            aside: all_flags(self.aside),
+            without: self.withheld(),
             form: self.form,
             proved: self.proved,
             closed: self.closed,
@@ -129,6 +205,35 @@ impl KeptSeat {
         self.responses.get(step as usize).copied()
     }
 
+    /// Whether eligibility is set aside in the band of the estimate.
+    pub(crate) fn is_aside(&self, spec: &Spec) -> bool
+        ensures { (b : Tables) → HasSums b spec.now self.now → result
+            ≡ is_aside_in (seat_kept self.now) (band_at b spec.now (seat_kept self.now)
+            (length (answers (seat_kept self.now)))) }
+    {
+        has_flag(self.aside, spec.band(self.sums.sums().mode()))
+    }
+
+    /// Notes the sets of a session that starts.
+    pub(crate) fn start(&mut self, eligible: &Bands, without: Option<&Without>)
+        requires { TakesStart eligible.now (option_copied without) self.old }
+        ensures seat { seat_kept self.new
+            ≡ started_seat (seat_kept self.old) eligible.now (option_copied without.entry) }
+        ensures room { KeepsRoom self.old self.new }
+        ensures sums { self.new.sums ≡ self.old.sums }
+    {
+        are_sets(&eligible.sets);
+        match without {
+            Some(list) => {
+                self.has_list = true;
+                self.form = Some(list.form);
+                self.sets.push_reserved(list.items);
+                push_bands(&mut self.sets, eligible);
+            }
+            None => push_bands(&mut self.sets, eligible),
+        }
+    }
+
     /// Notes an entry of the seat's session.
     pub(crate) fn note(&mut self, bank: &Bank, entry: &Entry)
         requires room { HasRoomFor entry.now self.old }
@@ -141,8 +246,12 @@ impl KeptSeat {
             → HasSums bank.now plan self.new }
     {
         match *entry {
-            Entry::Started { eligible, .. } => self.eligible = eligible,
-            Entry::SetAside { .. } => self.aside = true,
+            Entry::Started {
+                eligible,
+                without,
+                ..
+            } => self.start(&eligible, without.as_ref()),
+            Entry::SetAside { band, .. } => self.aside = with_flag(self.aside, band),
             Entry::Served {
                 item,
                 form,

@@ -1,14 +1,18 @@
-//! What the definitions imply for a session that needs a form. It can lack one only at its first
-//! step, and only while eligibility is not set aside.
+//! What the definitions imply for the records of the first version of the journal, which a book lifts.
 
-ghost use Rattle.exam_session.specs.Laws.{FormIsThere, PlanIsEnough};
+ghost use Rattle.exam_session.specs.Laws.{LegalHasBands, MayIsLifted, LiftedIsOne};
 
-/// After its first step the form that a session was last served from is a form of its problem.
-pub fn a_form_is_there()
-    ensures { FormIsThere }
+/// The bands of a legal entry are at most eight.
+pub fn a_legal_entry_has_bands()
+    ensures { LegalHasBands }
 {}
 
-/// At the first step, with eligibility set aside, each set of items that meets the plan is a form: the base form is one.
-pub fn the_plan_is_enough()
-    ensures { PlanIsEnough }
+/// What the first version keeps of an entry that may follow is lifted to that entry.
+pub fn an_entry_is_lifted_to_itself()
+    ensures { MayIsLifted }
+{}
+
+/// It is lifted to no other entry.
+pub fn lifting_gives_one_entry()
+    ensures { LiftedIsOne }
 {}

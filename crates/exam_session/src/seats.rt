@@ -1,19 +1,20 @@
 //! What an entry changes in the seats of a book.
 
 ghost use Rattle.std.specs.Prelude.{◌≡◌, ◌+◌, ◌<◌, ◌≤◌, [], ◌∷◌, ◌++◌, List, length, IsTrue, IsFalse, IsSome, IfSome, OnOk, None, if◌then◌else◌};
+ghost use Rattle.std.specs.Option.{option_copied};
 ghost use Rattle.std.specs.Vec.{vec_len, vec_capacity};
 ghost use Rattle.bank_tables.specs.Tables.{Tables};
-ghost use Rattle.exam_model.specs.Plan.{Plan};
+ghost use Rattle.form_model.specs.Plan.{Plan};
 ghost use Rattle.history_model.specs.declared.entry.Entry.{Entry};
 ghost use Rattle.history_model.specs.Entries.{session_of, starts};
 ghost use Rattle.history_model.specs.Legality.{Legal, LegalRun};
-ghost use Rattle.exam_session.specs.KeptSeats.{IsSpare, IsSeated, AreKept, HaveSums, StartsSeat};
+ghost use Rattle.exam_session.specs.KeptSeats.{IsSpare, IsSeated, AreKept, HaveSums, HasRoomFor, TakesStart, StartsSeat};
 
 use crate::kept_seat::KeptSeat;
-use bank_tables::{Bank, ItemSet};
+use bank_tables::Bank;
 use constraint_model::Spec;
 use exposure_counters::Memory;
-use history_model::Entry;
+use history_model::{Bands, Entry, Without};
 use std::alloc::Global;
 
 /// The session that an entry is of.
@@ -48,10 +49,17 @@ pub(crate) fn make_spare(
 }
 
 /// Adds the spare seat as that of a session that starts.
-fn start_seat(seats: &mut Vec<KeptSeat>, spare: &mut Option<KeptSeat>, eligible: ItemSet)
+fn start_seat(
+    seats: &mut Vec<KeptSeat>,
+    spare: &mut Option<KeptSeat>,
+    eligible: &Bands,
+    without: Option<&Without>,
+)
     requires room { vec_len seats.old < vec_capacity seats.old }
     requires spare { IsSome spare.old }
-    ensures seats { IfSome spare.old (StartsSeat seats.old.items eligible seats.new.items) }
+    requires takes { IfSome spare.old (TakesStart eligible.now (option_copied without)) }
+    ensures seats { IfSome spare.old
+        (StartsSeat seats.old.items eligible.now (option_copied without.entry) seats.new.items) }
     ensures none { spare.new ≡ None }
     ensures number { vec_len seats.new ≡ vec_len seats.old + 1 }
     ensures capacity { vec_capacity seats.new ≡ vec_capacity seats.old }
@@ -59,7 +67,7 @@ fn start_seat(seats: &mut Vec<KeptSeat>, spare: &mut Option<KeptSeat>, eligible:
     match spare.take() {
         Some(kept) => {
             let mut seat = kept;
-            seat.eligible = eligible;
+            seat.start(eligible, without);
             seats.push_reserved(seat);
         }
         None => unreachable!(),
@@ -88,6 +96,7 @@ pub(crate) fn note_seat(
 )
     requires room { IsTrue (starts entry.now) → vec_len seats.old < vec_capacity seats.old }
     requires spare { IsTrue (starts entry.now) → IsSome spare.old }
+    requires takes { IsTrue (starts entry.now) → IfSome spare.old (HasRoomFor entry.now) }
     requires seated { IsFalse (starts entry.now) → IsSeated bank.now seats.old.items entry.now }
     ensures seats { (b : Tables) (plan : Plan) (H : List Entry) → LegalRun b plan H
         → Legal b plan H entry.now → IfSome spare.old (IsSpare plan)
@@ -101,7 +110,11 @@ pub(crate) fn note_seat(
     ensures capacity { vec_capacity seats.new ≡ vec_capacity seats.old }
 {
     match *entry {
-        Entry::Started { eligible, .. } => start_seat(seats, spare, eligible),
+        Entry::Started {
+            eligible,
+            without,
+            ..
+        } => start_seat(seats, spare, &eligible, without.as_ref()),
         _ => change_seat(bank, seats.as_mut_slice(), entry),
     }
 }

@@ -6,9 +6,9 @@ use Rattle.std.proofs.Math.Path.{fun_ext}
 use lib.Count.{ones}
 use Rattle.bank_tables.specs.Items.{Set, has}
 use Rattle.bank_tables.specs.Tables.{size}
-use Rattle.exam_model.specs.Problem.{Problem}
-use Rattle.exam_model.specs.Forms.{Form, Best, HasNoForm}
-use Rattle.exam_model.specs.Verdicts.{IsFormOrNone, IsAtLeast}
+use Rattle.form_model.specs.Problem.{Problem}
+use Rattle.form_model.specs.Forms.{Form, Best, HasNoForm}
+use Rattle.certificate_model.specs.Verdicts.{IsFormOrNone, IsAtLeast}
 use Rattle.form_enumeration.specs.Enumeration.{masked, IsBetterOf}
 use Rattle.form_enumeration.proofs.Masks.{mask_of, mask_below, masked_mask, ones_of_mask}
 

@@ -6,7 +6,7 @@ use Rattle.std.specs.Int.{bit_at}
 use lib.Count.{ones, ones_step}
 use Rattle.bank_tables.specs.Items.{Set}
 use Rattle.bank_tables.specs.Sums.{sum_in, count_in}
-use Rattle.exam_model.proofs.SumLaws.{either}
+use Rattle.form_model.proofs.SumLaws.{either}
 use Rattle.form_enumeration.specs.Enumeration.{masked}
 
 -- the mask of the members below n

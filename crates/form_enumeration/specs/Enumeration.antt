@@ -2,9 +2,9 @@
 use Rattle.std.specs.Prelude.{ℕ, ◌&&◌, ◌==◌, nat_lt, Option}
 use Rattle.std.specs.Int.{bit_at}
 use Rattle.bank_tables.specs.Items.{Set}
-use Rattle.exam_model.specs.Problem.{Problem}
-use Rattle.exam_model.specs.Forms.{Form}
-use Rattle.exam_model.specs.Verdicts.{IsFormOrNone, IsAtLeast}
+use Rattle.form_model.specs.Problem.{Problem}
+use Rattle.form_model.specs.Forms.{Form}
+use Rattle.certificate_model.specs.Verdicts.{IsFormOrNone, IsAtLeast}
 
 -- the items below n whose bits are 1 in the mask
 abbrev pub masked : ℕ → ℕ → Set

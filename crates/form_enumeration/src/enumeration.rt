@@ -4,9 +4,9 @@ ghost use Rattle.std.specs.Prelude.{◌≡◌, ◌≤◌, MatchOption};
 ghost use Rattle.std.specs.Option.{option_map};
 ghost use Rattle.bank_tables.specs.Items.{has};
 ghost use Rattle.bank_tables.specs.Tables.{size};
-ghost use Rattle.exam_model.specs.Forms.{Best, HasNoForm};
-ghost use Rattle.exam_model.specs.Validity.{IsWellMade};
-ghost use Rattle.exam_model.specs.Verdicts.{IsFormOrNone};
+ghost use Rattle.form_model.specs.Forms.{Best, HasNoForm};
+ghost use Rattle.form_model.specs.Validity.{IsWellMade};
+ghost use Rattle.certificate_model.specs.Verdicts.{IsFormOrNone};
 ghost use Rattle.constraint_model.specs.Views.{problem_of};
 ghost use Rattle.form_enumeration.specs.Enumeration.{IsBetterOf};
 

@@ -1,14 +1,14 @@
 //! The leaves of a tree that need no steps.
 
-ghost use Rattle.exam_model.specs.Validity.{IsWellMade};
+ghost use Rattle.form_model.specs.Validity.{IsWellMade};
 ghost use Rattle.constraint_model.specs.Views.{problem_of};
 
 use crate::incumbent::Incumbent;
 use crate::pool::Pool;
 use crate::table::Table;
 use bank_tables::ItemSet;
+use certificate_model::Node;
 use constraint_model::Problem;
-use exam_model::Node;
 use lagrange_bound::Cut;
 use proof_tree::Memory;
 use std::alloc::Global;

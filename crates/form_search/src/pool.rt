@@ -5,7 +5,7 @@ use crate::priced::Priced;
 use crate::table::Table;
 use bank_tables::List;
 use bank_tables::limits::{PAIRS, VECTOR_PAIRS, VECTORS};
-use exam_model::Node;
+use certificate_model::Node;
 use lagrange_bound::Cut;
 use proof_tree::{Memory, Vector};
 use std::alloc::Global;

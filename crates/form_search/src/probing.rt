@@ -1,7 +1,7 @@
 //! Strong branching: the branches that seem best are tried by some steps on both sides (Applegate, Bixby, Chvátal and Cook,
 //! Finding Cuts in the TSP, 1995).
 
-ghost use Rattle.exam_model.specs.Validity.{IsWellMade};
+ghost use Rattle.form_model.specs.Validity.{IsWellMade};
 ghost use Rattle.constraint_model.specs.Views.{problem_of};
 ghost use Rattle.lagrange_bound.specs.Cuts.{IsCut};
 
@@ -11,8 +11,8 @@ use crate::pool::{Pool, empty_vector};
 use crate::steps::{Stepped, take_form};
 use crate::table::Table;
 use crate::tally::is_ruled_out;
+use certificate_model::Node;
 use constraint_model::Problem;
-use exam_model::Node;
 use lagrange_bound::Cut;
 use multiplier_steps::{Aim, climb};
 use proof_tree::{Memory, Vector};

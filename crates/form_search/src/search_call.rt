@@ -2,38 +2,38 @@
 
 ghost use Rattle.std.specs.Prelude.{IfOk, IfSome};
 ghost use Rattle.bank_tables.specs.Items.{has};
-ghost use Rattle.exam_model.specs.Forms.{Form};
-ghost use Rattle.exam_model.specs.Validity.{IsBudget, IsWellMade};
+ghost use Rattle.form_model.specs.Forms.{Form};
+ghost use Rattle.form_model.specs.Validity.{IsBudget, IsWellMade};
 ghost use Rattle.constraint_model.specs.Views.{problem_of};
 ghost use Rattle.lagrange_bound.specs.Cuts.{IsCut};
 
 use crate::incumbent::Incumbent;
-use crate::pass::{Limits, Pass};
 use crate::pool::{Pool, empty_vector};
 use crate::repair::nearby_form;
 use crate::root::steps_at_root;
 use crate::steps::Stepped;
+use crate::sweep::{Limits, Sweep};
 use crate::table::Table;
-use crate::vertex_pass::passes_by_exchanges;
+use crate::vertex_sweep::sweeps_by_exchanges;
 use bank_tables::{ItemSet, List};
+use certificate_model::Node;
 use constraint_model::Problem;
-use exam_model::Node;
 use lagrange_bound::Cut;
 use proof_tree::{Memory, Tree, Vector};
 use search_paths::tested_form;
 use std::alloc::Global;
 
-/// The part of the root's gap that the steps of the last pass aim below what closes.
+/// The part of the root's gap that the steps of the last sweep aim below what closes.
 const MARGIN: i64 = 16;
 
-/// Branches that are tried at a path, in the first passes.
+/// Branches that are tried at a path, in the first sweeps.
 const FIRST_PROBES: usize = 2;
 
-/// The same in the last pass.
+/// The same in the last sweep.
 const LAST_PROBES: usize = 4;
 
-/// The most passes that may begin anew.
-const MOST_PASSES: u32 = 8;
+/// The most sweeps that may begin anew.
+const MOST_SWEEPS: u32 = 8;
 
 /// The result of a search: a form, if it met one, and a tree, if what it built is one.
 #[derive(Drop)]
@@ -87,15 +87,15 @@ fn tree_with(alloc: Global, nodes: Vec<Node>, pool: &Pool) -> Result<Option<Tree
     Ok(Tree::of(List::of(vectors), List::of(nodes)))
 }
 
-/// The tree of a pass.
-fn tree_of(alloc: Global, pass: Pass) -> Result<Option<Tree>, Memory> {
-    if !pass.is_whole {
+/// The tree of a sweep.
+fn tree_of(alloc: Global, sweep: Sweep) -> Result<Option<Tree>, Memory> {
+    if !sweep.is_whole {
         return Ok(None);
     }
-    tree_with(alloc, pass.nodes, &pass.pool)
+    tree_with(alloc, sweep.nodes, &sweep.pool)
 }
 
-/// The tree of passes by exchanges, if one is whole within the budget.
+/// The tree of sweeps by exchanges, if one is whole within the budget.
 fn tree_by_exchanges(
     alloc: Global,
     problem: &Problem,
@@ -108,38 +108,38 @@ fn tree_by_exchanges(
     requires root { IsCut (problem_of problem.now) root.now }
 {
     let branches = (budget as u32).saturating_sub(1) / 2;
-    match passes_by_exchanges(alloc, problem, table, incumbent, root, branches)? {
-        Some(pass) => tree_with(alloc, pass.nodes, &pass.pool),
+    match sweeps_by_exchanges(alloc, problem, table, incumbent, root, branches)? {
+        Some(sweep) => tree_with(alloc, sweep.nodes, &sweep.pool),
         None => Ok(None),
     }
 }
 
-/// Passes until one is whole, and no better form was met while it grew large. None where a whole one has spent the budget, or
-/// no pass is so.
-fn first_passes(
+/// Sweeps until one is whole, and no better form was met while it grew large. None where a whole one has spent the budget, or
+/// no sweep is so.
+fn first_sweeps(
     alloc: Global,
     problem: &Problem,
     table: &Table,
     incumbent: &mut Incumbent,
     at_root: &Stepped,
     limits: Limits,
-) -> Result<Option<Pass>, Memory>
+) -> Result<Option<Sweep>, Memory>
     requires { IsWellMade (problem_of problem.now) }
 {
-    for _ in 0..MOST_PASSES {
-        let pass = Pass::over(alloc, problem, table, incumbent, at_root, limits)?;
-        if pass.is_whole && pass.is_spent {
+    for _ in 0..MOST_SWEEPS {
+        let sweep = Sweep::over(alloc, problem, table, incumbent, at_root, limits)?;
+        if sweep.is_whole && sweep.is_spent {
             return Ok(None);
         }
-        if pass.is_whole && !pass.is_late(incumbent) {
-            return Ok(Some(pass));
+        if sweep.is_whole && !sweep.is_late(incumbent) {
+            return Ok(Some(sweep));
         }
     }
     Ok(None)
 }
 
-/// The tree of the first passes, if the budget is not spent. Else one more pass tries more branches at each path.
-fn passes(
+/// The tree of the first sweeps, if the budget is not spent. Else one more sweep tries more branches at each path.
+fn sweeps(
     alloc: Global,
     problem: &Problem,
     table: &Table,
@@ -156,14 +156,14 @@ fn passes(
         margin: 0,
         probes: FIRST_PROBES,
     };
-    if let Some(pass) = first_passes(alloc, problem, table, incumbent, at_root, limits)? {
-        return tree_of(alloc, pass);
+    if let Some(sweep) = first_sweeps(alloc, problem, table, incumbent, at_root, limits)? {
+        return tree_of(alloc, sweep);
     }
     limits.restarts = false;
     limits.probes = LAST_PROBES;
     limits.margin = at_root.bound.saturating_sub(incumbent.top()).max(0) / MARGIN;
-    let pass = Pass::over(alloc, problem, table, incumbent, at_root, limits)?;
-    tree_of(alloc, pass)
+    let sweep = Sweep::over(alloc, problem, table, incumbent, at_root, limits)?;
+    tree_of(alloc, sweep)
 }
 
 /// The tree of the warm vector alone, where that closes the root.
@@ -186,7 +186,7 @@ fn tree_of_warm(
 }
 
 /// The tree where steps at the root begin the search: one node if they close it; else that of exchanges, where these may be
-/// made, or of passes by steps.
+/// made, or of sweeps by steps.
 fn tree_by_steps(
     alloc: Global,
     problem: &Problem,
@@ -208,7 +208,7 @@ fn tree_by_steps(
             return Ok(tree);
         }
     }
-    passes(alloc, problem, table, incumbent, &stepped, budget)
+    sweeps(alloc, problem, table, incumbent, &stepped, budget)
 }
 
 /// The tree of the warm vector alone, else that of exchanges.

@@ -18,7 +18,7 @@ pub struct Part {
 
 /// The bounds of a row, whether it counts stimuli, and the mean of what the free items add to it.
 #[derive(Clone, Copy)]
-pub struct Limits {
+pub struct RowBounds {
     pub low: i64,
     pub high: i64,
     pub scale: i64,
@@ -28,7 +28,7 @@ pub struct Limits {
 /// An item: its information at the estimate, its stimulus (0 for none), whether it was given, whether it may be taken or
 /// left, and where what it adds to rows begins and ends.
 #[derive(Clone, Copy)]
-pub struct Entry {
+pub struct TableItem {
     pub info: u32,
     pub stimulus: u8,
     pub given: bool,
@@ -41,12 +41,12 @@ pub struct Entry {
 #[derive(Drop)]
 pub struct Table {
     pub length: u32,
-    pub entries: Vec<Entry>,
+    pub entries: Vec<TableItem>,
     /// What the items add to rows, item by item.
     parts: Vec<Part>,
-    pub rows: Vec<Limits>,
+    pub rows: Vec<RowBounds>,
     /// The bounds of stimulus `s` at `s - 1`.
-    pub stimuli: Vec<Limits>,
+    pub stimuli: Vec<RowBounds>,
     /// The items given, and those that may be taken or left.
     pub usable: ItemSet,
     /// Their sums.
@@ -101,9 +101,9 @@ fn stimulus_of(problem: &Problem, item: u16) -> u8 {
 }
 
 /// An item, whose parts are still to come.
-fn entry_of(problem: &Problem, item: u16, start: usize) -> Entry {
+fn entry_of(problem: &Problem, item: u16, start: usize) -> TableItem {
     let given = problem.given.has(item);
-    Entry {
+    TableItem {
         info: info_of(problem, item),
         stimulus: stimulus_of(problem, item),
         given,
@@ -133,7 +133,7 @@ fn scale_of(table: &Table, row: u8, given: &Row) -> i64 {
 }
 
 /// The bounds of a row.
-fn limits_of(table: &Table, row: u8, given: &Row) -> Limits {
+fn limits_of(table: &Table, row: u8, given: &Row) -> RowBounds {
     let scale = scale_of(table, row, given);
     let (low, high, of_stimuli) = match given {
         Row::Count { low, high, .. } => (*low, *high, false),
@@ -141,7 +141,7 @@ fn limits_of(table: &Table, row: u8, given: &Row) -> Limits {
         Row::Enemies { .. } => (0, 1, false),
         Row::Stimuli { low, high } => (*low, *high, true),
     };
-    Limits {
+    RowBounds {
         low: low as i64,
         high: high as i64,
         scale,
@@ -151,7 +151,7 @@ fn limits_of(table: &Table, row: u8, given: &Row) -> Limits {
 
 /// Adds the items of the bank.
 fn add_entries(
-    entries: &mut Vec<Entry>,
+    entries: &mut Vec<TableItem>,
     parts: &mut Vec<Part>,
     problem: &Problem,
 ) -> Result<(), Memory> {
@@ -165,9 +165,9 @@ fn add_entries(
 }
 
 /// Adds the bounds of the stimuli.
-fn add_stimuli(stimuli: &mut Vec<Limits>, problem: &Problem) -> Result<(), Memory> {
+fn add_stimuli(stimuli: &mut Vec<RowBounds>, problem: &Problem) -> Result<(), Memory> {
     for bound in problem.spec.bounds() {
-        let limits = Limits {
+        let limits = RowBounds {
             low: bound.low as i64,
             high: bound.high as i64,
             scale: 1,
@@ -190,7 +190,7 @@ pub fn amount_in(parts: &[Part], row: u8) -> i64 {
 
 impl Table {
     /// What an item adds to each row to which it adds something.
-    pub fn parts_of(&self, entry: &Entry) -> &[Part] {
+    pub fn parts_of(&self, entry: &TableItem) -> &[Part] {
         self.parts.get(entry.start..entry.end).unwrap_or(&[])
     }
 

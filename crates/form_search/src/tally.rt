@@ -1,6 +1,6 @@
 //! The sum of a set of items on each row and stimulus, and the violation: how far these are from the bounds, in all.
 
-use crate::table::{Entry, Limits, Table, amount_in};
+use crate::table::{RowBounds, Table, TableItem, amount_in};
 use bank_tables::ItemSet;
 use lagrange_bound::Cut;
 
@@ -16,7 +16,7 @@ pub struct Tally {
 }
 
 /// How far a number is from its bounds, in eighths of the scale, rounded up.
-fn excess(limits: &Limits, found: i64) -> i64 {
+fn excess(limits: &RowBounds, found: i64) -> i64 {
     let over = limits
         .low
         .wrapping_sub(found)
@@ -32,7 +32,7 @@ fn excess(limits: &Limits, found: i64) -> i64 {
 }
 
 /// The same of a stimulus, which may have no item.
-fn stimulus_excess(limits: &Limits, found: i64) -> i64 {
+fn stimulus_excess(limits: &RowBounds, found: i64) -> i64 {
     if found == 0 { 0 } else { excess(limits, found) }
 }
 
@@ -68,7 +68,7 @@ impl Tally {
     }
 
     /// Adds an item, or with the sign -1 takes it off.
-    fn add(&mut self, table: &Table, entry: &Entry, sign: i64) {
+    fn add(&mut self, table: &Table, entry: &TableItem, sign: i64) {
         for part in table.parts_of(entry) {
             if let Some(sum) = self.activity.get_mut(part.row as usize) {
                 *sum = sum.wrapping_add(sign.wrapping_mul(part.amount as i64));
@@ -101,7 +101,7 @@ impl Tally {
     }
 
     /// Whether one more item opens no stimulus, and fills none beyond its bound.
-    pub fn has_room(&self, table: &Table, entry: &Entry) -> bool {
+    pub fn has_room(&self, table: &Table, entry: &TableItem) -> bool {
         if entry.stimulus == 0 {
             return true;
         }
@@ -157,7 +157,7 @@ impl Tally {
     }
 
     /// How the excess of the rows of two items changes where the one leaves for the other.
-    fn rows_change(&self, table: &Table, leaves: &Entry, comes: &Entry) -> i64 {
+    fn rows_change(&self, table: &Table, leaves: &TableItem, comes: &TableItem) -> i64 {
         let mut sum = 0i64;
         for part in table.parts_of(leaves) {
             let added = amount_in(table.parts_of(comes), part.row).wrapping_sub(part.amount as i64);
@@ -201,7 +201,7 @@ impl Tally {
     }
 
     /// How the excess of the stimuli changes where one item leaves for another.
-    fn stimuli_change(&self, table: &Table, leaves: &Entry, comes: &Entry) -> i64 {
+    fn stimuli_change(&self, table: &Table, leaves: &TableItem, comes: &TableItem) -> i64 {
         if leaves.stimulus == comes.stimulus {
             return 0;
         }
@@ -218,7 +218,7 @@ impl Tally {
     }
 
     /// How the violation changes where one item leaves for another.
-    pub fn change(&self, table: &Table, leaves: &Entry, comes: &Entry) -> i64 {
+    pub fn change(&self, table: &Table, leaves: &TableItem, comes: &TableItem) -> i64 {
         self.rows_change(table, leaves, comes)
             .wrapping_add(self.stimuli_change(table, leaves, comes))
     }

@@ -1,13 +1,13 @@
 //! The search's use of exchanges from vertex to vertex.
 
-ghost use Rattle.exam_model.specs.Validity.{IsWellMade};
+ghost use Rattle.form_model.specs.Validity.{IsWellMade};
 ghost use Rattle.constraint_model.specs.Views.{problem_of};
 
 use crate::incumbent::Incumbent;
 use crate::pool::Pool;
 use crate::table::Table;
+use certificate_model::Node;
 use constraint_model::Problem;
-use exam_model::Node;
 use lagrange_bound::Cut;
 use multiplier_exchanges::{PathSets, Reached, Relaxation, Vertex, Workspace, vector_towards};
 use multiplier_steps::{Aim, climb};

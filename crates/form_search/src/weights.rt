@@ -1,6 +1,6 @@
 //! Reduced weights: what each item and stimulus adds to the Lagrangian of a vector.
 
-use crate::table::{Entry, Table};
+use crate::table::{Table, TableItem};
 use proof_tree::{Memory, Vector};
 use std::alloc::Global;
 
@@ -23,7 +23,7 @@ fn prices_of(alloc: Global, table: &Table, vector: &Vector) -> Result<Vec<i64>, 
 
 /// The reduced weight of an item: 256 times its information, or 0 for a ray, what it adds to each row times the row's price,
 /// and the price of its stimulus.
-fn weight_of(table: &Table, prices: &[i64], entry: &Entry, ray: bool) -> i64 {
+fn weight_of(table: &Table, prices: &[i64], entry: &TableItem, ray: bool) -> i64 {
     let mut weight = if ray {
         0
     } else {

@@ -7,11 +7,11 @@ use Rattle.std.proofs.lemmas.Bool.{eqb-true, eq-eqb, cases_lt}
 use Rattle.bank_tables.specs.Items.{Set, has}
 use Rattle.bank_tables.specs.Sums.{count_in}
 use Rattle.bank_tables.specs.Tables.{Tables, size}
-use Rattle.exam_model.specs.declared.seat.Seat.{Seat}
-use Rattle.exam_model.specs.Plan.{Plan}
-use Rattle.exam_model.specs.Forms.{Meets, Form, size_in}
-use Rattle.exam_model.specs.Seats.{is_shown, seat_problem}
-use Rattle.exam_model.proofs.SumLaws.{either, or_true, same_from_count}
+use Rattle.serving_model.specs.declared.seat.Seat.{Seat}
+use Rattle.form_model.specs.Plan.{Plan}
+use Rattle.form_model.specs.Forms.{Meets, Form, size_in}
+use Rattle.serving_model.specs.Seats.{is_shown, problem_aside}
+use Rattle.form_model.proofs.SumLaws.{either, or_true, same_from_count}
 use Rattle.history_model.specs.Entries.{seat_of}
 use Rattle.history_model.specs.Laws.{CompleteMeets}
 use Rattle.history_model.proofs.Standing.{complete}
@@ -71,7 +71,7 @@ full_seat : (b : Tables) (plan : Plan) (s : ℕ) (seat : Seat) (form : Option (L
 full_seat b plan s seat None e some stands full = absurd (let none = stands.is_seat.form_none e in omega arith)
 full_seat b plan s seat (Some words) e some stands full = subst (λ (X : Set). Meets b plan X) (fun_ext (λ i. same i)) form.meets
   where
-    form : Form (seat_problem b plan s seat 0) (has words)
+    form : Form (problem_aside b plan s seat 0) (has words)
     form = stands.keeps words 0 e
 
     number : size_in b (is_shown seat) ≡ size_in b (has words)

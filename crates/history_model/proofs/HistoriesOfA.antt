@@ -1,10 +1,12 @@
 -- A test of three items on bank A, entry by entry: places, seats, problems, counts.
-use Rattle.std.proofs.Common.{◌≡◌, false, true, List, [], ◌∷◌, ◌++◌, None, Some, refl}
+use Rattle.std.proofs.Common.{◌≡◌, ℕ, false, true, List, [], ◌∷◌, ◌++◌, None, Some, refl}
 use Rattle.bank_tables.specs.Items.{has}
-use Rattle.exam_model.specs.Seats.{answers, seat_problem}
-use Rattle.exam_model.proofs.Computed.{one_word}
-use Rattle.exam_model.proofs.BankA.{item_a, bank_a, plan_of_rows, plan_a}
-use Rattle.exam_model.proofs.StepsOfA.{seat_1, seat_2, problem_1, problem_2}
+use Rattle.form_model.specs.Ability.{mode_of, greatest_at}
+use Rattle.serving_model.specs.Seats.{answers, seat_problem}
+use Rattle.form_model.proofs.Computed.{one_word}
+use Rattle.form_model.proofs.BankA.{item_a, sevens, bank_a, plan_of_rows, plan_a}
+use Rattle.serving_model.proofs.StepsOfA.{seat_1, seat_2, problem_1, problem_2}
+use Rattle.history_model.specs.declared.entry.Bands.{Bands}
 use Rattle.history_model.specs.declared.entry.Entry.{Entry}
 use Rattle.history_model.specs.declared.entry.Entry.TheVariants.{Started, Served, Answered, Closed}
 use Rattle.history_model.specs.declared.place.Place.TheVariants.{Pending, Waiting, Complete, Closed as IsClosed}
@@ -12,9 +14,13 @@ use Rattle.history_model.specs.Entries.{sessions, holder, seat_of}
 use Rattle.history_model.specs.Places.{place}
 use Rattle.history_model.specs.Counts.{counts, finished}
 
+-- the eligible items of a plan with one band
+abbrev pub one_band : List ℕ → Bands
+one_band words = record { count = 1; sets = words ∷ [] }
+
 -- ---- the session of booking 70: items 2, 4 and 1, answered by 1, 0 and 1
 unfoldable pub started_a : List Entry
-started_a = Started 0 70 (one_word 63) ∷ []
+started_a = Started 0 70 (one_band (one_word 63)) None ∷ []
 
 unfoldable pub served_a : List Entry
 unfolding started_a
@@ -74,21 +80,21 @@ unfolding problem_1 problem_2 seat_1 seat_2 started_a served_a answered_a served
 problems_a = (refl, refl)
 
 given_a : (problem_2.given 4 ≡ true) × (problem_2.given 1 ≡ false) × (problem_2.barred 1 ≡ false) × (problem_2.barred 600 ≡ false) × (problem_2.step ≡ 2) × (problem_2.last ≡ Some 4)
-unfolding problem_2 seat_2 bank_a item_a has
+unfolding problem_2 seat_2 bank_a item_a has plan_of_rows plan_a
 given_a = (refl, refl, refl, refl, refl, refl)
 
 -- nothing counts before the end of the session, then items 1, 2 and 4 are shown, and all were eligible
-counts_before : (finished plan_a served_2 ≡ 0) × (counts plan_a served_2 2 ≡ record { alpha = 0; eps = 0 })
-unfolding plan_of_rows plan_a started_a served_a answered_a served_1 answered_1 served_2 has
+counts_before : (finished plan_a served_2 ≡ 0) × (counts bank_a plan_a served_2 2 ≡ record { alpha = 0; eps = 0 })
+unfolding plan_of_rows plan_a started_a served_a answered_a served_1 answered_1 served_2 has bank_a item_a sevens mode_of greatest_at
 counts_before = (refl, refl)
 
-counts_behind : (finished plan_a answered_2 ≡ 1) × (counts plan_a answered_2 0 ≡ record { alpha = 0; eps = 1 }) × (counts plan_a answered_2 1 ≡ record { alpha = 1; eps = 1 }) × (counts plan_a answered_2 2 ≡ record { alpha = 1; eps = 1 }) × (counts plan_a answered_2 3 ≡ record { alpha = 0; eps = 1 }) × (counts plan_a answered_2 4 ≡ record { alpha = 1; eps = 1 }) × (counts plan_a answered_2 5 ≡ record { alpha = 0; eps = 1 }) × (counts plan_a answered_2 6 ≡ record { alpha = 0; eps = 0 })
-unfolding plan_of_rows plan_a started_a served_a answered_a served_1 answered_1 served_2 answered_2 has
+counts_behind : (finished plan_a answered_2 ≡ 1) × (counts bank_a plan_a answered_2 0 ≡ record { alpha = 0; eps = 1 }) × (counts bank_a plan_a answered_2 1 ≡ record { alpha = 1; eps = 1 }) × (counts bank_a plan_a answered_2 2 ≡ record { alpha = 1; eps = 1 }) × (counts bank_a plan_a answered_2 3 ≡ record { alpha = 0; eps = 1 }) × (counts bank_a plan_a answered_2 4 ≡ record { alpha = 1; eps = 1 }) × (counts bank_a plan_a answered_2 5 ≡ record { alpha = 0; eps = 1 }) × (counts bank_a plan_a answered_2 6 ≡ record { alpha = 0; eps = 0 })
+unfolding plan_of_rows plan_a started_a served_a answered_a served_1 answered_1 served_2 answered_2 has bank_a item_a sevens mode_of greatest_at
 counts_behind = (refl, refl, refl, refl, refl, refl, refl, refl)
 
 -- ---- two sessions: the second is closed while its first item waits for an answer, and that item counts as shown
 unfoldable pub two_a : List Entry
-two_a = Started 0 1 (one_word 63) ∷ Served 0 0 2 (one_word 14) true 1 ∷ Started 1 2 (one_word 63) ∷ Served 1 0 2 (one_word 14) true 1 ∷ Answered 0 0 1 ∷ Served 0 1 4 (one_word 22) true 1 ∷ []
+two_a = Started 0 1 (one_band (one_word 63)) None ∷ Served 0 0 2 (one_word 14) true 1 ∷ Started 1 2 (one_band (one_word 63)) None ∷ Served 1 0 2 (one_word 14) true 1 ∷ Answered 0 0 1 ∷ Served 0 1 4 (one_word 22) true 1 ∷ []
 
 unfoldable pub closed_a : List Entry
 unfolding two_a
@@ -98,6 +104,6 @@ places_two : (place plan_a two_a 0 ≡ Some (Waiting 1 4 true)) × (place plan_a
 unfolding plan_of_rows plan_a two_a closed_a
 places_two = (refl, refl, refl, refl, refl)
 
-counts_two : (finished plan_a two_a ≡ 0) × (counts plan_a two_a 2 ≡ record { alpha = 0; eps = 0 }) × (finished plan_a closed_a ≡ 1) × (counts plan_a closed_a 2 ≡ record { alpha = 1; eps = 1 }) × (counts plan_a closed_a 4 ≡ record { alpha = 0; eps = 1 })
-unfolding plan_of_rows plan_a two_a closed_a has
+counts_two : (finished plan_a two_a ≡ 0) × (counts bank_a plan_a two_a 2 ≡ record { alpha = 0; eps = 0 }) × (finished plan_a closed_a ≡ 1) × (counts bank_a plan_a closed_a 2 ≡ record { alpha = 1; eps = 1 }) × (counts bank_a plan_a closed_a 4 ≡ record { alpha = 0; eps = 1 })
+unfolding plan_of_rows plan_a two_a closed_a has bank_a item_a sevens mode_of greatest_at
 counts_two = (refl, refl, refl, refl, refl)

@@ -3,15 +3,15 @@ use Rattle.std.proofs.Common.{◌≡◌, ℕ, Bool, true, false, List, [], ◌�
 use Rattle.std.proofs.Math.Bool.{true≢false}
 use Rattle.std.proofs.lemmas.List.{map-append}
 use Rattle.bank_tables.specs.Items.{Set, has}
-use Rattle.exam_model.specs.Plan.{Plan}
-use Rattle.exam_model.specs.Problem.{Problem}
-use Rattle.exam_model.specs.declared.verdict.Verdict.{Verdict}
-use Rattle.exam_model.specs.Forms.{Best}
-use Rattle.exam_model.specs.ProofTrees.{ProofTree}
-use Rattle.exam_model.specs.Verdicts.{IsVerdict}
-use Rattle.exam_model.specs.Seats.{answers, seat_problem}
-use Rattle.exam_model.proofs.OneMode.{one_mode}
-use Rattle.exam_model.proofs.TreeLaws.{optimal_is_best, no_form_is_none}
+use Rattle.form_model.specs.Plan.{Plan}
+use Rattle.form_model.specs.Problem.{Problem}
+use Rattle.certificate_model.specs.declared.verdict.Verdict.{Verdict}
+use Rattle.form_model.specs.Forms.{Best}
+use Rattle.certificate_model.specs.ProofTrees.{ProofTree}
+use Rattle.certificate_model.specs.Verdicts.{IsVerdict}
+use Rattle.serving_model.specs.Seats.{answers, seat_problem}
+use Rattle.form_model.proofs.OneMode.{one_mode}
+use Rattle.certificate_model.proofs.TreeLaws.{optimal_is_best, no_form_is_none}
 use Rattle.history_model.specs.declared.entry.Cause.{Cause}
 use Rattle.history_model.specs.declared.entry.Cause.TheVariants.{NoForm, Spent}
 use Rattle.history_model.specs.declared.entry.Entry.{Entry}
@@ -40,11 +40,11 @@ shown_cause plan P NoForm nodes (Some T) shows = no_form_is_none P T (subst (λ 
 shown_cause plan P Spent nodes (Some T) shows = shows.has_tree.number ∙ shows.has_tree.spent.nodes
 
 pub may_is_legal : MayIsLegal
-may_is_legal b plan H (Started session booking eligible) tree may = may.0
+may_is_legal b plan H (Started session booking eligible without) tree may = may.0
 may_is_legal b plan H (Answered session step response) tree may = may.0
 may_is_legal b plan H (Closed session) tree may = may.0
-may_is_legal b plan H (SetAside session cause nodes) tree may =
-    record { problem = may.problem; is_problem = may.is_problem; not_aside = may.not_aside; cause_holds = shown_cause plan may.problem cause nodes tree may.shows }
+may_is_legal b plan H (SetAside session step band cause nodes) tree may =
+    record { problem = may.problem; is_problem = may.is_problem; band_is = may.band_is; not_aside = may.not_aside; cause_holds = shown_cause plan may.problem cause nodes tree may.shows }
 may_is_legal b plan H (Served session step item form proved nodes) tree may =
     record {
       problem = may.problem;

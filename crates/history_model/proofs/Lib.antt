@@ -1,3 +1,8 @@
+pub mod TreesOfA
+pub mod TreesOfBands
+pub mod TreesOfS
+pub mod TreesSpent
+pub mod TreesUnsound
 pub mod HistoriesOfA
 pub mod Edges
 pub mod DrawRows
@@ -8,6 +13,7 @@ pub mod Ordered
 pub mod SeatSteps
 pub mod Running
 pub mod JudgingLaws
+pub mod Lifted
 pub mod CompleteLaws
 pub mod ReasonLaws
 pub mod RecordsOfA
@@ -15,8 +21,14 @@ pub mod RequestsOfA
 pub mod ReasonsOfA
 pub mod MarksAndCauses
 pub mod CountLaws
+pub mod OneBand
+pub mod HistoriesOfBands
+pub mod AsideInBands
+pub mod UnvisitedBand
 pub mod RunParts
 pub mod Staying
 pub mod ProblemStaying
 pub mod AsideForms
 pub mod Bounds
+pub mod LastForms
+pub mod BandLaws

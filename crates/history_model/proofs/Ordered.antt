@@ -4,8 +4,8 @@ use Rattle.std.specs.Prelude.{find}
 use Rattle.std.specs.List.{filter_map}
 use Rattle.std.proofs.lemmas.Bool.{eqb-true}
 use Rattle.bank_tables.specs.Tables.{Tables}
-use Rattle.exam_model.specs.Plan.{Plan}
-use Rattle.exam_model.proofs.SumLaws.{either}
+use Rattle.form_model.specs.Plan.{Plan}
+use Rattle.form_model.proofs.SumLaws.{either}
 use Rattle.history_model.specs.declared.entry.Entry.{Entry}
 use Rattle.history_model.specs.declared.entry.Entry.TheVariants.{Started, SetAside, Served, Answered, Closed}
 use Rattle.history_model.specs.declared.place.Place.TheVariants.{Pending, Waiting}
@@ -69,8 +69,8 @@ module _ (H : List Entry) (e : Entry) (s : ℕ) (order : AreInOrder H s) where
       (λ k y f. let r = steps_push (λ (z : StepAnswer). z.step) (step_answers H s) x 0 (λ j z g. let o = order.answers_steps j z g in omega arith) (omega arith) k y f in omega arith)
 
 order_step : (b : Tables) (plan : Plan) (H : List Entry) (e : Entry) (s : ℕ) → AreInOrder H s → Legal b plan H e → AreInOrder (H ++ e ∷ []) s
-order_step b plan H (Started session booking eligible) s order legal = unchanged H (Started session booking eligible) s order refl refl
-order_step b plan H (SetAside session cause nodes) s order legal = unchanged H (SetAside session cause nodes) s order refl refl
+order_step b plan H (Started session booking eligible without) s order legal = unchanged H (Started session booking eligible without) s order refl refl
+order_step b plan H (SetAside session step band cause nodes) s order legal = unchanged H (SetAside session step band cause nodes) s order refl refl
 order_step b plan H (Closed session) s order legal = unchanged H (Closed session) s order refl refl
 order_step b plan H (Served session step item form proved nodes) s order legal =
     elim (either (session == s)) [

@@ -3,33 +3,35 @@ use Rattle.std.proofs.Common.{◌≡◌, ◌≢◌, ℕ, ◌<◌, ◌⊎◌, inl
 use Rattle.std.proofs.Math.Bool.{true≢false}
 use Rattle.bank_tables.specs.Items.{Set, has}
 use Rattle.bank_tables.specs.Tables.{Tables, categories}
-use Rattle.exam_model.specs.declared.breach.Breach.{Breach}
-use Rattle.exam_model.specs.declared.verdict.Verdict.{Verdict}
-use Rattle.exam_model.specs.Plan.{Plan}
-use Rattle.exam_model.specs.Problem.{Problem}
-use Rattle.exam_model.specs.Forms.{Form}
-use Rattle.exam_model.specs.Breaches.{IsFirstBreach}
-use Rattle.exam_model.specs.Serving.{IsNext}
-use Rattle.exam_model.specs.ProofTrees.{ProofTree}
-use Rattle.exam_model.proofs.BreachLaws.{breach_no_form}
-use Rattle.exam_model.proofs.OneBreach.{one_breach}
-use Rattle.exam_model.proofs.OneMode.{one_next}
-use Rattle.exam_model.proofs.OneVerdict.{one_verdict}
+use Rattle.form_model.specs.declared.breach.Breach.{Breach}
+use Rattle.certificate_model.specs.declared.verdict.Verdict.{Verdict}
+use Rattle.form_model.specs.Plan.{Plan, band_of}
+use Rattle.form_model.specs.Problem.{Problem}
+use Rattle.form_model.specs.Forms.{Form}
+use Rattle.form_model.specs.Breaches.{IsFirstBreach}
+use Rattle.serving_model.specs.Serving.{IsNext}
+use Rattle.certificate_model.specs.ProofTrees.{ProofTree}
+use Rattle.form_model.proofs.BreachLaws.{breach_no_form}
+use Rattle.form_model.proofs.OneBreach.{one_breach}
+use Rattle.serving_model.proofs.OneMode.{one_next}
+use Rattle.certificate_model.proofs.OneVerdict.{one_verdict}
+use Rattle.history_model.specs.declared.entry.Bands.{Bands}
 use Rattle.history_model.specs.declared.entry.Cause.{Cause}
 use Rattle.history_model.specs.declared.entry.Entry.{Entry}
+use Rattle.history_model.specs.declared.entry.Without.{Without}
 use Rattle.history_model.specs.declared.entry.Entry.TheVariants.{Started, SetAside, Served, Answered, Closed}
 use Rattle.history_model.specs.declared.place.Place.{Place}
 use Rattle.history_model.specs.declared.place.Place.TheVariants.{Pending, Waiting}
 use Rattle.history_model.specs.declared.illegal.Illegal.{Illegal}
-use Rattle.history_model.specs.declared.illegal.Illegal.TheVariants.{NotNumber, Booked, NotDrawn, NoSession, NotPending, IsAside, NotForm, NotItem, NotSpent, Tree, NotWaiting, BadResponse, Ended}
-use Rattle.history_model.specs.Entries.{holder, is_set_aside}
+use Rattle.history_model.specs.declared.illegal.Illegal.TheVariants.{NotNumber, Booked, NotDrawn, HasList, NoSession, NotPending, IsAside, NotStep, NotBand, NotForm, NotItem, NotSpent, Tree, NotWaiting, BadResponse, Ended}
+use Rattle.history_model.specs.Entries.{holder}
 use Rattle.history_model.specs.Places.{place}
-use Rattle.history_model.specs.Draws.{draw, SameItems, IsFirstDifference}
+use Rattle.history_model.specs.Draws.{AreDrawn, IsFirstDifference, IsNotDrawn, other_number, other_items}
 use Rattle.history_model.specs.SessionProblems.{IsProblemOf}
 use Rattle.history_model.specs.Legality.{GoesOn}
 use Rattle.history_model.specs.declared.claim.Claim.{Claim}
 use Rattle.history_model.specs.Judging.{claim_of_mark, claim_of_cause, HasTree, HasVerdict, IsAsked, MayFollow}
-use Rattle.history_model.specs.Reasons.{IsWaitingAt, IsIllegal}
+use Rattle.history_model.specs.Reasons.{IsWaitingAt, IsPendingPlace, IsIllegal}
 use Rattle.history_model.specs.Laws.{OneReason, NoReasonIfMay}
 use Rattle.history_model.proofs.JudgingLaws.{one_problem}
 
@@ -43,8 +45,25 @@ one_value o x y e f = cc
 in_order : (i j : ℕ) → (i < j) ⊎ ((j < i) ⊎ (i ≡ j))
 in_order i j = grind arith
 
-one_difference : (X Y : Set) (i j : ℕ) → IsFirstDifference X Y i → IsFirstDifference X Y j → i ≡ j
-one_difference X Y i j h k = elim (in_order i j) [ inl before ↦ absurd (h.differs (k.before i before)) | inr (inl behind) ↦ absurd (k.differs (h.before j behind)) | inr (inr at) ↦ at ]
+one_difference : (b : Tables) (plan : Plan) (H : List Entry) (session : ℕ) (eligible : Bands) (i j : ℕ) → IsFirstDifference b plan H session eligible i → IsFirstDifference b plan H session eligible j → i ≡ j
+one_difference b plan H session eligible i j h k = elim (in_order i j) [
+  | inl before ↦ absurd (h.differs (k.before h.band i before))
+  | inr (inl behind) ↦ absurd (k.differs (h.before k.band j behind))
+  | inr (inr at) ↦ at
+]
+
+one_not_drawn : (b : Tables) (plan : Plan) (H : List Entry) (session : ℕ) (eligible : Bands) (i j : ℕ) → IsNotDrawn b plan H session eligible i → IsNotDrawn b plan H session eligible j → i ≡ j
+one_not_drawn b plan H session eligible i j (other_number n) (other_number m) = refl
+one_not_drawn b plan H session eligible i j (other_number n) (other_items k e d) = absurd (n e)
+one_not_drawn b plan H session eligible i j (other_items k e d) (other_number m) = absurd (m e)
+one_not_drawn b plan H session eligible i j (other_items k e d) (other_items l f c) = one_difference b plan H session eligible k l d c
+
+not_both_drawn : (b : Tables) (plan : Plan) (H : List Entry) (session : ℕ) (eligible : Bands) (i : ℕ) → AreDrawn b plan H session eligible → IsNotDrawn b plan H session eligible i → ⊥
+not_both_drawn b plan H session eligible i drawn (other_number n) = n drawn.number
+not_both_drawn b plan H session eligible i drawn (other_items k e d) = d.differs (drawn.each d.band k)
+
+one_step : (o : Option Place) (i j : ℕ) → o ≡ Some (Pending i) → o ≡ Some (Pending j) → i ≡ j
+one_step o i j e f = cc
 
 waits_at : (step item : ℕ) (proved : Bool) (at : Place) → at ≡ Waiting step item proved → IsWaitingAt step at
 waits_at step item proved at e = subst (λ (p : Place). IsWaitingAt step p) (sym e) refl
@@ -76,97 +95,140 @@ module _ (b : Tables) (plan : Plan) (H : List Entry) where
     same_verdict X (Some T) v w h k = one_verdict P X T v w h (subst (λ (R : Problem). HasVerdict R X (Some T) w) moved k)
 
   -- ---- a start
-  module _ (session booking : ℕ) (eligible : List ℕ) (tree : Option ProofTree) where
+  module _ (session booking : ℕ) (eligible : Bands) (without : Option Without) (tree : Option ProofTree) where
     abbrev OfStart : Illegal → Type 0
-    OfStart r = IsIllegal b plan H (Started session booking eligible) tree r
+    OfStart r = IsIllegal b plan H (Started session booking eligible without) tree r
 
-    drawn_differs : (item : ℕ) → SameItems (has eligible) (draw b plan H session) → IsFirstDifference (has eligible) (draw b plan H session) item → ⊥
-    drawn_differs item same differs = differs.differs (same item)
+    drawn_differs : (item : ℕ) → AreDrawn b plan H session eligible → IsNotDrawn b plan H session eligible item → ⊥
+    drawn_differs item drawn differs = not_both_drawn b plan H session eligible item drawn differs
 
     one_start : (r q : Illegal) → OfStart r → OfStart q → r ≡ q
     one_start (NotNumber n) (NotNumber m) h k = ap NotNumber (h.1 ∙ sym k.1)
     one_start (NotNumber n) (Booked m) h k = absurd (h.0 k.0)
     one_start (NotNumber n) (NotDrawn j) h k = absurd (h.0 k.0)
+    one_start (NotNumber n) HasList h k = absurd (h.0 k.0)
     one_start (NotNumber n) (NotSpent m) h k = absurd (h.0 k.0)
     one_start (NotNumber n) q h k = absurd k
     one_start (Booked n) (NotNumber m) h k = absurd (k.0 h.0)
     one_start (Booked n) (Booked m) h k = ap Booked (one_value (holder H booking) n m h.1 k.1)
     one_start (Booked n) (NotDrawn j) h k = absurd (none_some (holder H booking) n k.1 h.1)
+    one_start (Booked n) HasList h k = absurd (none_some (holder H booking) n k.1 h.1)
     one_start (Booked n) (NotSpent m) h k = absurd (none_some (holder H booking) n k.1 h.1)
     one_start (Booked n) q h k = absurd k
     one_start (NotDrawn i) (NotNumber m) h k = absurd (k.0 h.0)
     one_start (NotDrawn i) (Booked m) h k = absurd (none_some (holder H booking) m h.1 k.1)
-    one_start (NotDrawn i) (NotDrawn j) h k = ap NotDrawn (one_difference _ _ i j h.2 k.2)
+    one_start (NotDrawn i) (NotDrawn j) h k = ap NotDrawn (one_not_drawn b plan H session eligible i j h.2 k.2)
+    one_start (NotDrawn i) HasList h k = absurd (drawn_differs i k.2 h.2)
     one_start (NotDrawn i) (NotSpent m) h k = absurd (drawn_differs i k.2 h.2)
     one_start (NotDrawn i) q h k = absurd k
+    one_start HasList (NotNumber m) h k = absurd (k.0 h.0)
+    one_start HasList (Booked m) h k = absurd (none_some (holder H booking) m h.1 k.1)
+    one_start HasList (NotDrawn j) h k = absurd (drawn_differs j h.2 k.2)
+    one_start HasList HasList h k = refl
+    one_start HasList (NotSpent m) h k = absurd (h.3 k.3)
+    one_start HasList q h k = absurd k
     one_start (NotSpent n) (NotNumber m) h k = absurd (k.0 h.0)
     one_start (NotSpent n) (Booked m) h k = absurd (none_some (holder H booking) m h.1 k.1)
     one_start (NotSpent n) (NotDrawn j) h k = absurd (drawn_differs j h.2 k.2)
-    one_start (NotSpent n) (NotSpent m) h k = ap NotSpent (h.4 ∙ sym k.4)
+    one_start (NotSpent n) HasList h k = absurd (k.3 h.3)
+    one_start (NotSpent n) (NotSpent m) h k = ap NotSpent (h.5 ∙ sym k.5)
     one_start (NotSpent n) q h k = absurd k
     one_start r q h k = absurd h
 
-    may_start : (r : Illegal) → OfStart r → MayFollow b plan H (Started session booking eligible) tree → ⊥
+    may_start : (r : Illegal) → OfStart r → MayFollow b plan H (Started session booking eligible without) tree → ⊥
     may_start (NotNumber n) h may = h.0 may.0.number
     may_start (Booked n) h may = none_some (holder H booking) n may.0.not_booked h.1
     may_start (NotDrawn i) h may = drawn_differs i may.0.drawn h.2
-    may_start (NotSpent n) h may = h.3 may.1
+    may_start HasList h may = h.3 may.0.no_list
+    may_start (NotSpent n) h may = h.4 may.1
     may_start r h may = h
 
   -- ---- setting eligibility aside
-  module _ (session : ℕ) (cause : Cause) (nodes : ℕ) (tree : Option ProofTree) where
+  module _ (session step band : ℕ) (cause : Cause) (nodes : ℕ) (tree : Option ProofTree) where
     abbrev OfAside : Illegal → Type 0
-    OfAside r = IsIllegal b plan H (SetAside session cause nodes) tree r
+    OfAside r = IsIllegal b plan H (SetAside session step band cause nodes) tree r
 
-    -- the place is none, or another than Pending 0, but for a problem
-    not_there : (P : Problem) → place plan H session ≡ None → IsProblemOf b plan H session 0 P → ⊥
-    not_there P e p = none_some (place plan H session) (Pending 0) e p.pending
+    -- the place is none, or no Pending, but for a problem
+    not_there : (now : ℕ) (P : Problem) → place plan H session ≡ None → IsProblemOf b plan H session now P → ⊥
+    not_there now P e p = none_some (place plan H session) (Pending now) e p.pending
 
-    not_first : (P : Problem) (at : Place) → place plan H session ≡ Some at → at ≢ Pending 0 → IsProblemOf b plan H session 0 P → ⊥
-    not_first P at e other p = other (one_value (place plan H session) at (Pending 0) e p.pending)
+    not_pending : (now : ℕ) (P : Problem) (at : Place) → place plan H session ≡ Some at → (IsPendingPlace at → ⊥) → IsProblemOf b plan H session now P → ⊥
+    not_pending now P at e other p = other (subst (λ (q : Place). IsPendingPlace q) (one_value (place plan H session) (Pending now) at p.pending e) tt)
 
-    aside_twice : is_set_aside H session ≡ true → is_set_aside H session ≡ false → ⊥
-    aside_twice e f = true≢false (sym e ∙ f)
+    -- there is one problem, whatever step is said
+    same : (i j : ℕ) (P Q : Problem) → IsProblemOf b plan H session i P → IsProblemOf b plan H session j Q → Q ≡ P
+    same i j P Q p q = one_problem b plan H session i Q P (subst (λ (k : ℕ). IsProblemOf b plan H session k Q) (one_step (place plan H session) j i q.pending p.pending) q) p
+
+    clash : (i j : ℕ) (P Q : Problem) → IsProblemOf b plan H session i P → IsProblemOf b plan H session j Q → P.aside ≡ true → Q.aside ≡ false → ⊥
+    clash i j P Q p q h k = true≢false (sym h ∙ (ap (λ (R : Problem). R.aside) (sym (same i j P Q p q)) ∙ k))
 
     one_aside : (r q : Illegal) → OfAside r → OfAside q → r ≡ q
     one_aside (NoSession n) (NoSession m) h k = ap NoSession (h.1 ∙ sym k.1)
-    one_aside (NoSession n) (NotPending at) h k = absurd (none_some (place plan H session) at h.0 k.0)
-    one_aside (NoSession n) IsAside h k = absurd (none_some (place plan H session) (Pending 0) h.0 k.0)
-    one_aside (NoSession n) (NotSpent m) h k = absurd (not_there k.0 h.0 k.1)
-    one_aside (NoSession n) (Tree w) h k = absurd (not_there k.0 h.0 k.1)
+    one_aside (NoSession n) (NotPending other) h k = absurd (none_some (place plan H session) other h.0 k.0)
+    one_aside (NoSession n) IsAside h k = absurd (not_there (k.0) k.1 h.0 k.2)
+    one_aside (NoSession n) (NotStep j) h k = absurd (not_there (j) k.0 h.0 k.1)
+    one_aside (NoSession n) (NotBand j) h k = absurd (not_there (step) k.0 h.0 k.1)
+    one_aside (NoSession n) (NotSpent m) h k = absurd (not_there (step) k.0 h.0 k.1)
+    one_aside (NoSession n) (Tree w) h k = absurd (not_there (step) k.0 h.0 k.1)
     one_aside (NoSession n) q h k = absurd k
     one_aside (NotPending at) (NoSession m) h k = absurd (none_some (place plan H session) at k.0 h.0)
     one_aside (NotPending at) (NotPending other) h k = ap NotPending (one_value (place plan H session) at other h.0 k.0)
-    one_aside (NotPending at) IsAside h k = absurd (h.1 (one_value (place plan H session) at (Pending 0) h.0 k.0))
-    one_aside (NotPending at) (NotSpent m) h k = absurd (not_first k.0 at h.0 h.1 k.1)
-    one_aside (NotPending at) (Tree w) h k = absurd (not_first k.0 at h.0 h.1 k.1)
+    one_aside (NotPending at) IsAside h k = absurd (not_pending (k.0) k.1 at h.0 h.1 k.2)
+    one_aside (NotPending at) (NotStep j) h k = absurd (not_pending (j) k.0 at h.0 h.1 k.1)
+    one_aside (NotPending at) (NotBand j) h k = absurd (not_pending (step) k.0 at h.0 h.1 k.1)
+    one_aside (NotPending at) (NotSpent m) h k = absurd (not_pending (step) k.0 at h.0 h.1 k.1)
+    one_aside (NotPending at) (Tree w) h k = absurd (not_pending (step) k.0 at h.0 h.1 k.1)
     one_aside (NotPending at) q h k = absurd k
-    one_aside IsAside (NoSession m) h k = absurd (none_some (place plan H session) (Pending 0) k.0 h.0)
-    one_aside IsAside (NotPending at) h k = absurd (k.1 (one_value (place plan H session) at (Pending 0) k.0 h.0))
+    one_aside IsAside (NoSession m) h k = absurd (not_there (h.0) h.1 k.0 h.2)
+    one_aside IsAside (NotPending other) h k = absurd (not_pending (h.0) h.1 other k.0 k.1 h.2)
     one_aside IsAside IsAside h k = refl
-    one_aside IsAside (NotSpent m) h k = absurd (aside_twice h.1 k.2)
-    one_aside IsAside (Tree w) h k = absurd (aside_twice h.1 k.2)
+    one_aside IsAside (NotStep j) h k = absurd (clash h.0 (j) h.1 k.0 h.2 k.1 h.3 k.2)
+    one_aside IsAside (NotBand j) h k = absurd (clash h.0 (step) h.1 k.0 h.2 k.1 h.3 k.2)
+    one_aside IsAside (NotSpent m) h k = absurd (clash h.0 (step) h.1 k.0 h.2 k.1 h.3 k.2)
+    one_aside IsAside (Tree w) h k = absurd (clash h.0 (step) h.1 k.0 h.2 k.1 h.3 k.2)
     one_aside IsAside q h k = absurd k
-    one_aside (NotSpent n) (NoSession m) h k = absurd (not_there h.0 k.0 h.1)
-    one_aside (NotSpent n) (NotPending at) h k = absurd (not_first h.0 at k.0 k.1 h.1)
-    one_aside (NotSpent n) IsAside h k = absurd (aside_twice k.1 h.2)
-    one_aside (NotSpent n) (NotSpent m) h k = ap NotSpent (h.4 ∙ sym k.4)
-    one_aside (NotSpent n) (Tree w) h k = absurd (no_tree session 0 h.0 k.0 h.1 k.1 nodes (claim_of_cause cause) tree h.3 k.3)
+    one_aside (NotStep i) (NoSession m) h k = absurd (not_there (i) h.0 k.0 h.1)
+    one_aside (NotStep i) (NotPending other) h k = absurd (not_pending (i) h.0 other k.0 k.1 h.1)
+    one_aside (NotStep i) IsAside h k = absurd (clash k.0 (i) k.1 h.0 k.2 h.1 k.3 h.2)
+    one_aside (NotStep i) (NotStep j) h k = ap NotStep (one_step (place plan H session) i j h.1.pending k.1.pending)
+    one_aside (NotStep i) (NotBand j) h k = absurd (h.3 (one_step (place plan H session) step i k.1.pending h.1.pending))
+    one_aside (NotStep i) (NotSpent m) h k = absurd (h.3 (one_step (place plan H session) step i k.1.pending h.1.pending))
+    one_aside (NotStep i) (Tree w) h k = absurd (h.3 (one_step (place plan H session) step i k.1.pending h.1.pending))
+    one_aside (NotStep i) q h k = absurd k
+    one_aside (NotBand i) (NoSession m) h k = absurd (not_there (step) h.0 k.0 h.1)
+    one_aside (NotBand i) (NotPending other) h k = absurd (not_pending (step) h.0 other k.0 k.1 h.1)
+    one_aside (NotBand i) IsAside h k = absurd (clash k.0 (step) k.1 h.0 k.2 h.1 k.3 h.2)
+    one_aside (NotBand i) (NotStep j) h k = absurd (k.3 (one_step (place plan H session) step j h.1.pending k.1.pending))
+    one_aside (NotBand i) (NotBand j) h k = ap NotBand (h.3 ∙ (ap (λ (R : Problem). band_of plan R.theta) (sym (same step step h.0 k.0 h.1 k.1)) ∙ sym k.3))
+    one_aside (NotBand i) (NotSpent m) h k = absurd (h.4 (k.3 ∙ (ap (λ (R : Problem). band_of plan R.theta) (same step step h.0 k.0 h.1 k.1) ∙ sym h.3)))
+    one_aside (NotBand i) (Tree w) h k = absurd (h.4 (k.3 ∙ (ap (λ (R : Problem). band_of plan R.theta) (same step step h.0 k.0 h.1 k.1) ∙ sym h.3)))
+    one_aside (NotBand i) q h k = absurd k
+    one_aside (NotSpent n) (NoSession m) h k = absurd (not_there (step) h.0 k.0 h.1)
+    one_aside (NotSpent n) (NotPending other) h k = absurd (not_pending (step) h.0 other k.0 k.1 h.1)
+    one_aside (NotSpent n) IsAside h k = absurd (clash k.0 (step) k.1 h.0 k.2 h.1 k.3 h.2)
+    one_aside (NotSpent n) (NotStep j) h k = absurd (k.3 (one_step (place plan H session) step j h.1.pending k.1.pending))
+    one_aside (NotSpent n) (NotBand j) h k = absurd (k.4 (h.3 ∙ (ap (λ (R : Problem). band_of plan R.theta) (same step step k.0 h.0 k.1 h.1) ∙ sym k.3)))
+    one_aside (NotSpent n) (NotSpent m) h k = ap NotSpent (h.5 ∙ sym k.5)
+    one_aside (NotSpent n) (Tree w) h k = absurd (no_tree session step h.0 k.0 h.1 k.1 nodes (claim_of_cause cause) tree h.4 k.4)
     one_aside (NotSpent n) q h k = absurd k
-    one_aside (Tree v) (NoSession m) h k = absurd (not_there h.0 k.0 h.1)
-    one_aside (Tree v) (NotPending at) h k = absurd (not_first h.0 at k.0 k.1 h.1)
-    one_aside (Tree v) IsAside h k = absurd (aside_twice k.1 h.2)
-    one_aside (Tree v) (NotSpent m) h k = absurd (no_tree session 0 k.0 h.0 k.1 h.1 nodes (claim_of_cause cause) tree k.3 h.3)
-    one_aside (Tree v) (Tree w) h k = ap Tree (same_verdict session 0 h.0 k.0 h.1 k.1 None tree v w h.4 k.4)
+    one_aside (Tree v) (NoSession m) h k = absurd (not_there (step) h.0 k.0 h.1)
+    one_aside (Tree v) (NotPending other) h k = absurd (not_pending (step) h.0 other k.0 k.1 h.1)
+    one_aside (Tree v) IsAside h k = absurd (clash k.0 (step) k.1 h.0 k.2 h.1 k.3 h.2)
+    one_aside (Tree v) (NotStep j) h k = absurd (k.3 (one_step (place plan H session) step j h.1.pending k.1.pending))
+    one_aside (Tree v) (NotBand j) h k = absurd (k.4 (h.3 ∙ (ap (λ (R : Problem). band_of plan R.theta) (same step step k.0 h.0 k.1 h.1) ∙ sym k.3)))
+    one_aside (Tree v) (NotSpent m) h k = absurd (no_tree session step k.0 h.0 k.1 h.1 nodes (claim_of_cause cause) tree k.4 h.4)
+    one_aside (Tree v) (Tree w) h k = ap Tree (same_verdict session step h.0 k.0 h.1 k.1 None tree v w h.5 k.5)
     one_aside (Tree v) q h k = absurd k
     one_aside r q h k = absurd h
 
-    may_aside : (r : Illegal) → OfAside r → MayFollow b plan H (SetAside session cause nodes) tree → ⊥
-    may_aside (NoSession n) h may = not_there may.problem h.0 may.is_problem
-    may_aside (NotPending at) h may = not_first may.problem at h.0 h.1 may.is_problem
-    may_aside IsAside h may = aside_twice h.1 may.not_aside
-    may_aside (NotSpent n) h may = no_tree session 0 h.0 may.problem h.1 may.is_problem nodes (claim_of_cause cause) tree h.3 may.shows.has_tree
-    may_aside (Tree v) h may = h.5 (subst (λ (w : Verdict). IsAsked (claim_of_cause cause) w) (same_verdict session 0 may.problem h.0 may.is_problem h.1 None tree may.shows.verdict v may.shows.has_verdict h.4) may.shows.asked)
+    may_aside : (r : Illegal) → OfAside r → MayFollow b plan H (SetAside session step band cause nodes) tree → ⊥
+    may_aside (NoSession n) h may = not_there step may.problem h.0 may.is_problem
+    may_aside (NotPending at) h may = not_pending step may.problem at h.0 h.1 may.is_problem
+    may_aside IsAside h may = clash h.0 step h.1 may.problem h.2 may.is_problem h.3 may.not_aside
+    may_aside (NotStep i) h may = h.3 (one_step (place plan H session) step i may.is_problem.pending h.1.pending)
+    may_aside (NotBand i) h may = h.4 (may.band_is ∙ (ap (λ (R : Problem). band_of plan R.theta) (same step step h.0 may.problem h.1 may.is_problem) ∙ sym h.3))
+    may_aside (NotSpent n) h may = no_tree session step h.0 may.problem h.1 may.is_problem nodes (claim_of_cause cause) tree h.4 may.shows.has_tree
+    may_aside (Tree v) h may = h.6 (subst (λ (w : Verdict). IsAsked (claim_of_cause cause) w) (same_verdict session step may.problem h.0 may.is_problem h.1 None tree may.shows.verdict v may.shows.has_verdict h.5) may.shows.asked)
     may_aside r h may = h
 
   -- ---- a serving
@@ -301,15 +363,15 @@ module _ (b : Tables) (plan : Plan) (H : List Entry) where
     may_close r h may = h
 
 pub one_reason : OneReason
-one_reason b plan H (Started session booking eligible) tree r q h k = one_start b plan H session booking eligible tree r q h k
-one_reason b plan H (SetAside session cause nodes) tree r q h k = one_aside b plan H session cause nodes tree r q h k
+one_reason b plan H (Started session booking eligible without) tree r q h k = one_start b plan H session booking eligible without tree r q h k
+one_reason b plan H (SetAside session step band cause nodes) tree r q h k = one_aside b plan H session step band cause nodes tree r q h k
 one_reason b plan H (Served session step item form proved nodes) tree r q h k = one_serving b plan H session step item form proved nodes tree r q h k
 one_reason b plan H (Answered session step response) tree r q h k = one_answer b plan H session step response tree r q h k
 one_reason b plan H (Closed session) tree r q h k = one_closing b plan H session tree r q h k
 
 pub no_reason_if_may : NoReasonIfMay
-no_reason_if_may b plan H (Started session booking eligible) tree r h may = may_start b plan H session booking eligible tree r h may
-no_reason_if_may b plan H (SetAside session cause nodes) tree r h may = may_aside b plan H session cause nodes tree r h may
+no_reason_if_may b plan H (Started session booking eligible without) tree r h may = may_start b plan H session booking eligible without tree r h may
+no_reason_if_may b plan H (SetAside session step band cause nodes) tree r h may = may_aside b plan H session step band cause nodes tree r h may
 no_reason_if_may b plan H (Served session step item form proved nodes) tree r h may = may_serve b plan H session step item form proved nodes tree r h may
 no_reason_if_may b plan H (Answered session step response) tree r h may = may_answer b plan H session step response tree r h may
 no_reason_if_may b plan H (Closed session) tree r h may = may_close b plan H session tree r h may

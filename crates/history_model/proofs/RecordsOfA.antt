@@ -1,35 +1,41 @@
 -- The test on bank A as records with their proof trees: each may follow those before it, so the run is legal, and the items
 -- shown in it meet the plan.
-use Rattle.std.proofs.Common.{◌≡◌, ℕ, zero, suc, ◌+◌, ◌*◌, ◌<◌, inl, inr, Bool, true, false, not, ◌&&◌, List, [], ◌∷◌, ◌++◌, pos, None, Some, refl, sym, ◌∙◌, subst, arith}
+use Rattle.std.proofs.Common.{◌≡◌, ℕ, zero, suc, ◌+◌, ◌*◌, ◌<◌, inl, inr, Bool, true, false, not, ◌&&◌, List, [], ◌∷◌, ◌++◌, pos, None, Some, refl, sym, ap, ◌∙◌, subst, arith}
 use Rattle.std.specs.Prelude.{nat_lt}
 use Rattle.std.proofs.Math.Bool.{true≢false}
 use Rattle.std.proofs.Math.Dec.{lit≤}
 use Rattle.std.proofs.lemmas.Bool.{cases_lt, le-ltb}
 use Rattle.bank_tables.specs.Items.{has}
-use Rattle.exam_model.specs.declared.verdict.Verdict.TheVariants.{Optimal}
-use Rattle.exam_model.specs.Problem.{Problem}
-use Rattle.exam_model.specs.Forms.{Meets, Form, objective}
-use Rattle.exam_model.specs.Paths.{root}
-use Rattle.exam_model.specs.Weights.{item_weight, stimulus_weight, rows_constant}
-use Rattle.exam_model.specs.Relaxed.{link_multiplier, IsRelaxedMaximum}
-use Rattle.exam_model.specs.ClosedForm.{excess_of_items}
-use Rattle.exam_model.specs.ProofTrees.{ProofTree}
-use Rattle.exam_model.specs.Verdicts.{IsVerdict}
-use Rattle.exam_model.specs.Ability.{IsPosteriorMode}
-use Rattle.exam_model.specs.Serving.{IsNext}
-use Rattle.exam_model.specs.Seats.{seat_problem, is_shown}
-use Rattle.exam_model.proofs.SumLaws.{either}
-use Rattle.exam_model.proofs.Computed.{these_below, one_word, word_below, form_is, maximum_is, at_most, names_sides, mode_is, next_is}
-use Rattle.exam_model.proofs.BankA.{item_a, sevens, bank_a, plan_of_rows, plan_a, one_bound}
-use Rattle.exam_model.proofs.StepsOfA.{seat_1, seat_2, problem_1, problem_2}
+use Rattle.bank_tables.specs.Tables.{size}
+use Rattle.certificate_model.specs.declared.verdict.Verdict.TheVariants.{Optimal}
+use Rattle.form_model.specs.Problem.{Problem}
+use Rattle.form_model.specs.Forms.{Meets, Form, objective}
+use Rattle.certificate_model.specs.Paths.{root}
+use Rattle.certificate_model.specs.Weights.{item_weight, stimulus_weight, rows_constant}
+use Rattle.certificate_model.specs.Relaxed.{link_multiplier, IsRelaxedMaximum}
+use Rattle.certificate_model.specs.ClosedForm.{excess_of_items}
+use Rattle.certificate_model.specs.ProofTrees.{ProofTree}
+use Rattle.certificate_model.specs.Verdicts.{IsVerdict}
+use Rattle.form_model.specs.Ability.{IsPosteriorMode}
+use Rattle.serving_model.specs.Serving.{IsNext}
+use Rattle.serving_model.specs.Seats.{seat_problem, is_shown}
+use Rattle.form_model.proofs.SumLaws.{either}
+use Rattle.form_model.proofs.Computed.{these_below, one_word, word_below, form_is, mode_is}
+use Rattle.serving_model.proofs.Computed.{next_is}
+use Rattle.certificate_model.proofs.Computed.{maximum_is, at_most, names_sides}
+use Rattle.form_model.proofs.BankA.{item_a, sevens, bank_a, plan_of_rows, plan_a}
+use Rattle.certificate_model.proofs.BankA.{one_bound}
+use Rattle.serving_model.proofs.StepsOfA.{seat_1, seat_2, problem_1, problem_2}
 use Rattle.history_model.specs.declared.entry.Entry.{Entry}
 use Rattle.history_model.specs.declared.entry.Entry.TheVariants.{Started, Served, Answered}
-use Rattle.history_model.specs.Entries.{seat_of}
-use Rattle.history_model.specs.Draws.{draw, SameItems}
+use Rattle.history_model.specs.Entries.{items_in, seat_of}
+use Rattle.history_model.specs.Counts.{band_counts}
+use Rattle.history_model.specs.Draws.{drawn, draw, SameItems, AreDrawn}
 use Rattle.history_model.specs.SessionProblems.{IsProblemOf}
 use Rattle.history_model.specs.Legality.{IsLegalAnswer, LegalRun}
 use Rattle.history_model.specs.Judging.{MayServe, MayFollow, Record, entries_of, Backed, empty, more}
-use Rattle.history_model.proofs.HistoriesOfA.{started_a, served_a, answered_a, served_1, answered_1, served_2, answered_2}
+use Rattle.history_model.proofs.HistoriesOfA.{one_band, started_a, served_a, answered_a, served_1, answered_1, served_2, answered_2}
+use Rattle.history_model.proofs.Bounds.{no_set}
 use Rattle.history_model.proofs.JudgingLaws.{backed_is_legal_run}
 use Rattle.history_model.proofs.CompleteLaws.{complete_meets}
 
@@ -54,16 +60,25 @@ pub and_on : (a : Bool) → (a && true) ≡ a
 and_on true = refl
 and_on false = refl
 
-draw_first : SameItems (has (one_word 63)) (draw bank_a plan_a [] 0)
-unfolding bank_a item_a
-draw_first i = all_drawn i ∙ sym (and_on (nat_lt i 6))
-
-pub may_start : MayFollow bank_a plan_a [] (Started 0 70 (one_word 63)) None
+-- with one band the sets past it are empty, as their draws are
+pub one_drawn : (H : List Entry) (session : ℕ) (words : List ℕ) → SameItems (has words) (draw bank_a plan_a H session 0) → AreDrawn bank_a plan_a H session (one_band words)
 unfolding plan_of_rows plan_a
-may_start = (record { number = record { next = refl; within = lit≤ tt }; not_booked = refl; drawn = draw_first }, refl)
+one_drawn H session words first = record { number = refl; each = each }
+  where
+    each : (band : ℕ) → SameItems (items_in (words ∷ []) band) (draw bank_a plan_a H session band)
+    each zero i = first i
+    each (suc k) i = no_set k i ∙ sym (ap (λ (t : Bool). t && drawn plan_a.key plan_a.rate session (suc k) (size bank_a) (band_counts bank_a plan_a H (suc k)) i) (le-ltb (suc k) 1 (omega arith)))
+
+draw_first : AreDrawn bank_a plan_a [] 0 (one_band (one_word 63))
+unfolding bank_a item_a plan_of_rows plan_a
+draw_first = one_drawn [] 0 (one_word 63) (λ i. all_drawn i ∙ sym (and_on (nat_lt i 6)))
+
+pub may_start : MayFollow bank_a plan_a [] (Started 0 70 (one_band (one_word 63)) None) None
+unfolding plan_of_rows plan_a
+may_start = (record { number = record { next = refl; within = lit≤ tt }; not_booked = refl; drawn = draw_first; no_list = refl }, refl)
 
 -- ---- item 2 from the form of items 1, 2 and 3
-mode_0 : IsPosteriorMode bank_a plan_a.prior [] 1
+pub mode_0 : IsPosteriorMode bank_a plan_a.prior [] 1
 unfolding bank_a plan_of_rows plan_a
 mode_0 = mode_is bank_a plan_a.prior [] 1 refl
 
@@ -180,7 +195,7 @@ bare : Entry → Record
 bare entry = record { entry = entry; tree = None }
 
 records_1 : List Record
-records_1 = bare (Started 0 70 (one_word 63)) ∷ with_tree (Served 0 0 2 (one_word 14) true 1) (one_bound ((3, 1) ∷ [])) ∷ bare (Answered 0 0 1) ∷ []
+records_1 = bare (Started 0 70 (one_band (one_word 63)) None) ∷ with_tree (Served 0 0 2 (one_word 14) true 1) (one_bound ((3, 1) ∷ [])) ∷ bare (Answered 0 0 1) ∷ []
 
 records_3 : List Record
 records_3 = records_1 ++ with_tree (Served 0 1 4 (one_word 22) true 1) (one_bound ((0, 1536) ∷ [])) ∷ bare (Answered 0 1 0) ∷ []
@@ -191,8 +206,8 @@ records_a = records_3 ++ with_tree (Served 0 2 1 (one_word 22) true 1) (one_boun
 backed_1 : Backed bank_a plan_a records_1
 unfolding records_1 with_tree bare started_a served_a
 backed_1 =
-    more (bare (Started 0 70 (one_word 63)) ∷ with_tree (Served 0 0 2 (one_word 14) true 1) (one_bound ((3, 1) ∷ [])) ∷ []) (bare (Answered 0 0 1))
-    (more (bare (Started 0 70 (one_word 63)) ∷ []) (with_tree (Served 0 0 2 (one_word 14) true 1) (one_bound ((3, 1) ∷ []))) (more [] (bare (Started 0 70 (one_word 63))) empty may_start) may_serve_0)
+    more (bare (Started 0 70 (one_band (one_word 63)) None) ∷ with_tree (Served 0 0 2 (one_word 14) true 1) (one_bound ((3, 1) ∷ [])) ∷ []) (bare (Answered 0 0 1))
+    (more (bare (Started 0 70 (one_band (one_word 63)) None) ∷ []) (with_tree (Served 0 0 2 (one_word 14) true 1) (one_bound ((3, 1) ∷ []))) (more [] (bare (Started 0 70 (one_band (one_word 63)) None)) empty may_start) may_serve_0)
     (may_answer_0, refl)
 
 backed_3 : Backed bank_a plan_a records_3

@@ -1,11 +1,12 @@
 -- Requests on bank A: what they are refused, what they do, and the histories in numbers.
 use Rattle.std.proofs.Common.{◌≡◌, ℕ, zero, suc, ◌<◌, false, true, Bool, List, [], ◌∷◌, slice_get, None, Some, refl, arith}
 use Rattle.bank_tables.specs.Items.{has}
-use Rattle.exam_model.specs.Plan.{Plan}
-use Rattle.exam_model.specs.Problem.{Problem}
-use Rattle.exam_model.specs.Forms.{Best, Firm}
-use Rattle.exam_model.proofs.Computed.{one_word}
-use Rattle.exam_model.proofs.BankA.{item_a, bank_a, plan_of_rows, plan_a, one_bound}
+use Rattle.form_model.specs.Plan.{Plan}
+use Rattle.form_model.specs.Problem.{Problem}
+use Rattle.form_model.specs.Forms.{Best, Firm}
+use Rattle.form_model.proofs.Computed.{one_word}
+use Rattle.form_model.proofs.BankA.{item_a, bank_a, plan_of_rows, plan_a}
+use Rattle.certificate_model.proofs.BankA.{one_bound}
 use Rattle.history_model.specs.declared.counts.Counts.{Counts}
 use Rattle.history_model.specs.declared.entry.Entry.TheVariants.{Served}
 use Rattle.history_model.specs.declared.place.Place.TheVariants.{Waiting, Complete, Closed as IsClosed}
@@ -17,7 +18,7 @@ use Rattle.history_model.specs.Refusals.{refusal_of}
 use Rattle.history_model.specs.Requests.{Begins, RecordsAnswer, by_begin, by_answer, IsFirmServing, at_once, Does}
 use Rattle.history_model.specs.Summaries.{summary}
 use Rattle.history_model.proofs.Edges.{complete_0, three}
-use Rattle.history_model.proofs.HistoriesOfA.{started_a, served_a, answered_a, served_1, answered_1, served_2, answered_2, two_a, closed_a}
+use Rattle.history_model.proofs.HistoriesOfA.{one_band, started_a, served_a, answered_a, served_1, answered_1, served_2, answered_2, two_a, closed_a}
 use Rattle.history_model.proofs.JudgingLaws.{may_is_legal}
 use Rattle.history_model.proofs.RecordsOfA.{may_start, may_serve_0, may_answer_0, may_serve_1, may_answer_2}
 
@@ -59,7 +60,7 @@ begin_70 =
       session = 0;
       fresh = true;
       begun = started_a;
-      leads = by_begin 70 0 true started_a (Begins.is_new 0 (one_word 63) refl may_start.0);
+      leads = by_begin 70 0 true started_a (Begins.is_new 0 (one_band (one_word 63)) refl may_start.0);
       advances = at_once (Served 0 0 2 (one_word 14) true 1) firm_0;
       at = Waiting 0 2 true;
       stands = refl;
@@ -134,7 +135,7 @@ exposure_3 : Does bank_a plan_a answered_2 Exposure answered_2 (reply.Exposure (
 unfolding bank_a item_a plan_of_rows plan_a started_a served_a answered_a served_1 answered_1 served_2 answered_2 row rows has
 exposure_3 = record { same = refl; exposure = record { finished = 1; rows = rows }; is_exposure = record { finished_is = refl; number = refl; each = each }; reply = refl }
   where
-    each : (i : ℕ) → i < 6 → slice_get rows i ≡ Some (counts plan_a answered_2 i)
+    each : (i : ℕ) → i < 6 → slice_get rows i ≡ Some (counts bank_a plan_a answered_2 i)
     each zero w = refl
     each (suc zero) w = refl
     each (suc (suc zero)) w = refl

@@ -1,5 +1,5 @@
 -- What holds of each session along a legal run.
-use Rattle.std.proofs.Common.{◌≡◌, ℕ, ◌+◌, ◌-◌, ◌<◌, ◌⊎◌, inl, inr, Bool, true, false, cond, not, ◌||◌, ◌==◌, List, [], ◌∷◌, ◌++◌, length, slice_get, Option, Some, None, refl, sym, ap, ◌∙◌, subst, arith}
+use Rattle.std.proofs.Common.{◌≡◌, ℕ, ◌+◌, ◌-◌, ◌<◌, ◌⊎◌, inl, inr, Bool, true, false, cond, not, ◌||◌, ◌==◌, List, [], ◌∷◌, ◌++◌, length, slice_get, map, Option, Some, None, refl, sym, ap, ◌∙◌, subst, arith}
 use Rattle.std.specs.Prelude.{nat_le}
 use Rattle.std.specs.Option.{option_map, option_map_or}
 use Rattle.std.proofs.Math.Bool.{true≢false}
@@ -8,20 +8,21 @@ use Rattle.std.proofs.lemmas.Option.{slice_get-map}
 use Rattle.std.proofs.lemmas.List.{length-map}
 use Rattle.bank_tables.specs.Items.{has}
 use Rattle.bank_tables.specs.Tables.{Tables}
-use Rattle.exam_model.specs.declared.seat.Seat.{Seat}
-use Rattle.exam_model.specs.Plan.{Plan}
-use Rattle.exam_model.specs.Problem.{Problem}
-use Rattle.exam_model.specs.Forms.{Form}
-use Rattle.exam_model.specs.Serving.{IsNext}
-use Rattle.exam_model.proofs.SumLaws.{either, or_true, or_left, or_right}
+use Rattle.serving_model.specs.declared.seat.Seat.{Seat}
+use Rattle.form_model.specs.Plan.{Plan}
+use Rattle.form_model.specs.Problem.{Problem}
+use Rattle.form_model.specs.Forms.{Form}
+use Rattle.serving_model.specs.Serving.{IsNext}
+use Rattle.form_model.proofs.SumLaws.{either, or_true, or_left, or_right}
 use Rattle.history_model.specs.declared.entry.Entry.{Entry}
+use Rattle.history_model.specs.declared.entry.Without.{Without}
 use Rattle.history_model.specs.declared.entry.Entry.TheVariants.{Started, SetAside, Served, Answered, Closed}
 use Rattle.history_model.specs.declared.place.Place.{Place}
 use Rattle.history_model.specs.declared.place.Place.TheVariants.{Pending, Waiting, Complete, Closed as IsClosed}
 use Rattle.history_model.specs.Entries.{session_of, starts, starts_session, Serving, StepAnswer, sessions, is_started, is_closed, servings, step_answers, seat_of}
-use Rattle.history_model.specs.Places.{serving_at, place_at, place}
+use Rattle.history_model.specs.Places.{serving_at, place_at}
 use Rattle.history_model.specs.Legality.{Legal, IsLegalServing, IsLegalAnswer, LegalRun, empty, more}
-use Rattle.history_model.specs.Laws.{AreInOrder, no_seat, seat_with, step_place, SessionsAreNumbered, StepsAreInOrder, SeatBeforeStart, SeatGoesOn, SeatIsSeat, PlaceIsOfSeat, PendingIsOfSeat, LastFormStays}
+use Rattle.history_model.specs.Laws.{AreInOrder, no_seat, raised, seat_with, step_place, SessionsAreNumbered, StepsAreInOrder, SeatBeforeStart, SeatGoesOn, SeatIsSeat, PlaceIsOfSeat, PendingIsOfSeat, LastFormStays}
 use Rattle.history_model.proofs.Pushed.{started-push, sessions-push, seat_goes_on}
 use Rattle.history_model.proofs.Standing.{past_end, before_end, IsPendingAt, IsWaitingFor, pending, waiting, there}
 use Rattle.history_model.proofs.Ordered.{found_at, in_order}
@@ -42,7 +43,7 @@ all_answered plan H s k order at =
     omega arith
 
 -- where an answer is waited for, one item more is shown
-one_more : (plan : Plan) (H : List Entry) (s k item : ℕ) (proved : Bool) → AreInOrder H s → IsWaitingFor plan H s k item proved → length (step_answers H s) + 1 ≡ length (servings H s)
+pub one_more : (plan : Plan) (H : List Entry) (s k item : ℕ) (proved : Bool) → AreInOrder H s → IsWaitingFor plan H s k item proved → length (step_answers H s) + 1 ≡ length (servings H s)
 one_more plan H s k item proved order at =
     let room = before_end (servings H s) (length (step_answers H s)) at.serving (sym (found_at H s (length (step_answers H s)) order) ∙ at.served) in
     let many = order.many in
@@ -57,46 +58,46 @@ item_shown plan H s k item proved order at =
 
 -- an entry of another session leaves the seat as it is
 pub not_of : (s : ℕ) (seat : Seat) (e : Entry) → (session_of e == s) ≡ false → seat_with s seat e ≡ seat
-not_of s seat (Started session booking eligible) other = rw other refl
-not_of s seat (SetAside session cause nodes) other = rw other refl
+not_of s seat (Started session booking eligible without) other = rw other refl
+not_of s seat (SetAside session step band cause nodes) other = rw other refl
 not_of s seat (Served session step item form proved nodes) other = rw other refl
 not_of s seat (Answered session step response) other = rw other refl
 not_of s seat (Closed session) other = rw other refl
 
 -- it doesn't start this one
 pub not_start_of : (s : ℕ) (e : Entry) → (session_of e == s) ≡ false → starts_session s e ≡ false
-not_start_of s (Started session booking eligible) other = other
-not_start_of s (SetAside session cause nodes) other = refl
+not_start_of s (Started session booking eligible without) other = other
+not_start_of s (SetAside session step band cause nodes) other = refl
 not_start_of s (Served session step item form proved nodes) other = refl
 not_start_of s (Answered session step response) other = refl
 not_start_of s (Closed session) other = refl
 
 -- a legal entry that starts no session is of one that is started
 pub legal_there : (b : Tables) (plan : Plan) (H : List Entry) (e : Entry) → Legal b plan H e → starts e ≡ false → is_started H (session_of e) ≡ true
-legal_there b plan H (Started session booking eligible) legal none = absurd (true≢false none)
-legal_there b plan H (SetAside session cause nodes) legal none = there plan H session (Pending 0) legal.is_problem.pending
+legal_there b plan H (Started session booking eligible without) legal none = absurd (true≢false none)
+legal_there b plan H (SetAside session step band cause nodes) legal none = there plan H session (Pending step) legal.is_problem.pending
 legal_there b plan H (Served session step item form proved nodes) legal none = there plan H session (Pending step) legal.is_problem.pending
 legal_there b plan H (Answered session step response) legal none = there plan H session (Waiting step legal.item legal.proved) legal.waiting
 legal_there b plan H (Closed session) legal none = there plan H session legal.at legal.stands
 
 -- one that starts a session has the next number
 pub legal_number : (b : Tables) (plan : Plan) (H : List Entry) (e : Entry) → Legal b plan H e → starts e ≡ true → session_of e ≡ sessions H
-legal_number b plan H (Started session booking eligible) legal one = legal.number.next
-legal_number b plan H (SetAside session cause nodes) legal one = absurd (true≢false (sym one))
+legal_number b plan H (Started session booking eligible without) legal one = legal.number.next
+legal_number b plan H (SetAside session step band cause nodes) legal one = absurd (true≢false (sym one))
 legal_number b plan H (Served session step item form proved nodes) legal one = absurd (true≢false (sym one))
 legal_number b plan H (Answered session step response) legal one = absurd (true≢false (sym one))
 legal_number b plan H (Closed session) legal one = absurd (true≢false (sym one))
 
 pub starts_this : (s : ℕ) (e : Entry) → starts_session s e ≡ true → (starts e ≡ true) × (session_of e ≡ s)
-starts_this s (Started session booking eligible) one = (refl, eqb-true session s one)
-starts_this s (SetAside session cause nodes) one = absurd (true≢false (sym one))
+starts_this s (Started session booking eligible without) one = (refl, eqb-true session s one)
+starts_this s (SetAside session step band cause nodes) one = absurd (true≢false (sym one))
 starts_this s (Served session step item form proved nodes) one = absurd (true≢false (sym one))
 starts_this s (Answered session step response) one = absurd (true≢false (sym one))
 starts_this s (Closed session) one = absurd (true≢false (sym one))
 
 pub starts_that : (s : ℕ) (e : Entry) → starts e ≡ true → (session_of e == s) ≡ true → starts_session s e ≡ true
-starts_that s (Started session booking eligible) one same = same
-starts_that s (SetAside session cause nodes) one same = absurd (true≢false (sym one))
+starts_that s (Started session booking eligible without) one same = same
+starts_that s (SetAside session step band cause nodes) one same = absurd (true≢false (sym one))
 starts_that s (Served session step item form proved nodes) one same = absurd (true≢false (sym one))
 starts_that s (Answered session step response) one same = absurd (true≢false (sym one))
 starts_that s (Closed session) one same = absurd (true≢false (sym one))
@@ -116,8 +117,16 @@ module _ (b : Tables) (plan : Plan) (H : List Entry) (e : Entry) (s : ℕ) (runs
       let next = legal_number b plan H e legal this.0 in
       elim (either (is_started H s)) [ inl there ↦ absurd (let w = runs.numbered there in let at = this.1 in omega arith) | inr not_there ↦ not_there ]
 
+  -- before its items are served
+  unserved : starts_session s e ≡ true → servings H s ≡ []
+  unserved one = no_servings (servings H s) (ap (λ (seat : Seat). seat.shown) (runs.before_start (once one)))
+    where
+      no_servings : (S : List Serving) → map (λ (serving : Serving). serving.item) S ≡ [] → S ≡ []
+      no_servings [] none = refl
+      no_servings (x ∷ S) none = absurd cc
+
   pub goes_on : seat_of (H ++ e ∷ []) s ≡ seat_with s (seat_of H s) e
-  goes_on = seat_goes_on H e s once
+  goes_on = seat_goes_on H e s (λ one. (once one, unserved one))
 
   more_sessions : (test : Bool) → starts e ≡ test → sessions (H ++ e ∷ []) ≡ sessions H + cond test 1 0
   more_sessions test is = sessions-push H e ∙ ap (λ (t : Bool). sessions H + cond t 1 0) is
@@ -169,24 +178,25 @@ module _ (b : Tables) (plan : Plan) (H : List Entry) (e : Entry) (s : ℕ) (runs
       other = elim (either (session_of e == s)) [ inl same ↦ absurd (this_one same (either (starts e))) | inr differs ↦ differs ]
 
 -- ---- the predicate Stands holds of the seat after each entry
-not_drawn : (b : Tables) (plan : Plan) (s : ℕ) (eligible : List ℕ) (seat : Seat) → seat ≡ no_seat → Stands b plan s (record seat { eligible = eligible })
-not_drawn b plan s eligible seat none = new_stands b plan s (record seat { eligible = eligible }) (ap (λ (t : Seat). t.shown) none) (ap (λ (t : Seat). t.responses) none) (ap (λ (t : Seat). t.form) none)
+started_stands : (b : Tables) (plan : Plan) (s : ℕ) (eligible : List (List ℕ)) (without : Option Without) (seat : Seat) → seat ≡ no_seat → without ≡ None
+    → Stands b plan s (record seat { eligible = eligible; without = option_map (λ (list : Without). list.items) without; form = option_map (λ (list : Without). list.form) without })
+started_stands b plan s eligible without seat none unlisted =
+    new_stands b plan s (record seat { eligible = eligible; without = option_map (λ (list : Without). list.items) without; form = option_map (λ (list : Without). list.form) without })
+    (ap (λ (t : Seat). t.shown) none)
+    (ap (λ (t : Seat). t.responses) none)
+    (ap (option_map (λ (list : Without). list.items)) unlisted)
+    (ap (option_map (λ (list : Without). list.form)) unlisted)
 
 stands_with : (b : Tables) (plan : Plan) (H : List Entry) (e : Entry) (s : ℕ) → Runs b plan H s → AreInOrder H s → Legal b plan H e → Stands b plan s (seat_with s (seat_of H s) e)
-stands_with b plan H (Started session booking eligible) s runs order legal = by (session == s) refl
+stands_with b plan H (Started session booking eligible without) s runs order legal = by (session == s) refl
   where
-    by : (this : Bool) → (session == s) ≡ this → Stands b plan s (cond this (record (seat_of H s) { eligible = eligible }) (seat_of H s))
-    by true same = not_drawn b plan s eligible (seat_of H s) (runs.before_start (once b plan H (Started session booking eligible) s runs order legal same))
+    by : (this : Bool) → (session == s) ≡ this → Stands b plan s (cond this (record (seat_of H s) { eligible = eligible.sets; without = option_map (λ (list : Without). list.items) without; form = option_map (λ (list : Without). list.form) without }) (seat_of H s))
+    by true same = started_stands b plan s eligible.sets without (seat_of H s) (runs.before_start (once b plan H (Started session booking eligible without) s runs order legal same)) legal.no_list
     by false other = runs.stands
-stands_with b plan H (SetAside session cause nodes) s runs order legal = by (session == s) refl
+stands_with b plan H (SetAside session step band cause nodes) s runs order legal = by (session == s) refl
   where
-    by : (this : Bool) → (session == s) ≡ this → Stands b plan s (cond this (record (seat_of H s) { aside = true }) (seat_of H s))
-    by true same =
-        let at = pending plan H s 0 (subst (λ (t : ℕ). place plan H t ≡ Some (Pending 0)) (eqb-true session s same) legal.is_problem.pending) in
-        let none = all_answered plan H s 0 order at in
-        let number = at.number in
-        let n = shown_number H s in
-        aside_stands b plan s (seat_of H s) runs.stands (omega arith)
+    by : (this : Bool) → (session == s) ≡ this → Stands b plan s (cond this (record (seat_of H s) { aside = raised (seat_of H s).aside band }) (seat_of H s))
+    by true same = aside_stands b plan s (seat_of H s) runs.stands (raised (seat_of H s).aside band)
     by false other = runs.stands
 stands_with b plan H (Served session step item form proved nodes) s runs order legal = by (session == s) refl
   where
@@ -230,7 +240,7 @@ runs_step b plan H e s runs order legal =
     }
 
 pub along : (b : Tables) (plan : Plan) (H : List Entry) (s : ℕ) → LegalRun b plan H → Runs b plan H s
-along b plan H s empty = record { numbered = λ h. absurd (true≢false (sym h)); all_there = λ w. absurd (omega arith); before_start = λ h. refl; stands = new_stands b plan s no_seat refl refl refl }
+along b plan H s empty = record { numbered = λ h. absurd (true≢false (sym h)); all_there = λ w. absurd (omega arith); before_start = λ h. refl; stands = new_stands b plan s no_seat refl refl refl refl }
 along b plan H s (more before entry run legal) = runs_step b plan before entry s (along b plan before s run) (in_order b plan before s run) legal
 
 -- ---- the laws
@@ -248,6 +258,10 @@ the_seat_goes_on b plan H e s run legal = goes_on b plan H e s (along b plan H s
 
 pub seat_is_seat : SeatIsSeat
 seat_is_seat b plan H s run = (along b plan H s run).stands.is_seat
+
+-- no session of a legal run has a list
+pub has_no_list : (b : Tables) (plan : Plan) (H : List Entry) (s : ℕ) → LegalRun b plan H → (seat_of H s).without ≡ None
+has_no_list b plan H s run = (along b plan H s run).stands.no_list
 
 pub last_form_stays : LastFormStays
 last_form_stays b plan H s theta words run e = (along b plan H s run).stands.keeps words theta e

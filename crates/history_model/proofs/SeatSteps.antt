@@ -1,25 +1,26 @@
 -- What each entry does to a seat: it stays one, and the form last served from stays a form of its problem.
-use Rattle.std.proofs.Common.{◌≡◌, ℕ, zero, suc, ◌+◌, ◌<◌, ◌⊎◌, inl, inr, Bool, true, false, not, ◌&&◌, ◌==◌, List, [], ◌∷◌, ◌++◌, length, slice_get, Option, Some, None, refl, sym, ap, ◌∙◌, subst, arith, length-append}
+use Rattle.std.proofs.Common.{◌≡◌, ℕ, zero, suc, ◌+◌, ◌<◌, ◌⊎◌, inl, inr, Bool, true, false, not, ◌&&◌, ◌||◌, ◌==◌, List, [], ◌∷◌, ◌++◌, length, slice_get, Option, Some, None, refl, sym, ap, ◌∙◌, subst, arith, nat_lt, length-append}
 use Rattle.std.specs.List.{list_any}
 use Rattle.std.proofs.Math.Bool.{true≢false}
-use Rattle.std.proofs.lemmas.Bool.{eqb-true, eq-eqb}
+use Rattle.std.proofs.lemmas.Bool.{eqb-true, eq-eqb, lt-ltb}
 use Rattle.std.proofs.lemmas.List.Folds.{list_any-append}
-use Rattle.bank_tables.specs.Items.{has}
+use Rattle.bank_tables.specs.Items.{Set, has}
 use Rattle.bank_tables.specs.Tables.{Tables, size, categories}
 use Rattle.bank_tables.specs.Validity.{HoldsItems}
-use Rattle.exam_model.specs.declared.seat.Seat.{Seat}
-use Rattle.exam_model.specs.Plan.{Plan}
-use Rattle.exam_model.specs.Forms.{Form}
-use Rattle.exam_model.specs.Seats.{is_shown, seat_problem, IsSeat}
-use Rattle.exam_model.specs.Serving.{IsNext}
-use Rattle.exam_model.proofs.SumLaws.{and_true, or_true, or_left, or_right}
-use Rattle.exam_model.proofs.Staying.{last_form_stays}
+use Rattle.serving_model.specs.declared.seat.Seat.{Seat}
+use Rattle.form_model.specs.Plan.{Plan, band_of}
+use Rattle.form_model.specs.Forms.{Form}
+use Rattle.serving_model.specs.Seats.{is_shown, is_of_stimulus_left_behind, is_withheld, is_barred, is_unavailable_in, seat_problem, problem_aside, IsSeat}
+use Rattle.serving_model.specs.Serving.{IsNext}
+use Rattle.form_model.proofs.SumLaws.{either, and_true, both, or_true, or_left, or_right}
+use Rattle.serving_model.proofs.Staying.{form_stays_aside}
 use Rattle.history_model.proofs.Standing.{before_end}
 
--- the seat is one, and the form last served from is a form of its problem, whatever the estimate
+-- the seat is one without a list, and the form last served from is a form of its problem once eligibility is set aside, whatever the estimate
 pub record Stands (b : Tables) (plan : Plan) (s : ℕ) (seat : Seat) : Type 0 where
   pub is_seat : IsSeat b plan seat
-  pub keeps : (words : List ℕ) (theta : ℕ) → seat.form ≡ Some words → Form (seat_problem b plan s seat theta) (has words)
+  pub no_list : seat.without ≡ None
+  pub keeps : (words : List ℕ) (theta : ℕ) → seat.form ≡ Some words → Form (problem_aside b plan s seat theta) (has words)
 
 -- ---- a list with an element more
 last_number : (xs : List ℕ) (x : ℕ) → length (xs ++ x ∷ []) ≡ length xs + 1
@@ -44,9 +45,20 @@ no_words form words e f = cc
 words_same : (a b : List ℕ) → ◌≡◌ {A = Option (List ℕ)} (Some a) (Some b) → a ≡ b
 words_same a b e = cc
 
+-- with no item unavailable fewer are barred
+pub barred_more : (b : Tables) (seat : Seat) (unavailable : Set) (i : ℕ) → is_barred b seat (λ _. false) i ≡ true → is_barred b seat unavailable i ≡ true
+barred_more b seat unavailable i e = by (nat_lt i (size b)) (is_shown seat i) (is_of_stimulus_left_behind b seat i) (is_withheld seat i) e
+  where
+    by : (in_bank shown left withheld : Bool) → (in_bank && (not shown && (left || (withheld || false)))) ≡ true → (in_bank && (not shown && (left || (withheld || unavailable i)))) ≡ true
+    by true false true withheld h = refl
+    by true false false true h = refl
+    by true false false false h = absurd (true≢false (sym h))
+    by true true left withheld h = absurd (true≢false (sym h))
+    by false shown left withheld h = absurd (true≢false (sym h))
+
 -- ---- a seat without items
-pub new_stands : (b : Tables) (plan : Plan) (s : ℕ) (seat : Seat) → seat.shown ≡ [] → seat.responses ≡ [] → seat.form ≡ None → Stands b plan s seat
-new_stands b plan s seat e f g =
+pub new_stands : (b : Tables) (plan : Plan) (s : ℕ) (seat : Seat) → seat.shown ≡ [] → seat.responses ≡ [] → seat.without ≡ None → seat.form ≡ None → Stands b plan s seat
+new_stands b plan s seat e f unlisted g =
     let none : length seat.shown ≡ 0 = ap (λ (xs : List ℕ). length xs) e in
     let neither : length seat.responses ≡ 0 = ap (λ (xs : List ℕ). length xs) f in
     let nothing : (k x : ℕ) → slice_get seat.shown k ≡ Some x → ⊥ = λ k x h. let w = before_end seat.shown k x h in omega arith in
@@ -60,8 +72,11 @@ new_stands b plan s seat e f g =
             in_range = λ k item response h q. absurd (nothing k item h);
             form_items = λ words h. absurd (no_words seat.form words g h);
             form_none = λ h. none;
-            form_some = λ h. g;
+            form_some = λ h n. g;
+            list_form = λ h. unlisted;
+            not_withheld = λ i h. absurd (true≢false (sym h ∙ ap (λ (xs : List ℕ). list_any (λ x. x == i) xs) e));
           };
+      no_list = unlisted;
       keeps = λ words theta h. absurd (no_words seat.form words g h);
     }
 
@@ -69,19 +84,21 @@ module _ (b : Tables) (plan : Plan) (s : ℕ) (seat : Seat) (stands : Stands b p
   is : IsSeat b plan seat
   is = stands.is_seat
 
-  -- ---- eligibility is drawn or set aside before the first item
-  pub aside_stands : length seat.shown ≡ 0 → Stands b plan s (record seat { aside = true })
-  aside_stands none =
+  -- ---- eligibility is set aside in a band
+  pub aside_stands : (flags : List Bool) → Stands b plan s (record seat { aside = flags })
+  aside_stands flags =
       record {
-        is_seat = record { items = stands.is_seat.items; once = stands.is_seat.once; few = stands.is_seat.few; responses = stands.is_seat.responses; in_range = stands.is_seat.in_range; form_items = stands.is_seat.form_items; form_none = stands.is_seat.form_none; form_some = stands.is_seat.form_some };
-        keeps = λ words theta h. absurd (no_words seat.form words (stands.is_seat.form_some none) h);
+        is_seat = record { items = stands.is_seat.items; once = stands.is_seat.once; few = stands.is_seat.few; responses = stands.is_seat.responses; in_range = stands.is_seat.in_range; form_items = stands.is_seat.form_items; form_none = stands.is_seat.form_none; form_some = stands.is_seat.form_some; list_form = stands.is_seat.list_form; not_withheld = stands.is_seat.not_withheld };
+        no_list = stands.no_list;
+        keeps = λ words theta h. let form = stands.keeps words theta h in record { meets = form.meets; holds_given = form.holds_given; holds_no_barred = form.holds_no_barred };
       }
 
   -- ---- closing changes no list
   pub closed_stands : Stands b plan s (record seat { closed = true })
   closed_stands =
       record {
-        is_seat = record { items = stands.is_seat.items; once = stands.is_seat.once; few = stands.is_seat.few; responses = stands.is_seat.responses; in_range = stands.is_seat.in_range; form_items = stands.is_seat.form_items; form_none = stands.is_seat.form_none; form_some = stands.is_seat.form_some };
+        is_seat = record { items = stands.is_seat.items; once = stands.is_seat.once; few = stands.is_seat.few; responses = stands.is_seat.responses; in_range = stands.is_seat.in_range; form_items = stands.is_seat.form_items; form_none = stands.is_seat.form_none; form_some = stands.is_seat.form_some; list_form = stands.is_seat.list_form; not_withheld = stands.is_seat.not_withheld };
+        no_list = stands.no_list;
         keeps = λ words theta h. let form = stands.keeps words theta h in record { meets = form.meets; holds_given = form.holds_given; holds_no_barred = form.holds_no_barred };
       }
 
@@ -107,7 +124,10 @@ module _ (b : Tables) (plan : Plan) (s : ℕ) (seat : Seat) (stands : Stands b p
               form_items = stands.is_seat.form_items;
               form_none = stands.is_seat.form_none;
               form_some = stands.is_seat.form_some;
+              list_form = stands.is_seat.list_form;
+              not_withheld = stands.is_seat.not_withheld;
             };
+        no_list = stands.no_list;
         keeps = λ words theta h. let form = stands.keeps words theta h in record { meets = form.meets; holds_given = form.holds_given; holds_no_barred = form.holds_no_barred };
       }
 
@@ -127,6 +147,23 @@ module _ (b : Tables) (plan : Plan) (s : ℕ) (seat : Seat) (stands : Stands b p
         elim (or_true (is_shown seat i) (list_any (λ x. x == i) (item ∷ [])) (sym (list_any-append (λ x. x == i) seat.shown (item ∷ [])) ∙ h)) [
           | inl old ↦ stands.is_seat.items i old
           | inr new ↦ elim (or_true (item == i) false new) [ inl same ↦ subst (λ (k : ℕ). k < size b) (eqb-true item i same) (form.meets.right_length.in_bank item held_and_fresh.0) | inr differs ↦ absurd (true≢false (sym differs)) ]
+        ]
+
+    -- an item that is withheld is barred, so no form holds it
+    item_allowed : is_withheld seat item ≡ false
+    item_allowed = elim (either (is_withheld seat item)) [
+      | inl withheld ↦
+          let in_bank : nat_lt item (size b) ≡ true = lt-ltb item (size b) (form.meets.right_length.in_bank item held_and_fresh.0) in
+          let may_not = or_right (is_of_stimulus_left_behind b seat item) _ (or_left (is_withheld seat item) (is_unavailable_in seat (band_of plan theta) item) withheld) in
+          absurd (true≢false (sym held_and_fresh.0 ∙ form.holds_no_barred item (both _ _ in_bank (both _ _ (ap not held_and_fresh.1) may_not))))
+      | inr allowed ↦ allowed
+    ]
+
+    shown_allowed : (i : ℕ) → list_any (λ x. x == i) (seat.shown ++ item ∷ []) ≡ true → is_withheld seat i ≡ false
+    shown_allowed i h =
+        elim (or_true (is_shown seat i) (list_any (λ x. x == i) (item ∷ [])) (sym (list_any-append (λ x. x == i) seat.shown (item ∷ [])) ∙ h)) [
+          | inl old ↦ stands.is_seat.not_withheld i old
+          | inr new ↦ elim (or_true (item == i) false new) [ inl same ↦ subst (λ (k : ℕ). is_withheld seat k ≡ false) (eqb-true item i same) item_allowed | inr differs ↦ absurd (true≢false (sym differs)) ]
         ]
 
     not_again : (j x : ℕ) → slice_get seat.shown j ≡ Some x → x ≡ item → ⊥
@@ -155,10 +192,14 @@ module _ (b : Tables) (plan : Plan) (s : ℕ) (seat : Seat) (stands : Stands b p
                     elim (old_or_new seat.shown item k x e) [ inl old ↦ stands.is_seat.in_range k x response old h | inr new ↦ absurd (omega (arith, new.0, within, answered)) ];
                 form_items = λ others e. subst (λ (ws : List ℕ). HoldsItems b (has ws)) (words_same words others e) form.meets.right_length.in_bank;
                 form_none = λ e. absurd (no_words (Some words) words e refl);
-                form_some = λ e. absurd (omega (arith, number, e));
+                form_some = λ e n. absurd (omega (arith, number, e));
+                list_form = λ e. absurd (no_words (Some words) words e refl);
+                not_withheld = shown_allowed;
               };
+          no_list = stands.no_list;
           keeps = λ others later e.
-              let stays = last_form_stays b plan s theta item 0 later seat words form next in
-              let here : Form (seat_problem b plan s (record seat { shown = seat.shown ++ item ∷ []; form = Some words; proved = proved }) later) (has words) = record { meets = stays.meets; holds_given = stays.holds_given; holds_no_barred = stays.holds_no_barred } in
-              subst (λ (ws : List ℕ). Form (seat_problem b plan s (record seat { shown = seat.shown ++ item ∷ []; form = Some words; proved = proved }) later) (has ws)) (words_same words others e) here;
+              let aside : Form (problem_aside b plan s seat theta) (has words) = record { meets = form.meets; holds_given = form.holds_given; holds_no_barred = λ i barred. form.holds_no_barred i (barred_more b seat (is_unavailable_in seat (band_of plan theta)) i barred) } in
+              let stays = form_stays_aside b plan s theta item 0 later seat words aside next in
+              let here : Form (problem_aside b plan s (record seat { shown = seat.shown ++ item ∷ []; form = Some words; proved = proved }) later) (has words) = record { meets = stays.meets; holds_given = stays.holds_given; holds_no_barred = stays.holds_no_barred } in
+              subst (λ (ws : List ℕ). Form (problem_aside b plan s (record seat { shown = seat.shown ++ item ∷ []; form = Some words; proved = proved }) later) (has ws)) (words_same words others e) here;
         }

@@ -3,7 +3,7 @@ use Rattle.std.proofs.Common.{◌≡◌, ℕ, Bool, true, false, cond, ◌&&◌,
 use Rattle.std.specs.List.{filter, filter_map, list_any, cons_option}
 use Rattle.history_model.specs.declared.entry.Entry.{Entry}
 use Rattle.history_model.specs.declared.entry.Entry.TheVariants.{Started, SetAside, Served, Answered, Closed}
-use Rattle.history_model.specs.Entries.{Serving, StepAnswer, session_of, serving_of, answer_of, sets_aside, closes, servings, step_answers, is_set_aside, is_closed}
+use Rattle.history_model.specs.Entries.{Serving, StepAnswer, session_of, serving_of, answer_of, sets_aside_in, closes, servings, step_answers, is_set_aside, is_closed}
 
 -- ---- one entry, for a session
 abbrev pub session_serving : ℕ → Entry → Option Serving
@@ -14,9 +14,9 @@ abbrev pub session_answer : ℕ → Entry → Option StepAnswer
 session_answer s (Answered session step response) = cond (session == s) (Some (record { step = step; response = response })) None
 session_answer s entry = None
 
-abbrev pub sets_session_aside : ℕ → Entry → Bool
-sets_session_aside s (SetAside session cause nodes) = session == s
-sets_session_aside s entry = false
+abbrev pub sets_session_aside : ℕ → ℕ → Entry → Bool
+sets_session_aside s band (SetAside session step at cause nodes) = (session == s) && (at == band)
+sets_session_aside s band entry = false
 
 abbrev pub closes_session : ℕ → Entry → Bool
 closes_session s (Closed session) = session == s
@@ -52,29 +52,29 @@ both true = refl
 both false = refl
 
 one_serving : (s : ℕ) (e : Entry) → session_serving s e ≡ cond (session_of e == s) (serving_of e) None
-one_serving s (Started session booking eligible) = neither (session == s)
-one_serving s (SetAside session cause nodes) = neither (session == s)
+one_serving s (Started session booking eligible without) = neither (session == s)
+one_serving s (SetAside session step band cause nodes) = neither (session == s)
 one_serving s (Served session step item form proved nodes) = refl
 one_serving s (Answered session step response) = neither (session == s)
 one_serving s (Closed session) = neither (session == s)
 
 one_answer : (s : ℕ) (e : Entry) → session_answer s e ≡ cond (session_of e == s) (answer_of e) None
-one_answer s (Started session booking eligible) = neither (session == s)
-one_answer s (SetAside session cause nodes) = neither (session == s)
+one_answer s (Started session booking eligible without) = neither (session == s)
+one_answer s (SetAside session step band cause nodes) = neither (session == s)
 one_answer s (Served session step item form proved nodes) = neither (session == s)
 one_answer s (Answered session step response) = refl
 one_answer s (Closed session) = neither (session == s)
 
-one_aside : (s : ℕ) (e : Entry) → sets_session_aside s e ≡ ((session_of e == s) && sets_aside e)
-one_aside s (Started session booking eligible) = not_both (session == s)
-one_aside s (SetAside session cause nodes) = both (session == s)
-one_aside s (Served session step item form proved nodes) = not_both (session == s)
-one_aside s (Answered session step response) = not_both (session == s)
-one_aside s (Closed session) = not_both (session == s)
+one_aside : (s band : ℕ) (e : Entry) → sets_session_aside s band e ≡ ((session_of e == s) && sets_aside_in band e)
+one_aside s band (Started session booking eligible without) = not_both (session == s)
+one_aside s band (SetAside session step at cause nodes) = refl
+one_aside s band (Served session step item form proved nodes) = not_both (session == s)
+one_aside s band (Answered session step response) = not_both (session == s)
+one_aside s band (Closed session) = not_both (session == s)
 
 one_closing : (s : ℕ) (e : Entry) → closes_session s e ≡ ((session_of e == s) && closes e)
-one_closing s (Started session booking eligible) = not_both (session == s)
-one_closing s (SetAside session cause nodes) = not_both (session == s)
+one_closing s (Started session booking eligible without) = not_both (session == s)
+one_closing s (SetAside session step band cause nodes) = not_both (session == s)
 one_closing s (Served session step item form proved nodes) = not_both (session == s)
 one_closing s (Answered session step response) = not_both (session == s)
 one_closing s (Closed session) = both (session == s)
@@ -85,8 +85,8 @@ servings_by H s = map_filter (λ e. session_of e == s) serving_of (session_servi
 pub answers_by : (H : List Entry) (s : ℕ) → step_answers H s ≡ filter_map (session_answer s) H
 answers_by H s = map_filter (λ e. session_of e == s) answer_of (session_answer s) (one_answer s) H
 
-pub aside_by : (H : List Entry) (s : ℕ) → is_set_aside H s ≡ list_any (sets_session_aside s) H
-aside_by H s = any_filter (λ e. session_of e == s) sets_aside (sets_session_aside s) (one_aside s) H
+pub aside_by : (H : List Entry) (s band : ℕ) → is_set_aside H s band ≡ list_any (sets_session_aside s band) H
+aside_by H s band = any_filter (λ e. session_of e == s) (sets_aside_in band) (sets_session_aside s band) (one_aside s band) H
 
 pub closed_by : (H : List Entry) (s : ℕ) → is_closed H s ≡ list_any (closes_session s) H
 closed_by H s = any_filter (λ e. session_of e == s) closes (closes_session s) (one_closing s) H

@@ -3,8 +3,8 @@ use Rattle.std.proofs.Common.{◌≡◌, ℕ, zero, suc, ◌+◌, ◌≤◌, ◌
 use Rattle.std.specs.Prelude.{nat_le, find}
 use Rattle.std.proofs.lemmas.Bool.{eqb-true, eq-eqb, leb-true, le-leb, cases_lt}
 use Rattle.std.proofs.Math.Bool.{true≢false}
-use Rattle.exam_model.specs.Plan.{Plan}
-use Rattle.exam_model.proofs.SumLaws.{either}
+use Rattle.form_model.specs.Plan.{Plan}
+use Rattle.form_model.proofs.SumLaws.{either}
 use Rattle.history_model.specs.declared.entry.Entry.{Entry}
 use Rattle.history_model.specs.declared.place.Place.{Place}
 use Rattle.history_model.specs.declared.place.Place.TheVariants.{Pending, Waiting, Complete, Closed}

@@ -8,7 +8,7 @@ use Rattle.std.proofs.lemmas.List.Elements.{filter_map-append}
 use Rattle.std.proofs.lemmas.List.Folds.{list_any-append}
 use Rattle.std.proofs.lemmas.List.Sums.{sum_by-append}
 use Rattle.bank_tables.specs.Tables.{Tables}
-use Rattle.exam_model.specs.Plan.{Plan}
+use Rattle.form_model.specs.Plan.{Plan}
 use Rattle.history_model.specs.declared.entry.Entry.{Entry}
 use Rattle.history_model.specs.declared.entry.Entry.TheVariants.{Started, SetAside, Served, Answered, Closed}
 use Rattle.history_model.specs.declared.place.Place.{Place}
@@ -86,8 +86,8 @@ not_over plan H s at complete is goes_on =
     subst GoesOn (sym same) goes_on
 
 not_closing : (b : Tables) (plan : Plan) (H : List Entry) (e : Entry) (s : ℕ) → Legal b plan H e → place plan H s ≡ Some Complete → closes_session s e ≡ false
-not_closing b plan H (Started session booking eligible) s legal complete = refl
-not_closing b plan H (SetAside session cause nodes) s legal complete = refl
+not_closing b plan H (Started session booking eligible without) s legal complete = refl
+not_closing b plan H (SetAside session step band cause nodes) s legal complete = refl
 not_closing b plan H (Served session step item form proved nodes) s legal complete = refl
 not_closing b plan H (Answered session step response) s legal complete = refl
 not_closing b plan H (Closed session) s legal complete = elim (cases_Bool (session == s)) [

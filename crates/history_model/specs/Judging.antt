@@ -8,16 +8,15 @@ use Rattle.history_model.specs.declared.entry.Cause.{Cause}
 use Rattle.history_model.specs.declared.entry.Cause.TheVariants.{NoForm as CauseNoForm, Spent}
 use Rattle.history_model.specs.declared.entry.Entry.{Entry}
 use Rattle.history_model.specs.declared.entry.Entry.TheVariants.{SetAside, Served}
-use Rattle.exam_model.specs.declared.verdict.Verdict.{Verdict}
-use Rattle.exam_model.specs.declared.verdict.Verdict.TheVariants.{Optimal, NoForm, Partial}
-use Rattle.exam_model.specs.Plan.{Plan}
-use Rattle.exam_model.specs.Problem.{Problem}
-use Rattle.exam_model.specs.Forms.{Form}
-use Rattle.exam_model.specs.Serving.{IsNext}
-use Rattle.exam_model.specs.ProofTrees.{ProofTree}
-use Rattle.exam_model.specs.Verdicts.{IsVerdict}
-use Rattle.exam_model.specs.Spending.{IsSpent}
-use Rattle.history_model.specs.Entries.{is_set_aside}
+use Rattle.certificate_model.specs.declared.verdict.Verdict.{Verdict}
+use Rattle.certificate_model.specs.declared.verdict.Verdict.TheVariants.{Optimal, NoForm, Partial}
+use Rattle.form_model.specs.Plan.{Plan, band_of}
+use Rattle.form_model.specs.Problem.{Problem}
+use Rattle.form_model.specs.Forms.{Form}
+use Rattle.serving_model.specs.Serving.{IsNext}
+use Rattle.certificate_model.specs.ProofTrees.{ProofTree}
+use Rattle.certificate_model.specs.Verdicts.{IsVerdict}
+use Rattle.certificate_model.specs.Spending.{IsSpent}
 use Rattle.history_model.specs.SessionProblems.{IsProblemOf}
 use Rattle.history_model.specs.Legality.{Legal}
 
@@ -61,21 +60,26 @@ HasVerdict P X (Some T) verdict = IsVerdict P X T verdict
 HasVerdict P X None verdict = ⊥
 
 -- the tree shows what is claimed: it is such a tree, and its verdict is the one asked for
-pub record Shows (P : Problem) (X : Option Set) (budget nodes : ℕ) (claim : Claim) (tree : Option ProofTree) : Type 0 where
+pub record Shows (P : Problem) (X : Option Set) (budget nodes : ℕ) (claim : Claim)
+    (tree : Option ProofTree) : Type 0 where
   pub has_tree : HasTree P budget nodes claim tree
   pub verdict : Verdict
   pub has_verdict : HasVerdict P X tree verdict
   pub asked : IsAsked claim verdict
 
--- eligibility is set aside once, before the first item, and the tree shows the cause
-pub record MaySetAside (b : Tables) (plan : Plan) (H : List Entry) (session : ℕ) (cause : Cause) (nodes : ℕ) (tree : Option ProofTree) : Type 0 where
+-- eligibility is set aside once in a band, which is that of the estimate, and the tree shows the
+-- cause
+pub record MaySetAside (b : Tables) (plan : Plan) (H : List Entry) (session step band : ℕ)
+    (cause : Cause) (nodes : ℕ) (tree : Option ProofTree) : Type 0 where
   pub problem : Problem
-  pub is_problem : IsProblemOf b plan H session 0 problem
-  pub not_aside : IsFalse (is_set_aside H session)
+  pub is_problem : IsProblemOf b plan H session step problem
+  pub band_is : band ≡ band_of plan problem.theta
+  pub not_aside : IsFalse problem.aside
   pub shows : Shows problem None plan.budget nodes (claim_of_cause cause) tree
 
 -- an item is served by the serving rule from a form, and the tree shows its mark
-pub record MayServe (b : Tables) (plan : Plan) (H : List Entry) (session step item : ℕ) (form : Set) (proved : Bool) (nodes : ℕ) (tree : Option ProofTree) : Type 0 where
+pub record MayServe (b : Tables) (plan : Plan) (H : List Entry) (session step item : ℕ) (form : Set)
+    (proved : Bool) (nodes : ℕ) (tree : Option ProofTree) : Type 0 where
   pub problem : Problem
   pub is_problem : IsProblemOf b plan H session step problem
   pub is_form : Form problem form
@@ -84,8 +88,10 @@ pub record MayServe (b : Tables) (plan : Plan) (H : List Entry) (session step it
 
 -- the entry, with a tree or none, may follow the history; only SetAside and Served have a tree
 abbrev pub MayFollow : Tables → Plan → List Entry → Entry → Option ProofTree → Type 0
-MayFollow b plan H (SetAside session cause nodes) tree = MaySetAside b plan H session cause nodes tree
-MayFollow b plan H (Served session step item form proved nodes) tree = MayServe b plan H session step item (has form) proved nodes tree
+MayFollow b plan H (SetAside session step band cause nodes) tree =
+    MaySetAside b plan H session step band cause nodes tree
+MayFollow b plan H (Served session step item form proved nodes) tree =
+    MayServe b plan H session step item (has form) proved nodes tree
 MayFollow b plan H entry tree = Legal b plan H entry × (tree ≡ None)
 
 pub record Record : Type 0 where
@@ -98,4 +104,5 @@ entries_of R = map (λ (r : Record). r.entry) R
 -- each record may follow the entries before it
 pub data Backed (b : Tables) (plan : Plan) : List Record → Type 0 where
   empty : Backed b plan []
-  more : (R : List Record) (r : Record) → Backed b plan R → MayFollow b plan (entries_of R) r.entry r.tree → Backed b plan (R ++ r ∷ [])
+  more : (R : List Record) (r : Record) → Backed b plan R
+      → MayFollow b plan (entries_of R) r.entry r.tree → Backed b plan (R ++ r ∷ [])

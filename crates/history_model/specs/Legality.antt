@@ -1,20 +1,22 @@
 -- Which entries may follow a history.
-use Rattle.std.specs.Prelude.{◌≡◌, ℕ, ◌<◌, Bool, List, [], ◌∷◌, ◌++◌, IsTrue, IsFalse, Some, None}
+use Rattle.std.specs.Prelude.{◌≡◌, ℕ, ◌<◌, Bool, List, [], ◌∷◌, ◌++◌, IsTrue, IsFalse, Option, Some, None}
 use Rattle.bank_tables.specs.Items.{Set, has}
 use Rattle.bank_tables.specs.Tables.{Tables, categories}
+use Rattle.history_model.specs.declared.entry.Bands.{Bands}
 use Rattle.history_model.specs.declared.entry.Cause.{Cause}
 use Rattle.history_model.specs.declared.entry.Cause.TheVariants.{NoForm, Spent}
 use Rattle.history_model.specs.declared.entry.Entry.{Entry}
+use Rattle.history_model.specs.declared.entry.Without.{Without}
 use Rattle.history_model.specs.declared.entry.Entry.TheVariants.{Started, SetAside, Served, Answered, Closed}
 use Rattle.history_model.specs.declared.place.Place.{Place}
 use Rattle.history_model.specs.declared.place.Place.TheVariants.{Pending, Waiting}
-use Rattle.exam_model.specs.Plan.{Plan}
-use Rattle.exam_model.specs.Problem.{Problem}
-use Rattle.exam_model.specs.Forms.{Form, Best, HasNoForm}
-use Rattle.exam_model.specs.Serving.{IsNext}
-use Rattle.history_model.specs.Entries.{sessions, holder, is_set_aside}
+use Rattle.form_model.specs.Plan.{Plan, band_of}
+use Rattle.form_model.specs.Problem.{Problem}
+use Rattle.form_model.specs.Forms.{Form, Best, HasNoForm}
+use Rattle.serving_model.specs.Serving.{IsNext}
+use Rattle.history_model.specs.Entries.{sessions, holder}
 use Rattle.history_model.specs.Places.{place}
-use Rattle.history_model.specs.Draws.{draw, SameItems}
+use Rattle.history_model.specs.Draws.{AreDrawn}
 use Rattle.history_model.specs.SessionProblems.{IsProblemOf}
 
 -- the number that the next session has, below the plan's limit
@@ -22,26 +24,33 @@ pub record IsNextNumber (plan : Plan) (H : List Entry) (session : ℕ) : Type 0 
   pub next : session ≡ sessions H
   pub within : session < plan.sessions
 
--- a session starts with the next number, for a booking that has none, with its draw
-pub record IsLegalStart (b : Tables) (plan : Plan) (H : List Entry) (session booking : ℕ) (eligible : Set) : Type 0 where
+-- a session starts with the next number, for a booking that has none, with its draw in each band
+-- and without a list
+pub record IsLegalStart (b : Tables) (plan : Plan) (H : List Entry) (session booking : ℕ)
+    (eligible : Bands) (without : Option Without) : Type 0 where
   pub number : IsNextNumber plan H session
   pub not_booked : holder H booking ≡ None
-  pub drawn : SameItems eligible (draw b plan H session)
+  pub drawn : AreDrawn b plan H session eligible
+  pub no_list : without ≡ None
 
 -- why eligibility may be set aside: no set is a form, or the node budget was spent
 abbrev pub IsLegalCause : Plan → Problem → Cause → ℕ → Type 0
 IsLegalCause plan P NoForm nodes = HasNoForm P
 IsLegalCause plan P Spent nodes = nodes ≡ plan.budget
 
--- eligibility is set aside once, before the first item
-pub record IsLegalAside (b : Tables) (plan : Plan) (H : List Entry) (session : ℕ) (cause : Cause) (nodes : ℕ) : Type 0 where
+-- eligibility is set aside once in a band, which is that of the estimate, before an item is served
+pub record IsLegalAside (b : Tables) (plan : Plan) (H : List Entry) (session step band : ℕ)
+    (cause : Cause) (nodes : ℕ) : Type 0 where
   pub problem : Problem
-  pub is_problem : IsProblemOf b plan H session 0 problem
-  pub not_aside : IsFalse (is_set_aside H session)
+  pub is_problem : IsProblemOf b plan H session step problem
+  pub band_is : band ≡ band_of plan problem.theta
+  pub not_aside : IsFalse problem.aside
   pub cause_holds : IsLegalCause plan problem cause nodes
 
--- an item is served by the serving rule from a form, which is best if it is marked proved; else the node budget was spent
-pub record IsLegalServing (b : Tables) (plan : Plan) (H : List Entry) (session step item : ℕ) (form : Set) (proved : Bool) (nodes : ℕ) : Type 0 where
+-- an item is served by the serving rule from a form, which is best if it is marked proved; else the
+-- node budget was spent
+pub record IsLegalServing (b : Tables) (plan : Plan) (H : List Entry) (session step item : ℕ)
+    (form : Set) (proved : Bool) (nodes : ℕ) : Type 0 where
   pub problem : Problem
   pub is_problem : IsProblemOf b plan H session step problem
   pub is_form : Form problem form
@@ -50,7 +59,8 @@ pub record IsLegalServing (b : Tables) (plan : Plan) (H : List Entry) (session s
   pub spent : IsFalse proved → nodes ≡ plan.budget
 
 -- the item of the step that waits is answered, by a response in the item's range
-pub record IsLegalAnswer (b : Tables) (plan : Plan) (H : List Entry) (session step response : ℕ) : Type 0 where
+pub record IsLegalAnswer (b : Tables) (plan : Plan) (H : List Entry)
+    (session step response : ℕ) : Type 0 where
   pub item : ℕ
   pub proved : Bool
   pub waiting : place plan H session ≡ Some (Waiting step item proved)
@@ -69,13 +79,17 @@ pub record IsLegalClosing (plan : Plan) (H : List Entry) (session : ℕ) : Type 
   pub goes_on : GoesOn at
 
 abbrev pub Legal : Tables → Plan → List Entry → Entry → Type 0
-Legal b plan H (Started session booking eligible) = IsLegalStart b plan H session booking (has eligible)
-Legal b plan H (SetAside session cause nodes) = IsLegalAside b plan H session cause nodes
-Legal b plan H (Served session step item form proved nodes) = IsLegalServing b plan H session step item (has form) proved nodes
+Legal b plan H (Started session booking eligible without) =
+    IsLegalStart b plan H session booking eligible without
+Legal b plan H (SetAside session step band cause nodes) =
+    IsLegalAside b plan H session step band cause nodes
+Legal b plan H (Served session step item form proved nodes) =
+    IsLegalServing b plan H session step item (has form) proved nodes
 Legal b plan H (Answered session step response) = IsLegalAnswer b plan H session step response
 Legal b plan H (Closed session) = IsLegalClosing plan H session
 
 -- each entry is legal after the entries before it
 pub data LegalRun (b : Tables) (plan : Plan) : List Entry → Type 0 where
   empty : LegalRun b plan []
-  more : (H : List Entry) (entry : Entry) → LegalRun b plan H → Legal b plan H entry → LegalRun b plan (H ++ entry ∷ [])
+  more : (H : List Entry) (entry : Entry) → LegalRun b plan H → Legal b plan H entry
+      → LegalRun b plan (H ++ entry ∷ [])

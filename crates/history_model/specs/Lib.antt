@@ -5,9 +5,11 @@ pub mod Draws
 pub mod SessionProblems
 pub mod Legality
 pub mod Judging
+pub mod Lifting
 pub mod Reasons
 pub mod Refusals
 pub mod Requests
 pub mod Halting
 pub mod Summaries
+pub mod Words
 pub mod Laws

@@ -3,7 +3,7 @@ use Rattle.std.specs.Prelude.{ℕ, Bool, true, false, not, ◌==◌, List, lengt
 use Rattle.history_model.specs.declared.entry.Entry.{Entry}
 use Rattle.history_model.specs.declared.place.Place.{Place}
 use Rattle.history_model.specs.declared.place.Place.TheVariants.{Pending, Waiting, Complete, Closed}
-use Rattle.exam_model.specs.Plan.{Plan}
+use Rattle.form_model.specs.Plan.{Plan}
 use Rattle.history_model.specs.Entries.{Serving, is_started, is_closed, servings, step_answers}
 
 -- the Served entry of a step
@@ -15,8 +15,8 @@ abbrev pub place_at : ℕ → Option Serving → Place
 place_at step (Some serving) = Waiting step serving.item serving.proved
 place_at step None = Pending step
 
--- none where the session isn't started; closed after its Closed entry; else complete after as many answers as the test
--- has items; else at the step that has the number of the answers so far
+-- none where the session isn't started; closed after its Closed entry; else complete after as many
+-- answers as the test has items; else at the step that has the number of the answers so far
 abbrev pub place : Plan → List Entry → ℕ → Option Place
 place plan H s =
     if not (is_started H s) then None

@@ -1,7 +1,7 @@
 -- Why a request is refused.
 use Rattle.std.specs.Prelude.{ℕ, List, slice_get, nat_le, nat_lt, ◌==◌, if◌then◌else◌, Option, Some, None}
 use Rattle.bank_tables.specs.Tables.{Tables, categories}
-use Rattle.exam_model.specs.Plan.{Plan}
+use Rattle.form_model.specs.Plan.{Plan}
 use Rattle.history_model.specs.declared.entry.Entry.{Entry}
 use Rattle.history_model.specs.declared.place.Place.{Place}
 use Rattle.history_model.specs.declared.place.Place.TheVariants.{Pending, Waiting}
@@ -12,27 +12,33 @@ use Rattle.history_model.specs.declared.request.Request.TheVariants.{Begin, Answ
 use Rattle.history_model.specs.Entries.{sessions, holder, responses}
 use Rattle.history_model.specs.Places.{place}
 
--- the response that is recorded for a step, if there is one: along a legal run the k-th response is that of step k
+-- the response that is recorded for a step, if there is one: along a legal run the k-th response is
+-- that of step k
 abbrev pub recorded : List Entry → ℕ → ℕ → Option ℕ
 recorded H s step = slice_get (responses H s) step
 
 -- a booking without a session: no more sessions are allowed
 abbrev pub refusal_of_new : Plan → List Entry → Option ℕ → Option Refusal
 refusal_of_new plan H (Some session) = None
-refusal_of_new plan H None = if nat_le plan.sessions (sessions H) then Some (SessionsFull (sessions H)) else None
+refusal_of_new plan H None =
+    if nat_le plan.sessions (sessions H) then Some (SessionsFull (sessions H)) else None
 
 -- an answer to a step that isn't answered: the session has ended or is at another step, or the item
 -- has no such response
 abbrev pub refusal_at : Tables → ℕ → ℕ → Place → Option Refusal
 refusal_at b step response (Pending at) = Some (WrongStep at)
 refusal_at b step response (Waiting at item proved) =
-    if at == step then (if nat_lt response (categories b item) then None else Some (BadResponse (categories b item))) else Some (WrongStep at)
+    if at == step
+    then (if nat_lt response (categories b item) then None
+    else Some (BadResponse (categories b item)))
+    else Some (WrongStep at)
 refusal_at b step response ended = Some (IsClosed ended)
 
 -- an answer to a session at this place: the step has another response, or the answer is refused
 -- there
 abbrev pub refusal_of_answer : Tables → ℕ → ℕ → Place → Option ℕ → Option Refusal
-refusal_of_answer b step response at (Some given) = if given == response then None else Some (Other given)
+refusal_of_answer b step response at (Some given) =
+    if given == response then None else Some (Other given)
 refusal_of_answer b step response at None = refusal_at b step response at
 
 -- closing a session at this place: it has ended
@@ -49,8 +55,8 @@ in_session H (Some at) refusal_where = refusal_where at
 -- the first reason why a request is refused
 abbrev pub refusal_of : Tables → Plan → List Entry → Request → Option Refusal
 refusal_of b plan H (Begin booking) = refusal_of_new plan H (holder H booking)
-refusal_of b plan H (Answer session step response) =
-    in_session H (place plan H session) (λ at. refusal_of_answer b step response at (recorded H session step))
+refusal_of b plan H (Answer session step response) = in_session H (place plan H session)
+    (λ at. refusal_of_answer b step response at (recorded H session step))
 refusal_of b plan H (Close session) = in_session H (place plan H session) refusal_of_closing
 refusal_of b plan H (Look session) = in_session H (place plan H session) (λ at. None)
 refusal_of b plan H Exposure = None

@@ -1,6 +1,6 @@
 -- What a history comes down to in numbers.
 use Rattle.std.specs.Prelude.{ℕ, Bool, false, not, List, length, count_by, sum_by}
-use Rattle.exam_model.specs.Plan.{Plan}
+use Rattle.form_model.specs.Plan.{Plan}
 use Rattle.history_model.specs.declared.entry.Entry.{Entry}
 use Rattle.history_model.specs.declared.entry.Entry.TheVariants.{SetAside, Served}
 use Rattle.history_model.specs.declared.summary.Summary.{Summary}
@@ -19,7 +19,7 @@ serves_unproved entry = false
 
 -- the number of nodes of the entry's tree, if it has one
 abbrev pub nodes_of : Entry → ℕ
-nodes_of (SetAside session cause nodes) = nodes
+nodes_of (SetAside session step band cause nodes) = nodes
 nodes_of (Served session step item form proved nodes) = nodes
 nodes_of entry = 0
 

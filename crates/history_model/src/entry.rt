@@ -11,18 +11,41 @@ pub enum Cause {
     Spent,
 }
 
+/// The items that are eligible for a session, in each band of abilities of the plan.
+#[derive(Clone, Copy, Debug, PartialEq, Eq)]
+pub struct Bands {
+    /// The number of bands, 1 to 8.
+    pub count: u8,
+    /// The set of each band. A set past the last band is empty.
+    pub sets: [ItemSet; 8],
+}
+
+/// The items that an examinee must not get, as those of earlier sittings.
+#[derive(Clone, Copy, Debug, PartialEq, Eq)]
+pub struct Without {
+    /// The items.
+    pub items: ItemSet,
+    /// A form without them, which shows that there is one.
+    pub form: ItemSet,
+}
+
 /// One atomic step of an examination. Sessions and steps are counted from 0.
 #[derive(Clone, Copy, Debug, PartialEq, Eq)]
 pub enum Entry {
-    /// A session was started for a booking, with its draw of eligible items.
+    /// A session was started for a booking, with its draw of eligible items in each band, and the list of items that the
+    /// examinee must not get, if there is one. No rule lets a session with a list start yet.
     Started {
         session: u32,
         booking: u64,
-        eligible: ItemSet,
+        eligible: Bands,
+        without: Option<Without>,
     },
-    /// Eligibility was set aside for a session; `nodes` is the size of the tree that shows why.
+    /// Eligibility was set aside for a session in the band of its estimate at a step; `nodes` is the size of the tree that
+    /// shows why.
     SetAside {
         session: u32,
+        step: u16,
+        band: u8,
         cause: Cause,
         nodes: u16,
     },

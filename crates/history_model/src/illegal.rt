@@ -1,7 +1,8 @@
 //! Why a record may not follow a history.
 
 use crate::place::Place;
-use exam_model::{Breach, Verdict};
+use certificate_model::Verdict;
+use form_model::Breach;
 
 /// The first reason, in this order, that holds for the record's kind.
 #[derive(Clone, Copy, Debug, PartialEq, Eq)]
@@ -10,14 +11,21 @@ pub enum Illegal {
     NotNumber(u32),
     /// The booking has this session.
     Booked(u32),
-    /// The eligible set isn't the draw; the lowest item at which they differ.
+    /// The eligible sets aren't the draws: 0 where there isn't one for each band of the plan, else the lowest item at which
+    /// the set of some band and its draw differ.
     NotDrawn(u16),
+    /// There is a list of items that the examinee must not get. No rule lets a session with a list start yet.
+    HasList,
     /// There is no such session; the number of sessions.
     NoSession(u32),
-    /// The session doesn't wait for an item at this step; its place.
+    /// The session doesn't wait for an item, or an item is served at another step than that of the session; its place.
     NotPending(Place),
-    /// Eligibility was set aside before.
+    /// Eligibility was set aside before in the band of the estimate.
     IsAside,
+    /// Eligibility is to be set aside at another step than that of the session; the session's step.
+    NotStep(u16),
+    /// It is to be set aside in another band than that of the estimate; the band of the estimate.
+    NotBand(u8),
     /// The set of items is no form of the session's problem; its first breach.
     NotForm(Breach),
     /// The item isn't the next item of the form; that item.

@@ -1,6 +1,7 @@
 //! What the definitions imply, for every bank, plan, history and record.
 
-ghost use Rattle.history_model.specs.Laws.{MayIsLegal, BackedIsLegalRun, OneProblem, OneReason, NoReasonIfMay, EachIsLegal, SessionsAreNumbered, SessionsAreFew, FinishedAreFew, StepsAreInOrder, SeatBeforeStart, SeatGoesOn, SeatIsSeat, EligibleIsOfBank, PlaceIsOfSeat, PendingIsOfSeat, CountsGoOn, FinishedGoesOn, LastFormStays, CompleteMeets, FormOnceAside, FormWhereAside, HolderStays, ResponseStays, ClosedStays, SessionsGrow, BeginningIsLegal, CompleteStays, ProblemStays, SameProblem, EachMayFollow};
+ghost use Rattle.history_model.specs.Lifting.{LiftedMayFollow};
+ghost use Rattle.history_model.specs.Laws.{MayIsLegal, BackedIsLegalRun, OneProblem, OneReason, NoReasonIfMay, EachIsLegal, SessionsAreNumbered, SessionsAreFew, FinishedAreFew, StepsAreInOrder, SeatBeforeStart, SeatGoesOn, SeatIsSeat, EligibleIsOfBank, OnlyBandsOfPlan, AsideIsOfEstimate, PlaceIsOfSeat, PendingIsOfSeat, CountsGoOn, BandCountsGoOn, VisitedGoesOn, FinishedGoesOn, OneBandIsAll, LastFormStays, LastFormStaysInBand, CompleteMeets, FormOnceAside, FormWhereAside, HolderStays, ResponseStays, ClosedStays, SessionsGrow, BeginningIsLegal, CompleteStays, ProblemStays, SameProblem, EachMayFollow};
 
 /// What may follow, by its tree, is legal: a form marked proved is best, and eligibility is set aside for the stated cause.
 pub fn may_is_legal()
@@ -73,6 +74,16 @@ pub fn eligible_is_of_bank()
     ensures { EligibleIsOfBank }
 {}
 
+/// In a band that the plan hasn't no item is eligible, and eligibility isn't set aside.
+pub fn only_bands_of_plan()
+    ensures { OnlyBandsOfPlan }
+{}
+
+/// Eligibility is set aside at the step that the session has come to, in the band of the estimate at that step.
+pub fn aside_is_of_estimate()
+    ensures { AsideIsOfEstimate }
+{}
+
 /// The place of a session of a legal run is that of its seat.
 pub fn place_is_of_seat()
     ensures { PlaceIsOfSeat }
@@ -88,14 +99,35 @@ pub fn counts_go_on()
     ensures { CountsGoOn }
 {}
 
+/// So it is in each band.
+pub fn band_counts_go_on()
+    ensures { BandCountsGoOn }
+{}
+
+/// So it is with the number of finished sessions that visited a band.
+pub fn visited_goes_on()
+    ensures { VisitedGoesOn }
+{}
+
 /// So it is with the number of finished sessions.
 pub fn finished_goes_on()
     ensures { FinishedGoesOn }
 {}
 
-/// The form last served from stays a form of the session's problem: so a session that has begun never lacks one.
+/// Without points there is one band, and the counts there are those in all.
+pub fn one_band_is_all()
+    ensures { OneBandIsAll }
+{}
+
+/// The form last served from stays a form of the problem that the session has once eligibility is
+/// set aside in the band of its estimate: so a session that has begun never lacks one then.
 pub fn last_form_stays()
     ensures { LastFormStays }
+{}
+
+/// It stays a form of the session's problem as it is, where the estimate is in the band of the step before.
+pub fn last_form_stays_in_band()
+    ensures { LastFormStaysInBand }
 {}
 
 /// The items shown in a complete session of a legal run meet the plan.
@@ -103,13 +135,13 @@ pub fn complete_meets()
     ensures { CompleteMeets }
 {}
 
-/// With eligibility set aside, the form last served from is a form of the session's problem; before the first item, each
-/// set that meets the plan is one.
+/// With eligibility set aside in the band of the estimate, the form last served from is a form of the session's problem;
+/// before the first item, each set that meets the plan is one.
 pub fn form_once_aside()
     ensures { FormOnceAside }
 {}
 
-/// So a session for which eligibility is set aside never lacks a form.
+/// So a session for which eligibility is set aside in the band of its estimate never lacks a form.
 pub fn form_where_aside()
     ensures { FormWhereAside }
 {}
@@ -144,8 +176,8 @@ pub fn complete_stays()
     ensures { CompleteStays }
 {}
 
-/// While a session waits for the item of one step, with eligibility set aside or not as before, its problem stays the same,
-/// whatever is done in other sessions.
+/// While a session waits for the item of one step, with eligibility set aside or not as before in the band of its estimate,
+/// its problem stays the same, whatever is done in other sessions.
 pub fn problem_stays()
     ensures { ProblemStays }
 {}
@@ -158,4 +190,9 @@ pub fn same_problem()
 /// Each record of a backed run may follow those before it.
 pub fn each_may_follow()
     ensures { EachMayFollow }
+{}
+
+/// A record of the first version of the journal that is lifted may follow wherever the old one may.
+pub fn lifted_may_follow()
+    ensures { LiftedMayFollow }
 {}

@@ -20,7 +20,7 @@ pub enum Refusal {
     /// The session has ended; its place.
     IsClosed(Place),
     /// The session doesn't wait for the item that was assembled; its place, and whether eligibility
-    /// is set aside.
+    /// is set aside in the band of its estimate.
     Stale(Place, bool),
     /// No more sessions are allowed; their number.
     SessionsFull(u32),

@@ -3,8 +3,8 @@
 
 use crate::trials::{Question, Setting, Trial, holds};
 use crate::worked::{Line, Shape};
+use certificate_model::{Reason, Verdict};
 use constraint_model::Breach;
-use exam_model::{Reason, Verdict};
 use exam_session::{Illegal, Place};
 use history_model::Counts;
 
@@ -24,7 +24,10 @@ const SERVED: &[Line] = &[
 ];
 
 /// Session 0 is started, and eligibility is set aside.
-const ASIDE: &[Line] = &[Line::Started(0, 70, EACH), Line::SetAside(0)];
+const ASIDE: &[Line] = &[
+    Line::Started(0, 70, EACH),
+    Line::SetAside(0, (0, 0), Shape::Open),
+];
 
 /// Session 0 is started and closed.
 const OVER: &[Line] = &[Line::Started(0, 70, EACH), Line::Closed(0)];
@@ -60,6 +63,16 @@ const AFTER_START: &[Question] = &[
     Question::Reason(Line::Started(1, 70, EACH), Some(Illegal::Booked(0))),
     Question::Reason(Line::Started(1, 71, 0x37), Some(Illegal::NotDrawn(3))),
     Question::Reason(Line::Started(1, 71, 0x7f), Some(Illegal::NotDrawn(6))),
+    // A set for each of two bands, where the plan has one; a list.
+    Question::Reason(
+        Line::StartedInTwo(1, 71, [EACH, EACH]),
+        Some(Illegal::NotDrawn(0)),
+    ),
+    Question::Reason(
+        Line::StartedWithout(1, 71, 0x37, 1),
+        Some(Illegal::NotDrawn(3)),
+    ),
+    Question::Reason(Line::StartedWithout(1, 71, EACH, 1), Some(Illegal::HasList)),
     // A serving. Of the items 0, 1 and 2 two are of the row that needs exactly one of 0 and 1.
     Question::Reason(
         Line::Served(0, (0, 2), 0x07, Shape::FirstBest),
@@ -105,12 +118,18 @@ const AFTER_SERVING: &[Question] = &[
 
 /// The last question is about a second setting aside.
 const AFTER_SETTING_ASIDE: &[Question] = &[
-    Question::Reason(Line::SetAside(1), Some(Illegal::NoSession(1))),
+    Question::Reason(
+        Line::SetAside(1, (0, 0), Shape::Open),
+        Some(Illegal::NoSession(1)),
+    ),
     Question::Reason(
         Line::Served(0, (1, 2), 0x0e, Shape::FirstBest),
         Some(Illegal::NotPending(Place::Pending(0))),
     ),
-    Question::Reason(Line::SetAside(0), Some(Illegal::IsAside)),
+    Question::Reason(
+        Line::SetAside(0, (0, 0), Shape::Open),
+        Some(Illegal::IsAside),
+    ),
 ];
 
 #[test]

@@ -1,9 +1,9 @@
 //! The draw of eligible items: the inequality at its edge, and the words of ChaCha20 with the key of zeros.
 
 use crate::equal::is_equal;
-use eligibility_draw::{admits, draw};
-use exam_model::Rate;
+use eligibility_draw::{admits, draw, draw_band};
 use exposure_counters::Counters;
+use form_model::Rate;
 use history_model::Counts;
 use std::alloc::Global;
 use std::process::Abort;
@@ -71,4 +71,26 @@ fn a_draw_at_one_half(rt: HostRuntime) {
     let counters = four_sessions(&rt, rt.alloc());
     let eligible = draw(&[0; 32], Rate { num: 1, den: 2 }, 0, &counters);
     is_equal(&rt, &eligible, &set_of(&[3, 5]));
+}
+
+/// The words at the places 512 to 517 and 3,584 to 3,589 of that stream are a3df42f9, 391ab472, f2bbab0e, 433d3896, 61ae6684,
+/// 8105b505 and 41f2aea2, 0de6ec85, 52e8a7ae, 48d37fed, 3cc05ccf, fad9b5a0 (OpenSSL's chacha20 with block counters 32 and
+/// 224).
+const ONE_HALF_IN_BANDS: [(u8, &[u16]); 3] = [(0, &[3, 5]), (1, &[1, 3, 4]), (7, &[0, 1, 2, 3, 4])];
+
+fn is_drawn<R: Abort>(rt: &R, counters: &Counters, band: u8, items: &[u16]) {
+    if band < 8 {
+        let eligible = draw_band(&[0; 32], Rate { num: 1, den: 2 }, 0, band, counters);
+        is_equal(rt, &eligible, &set_of(items));
+    } else {
+        panic!(rt; "no band");
+    }
+}
+
+#[test]
+fn draws_in_bands(rt: HostRuntime) {
+    let counters = four_sessions(&rt, rt.alloc());
+    for (band, items) in &ONE_HALF_IN_BANDS {
+        is_drawn(&rt, &counters, *band, items);
+    }
 }

@@ -1,10 +1,13 @@
-//! The payloads of records: the worked ones, read and written again, and each fault that they can have at its place.
+//! The payloads of records in the first version of the journal: the worked ones, read and written again, and each fault that they can have at its place.
 
+ghost use Rattle.std.specs.Prelude.{IsTrue};
+ghost use Rattle.std.specs.Option.{option_copied};
 ghost use Rattle.exam_records.specs.Shape.{GoesWith};
 
 use crate::equal::is_equal;
-use crate::worked::{FIRST_BEST, Line, Shape, entry_of, tree_bytes};
-use exam_records::{Record, RecordFault, decode, encode};
+use crate::worked::{FIRST_BEST, Line, Shape, entry_of, record, tree_bytes};
+use exam_records::{Entry, Record, RecordFault, decode_old, encode_old, encode_old_parts};
+use proof_tree::Tree;
 use std::alloc::Global;
 use std::process::Abort;
 
@@ -48,8 +51,21 @@ fn has_tree<R: Abort>(rt: &R, alloc: Global, rec: &Record, bytes: &[u8]) {
 fn is_spelled<R: Abort>(rt: &R, alloc: Global, rec: &Record, bytes: &[u8])
     requires { GoesWith rec.now.entry rec.now.tree }
 {
-    let found = encode(alloc, rec).expect(rt, "a payload");
+    let found = encode_old(alloc, 0, rec).expect(rt, "a payload");
     is_equal(rt, &found.as_slice(), &bytes);
+}
+
+/// The tree goes with the entry.
+fn goes_with(entry: &Entry, tree: Option<&Tree>) -> bool
+    ensures { IsTrue result → GoesWith entry.now (option_copied tree.entry) }
+{
+    match (entry, tree) {
+        (Entry::SetAside { nodes, .. } | Entry::Served { nodes, .. }, Some(tree)) => {
+            usize::from(*nodes) == tree.nodes().len()
+        }
+        (Entry::SetAside { .. } | Entry::Served { .. }, None) => false,
+        (_, tree) => tree.is_none(),
+    }
 }
 
 /// The record has the entry and the tree of this line, and is spelled with these bytes.
@@ -63,7 +79,7 @@ fn shows<R: Abort>(rt: &R, alloc: Global, rec: &Record, line: &Line, bytes: &[u8
 
 /// The bytes are read as the record of this line, and the record is spelled with them.
 fn reads<R: Abort>(rt: &R, alloc: Global, bytes: &[u8], line: &Line) {
-    match decode(alloc, bytes) {
+    match decode_old(alloc, bytes) {
         Ok(rec) => shows(rt, alloc, &rec, line, bytes),
         Err(_) => panic!(rt; "no record"),
     }
@@ -93,6 +109,39 @@ fn worked_records(rt: HostRuntime) {
     }
 }
 
+/// A record and the band whose set is written, with its payload.
+const KEPT: [(Line, u8, Parts); 3] = [
+    (Line::StartedInTwo(0, 70, [0x3f, 0x31]), 0, &[STARTED, REST]),
+    (Line::StartedInTwo(0, 70, [0x31, 0x3f]), 1, &[STARTED, REST]),
+    // Neither the step nor the band is written.
+    (
+        Line::SetAside(0, (1, 1), Shape::Open),
+        1,
+        &[&[2, 0, 0, 0, 0, 1, 0, 1, 0, 7]],
+    ),
+];
+
+fn is_kept<R: Abort>(rt: &R, alloc: Global, line: &Line, first: u8, parts: Parts) {
+    let rec = record(rt, alloc, line);
+    if first < 8 {
+        let entry = &rec.entry;
+        let tree = rec.tree.as_ref();
+        if goes_with(entry, tree) {
+            let found = encode_old_parts(alloc, first, entry, tree).expect(rt, "a payload");
+            is_equal(rt, &found.as_slice(), &joined(rt, alloc, parts).as_slice());
+            return;
+        }
+    }
+    panic!(rt; "no record");
+}
+
+#[test]
+fn kept_of_two_bands(rt: HostRuntime) {
+    for (line, first, parts) in &KEPT {
+        is_kept(&rt, rt.alloc(), line, *first, parts);
+    }
+}
+
 /// Payloads, each with its fault.
 const FAULTS: [(Parts, RecordFault); 6] = [
     (&[], RecordFault::Short),
@@ -112,7 +161,7 @@ const FAULTS: [(Parts, RecordFault); 6] = [
 
 fn has_fault<R: Abort>(rt: &R, alloc: Global, parts: Parts, fault: RecordFault) {
     let bytes = joined(rt, alloc, parts);
-    is_equal(rt, &decode(alloc, &bytes).err(), &Some(fault));
+    is_equal(rt, &decode_old(alloc, &bytes).err(), &Some(fault));
 }
 
 #[test]

@@ -1,16 +1,17 @@
 //! Books, the records that they take, and questions about them.
 
-ghost use Rattle.exam_model.specs.Validity.{IsPlanFor};
+ghost use Rattle.form_model.specs.Validity.{IsPlanFor};
 
 use crate::equal::is_equal;
-use crate::worked::{Line, Shape, items_of, record};
-use bank_tables::{Bank, Short};
+use crate::worked::{Line, Shape, items_of, record, sets_of};
+use bank_tables::{Bank, List, Short};
 use constraint_model::{Draft, Spec};
-use exam_model::Seat;
 use exam_records::Record;
 use exam_session::{Book, Counters, Illegal, Place};
+use form_model::Rate;
 use history_model::Counts;
 use history_model::laws::may_is_legal;
+use serving_model::Seat;
 use std::alloc::Global;
 use std::process::Abort;
 use trial_cases::{bank_a, draft_a, draft_of, item, rows_of};
@@ -21,6 +22,13 @@ pub(crate) enum Setting {
     /// Bank A and its worked plan, in which each item is always eligible. A step has this budget of
     /// nodes.
     Worked(u32),
+    /// Bank A with other log-likelihoods of response 1 to item 5, which speak for the third point. The worked plan
+    /// with two bands, of which the second begins at that point; of 65,535 sessions one is to see an item. A step has a
+    /// budget of one node.
+    TwoBands,
+    /// Three items, of which response 1 to one of the first two moves the estimate from the first point to the second; a
+    /// test of two items, with a band for each point; else as before.
+    BandOfPoints,
     /// A bank of one item, and a test of it for so many sessions. Each session is started, served
     /// its item and answered.
     One(u32),
@@ -44,6 +52,10 @@ pub(crate) enum Question {
     Seat(u32, [u16; 2], u16, u8, u8),
     /// The exposure counts of an item; None where there is no such item.
     Exposure(u16, Option<Counts>),
+    /// In a band the number of finished sessions that visited it, and alpha and eps of the first items.
+    Band(u8, u32, &'static [(u32, u32)]),
+    /// Whether eligibility is set aside for a session in the band of its estimate.
+    IsAside(u32, bool),
 }
 
 /// The records that a book takes, and what it is asked then.
@@ -109,6 +121,28 @@ fn counts_of(counters: &Counters, item: u16) -> Option<Counts> {
     }
 }
 
+/// The counters have so many sessions, and these counts of the first items.
+fn has_counts<R: Abort>(rt: &R, counters: &Counters, visited: u32, counts: &[(u32, u32)]) {
+    is_equal(rt, &counters.finished(), &visited);
+    let mut item = 0;
+    for (alpha, eps) in counts {
+        let counts = Counts {
+            alpha: *alpha,
+            eps: *eps,
+        };
+        is_equal(rt, &counts_of(counters, item), &Some(counts));
+        item = item.saturating_add(1);
+    }
+}
+
+fn has_band<R: Abort>(rt: &R, book: &Book, band: u8, visited: u32, counts: &[(u32, u32)]) {
+    if usize::from(band) < book.spec().bands().len() + 1 {
+        has_counts(rt, book.band_counters(band), visited, counts);
+    } else {
+        panic!(rt; "no band");
+    }
+}
+
 /// A short list of these numbers.
 fn short(numbers: &[u16]) -> Short {
     let mut list = Short::empty();
@@ -124,8 +158,9 @@ fn seat_of(shown: &[u16], response: u16, eligible: u8, form: u8) -> Seat {
     Seat {
         shown: short(shown),
         responses: short(&[response]),
-        eligible: items_of(eligible),
-        aside: false,
+        eligible: sets_of([eligible, 0]),
+        aside: [false; 8],
+        without: None,
         form: Some(items_of(form)),
         proved: true,
         closed: false,
@@ -161,6 +196,8 @@ fn answers<R: Abort>(rt: &R, alloc: Global, book: &Book, question: &Question) {
         Question::Exposure(item, counts) => {
             is_equal(rt, &counts_of(book.counters(), *item), counts);
         }
+        Question::Band(band, visited, counts) => has_band(rt, book, *band, *visited, counts),
+        Question::IsAside(session, aside) => is_equal(rt, &book.is_aside(*session), aside),
     }
 }
 
@@ -209,9 +246,41 @@ fn bank_of_one<R: Abort>(rt: &R, alloc: Global) -> Bank {
     Bank::of(alloc, rows_of(1, 0, items)).expect(rt, "a bank")
 }
 
+/// A bank of items without stimulus, by their information and log-likelihoods.
+fn bank_of_items<R: Abort>(rt: &R, alloc: Global, grid: u32, lines: &[(&[u32], &[i32])]) -> Bank {
+    let mut items = Vec::new(alloc);
+    for (info, loglik) in lines {
+        let made = item(alloc, 0, &[], info, loglik).expect(rt, "an item");
+        items.push(made).expect(rt, "items");
+    }
+    Bank::of(alloc, rows_of(grid, 0, items)).expect(rt, "a bank")
+}
+
+/// The same log-likelihood of each response at each of three points.
+const FLAT: &[i32] = &[-7, -7, -7, -7, -7, -7];
+
+/// Bank A, with other log-likelihoods of response 1 to item 5.
+const LINES_OF_TWO_BANDS: &[(&[u32], &[i32])] = &[
+    (&[9, 5, 1], FLAT),
+    (&[7, 8, 2], FLAT),
+    (&[4, 9, 3], &[-7, -7, -7, -30, -15, -1]),
+    (&[2, 6, 8], FLAT),
+    (&[1, 4, 9], &[0, -1, -20, -7, -7, -7]),
+    (&[3, 7, 5], &[-7, -7, -7, -30, -15, -1]),
+];
+
+/// Three items and two points.
+const LINES_OF_POINTS: &[(&[u32], &[i32])] = &[
+    (&[9, 1], &[-1, -1, -9, -1]),
+    (&[8, 5], &[-1, -1, -9, -1]),
+    (&[7, 4], &[-1, -1, -1, -1]),
+];
+
 fn bank_for<R: Abort>(rt: &R, alloc: Global, setting: Setting) -> Bank {
     match setting {
         Setting::Worked(_) => bank_a(alloc).expect(rt, "bank A"),
+        Setting::TwoBands => bank_of_items(rt, alloc, 3, LINES_OF_TWO_BANDS),
+        Setting::BandOfPoints => bank_of_items(rt, alloc, 2, LINES_OF_POINTS),
         Setting::One(_) => bank_of_one(rt, alloc),
     }
 }
@@ -219,6 +288,23 @@ fn bank_for<R: Abort>(rt: &R, alloc: Global, setting: Setting) -> Bank {
 fn worked_draft<R: Abort>(rt: &R, alloc: Global, budget: u32) -> Draft {
     let mut draft = draft_a(alloc).expect(rt, "a draft");
     draft.budget = budget;
+    draft
+}
+
+/// A test of two items, with a budget of one node.
+fn draft_of_points<R: Abort>(rt: &R, alloc: Global) -> Draft {
+    let mut draft = draft_of(alloc, 2, &[0, -1], &[], &[]).expect(rt, "a draft");
+    draft.budget = 1;
+    draft
+}
+
+/// The draft with two bands, of which the second begins at a point. Of 65,535 sessions one is to see an item.
+fn in_bands<R: Abort>(rt: &R, alloc: Global, mut draft: Draft, point: u8) -> Draft {
+    draft.bands = List::of([point].to_vec(alloc).expect(rt, "bands"));
+    draft.rate = Rate {
+        num: 1,
+        den: 65_535,
+    };
     draft
 }
 
@@ -232,6 +318,8 @@ fn draft_of_one<R: Abort>(rt: &R, alloc: Global, sessions: u32) -> Draft {
 fn draft_for<R: Abort>(rt: &R, alloc: Global, setting: Setting) -> Draft {
     match setting {
         Setting::Worked(budget) => worked_draft(rt, alloc, budget),
+        Setting::TwoBands => in_bands(rt, alloc, worked_draft(rt, alloc, 1), 2),
+        Setting::BandOfPoints => in_bands(rt, alloc, draft_of_points(rt, alloc), 1),
         Setting::One(sessions) => draft_of_one(rt, alloc, sessions),
     }
 }

@@ -1,7 +1,7 @@
 //! The worked examination over bank A: what its records are made of.
 
 use bank_tables::ItemSet;
-use exam_records::{Cause, Entry, Record};
+use exam_records::{Bands, Cause, Entry, Record, Without};
 use proof_tree::{Tree, decode};
 use std::alloc::Global;
 use std::process::Abort;
@@ -22,6 +22,12 @@ const TOO_HIGH: &[u8] = &[1, 0, 1, 0, 3, 0, 0, 0x10, 0, 3, 0];
 /// A tree of one node, Whole: there is one set of as many items as the test has.
 const WHOLE: &[u8] = &[0, 6];
 
+/// A tree of one node, Count of the length: fewer items are left than the test has.
+const COUNT: &[u8] = &[0, 5, 0];
+
+/// A tree of one node, Bound with no multipliers: the form has the best items that are left.
+const PLAIN: &[u8] = &[1, 0, 0, 3, 0];
+
 /// The tree of a record.
 #[derive(Clone, Copy)]
 pub(crate) enum Shape {
@@ -31,6 +37,8 @@ pub(crate) enum Shape {
     SecondBest,
     TooHigh,
     Whole,
+    Count,
+    Plain,
 }
 
 /// Its bytes; none where there is no tree.
@@ -42,16 +50,23 @@ fn bytes_of(shape: Shape) -> &'static [u8] {
         Shape::SecondBest => SECOND_BEST,
         Shape::TooHigh => TOO_HIGH,
         Shape::Whole => WHOLE,
+        Shape::Count => COUNT,
+        Shape::Plain => PLAIN,
     }
 }
 
 /// A record, as a test writes it. A set of items is given as bits, of which the lowest is item 0.
 #[derive(Clone, Copy)]
 pub(crate) enum Line {
-    /// A session starts for a booking, with these eligible items.
+    /// A session starts for a booking, with these eligible items in the one band.
     Started(u32, u64, u8),
-    /// Eligibility is set aside since a budget of one node was spent on an Open tree.
-    SetAside(u32),
+    /// The same in each of two bands.
+    StartedInTwo(u32, u64, [u8; 2]),
+    /// The same in one band, with a list of items that the examinee must not get.
+    StartedWithout(u32, u64, u8, u8),
+    /// At a step eligibility is set aside in a band, since there is no form, or with an Open tree since a budget of one node
+    /// was spent.
+    SetAside(u32, (u16, u8), Shape),
     /// At a step an item is served from a form, which is marked proved by a tree of one node.
     Served(u32, (u16, u16), u8, Shape),
     /// A step is answered with a response. The entry is to have no tree.
@@ -70,17 +85,54 @@ pub(crate) fn items_of(bits: u8) -> ItemSet {
     items
 }
 
+/// The sets of eight bands, with these items in the first two and none in the others.
+pub(crate) fn sets_of([first, second]: [u8; 2]) -> [ItemSet; 8] {
+    let mut sets = [ItemSet::empty(); 8];
+    sets[0] = items_of(first);
+    sets[1] = items_of(second);
+    sets
+}
+
+/// So many bands, with these items in the first two.
+fn bands_of(count: u8, items: [u8; 2]) -> Bands {
+    Bands {
+        count,
+        sets: sets_of(items),
+    }
+}
+
 /// Its entry.
 pub(crate) fn entry_of(line: &Line) -> Entry {
     match *line {
         Line::Started(session, booking, eligible) => Entry::Started {
             session,
             booking,
-            eligible: items_of(eligible),
+            eligible: bands_of(1, [eligible, 0]),
+            without: None,
         },
-        Line::SetAside(session) => Entry::SetAside {
+        Line::StartedInTwo(session, booking, eligible) => Entry::Started {
             session,
-            cause: Cause::Spent,
+            booking,
+            eligible: bands_of(2, eligible),
+            without: None,
+        },
+        Line::StartedWithout(session, booking, eligible, items) => Entry::Started {
+            session,
+            booking,
+            eligible: bands_of(1, [eligible, 0]),
+            without: Some(Without {
+                items: items_of(items),
+                form: items_of(0x0e),
+            }),
+        },
+        Line::SetAside(session, (step, band), shape) => Entry::SetAside {
+            session,
+            step,
+            band,
+            cause: match shape {
+                Shape::Open => Cause::Spent,
+                _ => Cause::NoForm,
+            },
             nodes: 1,
         },
         Line::Served(session, (step, item), form, _) => Entry::Served {
@@ -103,7 +155,7 @@ pub(crate) fn entry_of(line: &Line) -> Entry {
 /// The bytes of its tree; none where there is no tree.
 pub(crate) fn tree_bytes(line: &Line) -> &'static [u8] {
     let shape = match *line {
-        Line::SetAside(_) => Shape::Open,
+        Line::SetAside(_, _, shape) => shape,
         Line::Served(_, _, _, shape) => shape,
         Line::Answered(_, _, shape) => shape,
         _ => Shape::NoTree,

@@ -118,6 +118,8 @@ impl Disk for HostDisk {
 
     ghost accounts = { λ d. [] };
 
+    ghost aside = { λ d. [] };
+
     ghost faults = { λ d. count_of (faults_of d) };
 
     ghost identity = { λ d. 0 };

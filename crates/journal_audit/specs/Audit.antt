@@ -1,7 +1,7 @@
 -- What an audit finds.
 use Rattle.std.specs.Prelude.{◌≡◌, ℕ, List}
 use Rattle.bank_tables.specs.Tables.{Tables}
-use Rattle.exam_model.specs.Plan.{Plan}
+use Rattle.form_model.specs.Plan.{Plan}
 use Rattle.history_model.specs.declared.entry.Entry.{Entry}
 use Rattle.history_model.specs.declared.request.Exposure.{Exposure}
 use Rattle.history_model.specs.declared.summary.Summary.{Summary}

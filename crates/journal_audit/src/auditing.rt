@@ -1,7 +1,7 @@
 //! The audit of a journal.
 
 ghost use Rattle.std.specs.Prelude.{◌≡◌, ◌≤◌, Some, IsTrue, IfOk, IfErr};
-ghost use Rattle.exam_model.specs.Validity.{IsPlanFor};
+ghost use Rattle.form_model.specs.Validity.{IsPlanFor};
 ghost use Rattle.exam_edge.specs.Faults.{Rose};
 ghost use Rattle.exam_edge.specs.Lent.{IsLent};
 ghost use Rattle.exam_edge.specs.Images.{AtEachMoment, IsImage, IsSettled, latest};

@@ -5,10 +5,10 @@ use Rattle.std.proofs.Math.Path.{fun_ext}
 use Rattle.bank_tables.specs.Items.{Set}
 use Rattle.bank_tables.specs.Sums.{any_below}
 use Rattle.bank_tables.specs.Tables.{size, stimulus}
-use Rattle.exam_model.specs.Forms.{used}
-use Rattle.exam_model.specs.Problem.{Problem}
-use Rattle.exam_model.specs.Paths.{Path, root, is_free, is_chosen, is_open, with_item, with_stimulus}
-use Rattle.exam_model.proofs.SumLaws.{either}
+use Rattle.form_model.specs.Forms.{used}
+use Rattle.form_model.specs.Problem.{Problem}
+use Rattle.certificate_model.specs.Paths.{Path, root, is_free, is_chosen, is_open, with_item, with_stimulus}
+use Rattle.form_model.proofs.SumLaws.{either}
 use Rattle.lagrange_bound.proofs.Used.{same_truth, used_by, used_from, used_with, used_without, used_dropped}
 
 swapped : (a b : Bool) → (a && not b) ≡ (not b && a)

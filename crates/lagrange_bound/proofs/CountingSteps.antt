@@ -7,15 +7,15 @@ use Rattle.std.proofs.lemmas.Bool.{lt-ltb, le-ltb, cases_lt}
 use Rattle.bank_tables.specs.Items.{Set, has}
 use Rattle.bank_tables.specs.Sums.{greatest_below}
 use Rattle.bank_tables.specs.Tables.{size}
-use Rattle.exam_model.specs.declared.row.Row.{Row}
-use Rattle.exam_model.specs.declared.row.StimulusBound.{StimulusBound}
-use Rattle.exam_model.specs.Forms.{activity, lower_bound, upper_bound, items_of, stimuli_of, size_in}
-use Rattle.exam_model.specs.Plan.{row_at, bound_at}
-use Rattle.exam_model.specs.Problem.{Problem}
-use Rattle.exam_model.specs.Paths.{Path, is_free, is_chosen}
-use Rattle.exam_model.specs.Counting.{taken_or_free, chosen_or_open, length_impossible, row_impossible, stimulus_impossible, is_impossible, IsFirstImpossible}
-use Rattle.exam_model.proofs.SumLaws.{or_left, or_right}
-use Rattle.exam_model.proofs.Greatest.{count_in-split}
+use Rattle.form_model.specs.declared.row.Row.{Row}
+use Rattle.form_model.specs.declared.row.StimulusBound.{StimulusBound}
+use Rattle.form_model.specs.Forms.{activity, lower_bound, upper_bound, items_of, stimuli_of, size_in}
+use Rattle.form_model.specs.Plan.{row_at, bound_at}
+use Rattle.form_model.specs.Problem.{Problem}
+use Rattle.certificate_model.specs.Paths.{Path, is_free, is_chosen}
+use Rattle.certificate_model.specs.Counting.{taken_or_free, chosen_or_open, length_impossible, row_impossible, stimulus_impossible, is_impossible, IsFirstImpossible}
+use Rattle.form_model.proofs.SumLaws.{or_left, or_right}
+use Rattle.certificate_model.proofs.Greatest.{count_in-split}
 use Rattle.lagrange_bound.specs.declared.cut.Cut.{Cut}
 use Rattle.lagrange_bound.specs.Counted.{IsFirstWhere, IsWanted}
 use Rattle.lagrange_bound.specs.Cuts.{IsCutOf}

@@ -6,9 +6,9 @@ use Rattle.std.proofs.lemmas.Bool.{and_parts, and_from, lt-ltb, le-ltb, cases_lt
 use Rattle.std.proofs.Math.Bool.{true≢false}
 use Rattle.bank_tables.specs.Items.{Set}
 use Rattle.bank_tables.specs.Sums.{count_in, sum_in_z, total_z}
-use Rattle.exam_model.proofs.SumLaws.{either, or_true, or_false}
-use Rattle.exam_model.proofs.Greatest.{count_in-split, rest_of}
-use Rattle.exam_model.specs.Ranges.{IsWithin, at}
+use Rattle.form_model.proofs.SumLaws.{either, or_true, or_false}
+use Rattle.certificate_model.proofs.Greatest.{count_in-split, rest_of}
+use Rattle.certificate_model.specs.Ranges.{IsWithin, at}
 use Rattle.lagrange_bound.specs.Ranges.{item_top}
 use Rattle.lagrange_bound.specs.Fills.{at_least, above, excess, no_weight}
 use Rattle.lagrange_bound.proofs.Used.{not_true}

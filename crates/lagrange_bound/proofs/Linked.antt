@@ -8,13 +8,13 @@ use Rattle.std.proofs.lemmas.List.{get_or-set_same, get_or-set_other}
 use Rattle.bank_tables.specs.Items.{Set, has}
 use Rattle.bank_tables.specs.Sums.{sum_in_z}
 use Rattle.bank_tables.specs.Tables.{Tables, size, stimulus}
-use Rattle.exam_model.specs.ProofTrees.{IsVector}
-use Rattle.exam_model.specs.Problem.{Problem}
-use Rattle.exam_model.specs.Paths.{Path, is_free}
-use Rattle.exam_model.specs.Ranges.{IsWithin, at}
-use Rattle.exam_model.specs.Relaxed.{Multipliers, multiplier, names, cap, excess_over, is_linked, link_multiplier}
-use Rattle.exam_model.specs.Weights.{price, item_weight}
-use Rattle.exam_model.proofs.SumLaws.{either}
+use Rattle.certificate_model.specs.ProofTrees.{IsVector}
+use Rattle.form_model.specs.Problem.{Problem}
+use Rattle.certificate_model.specs.Paths.{Path, is_free}
+use Rattle.certificate_model.specs.Ranges.{IsWithin, at}
+use Rattle.certificate_model.specs.Relaxed.{Multipliers, multiplier, names, cap, excess_over, is_linked, link_multiplier}
+use Rattle.certificate_model.specs.Weights.{price, item_weight}
+use Rattle.form_model.proofs.SumLaws.{either}
 use Rattle.lagrange_bound.specs.declared.cut.Cut.{Cut}
 use Rattle.lagrange_bound.specs.Cuts.{IsCutOf}
 use Rattle.lagrange_bound.specs.Links.{is_linked_on, link_on, excess_on}

@@ -5,15 +5,15 @@ use Rattle.std.specs.Int.{int_max}
 use Rattle.bank_tables.specs.Items.{Set, has}
 use Rattle.bank_tables.specs.Sums.{sum_in_z, total_z}
 use Rattle.bank_tables.specs.Tables.{size, stimulus}
-use Rattle.exam_model.specs.Forms.{size_in, stimuli_of}
-use Rattle.exam_model.specs.Problem.{Problem}
-use Rattle.exam_model.specs.Paths.{Path, is_free, is_chosen}
-use Rattle.exam_model.specs.Ranges.{at}
-use Rattle.exam_model.specs.Relaxed.{Multipliers, multiplier, cap, link_multiplier, IsRelaxedMaximum}
-use Rattle.exam_model.specs.ClosedForm.{capped_weight, excess_of_items, IsGreatestFill, stimulus_gain}
-use Rattle.exam_model.specs.Weights.{item_weight, stimulus_weight, rows_constant}
-use Rattle.exam_model.proofs.ClosedFormLaws.{closed_form_is}
-use Rattle.exam_model.proofs.Reduced.{total_z-same}
+use Rattle.form_model.specs.Forms.{size_in, stimuli_of}
+use Rattle.form_model.specs.Problem.{Problem}
+use Rattle.certificate_model.specs.Paths.{Path, is_free, is_chosen}
+use Rattle.certificate_model.specs.Ranges.{at}
+use Rattle.certificate_model.specs.Relaxed.{Multipliers, multiplier, cap, link_multiplier, IsRelaxedMaximum}
+use Rattle.certificate_model.specs.ClosedForm.{capped_weight, excess_of_items, IsGreatestFill, stimulus_gain}
+use Rattle.certificate_model.specs.Weights.{item_weight, stimulus_weight, rows_constant}
+use Rattle.certificate_model.proofs.ClosedFormLaws.{closed_form_is}
+use Rattle.certificate_model.proofs.Reduced.{total_z-same}
 use Rattle.lagrange_bound.specs.declared.cut.Cut.{Cut}
 use Rattle.lagrange_bound.specs.Cuts.{IsCutOf}
 use Rattle.lagrange_bound.specs.Fills.{no_weight, IsSumOfGreatest}

@@ -2,8 +2,8 @@
 use Rattle.std.proofs.Common.{◌≡◌, ◌≢◌, ℕ, zero, suc, ◌+◌, ◌-◌, ◌<◌, ◌≤◌, List, [], ◌∷◌, length, drop, get_or, set, cond, ◌==◌, inl, inr, refl, sym, ap, ◌∙◌, arith, drop-cons}
 use Rattle.std.proofs.lemmas.List.{get_or-set_same, get_or-set_other}
 use Rattle.std.proofs.lemmas.Bool.Decides.{eqb_tells}
-use Rattle.exam_model.specs.ProofTrees.{IsVector}
-use Rattle.exam_model.specs.Relaxed.{Multipliers, multiplier}
+use Rattle.certificate_model.specs.ProofTrees.{IsVector}
+use Rattle.certificate_model.specs.Relaxed.{Multipliers, multiplier}
 
 pub at_most : (v : Multipliers) (from k : ℕ) (d : ℕ × ℕ) → IsVector from v → k < length v → (get_or v k d).1 ≤ 16777216
 at_most [] from k d is w = absurd (omega arith)

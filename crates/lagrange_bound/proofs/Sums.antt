@@ -3,16 +3,16 @@ use Rattle.std.proofs.Common.{◌≡◌, ℕ, suc, ◌+◌, ◌*◌, ◌<◌, �
 use Rattle.std.specs.Prelude.{ℤ, pos, negsuc, ◌+ℤ◌, ◌-ℤ◌, ◌*ℤ◌}
 use Rattle.std.proofs.lemmas.Int.{ints}
 use Rattle.std.proofs.lemmas.List.{get_or_read_under}
-use Rattle.exam_model.specs.declared.row.Row.{Row}
+use Rattle.form_model.specs.declared.row.Row.{Row}
 use Rattle.bank_tables.specs.Items.{has}
 use Rattle.bank_tables.specs.Sums.{total_z}
 use Rattle.bank_tables.specs.Tables.{Tables}
 use Rattle.bank_tables.specs.Validity.{IsBank}
-use Rattle.exam_model.specs.declared.row.Row.TheVariants.{Count, Quantity, Enemies, Stimuli}
-use Rattle.exam_model.specs.Weights.{item_activity}
-use Rattle.exam_model.specs.Plan.{Plan, no_row, row_at}
-use Rattle.exam_model.proofs.SumLaws.{either}
-use Rattle.exam_model.specs.Ranges.{IsWithin}
+use Rattle.form_model.specs.declared.row.Row.TheVariants.{Count, Quantity, Enemies, Stimuli}
+use Rattle.certificate_model.specs.Weights.{item_activity}
+use Rattle.form_model.specs.Plan.{Plan, no_row, row_at}
+use Rattle.form_model.proofs.SumLaws.{either}
+use Rattle.certificate_model.specs.Ranges.{IsWithin}
 
 pub read_back : (m : ℕ) (z : ℤ) → m ≤ 9223372036854775807 → IsWithin m z → to_z w64 (of_z w64 z) ≡ z
 read_back m z few w = omega (arith, ints)

@@ -2,8 +2,8 @@
 use Rattle.std.proofs.Common.{◌≡◌, ℕ, zero, suc, ◌<◌, ◌≤◌, Bool, false, cond, List, inl, inr, refl, sym, ap, ◌∙◌, arith}
 use Rattle.std.specs.Prelude.{ℤ, pos, neg_ℤ, ◌+ℤ◌, ◌≤ℤ◌, ◌<ℤ◌, int_le, int_lt}
 use Rattle.std.proofs.lemmas.Int.{ints}
-use Rattle.exam_model.proofs.SumLaws.{either}
-use Rattle.exam_model.specs.Ranges.{at}
+use Rattle.form_model.proofs.SumLaws.{either}
+use Rattle.certificate_model.specs.Ranges.{at}
 use Rattle.lagrange_bound.specs.Ranges.{item_top}
 use Rattle.lagrange_bound.specs.Fills.{at_least, above, IsThreshold}
 

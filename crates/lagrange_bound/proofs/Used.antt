@@ -4,8 +4,8 @@ use Rattle.std.proofs.lemmas.Bool.{and_parts, and_from, eqb-true, eq-eqb, ne_eqb
 use Rattle.std.proofs.Math.Bool.{true≢false}
 use Rattle.bank_tables.specs.Items.{Set}
 use Rattle.bank_tables.specs.Tables.{Tables, size, stimulus}
-use Rattle.exam_model.specs.Forms.{used}
-use Rattle.exam_model.proofs.SumLaws.{or_true, or_left, or_right, any_intro, any_elim}
+use Rattle.form_model.specs.Forms.{used}
+use Rattle.form_model.proofs.SumLaws.{or_true, or_left, or_right, any_intro, any_elim}
 
 pub same_truth : (a b : Bool) → (a ≡ true → b ≡ true) → (b ≡ true → a ≡ true) → a ≡ b
 same_truth true true h k = refl

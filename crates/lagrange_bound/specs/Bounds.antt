@@ -1,11 +1,11 @@
 -- Bounds on the forms of a path.
 use Rattle.std.specs.Prelude.{◌*◌, Bool, true, false, IsTrue, ℤ, pos, ◌≤ℤ◌, Option, Some, None}
 use Rattle.bank_tables.specs.Items.{Set}
-use Rattle.exam_model.specs.Problem.{Problem}
-use Rattle.exam_model.specs.Forms.{objective}
-use Rattle.exam_model.specs.Paths.{Path, Under}
-use Rattle.exam_model.specs.Relaxed.{Multipliers, IsRelaxedMaximum}
-use Rattle.exam_model.specs.Counting.{length_impossible}
+use Rattle.form_model.specs.Problem.{Problem}
+use Rattle.form_model.specs.Forms.{objective}
+use Rattle.certificate_model.specs.Paths.{Path, Under}
+use Rattle.certificate_model.specs.Relaxed.{Multipliers, IsRelaxedMaximum}
+use Rattle.certificate_model.specs.Counting.{length_impossible}
 
 -- the number is the relaxed maximum; there is none exactly where the length is impossible by counting
 abbrev pub IsBound : Problem → Path → Multipliers → Bool → Option ℤ → Type 0

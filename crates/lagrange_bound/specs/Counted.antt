@@ -1,10 +1,10 @@
 -- What counting finds on a path.
 use Rattle.std.specs.Prelude.{◌≡◌, ℕ, ◌+◌, ◌<◌, ◌≤◌, true, false, IsTrue, IsFalse, Option, Some, None}
 use Rattle.bank_tables.specs.Items.{Set}
-use Rattle.exam_model.specs.Problem.{Problem}
-use Rattle.exam_model.specs.Paths.{Path, is_free}
-use Rattle.exam_model.specs.Forms.{size_in}
-use Rattle.exam_model.specs.Counting.{length_impossible}
+use Rattle.form_model.specs.Problem.{Problem}
+use Rattle.certificate_model.specs.Paths.{Path, is_free}
+use Rattle.form_model.specs.Forms.{size_in}
+use Rattle.certificate_model.specs.Counting.{length_impossible}
 
 -- so many free items fill the test, and there are as many; or the length is impossible by counting
 abbrev pub IsWanted : Problem → Path → Option ℕ → Type 0

@@ -1,8 +1,8 @@
 -- The state of a path of branches.
 use Rattle.std.specs.Prelude.{◌≡◌}
 use Rattle.bank_tables.specs.Items.{has}
-use Rattle.exam_model.specs.Problem.{Problem}
-use Rattle.exam_model.specs.Paths.{Path, is_free, is_chosen, is_open}
+use Rattle.form_model.specs.Problem.{Problem}
+use Rattle.certificate_model.specs.Paths.{Path, is_free, is_chosen, is_open}
 use Rattle.lagrange_bound.specs.declared.cut.Cut.{Cut}
 
 -- the cut has the items that are taken, out and free on the path, and the stimuli that are chosen

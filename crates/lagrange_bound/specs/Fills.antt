@@ -1,7 +1,7 @@
 -- The sum of the k greatest of n numbers, by a threshold.
 use Rattle.std.specs.Prelude.{◌≡◌, ℕ, ◌≤◌, true, cond, List, ℤ, pos, neg_ℤ, ◌+ℤ◌, ◌-ℤ◌, ◌*ℤ◌, ◌≤ℤ◌, int_le, int_lt}
 use Rattle.bank_tables.specs.Sums.{count_in, total_z}
-use Rattle.exam_model.specs.Ranges.{at}
+use Rattle.certificate_model.specs.Ranges.{at}
 use Rattle.lagrange_bound.specs.Ranges.{item_top}
 
 -- how many of the first n numbers are t or more, and how many are more

@@ -4,10 +4,10 @@ use Rattle.std.specs.Int.{int_max}
 use Rattle.bank_tables.specs.Items.{Set, has}
 use Rattle.bank_tables.specs.Sums.{sum_in_z}
 use Rattle.bank_tables.specs.Tables.{Tables, size, stimulus}
-use Rattle.exam_model.specs.Problem.{Problem}
-use Rattle.exam_model.specs.Ranges.{at}
-use Rattle.exam_model.specs.Relaxed.{excess_over}
-use Rattle.exam_model.specs.Weights.{stimulus_weight}
+use Rattle.form_model.specs.Problem.{Problem}
+use Rattle.certificate_model.specs.Ranges.{at}
+use Rattle.certificate_model.specs.Relaxed.{excess_over}
+use Rattle.certificate_model.specs.Weights.{stimulus_weight}
 use Rattle.lagrange_bound.specs.declared.cut.Cut.{Cut}
 
 -- a free item of an open stimulus

@@ -1,8 +1,8 @@
 -- The reduced weight of an item in two parts.
 use Rattle.std.specs.Prelude.{ℕ, Bool, ℤ, pos, ◌+ℤ◌}
 use Rattle.bank_tables.specs.Tables.{stimulus}
-use Rattle.exam_model.specs.Problem.{Problem}
-use Rattle.exam_model.specs.Weights.{weight, price_of_stimulus}
+use Rattle.form_model.specs.Problem.{Problem}
+use Rattle.certificate_model.specs.Weights.{weight, price_of_stimulus}
 
 -- the reduced weight of an item without the rows
 abbrev pub own_weight : Problem → (ℕ → ℕ) → Bool → ℕ → ℤ

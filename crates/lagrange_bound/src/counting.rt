@@ -3,11 +3,11 @@
 ghost use Rattle.std.specs.Prelude.{◌≡◌, ℕ, suc, ◌+◌, ◌<◌, ◌≤◌, length, nat_lt, slice_index, true, ◌&&◌, ◌||◌};
 ghost use Rattle.bank_tables.specs.Items.{has};
 ghost use Rattle.bank_tables.specs.Tables.{stimulus};
-ghost use Rattle.exam_model.specs.Paths.{Path};
-ghost use Rattle.exam_model.specs.Plan.{row_at};
-ghost use Rattle.exam_model.specs.Forms.{activity, items_of, lower_bound, size_in, stimuli_of, upper_bound};
-ghost use Rattle.exam_model.specs.Counting.{row_impossible, stimulus_impossible, IsFirstImpossible};
-ghost use Rattle.exam_model.specs.Validity.{IsRow, IsWellMade};
+ghost use Rattle.certificate_model.specs.Paths.{Path};
+ghost use Rattle.form_model.specs.Plan.{row_at};
+ghost use Rattle.form_model.specs.Forms.{activity, items_of, lower_bound, size_in, stimuli_of, upper_bound};
+ghost use Rattle.certificate_model.specs.Counting.{row_impossible, stimulus_impossible, IsFirstImpossible};
+ghost use Rattle.form_model.specs.Validity.{IsRow, IsWellMade};
 ghost use Rattle.constraint_model.specs.Views.{problem_of};
 ghost use Rattle.lagrange_bound.specs.Cuts.{IsCut, IsCutOf};
 ghost use Rattle.lagrange_bound.specs.Counted.{IsFirstWhere, IsWanted};

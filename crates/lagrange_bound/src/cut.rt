@@ -2,9 +2,9 @@
 
 ghost use Rattle.std.specs.Prelude.{IsTrue, true, false};
 ghost use Rattle.bank_tables.specs.Items.{has};
-ghost use Rattle.exam_model.specs.Paths.{Path, root, with_item, with_stimulus};
-ghost use Rattle.exam_model.specs.Problem.{Problem as ProblemOf};
-ghost use Rattle.exam_model.specs.Validity.{IsWellMade};
+ghost use Rattle.certificate_model.specs.Paths.{Path, root, with_item, with_stimulus};
+ghost use Rattle.form_model.specs.Problem.{Problem as ProblemOf};
+ghost use Rattle.form_model.specs.Validity.{IsWellMade};
 ghost use Rattle.constraint_model.specs.Views.{problem_of};
 ghost use Rattle.lagrange_bound.specs.Cuts.{IsCut, IsCutOf};
 

@@ -4,15 +4,16 @@ ghost use Rattle.std.specs.Prelude.{◌≡◌, ℕ, ◌==◌, ◌<◌, ◌≤◌
 ghost use Rattle.std.specs.Option.{ForSome};
 ghost use Rattle.bank_tables.specs.Sums.{sum_in_z};
 ghost use Rattle.bank_tables.specs.Tables.{size, stimulus};
-ghost use Rattle.exam_model.specs.ProofTrees.{IsVector};
-ghost use Rattle.exam_model.specs.Ranges.{AreMultipliers, IsWithin, at};
-ghost use Rattle.exam_model.specs.Relaxed.{Multipliers, cap, excess_over, multiplier};
+ghost use Rattle.certificate_model.specs.ProofTrees.{IsVector};
+ghost use Rattle.certificate_model.specs.Ranges.{AreMultipliers, IsWithin, at};
+ghost use Rattle.certificate_model.specs.Relaxed.{Multipliers, cap, excess_over, multiplier};
 ghost use Rattle.lagrange_bound.specs.Links.{excess_on, is_linked_on, link_on};
 ghost use Rattle.lagrange_bound.specs.Ranges.{excess_top, excesses_top, item_top};
 
 use crate::cut::Cut;
 use crate::weights::raise;
 use bank_tables::Bank;
+use bank_tables::sides::{CAP_HIGH, CAP_LOW};
 use constraint_model::prices::price;
 
 /// The cap of a vector, by the multipliers of its sides; None where it names neither side of the cap.
@@ -22,10 +23,10 @@ pub fn cap_of(sides: &[u32; 386]) -> Option<i64>
         result ≡ cap v }
     ensures within { IfSome result (IsWithin 16777216) }
 {
-    if sides[384] == 0 && sides[385] == 0 {
+    if sides[CAP_LOW as usize] == 0 && sides[CAP_HIGH as usize] == 0 {
         return None;
     }
-    Some(price(sides, 384))
+    Some(price(sides, CAP_LOW as usize))
 }
 
 /// How far a weight is above the cap.

@@ -2,11 +2,11 @@
 
 ghost use Rattle.std.specs.Prelude.{◌≡◌, ◌*◌, ◌<◌, All, length, pos, slice_index, ◌*ℤ◌};
 ghost use Rattle.bank_tables.specs.Sums.{total_z};
-ghost use Rattle.exam_model.specs.ProofTrees.{IsVector};
-ghost use Rattle.exam_model.specs.Ranges.{AreMultipliers, IsWithin};
-ghost use Rattle.exam_model.specs.Relaxed.{multiplier};
-ghost use Rattle.exam_model.specs.Validity.{IsWellMade};
-ghost use Rattle.exam_model.specs.Weights.{rows_constant, stimulus_activity, stimulus_share};
+ghost use Rattle.certificate_model.specs.ProofTrees.{IsVector};
+ghost use Rattle.certificate_model.specs.Ranges.{AreMultipliers, IsWithin};
+ghost use Rattle.certificate_model.specs.Relaxed.{multiplier};
+ghost use Rattle.form_model.specs.Validity.{IsWellMade};
+ghost use Rattle.certificate_model.specs.Weights.{rows_constant, stimulus_activity, stimulus_share};
 ghost use Rattle.constraint_model.specs.Views.{problem_of};
 ghost use Rattle.lagrange_bound.specs.Ranges.{bounds_top};
 

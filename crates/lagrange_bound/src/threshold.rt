@@ -3,7 +3,7 @@
 ghost use Rattle.std.specs.Prelude.{◌≡◌, ℕ, ◌+◌, ◌*◌, ◌<◌, ◌≤◌, pos, neg_ℤ, ◌+ℤ◌, ◌-ℤ◌, ◌*ℤ◌, ◌≤ℤ◌};
 ghost use Rattle.bank_tables.specs.Sums.{total_z};
 ghost use Rattle.lagrange_bound.specs.Fills.{at_least, excess, IsThreshold, IsSumOfGreatest};
-ghost use Rattle.exam_model.specs.Ranges.{IsWithin, at};
+ghost use Rattle.certificate_model.specs.Ranges.{IsWithin, at};
 ghost use Rattle.lagrange_bound.specs.Ranges.{IsWeight, item_top};
 
 /// The least weight.

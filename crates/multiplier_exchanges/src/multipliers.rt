@@ -6,6 +6,7 @@ use crate::vertex::{Hold, Stand, Vertex};
 use crate::workspace::Workspace;
 use bank_tables::List;
 use bank_tables::limits::MULTIPLIER;
+use bank_tables::sides::{CAP_HIGH, CAP_LOW};
 use proof_tree::{Memory, Vector};
 use std::alloc::Global;
 
@@ -25,10 +26,10 @@ fn push_side(pairs: &mut Vec<(u16, u32)>, side: u16, price: i64) -> Result<(), M
 fn push_cap(pairs: &mut Vec<(u16, u32)>, price: i64) -> Result<(), Memory> {
     let cap = price.saturating_add(128) >> 8;
     if cap >= 0 {
-        pairs.push((384, cap.clamp(1, MOST) as u32))?;
+        pairs.push((CAP_LOW, cap.clamp(1, MOST) as u32))?;
     }
     if cap <= 0 {
-        pairs.push((385, cap.saturating_neg().clamp(1, MOST) as u32))?;
+        pairs.push((CAP_HIGH, cap.saturating_neg().clamp(1, MOST) as u32))?;
     }
     Ok(())
 }

@@ -2,8 +2,8 @@
 
 use crate::numbers::FAR;
 use bank_tables::{Bank, ItemSet};
+use certificate_model::Node;
 use constraint_model::{Problem, Row, StimulusBound};
-use exam_model::Node;
 use proof_tree::Memory;
 use std::alloc::Global;
 

@@ -1,8 +1,8 @@
 -- When one vector is no worse than another.
 use Rattle.std.specs.Prelude.{Bool, ℤ, ◌≤ℤ◌, Option, Some, None}
-use Rattle.exam_model.specs.Problem.{Problem}
-use Rattle.exam_model.specs.Paths.{Path}
-use Rattle.exam_model.specs.Relaxed.{Multipliers, IsRelaxedMaximum}
+use Rattle.form_model.specs.Problem.{Problem}
+use Rattle.certificate_model.specs.Paths.{Path}
+use Rattle.certificate_model.specs.Relaxed.{Multipliers, IsRelaxedMaximum}
 
 -- the relaxed maximum of the vector `to` is at most that of `from`
 abbrev pub IsNoHigher : Problem → Path → Bool → Multipliers → Multipliers → Type 0

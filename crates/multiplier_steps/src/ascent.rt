@@ -1,9 +1,9 @@
 //! Better multipliers.
 
 ghost use Rattle.std.specs.Prelude.{false, IfOk, IsTrue};
-ghost use Rattle.exam_model.specs.Paths.{Path};
-ghost use Rattle.exam_model.specs.Validity.{IsWellMade};
-ghost use Rattle.exam_model.specs.Verdicts.{NamesOnlySides};
+ghost use Rattle.certificate_model.specs.Paths.{Path};
+ghost use Rattle.form_model.specs.Validity.{IsWellMade};
+ghost use Rattle.certificate_model.specs.Verdicts.{NamesOnlySides};
 ghost use Rattle.constraint_model.specs.Views.{problem_of};
 ghost use Rattle.lagrange_bound.specs.Cuts.{IsCut, IsCutOf};
 ghost use Rattle.multiplier_steps.specs.Improvement.{AreInOrder, IsNoHigher};

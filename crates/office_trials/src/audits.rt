@@ -1,14 +1,14 @@
 //! An audit of a journal finds what an office found in it.
 
-ghost use Rattle.exam_model.specs.Validity.{IsPlanFor};
+ghost use Rattle.form_model.specs.Validity.{IsPlanFor};
 
 use crate::equal::is_equal;
 use crate::expected::leaves;
 use crate::outcome::{Call, Numbers, Reply, Step, disk_of, draft};
 use bank_tables::Bank;
 use constraint_model::Spec;
-use exam_model::Draft;
 use exam_office::Summary;
+use form_model::Draft;
 use history_model::{Counts, Exposure};
 use journal_audit::audit;
 use std::alloc::Global;

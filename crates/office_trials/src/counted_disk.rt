@@ -49,6 +49,8 @@ impl<D: Disk> Disk for CountedDisk<D> {
 
     ghost accounts = { λ d. D.accounts d.disk };
 
+    ghost aside = { λ d. D.aside d.disk };
+
     ghost faults = { λ d. D.faults d.disk };
 
     ghost identity = { λ d. D.identity d.disk };
@@ -91,8 +93,8 @@ impl<D: Disk> Disk for CountedDisk<D> {
         answer
     }
 
-    fn put_aside(&mut self, from: u64) -> Result<(), Failed> {
-        let answer = self.disk.put_aside(from);
+    fn put_aside(&mut self, gate: u64) -> Result<(), Failed> {
+        let answer = self.disk.put_aside(gate);
         self.count.add(answer.is_err());
         answer
     }

@@ -3,7 +3,7 @@
 //! four bytes, the payload and the next gate.
 
 ghost use Rattle.exam_edge.specs.MemoryDisk.{accounts_of};
-ghost use Rattle.answer_journal.specs.Frames.{shadowj1};
+ghost use Rattle.answer_journal.specs.Frames.{IsPayload, shadowj1};
 ghost use Rattle.answer_journal.specs.Journal.{IsReady};
 ghost use Rattle.answer_journal.specs.Standing.{IsAsLeft};
 
@@ -11,7 +11,7 @@ use crate::equal::is_equal;
 use crate::expected::leaves;
 use crate::outcome::disk_of;
 use answer_journal::{Adopted, AppendFault, Frame, Journal, OpenFault, Payload};
-use exam_edge::MemoryDisk;
+use exam_edge::{Memory, MemoryDisk};
 use std::alloc::Global;
 use std::process::Abort;
 
@@ -168,9 +168,18 @@ fn add_over<R: Abort>(rt: &R, alloc: Global, disk: MemoryDisk, frame: &Frame, me
     }
 }
 
+/// The frame of a payload.
+fn frame_of(alloc: Global, payload: &[u8]) -> Result<Frame, Memory>
+    requires { IsPayload payload.now }
+{
+    let mut bytes = Frame::room(alloc)?;
+    bytes.extend_from_slice(payload)?;
+    Frame::of(bytes)
+}
+
 /// Adds the answered record to a new journal, calls of these numbers failing.
 fn after_adding<R: Abort>(rt: &R, alloc: Global, fails: &[u64], mends: bool) -> Added {
-    match Frame::of(alloc, &ANSWER) {
+    match frame_of(alloc, &ANSWER) {
         Ok(frame) => add_over(rt, alloc, disk_of(rt, alloc, &[], fails), &frame, mends),
         Err(_) => panic!(rt; "no frame"),
     }

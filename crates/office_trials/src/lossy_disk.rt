@@ -121,6 +121,8 @@ impl Disk for LossyDisk {
 
     ghost accounts = { λ d. [] };
 
+    ghost aside = { λ d. [] };
+
     ghost faults = { λ d. d.faults };
 
     ghost identity = { λ d. 0 };
@@ -181,7 +183,7 @@ impl Disk for LossyDisk {
         }
     }
 
-    fn put_aside(&mut self, _from: u64) -> Result<(), Failed> {
+    fn put_aside(&mut self, _gate: u64) -> Result<(), Failed> {
         self.begin_call()
     }
 }

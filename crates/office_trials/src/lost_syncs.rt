@@ -2,8 +2,8 @@
 //! opening. What was acknowledged is on the device.
 
 ghost use Rattle.bank_tables.specs.Items.{has};
-ghost use Rattle.exam_model.specs.Forms.{Meets};
-ghost use Rattle.exam_model.specs.Validity.{IsPlanFor};
+ghost use Rattle.form_model.specs.Forms.{Meets};
+ghost use Rattle.form_model.specs.Validity.{IsPlanFor};
 
 use crate::equal::is_equal;
 use crate::expected::has_entries;
@@ -12,8 +12,8 @@ use crate::lossy_disk::LossyDisk;
 use crate::outcome::{Call, FAILED, Trial, WORKED, ask, draft, run};
 use bank_tables::{Bank, ItemSet};
 use constraint_model::Spec;
-use exam_model::Draft;
 use exam_office::Office;
+use form_model::Draft;
 use std::alloc::Global;
 use std::process::Abort;
 use trial_cases::bank_a;

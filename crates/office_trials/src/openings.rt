@@ -3,7 +3,8 @@
 use crate::equal::is_equal;
 use crate::expected::is_made_of;
 use crate::files::{
-    BEST, EMPTY, END, HEADER, MORE, Parts, REST, SERVE, SERVED, START, TOO_HIGH, UNMARKED, joined,
+    ANSWER, BEST, EMPTY, END, HEADER, MORE, Parts, REST, SERVE, SERVED, SET_ASIDE, START, TOO_HIGH,
+    UNMARKED, joined,
 };
 use crate::outcome::{Call, FIRST, NOTHING, Numbers, Reply, Step, Trial, WORKED, run};
 use crate::rows::{ONE_SERVED, Row, holds};
@@ -126,7 +127,7 @@ const ITEM: &[u8] = &[3, 0, 0, 0, 0, 0, 0, 0, 2, 0x0e];
 
 /// Files, their lengths, limits of the journal and the first fault: that of a frame comes before
 /// that of a record, and that of a record before that of the next.
-const FAULTY: [(Parts<'static>, usize, u64, OpenFault); 14] = [
+const FAULTY: [(Parts<'static>, usize, u64, OpenFault); 16] = [
     (
         &[&[1; 10]],
         10,
@@ -211,6 +212,22 @@ const FAULTY: [(Parts<'static>, usize, u64, OpenFault); 14] = [
         25,
         LIMIT,
         OpenFault::BadRecord(8, RecordFault::Kind(0)),
+    ),
+    // Eligibility is set aside while an item waits for its answer; and at a later step, where the
+    // tree doesn't show that there is no form.
+    (
+        &[HEADER, START, REST, SERVE, REST, BEST, SET_ASIDE, END],
+        198,
+        LIMIT,
+        OpenFault::Illegal(182, Illegal::NotPending(FIRST)),
+    ),
+    (
+        &[
+            HEADER, START, REST, SERVE, REST, BEST, ANSWER, SET_ASIDE, END,
+        ],
+        211,
+        LIMIT,
+        OpenFault::BadTree(195),
     ),
     // The limit is tested before the header.
     (

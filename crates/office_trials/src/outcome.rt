@@ -3,7 +3,7 @@
 ghost use Rattle.answer_journal.specs.Frames.{shadowj1};
 ghost use Rattle.answer_journal.specs.Standing.{IsAsLeft};
 ghost use Rattle.exam_edge.specs.MemoryDisk.{accounts_of};
-ghost use Rattle.exam_model.specs.Validity.{IsPlanFor};
+ghost use Rattle.form_model.specs.Validity.{IsPlanFor};
 
 use crate::counted_disk::{Count, CountedDisk};
 use crate::files::{Parts, joined};
@@ -11,8 +11,8 @@ use crate::serving::{serve, serve_again, serve_late};
 use bank_tables::Bank;
 use constraint_model::Spec;
 use exam_edge::{Disk, MemoryDisk};
-use exam_model::{Draft, Rate};
 use exam_office::{Begun, Office, OpenFault, Place, Refusal, Summary};
+use form_model::{Draft, Rate};
 use history_model::Counts;
 use std::alloc::Global;
 use std::process::Abort;

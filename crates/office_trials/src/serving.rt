@@ -12,16 +12,15 @@ use exam_office::{Office, Place, Refusal};
 use std::alloc::Global;
 use std::process::Abort;
 
-/// Whether a form was found, or there is none at the first step with ineligible items barred.
+/// Whether a form was found, or there is none with ineligible items barred.
 fn is_of_start(assembled: &Assembled) -> bool
     ensures { IsTrue result → (base : List ℕ)
         → IsOfStart (problem_of assembled.now.problem) base assembled.now.outcome }
 {
     let problem = assembled.problem();
-    let is_start = problem.step == 0 && !problem.aside;
     match assembled.outcome() {
         Outcome::Found { .. } => true,
-        Outcome::NoForm => is_start,
+        Outcome::NoForm => !problem.aside,
         Outcome::NoneFound => false,
     }
 }

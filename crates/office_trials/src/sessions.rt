@@ -6,8 +6,8 @@ use crate::expected::{counts, leaves, sums_up};
 use crate::outcome::{
     BEGUN, Call, FIRST, Numbers, Outcome, Reply, SECOND, SESSION, Step, Trial, WORKED, run,
 };
-use exam_model::Rate;
 use exam_office::{Begun, Place, Refusal, Summary};
+use form_model::Rate;
 use history_model::Counts;
 use std::alloc::Global;
 use std::process::Abort;

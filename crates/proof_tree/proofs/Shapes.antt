@@ -1,9 +1,9 @@
 -- Steps along the nodes of trees in preorder.
 use Rattle.std.proofs.Common.{◌≡◌, ℕ, zero, suc, ◌+◌, ◌-◌, ◌<◌, ◌≤◌, List, ◌∷◌, length, get_or, drop, sym, subst, arith, add-one, refl}
 use Rattle.std.proofs.Math.Seq.{drop-cons}
-use Rattle.exam_model.specs.declared.node.Node.{Node}
-use Rattle.exam_model.specs.declared.node.Node.TheVariants.{BranchItem, BranchStimulus, Bound, Ray, Count, Whole, Open}
-use Rattle.exam_model.specs.ProofTrees.{AreTrees}
+use Rattle.certificate_model.specs.declared.node.Node.{Node}
+use Rattle.certificate_model.specs.declared.node.Node.TheVariants.{BranchItem, BranchStimulus, Bound, Ray, Count, Whole, Open}
+use Rattle.certificate_model.specs.ProofTrees.{AreTrees}
 use Rattle.proof_tree.specs.Shape.{children}
 
 -- each follows from the other

@@ -9,10 +9,10 @@ use Rattle.std.proofs.lemmas.List.Concat.{flat_map-cons}
 use Rattle.std.proofs.lemmas.List.Elements.{All-from_recursion, All-from_get_or, recursion_from_All}
 use Rattle.exam_text.specs.First.{◌>>=◌, Gives}
 use Rattle.exam_text.proofs.Firsts.{bind_ok, ok_is}
-use Rattle.exam_model.specs.declared.node.Node.{Node}
-use Rattle.exam_model.specs.declared.node.Node.TheVariants.{BranchItem, BranchStimulus, Bound, Ray, Count, Whole, Open}
-use Rattle.exam_model.specs.Relaxed.{Multipliers}
-use Rattle.exam_model.specs.ProofTrees.{ProofTree, AreTrees, IsProofTree}
+use Rattle.certificate_model.specs.declared.node.Node.{Node}
+use Rattle.certificate_model.specs.declared.node.Node.TheVariants.{BranchItem, BranchStimulus, Bound, Ray, Count, Whole, Open}
+use Rattle.certificate_model.specs.Relaxed.{Multipliers}
+use Rattle.certificate_model.specs.ProofTrees.{ProofTree, AreTrees, IsProofTree}
 use Rattle.proof_tree.specs.declared.fault.TreeFault.{TreeFault}
 use Rattle.proof_tree.specs.declared.fault.TreeFault.TheVariants.{Unfinished, TooLong, Memory}
 use Rattle.proof_tree.specs.Shape.{IsTree, IsNode, children}

@@ -7,8 +7,8 @@ use Rattle.std.proofs.lemmas.List.Concat.{flat_map-cons}
 use Rattle.std.proofs.lemmas.List.Sums.{sum_by-cons}
 use Rattle.exam_text.specs.First.{◌>>=◌, unless, fault_where}
 use Rattle.exam_text.proofs.Firsts.{bind_ok, unless_ok, none_where, ok_is}
-use Rattle.exam_model.specs.Relaxed.{Multipliers}
-use Rattle.exam_model.specs.ProofTrees.{IsVector}
+use Rattle.certificate_model.specs.Relaxed.{Multipliers}
+use Rattle.certificate_model.specs.ProofTrees.{IsVector}
 use Rattle.proof_tree.specs.declared.fault.TreeFault.{TreeFault}
 use Rattle.proof_tree.specs.declared.fault.TreeFault.TheVariants.{BadVector}
 use Rattle.proof_tree.specs.Spelling.{pair_bytes, vector_bytes}

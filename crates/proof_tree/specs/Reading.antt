@@ -2,10 +2,10 @@
 use Rattle.std.specs.Prelude.{ℕ, zero, suc, ◌+◌, ◌-◌, ◌||◌, ◌==◌, nat_lt, nat_le, List, [], ◌∷◌, length, take, drop, slice_index, Result, Ok, Err, if◌then◌else◌}
 use Rattle.std.specs.Int.{Width, w16, w32, byte_len, from_be_bytes}
 use Rattle.exam_text.specs.First.{◌>>=◌, unless, fault_where}
-use Rattle.exam_model.specs.declared.node.Node.{Node}
-use Rattle.exam_model.specs.declared.node.Node.TheVariants.{BranchItem, BranchStimulus, Bound, Ray, Count, Whole, Open}
-use Rattle.exam_model.specs.Relaxed.{Multipliers}
-use Rattle.exam_model.specs.ProofTrees.{ProofTree}
+use Rattle.certificate_model.specs.declared.node.Node.{Node}
+use Rattle.certificate_model.specs.declared.node.Node.TheVariants.{BranchItem, BranchStimulus, Bound, Ray, Count, Whole, Open}
+use Rattle.certificate_model.specs.Relaxed.{Multipliers}
+use Rattle.certificate_model.specs.ProofTrees.{ProofTree}
 use Rattle.proof_tree.specs.declared.fault.TreeFault.{TreeFault}
 use Rattle.proof_tree.specs.declared.fault.TreeFault.TheVariants.{Short, BadKind, BadVector, Unfinished, TooLong}
 use Rattle.proof_tree.specs.Shape.{children}

@@ -1,8 +1,8 @@
 -- Which proof trees have a spelling.
 use Rattle.std.specs.Prelude.{ℕ, ◌<◌, ◌≤◌, All}
-use Rattle.exam_model.specs.declared.node.Node.{Node}
-use Rattle.exam_model.specs.declared.node.Node.TheVariants.{BranchItem, BranchStimulus, Bound, Ray, Count}
-use Rattle.exam_model.specs.ProofTrees.{ProofTree, IsProofTree}
+use Rattle.certificate_model.specs.declared.node.Node.{Node}
+use Rattle.certificate_model.specs.declared.node.Node.TheVariants.{BranchItem, BranchStimulus, Bound, Ray, Count}
+use Rattle.certificate_model.specs.ProofTrees.{ProofTree, IsProofTree}
 
 -- the number of a node is one that an item, a stimulus, a vector or a row may have
 abbrev pub IsNode : Node → Type 0

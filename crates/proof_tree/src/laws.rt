@@ -2,7 +2,7 @@
 
 ghost use Rattle.std.specs.Prelude.{◌≡◌, ℕ, ◌<◌, ◌++◌, List, length, take, slice_index, Ok};
 ghost use Rattle.hex.specs.Hex.{encode_lower, decode_of};
-ghost use Rattle.exam_model.specs.ProofTrees.{ProofTree};
+ghost use Rattle.certificate_model.specs.ProofTrees.{ProofTree};
 ghost use Rattle.proof_tree.specs.Shape.{IsTree};
 ghost use Rattle.proof_tree.specs.Spelling.{bytes_of, BeginsWith};
 ghost use Rattle.proof_tree.specs.Reading.{read};

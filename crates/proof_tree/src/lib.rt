@@ -12,7 +12,7 @@ mod tree;
 mod vector;
 mod writing;
 
-pub use exam_model::Node;
+pub use certificate_model::Node;
 pub use fault::TreeFault;
 pub use reading::decode;
 pub use shape::{has_open_leaf, is_branch};

@@ -3,7 +3,7 @@
 ghost use Rattle.std.specs.Prelude.{◌≡◌, ◌+◌, ◌≤◌, ◌<◌, length, IfOk, OnOk, Ok};
 ghost use Rattle.std.specs.Int.{w16, w32};
 ghost use Rattle.exam_text.specs.First.{Gives};
-ghost use Rattle.exam_model.specs.ProofTrees.{ProofTree};
+ghost use Rattle.certificate_model.specs.ProofTrees.{ProofTree};
 ghost use Rattle.proof_tree.specs.Shape.{IsTree};
 ghost use Rattle.proof_tree.specs.Spelling.{bytes_of, BeginsWith};
 ghost use Rattle.proof_tree.specs.declared.fault.TreeFault.TheVariants.{Memory};
@@ -14,7 +14,7 @@ use crate::tree::{Tree, children};
 use crate::vector::Vector;
 use bank_tables::List;
 use bank_tables::limits::{MULTIPLIER, PAIRS, VECTOR_PAIRS};
-use exam_model::Node;
+use certificate_model::Node;
 use std::alloc::Global;
 
 fn byte_of(bytes: &[u8], at: usize) -> Result<u8, TreeFault>

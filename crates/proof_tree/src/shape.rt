@@ -1,9 +1,9 @@
 //! What a tree's nodes are: branches and leaves.
 
 ghost use Rattle.std.specs.Prelude.{◌↔◌, ◌<◌, IsTrue};
-ghost use Rattle.exam_model.specs.Spending.{open_leaves, IsBranch};
+ghost use Rattle.certificate_model.specs.Spending.{open_leaves, IsBranch};
 
-use exam_model::Node;
+use certificate_model::Node;
 
 /// Whether a node is a branch, which has two subtrees after it.
 pub fn is_branch(node: &Node) -> bool

@@ -1,13 +1,13 @@
 //! A proof tree.
 
 ghost use Rattle.std.specs.Prelude.{◌≡◌, ◌↔◌, ◌≤◌, ◌<◌, ℕ, IsTrue, IsSome, IfSome, All, length, slice_index_or, sum_by, []};
-ghost use Rattle.exam_model.specs.ProofTrees.{AreTrees, AreVectors, IsVector};
+ghost use Rattle.certificate_model.specs.ProofTrees.{AreTrees, AreVectors, IsVector};
 ghost use Rattle.proof_tree.specs.Shape.{IsTree, IsNode, children};
 
 use crate::vector::Vector;
 use bank_tables::List;
 use bank_tables::limits::{PAIRS, VECTOR_PAIRS, VECTORS};
-use exam_model::Node;
+use certificate_model::Node;
 use std::marker::Model;
 
 /// A proof tree (branch and bound; Land and Doig, An Automatic Method of Solving Discrete Programming Problems, 1960):
@@ -21,7 +21,7 @@ pub struct Tree {
 }
 
 impl Model for Tree {
-    ghost use Rattle.exam_model.specs.ProofTrees.{ProofTree};
+    ghost use Rattle.certificate_model.specs.ProofTrees.{ProofTree};
     ghost use Rattle.proof_tree.specs.Shape.{IsTree};
 
     ghost Value = { ProofTree };

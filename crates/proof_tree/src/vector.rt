@@ -1,7 +1,7 @@
 //! A vector of Lagrange multipliers.
 
 ghost use Rattle.std.specs.Prelude.{◌≡◌, ◌↔◌, IsTrue, IsSome, IfOk, IfSome};
-ghost use Rattle.exam_model.specs.ProofTrees.{IsVector};
+ghost use Rattle.certificate_model.specs.ProofTrees.{IsVector};
 
 use bank_tables::List;
 use bank_tables::limits::MULTIPLIER;
@@ -16,8 +16,8 @@ pub struct Vector {
 }
 
 impl Model for Vector {
-    ghost use Rattle.exam_model.specs.Relaxed.{Multipliers};
-    ghost use Rattle.exam_model.specs.ProofTrees.{IsVector};
+    ghost use Rattle.certificate_model.specs.Relaxed.{Multipliers};
+    ghost use Rattle.certificate_model.specs.ProofTrees.{IsVector};
 
     ghost Value = { Multipliers };
 

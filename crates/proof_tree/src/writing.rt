@@ -6,7 +6,7 @@ ghost use Rattle.proof_tree.specs.Spelling.{pair_bytes, vector_bytes, node_bytes
 
 use crate::tree::Tree;
 use crate::vector::Vector;
-use exam_model::Node;
+use certificate_model::Node;
 use std::alloc::{AllocError, Global};
 
 fn push_pairs(out: &mut Vec<u8>, pairs: &[(u16, u32)]) -> Result<(), AllocError>

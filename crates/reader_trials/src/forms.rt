@@ -1,6 +1,6 @@
 //! What is found of sets of items on two small banks. What is expected was worked out by hand.
 
-ghost use Rattle.exam_model.specs.Validity.{IsPlanFor};
+ghost use Rattle.form_model.specs.Validity.{IsPlanFor};
 
 use crate::draft::{BOUNDS, PRIOR, RowOf, draft, mixed_bank};
 use crate::equal::is_equal;

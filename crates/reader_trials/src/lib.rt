@@ -13,6 +13,8 @@
 #[cfg(test)]
 mod ability;
 #[cfg(test)]
+mod bands;
+#[cfg(test)]
 mod bank;
 #[cfg(test)]
 mod bank_faults;

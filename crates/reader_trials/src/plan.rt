@@ -51,7 +51,7 @@ fn printed<R: Abort>(rt: &R, alloc: Global, bank: &Bank, bytes: Vec<u8>) -> Vec<
 }
 
 /// What the plan of a text over bank A is printed as.
-fn printed_over_a<R: Abort>(rt: &R, alloc: Global, text: &str) -> Vec<u8> {
+pub(crate) fn printed_over_a<R: Abort>(rt: &R, alloc: Global, text: &str) -> Vec<u8> {
     let bank = bank_of(rt, alloc, Worked::A);
     printed(rt, alloc, &bank, bytes_of(rt, alloc, text))
 }
@@ -74,13 +74,14 @@ fn the_runs_of_a_set_are_joined(rt: HostRuntime) {
     assert!(rt; found.as_slice().ends_with(end));
 }
 
-/// The worked plans.
-const PLANS: [(Worked, &str); 5] = [
+/// The worked plans, and one with two bands.
+const PLANS: [(Worked, &str); 6] = [
     (Worked::A, PLAN_A),
     (Worked::S, PLAN_S),
     (Worked::E, PLAN_E),
     (Worked::Q, PLAN_Q),
     (Worked::L, PLAN_L),
+    (Worked::A, "length 3\nprior 0 0 0\nbands 2\n"),
 ];
 
 /// The text that a plan is printed as is longer, and reads to a plan that is printed the same.

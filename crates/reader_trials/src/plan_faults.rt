@@ -15,7 +15,7 @@ type Refused = (Worked, &'static str, &'static [u64], PlanFault);
 
 /// Texts with a faulty line, with a line twice, without a line that is needed, and with lines that
 /// make no plan.
-const REFUSED: [Refused; 34] = [
+const REFUSED: [Refused; 46] = [
     (
         Worked::Q,
         "length 2\nwidth 3\n",
@@ -82,6 +82,31 @@ const REFUSED: [Refused; 34] = [
         &[],
         PlanFault::Line(1, Kind::Number),
     ),
+    (Worked::A, "bands\n", &[], PlanFault::Line(1, Kind::Shape)),
+    (
+        Worked::A,
+        "bands 1  2\n",
+        &[],
+        PlanFault::Line(1, Kind::Shape),
+    ),
+    (
+        Worked::A,
+        "bands 1 x\n",
+        &[],
+        PlanFault::Line(1, Kind::Number),
+    ),
+    (
+        Worked::A,
+        "bands 01\n",
+        &[],
+        PlanFault::Line(1, Kind::Number),
+    ),
+    (
+        Worked::A,
+        "bands 1 256\n",
+        &[],
+        PlanFault::Line(1, Kind::Number),
+    ),
     (
         Worked::Q,
         "count x 1 9-1\n",
@@ -136,6 +161,7 @@ const REFUSED: [Refused; 34] = [
         &[],
         PlanFault::Twice(3),
     ),
+    (Worked::A, "bands 1\nbands 2\n", &[], PlanFault::Twice(2)),
     (Worked::Q, "", &[], PlanFault::Missing(Name::Length)),
     (
         Worked::Q,
@@ -186,6 +212,42 @@ const REFUSED: [Refused; 34] = [
         "length 3\nprior -10 0 -10\ncount 1 1 0-1\nenemies 2 5\nbudget 4\n",
         &[],
         PlanFault::Spec(SpecFault::BadBudget),
+    ),
+    (
+        Worked::A,
+        "length 3\nprior 0 0 0\nrate 3 2\nkey 0000000000000000000000000000000000000000000000000000000000000000\nbands 0\n",
+        &[],
+        PlanFault::Spec(SpecFault::BadRate),
+    ),
+    (
+        Worked::A,
+        "length 3\nprior 0 0 0\nbudget 4\nbands 2 1\n",
+        &[],
+        PlanFault::Spec(SpecFault::BadBands),
+    ),
+    (
+        Worked::A,
+        "length 3\nprior 0 0 0\nbands 1 1\n",
+        &[],
+        PlanFault::Spec(SpecFault::BadBands),
+    ),
+    (
+        Worked::A,
+        "length 3\nprior 0 0 0\nbands 0 1\n",
+        &[],
+        PlanFault::Spec(SpecFault::BadBands),
+    ),
+    (
+        Worked::A,
+        "length 3\nprior 0 0 0\nbands 1 3\n",
+        &[],
+        PlanFault::Spec(SpecFault::BadBands),
+    ),
+    (
+        Worked::Q,
+        "length 2\nprior 0\nbands 1\n",
+        &[],
+        PlanFault::Spec(SpecFault::BadBands),
     ),
     (
         Worked::A,

@@ -7,6 +7,7 @@ use Rattle.history_model.specs.declared.place.Place.{Place}
 use Rattle.history_model.specs.declared.place.Place.TheVariants.{Pending, Waiting, Complete, Closed}
 use Rattle.history_model.specs.declared.refusal.Refusal.{Refusal}
 use Rattle.history_model.specs.declared.refusal.Refusal.TheVariants.{NoSession, WrongStep, Other, BadResponse, IsClosed}
+use Rattle.history_model.specs.Words.{refusal_word}
 use Rattle.history_model.specs.declared.request.Exposure.{Exposure}
 use Rattle.history_model.specs.declared.request.Reply.{Reply}
 use Rattle.history_model.specs.declared.request.Reply.TheVariants as reply
@@ -47,15 +48,19 @@ exposure_lines e =
     (codes "exposure finished " ++ (decimal e.finished ++ codes "\n"))
     ++ counts_lines (length e.rows) e.rows
 
+-- the line of a refusal with this value
+abbrev pub line_with : Refusal → List ℕ → List ℕ
+line_with refusal value =
+    codes "refused " ++ (refusal_word refusal ++ (codes " " ++ (value ++ codes "\n")))
+
 -- why a request was refused; a refusal that ends a replay has no line
 unfoldable pub refusal_line : Refusal → List ℕ
-refusal_line (NoSession count) = codes "refused no-session " ++ (decimal count ++ codes "\n")
-refusal_line (WrongStep step) = codes "refused wrong-step " ++ (decimal step ++ codes "\n")
-refusal_line (Other response) = codes "refused other " ++ (decimal response ++ codes "\n")
-refusal_line (BadResponse categories) =
-    codes "refused bad-response " ++ (decimal categories ++ codes "\n")
-refusal_line (IsClosed Complete) = codes "refused is-closed complete\n"
-refusal_line (IsClosed Closed) = codes "refused is-closed closed\n"
+refusal_line (NoSession count) = line_with (NoSession count) (decimal count)
+refusal_line (WrongStep step) = line_with (WrongStep step) (decimal step)
+refusal_line (Other response) = line_with (Other response) (decimal response)
+refusal_line (BadResponse categories) = line_with (BadResponse categories) (decimal categories)
+refusal_line (IsClosed Complete) = line_with (IsClosed Complete) (codes "complete")
+refusal_line (IsClosed Closed) = line_with (IsClosed Closed) (codes "closed")
 refusal_line _ = []
 
 -- the line of a reply, or the lines of an exposure, each with its line feed

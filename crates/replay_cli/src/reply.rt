@@ -1,10 +1,11 @@
 //! The lines of replies.
 
+ghost use Rattle.std.specs.Fmt.{decimal};
 ghost use Rattle.std.specs.Prelude.{◌≡◌, ◌++◌, ◌<◌, length, IfOk, OnOk, string_bytes};
-ghost use Rattle.replay_cli.specs.Replies.{mark_word, place_line, counts_line, counts_lines, exposure_lines, refusal_line, line_of};
+ghost use Rattle.replay_cli.specs.Replies.{mark_word, place_line, counts_line, counts_lines, exposure_lines, line_with, refusal_line, line_of};
 
 use exam_edge::Memory;
-use history_model::{Counts, Exposure, Place, Refusal, Reply};
+use history_model::{Counts, Exposure, Place, Refusal, Reply, refusal_word};
 use std::alloc::Global;
 
 fn mark_word(proved: bool) -> &'static str
@@ -57,22 +58,31 @@ fn exposure_lines(alloc: Global, exposure: &Exposure) -> Result<String, Memory>
     Ok(out)
 }
 
+fn line_with_number(alloc: Global, refusal: Refusal, value: u32) -> Result<String, Memory>
+    ensures { IfOk result (λ line. string_bytes line ≡ line_with refusal (decimal value)) }
+{
+    let word = refusal_word(refusal);
+    format!(in alloc; "refused {word} {value}\n")
+}
+
+fn line_with_word(alloc: Global, refusal: Refusal, value: &str) -> Result<String, Memory>
+    ensures { IfOk result (λ line. string_bytes line ≡ line_with refusal value.now) }
+{
+    let word = refusal_word(refusal);
+    format!(in alloc; "refused {word} {value}\n")
+}
+
 #[tactic(auto, unfolding(crate::specs::Replies::refusal_line))]
 fn refusal_line(alloc: Global, refusal: Refusal) -> Result<String, Memory>
     ensures { IfOk result (λ line. string_bytes line ≡ refusal_line refusal) }
 {
     match refusal {
-        Refusal::NoSession(count) => format!(in alloc; "refused no-session {count}\n"),
-        Refusal::WrongStep(step) => format!(in alloc; "refused wrong-step {step}\n"),
-        Refusal::Other(response) => format!(in alloc; "refused other {response}\n"),
-        Refusal::BadResponse(categories) => format!(in alloc;
-            "refused bad-response {categories}\n"
-        ),
-        Refusal::IsClosed(Place::Complete) => String::from_str(
-            alloc,
-            "refused is-closed complete\n",
-        ),
-        Refusal::IsClosed(Place::Closed) => String::from_str(alloc, "refused is-closed closed\n"),
+        Refusal::NoSession(count) => line_with_number(alloc, refusal, count),
+        Refusal::WrongStep(step) => line_with_number(alloc, refusal, u32::from(step)),
+        Refusal::Other(response) => line_with_number(alloc, refusal, u32::from(response)),
+        Refusal::BadResponse(categories) => line_with_number(alloc, refusal, u32::from(categories)),
+        Refusal::IsClosed(Place::Complete) => line_with_word(alloc, refusal, "complete"),
+        Refusal::IsClosed(Place::Closed) => line_with_word(alloc, refusal, "closed"),
         _ => Ok(String::new(alloc)),
     }
 }

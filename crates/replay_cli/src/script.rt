@@ -2,6 +2,7 @@
 
 ghost use Rattle.std.specs.Prelude.{◌≡◌, ℕ, ◌⊎◌, ◌<◌, ◌≤◌, List, [], length, map, codes, IsTrue, IfOk, IfErr, IfSome};
 ghost use Rattle.exam_edge.specs.Faults.{Rose};
+ghost use Rattle.exam_edge.specs.Lent.{IsLent};
 ghost use Rattle.exam_text.specs.First.{Gives, or_fault};
 ghost use Rattle.exam_text.specs.Words.{lines_of, words_of};
 ghost use Rattle.history_model.specs.declared.request.Request.{Request};
@@ -137,9 +138,7 @@ pub fn read_script<S: Source>(alloc: Global, source: &mut S) -> Result<Vec<Reque
         → (name : List ℕ) → S.has source.new name ≡ S.has source.old name }
     ensures beside { IsTrue (S.tells source.old)
         → (name : List ℕ) → S.beside source.new name ≡ S.beside source.old name }
-    ensures grows { S.faults source.old ≤ S.faults source.new }
-    ensures tells { S.tells source.new ≡ S.tells source.old }
-    ensures identity { S.identity source.new ≡ S.identity source.old }
+    ensures frame { IsLent S.tells S.identity S.faults source.old source.new }
 {
     match text_of(alloc, source, 16_777_216) {
         Ok(text) => requests_in(alloc, &text),

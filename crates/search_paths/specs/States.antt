@@ -1,6 +1,6 @@
 -- Paths that wait for their subtrees.
 use Rattle.std.specs.Prelude.{List, All}
-use Rattle.exam_model.specs.Problem.{Problem}
+use Rattle.form_model.specs.Problem.{Problem}
 use Rattle.lagrange_bound.specs.Cuts.{IsCut}
 use Rattle.search_paths.specs.declared.paths.Waiting.{Waiting}
 

@@ -1,13 +1,13 @@
 //! Paths that wait for their subtrees.
 
 ghost use Rattle.std.specs.Prelude.{OnOk, IfSome};
-ghost use Rattle.exam_model.specs.Validity.{IsWellMade};
+ghost use Rattle.form_model.specs.Validity.{IsWellMade};
 ghost use Rattle.constraint_model.specs.Views.{problem_of};
 ghost use Rattle.lagrange_bound.specs.Cuts.{IsCut};
 ghost use Rattle.search_paths.specs.States.{AreStates};
 
+use certificate_model::Node;
 use constraint_model::Problem;
-use exam_model::Node;
 use lagrange_bound::Cut;
 use proof_tree::{Memory, is_branch};
 

@@ -2,8 +2,8 @@
 
 ghost use Rattle.std.specs.Prelude.{IfSome};
 ghost use Rattle.bank_tables.specs.Items.{has};
-ghost use Rattle.exam_model.specs.Forms.{Form};
-ghost use Rattle.exam_model.specs.Validity.{IsWellMade};
+ghost use Rattle.form_model.specs.Forms.{Form};
+ghost use Rattle.form_model.specs.Validity.{IsWellMade};
 ghost use Rattle.constraint_model.specs.Views.{problem_of};
 
 use bank_tables::ItemSet;

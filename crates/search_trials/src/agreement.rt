@@ -1,6 +1,6 @@
 //! The search, the fallback search and the enumeration on small banks. What is expected was worked out by hand.
 
-ghost use Rattle.exam_model.specs.Validity.{IsPlanFor, IsWellMade};
+ghost use Rattle.form_model.specs.Validity.{IsPlanFor, IsWellMade};
 ghost use Rattle.constraint_model.specs.Views.{problem_of};
 
 use crate::equal::is_equal;
@@ -8,8 +8,8 @@ use crate::settings::Setting;
 use crate::trials::{Question, Trial, hold};
 use bank_tables::Bank;
 use branch_bound::{Assembled, Outcome, assemble, assemble_by_fallback};
+use certificate_model::Node;
 use constraint_model::{Problem, Spec, objective};
-use exam_model::Node;
 use form_enumeration::best_form;
 use std::alloc::Global;
 use std::process::Abort;

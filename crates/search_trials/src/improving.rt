@@ -1,6 +1,6 @@
 //! Better multipliers by subgradient steps. What is expected was worked out by hand.
 
-ghost use Rattle.exam_model.specs.Validity.{IsWellMade};
+ghost use Rattle.form_model.specs.Validity.{IsWellMade};
 ghost use Rattle.constraint_model.specs.Views.{problem_of};
 
 use crate::equal::is_equal;

@@ -1,6 +1,6 @@
 //! Questions about the whole problem of a bank and its plan, each with its expected answer.
 
-ghost use Rattle.exam_model.specs.Validity.{IsPlanFor};
+ghost use Rattle.form_model.specs.Validity.{IsPlanFor};
 
 use crate::agreement::finds;
 use crate::improving::improves;

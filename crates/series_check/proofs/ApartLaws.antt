@@ -5,7 +5,7 @@ use Rattle.std.proofs.lemmas.List.{get_or_read_under}
 use Rattle.std.proofs.Math.Bool.{true≢false}
 use Rattle.bank_tables.specs.Items.{Set, has, IsLowest}
 use Rattle.bank_tables.specs.Sums.{any_below}
-use Rattle.exam_model.proofs.SumLaws.{any_intro, any_elim}
+use Rattle.form_model.proofs.SumLaws.{any_intro, any_elim}
 use Rattle.series_model.specs.Series.{Forms, forms_of}
 use Rattle.series_check.specs.Values.{AreApart}
 

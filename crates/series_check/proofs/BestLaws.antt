@@ -7,7 +7,7 @@ use Rattle.std.proofs.lemmas.List.{get_or_past}
 use Rattle.std.proofs.Math.Bool.{true≢false}
 use Rattle.bank_tables.specs.Items.{Set}
 use Rattle.certificate_check.specs.Tops.{IsNextBest}
-use Rattle.exam_model.specs.Ranges.{at}
+use Rattle.certificate_model.specs.Ranges.{at}
 use Rattle.series_model.specs.Series.{SeriesProblem, Forms, weight_of, weighted_information, IsValue, IsSeriesProblem}
 use Rattle.series_check.specs.Tops.{IsHeavier}
 use Rattle.series_check.specs.Values.{IsLesser, IsLeastTo, IsLeastOf}

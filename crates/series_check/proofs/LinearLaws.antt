@@ -7,15 +7,15 @@ use Rattle.std.proofs.Math.Bool.{true≢false}
 use Rattle.bank_tables.specs.Items.{Set}
 use Rattle.bank_tables.specs.Sums.{sum_in_z, total_z}
 use Rattle.bank_tables.specs.Tables.{size, stimulus}
-use Rattle.exam_model.specs.Forms.{stimuli_of, size_in}
-use Rattle.exam_model.specs.Paths.{Path, is_free, is_chosen, is_open}
-use Rattle.exam_model.specs.Problem.{Problem}
-use Rattle.exam_model.specs.Relaxed.{Multipliers, multiplier, lagrangian_without_links, link_multiplier, weighted_link_slack, lagrangian, IsRelaxedPair}
-use Rattle.exam_model.specs.Weights.{price, stimulus_side, constant_share, stimulus_share, item_weight, stimulus_weight, rows_constant}
-use Rattle.exam_model.proofs.ClosedFormLaws.{weight_is}
-use Rattle.exam_model.proofs.Greatest.{greatest_of_size, count_in-split, rest_of}
-use Rattle.exam_model.proofs.Reduced.{unlinked, row_linear, amount_linear, constant_form, items_linear, own_weight, low_stimulus, high_stimulus, links, reduced, lagrangian-reduced, chosen_no_excess, total_z-cond, total_z-same}
-use Rattle.exam_model.proofs.SumLaws.{either, or_true, or_left}
+use Rattle.form_model.specs.Forms.{stimuli_of, size_in}
+use Rattle.certificate_model.specs.Paths.{Path, is_free, is_chosen, is_open}
+use Rattle.form_model.specs.Problem.{Problem}
+use Rattle.certificate_model.specs.Relaxed.{Multipliers, multiplier, lagrangian_without_links, link_multiplier, weighted_link_slack, lagrangian, IsRelaxedPair}
+use Rattle.certificate_model.specs.Weights.{price, stimulus_side, constant_share, stimulus_share, item_weight, stimulus_weight, rows_constant}
+use Rattle.certificate_model.proofs.ClosedFormLaws.{weight_is}
+use Rattle.certificate_model.proofs.Greatest.{greatest_of_size, count_in-split, rest_of}
+use Rattle.certificate_model.proofs.Reduced.{unlinked, row_linear, amount_linear, constant_form, items_linear, own_weight, low_stimulus, high_stimulus, links, reduced, lagrangian-reduced, chosen_no_excess, total_z-cond, total_z-same}
+use Rattle.form_model.proofs.SumLaws.{either, or_true, or_left}
 use Rattle.series_check.specs.Gains.{gain_of}
 use Rattle.series_check.specs.Maximum.{linear, IsValueOf}
 

@@ -5,15 +5,15 @@ use Rattle.std.proofs.lemmas.Bool.{eq-eqb, ne_eqb}
 use Rattle.bank_tables.specs.Items.{Set}
 use Rattle.bank_tables.specs.Sums.{sum_in_z, total_z}
 use Rattle.bank_tables.specs.Tables.{size}
-use Rattle.exam_model.specs.Forms.{stimuli_of, size_in}
-use Rattle.exam_model.specs.Counting.{taken_or_free}
-use Rattle.exam_model.specs.Paths.{Path, is_free}
-use Rattle.exam_model.specs.Problem.{Problem}
-use Rattle.exam_model.specs.Ranges.{at}
-use Rattle.exam_model.specs.Relaxed.{Multipliers, multiplier, IsRelaxedPair}
-use Rattle.exam_model.specs.Weights.{item_weight, rows_constant}
-use Rattle.exam_model.proofs.Reduced.{total_z-same}
-use Rattle.exam_model.proofs.SumLaws.{sum_in-le, or_left, or_right}
+use Rattle.form_model.specs.Forms.{stimuli_of, size_in}
+use Rattle.certificate_model.specs.Counting.{taken_or_free}
+use Rattle.certificate_model.specs.Paths.{Path, is_free}
+use Rattle.form_model.specs.Problem.{Problem}
+use Rattle.certificate_model.specs.Ranges.{at}
+use Rattle.certificate_model.specs.Relaxed.{Multipliers, multiplier, IsRelaxedPair}
+use Rattle.certificate_model.specs.Weights.{item_weight, rows_constant}
+use Rattle.certificate_model.proofs.Reduced.{total_z-same}
+use Rattle.form_model.proofs.SumLaws.{sum_in-le, or_left, or_right}
 use Rattle.certificate_check.specs.Tops.{IsTopOf}
 use Rattle.certificate_check.proofs.MaximumLaws.{taken_and_free}
 use Rattle.certificate_check.proofs.TopLaws.{threshold}

@@ -1,7 +1,7 @@
 -- Which sides a vector may name, by the number of the side.
 use Rattle.std.proofs.Common.{◌≡◌, ℕ, ◌+◌, ◌-◌, ◌*◌, ◌/◌, ◌%◌, ◌<◌, ◌≤◌, inl, inr, length, arith}
 use Rattle.bank_tables.specs.Tables.{size}
-use Rattle.exam_model.specs.Forms.{stimuli_of}
+use Rattle.form_model.specs.Forms.{stimuli_of}
 use Rattle.series_model.specs.Series.{SeriesProblem, IsSeriesProblem}
 use Rattle.series_model.specs.SeriesVerdicts.{IsSide}
 

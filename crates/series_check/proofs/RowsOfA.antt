@@ -6,14 +6,14 @@ use Rattle.std.proofs.Math.Dec.{lit≤}
 use Rattle.std.proofs.lemmas.Int.{ints}
 use Rattle.std.proofs.Math.Bool.{true≢false}
 use Rattle.bank_tables.specs.Items.{has}
-use Rattle.exam_model.specs.Forms.{Meets}
-use Rattle.exam_model.specs.Paths.{is_free}
-use Rattle.exam_model.specs.Plan.{Plan}
-use Rattle.exam_model.specs.Ranges.{at}
-use Rattle.exam_model.specs.Relaxed.{Multipliers, multiplier}
-use Rattle.exam_model.specs.Weights.{item_weight, rows_constant}
-use Rattle.exam_model.proofs.BankA.{item_a, bank_a}
-use Rattle.exam_model.proofs.Computed.{each_of, these, these_in, one_word, word_below}
+use Rattle.form_model.specs.Forms.{Meets}
+use Rattle.certificate_model.specs.Paths.{is_free}
+use Rattle.form_model.specs.Plan.{Plan}
+use Rattle.certificate_model.specs.Ranges.{at}
+use Rattle.certificate_model.specs.Relaxed.{Multipliers, multiplier}
+use Rattle.certificate_model.specs.Weights.{item_weight, rows_constant}
+use Rattle.form_model.proofs.BankA.{item_a, bank_a}
+use Rattle.form_model.proofs.Computed.{each_of, these, these_in, one_word, word_below}
 use Rattle.series_model.specs.declared.node.SeriesNode.TheVariants.{Bound, Ray}
 use Rattle.series_model.specs.declared.verdict.SeriesVerdict.TheVariants.{Optimal, NoSeries}
 use Rattle.series_model.specs.Series.{SeriesProblem, weight_of, weighted_information, IsSeriesList, IsValue, BestSeries, HasNoSeries, forms_of}
@@ -36,6 +36,7 @@ plan_of length =
       bounds = [];
       rate = record { num = 1; den = 1 };
       key = replicate 32 0;
+      bands = [];
       budget = 2001;
       base_budget = 4095;
       sessions = 1000;

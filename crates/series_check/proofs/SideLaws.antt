@@ -5,8 +5,8 @@ use Rattle.std.proofs.Math.ListN.{replicate}
 use Rattle.std.proofs.lemmas.Bool.{cases_lt, cases_eq, lt-ltb, ltb-true, le-leb, leb-true, eq-eqb, ne_eqb, and_parts, and_from}
 use Rattle.std.proofs.Math.Bool.{true≢false}
 use Rattle.std.proofs.lemmas.Bool.Decides.{eqb_tells}
-use Rattle.exam_model.specs.Relaxed.{Multipliers, multiplier}
-use Rattle.exam_model.proofs.SumLaws.{either}
+use Rattle.certificate_model.specs.Relaxed.{Multipliers, multiplier}
+use Rattle.form_model.proofs.SumLaws.{either}
 use Rattle.series_model.specs.SeriesTrees.{Certificate, vector_at, Ascends}
 use Rattle.series_model.specs.SeriesBounds.{first_side, multipliers_of}
 

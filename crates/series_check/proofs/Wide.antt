@@ -5,7 +5,7 @@ use Rattle.bank_tables.specs.Items.{Set}
 use Rattle.bank_tables.specs.Sums.{sum_in_z}
 use Rattle.std.specs.Int.{w128}
 use Rattle.std.proofs.lemmas.Int.{ints}
-use Rattle.exam_model.specs.Ranges.{IsWithin}
+use Rattle.certificate_model.specs.Ranges.{IsWithin}
 use Rattle.series_model.proofs.SeriesSums.{times-le}
 
 -- no number in the checker is further from 0

@@ -1,9 +1,9 @@
 -- What the checker keeps of a setting, of a path, and of the path of one form.
 use Rattle.std.specs.Prelude.{◌≡◌, get_or, [], false}
 use Rattle.bank_tables.specs.Items.{has}
-use Rattle.exam_model.specs.Counting.{taken_or_free, chosen_or_open}
-use Rattle.exam_model.specs.Paths.{Path, is_free, is_chosen, is_open}
-use Rattle.exam_model.specs.Problem.{Problem}
+use Rattle.certificate_model.specs.Counting.{taken_or_free, chosen_or_open}
+use Rattle.certificate_model.specs.Paths.{Path, is_free, is_chosen, is_open}
+use Rattle.form_model.specs.Problem.{Problem}
 use Rattle.series_model.specs.Series.{SeriesProblem}
 use Rattle.series_model.specs.SeriesPaths.{SeriesPath, form_problem}
 use Rattle.series_check.specs.declared.cut.SeriesCut.{SeriesCut}

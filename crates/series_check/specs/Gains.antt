@@ -1,9 +1,9 @@
 -- What a stimulus adds to the relaxed maximum of a form.
 use Rattle.std.specs.Prelude.{ℕ, cond, ℤ, pos}
 use Rattle.std.specs.Int.{int_max}
-use Rattle.exam_model.specs.Problem.{Problem}
-use Rattle.exam_model.specs.Paths.{Path, is_chosen, is_open}
-use Rattle.exam_model.specs.Weights.{stimulus_weight}
+use Rattle.form_model.specs.Problem.{Problem}
+use Rattle.certificate_model.specs.Paths.{Path, is_chosen, is_open}
+use Rattle.certificate_model.specs.Weights.{stimulus_weight}
 
 -- no weight of a stimulus is further from 0
 abbrev pub stimulus_top : ℕ

@@ -3,11 +3,11 @@ use Rattle.std.specs.Prelude.{◌≡◌, ℕ, suc, Bool, true, cond, List, slice
 use Rattle.bank_tables.specs.Items.{Set}
 use Rattle.bank_tables.specs.Sums.{sum_in, sum_in_z}
 use Rattle.bank_tables.specs.Tables.{size}
-use Rattle.exam_model.specs.Forms.{stimuli_of}
-use Rattle.exam_model.specs.Paths.{Path}
-use Rattle.exam_model.specs.Problem.{Problem}
-use Rattle.exam_model.specs.Relaxed.{Multipliers, multiplier, IsRelaxedPair}
-use Rattle.exam_model.specs.Weights.{item_weight, stimulus_weight, rows_constant}
+use Rattle.form_model.specs.Forms.{stimuli_of}
+use Rattle.certificate_model.specs.Paths.{Path}
+use Rattle.form_model.specs.Problem.{Problem}
+use Rattle.certificate_model.specs.Relaxed.{Multipliers, multiplier, IsRelaxedPair}
+use Rattle.certificate_model.specs.Weights.{item_weight, stimulus_weight, rows_constant}
 use Rattle.series_model.specs.Series.{SeriesProblem}
 use Rattle.series_model.specs.SeriesBounds.{use_side, counts, form_lagrangian, IsSeriesMaximum}
 use Rattle.series_model.specs.SeriesPaths.{SeriesPath, form_problem, form_path}

@@ -1,6 +1,6 @@
 -- Weights of items, and the heavier of two items.
 use Rattle.std.specs.Prelude.{◌≡◌, ℕ, ◌⊎◌, List, ℤ, ◌≤ℤ◌, Option, Some, None}
-use Rattle.exam_model.specs.Ranges.{at}
+use Rattle.certificate_model.specs.Ranges.{at}
 
 -- no weight of an item is further from 0
 abbrev pub item_top : ℕ

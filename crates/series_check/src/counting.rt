@@ -1,9 +1,9 @@
 //! Rows of a form that are impossible by counting.
 
 ghost use Rattle.std.specs.Prelude.{◌≡◌, ◌<◌, ◌≤◌};
-ghost use Rattle.exam_model.specs.Counting.{length_impossible, row_impossible, stimulus_impossible, is_impossible};
-ghost use Rattle.exam_model.specs.Forms.{stimuli_of};
-ghost use Rattle.exam_model.specs.Validity.{IsRow};
+ghost use Rattle.certificate_model.specs.Counting.{length_impossible, row_impossible, stimulus_impossible, is_impossible};
+ghost use Rattle.form_model.specs.Forms.{stimuli_of};
+ghost use Rattle.form_model.specs.Validity.{IsRow};
 ghost use Rattle.series_model.specs.Series.{IsSeriesProblem};
 ghost use Rattle.series_check.specs.Cuts.{problem_of, one_form, form_path_of, IsStanding};
 

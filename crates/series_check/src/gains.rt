@@ -2,9 +2,9 @@
 
 ghost use Rattle.std.specs.Prelude.{◌≡◌, ℕ, suc, ◌+◌, ◌*◌, ◌<◌, ◌≤◌, length, slice_index};
 ghost use Rattle.bank_tables.specs.Sums.{total_z};
-ghost use Rattle.exam_model.specs.Forms.{stimuli_of};
-ghost use Rattle.exam_model.specs.Ranges.{IsWithin};
-ghost use Rattle.exam_model.specs.Weights.{stimulus_share};
+ghost use Rattle.form_model.specs.Forms.{stimuli_of};
+ghost use Rattle.certificate_model.specs.Ranges.{IsWithin};
+ghost use Rattle.certificate_model.specs.Weights.{stimulus_share};
 ghost use Rattle.series_model.specs.Series.{IsSeriesProblem};
 ghost use Rattle.series_check.specs.Cuts.{problem_of, one_form, form_path_of, IsStanding};
 ghost use Rattle.series_check.specs.Gains.{stimulus_top, gain_of};

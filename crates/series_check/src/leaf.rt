@@ -1,7 +1,7 @@
 //! The leaves that close a path.
 
 ghost use Rattle.std.specs.Prelude.{◌↔◌, IsTrue, Some};
-ghost use Rattle.exam_model.specs.Relaxed.{Multipliers};
+ghost use Rattle.certificate_model.specs.Relaxed.{Multipliers};
 ghost use Rattle.series_model.specs.declared.node.SeriesNode.TheVariants.{Bound, Ray, Whole};
 ghost use Rattle.series_model.specs.Series.{IsSeriesProblem};
 ghost use Rattle.series_model.specs.SeriesVerdicts.{IsSide, NamesOnlySides, MaximumIsBelow, ClosesByBound, IsWholePath, IsSettled, IsSound};

@@ -3,9 +3,9 @@
 ghost use Rattle.std.specs.Prelude.{◌≡◌, ℕ, ◌+◌, ◌*◌, ◌<◌, ◌≤◌, ◌≤ℤ◌, pos, IfSome, slice_index};
 ghost use Rattle.bank_tables.specs.Items.{has};
 ghost use Rattle.bank_tables.specs.Tables.{size};
-ghost use Rattle.exam_model.specs.Forms.{size_in};
-ghost use Rattle.exam_model.specs.Ranges.{IsWithin, at};
-ghost use Rattle.exam_model.specs.Relaxed.{Multipliers};
+ghost use Rattle.form_model.specs.Forms.{size_in};
+ghost use Rattle.certificate_model.specs.Ranges.{IsWithin, at};
+ghost use Rattle.certificate_model.specs.Relaxed.{Multipliers};
 ghost use Rattle.series_model.specs.Series.{IsSeriesProblem};
 ghost use Rattle.series_check.specs.Cuts.{problem_of, one_form, path_of, form_path_of, IsStanding};
 ghost use Rattle.series_check.specs.Maximum.{information_at, weight_at, maximum_top, IsValueOf, IsSides, IsFormAnswer, IsAnswer};

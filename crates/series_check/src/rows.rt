@@ -4,10 +4,10 @@ ghost use Rattle.std.specs.Prelude.{◌≡◌, ◌+◌, ◌*◌, ◌<◌, ◌≤
 ghost use Rattle.bank_tables.specs.Sums.{total_z};
 ghost use Rattle.bank_tables.specs.Tables.{size};
 ghost use Rattle.bank_tables.specs.Validity.{IsBank};
-ghost use Rattle.exam_model.specs.Forms.{stimuli_of};
-ghost use Rattle.exam_model.specs.Ranges.{IsWithin};
-ghost use Rattle.exam_model.specs.Validity.{IsRow};
-ghost use Rattle.exam_model.specs.Weights.{price, bounds_price, item_activity, stimulus_activity, constant_share, item_share, stimulus_share, price_of_stimulus, item_weight, stimulus_weight, rows_constant};
+ghost use Rattle.form_model.specs.Forms.{stimuli_of};
+ghost use Rattle.certificate_model.specs.Ranges.{IsWithin};
+ghost use Rattle.form_model.specs.Validity.{IsRow};
+ghost use Rattle.certificate_model.specs.Weights.{price, bounds_price, item_activity, stimulus_activity, constant_share, item_share, stimulus_share, price_of_stimulus, item_weight, stimulus_weight, rows_constant};
 ghost use Rattle.series_model.specs.Series.{IsSeriesProblem};
 ghost use Rattle.series_check.specs.Cuts.{problem_of, one_form};
 ghost use Rattle.series_check.specs.Gains.{stimulus_top};

@@ -1,7 +1,7 @@
 //! The multiplier of each side of a vector.
 
 ghost use Rattle.std.specs.Prelude.{◌<◌, All};
-ghost use Rattle.exam_model.specs.Relaxed.{Multipliers};
+ghost use Rattle.certificate_model.specs.Relaxed.{Multipliers};
 ghost use Rattle.series_model.specs.SeriesBounds.{multipliers_of};
 ghost use Rattle.series_model.specs.SeriesTrees.{Ascends};
 ghost use Rattle.series_check.specs.Maximum.{IsSides};

@@ -4,7 +4,7 @@ ghost use Rattle.std.specs.Prelude.{◌≡◌, ℕ, ◌<◌, ◌≤◌, ◌&&◌
 ghost use Rattle.bank_tables.specs.Items.{has};
 ghost use Rattle.bank_tables.specs.Sums.{any_below};
 ghost use Rattle.bank_tables.specs.Tables.{size};
-ghost use Rattle.exam_model.specs.Problem.{Problem};
+ghost use Rattle.form_model.specs.Problem.{Problem};
 ghost use Rattle.series_model.specs.SeriesPaths.{form_path};
 ghost use Rattle.series_check.specs.Cuts.{problem_of, one_form, path_of, form_path_of, IsStanding};
 

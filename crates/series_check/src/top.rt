@@ -4,7 +4,7 @@ ghost use Rattle.std.specs.Prelude.{◌≡◌, ℕ, ◌*◌, ◌<◌, ◌≤◌,
 ghost use Rattle.bank_tables.specs.Items.{has};
 ghost use Rattle.bank_tables.specs.Sums.{count_in, sum_in_z};
 ghost use Rattle.certificate_check.specs.Tops.{IsNextBest, IsTopOf};
-ghost use Rattle.exam_model.specs.Ranges.{IsWithin, at};
+ghost use Rattle.certificate_model.specs.Ranges.{IsWithin, at};
 ghost use Rattle.series_check.specs.Tops.{item_top, IsHeavier};
 
 use bank_tables::ItemSet;

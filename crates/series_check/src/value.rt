@@ -4,7 +4,7 @@ ghost use Rattle.std.specs.Prelude.{◌≡◌, ◌≤◌, ◌<◌, ◌↔◌, �
 ghost use Rattle.bank_tables.specs.Items.{has};
 ghost use Rattle.bank_tables.specs.Sums.{sum_in};
 ghost use Rattle.bank_tables.specs.Tables.{size, info};
-ghost use Rattle.exam_model.specs.Forms.{Meets};
+ghost use Rattle.form_model.specs.Forms.{Meets};
 ghost use Rattle.series_model.specs.Series.{IsSeriesProblem, IsSeries, IsSeriesList, IsValue, forms_of};
 ghost use Rattle.series_check.specs.Cuts.{problem_of};
 ghost use Rattle.series_check.specs.Values.{AreApart, IsLesser, IsLeastTo};

@@ -6,16 +6,16 @@ use Rattle.std.proofs.Math.Bool.{true≢false}
 use Rattle.bank_tables.specs.Items.{Set}
 use Rattle.bank_tables.specs.Sums.{sum_in, sum_in_z, total_z}
 use Rattle.bank_tables.specs.Tables.{size, info, stimulus}
-use Rattle.exam_model.specs.Counting.{is_impossible}
-use Rattle.exam_model.specs.Forms.{Meets, items_of, stimuli_of, used}
-use Rattle.exam_model.specs.Paths.{Path, Under, is_free, is_chosen, is_open}
-use Rattle.exam_model.specs.Plan.{bound_at}
-use Rattle.exam_model.specs.Problem.{Problem}
-use Rattle.exam_model.specs.Relaxed.{Multipliers, multiplier, weighted_slacks, weighted_stimulus_slacks, lagrangian_without_links, IsRelaxedPair}
-use Rattle.exam_model.specs.Weights.{weight}
-use Rattle.exam_model.proofs.SumLaws.{either, or_true, any_intro, any_elim, nonneg_sub, nonneg_mul, nonneg_add, nonneg_total, sum_in-zero, count_none, count_some}
-use Rattle.exam_model.proofs.Duality.{held_is_taken_or_free, used_chosen_or_open}
-use Rattle.exam_model.proofs.CountingLaws.{impossible_leaves_no_form}
+use Rattle.certificate_model.specs.Counting.{is_impossible}
+use Rattle.form_model.specs.Forms.{Meets, items_of, stimuli_of, used}
+use Rattle.certificate_model.specs.Paths.{Path, Under, is_free, is_chosen, is_open}
+use Rattle.form_model.specs.Plan.{bound_at}
+use Rattle.form_model.specs.Problem.{Problem}
+use Rattle.certificate_model.specs.Relaxed.{Multipliers, multiplier, weighted_slacks, weighted_stimulus_slacks, lagrangian_without_links, IsRelaxedPair}
+use Rattle.certificate_model.specs.Weights.{weight}
+use Rattle.form_model.proofs.SumLaws.{either, or_true, any_intro, any_elim, nonneg_sub, nonneg_mul, nonneg_add, nonneg_total, sum_in-zero, count_none, count_some}
+use Rattle.certificate_model.proofs.Duality.{held_is_taken_or_free, used_chosen_or_open}
+use Rattle.certificate_model.proofs.CountingLaws.{impossible_leaves_no_form}
 use Rattle.series_model.specs.Series.{SeriesProblem, Forms, weight_of, weighted_information, IsSeries, IsValue}
 use Rattle.series_model.specs.SeriesPaths.{SeriesPath, form_problem, in_another, form_path, OnPath}
 use Rattle.series_model.specs.SeriesBounds.{point_side, use_side, multipliers_of, counts, points_of, points, information_of, item_gain, form_lagrangian, uses, series_lagrangian, AreRelaxed, IsSeriesMaximum}

@@ -3,7 +3,7 @@ use Rattle.std.proofs.Common.{◌≡◌, ℕ, zero, suc, ◌+◌, ◌*◌, ◌�
 use Rattle.std.proofs.lemmas.Int.{ints}
 use Rattle.bank_tables.specs.Items.{Set}
 use Rattle.bank_tables.specs.Sums.{sum_in, sum_in_z, total_z}
-use Rattle.exam_model.proofs.SumLaws.{either, sum_in-scale}
+use Rattle.form_model.proofs.SumLaws.{either, sum_in-scale}
 
 -- all numbers
 abbrev pub every : Set

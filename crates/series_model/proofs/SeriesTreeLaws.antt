@@ -5,10 +5,10 @@ use Rattle.std.proofs.lemmas.Bool.{and_parts, eqb-true, eq-eqb}
 use Rattle.std.proofs.Math.Bool.{true≢false}
 use Rattle.std.proofs.Math.Path.{fun_ext}
 use Rattle.bank_tables.specs.Items.{Set}
-use Rattle.exam_model.specs.Forms.{Meets}
-use Rattle.exam_model.specs.Relaxed.{Multipliers}
-use Rattle.exam_model.proofs.SumLaws.{either, or_true}
-use Rattle.exam_model.proofs.Duality.{held_is_taken_or_free}
+use Rattle.form_model.specs.Forms.{Meets}
+use Rattle.certificate_model.specs.Relaxed.{Multipliers}
+use Rattle.form_model.proofs.SumLaws.{either, or_true}
+use Rattle.certificate_model.proofs.Duality.{held_is_taken_or_free}
 use Rattle.series_model.specs.declared.node.SeriesNode.{SeriesNode}
 use Rattle.series_model.specs.declared.node.SeriesNode.TheVariants.{Branch, Bound, Ray, Count, Whole, Open, Use, Twin}
 use Rattle.series_model.specs.declared.verdict.SeriesVerdict.{SeriesVerdict}

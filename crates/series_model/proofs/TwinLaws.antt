@@ -5,10 +5,10 @@ use Rattle.std.proofs.Math.Bool.{true≢false}
 use Rattle.bank_tables.specs.Items.{Set}
 use Rattle.bank_tables.specs.Sums.{any_below}
 use Rattle.bank_tables.specs.Tables.{size}
-use Rattle.exam_model.specs.Forms.{Meets}
-use Rattle.exam_model.specs.Paths.{Path, is_free}
-use Rattle.exam_model.proofs.SumLaws.{either, or_true, or_left, any_intro, any_elim}
-use Rattle.exam_model.proofs.Duality.{held_is_taken_or_free}
+use Rattle.form_model.specs.Forms.{Meets}
+use Rattle.certificate_model.specs.Paths.{Path, is_free}
+use Rattle.form_model.proofs.SumLaws.{either, or_true, or_left, any_intro, any_elim}
+use Rattle.certificate_model.proofs.Duality.{held_is_taken_or_free}
 use Rattle.series_model.specs.Series.{SeriesProblem, Forms, IsSeries, IsValue, weighted_information}
 use Rattle.series_model.specs.SeriesPaths.{SeriesPath, form_problem, in_another, form_path, is_free_in, OnPath}
 use Rattle.series_model.specs.SeriesTwins.{same_items, is_twin, without_twins}

@@ -4,10 +4,10 @@ use Rattle.std.specs.Prelude.{◌≡◌, ℕ, ◌*◌, ◌≤◌, ◌<◌, List,
 use Rattle.bank_tables.specs.Items.{Set, has}
 use Rattle.bank_tables.specs.Tables.{Tables, size, info}
 use Rattle.bank_tables.specs.Sums.{sum_in}
-use Rattle.exam_model.specs.Plan.{Plan}
+use Rattle.form_model.specs.Plan.{Plan}
 use Rattle.bank_tables.specs.Validity.{IsBank}
-use Rattle.exam_model.specs.Forms.{Meets}
-use Rattle.exam_model.specs.Validity.{IsPlanFor}
+use Rattle.form_model.specs.Forms.{Meets}
+use Rattle.form_model.specs.Validity.{IsPlanFor}
 
 -- what a series is assembled for: an item bank, a plan, the weight of each grid point, and the number of forms
 pub record SeriesProblem : Type 0 where

@@ -4,7 +4,7 @@ use Rattle.std.specs.Prelude.{◌≡◌, ℕ, ◌+◌, ◌-◌, ◌*◌, ◌<◌
 use Rattle.bank_tables.specs.Items.{Set}
 use Rattle.bank_tables.specs.Tables.{size, info}
 use Rattle.bank_tables.specs.Sums.{sum_in, sum_in_z, total_z}
-use Rattle.exam_model.specs.Relaxed.{Multipliers, multiplier, lagrangian_without_links, IsRelaxedPair}
+use Rattle.certificate_model.specs.Relaxed.{Multipliers, multiplier, lagrangian_without_links, IsRelaxedPair}
 use Rattle.series_model.specs.Series.{SeriesProblem, Forms, weight_of}
 use Rattle.series_model.specs.SeriesPaths.{SeriesPath, form_problem, form_path}
 

@@ -1,7 +1,7 @@
 -- What the definitions imply, as the public laws state it.
 use Rattle.std.specs.Prelude.{◌≡◌, ℕ, ◌+◌, ◌*◌, ◌≤◌, ◌<◌, List, ℤ, pos, ◌≤ℤ◌, true, false, IsTrue, Option, Some, None}
-use Rattle.exam_model.specs.Counting.{is_impossible}
-use Rattle.exam_model.specs.Relaxed.{Multipliers}
+use Rattle.certificate_model.specs.Counting.{is_impossible}
+use Rattle.certificate_model.specs.Relaxed.{Multipliers}
 use Rattle.series_model.specs.declared.verdict.SeriesVerdict.TheVariants.{Optimal, NoSeries}
 use Rattle.series_model.specs.Series.{SeriesProblem, Forms, IsValue, NoneAbove, BestSeries, HasNoSeries, forms_of}
 use Rattle.series_model.specs.SeriesTrees.{Certificate}

@@ -2,8 +2,8 @@
 use Rattle.std.specs.Prelude.{ℕ, ◌<◌, Bool, true, false, not, ◌&&◌, ◌||◌, ◌==◌, IsTrue, IsFalse}
 use Rattle.bank_tables.specs.Items.{Set}
 use Rattle.bank_tables.specs.Sums.{any_below}
-use Rattle.exam_model.specs.Problem.{Problem, whole}
-use Rattle.exam_model.specs.Paths.{Path, is_free}
+use Rattle.form_model.specs.Problem.{Problem, whole}
+use Rattle.certificate_model.specs.Paths.{Path, is_free}
 use Rattle.series_model.specs.Series.{SeriesProblem, Forms, IsSeries}
 
 -- the items in each form, and those put out of it

@@ -2,9 +2,9 @@
 use Rattle.std.specs.Prelude.{◌≡◌, ℕ, zero, suc, ◌+◌, ◌*◌, ◌<◌, ◌≤◌, ◌⊎◌, ◌||◌, ◌&&◌, ◌==◌, nat_lt, Bool, true, false, List, [], ◌∷◌, ◌++◌, length, IsTrue, IsFalse, ℤ, pos, negsuc, ◌<ℤ◌, Option, Some, None, All}
 use Rattle.bank_tables.specs.Items.{Set}
 use Rattle.bank_tables.specs.Tables.{size}
-use Rattle.exam_model.specs.Counting.{is_impossible}
-use Rattle.exam_model.specs.Forms.{stimuli_of}
-use Rattle.exam_model.specs.Relaxed.{Multipliers}
+use Rattle.certificate_model.specs.Counting.{is_impossible}
+use Rattle.form_model.specs.Forms.{stimuli_of}
+use Rattle.certificate_model.specs.Relaxed.{Multipliers}
 use Rattle.series_model.specs.declared.node.SeriesNode.{SeriesNode}
 use Rattle.series_model.specs.declared.node.SeriesNode.TheVariants.{Branch, Bound, Ray, Count, Whole, Open, Use, Twin}
 use Rattle.series_model.specs.declared.verdict.SeriesVerdict.{SeriesVerdict}

@@ -22,11 +22,11 @@ mod leaves;
 mod model;
 mod multipliers;
 mod numbers;
-mod pass;
 mod path;
 mod priced;
 mod rule;
 mod search_call;
+mod sweep;
 mod table;
 
 pub use kinds::Kinds;

@@ -10,7 +10,7 @@ use crate::path::Path;
 use crate::priced::Priced;
 use crate::table::{Limits, Table};
 use bank_tables::ItemSet;
-use exam_model::Node;
+use certificate_model::Node;
 use multiplier_exchanges::{Columns, Given, PathSets, Relaxation, Vertex, Workspace};
 use series_tree::{Memory, SeriesNode};
 use std::alloc::Global;

@@ -6,10 +6,10 @@ use crate::forms::Best;
 use crate::kinds::Kinds;
 use crate::model::Model;
 use crate::multipliers::Multipliers;
-use crate::pass::Pass;
 use crate::path::{Path, all_items};
 use crate::priced::Priced;
 use crate::rule::Room;
+use crate::sweep::Sweep;
 use crate::table::Table;
 use bank_tables::{Bank, ItemSet, List};
 use constraint_model::Spec;
@@ -19,11 +19,11 @@ use std::alloc::Global;
 /// Up to so many items of all forms the forms are branched on first.
 const FEW_ITEMS: i64 = 40;
 
-/// Nodes of a pass after which a better series lets another pass begin.
+/// Nodes of a sweep after which a better series lets another sweep begin.
 const MANY_NODES: usize = 50;
 
-/// Passes of one kind, at most.
-const PASSES: u32 = 4;
+/// Sweeps of one kind, at most.
+const SWEEPS: u32 = 4;
 
 /// The seed of all draws.
 const SEED: u64 = 20_260_101;
@@ -113,21 +113,21 @@ fn tree_of(
     Ok(SeriesTree::of(List::of(made), List::of(nodes)))
 }
 
-/// The tree of a pass, if no path of it waits.
-fn tree_of_pass(alloc: Global, pass: &Pass) -> Result<Option<SeriesTree>, Memory> {
-    if !pass.is_whole() {
+/// The tree of a sweep, if no path of it waits.
+fn tree_of_sweep(alloc: Global, sweep: &Sweep) -> Result<Option<SeriesTree>, Memory> {
+    if !sweep.is_whole() {
         return Ok(None);
     }
     let mut vectors = Vec::new(alloc);
-    for priced in pass.kept.vectors.as_slice() {
+    for priced in sweep.kept.vectors.as_slice() {
         vectors.push(Vec::from_slice(alloc, priced.pairs.as_slice())?)?;
     }
-    let nodes = Vec::from_slice(alloc, pass.nodes.as_slice())?;
+    let nodes = Vec::from_slice(alloc, sweep.nodes.as_slice())?;
     tree_of(alloc, vectors, nodes)
 }
 
-/// Passes of one kind, until one doesn't grow large and meet a better series.
-fn passes(
+/// Sweeps of one kind, until one doesn't grow large and meet a better series.
+fn sweeps(
     alloc: Global,
     table: &Table,
     best: &mut Best,
@@ -135,16 +135,16 @@ fn passes(
     is_pool: bool,
     top: i64,
     branches: u32,
-) -> Result<Option<Pass>, Memory> {
+) -> Result<Option<Sweep>, Memory> {
     let mut last = None;
-    for _ in 0..PASSES {
+    for _ in 0..SWEEPS {
         let known = best.value;
         let goal = known.saturating_add(1);
         let model = Model::of(alloc, table, is_pool, goal, top)?;
-        let mut pass = Pass::new(alloc, table, model, branches)?;
-        pass.grow(alloc, table, best, draws)?;
-        let is_large = pass.nodes.len() > MANY_NODES;
-        last = Some(pass);
+        let mut sweep = Sweep::new(alloc, table, model, branches)?;
+        sweep.grow(alloc, table, best, draws)?;
+        let is_large = sweep.nodes.len() > MANY_NODES;
+        last = Some(sweep);
         if best.value == known || !is_large {
             break;
         }
@@ -152,34 +152,34 @@ fn passes(
     Ok(last)
 }
 
-/// Whether a pass shows what it is to show.
-fn is_done(pass: &Option<Pass>) -> bool {
-    match pass {
-        Some(pass) => pass.is_whole() && !pass.is_spent,
+/// Whether a sweep shows what it is to show.
+fn is_done(sweep: &Option<Sweep>) -> bool {
+    match sweep {
+        Some(sweep) => sweep.is_whole() && !sweep.is_spent,
         None => false,
     }
 }
 
-/// The pass of the kind that suits the bank; if it spends the budget, that of the other kind, if there is one.
-fn best_pass(
+/// The sweep of the kind that suits the bank; if it spends the budget, that of the other kind, if there is one.
+fn best_sweep(
     alloc: Global,
     table: &Table,
     best: &mut Best,
     draws: &mut Draws,
     top: i64,
     branches: u32,
-) -> Result<Option<Pass>, Memory> {
+) -> Result<Option<Sweep>, Memory> {
     let has_forms = Model::has_forms(table);
     let forms_first = has_forms && table.pool_length() <= FEW_ITEMS;
-    let pass = passes(alloc, table, best, draws, !forms_first, top, branches)?;
-    if is_done(&pass) || !has_forms {
-        return Ok(pass);
+    let sweep = sweeps(alloc, table, best, draws, !forms_first, top, branches)?;
+    if is_done(&sweep) || !has_forms {
+        return Ok(sweep);
     }
-    let other = passes(alloc, table, best, draws, forms_first, top, branches)?;
+    let other = sweeps(alloc, table, best, draws, forms_first, top, branches)?;
     Ok(if is_done(&other) || forms_first {
         other
     } else {
-        pass
+        sweep
     })
 }
 
@@ -225,9 +225,9 @@ pub fn search(
     let second = root_bound(alloc, &table, goal, first.value.max(goal))?;
     let root = lesser(first, second);
     let branches = (budget as u32).saturating_sub(1) / 2;
-    let pass = best_pass(alloc, &table, &mut best, &mut draws, root.value, branches)?;
-    let tree = match &pass {
-        Some(pass) => tree_of_pass(alloc, pass)?,
+    let sweep = best_sweep(alloc, &table, &mut best, &mut draws, root.value, branches)?;
+    let tree = match &sweep {
+        Some(sweep) => tree_of_sweep(alloc, sweep)?,
         None => None,
     };
     let known = match best.known() {

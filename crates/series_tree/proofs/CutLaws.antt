@@ -7,7 +7,7 @@ use Rattle.exam_text.specs.First.{◌>>=◌, unless, fault_where}
 use Rattle.exam_text.proofs.Firsts.{bind_ok, unless_ok, ok_is, done}
 use Rattle.series_model.specs.declared.node.SeriesNode.{SeriesNode}
 use Rattle.series_model.specs.declared.node.SeriesNode.TheVariants.{Branch, Bound, Ray, Count, Whole, Open, Use, Twin}
-use Rattle.exam_model.specs.Relaxed.{Multipliers}
+use Rattle.certificate_model.specs.Relaxed.{Multipliers}
 use Rattle.series_model.specs.SeriesTrees.{Certificate, is_moderate}
 use Rattle.proof_tree.specs.declared.fault.TreeFault.{TreeFault}
 use Rattle.proof_tree.specs.declared.fault.TreeFault.TheVariants.{Short, BadVector, BadKind, Unfinished, TooLong}

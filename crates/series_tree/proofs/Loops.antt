@@ -4,7 +4,7 @@ use Rattle.std.proofs.lemmas.Bool.{lt-ltb, le-ltb}
 use Rattle.std.proofs.lemmas.List.{append-nil}
 use Rattle.exam_text.specs.First.{◌>>=◌}
 use Rattle.series_model.specs.declared.node.SeriesNode.{SeriesNode}
-use Rattle.exam_model.specs.Relaxed.{Multipliers}
+use Rattle.certificate_model.specs.Relaxed.{Multipliers}
 use Rattle.proof_tree.specs.declared.fault.TreeFault.{TreeFault}
 use Rattle.proof_tree.specs.declared.fault.TreeFault.TheVariants.{Memory, Unfinished, TooLong}
 use Rattle.series_model.specs.SeriesTrees.{children}

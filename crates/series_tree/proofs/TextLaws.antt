@@ -8,7 +8,7 @@ use Rattle.hex.specs.Hex.{IsBytes, encode_lower, decode_of}
 use Rattle.hex.proofs.HexLemmas.{decode_of-encode_lower}
 use Rattle.series_model.specs.declared.node.SeriesNode.{SeriesNode}
 use Rattle.series_model.specs.declared.node.SeriesNode.TheVariants.{Branch, Bound, Ray, Count, Whole, Open, Use, Twin}
-use Rattle.exam_model.specs.Relaxed.{Multipliers}
+use Rattle.certificate_model.specs.Relaxed.{Multipliers}
 use Rattle.series_model.specs.SeriesTrees.{Certificate}
 use Rattle.series_tree.specs.Shape.{IsTree, IsNode}
 use Rattle.proof_tree.specs.Spelling.{pair_bytes, vector_bytes}

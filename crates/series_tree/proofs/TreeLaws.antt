@@ -11,7 +11,7 @@ use Rattle.exam_text.specs.First.{◌>>=◌, Gives}
 use Rattle.exam_text.proofs.Firsts.{bind_ok, ok_is}
 use Rattle.series_model.specs.declared.node.SeriesNode.{SeriesNode}
 use Rattle.series_model.specs.declared.node.SeriesNode.TheVariants.{Branch, Bound, Ray, Count, Whole, Open, Use, Twin}
-use Rattle.exam_model.specs.Relaxed.{Multipliers}
+use Rattle.certificate_model.specs.Relaxed.{Multipliers}
 use Rattle.series_model.specs.SeriesTrees.{Certificate, AreTrees, IsCertificate}
 use Rattle.proof_tree.specs.declared.fault.TreeFault.{TreeFault}
 use Rattle.proof_tree.specs.declared.fault.TreeFault.TheVariants.{Unfinished, TooLong, Memory}

@@ -15,7 +15,7 @@ pub struct SeriesVector {
 }
 
 impl Model for SeriesVector {
-    ghost use Rattle.exam_model.specs.Relaxed.{Multipliers};
+    ghost use Rattle.certificate_model.specs.Relaxed.{Multipliers};
     ghost use Rattle.series_model.specs.SeriesTrees.{Ascends};
 
     ghost Value = { Multipliers };

@@ -1,7 +1,7 @@
 //! Requests of one caller on bank A: the replies are those of an office of one thread, which were
 //! worked out by hand.
 
-ghost use Rattle.exam_model.specs.Validity.{IsPlanFor};
+ghost use Rattle.form_model.specs.Validity.{IsPlanFor};
 ghost use Rattle.exam_hall.specs.Known.{IsOf};
 
 use crate::equal::is_equal;

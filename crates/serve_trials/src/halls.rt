@@ -1,7 +1,7 @@
 //! A hall on bank A, and what its callers are answered.
 
 ghost use Rattle.std.specs.Prelude.{◌≡◌, IfOk};
-ghost use Rattle.exam_model.specs.Validity.{IsPlanFor};
+ghost use Rattle.form_model.specs.Validity.{IsPlanFor};
 ghost use Rattle.exam_hall.specs.Known.{IsOf};
 
 use crate::office::{empty_disk, opened};
@@ -10,7 +10,8 @@ use bank_tables::Bank;
 use constraint_model::Spec;
 use exam_edge::{Gate, MemoryDisk};
 use exam_hall::{Caller, Hall};
-use exam_office::{Handler, Office, Request};
+use exam_handler::Handler;
+use exam_office::{Office, Request};
 use std::alloc::Global;
 use std::sync::Wait;
 use std::test::Fail;

@@ -1,7 +1,7 @@
 //! Two callers of one hall: one is held before its assembly while the other is answered.
 
 ghost use Rattle.std.specs.Prelude.{◌≡◌};
-ghost use Rattle.exam_model.specs.Validity.{IsPlanFor};
+ghost use Rattle.form_model.specs.Validity.{IsPlanFor};
 ghost use Rattle.exam_hall.specs.Known.{IsOf};
 
 use crate::equal::is_equal;
@@ -12,7 +12,8 @@ use bank_tables::Bank;
 use constraint_model::Spec;
 use exam_edge::{Gate, MemoryDisk, Point};
 use exam_hall::{Caller, Hall};
-use exam_office::{Handler, Office, Request};
+use exam_handler::Handler;
+use exam_office::{Office, Request};
 use std::alloc::Global;
 use std::sync::Wait;
 use std::sync::atomic::{AtomicBool, Ordering};

@@ -1,6 +1,6 @@
 //! What a client gets from an office of one thread on bank A.
 
-ghost use Rattle.exam_model.specs.Validity.{IsPlanFor};
+ghost use Rattle.form_model.specs.Validity.{IsPlanFor};
 
 use crate::equal::is_equal;
 use crate::office::{EVEN, empty_disk, opened, planned};

@@ -4,7 +4,7 @@ ghost use Rattle.std.specs.Prelude.{IfOk};
 ghost use Rattle.answer_journal.specs.Frames.{shadowj1};
 ghost use Rattle.answer_journal.specs.Standing.{IsAsLeft};
 ghost use Rattle.exam_edge.specs.MemoryDisk.{accounts_of};
-ghost use Rattle.exam_model.specs.Validity.{IsPlanFor};
+ghost use Rattle.form_model.specs.Validity.{IsPlanFor};
 
 use bank_tables::Bank;
 use constraint_model::{Draft, Rate, Spec};

@@ -4,12 +4,12 @@ use Rattle.std.specs.Prelude.{IfSome}
 use Rattle.std.proofs.Math.Bool.{true≢false}
 use Rattle.bank_tables.specs.Items.{Set}
 use Rattle.bank_tables.specs.Tables.{size, info}
-use Rattle.exam_model.specs.Problem.{Problem}
-use Rattle.exam_model.specs.Forms.{Form}
-use Rattle.exam_model.specs.Serving.{is_candidate}
-use Rattle.exam_model.specs.Validity.{IsWellMade}
-use Rattle.exam_model.proofs.NextItems.{some_next}
-use Rattle.exam_model.proofs.SumLaws.{and_true}
+use Rattle.form_model.specs.Problem.{Problem}
+use Rattle.form_model.specs.Forms.{Form}
+use Rattle.serving_model.specs.Serving.{is_candidate}
+use Rattle.form_model.specs.Validity.{IsWellMade}
+use Rattle.serving_model.proofs.NextItems.{some_next}
+use Rattle.form_model.proofs.SumLaws.{and_true}
 use Rattle.shadow_select.specs.Next.{HasFreeItem, IsNextBelow}
 
 last_or : (i n : ℕ) → i < n + 1 → (i < n) ⊎ (i ≡ n)

@@ -11,14 +11,14 @@ use Rattle.bank_tables.specs.Items.{Set, has}
 use Rattle.bank_tables.specs.Tables.{Tables, size}
 use Rattle.bank_tables.specs.Sums.{count_in, any_below}
 use Rattle.bank_tables.specs.Validity.{IsBank, HoldsItems}
-use Rattle.exam_model.specs.declared.seat.Seat.{Seat}
-use Rattle.exam_model.specs.Plan.{Plan}
-use Rattle.exam_model.specs.Problem.{Problem}
-use Rattle.exam_model.specs.Forms.{Form, size_in}
-use Rattle.exam_model.specs.Serving.{is_not_given}
-use Rattle.exam_model.specs.Seats.{is_shown, last_shown, is_barred, seat_problem, IsSeat, IsPending}
-use Rattle.exam_model.specs.Validity.{IsPlanFor, IsWellMade}
-use Rattle.exam_model.proofs.SumLaws.{either, and_true, any_elim, any_intro, sum_in-le}
+use Rattle.serving_model.specs.declared.seat.Seat.{Seat}
+use Rattle.form_model.specs.Plan.{Plan, band_of}
+use Rattle.form_model.specs.Problem.{Problem}
+use Rattle.form_model.specs.Forms.{Form, size_in}
+use Rattle.serving_model.specs.Serving.{is_not_given}
+use Rattle.serving_model.specs.Seats.{is_shown, last_shown, is_barred, is_aside_in, is_unavailable_in, seat_problem, IsSeat, IsPending}
+use Rattle.form_model.specs.Validity.{IsPlanFor, IsWellMade}
+use Rattle.form_model.proofs.SumLaws.{either, and_true, any_elim, any_intro, sum_in-le}
 use Rattle.shadow_select.proofs.ShownLaws.{found_at}
 use Rattle.shadow_select.specs.Next.{HasFreeItem, FreeItemIsLeft}
 
@@ -62,18 +62,18 @@ well_made b plan session seat theta bank for_bank is within =
       start_items = start_is b seat.form is.form_items;
     }
 
-pub made_well :
-    (b : Tables) (plan : Plan) (session : ℕ) (seat : Seat) (theta step : ℕ) (last : Option ℕ) (given barred : Set)
-    → step ≡ length seat.responses → last ≡ last_shown seat → ((i : ℕ) → given i ≡ is_shown seat i) → ((i : ℕ) → barred i ≡ is_barred b seat i)
-    → IsBank b → IsPlanFor b plan → IsSeat b plan seat → theta < b.grid
-    → IsWellMade (record { bank = b; plan = plan; session = session; step = step; aside = seat.aside; given = given; barred = barred; theta = theta; last = last; start = option_map has seat.form })
-made_well b plan session seat theta step last given barred e-step e-last e-given e-barred bank for_bank is within =
+pub problem_made :
+    (b : Tables) (plan : Plan) (session : ℕ) (seat : Seat) (theta step band : ℕ) (aside : Bool) (last : Option ℕ) (given barred : Set)
+    → step ≡ length seat.responses → band ≡ band_of plan theta → aside ≡ is_aside_in seat band → last ≡ last_shown seat → ((i : ℕ) → given i ≡ is_shown seat i) → ((i : ℕ) → barred i ≡ is_barred b seat (is_unavailable_in seat band) i)
+    → (let P : Problem = record { bank = b; plan = plan; session = session; step = step; aside = aside; given = given; barred = barred; theta = theta; last = last; start = option_map has seat.form } in P ≡ seat_problem b plan session seat theta)
+problem_made b plan session seat theta step band aside last given barred e-step e-band e-aside e-last e-given e-barred =
     let given_is : given ≡ is_shown seat = fun_ext e-given in
-    let barred_is : barred ≡ is_barred b seat = fun_ext e-barred in
-    subst IsWellMade (sym (same step last given barred e-step e-last given_is barred_is)) (well_made b plan session seat theta bank for_bank is within)
+    let barred_is : barred ≡ is_barred b seat (is_unavailable_in seat (band_of plan theta)) = fun_ext e-barred ∙ ap (λ (k : ℕ). is_barred b seat (is_unavailable_in seat k)) e-band in
+    same step aside last given barred e-step (e-aside ∙ ap (is_aside_in seat) e-band) e-last given_is barred_is
   where
-    same : (step : ℕ) (last : Option ℕ) (given barred : Set) → step ≡ length seat.responses → last ≡ last_shown seat → given ≡ is_shown seat → barred ≡ is_barred b seat → (let P : Problem = record { bank = b; plan = plan; session = session; step = step; aside = seat.aside; given = given; barred = barred; theta = theta; last = last; start = option_map has seat.form } in P ≡ seat_problem b plan session seat theta)
-    same step last given barred p q r s = cc
+    same : (step : ℕ) (aside : Bool) (last : Option ℕ) (given barred : Set) → step ≡ length seat.responses → aside ≡ is_aside_in seat (band_of plan theta) → last ≡ last_shown seat → given ≡ is_shown seat → barred ≡ is_barred b seat (is_unavailable_in seat (band_of plan theta))
+        → (let P : Problem = record { bank = b; plan = plan; session = session; step = step; aside = aside; given = given; barred = barred; theta = theta; last = last; start = option_map has seat.form } in P ≡ seat_problem b plan session seat theta)
+    same step aside last given barred p a q r s = cc
 
 -- ---- no more items are given than were shown
 step_one : (x n : ℕ) → count_in n (λ i. x == i) (λ _. true) ≤ cond (nat_lt x n) 1 0 → count_in (suc n) (λ i. x == i) (λ _. true) ≤ cond (nat_lt x (suc n)) 1 0

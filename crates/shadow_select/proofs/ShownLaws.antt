@@ -10,8 +10,8 @@ use Rattle.std.proofs.lemmas.Slice.Zip.{get_or-zip, length-zip}
 use Rattle.std.proofs.lemmas.Bool.{lt-ltb, le-ltb, cases_lt}
 use Rattle.bank_tables.specs.Items.{Set}
 use Rattle.bank_tables.specs.Tables.{Tables, size}
-use Rattle.exam_model.specs.declared.seat.Seat.{Seat}
-use Rattle.exam_model.specs.Seats.{is_shown, last_shown}
+use Rattle.serving_model.specs.declared.seat.Seat.{Seat}
+use Rattle.serving_model.specs.Seats.{is_shown, last_shown}
 use Rattle.std.proofs.lemmas.List.Folds.{list_any_at, list_any_more}
 
 -- a number at a place of the list is found in it

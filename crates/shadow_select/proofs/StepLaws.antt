@@ -1,22 +1,22 @@
 -- A seat stays a seat.
-use Rattle.std.proofs.Common.{◌≡◌, ℕ, ◌+◌, ◌-◌, ◌<◌, ◌⊎◌, inl, inr, Bool, true, false, not, ◌&&◌, ◌==◌, List, [], ◌∷◌, ◌++◌, length, refl, sym, ap, ◌∙◌, subst, arith, Option, Some, None, IsTrue, IsFalse, slice_get, get_or, length-append}
+use Rattle.std.proofs.Common.{◌≡◌, ℕ, ◌+◌, ◌-◌, ◌<◌, ◌⊎◌, inl, inr, Bool, true, false, not, ◌&&◌, ◌||◌, ◌==◌, List, [], ◌∷◌, ◌++◌, length, refl, sym, ap, ◌∙◌, subst, arith, Option, Some, None, IsTrue, IsFalse, slice_get, get_or, length-append}
 use Rattle.std.specs.List.{list_any}
 use Rattle.std.proofs.Math.Bool.{true≢false}
 use Rattle.std.proofs.Math.ListN.{get_or-append}
 use Rattle.std.proofs.Math.Seq.{get_or-append_seam}
-use Rattle.std.proofs.lemmas.Bool.{eqb-true, cases_lt}
+use Rattle.std.proofs.lemmas.Bool.{eqb-true, cases_lt, lt-ltb}
 use Rattle.std.proofs.lemmas.Option.{slice_get-get_or, slice_get_within}
 use Rattle.std.proofs.lemmas.List.Folds.{list_any-append}
 use Rattle.bank_tables.specs.Items.{has}
 use Rattle.bank_tables.specs.Tables.{Tables, size, categories}
 use Rattle.bank_tables.specs.Validity.{HoldsItems}
-use Rattle.exam_model.specs.declared.seat.Seat.{Seat}
-use Rattle.exam_model.specs.Plan.{Plan}
-use Rattle.exam_model.specs.Problem.{Problem}
-use Rattle.exam_model.specs.Forms.{Form}
-use Rattle.exam_model.specs.Seats.{is_shown, seat_problem, IsSeat, IsPending, with_item}
-use Rattle.exam_model.specs.Serving.{is_not_given, IsNext}
-use Rattle.exam_model.proofs.SumLaws.{and_true, or_true}
+use Rattle.serving_model.specs.declared.seat.Seat.{Seat}
+use Rattle.form_model.specs.Plan.{Plan, band_of}
+use Rattle.form_model.specs.Problem.{Problem}
+use Rattle.form_model.specs.Forms.{Form}
+use Rattle.serving_model.specs.Seats.{is_shown, is_of_stimulus_left_behind, is_withheld, is_unavailable_in, seat_problem, IsSeat, IsPending, with_item}
+use Rattle.serving_model.specs.Serving.{is_not_given, IsNext}
+use Rattle.form_model.proofs.SumLaws.{either, and_true, both, or_true, or_left, or_right}
 use Rattle.shadow_select.proofs.ShownLaws.{found_at}
 use Rattle.shadow_select.specs.Steps.{NewSeatIsSeat, ServedSeatIsSeat, AnsweredSeatIsSeat}
 
@@ -60,7 +60,7 @@ no_form : (form : Option (List ℕ)) (words : List ℕ) → form ≡ None → fo
 no_form form words e h = cc
 
 pub new_seat : NewSeatIsSeat
-new_seat b plan seat e-shown e-responses e-form =
+new_seat b plan seat e-shown e-responses e-form e-without =
     let none : length seat.shown ≡ 0 = ap (λ (xs : List ℕ). length xs) e-shown in
     let neither : length seat.responses ≡ 0 = ap (λ (xs : List ℕ). length xs) e-responses in
     record {
@@ -71,7 +71,9 @@ new_seat b plan seat e-shown e-responses e-form =
       in_range = λ k item response h g. absurd (no_place seat.shown k item e-shown h);
       form_items = λ words h. absurd (no_form seat.form words e-form h);
       form_none = λ h. none;
-      form_some = λ h. e-form;
+      form_some = λ h unlisted. e-form;
+      list_form = λ h. e-without;
+      not_withheld = λ i h. absurd (none_shown seat.shown i e-shown h);
     }
 
 -- ---- a seat that was served
@@ -86,12 +88,19 @@ not_true true true e = absurd (true≢false (sym e))
 not_true true false e = (refl, refl)
 not_true false given e = absurd (true≢false (sym e))
 
-module _ (b : Tables) (plan : Plan) (seat : Seat) (form : List ℕ) (item : ℕ) (is : IsSeat b plan seat) (in_bank : HoldsItems b (has form)) (held : IsTrue (has form item)) (fresh : IsFalse (is_shown seat item)) where
+module _ (b : Tables) (plan : Plan) (seat : Seat) (form : List ℕ) (item : ℕ) (is : IsSeat b plan seat) (in_bank : HoldsItems b (has form)) (held : IsTrue (has form item)) (fresh : IsFalse (is_shown seat item)) (allowed : IsFalse (is_withheld seat item)) where
   shown_items : (i : ℕ) → list_any (λ x. x == i) (seat.shown ++ item ∷ []) ≡ true → i < size b
   shown_items i h =
       elim (or_true (is_shown seat i) (list_any (λ x. x == i) (item ∷ [])) (sym (list_any-append (λ x. x == i) seat.shown (item ∷ [])) ∙ h)) [
         | inl old ↦ is.items i old
         | inr new ↦ elim (or_true (item == i) false new) [ inl same ↦ subst (λ (k : ℕ). k < size b) (eqb-true item i same) (in_bank item held) | inr not ↦ absurd (true≢false (sym not)) ]
+      ]
+
+  shown_allowed : (i : ℕ) → list_any (λ x. x == i) (seat.shown ++ item ∷ []) ≡ true → is_withheld seat i ≡ false
+  shown_allowed i h =
+      elim (or_true (is_shown seat i) (list_any (λ x. x == i) (item ∷ [])) (sym (list_any-append (λ x. x == i) seat.shown (item ∷ [])) ∙ h)) [
+        | inl old ↦ is.not_withheld i old
+        | inr new ↦ elim (or_true (item == i) false new) [ inl same ↦ subst (λ (k : ℕ). is_withheld seat k ≡ false) (eqb-true item i same) allowed | inr not ↦ absurd (true≢false (sym not)) ]
       ]
 
   not_again : (j : ℕ) → slice_get seat.shown j ≡ Some item → ⊥
@@ -126,7 +135,9 @@ module _ (b : Tables) (plan : Plan) (seat : Seat) (form : List ℕ) (item : ℕ)
             is.in_range k x response (front seat.shown item k x (omega (arith, within, pending.answered)) e) h;
         form_items = λ words e. subst (λ (w : List ℕ). HoldsItems b (has w)) (words_same form words e) in_bank;
         form_none = λ e. absurd (was_some form e);
-        form_some = λ e. absurd (omega (arith, number, e));
+        form_some = λ e unlisted. absurd (omega (arith, number, e));
+        list_form = λ e. absurd (was_some form e);
+        not_withheld = shown_allowed;
       }
 
 pub served_seat : ServedSeatIsSeat
@@ -135,7 +146,17 @@ served_seat b plan session seat P form proved item is pending problem a_form nex
     let form-Q : Form Q (has form) = subst (λ (R : Problem). Form R (has form)) problem.is a_form in
     let next-Q : IsNext Q (has form) item = subst (λ (R : Problem). IsNext R (has form) item) problem.is next in
     let parts = not_true (has form item) (is_shown seat item) (and_true (is_not_given Q (has form) item) _ next-Q.candidate).0 in
-    served b plan seat form item is form-Q.meets.right_length.in_bank parts.0 parts.1 proved pending
+    let in_bank = form-Q.meets.right_length.in_bank in
+    served b plan seat form item is in_bank parts.0 parts.1 (allowed form-Q parts.0 (in_bank item parts.0) (ap not parts.1)) proved pending
+  where
+    -- an item that is withheld is barred, so no form holds it
+    allowed : Form (seat_problem b plan session seat problem.theta) (has form) → has form item ≡ true → item < size b → not (is_shown seat item) ≡ true → is_withheld seat item ≡ false
+    allowed form-Q held within fresh = elim (either (is_withheld seat item)) [
+      | inl withheld ↦
+          let may_not = or_right (is_of_stimulus_left_behind b seat item) _ (or_left (is_withheld seat item) (is_unavailable_in seat (band_of plan problem.theta) item) withheld) in
+          absurd (true≢false (sym held ∙ form-Q.holds_no_barred item (both _ _ (lt-ltb item (size b) within) (both _ _ fresh may_not))))
+      | inr not ↦ not
+    ]
 
 -- ---- a seat that was answered
 pub answered_seat : AnsweredSeatIsSeat
@@ -158,4 +179,6 @@ answered_seat b plan seat item response is waits last within =
       form_items = is.form_items;
       form_none = is.form_none;
       form_some = is.form_some;
+      list_form = is.list_form;
+      not_withheld = is.not_withheld;
     }

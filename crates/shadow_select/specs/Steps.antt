@@ -2,16 +2,17 @@
 use Rattle.std.specs.Prelude.{◌≡◌, ℕ, ◌+◌, ◌<◌, Bool, List, [], length, Some, None}
 use Rattle.bank_tables.specs.Items.{has}
 use Rattle.bank_tables.specs.Tables.{Tables, categories}
-use Rattle.exam_model.specs.declared.seat.Seat.{Seat}
-use Rattle.exam_model.specs.Plan.{Plan}
-use Rattle.exam_model.specs.Problem.{Problem}
-use Rattle.exam_model.specs.Forms.{Form}
-use Rattle.exam_model.specs.Seats.{IsSeat, IsPending, IsSeatProblem, last_shown, with_item, with_response}
-use Rattle.exam_model.specs.Serving.{IsNext}
+use Rattle.serving_model.specs.declared.seat.Seat.{Seat}
+use Rattle.form_model.specs.Plan.{Plan}
+use Rattle.form_model.specs.Problem.{Problem}
+use Rattle.form_model.specs.Forms.{Form}
+use Rattle.serving_model.specs.Seats.{IsSeat, IsPending, IsSeatProblem, last_shown, with_item, with_response}
+use Rattle.serving_model.specs.Serving.{IsNext}
 
--- a seat that was shown nothing is a seat
+-- a seat that was shown nothing, with no form and no list, is a seat
 abbrev pub NewSeatIsSeat : Type 0
-NewSeatIsSeat = (b : Tables) (plan : Plan) (seat : Seat) → seat.shown ≡ [] → seat.responses ≡ [] → seat.form ≡ None → IsSeat b plan seat
+NewSeatIsSeat = (b : Tables) (plan : Plan) (seat : Seat) → seat.shown ≡ [] → seat.responses ≡ []
+    → seat.form ≡ None → seat.without ≡ None → IsSeat b plan seat
 
 -- a seat stays one where the next item of a form of its problem is shown
 abbrev pub ServedSeatIsSeat : Type 0

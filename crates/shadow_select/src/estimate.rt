@@ -1,14 +1,14 @@
 //! The ability estimate of a seat.
 
-ghost use Rattle.exam_model.specs.Seats.{answers, IsSeat};
-ghost use Rattle.exam_model.specs.Validity.{IsPlanFor};
+ghost use Rattle.serving_model.specs.Seats.{answers, IsSeat};
+ghost use Rattle.form_model.specs.Validity.{IsPlanFor};
 ghost use Rattle.ability_grid.specs.Running.{IsSumsOf};
 
 use crate::shown::number_at;
 use ability_grid::Sums;
 use bank_tables::Bank;
 use constraint_model::Spec;
-use exam_model::Seat;
+use serving_model::Seat;
 
 /// The sums of the plan's prior and the seat's answers.
 pub fn sums_of(bank: &Bank, spec: &Spec, seat: &Seat) -> Sums

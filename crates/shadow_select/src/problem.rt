@@ -1,8 +1,8 @@
 //! The next problem of a seat.
 
 ghost use Rattle.std.specs.Prelude.{◌↔◌, IsTrue, IsSome, IfSome};
-ghost use Rattle.exam_model.specs.Seats.{answers, IsSeat, IsPending, IsSeatProblem};
-ghost use Rattle.exam_model.specs.Validity.{IsPlanFor, IsWellMade};
+ghost use Rattle.serving_model.specs.Seats.{answers, IsSeat, IsPending, IsSeatProblem};
+ghost use Rattle.form_model.specs.Validity.{IsPlanFor, IsWellMade};
 ghost use Rattle.constraint_model.specs.Views.{problem_of};
 ghost use Rattle.ability_grid.specs.Running.{IsSumsOf};
 
@@ -12,7 +12,7 @@ use crate::shown::{last_shown, shown_items};
 use ability_grid::Sums;
 use bank_tables::Bank;
 use constraint_model::{Problem, Spec};
-use exam_model::Seat;
+use serving_model::Seat;
 
 /// Whether the seat waits for an item.
 fn is_pending(spec: &Spec, seat: &Seat) -> bool
@@ -44,14 +44,15 @@ pub fn next_problem_from<'a>(
     }
     prove!(bank.items() <= 512);
     let given = shown_items(bank, seat);
-    let barred = barred_items(bank, seat, &given);
     let theta = sums.mode();
+    let band = spec.band(theta);
+    let barred = barred_items(bank, seat, band, &given);
     Some(Problem {
         bank,
         spec,
         session,
         step: seat.responses.len() as u16,
-        aside: seat.aside,
+        aside: seat.aside[band as usize],
         given,
         barred,
         theta,

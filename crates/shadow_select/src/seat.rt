@@ -2,20 +2,21 @@
 //! same steps by code of its own.
 
 ghost use Rattle.std.specs.Prelude.{◌≡◌, ◌<◌, length};
-ghost use Rattle.exam_model.specs.Seats.{new_seat, with_item, with_response};
+ghost use Rattle.serving_model.specs.Seats.{new_seat, with_item, with_response};
 
 use bank_tables::{ItemSet, Short};
-use exam_model::Seat;
+use serving_model::Seat;
 
-/// The seat of a session that begins, with the items that are eligible for it.
-pub fn new_seat(eligible: &ItemSet) -> Seat
+/// The seat of a session that begins without a list, with the items that are eligible for it in each band.
+pub fn new_seat(eligible: &[ItemSet; 8]) -> Seat
     ensures { result ≡ new_seat eligible.now }
 {
     Seat {
         shown: Short::empty(),
         responses: Short::empty(),
         eligible: *eligible,
-        aside: false,
+        aside: [false; 8],
+        without: None,
         form: None,
         proved: false,
         closed: false,

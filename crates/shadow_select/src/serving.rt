@@ -3,9 +3,9 @@
 ghost use Rattle.std.specs.Prelude.{◌≡◌, ◌<◌, IfSome};
 ghost use Rattle.bank_tables.specs.Items.{has};
 ghost use Rattle.bank_tables.specs.Tables.{size};
-ghost use Rattle.exam_model.specs.Forms.{Form};
-ghost use Rattle.exam_model.specs.Serving.{last_stimulus, stimulus_goes_on, is_candidate, IsNext};
-ghost use Rattle.exam_model.specs.Validity.{IsWellMade};
+ghost use Rattle.form_model.specs.Forms.{Form};
+ghost use Rattle.serving_model.specs.Serving.{last_stimulus, stimulus_goes_on, is_candidate, IsNext};
+ghost use Rattle.form_model.specs.Validity.{IsWellMade};
 ghost use Rattle.constraint_model.specs.Views.{problem_of};
 ghost use Rattle.shadow_select.specs.Next.{HasFreeItem, IsNextBelow};
 

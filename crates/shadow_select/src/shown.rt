@@ -4,11 +4,11 @@ ghost use Rattle.std.specs.Prelude.{◌≡◌, ℕ, ◌<◌, ◌≤◌, ◌==◌
 ghost use Rattle.std.specs.List.{list_any};
 ghost use Rattle.bank_tables.specs.Items.{has};
 ghost use Rattle.bank_tables.specs.Tables.{size, stimulus};
-ghost use Rattle.exam_model.specs.Seats.{is_shown, last_shown};
-ghost use Rattle.exam_model.specs.Serving.{last_stimulus};
+ghost use Rattle.serving_model.specs.Seats.{is_shown, last_shown};
+ghost use Rattle.serving_model.specs.Serving.{last_stimulus};
 
 use bank_tables::{Bank, ItemSet, Short};
-use exam_model::Seat;
+use serving_model::Seat;
 
 /// The number at a place of a short list.
 pub fn number_at(list: &Short, place: usize) -> u16

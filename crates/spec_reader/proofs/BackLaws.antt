@@ -10,18 +10,18 @@ use Rattle.bank_tables.specs.Items.{Set, has}
 use Rattle.bank_tables.specs.Tables.{Tables, size, stimulus}
 use Rattle.bank_tables.specs.Sums.{count_in, greatest_below}
 use Rattle.bank_tables.specs.Validity.{IsBank, IsLogLik}
-use Rattle.exam_model.specs.declared.row.Row.{Row}
-use Rattle.exam_model.specs.declared.row.Row.TheVariants as row
-use Rattle.exam_model.specs.declared.row.StimulusBound.{StimulusBound}
-use Rattle.exam_model.specs.Plan.{Plan, no_row, no_bound, bound_at}
-use Rattle.exam_model.specs.Forms.{stimuli_of, Meets}
-use Rattle.exam_model.specs.Validity.{IsRowSet, IsRow, IsPlanFor}
+use Rattle.form_model.specs.declared.row.Row.{Row}
+use Rattle.form_model.specs.declared.row.Row.TheVariants as row
+use Rattle.form_model.specs.declared.row.StimulusBound.{StimulusBound}
+use Rattle.form_model.specs.Plan.{Plan, no_row, no_bound, bound_at}
+use Rattle.form_model.specs.Forms.{stimuli_of, Meets}
+use Rattle.form_model.specs.Validity.{IsRowSet, IsRow, IsPlanFor}
 use Rattle.exam_text.specs.Numbers.{magnitude}
 use Rattle.exam_text.proofs.Firsts.{none_from}
 use Rattle.spec_reader.specs.Rules.{Said, Stimulus}
 use Rattle.spec_reader.specs.Lines.{mark_of, is_mark, has_mark, missing}
 use Rattle.spec_reader.specs.Plans.{SaidPlan, row_said, plan_said, drafted}
-use Rattle.spec_reader.specs.Canonical.{bounds_below, base_rules, setting_rules, canonical_rules, canonical}
+use Rattle.spec_reader.specs.Canonical.{bounds_below, band_rules, base_rules, limit_rules, setting_rules, canonical_rules, canonical}
 use Rattle.spec_reader.specs.Grammar.{most, IsSet, IsPrinted, ArePrinted, AreFresh}
 use Rattle.exam_text.specs.Keys.{IsKey}
 use Rattle.spec_reader.specs.Reading.{rule_at, number_fault, numbers_fault, IsPlanText}
@@ -84,6 +84,22 @@ short_value : (z : ℤ) → IsLogLik z → magnitude z ≤ most
 short_value (pos n) h = omega (arith, ints, h.0, h.1)
 short_value (negsuc n) h = omega (arith, ints, h.0, h.1)
 
+bands_printed : (points : List ℕ) → ((i : ℕ) → i < length points → get_or points i 0 ≤ 255) → ArePrinted (band_rules points)
+bands_printed [] h = tt
+bands_printed (p ∷ points) h = ((omega arith, h), tt)
+
+limits_printed : (b : Tables) (plan : Plan) → IsPlanFor b plan → ArePrinted (limit_rules (plan_said plan))
+limits_printed b plan is = (
+  omega (arith, is.budget.high),
+  (
+    omega (arith, is.base_budget.high),
+    (
+      omega (arith, is.few_sessions),
+      (omega (arith, is.journal_high), tt),
+    ),
+  ),
+)
+
 settings_printed : (b : Tables) (plan : Plan) → IsBank b → IsPlanFor b plan → IsKey plan.key → ArePrinted (setting_rules (plan_said plan))
 settings_printed b plan bank is key = (
   omega (arith, is.few_items, bank.few),
@@ -93,16 +109,9 @@ settings_printed b plan bank is key = (
       (omega (arith, is.rate, is.rate_high), omega (arith, is.rate_high)),
       (
         (key.count, key.bytes),
-        (
-          omega (arith, is.budget.high),
-          (
-            omega (arith, is.base_budget.high),
-            (
-              omega (arith, is.few_sessions),
-              (omega (arith, is.journal_high), tt),
-            ),
-          ),
-        ),
+        printed_append (band_rules plan.bands) (limit_rules (plan_said plan))
+            (bands_printed plan.bands (λ i lt. omega (arith, is.bands.within i lt, bank.few_points)))
+            (limits_printed b plan is),
       ),
     ),
   ),
@@ -138,21 +147,54 @@ rows_unmarked m (row.Quantity which set low high ∷ rows) = rows_unmarked m row
 rows_unmarked m (row.Enemies set ∷ rows) = rows_unmarked m rows
 rows_unmarked m (row.Stimuli low high ∷ rows) = rows_unmarked m rows
 
-bounds_unmarked : (m n : ℕ) (bounds : List StimulusBound) → ((k : ℕ) → k < n → eqb (9 + (k + 1)) m ≡ false) → has_mark m (bounds_below n bounds) ≡ false
+bounds_unmarked : (m n : ℕ) (bounds : List StimulusBound) → ((k : ℕ) → k < n → eqb (10 + (k + 1)) m ≡ false) → has_mark m (bounds_below n bounds) ≡ false
 bounds_unmarked m zero bounds h = refl
 bounds_unmarked m (suc n) bounds h =
     rw (has_mark-append m (bounds_below n bounds) (Stimulus (n + 1) (get_or bounds n no_bound).low (get_or bounds n no_bound).high ∷ []), bounds_unmarked m n bounds (λ k lt. h k (omega (arith, lt))), h n (omega arith)) refl
 
-settings_unmarked : (p : SaidPlan) (s : ℕ) → has_mark (9 + s) (setting_rules p) ≡ false
-settings_unmarked p s =
-    rw (ne_eqb 0 (9 + s) (λ e. omega (arith, e)), ne_eqb 1 (9 + s) (λ e. omega (arith, e)), ne_eqb 2 (9 + s) (λ e. omega (arith, e)), ne_eqb 3 (9 + s) (λ e. omega (arith, e)), ne_eqb 4 (9 + s) (λ e. omega (arith, e)), ne_eqb 5 (9 + s) (λ e. omega (arith, e)), ne_eqb 6 (9 + s) (λ e. omega (arith, e)), ne_eqb 7 (9 + s) (λ e. omega (arith, e))) refl
+-- the settings of a plan with these bands
+abbrev settings_at : SaidPlan → List ℕ → List Said
+settings_at p points = setting_rules (record p { bands = points })
+
+-- no line of a setting has a number above 8
+settings_low : (p : SaidPlan) (points : List ℕ) (m : ℕ) → 8 < m → has_mark m (settings_at p points) ≡ false
+settings_low p [] m lt =
+    rw (
+      ne_eqb 0 m (λ e. omega (arith, e, lt)),
+      ne_eqb 1 m (λ e. omega (arith, e, lt)),
+      ne_eqb 2 m (λ e. omega (arith, e, lt)),
+      ne_eqb 3 m (λ e. omega (arith, e, lt)),
+      ne_eqb 5 m (λ e. omega (arith, e, lt)),
+      ne_eqb 6 m (λ e. omega (arith, e, lt)),
+      ne_eqb 7 m (λ e. omega (arith, e, lt)),
+      ne_eqb 8 m (λ e. omega (arith, e, lt)),
+    ) refl
+settings_low p (point ∷ points) m lt =
+    rw (
+      ne_eqb 0 m (λ e. omega (arith, e, lt)),
+      ne_eqb 1 m (λ e. omega (arith, e, lt)),
+      ne_eqb 2 m (λ e. omega (arith, e, lt)),
+      ne_eqb 3 m (λ e. omega (arith, e, lt)),
+      ne_eqb 4 m (λ e. omega (arith, e, lt)),
+      ne_eqb 5 m (λ e. omega (arith, e, lt)),
+      ne_eqb 6 m (λ e. omega (arith, e, lt)),
+      ne_eqb 7 m (λ e. omega (arith, e, lt)),
+      ne_eqb 8 m (λ e. omega (arith, e, lt)),
+    ) refl
+
+settings_unmarked : (p : SaidPlan) (m : ℕ) → 8 < m → has_mark m (setting_rules p) ≡ false
+settings_unmarked p m lt = settings_low p p.bands m lt
 
 fresh_append : (before xs ys : List Said) → AreFresh before xs → AreFresh (before ++ xs) ys → AreFresh before (xs ++ ys)
 fresh_append before [] ys h g = subst (λ (all : List Said). AreFresh all ys) (append-nil before) g
 fresh_append before (x ∷ xs) ys h g = (h.0, fresh_append (before ++ x ∷ []) xs ys h.1 (subst (λ (all : List Said). AreFresh all ys) (sym (append_assoc before (x ∷ []) xs)) g))
 
+settings_once : (p : SaidPlan) (points : List ℕ) → AreFresh [] (settings_at p points)
+settings_once p [] = (refl, (refl, (refl, (refl, (refl, (refl, (refl, (refl, tt))))))))
+settings_once p (point ∷ points) = (refl, (refl, (refl, (refl, (refl, (refl, (refl, (refl, (refl, tt)))))))))
+
 settings_fresh : (p : SaidPlan) → AreFresh [] (setting_rules p)
-settings_fresh p = (refl, (refl, (refl, (refl, (refl, (refl, (refl, (refl, tt))))))))
+settings_fresh p = settings_once p p.bands
 
 rows_fresh : (rows : List Row) (before : List Said) → AreFresh before (map row_said rows)
 rows_fresh [] before = tt
@@ -161,14 +203,14 @@ rows_fresh (row.Quantity which set low high ∷ rows) before = (refl, rows_fresh
 rows_fresh (row.Enemies set ∷ rows) before = (refl, rows_fresh rows (before ++ row_said (row.Enemies set) ∷ []))
 rows_fresh (row.Stimuli low high ∷ rows) before = (refl, rows_fresh rows (before ++ row_said (row.Stimuli low high) ∷ []))
 
-bounds_fresh : (n : ℕ) (bounds : List StimulusBound) (before : List Said) → ((k : ℕ) → k < n → has_mark (9 + (k + 1)) before ≡ false) → AreFresh before (bounds_below n bounds)
+bounds_fresh : (n : ℕ) (bounds : List StimulusBound) (before : List Said) → ((k : ℕ) → k < n → has_mark (10 + (k + 1)) before ≡ false) → AreFresh before (bounds_below n bounds)
 bounds_fresh zero bounds before h = tt
 bounds_fresh (suc n) bounds before h =
-    let free : has_mark (9 + (n + 1)) (before ++ bounds_below n bounds) ≡ false =
-    rw (has_mark-append (9 + (n + 1)) before (bounds_below n bounds), h n (omega arith)) (bounds_unmarked (9 + (n + 1)) n bounds (λ k lt. ne_eqb (9 + (k + 1)) (9 + (n + 1)) (λ e. omega (arith, e, lt)))) in
+    let free : has_mark (10 + (n + 1)) (before ++ bounds_below n bounds) ≡ false =
+    rw (has_mark-append (10 + (n + 1)) before (bounds_below n bounds), h n (omega arith)) (bounds_unmarked (10 + (n + 1)) n bounds (λ k lt. ne_eqb (10 + (k + 1)) (10 + (n + 1)) (λ e. omega (arith, e, lt)))) in
     fresh_append before (bounds_below n bounds) (Stimulus (n + 1) (get_or bounds n no_bound).low (get_or bounds n no_bound).high ∷ []) (bounds_fresh n bounds before (λ k lt. h k (omega (arith, lt)))) (free, tt)
 
-base_fresh : (base : Option Set) (before : List Said) → has_mark 8 before ≡ false → AreFresh before (base_rules base)
+base_fresh : (base : Option Set) (before : List Said) → has_mark 9 before ≡ false → AreFresh before (base_rules base)
 base_fresh None before h = tt
 base_fresh (Some X) before h = (h, tt)
 
@@ -178,12 +220,12 @@ canonical_fresh plan =
     let S : List Said = setting_rules (plan_said plan) in
     let R : List Said = map row_said plan.rows in
     let B : List Said = bounds_below (length plan.bounds) plan.bounds in
-    let marked : (k : ℕ) → k < length plan.bounds → has_mark (9 + (k + 1)) (S ++ R) ≡ false = λ k lt. rw (has_mark-append (9 + (k + 1)) S R, settings_unmarked (plan_said plan) (k + 1)) (rows_unmarked (9 + (k + 1)) plan.rows) in
-    let eight : has_mark 8 ((S ++ R) ++ B) ≡ false =
-    rw (has_mark-append 8 (S ++ R) B, has_mark-append 8 S R, rows_unmarked 8 plan.rows) (bounds_unmarked 8 (length plan.bounds) plan.bounds (λ k lt. ne_eqb (9 + (k + 1)) 8 (λ e. omega (arith, e)))) in
+    let marked : (k : ℕ) → k < length plan.bounds → has_mark (10 + (k + 1)) (S ++ R) ≡ false = λ k lt. rw (has_mark-append (10 + (k + 1)) S R, settings_unmarked (plan_said plan) (10 + (k + 1)) (omega arith)) (rows_unmarked (10 + (k + 1)) plan.rows) in
+    let nine : has_mark 9 ((S ++ R) ++ B) ≡ false =
+    rw (has_mark-append 9 (S ++ R) B, has_mark-append 9 S R, settings_unmarked (plan_said plan) 9 (omega arith), rows_unmarked 9 plan.rows) (bounds_unmarked 9 (length plan.bounds) plan.bounds (λ k lt. ne_eqb (10 + (k + 1)) 9 (λ e. omega (arith, e)))) in
     fresh_append [] ((S ++ R) ++ B) (base_rules (option_map has plan.base))
     (fresh_append [] (S ++ R) B (fresh_append [] S R (settings_fresh (plan_said plan)) (rows_fresh plan.rows S)) (bounds_fresh (length plan.bounds) plan.bounds (S ++ R) marked))
-    (base_fresh (option_map has plan.base) ((S ++ R) ++ B) eight)
+    (base_fresh (option_map has plan.base) ((S ++ R) ++ B) nine)
 
 -- ---- none is missing, and each stimulus is the bank's
 
@@ -221,6 +263,10 @@ base_known : (n : ℕ) (base : Option Set) → AreKnown n (base_rules base)
 base_known n None = tt
 base_known n (Some X) = (refl, tt)
 
+settings_known : (n : ℕ) (p : SaidPlan) (points : List ℕ) → AreKnown n (settings_at p points)
+settings_known n p [] = (refl, (refl, (refl, (refl, (refl, (refl, (refl, (refl, tt))))))))
+settings_known n p (point ∷ points) = (refl, (refl, (refl, (refl, (refl, (refl, (refl, (refl, (refl, tt)))))))))
+
 canonical_known : (n : ℕ) (plan : Plan) → length plan.bounds ≡ n → numbers_fault n (canonical_rules (plan_said plan)) ≡ None
 unfolding numbers_fault canonical_rules
 canonical_known n plan e =
@@ -228,7 +274,7 @@ canonical_known n plan e =
     let R : List Said = map row_said plan.rows in
     let B : List Said = bounds_below (length plan.bounds) plan.bounds in
     let C : List Said = base_rules (option_map has plan.base) in
-    let settings : AreKnown n S = (refl, (refl, (refl, (refl, (refl, (refl, (refl, (refl, tt)))))))) in
+    let settings : AreKnown n S = settings_known n (plan_said plan) (plan_said plan).bands in
     let all : AreKnown n (((S ++ R) ++ B) ++ C) = known_append n ((S ++ R) ++ B) C (known_append n (S ++ R) B (known_append n S R settings (rows_known n plan.rows)) (bounds_known n (length plan.bounds) plan.bounds (omega (arith, e)))) (base_known n (option_map has plan.base)) in
     none_from (length (((S ++ R) ++ B) ++ C)) (λ i. number_fault n (rule_at (((S ++ R) ++ B) ++ C) i)) (known_at n (((S ++ R) ++ B) ++ C) all)
 

@@ -7,10 +7,10 @@ use Rattle.std.proofs.lemmas.List.{append-nil, take_all, drop_all, length-take-l
 use Rattle.std.proofs.lemmas.List.Sums.{fold-append, fold_push}
 use Rattle.std.proofs.Math.Seq.{set-append_seam}
 use Rattle.bank_tables.specs.Items.{Set}
-use Rattle.exam_model.specs.declared.row.Row.{Row}
-use Rattle.exam_model.specs.declared.row.Row.TheVariants as row
-use Rattle.exam_model.specs.declared.row.StimulusBound.{StimulusBound}
-use Rattle.exam_model.specs.Plan.{no_bound}
+use Rattle.form_model.specs.declared.row.Row.{Row}
+use Rattle.form_model.specs.declared.row.Row.TheVariants as row
+use Rattle.form_model.specs.declared.row.StimulusBound.{StimulusBound}
+use Rattle.form_model.specs.Plan.{no_bound}
 use Rattle.spec_reader.specs.Bounds.{any_bound, with_bound}
 use Rattle.spec_reader.specs.Rules.{Said, Stimulus}
 use Rattle.spec_reader.specs.Plans.{SaidPlan, row_said, blank, with_row, with_rule, drafted}
@@ -75,9 +75,14 @@ base_drafted (Some X) q e = refl
 set_up : SaidPlan → SaidPlan
 set_up p = record p { rows = []; bounds = replicate (length p.bounds) any_bound; base = None }
 
+settings_at : (p : SaidPlan) (points : List ℕ) → fold with_rule (blank (length p.bounds)) (setting_rules (record p { bands = points })) ≡ set_up (record p { bands = points })
+unfolding with_rule set_up
+settings_at p [] = refl
+settings_at p (point ∷ points) = refl
+
 settings_drafted : (p : SaidPlan) → fold with_rule (blank (length p.bounds)) (setting_rules p) ≡ set_up p
 unfolding with_rule set_up
-settings_drafted p = refl
+settings_drafted p = settings_at p p.bands
 
 pub drafted_again : (p : SaidPlan) (rows : List Row) → p.rows ≡ map row_said rows → drafted (length p.bounds) (canonical_rules p) ≡ p
 unfolding canonical_rules set_up with_rows with_bounds with_base

@@ -10,18 +10,18 @@ use Rattle.bank_tables.specs.Items.{Set, has}
 use Rattle.bank_tables.specs.Tables.{Tables, size}
 use Rattle.bank_tables.specs.Faults.{is_loglik}
 use Rattle.bank_tables.specs.Validity.{HoldsItems}
-use Rattle.exam_model.specs.declared.breach.Breach.{Breach}
-use Rattle.exam_model.specs.declared.breach.Breach.TheVariants as breach
-use Rattle.exam_model.specs.declared.row.Row.{Row}
-use Rattle.exam_model.specs.declared.row.Row.TheVariants as row
-use Rattle.exam_model.specs.declared.row.StimulusBound.{StimulusBound}
-use Rattle.exam_model.specs.Plan.{Plan, row_at, no_bound}
-use Rattle.exam_model.specs.Problem.{whole}
-use Rattle.exam_model.specs.Forms.{stimuli_of, items_of, used, activity, StimulusHolds, HasLength}
-use Rattle.exam_model.specs.Breaches.{IsFirstBreach}
+use Rattle.form_model.specs.declared.breach.Breach.{Breach}
+use Rattle.form_model.specs.declared.breach.Breach.TheVariants as breach
+use Rattle.form_model.specs.declared.row.Row.{Row}
+use Rattle.form_model.specs.declared.row.Row.TheVariants as row
+use Rattle.form_model.specs.declared.row.StimulusBound.{StimulusBound}
+use Rattle.form_model.specs.Plan.{Plan, row_at, no_bound}
+use Rattle.form_model.specs.Problem.{whole}
+use Rattle.form_model.specs.Forms.{stimuli_of, items_of, used, activity, StimulusHolds, HasLength}
+use Rattle.form_model.specs.Breaches.{IsFirstBreach}
 use Rattle.constraint_model.specs.declared.spec_fault.SpecFault.{SpecFault}
 use Rattle.constraint_model.specs.declared.spec_fault.SpecFault.TheVariants as draft
-use Rattle.constraint_model.specs.Faults.{is_empty, has_unknown, set_fault, row_fault, rows_fault, front_fault, bound_fault, bounds_fault, is_rate, is_budget, is_between, limits_fault, numbers_fault, IsBaseBreach, IsSpecFault}
+use Rattle.constraint_model.specs.Faults.{is_empty, has_unknown, set_fault, row_fault, rows_fault, front_fault, bound_fault, bounds_fault, is_rate, are_bands, is_budget, is_between, limits_fault, numbers_fault, IsBaseBreach, IsSpecFault}
 use Rattle.constraint_model.proofs.SetLaws.{member_of, not_empty_from, none_unknown, no_unknown_from}
 use Rattle.constraint_model.proofs.Deciding.{one_fault}
 use Rattle.spec_reader.specs.declared.line_fault.LineFault.{LineFault}
@@ -134,10 +134,11 @@ end_said b p =
     orelse fault_where (nat_lt (stimuli_of b) (length p.bounds)) (draft.BadStimulus (stimuli_of b + 1))
     orelse first_below (stimuli_of b) (λ k. bound_fault (k + 1) (get_or p.bounds k no_bound)))
     orelse (fault_where (not (is_rate p.rate)) draft.BadRate
+    orelse fault_where (not (are_bands b.grid p.bands)) draft.BadBands
     orelse fault_where (not (is_budget p.budget && is_budget p.base_budget)) draft.BadBudget
     orelse fault_where (not (is_between 1 65536 p.sessions && is_between 64 536870912 p.journal)) draft.BadLimit)
 
-end_same : (b : Tables) (p q : Plan) → plan_said p ≡ plan_said q → (bounds_fault b p orelse limits_fault p) ≡ (bounds_fault b q orelse limits_fault q)
+end_same : (b : Tables) (p q : Plan) → plan_said p ≡ plan_said q → (bounds_fault b p orelse limits_fault b p) ≡ (bounds_fault b q orelse limits_fault b q)
 unfolding bounds_fault limits_fault end_said
 end_same b p q e = ap (end_said b) e
 

@@ -27,9 +27,9 @@ use Rattle.spec_reader.specs.declared.line_fault.LineFault.{LineFault}
 use Rattle.spec_reader.specs.declared.line_fault.LineFault.TheVariants.{Line, Twice}
 use Rattle.spec_reader.specs.Sets.{in_set}
 use Rattle.spec_reader.specs.Keywords.{keyword_of, keyword_where, setting_of, constraint_of, fits_count, fits_setting, fits_constraint}
-use Rattle.spec_reader.specs.Rules.{Said, Length, Prior, Rate, Key, Budget, BaseBudget, Sessions, Journal, Count, Quantity, Enemies, Stimuli, Stimulus, Base, number_in, signeds_in, key_in, set_in, key_of, setting_said, constraint_said, rule_said, line_of}
+use Rattle.spec_reader.specs.Rules.{Said, Length, Prior, Rate, Key, Bands, Budget, BaseBudget, Sessions, Journal, Count, Quantity, Enemies, Stimuli, Stimulus, Base, number_in, signeds_in, points_in, key_in, set_in, key_of, setting_said, constraint_said, rule_said, line_of}
 use Rattle.spec_reader.specs.Lines.{is_skipped, mark_of, stands, next_rule, rules_of}
-use Rattle.spec_reader.specs.Grammar.{most, no_run, run, in_runs, WritesSet, WritesNumber, WritesNumbers, WritesPrior, WritesKey, Says, SayBehind}
+use Rattle.spec_reader.specs.Grammar.{most, no_run, run, in_runs, WritesSet, WritesNumber, WritesNumbers, WritesPrior, WritesBands, WritesKey, Says, SayBehind}
 use Rattle.spec_reader.proofs.Keys.{key_is}
 use Rattle.spec_reader.proofs.SayLaws.{any_same}
 use Rattle.spec_reader.proofs.LinesLaws.{read_from, rules_from_front}
@@ -44,6 +44,7 @@ setting_name setting.Length = codes "length"
 setting_name setting.Prior = codes "prior"
 setting_name setting.Rate = codes "rate"
 setting_name setting.Key = codes "key"
+setting_name setting.Bands = codes "bands"
 setting_name setting.Budget = codes "budget"
 setting_name setting.BaseBudget = codes "base-budget"
 setting_name setting.Sessions = codes "sessions"
@@ -99,7 +100,7 @@ rows_named w (s ∷ rest) t e = elim (if_some (bytes_eq w (constraint_name s)) s
 
 setting_named : (w : List ℕ) (t : Setting) → setting_of w ≡ Some t → w ≡ setting_name t
 unfolding setting_of setting_among
-setting_named w t e = among_named w (setting.Length ∷ setting.Prior ∷ setting.Rate ∷ setting.Key ∷ setting.Budget ∷ setting.BaseBudget ∷ setting.Sessions ∷ setting.Journal ∷ setting.Base ∷ []) t e
+setting_named w t e = among_named w (setting.Length ∷ setting.Prior ∷ setting.Rate ∷ setting.Key ∷ setting.Bands ∷ setting.Budget ∷ setting.BaseBudget ∷ setting.Sessions ∷ setting.Journal ∷ setting.Base ∷ []) t e
 
 constraint_named : (w : List ℕ) (t : Constraint) → constraint_of w ≡ Some t → w ≡ constraint_name t
 unfolding constraint_of constraint_among
@@ -186,6 +187,9 @@ only_numbers at words name n m w len e f =
       spelling = three words len ∙ (ap (λ (a : List ℕ). a ∷ word words 1 ∷ word words 2 ∷ []) w ∙ ap₂ (λ (a b : List ℕ). name ∷ a ∷ b ∷ []) is.1 other.1);
     }
 
+shifted : (a : List ℕ) (xs : List (List ℕ)) (i : ℕ) → get_or xs i [] ≡ word (a ∷ xs) (i + 1)
+shifted a xs i = rw (add-one i) refl
+
 abbrev value_at : ℕ → List (List ℕ) → ℕ → Result ℤ LineFault
 value_at at words i = or_fault (signed_of 999999999 (word words (i + 1))) (Line at kind.Number)
 
@@ -206,9 +210,27 @@ only_prior at (a ∷ ws) vs w len e =
       each = λ i lt. (value i (pos 0) lt).0;
       spelling = ap₂ (λ (x : List ℕ) (xs : List (List ℕ)). x ∷ xs) w rest;
     }
-  where
-    shifted : (a : List ℕ) (xs : List (List ℕ)) (i : ℕ) → get_or xs i [] ≡ word (a ∷ xs) (i + 1)
-    shifted a xs i = rw (add-one i) refl
+
+abbrev point_at : ℕ → List (List ℕ) → ℕ → Result ℕ LineFault
+point_at at words i = or_fault (number_of 255 (word words (i + 1))) (Line at kind.Number)
+
+only_bands : (at : ℕ) (words : List (List ℕ)) (points : List ℕ) → word words 0 ≡ codes "bands" → 2 ≤ length words → points_in at words ≡ Ok points → WritesBands words points
+only_bands at [] points w len e = absurd (omega arith)
+only_bands at (a ∷ ws) points w len e =
+    let is = each_is (length (a ∷ ws) - 1) (point_at at (a ∷ ws)) points e in
+    let count : length points ≡ length ws = omega (arith, is.0) in
+    let value : (i d : ℕ) → i < length points → (get_or points i d ≤ 255) × (word (a ∷ ws) (i + 1) ≡ decimal (get_or points i d)) =
+    λ i d lt. number_is 255 (word (a ∷ ws) (i + 1)) (get_or points i d) (omega arith)
+    (or_fault_ok (number_of 255 (word (a ∷ ws) (i + 1))) (Line at kind.Number) (get_or points i d) (is.1 i d (omega (arith, lt, count)))) in
+    let each : (i : ℕ) (d : List ℕ) → i < length ws → get_or ws i d ≡ get_or (map decimal points) i d =
+    λ i d lt. let within : i < length points = omega (arith, lt, count) in
+    plain ws i d lt ∙ (shifted a ws i ∙ ((value i 0 within).1 ∙ sym (get_or-map decimal points i 0 d within))) in
+    let rest : ws ≡ map decimal points = same_lists ws (map decimal points) (sym count ∙ sym (length-map points decimal)) (λ i d lt. each i d lt) in
+    record {
+      some = omega (arith, len, count);
+      each = λ i lt. (value i 0 lt).0;
+      spelling = ap₂ (λ (x : List ℕ) (xs : List (List ℕ)). x ∷ xs) w rest;
+    }
 
 only_key : (at : ℕ) (words : List (List ℕ)) (k : List ℕ) → word words 0 ≡ codes "key" → length words ≡ 2 → key_in at words ≡ Ok k → WritesKey words k
 only_key at words k w len e =
@@ -310,6 +332,9 @@ setting_says at setting.Rate words rule w f e =
 setting_says at setting.Key words rule w f e =
     let r = bind_ok (key_in at words) (λ k. Ok (Key k)) rule e in
     subst (Says words) (ok_is {F = LineFault} (Key r.0) rule r.2) (only_key at words r.0 w (eqb-true _ _ f) r.1)
+setting_says at setting.Bands words rule w f e =
+    let r = bind_ok (points_in at words) (λ points. Ok (Bands points)) rule e in
+    subst (Says words) (ok_is {F = LineFault} (Bands r.0) rule r.2) (only_bands at words r.0 w (leb-true _ _ f) r.1)
 setting_says at setting.Budget words rule w f e =
     let r = bind_ok (number at 1 words) (λ n. Ok (Budget n)) rule e in
     subst (Says words) (ok_is {F = LineFault} (Budget r.0) rule r.2) (only_number at words (codes "budget") r.0 w (eqb-true _ _ f) r.1)

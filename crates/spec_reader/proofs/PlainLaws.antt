@@ -17,7 +17,7 @@ use Rattle.exam_text.specs.declared.run.Run.{Run}
 use Rattle.exam_text.specs.Runs.{IsRun, run_word}
 use Rattle.exam_text.specs.Words.{words_of, lines_of, spaced, text_of_lines, Lacks, NoneHas}
 use Rattle.spec_reader.specs.Sets.{runs_of}
-use Rattle.spec_reader.specs.Rules.{Said, Length, Prior, Rate, Key, Budget, BaseBudget, Sessions, Journal, Count, Quantity, Enemies, Stimuli, Stimulus, Base}
+use Rattle.spec_reader.specs.Rules.{Said, Length, Prior, Rate, Key, Bands, Budget, BaseBudget, Sessions, Journal, Count, Quantity, Enemies, Stimuli, Stimulus, Base}
 use Rattle.spec_reader.specs.Lines.{is_skipped, rules_of}
 use Rattle.spec_reader.specs.Grammar.{most, run, IsSet, WritesSet, Says, SayBehind, IsPrinted, ArePrinted, AreFresh}
 use Rattle.spec_reader.specs.Canonical.{set_words, line_words, words_text, line_text}
@@ -93,6 +93,10 @@ values_plain : (zs : List ℤ) → ((i : ℕ) → i < length zs → magnitude (g
 values_plain [] h = tt
 values_plain (z ∷ zs) h = (signed_above z (h 0 (omega arith)), values_plain zs (λ i lt. h (suc i) (omega (arith, lt))))
 
+points_plain : (points : List ℕ) → ((i : ℕ) → i < length points → get_or points i 0 ≤ 255) → ArePlain (map decimal points)
+points_plain [] h = tt
+points_plain (p ∷ points) h = (decimal_above p (omega (arith, h 0 (omega arith))), points_plain points (λ i lt. h (suc i) (omega (arith, lt))))
+
 none_has : (ws : List (List ℕ)) → ArePlain ws → NoneHas 32 ws
 none_has [] h = tt
 none_has (w ∷ ws) h = (above_lacks 32 32 w (omega arith) h.0, none_has ws h.1)
@@ -130,6 +134,7 @@ printed (Length n) h = line (Length n) 108 (codes "ength") (decimal n ∷ []) re
 printed (Prior vs) h = line (Prior vs) 112 (codes "rior") (map signed_decimal vs) refl (record { some = h.0; each = h.1; spelling = refl }) refl refl (values_plain vs h.1)
 printed (Rate n d) h = line (Rate n d) 114 (codes "ate") (decimal n ∷ decimal d ∷ []) refl (record { first = h.0; second = h.1; spelling = refl }) refl refl (decimal_above n h.0, (decimal_above d h.1, tt))
 printed (Key k) h = line (Key k) 107 (codes "ey") (encode_lower k ∷ []) refl (record { count = h.0; bytes = h.1; spelling = refl }) refl refl (hex_above k h.1, tt)
+printed (Bands points) h = line (Bands points) 98 (codes "ands") (map decimal points) refl (record { some = h.0; each = h.1; spelling = refl }) refl refl (points_plain points h.1)
 printed (Budget n) h = line (Budget n) 98 (codes "udget") (decimal n ∷ []) refl (record { small = h; spelling = refl }) refl refl (decimal_above n h, tt)
 printed (BaseBudget n) h = line (BaseBudget n) 98 (codes "ase-budget") (decimal n ∷ []) refl (record { small = h; spelling = refl }) refl refl (decimal_above n h, tt)
 printed (Sessions n) h = line (Sessions n) 115 (codes "essions") (decimal n ∷ []) refl (record { small = h; spelling = refl }) refl refl (decimal_above n h, tt)

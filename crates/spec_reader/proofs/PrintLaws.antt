@@ -1,5 +1,6 @@
 -- How a line is put together.
-use Rattle.std.proofs.Common.{◌≡◌, ℕ, List, [], ◌∷◌, ◌++◌, map, length, refl, sym, ap, ◌∙◌, append_assoc, ℤ, Option}
+use Rattle.std.specs.Prelude.{codes}
+use Rattle.std.proofs.Common.{◌≡◌, ℕ, List, [], ◌∷◌, ◌++◌, map, length, refl, sym, ap, ◌∙◌, append_assoc, ℤ, Option, arith}
 use Rattle.std.proofs.lemmas.List.{append-nil}
 use Rattle.std.proofs.lemmas.List.Folds.{flat_map-map}
 use Rattle.std.proofs.lemmas.Grind.{flat_map-append}
@@ -10,12 +11,12 @@ use Rattle.exam_text.specs.Words.{spaced}
 use Rattle.exam_text.specs.Runs.{run_word}
 use Rattle.std.specs.Option.{option_map}
 use Rattle.bank_tables.specs.Items.{has}
-use Rattle.exam_model.specs.Plan.{Plan}
-use Rattle.exam_model.specs.declared.row.Row.{Row}
-use Rattle.exam_model.specs.declared.row.StimulusBound.{StimulusBound}
+use Rattle.form_model.specs.Plan.{Plan}
+use Rattle.form_model.specs.declared.row.Row.{Row}
+use Rattle.form_model.specs.declared.row.StimulusBound.{StimulusBound}
 use Rattle.spec_reader.specs.Rules.{Said}
 use Rattle.spec_reader.specs.Plans.{SaidPlan, row_said, plan_said}
-use Rattle.spec_reader.specs.Canonical.{words_text, line_text, setting_rules, bounds_below, base_rules, canonical_rules, canonical}
+use Rattle.spec_reader.specs.Canonical.{words_text, line_text, band_rules, setting_rules, bounds_below, base_rules, canonical_rules, canonical}
 
 -- words with a space between each two are the first one, and each other one after a space
 spaced_flat : (w : List ℕ) (ws : List (List ℕ)) → spaced (w ∷ ws) ≡ w ++ flat_map (λ v. 32 ∷ v) ws
@@ -28,6 +29,16 @@ numbers_spaced w ns = spaced_flat w (map decimal ns) ∙ ap (λ (rest : List ℕ
 pub numbers_line : (out w : List ℕ) (ns : List ℕ) → ((out ++ w) ++ flat_map (λ n. 32 ∷ decimal n) ns) ++ 10 ∷ [] ≡ out ++ words_text (w ∷ map decimal ns)
 unfolding words_text
 numbers_line out w ns = rw (numbers_spaced w ns) (simp append_assoc)
+
+-- the line of the points at which bands begin
+pub bands_line : (out points : List ℕ) → (length points ≡ 0 → ⊥) → ((out ++ codes "bands") ++ flat_map (λ n. 32 ∷ decimal n) points) ++ 10 ∷ [] ≡ out ++ flat_map line_text (band_rules points)
+bands_line out [] some = absurd (some refl)
+bands_line out (point ∷ points) some = numbers_line out (codes "bands") (point ∷ points) ∙ ap (λ (rest : List ℕ). out ++ rest) (sym (append-nil (words_text (codes "bands" ∷ map decimal (point ∷ points)))))
+
+-- no points have no line
+pub no_bands_line : (out points : List ℕ) → length points ≡ 0 → out ≡ out ++ flat_map line_text (band_rules points)
+no_bands_line out [] none = sym (append-nil out)
+no_bands_line out (point ∷ points) none = absurd (omega (arith, none))
 
 pub values_line : (out w : List ℕ) (zs : List ℤ) → ((out ++ w) ++ flat_map (λ z. 32 ∷ signed_decimal z) zs) ++ 10 ∷ [] ≡ out ++ words_text (w ∷ map signed_decimal zs)
 unfolding words_text

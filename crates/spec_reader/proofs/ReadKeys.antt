@@ -8,8 +8,8 @@ use Rattle.exam_text.specs.Keys.{IsKey}
 use Rattle.exam_text.specs.Words.{words_of, lines_of, word, none_empty}
 use Rattle.exam_text.proofs.Firsts.{bind_ok, unless_ok, or_fault_ok, ok_is}
 use Rattle.bank_tables.specs.Tables.{Tables}
-use Rattle.exam_model.specs.Plan.{Plan}
-use Rattle.exam_model.specs.Forms.{stimuli_of}
+use Rattle.form_model.specs.Plan.{Plan}
+use Rattle.form_model.specs.Forms.{stimuli_of}
 use Rattle.spec_reader.specs.declared.keyword.Setting.{Setting}
 use Rattle.spec_reader.specs.declared.keyword.Setting.TheVariants as setting
 use Rattle.spec_reader.specs.declared.keyword.Constraint.{Constraint}
@@ -20,7 +20,7 @@ use Rattle.spec_reader.specs.declared.line_fault.Kind.TheVariants as kind
 use Rattle.spec_reader.specs.declared.line_fault.LineFault.{LineFault}
 use Rattle.spec_reader.specs.declared.line_fault.LineFault.TheVariants.{Line, Twice}
 use Rattle.spec_reader.specs.Keywords.{keyword_of, fits_count}
-use Rattle.spec_reader.specs.Rules.{Said, Length, Prior, Rate, Key, Budget, BaseBudget, Sessions, Journal, Count, Quantity, Enemies, Stimuli, Stimulus, Base, number_in, signeds_in, key_in, set_in, key_of, setting_said, constraint_said, rule_said, line_of}
+use Rattle.spec_reader.specs.Rules.{Said, Length, Prior, Rate, Key, Bands, Budget, BaseBudget, Sessions, Journal, Count, Quantity, Enemies, Stimuli, Stimulus, Base, number_in, signeds_in, points_in, key_in, set_in, key_of, setting_said, constraint_said, rule_said, line_of}
 use Rattle.spec_reader.specs.Lines.{is_skipped, mark_of, stands, next_rule, rules_of}
 use Rattle.spec_reader.specs.Plans.{SaidPlan, blank, with_rule}
 use Rattle.spec_reader.specs.Reading.{IsPlanText}
@@ -63,6 +63,7 @@ setting_key at setting.Rate words = bind_gives (number at 1 words) (λ n. number
 setting_key at setting.Key words =
     bind_gives (key_in at words) (λ k. Ok (Key k))
     (λ k e. let is = key_is (word words 1) k (or_fault_ok (key_of (word words 1)) (Line at kind.Number) k e) in record { count = is.0; bytes = is.1 })
+setting_key at setting.Bands words = bind_gives (points_in at words) (λ points. Ok (Bands points)) (λ points e. tt)
 setting_key at setting.Budget words = bind_gives (number at 1 words) (λ n. Ok (Budget n)) (λ n e. tt)
 setting_key at setting.BaseBudget words = bind_gives (number at 1 words) (λ n. Ok (BaseBudget n)) (λ n e. tt)
 setting_key at setting.Sessions words = bind_gives (number at 1 words) (λ n. Ok (Sessions n)) (λ n e. tt)
@@ -128,6 +129,7 @@ rule_keeps p (Length n) h k = h
 rule_keeps p (Prior vs) h k = h
 rule_keeps p (Rate n d) h k = h
 rule_keeps p (Key key) h k = k
+rule_keeps p (Bands points) h k = h
 rule_keeps p (Budget n) h k = h
 rule_keeps p (BaseBudget n) h k = h
 rule_keeps p (Sessions n) h k = h

@@ -7,13 +7,13 @@ use Rattle.bank_tables.specs.Items.{Set, has}
 use Rattle.bank_tables.specs.Tables.{Tables, size, quantity}
 use Rattle.bank_tables.specs.Sums.{sum_in, count_in}
 use Rattle.bank_tables.specs.Validity.{IsLogLik}
-use Rattle.exam_model.specs.declared.row.Row.{Row}
-use Rattle.exam_model.specs.declared.row.Row.TheVariants as row
-use Rattle.exam_model.specs.declared.row.StimulusBound.{StimulusBound}
-use Rattle.exam_model.specs.declared.draft.Rate.{Rate as Fraction}
-use Rattle.exam_model.specs.Plan.{Plan, no_row, no_bound, row_at, bound_at}
-use Rattle.exam_model.specs.Forms.{stimuli_of, stimuli_in, items_of, used, activity, lower_bound, upper_bound, RowHolds, StimulusHolds, Meets}
-use Rattle.exam_model.specs.Validity.{IsRowSet, IsRow, IsBudget, IsPlanFor}
+use Rattle.form_model.specs.declared.row.Row.{Row}
+use Rattle.form_model.specs.declared.row.Row.TheVariants as row
+use Rattle.form_model.specs.declared.row.StimulusBound.{StimulusBound}
+use Rattle.form_model.specs.declared.draft.Rate.{Rate as Fraction}
+use Rattle.form_model.specs.Plan.{Plan, no_row, no_bound, row_at, bound_at}
+use Rattle.form_model.specs.Forms.{stimuli_of, stimuli_in, items_of, used, activity, lower_bound, upper_bound, RowHolds, StimulusHolds, Meets}
+use Rattle.form_model.specs.Validity.{IsRowSet, IsRow, IsBudget, AreBands, IsPlanFor}
 use Rattle.exam_text.specs.First.{◌orelse◌}
 use Rattle.exam_text.specs.Words.{lines_of}
 use Rattle.exam_text.proofs.Firsts.{none_split}
@@ -153,6 +153,7 @@ plan_same b p q e h =
       some_rate = subst (λ (x : Fraction). 0 < x.num) rate h.some_rate;
       rate = subst (λ (x : Fraction). x.num ≤ x.den) rate h.rate;
       rate_high = subst (λ (x : Fraction). x.den ≤ 65535) rate h.rate_high;
+      bands = subst (AreBands b.grid) (ap (λ (s : SaidPlan). s.bands) e) h.bands;
       budget = subst IsBudget (ap (λ (s : SaidPlan). s.budget) e) h.budget;
       base_budget = subst IsBudget (ap (λ (s : SaidPlan). s.base_budget) e) h.base_budget;
       some_sessions = subst (λ (n : ℕ). 0 < n) (ap (λ (s : SaidPlan). s.sessions) e) h.some_sessions;
@@ -188,7 +189,7 @@ one_plan b text p q h g =
 
 no_early : (b : Tables) (plan : Plan) (o : Option SpecFault) → IsPlanFor b plan → o ≡ None → (front_fault b plan orelse o) ≡ None
 no_early b plan o is e =
-    let none = none_split (front_fault b plan) (bounds_fault b plan orelse limits_fault plan) (no_numbers_fault b plan is) in
+    let none = none_split (front_fault b plan) (bounds_fault b plan orelse limits_fault b plan) (no_numbers_fault b plan is) in
     rw none.0 e
 
 no_draft_fault : (b : Tables) (text : List ℕ) (plan : Plan) (f : SpecFault) → IsPlanText b text plan → IsPlanFor b plan → IsDraftFault b text f → ⊥

@@ -26,7 +26,7 @@ use Rattle.spec_reader.specs.declared.line_fault.LineFault.{LineFault}
 use Rattle.spec_reader.specs.declared.line_fault.LineFault.TheVariants.{Line}
 use Rattle.spec_reader.specs.Sets.{in_set}
 use Rattle.spec_reader.specs.Keywords.{keyword_of, setting_of, constraint_of, fits_count}
-use Rattle.spec_reader.specs.Rules.{Said, Length, Prior, Rate, Key, Budget, BaseBudget, Sessions, Journal, Count, Quantity, Enemies, Stimuli, Stimulus, Base, set_in, signeds_in, setting_said, constraint_said, rule_said, line_of}
+use Rattle.spec_reader.specs.Rules.{Said, Length, Prior, Rate, Key, Bands, Budget, BaseBudget, Sessions, Journal, Count, Quantity, Enemies, Stimuli, Stimulus, Base, set_in, signeds_in, points_in, setting_said, constraint_said, rule_said, line_of}
 use Rattle.spec_reader.specs.Grammar.{most, no_run, run, in_runs, AreRuns, Says}
 use Rattle.spec_reader.proofs.Keys.{key_some}
 
@@ -109,6 +109,10 @@ number_read n h = number_again most n (omega arith) h
 byte_read : (n : ℕ) → n ≤ 255 → number_of 255 (decimal n) ≡ Some n
 byte_read n h = number_again 255 n (omega arith) h
 
+points_nonempty : (points : List ℕ) → ((i : ℕ) → i < length points → get_or points i 0 ≤ 255) → NonEmpty (map decimal points)
+points_nonempty [] h = tt
+points_nonempty (p ∷ points) h = (number_nonempty p (omega (arith, h 0 (omega arith))), points_nonempty points (λ i lt. h (suc i) (omega (arith, lt))))
+
 line_from : (at : ℕ) (words : List (List ℕ)) (first : Keyword) (rule : Said) → keyword_of (word words 0) ≡ Some first → fits_count first (length words) ≡ true → NonEmpty words → rule_said at first words ≡ Ok rule → line_of at words ≡ Ok rule
 unfolding line_of
 line_from at words first rule k f ne r = rw (k, f, none_empty_is words ne) r
@@ -163,6 +167,21 @@ unfolding keyword_of setting_of constraint_of setting_said
 says_prior at vs some h =
     line_from at (codes "prior" ∷ map signed_decimal vs) (keyword.Setting setting.Prior) (Prior vs) refl (le-leb 2 _ (omega (arith, some, length-map vs signed_decimal))) (omega arith, values_nonempty vs h) (rw (values_read at vs h) refl)
 
+points_read : (at : ℕ) (points : List ℕ) → ((i : ℕ) → i < length points → get_or points i 0 ≤ 255) → points_in at (codes "bands" ∷ map decimal points) ≡ Ok points
+points_read at points h =
+    let words : List (List ℕ) = codes "bands" ∷ map decimal points in
+    let count : length points ≡ length words - 1 = omega (arith, length-map points decimal) in
+    each_from (length words - 1) (λ i. or_fault (number_of 255 (word words (i + 1))) (Line at kind.Number)) points 0 count
+    (λ i lt.
+    let within : i < length points = omega (arith, lt, count) in
+    let text : word words (i + 1) ≡ decimal (get_or points i 0) = rw (add-one i) (get_or-map decimal points i 0 [] within) in
+    rw (text, byte_read (get_or points i 0) (h i within)) refl)
+
+says_bands : (at : ℕ) (points : List ℕ) → 0 < length points → ((i : ℕ) → i < length points → get_or points i 0 ≤ 255) → line_of at (codes "bands" ∷ map decimal points) ≡ Ok (Bands points)
+unfolding keyword_of setting_of constraint_of setting_said
+says_bands at points some h =
+    line_from at (codes "bands" ∷ map decimal points) (keyword.Setting setting.Bands) (Bands points) refl (le-leb 2 _ (omega (arith, some, length-map points decimal))) (omega arith, points_nonempty points h) (rw (points_read at points h) refl)
+
 says_base : (at : ℕ) (X : Set) (rs : List Run) → AreRuns rs → ((x : ℕ) → X x ≡ in_runs rs x) → line_of at (codes "base" ∷ map run_word rs) ≡ Ok (Base X)
 unfolding keyword_of setting_of constraint_of setting_said
 says_base at X rs are items =
@@ -203,6 +222,7 @@ line_again at words (Length n) h = at_words at words _ _ h.spelling (says_length
 line_again at words (Prior vs) h = at_words at words _ _ h.spelling (says_prior at vs h.some h.each)
 line_again at words (Rate n d) h = at_words at words _ _ h.spelling (says_rate at n d h.first h.second)
 line_again at words (Key k) h = at_words at words _ _ h.spelling (says_key at k h.count h.bytes)
+line_again at words (Bands points) h = at_words at words _ _ h.spelling (says_bands at points h.some h.each)
 line_again at words (Budget n) h = at_words at words _ _ h.spelling (says_budget at n h.small)
 line_again at words (BaseBudget n) h = at_words at words _ _ h.spelling (says_base_budget at n h.small)
 line_again at words (Sessions n) h = at_words at words _ _ h.spelling (says_sessions at n h.small)

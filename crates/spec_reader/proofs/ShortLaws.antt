@@ -12,21 +12,21 @@ use Rattle.hex.proofs.HexLemmas.{length-encode_with}
 use Rattle.bank_tables.specs.Items.{Set, has}
 use Rattle.bank_tables.specs.Tables.{Tables}
 use Rattle.bank_tables.specs.Validity.{IsBank}
-use Rattle.exam_model.specs.Plan.{Plan, no_bound}
-use Rattle.exam_model.specs.declared.row.Row.{Row}
-use Rattle.exam_model.specs.declared.row.Row.TheVariants as row
-use Rattle.exam_model.specs.declared.row.StimulusBound.{StimulusBound}
-use Rattle.exam_model.specs.Validity.{IsPlanFor}
+use Rattle.form_model.specs.Plan.{Plan, no_bound}
+use Rattle.form_model.specs.declared.row.Row.{Row}
+use Rattle.form_model.specs.declared.row.Row.TheVariants as row
+use Rattle.form_model.specs.declared.row.StimulusBound.{StimulusBound}
+use Rattle.form_model.specs.Validity.{IsPlanFor}
 use Rattle.exam_text.specs.Numbers.{magnitude}
 use Rattle.exam_text.specs.declared.run.Run.{Run}
 use Rattle.exam_text.specs.Runs.{IsRun, run_word}
 use Rattle.exam_text.specs.Words.{spaced}
 use Rattle.spec_reader.specs.Sets.{start_of, is_last, runs_below, runs_of}
-use Rattle.spec_reader.specs.Rules.{Said, Length, Prior, Rate, Key, Budget, BaseBudget, Sessions, Journal, Count, Quantity, Enemies, Stimuli, Stimulus, Base}
+use Rattle.spec_reader.specs.Rules.{Said, Length, Prior, Rate, Key, Bands, Budget, BaseBudget, Sessions, Journal, Count, Quantity, Enemies, Stimuli, Stimulus, Base}
 use Rattle.spec_reader.specs.Grammar.{most, run, IsSet, IsPrinted, ArePrinted}
 use Rattle.exam_text.specs.Keys.{IsKey}
 use Rattle.spec_reader.specs.Plans.{SaidPlan, row_said, plan_said}
-use Rattle.spec_reader.specs.Canonical.{set_words, words_text, line_text, bounds_below, base_rules, setting_rules, canonical_rules, canonical}
+use Rattle.spec_reader.specs.Canonical.{set_words, words_text, line_text, bounds_below, band_rules, base_rules, limit_rules, setting_rules, canonical_rules, canonical}
 use Rattle.spec_reader.specs.declared.plan_fault.PlanFault.{PlanFault}
 use Rattle.spec_reader.specs.declared.plan_fault.PlanFault.TheVariants.{Memory, Source}
 use Rattle.spec_reader.specs.Reading.{most_bytes, IsPlanText, IsReadFault}
@@ -81,12 +81,19 @@ unfolding total
 values_short [] h = omega arith
 values_short (z ∷ zs) h = omega (arith, value_short z (h 0 (omega arith)), values_short zs (λ i lt. h (suc i) (omega (arith, lt))))
 
--- a line of a plan has at most so many bytes, where a prior in it has one value for each of at most 61 points
+points_short : (points : List ℕ) → ((i : ℕ) → i < length points → get_or points i 0 ≤ 255) → total (map decimal points) ≤ 10 * length points
+unfolding total
+points_short [] h = omega arith
+points_short (p ∷ points) h = omega (arith, number_short p (omega (arith, h 0 (omega arith))), points_short points (λ i lt. h (suc i) (omega (arith, lt))))
+
+-- a line of a plan has at most so many bytes, where a prior in it has one value for each of at most
+-- 61 points, and bands begin at no more points than there are bands
 abbrev most_line : ℕ
 most_line = 4200
 
 abbrev HasFewValues : Said → Type 0
 HasFewValues (Prior vs) = length vs ≤ 61
+HasFewValues (Bands points) = length points ≤ 7
 HasFewValues _ = Unit {0}
 
 line_short : (rule : Said) → IsPrinted rule → HasFewValues rule → length (line_text rule) ≤ most_line
@@ -95,6 +102,7 @@ line_short (Length n) h few = omega (arith, length-words (codes "length") (decim
 line_short (Prior vs) h few = omega (arith, length-words (codes "prior") (map signed_decimal vs), values_short vs h.1, few)
 line_short (Rate n d) h few = omega (arith, length-words (codes "rate") (decimal n ∷ decimal d ∷ []), number_short n h.0, number_short d h.1)
 line_short (Key k) h few = omega (arith, length-words (codes "key") (encode_lower k ∷ []), length-encode_with lower_digits k, h.0)
+line_short (Bands points) h few = omega (arith, length-words (codes "bands") (map decimal points), points_short points h.1, few)
 line_short (Budget n) h few = omega (arith, length-words (codes "budget") (decimal n ∷ []), number_short n h)
 line_short (BaseBudget n) h few = omega (arith, length-words (codes "base-budget") (decimal n ∷ []), number_short n h)
 line_short (Sessions n) h few = omega (arith, length-words (codes "sessions") (decimal n ∷ []), number_short n h)
@@ -129,6 +137,10 @@ bounds_few : (n : ℕ) (bounds : List StimulusBound) → HaveFewValues (bounds_b
 bounds_few zero bounds = tt
 bounds_few (suc n) bounds = few_append (bounds_below n bounds) (Stimulus (n + 1) (get_or bounds n no_bound).low (get_or bounds n no_bound).high ∷ []) (bounds_few n bounds) (tt, tt)
 
+bands_few : (points : List ℕ) → length points ≤ 7 → HaveFewValues (band_rules points)
+bands_few [] few = tt
+bands_few (p ∷ points) few = (few, tt)
+
 base_few : (base : Option Set) → HaveFewValues (base_rules base)
 base_few None = tt
 base_few (Some X) = (tt, tt)
@@ -136,6 +148,10 @@ base_few (Some X) = (tt, tt)
 length-bounds : (n : ℕ) (bounds : List StimulusBound) → length (bounds_below n bounds) ≡ n
 length-bounds zero bounds = refl
 length-bounds (suc n) bounds = omega (arith, length-bounds n bounds, length-append (bounds_below n bounds) (Stimulus (n + 1) (get_or bounds n no_bound).low (get_or bounds n no_bound).high ∷ []))
+
+length-bands : (points : List ℕ) → length (band_rules points) ≤ 1
+length-bands [] = omega arith
+length-bands (p ∷ points) = omega arith
 
 length-base : (base : Option Set) → length (base_rules base) ≤ 1
 length-base None = omega arith
@@ -151,11 +167,13 @@ canonical_short b plan bank is key =
     let C : List Said = base_rules (option_map has plan.base) in
     let all : List Said = ((S ++ R) ++ B) ++ C in
     let points : length plan.prior ≤ 61 = omega (arith, is.prior_number, bank.few_points) in
-    let settings : HaveFewValues S = (tt, (points, (tt, (tt, (tt, (tt, (tt, (tt, tt)))))))) in
+    let bands : List Said = band_rules plan.bands in
+    let limits : List Said = limit_rules (plan_said plan) in
+    let settings : HaveFewValues S = (tt, (points, (tt, (tt, few_append bands limits (bands_few plan.bands is.bands.few) (tt, (tt, (tt, (tt, tt)))))))) in
     let few : HaveFewValues all = few_append ((S ++ R) ++ B) C (few_append (S ++ R) B (few_append S R settings (rows_few plan.rows)) (bounds_few (length plan.bounds) plan.bounds)) (base_few (option_map has plan.base)) in
     let printed : ArePrinted all = canonical_printed b plan bank is key in
-    let count : length all ≤ 201 =
-    omega (arith, length-append ((S ++ R) ++ B) C, length-append (S ++ R) B, length-append S R, length-map plan.rows row_said, length-bounds (length plan.bounds) plan.bounds, length-base (option_map has plan.base), is.few_rows, is.each_stimulus, few_stimuli b bank) in
+    let count : length all ≤ 202 =
+    omega (arith, length-append bands limits, length-bands plan.bands, length-append ((S ++ R) ++ B) C, length-append (S ++ R) B, length-append S R, length-map plan.rows row_said, length-bounds (length plan.bounds) plan.bounds, length-base (option_map has plan.base), is.few_rows, is.each_stimulus, few_stimuli b bank) in
     omega (arith, lines_short all printed few, count)
 
 -- what is read of a canonical text is the plan

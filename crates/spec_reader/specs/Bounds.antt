@@ -1,6 +1,6 @@
 -- The bounds of the stimuli.
 use Rattle.std.specs.Prelude.{ℕ, ◌-◌, ◌==◌, if◌then◌else◌, List, slice_set}
-use Rattle.exam_model.specs.declared.row.StimulusBound.{StimulusBound}
+use Rattle.form_model.specs.declared.row.StimulusBound.{StimulusBound}
 
 -- the bounds of a stimulus that no line names
 abbrev pub any_bound : StimulusBound

@@ -8,7 +8,7 @@ use Rattle.exam_text.specs.Numbers.{magnitude}
 use Rattle.exam_text.specs.declared.run.Run.{Run}
 use Rattle.exam_text.specs.Runs.{IsRun, run_word, in_run}
 use Rattle.exam_text.specs.Words.{words_of}
-use Rattle.spec_reader.specs.Rules.{Said, Length, Prior, Rate, Key, Budget, BaseBudget, Sessions, Journal, Count, Quantity, Enemies, Stimuli, Stimulus, Base}
+use Rattle.spec_reader.specs.Rules.{Said, Length, Prior, Rate, Key, Bands, Budget, BaseBudget, Sessions, Journal, Count, Quantity, Enemies, Stimuli, Stimulus, Base}
 use Rattle.spec_reader.specs.Lines.{is_skipped, mark_of, stands}
 
 -- the greatest number that a text may write: nine digits
@@ -61,6 +61,12 @@ pub record WritesPrior (words : List (List ℕ)) (values : List ℤ) : Type 0 wh
   pub each : (i : ℕ) → i < length values → magnitude (get_or values i (pos 0)) ≤ most
   pub spelling : words ≡ codes "prior" ∷ map signed_decimal values
 
+-- grid points of at most 255, one or more
+pub record WritesBands (words : List (List ℕ)) (points : List ℕ) : Type 0 where
+  pub some : 0 < length points
+  pub each : (i : ℕ) → i < length points → get_or points i 0 ≤ 255
+  pub spelling : words ≡ codes "bands" ∷ map decimal points
+
 -- the 64 lower-case hexadecimal digits of 32 bytes
 pub record WritesKey (words : List (List ℕ)) (key : List ℕ) : Type 0 where
   pub count : length key ≡ 32
@@ -73,15 +79,21 @@ Says words (Length n) = WritesNumber (codes "length" ∷ []) words n
 Says words (Prior values) = WritesPrior words values
 Says words (Rate n d) = WritesNumbers (codes "rate" ∷ []) words n d
 Says words (Key key) = WritesKey words key
+Says words (Bands points) = WritesBands words points
 Says words (Budget n) = WritesNumber (codes "budget" ∷ []) words n
 Says words (BaseBudget n) = WritesNumber (codes "base-budget" ∷ []) words n
 Says words (Sessions n) = WritesNumber (codes "sessions" ∷ []) words n
 Says words (Journal n) = WritesNumber (codes "journal" ∷ []) words n
-Says words (Count low high s) = (low ≤ most) × (high ≤ most) × WritesSet (codes "count" ∷ decimal low ∷ decimal high ∷ []) words s
-Says words (Quantity q low high s) = (q ≤ 255) × (low ≤ most) × (high ≤ most) × WritesSet (codes "quantity" ∷ decimal q ∷ decimal low ∷ decimal high ∷ []) words s
+Says words (Count low high s) =
+    (low ≤ most) × (high ≤ most)
+    × WritesSet (codes "count" ∷ decimal low ∷ decimal high ∷ []) words s
+Says words (Quantity q low high s) =
+    (q ≤ 255) × (low ≤ most) × (high ≤ most)
+    × WritesSet (codes "quantity" ∷ decimal q ∷ decimal low ∷ decimal high ∷ []) words s
 Says words (Enemies s) = WritesSet (codes "enemies" ∷ []) words s
 Says words (Stimuli low high) = WritesNumbers (codes "stimuli" ∷ []) words low high
-Says words (Stimulus s low high) = (s ≤ 255) × WritesNumbers (codes "stimulus" ∷ decimal s ∷ []) words low high
+Says words (Stimulus s low high) =
+    (s ≤ 255) × WritesNumbers (codes "stimulus" ∷ decimal s ∷ []) words low high
 Says words (Base s) = WritesSet (codes "base" ∷ []) words s
 
 -- the rules before the lines and those that the lines mean are these rules in all: a line that is
@@ -91,14 +103,20 @@ abbrev pub SayBehind : List Said → List (List ℕ) → List Said → Type 0
 SayBehind before [] rules = before ≡ rules
 SayBehind before (line ∷ lines) rules =
     ((is_skipped line ≡ true) × SayBehind before lines rules)
-    ⊎ ((is_skipped line ≡ false) × ((rule : Said) × Says (words_of line) rule × (stands (mark_of rule) before ≡ false) × SayBehind (before ++ rule ∷ []) lines rules))
+    ⊎ ((is_skipped line ≡ false)
+    × ((rule : Said) × Says (words_of line) rule × (stands (mark_of rule) before ≡ false)
+    × SayBehind (before ++ rule ∷ []) lines rules))
 
 -- a rule that a canonical line can mean: its numbers are short enough, and its set can be written
 abbrev pub IsPrinted : Said → Type 0
 IsPrinted (Length n) = n ≤ most
-IsPrinted (Prior values) = (0 < length values) × ((i : ℕ) → i < length values → magnitude (get_or values i (pos 0)) ≤ most)
+IsPrinted (Prior values) =
+    (0 < length values)
+    × ((i : ℕ) → i < length values → magnitude (get_or values i (pos 0)) ≤ most)
 IsPrinted (Rate n d) = (n ≤ most) × (d ≤ most)
 IsPrinted (Key key) = (length key ≡ 32) × IsBytes key
+IsPrinted (Bands points) =
+    (0 < length points) × ((i : ℕ) → i < length points → get_or points i 0 ≤ 255)
 IsPrinted (Budget n) = n ≤ most
 IsPrinted (BaseBudget n) = n ≤ most
 IsPrinted (Sessions n) = n ≤ most
@@ -118,4 +136,5 @@ ArePrinted (rule ∷ rules) = IsPrinted rule × ArePrinted rules
 -- no rule that may occur only once occurs twice among these, or among these and those before
 abbrev pub AreFresh : List Said → List Said → Type 0
 AreFresh before [] = Unit {0}
-AreFresh before (rule ∷ rules) = (stands (mark_of rule) before ≡ false) × AreFresh (before ++ rule ∷ []) rules
+AreFresh before (rule ∷ rules) =
+    (stands (mark_of rule) before ≡ false) × AreFresh (before ++ rule ∷ []) rules

@@ -14,6 +14,7 @@ setting_of word =
     else if bytes_eq word (codes "prior") then Some setting.Prior
     else if bytes_eq word (codes "rate") then Some setting.Rate
     else if bytes_eq word (codes "key") then Some setting.Key
+    else if bytes_eq word (codes "bands") then Some setting.Bands
     else if bytes_eq word (codes "budget") then Some setting.Budget
     else if bytes_eq word (codes "base-budget") then Some setting.BaseBudget
     else if bytes_eq word (codes "sessions") then Some setting.Sessions
@@ -46,6 +47,7 @@ fits_setting setting.Length n = n == 2
 fits_setting setting.Prior n = nat_le 2 n
 fits_setting setting.Rate n = n == 3
 fits_setting setting.Key n = n == 2
+fits_setting setting.Bands n = nat_le 2 n
 fits_setting setting.Budget n = n == 2
 fits_setting setting.BaseBudget n = n == 2
 fits_setting setting.Sessions n = n == 2

@@ -7,7 +7,7 @@ use Rattle.spec_reader.specs.declared.plan_fault.Name.TheVariants as name
 use Rattle.spec_reader.specs.declared.line_fault.LineFault.{LineFault}
 use Rattle.spec_reader.specs.declared.line_fault.LineFault.TheVariants.{Twice}
 use Rattle.exam_text.specs.Words.{words_of}
-use Rattle.spec_reader.specs.Rules.{Said, Length, Prior, Rate, Key, Budget, BaseBudget, Sessions, Journal, Count, Quantity, Enemies, Stimuli, Stimulus, Base, line_of}
+use Rattle.spec_reader.specs.Rules.{Said, Length, Prior, Rate, Key, Bands, Budget, BaseBudget, Sessions, Journal, Count, Quantity, Enemies, Stimuli, Stimulus, Base, line_of}
 
 -- an empty line, or one that begins with `#`
 abbrev pub is_skipped : List ℕ → Bool
@@ -19,16 +19,17 @@ mark_of (Length n) = Some 0
 mark_of (Prior vs) = Some 1
 mark_of (Rate n d) = Some 2
 mark_of (Key k) = Some 3
-mark_of (Budget n) = Some 4
-mark_of (BaseBudget n) = Some 5
-mark_of (Sessions n) = Some 6
-mark_of (Journal n) = Some 7
+mark_of (Bands points) = Some 4
+mark_of (Budget n) = Some 5
+mark_of (BaseBudget n) = Some 6
+mark_of (Sessions n) = Some 7
+mark_of (Journal n) = Some 8
 mark_of (Count low high s) = None
 mark_of (Quantity q low high s) = None
 mark_of (Enemies s) = None
 mark_of (Stimuli low high) = None
-mark_of (Stimulus s low high) = Some (9 + s)
-mark_of (Base s) = Some 8
+mark_of (Stimulus s low high) = Some (10 + s)
+mark_of (Base s) = Some 9
 
 abbrev pub is_mark : ℕ → Option ℕ → Bool
 is_mark m None = false
@@ -46,11 +47,13 @@ stands (Some m) rules = has_mark m rules
 unfoldable pub next_rule : ℕ → List ℕ → List Said → Result (List Said) LineFault
 next_rule at line rules =
     if is_skipped line then Ok rules else
-    line_of at (words_of line) >>= λ rule. unless (fault_where (stands (mark_of rule) rules) (Twice at)) (Ok (rules ++ rule ∷ []))
+    line_of at (words_of line) >>= λ rule.
+    unless (fault_where (stands (mark_of rule) rules) (Twice at)) (Ok (rules ++ rule ∷ []))
 
 -- what the lines of a text mean, in order, or the first faulty line's fault; lines count from 1
 unfoldable pub rules_of : List (List ℕ) → Result (List Said) LineFault
-rules_of lines = steps_below (length lines) (λ i rules. next_rule (i + 1) (get_or lines i []) rules) []
+rules_of lines =
+    steps_below (length lines) (λ i rules. next_rule (i + 1) (get_or lines i []) rules) []
 
 -- the first line that is missing: a length, a prior, or a key if there is a rate
 unfoldable pub missing : List Said → Option Name

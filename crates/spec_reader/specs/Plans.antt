@@ -3,14 +3,13 @@ use Rattle.std.specs.Prelude.{ℕ, List, [], ◌∷◌, ◌++◌, map, replicate
 use Rattle.std.specs.Option.{option_map}
 use Rattle.std.specs.List.{fold}
 use Rattle.bank_tables.specs.Items.{Set, has}
-use Rattle.exam_model.specs.declared.draft.Rate.{Rate as Fraction}
-use Rattle.exam_model.specs.declared.row.Row.{Row}
-use Rattle.exam_model.specs.declared.row.Row.TheVariants as row
-use Rattle.exam_model.specs.declared.row.StimulusBound.{StimulusBound}
-use Rattle.exam_model.specs.Plan.{Plan}
-use Rattle.spec_reader.specs.declared.outline.Outline.{Outline}
+use Rattle.form_model.specs.declared.draft.Rate.{Rate as Fraction}
+use Rattle.form_model.specs.declared.row.Row.{Row}
+use Rattle.form_model.specs.declared.row.Row.TheVariants as row
+use Rattle.form_model.specs.declared.row.StimulusBound.{StimulusBound}
+use Rattle.form_model.specs.Plan.{Plan}
 use Rattle.spec_reader.specs.Bounds.{any_bound, with_bound}
-use Rattle.spec_reader.specs.Rules.{Said, Length, Prior, Rate, Key, Budget, BaseBudget, Sessions, Journal, Count, Quantity, Enemies, Stimuli, Stimulus, Base}
+use Rattle.spec_reader.specs.Rules.{Said, Length, Prior, Rate, Key, Bands, Budget, BaseBudget, Sessions, Journal, Count, Quantity, Enemies, Stimuli, Stimulus, Base}
 
 -- what a plan means: its sets are tests on items, and its rows are what their lines mean
 pub record SaidPlan : Type 0 where
@@ -20,6 +19,7 @@ pub record SaidPlan : Type 0 where
   pub bounds : List StimulusBound
   pub rate : Fraction
   pub key : List ℕ
+  pub bands : List ℕ
   pub budget : ℕ
   pub base_budget : ℕ
   pub sessions : ℕ
@@ -41,27 +41,12 @@ plan_said plan =
       bounds = plan.bounds;
       rate = plan.rate;
       key = plan.key;
+      bands = plan.bands;
       budget = plan.budget;
       base_budget = plan.base_budget;
       sessions = plan.sessions;
       journal = plan.journal;
       base = option_map has plan.base;
-    }
-
-abbrev pub outline_said : Outline → SaidPlan
-outline_said o =
-    record {
-      length = o.length;
-      prior = o.prior.items;
-      rows = map row_said o.rows.items;
-      bounds = o.bounds.items;
-      rate = o.rate;
-      key = o.key;
-      budget = o.budget;
-      base_budget = o.base_budget;
-      sessions = o.sessions;
-      journal = o.journal;
-      base = option_map has o.base;
     }
 
 -- the plan without a line, for a bank with so many stimuli: the defaults; the length and the prior
@@ -75,6 +60,7 @@ blank stimuli =
       bounds = replicate stimuli any_bound;
       rate = record { num = 1; den = 1 };
       key = replicate 32 0;
+      bands = [];
       budget = 2001;
       base_budget = 4095;
       sessions = 1000;
@@ -91,6 +77,7 @@ with_rule plan (Length n) = record plan { length = n }
 with_rule plan (Prior vs) = record plan { prior = vs }
 with_rule plan (Rate n d) = record plan { rate = record { num = n; den = d } }
 with_rule plan (Key k) = record plan { key = k }
+with_rule plan (Bands points) = record plan { bands = points }
 with_rule plan (Budget n) = record plan { budget = n }
 with_rule plan (BaseBudget n) = record plan { base_budget = n }
 with_rule plan (Sessions n) = record plan { sessions = n }
@@ -99,7 +86,8 @@ with_rule plan (Count low high s) = with_row plan (Count low high s)
 with_rule plan (Quantity q low high s) = with_row plan (Quantity q low high s)
 with_rule plan (Enemies s) = with_row plan (Enemies s)
 with_rule plan (Stimuli low high) = with_row plan (Stimuli low high)
-with_rule plan (Stimulus s low high) = record plan { bounds = with_bound plan.bounds s (record { low = low; high = high }) }
+with_rule plan (Stimulus s low high) =
+    record plan { bounds = with_bound plan.bounds s (record { low = low; high = high }) }
 with_rule plan (Base s) = record plan { base = Some s }
 
 -- the plan of these lines, for a bank with so many stimuli

@@ -3,8 +3,8 @@ use Rattle.std.specs.Prelude.{◌≡◌, ℕ, ◌⊎◌, ◌<◌, ◌≤◌, ⊤
 use Rattle.exam_text.specs.First.{◌orelse◌, first_below}
 use Rattle.exam_text.specs.Words.{lines_of}
 use Rattle.bank_tables.specs.Tables.{Tables}
-use Rattle.exam_model.specs.Plan.{Plan}
-use Rattle.exam_model.specs.Forms.{stimuli_of}
+use Rattle.form_model.specs.Plan.{Plan}
+use Rattle.form_model.specs.Forms.{stimuli_of}
 use Rattle.constraint_model.specs.declared.spec_fault.SpecFault.{SpecFault}
 use Rattle.constraint_model.specs.declared.spec_fault.SpecFault.TheVariants.{BadStimulus}
 use Rattle.constraint_model.specs.Faults.{front_fault, IsSpecFault}
@@ -25,12 +25,14 @@ rule_at rules i = get_or rules i no_rule
 
 -- a line that bounds a stimulus that is not in a bank with so many stimuli
 abbrev pub number_fault : ℕ → Said → Option SpecFault
-number_fault stimuli (Stimulus s low high) = if ((s == 0) || nat_lt stimuli s) then Some (BadStimulus s) else None
+number_fault stimuli (Stimulus s low high) =
+    if ((s == 0) || nat_lt stimuli s) then Some (BadStimulus s) else None
 number_fault stimuli _ = None
 
 -- the first such line
 unfoldable pub numbers_fault : ℕ → List Said → Option SpecFault
-numbers_fault stimuli rules = first_below (length rules) (λ i. number_fault stimuli (rule_at rules i))
+numbers_fault stimuli rules =
+    first_below (length rules) (λ i. number_fault stimuli (rule_at rules i))
 
 -- the text's lines are well-formed, none that may occur only once is repeated, none is missing, and
 -- they mean these rules
@@ -55,7 +57,9 @@ early_fault b rules plan = front_fault b plan orelse numbers_fault (stimuli_of b
 
 -- the first fault of what the rules mean: the early ones, then the others of a draft
 abbrev pub IsFirstFault : Tables → List Said → Plan → SpecFault → Type 0
-IsFirstFault b rules plan fault = (early_fault b rules plan ≡ Some fault) ⊎ ((early_fault b rules plan ≡ None) × IsSpecFault b plan fault)
+IsFirstFault b rules plan fault =
+    (early_fault b rules plan ≡ Some fault)
+    ⊎ ((early_fault b rules plan ≡ None) × IsSpecFault b plan fault)
 
 -- the lines are well-formed and none is missing, and what they mean has this fault
 pub record IsDraftFault (b : Tables) (text : List ℕ) (fault : SpecFault) : Type 0 where

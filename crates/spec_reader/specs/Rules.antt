@@ -27,6 +27,7 @@ pub data Said : Type 0 where
   Prior : List ℤ → Said
   Rate : ℕ → ℕ → Said
   Key : List ℕ → Said
+  Bands : List ℕ → Said
   Budget : ℕ → Said
   BaseBudget : ℕ → Said
   Sessions : ℕ → Said
@@ -43,6 +44,7 @@ said (rule.Length n) = Length n
 said (rule.Prior v) = Prior v.items
 said (rule.Rate n d) = Rate n d
 said (rule.Key k) = Key k
+said (rule.Bands v) = Bands v.items
 said (rule.Budget n) = Budget n
 said (rule.BaseBudget n) = BaseBudget n
 said (rule.Sessions n) = Sessions n
@@ -60,7 +62,15 @@ number_in at most i words = or_fault (number_of most (word words i)) (Line at ki
 
 -- signed numbers in the words after the first
 abbrev pub signeds_in : ℕ → List (List ℕ) → Result (List ℤ) LineFault
-signeds_in at words = each_below (length words - 1) (λ i. or_fault (signed_of 999999999 (word words (i + 1))) (Line at kind.Number))
+signeds_in at words =
+    each_below (length words - 1)
+    (λ i. or_fault (signed_of 999999999 (word words (i + 1))) (Line at kind.Number))
+
+-- grid points, which are numbers of at most 255, in the words after the first
+abbrev pub points_in : ℕ → List (List ℕ) → Result (List ℕ) LineFault
+points_in at words =
+    each_below (length words - 1)
+    (λ i. or_fault (number_of 255 (word words (i + 1))) (Line at kind.Number))
 
 abbrev pub key_where : List ℕ → Result (List ℕ) FromHexError → Option (List ℕ)
 key_where text (Ok bytes) = if bytes_eq text (encode_lower bytes) then Some bytes else None
@@ -75,14 +85,17 @@ key_in at words = or_fault (key_of (word words 1)) (Line at kind.Number)
 
 -- a set of items in the words from word `from` on
 abbrev pub set_in : ℕ → ℕ → List (List ℕ) → Result Set LineFault
-set_in at from words = if is_set (drop from words) then Ok (in_set (drop from words)) else Err (Line at kind.Set)
+set_in at from words =
+    if is_set (drop from words) then Ok (in_set (drop from words)) else Err (Line at kind.Set)
 
 -- what the words of a line with this setting mean
 unfoldable pub setting_said : ℕ → Setting → List (List ℕ) → Result Said LineFault
 setting_said at setting.Length words = number_in at 999999999 1 words >>= λ n. Ok (Length n)
 setting_said at setting.Prior words = signeds_in at words >>= λ vs. Ok (Prior vs)
-setting_said at setting.Rate words = number_in at 999999999 1 words >>= λ n. number_in at 999999999 2 words >>= λ d. Ok (Rate n d)
+setting_said at setting.Rate words =
+    number_in at 999999999 1 words >>= λ n. number_in at 999999999 2 words >>= λ d. Ok (Rate n d)
 setting_said at setting.Key words = key_in at words >>= λ k. Ok (Key k)
+setting_said at setting.Bands words = points_in at words >>= λ points. Ok (Bands points)
 setting_said at setting.Budget words = number_in at 999999999 1 words >>= λ n. Ok (Budget n)
 setting_said at setting.BaseBudget words = number_in at 999999999 1 words >>= λ n. Ok (BaseBudget n)
 setting_said at setting.Sessions words = number_in at 999999999 1 words >>= λ n. Ok (Sessions n)
@@ -90,11 +103,21 @@ setting_said at setting.Journal words = number_in at 999999999 1 words >>= λ n.
 setting_said at setting.Base words = set_in at 1 words >>= λ s. Ok (Base s)
 
 unfoldable pub constraint_said : ℕ → Constraint → List (List ℕ) → Result Said LineFault
-constraint_said at constraint.Count words = number_in at 999999999 1 words >>= λ low. number_in at 999999999 2 words >>= λ high. set_in at 3 words >>= λ s. Ok (Count low high s)
-constraint_said at constraint.Quantity words = number_in at 255 1 words >>= λ q. number_in at 999999999 2 words >>= λ low. number_in at 999999999 3 words >>= λ high. set_in at 4 words >>= λ s. Ok (Quantity q low high s)
+constraint_said at constraint.Count words =
+    number_in at 999999999 1 words >>= λ low. number_in at 999999999 2 words >>= λ high.
+    set_in at 3 words >>= λ s. Ok (Count low high s)
+constraint_said at constraint.Quantity words =
+    number_in at 255 1 words >>= λ q.
+    number_in at 999999999 2 words >>= λ low. number_in at 999999999 3 words >>= λ high.
+    set_in at 4 words >>= λ s. Ok (Quantity q low high s)
 constraint_said at constraint.Enemies words = set_in at 1 words >>= λ s. Ok (Enemies s)
-constraint_said at constraint.Stimuli words = number_in at 999999999 1 words >>= λ low. number_in at 999999999 2 words >>= λ high. Ok (Stimuli low high)
-constraint_said at constraint.Stimulus words = number_in at 255 1 words >>= λ s. number_in at 999999999 2 words >>= λ low. number_in at 999999999 3 words >>= λ high. Ok (Stimulus s low high)
+constraint_said at constraint.Stimuli words =
+    number_in at 999999999 1 words >>= λ low. number_in at 999999999 2 words >>= λ high.
+    Ok (Stimuli low high)
+constraint_said at constraint.Stimulus words =
+    number_in at 255 1 words >>= λ s.
+    number_in at 999999999 2 words >>= λ low. number_in at 999999999 3 words >>= λ high.
+    Ok (Stimulus s low high)
 
 abbrev pub rule_said : ℕ → Keyword → List (List ℕ) → Result Said LineFault
 rule_said at (keyword.Setting s) words = setting_said at s words
@@ -104,4 +127,6 @@ rule_said at (keyword.Constraint c) words = constraint_said at c words
 unfoldable pub line_of : ℕ → List (List ℕ) → Result Said LineFault
 line_of at words =
     or_fault (keyword_of (word words 0)) (Line at kind.Word) >>= λ first.
-    unless (fault_where (not (fits_count first (length words) && none_empty words)) (Line at kind.Shape)) (rule_said at first words)
+    unless
+    (fault_where (not (fits_count first (length words) && none_empty words)) (Line at kind.Shape))
+    (rule_said at first words)

@@ -22,7 +22,9 @@ is_last X n = X n && not (X (n + 1))
 -- the maximal runs of X that end below n, ascending
 abbrev pub runs_below : ℕ → Set → List Run
 runs_below zero X = []
-runs_below (suc n) X = if is_last X n then (runs_below n X ++ record { low = start_of X n; high = n } ∷ []) else runs_below n X
+runs_below (suc n) X =
+    if is_last X n then (runs_below n X ++ record { low = start_of X n; high = n } ∷ [])
+    else runs_below n X
 
 -- the maximal runs of a set of items, ascending
 unfoldable pub runs_of : Set → List Run

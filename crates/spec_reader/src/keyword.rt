@@ -10,6 +10,7 @@ pub enum Setting {
     Prior,
     Rate,
     Key,
+    Bands,
     Budget,
     BaseBudget,
     Sessions,
@@ -46,6 +47,8 @@ fn setting_of(word: &[u8]) -> Option<Setting>
         Some(Setting::Rate)
     } else if word == b"key".as_slice() {
         Some(Setting::Key)
+    } else if word == b"bands".as_slice() {
+        Some(Setting::Bands)
     } else if word == b"budget".as_slice() {
         Some(Setting::Budget)
     } else if word == b"base-budget".as_slice() {
@@ -105,7 +108,7 @@ fn fits_setting(setting: Setting, count: usize) -> bool
         | Setting::Sessions
         | Setting::Journal => count == 2,
         Setting::Rate => count == 3,
-        Setting::Prior | Setting::Base => 2 <= count,
+        Setting::Prior | Setting::Bands | Setting::Base => 2 <= count,
     }
 }
 

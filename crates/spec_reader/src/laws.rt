@@ -14,9 +14,9 @@ ghost use Rattle.spec_reader.specs.declared.plan_fault.PlanFault.{PlanFault};
 ghost use Rattle.spec_reader.specs.declared.plan_fault.PlanFault.TheVariants as outside;
 ghost use Rattle.bank_tables.specs.Tables.{Tables};
 ghost use Rattle.bank_tables.specs.Validity.{IsBank};
-ghost use Rattle.exam_model.specs.Validity.{IsPlanFor};
+ghost use Rattle.form_model.specs.Validity.{IsPlanFor};
 ghost use Rattle.spec_reader.specs.Plans.{plan_said, drafted};
-ghost use Rattle.exam_model.specs.Plan.{Plan};
+ghost use Rattle.form_model.specs.Plan.{Plan};
 ghost use Rattle.std.specs.List.{flat_map};
 
 /// The words of a line that the grammar has are read as what they mean.

@@ -7,11 +7,11 @@
 #![tactic(auto)]
 
 mod bounds;
+mod drafting;
 mod fault_text;
 mod keyword;
 pub mod laws;
 mod line_fault;
-mod outline;
 mod plan_fault;
 mod print;
 mod read;

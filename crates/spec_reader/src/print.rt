@@ -9,16 +9,16 @@ ghost use Rattle.bank_tables.specs.Items.{has};
 ghost use Rattle.exam_text.specs.Keys.{IsKey};
 ghost use Rattle.exam_text.specs.Runs.{run_word};
 ghost use Rattle.spec_reader.specs.Sets.{runs_of};
-ghost use Rattle.spec_reader.specs.Rules.{said, Prior, Key, Stimulus, Base, Rate as RateLine};
+ghost use Rattle.spec_reader.specs.Rules.{said, Prior, Key, Bands, Stimulus, Base, Rate as RateLine};
 ghost use Rattle.spec_reader.specs.Plans.{row_said, plan_said};
-ghost use Rattle.spec_reader.specs.Canonical.{words_text, line_text, bounds_below, base_rules, limit_rules, setting_rules, canonical_rules, canonical, set_words};
+ghost use Rattle.spec_reader.specs.Canonical.{words_text, line_text, bounds_below, band_rules, base_rules, limit_rules, setting_rules, canonical_rules, canonical, set_words};
 
 use crate::runs::runs_of;
 use bank_tables::ItemSet;
 use constraint_model::Spec;
 use exam_edge::Memory;
-use exam_model::{Rate, Row, StimulusBound};
 use exam_text::{Run, push_key, push_number, push_run, push_signed};
+use form_model::{Rate, Row, StimulusBound};
 use std::alloc::{AllocError, Global};
 
 /// The numbers, a space before each.
@@ -29,6 +29,18 @@ fn push_numbers(alloc: Global, out: &mut Vec<u8>, numbers: &[u64]) -> Result<(),
     for number in numbers {
         out.push(b' ')?;
         push_number(alloc, out, *number)?;
+    }
+    Ok(())
+}
+
+/// The grid points, a space before each.
+fn push_points(alloc: Global, out: &mut Vec<u8>, points: &[u8]) -> Result<(), AllocError>
+    ensures { OnOk result (out.new.items
+        ≡ out.old.items ++ flat_map (λ n. 32 ∷ decimal n) points.now) }
+{
+    for point in points {
+        out.push(b' ')?;
+        push_number(alloc, out, u64::from(*point))?;
     }
     Ok(())
 }
@@ -123,6 +135,20 @@ fn push_key_line(alloc: Global, out: &mut Vec<u8>, key: &[u8; 32]) -> Result<(),
     Ok(())
 }
 
+/// The line of the points at which bands begin, if there are any.
+#[tactic(auto, using(crate::proofs::PrintLaws::no_bands_line))]
+fn push_bands(alloc: Global, out: &mut Vec<u8>, points: &[u8]) -> Result<(), AllocError>
+    ensures { OnOk result (out.new.items
+        ≡ out.old.items ++ flat_map line_text (band_rules points.now)) }
+{
+    if !points.is_empty() {
+        out.extend_from_slice(b"bands")?;
+        push_points(alloc, out, points)?;
+        out.push(b'\n')?;
+    }
+    Ok(())
+}
+
 /// The budgets and the limits.
 fn push_limits(alloc: Global, out: &mut Vec<u8>, spec: &Spec) -> Result<(), AllocError>
     ensures { OnOk result (out.new.items
@@ -147,7 +173,7 @@ fn push_rate(alloc: Global, out: &mut Vec<u8>, rate: Rate) -> Result<(), AllocEr
     )
 }
 
-/// The lines that each canonical text has.
+/// The settings of a plan.
 fn push_settings(alloc: Global, out: &mut Vec<u8>, spec: &Spec) -> Result<(), AllocError>
     ensures lines { OnOk result (out.new.items
         ≡ out.old.items ++ flat_map line_text (setting_rules (plan_said spec.now))) }
@@ -157,6 +183,7 @@ fn push_settings(alloc: Global, out: &mut Vec<u8>, spec: &Spec) -> Result<(), Al
     push_prior(alloc, out, spec.prior())?;
     push_rate(alloc, out, spec.rate())?;
     push_key_line(alloc, out, spec.key())?;
+    push_bands(alloc, out, spec.bands())?;
     push_limits(alloc, out, spec)?;
     Ok(())
 }

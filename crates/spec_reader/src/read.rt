@@ -3,23 +3,24 @@
 ghost use Rattle.std.specs.Prelude.{◌≡◌, ℕ, ◌⊎◌, ◌<◌, ◌≤◌, List, [], length, map, Some, None, IsTrue, IfOk, IfErr};
 ghost use Rattle.bank_tables.specs.Tables.{Tables};
 ghost use Rattle.exam_edge.specs.Faults.{Rose};
-ghost use Rattle.exam_model.specs.Plan.{Plan};
-ghost use Rattle.exam_model.specs.Forms.{stimuli_of};
-ghost use Rattle.exam_model.specs.Validity.{IsPlanFor};
+ghost use Rattle.exam_edge.specs.Lent.{IsLent};
+ghost use Rattle.form_model.specs.Plan.{Plan};
+ghost use Rattle.form_model.specs.Forms.{stimuli_of};
+ghost use Rattle.form_model.specs.Validity.{IsPlanFor};
 ghost use Rattle.constraint_model.specs.Faults.{IsSpecFault};
 ghost use Rattle.spec_reader.specs.Rules.{said};
 ghost use Rattle.spec_reader.specs.Plans.{plan_said, drafted};
 ghost use Rattle.spec_reader.specs.Reading.{rule_at, number_fault, numbers_fault, IsDraft, IsPlanText, early_fault, IsFirstFault, IsPlanFault, IsOfText, most_bytes, IsReadFault};
 ghost use Rattle.spec_reader.specs.declared.plan_fault.PlanFault.TheVariants as fault;
 
-use crate::outline::Outline;
+use crate::drafting::draft_of;
 use crate::plan_fault::PlanFault;
 use crate::rule::Rule;
 use crate::rules::{missing, rules_in};
 use bank_tables::Bank;
 use constraint_model::{Spec, SpecFault, front_fault};
 use exam_edge::Source;
-use exam_model::Draft;
+use form_model::Draft;
 use std::alloc::Global;
 use text_source::{TextFault, text_of};
 
@@ -91,7 +92,7 @@ fn plan_in(alloc: Global, bank: &Bank, text: &[u8]) -> Result<Spec, PlanFault>
     if let Some(name) = missing(&rules) {
         return Err(PlanFault::Missing(name));
     }
-    let draft = Outline::of(alloc, &rules, bank.stimuli())?.into_draft();
+    let draft = draft_of(alloc, &rules, bank.stimuli())?;
     match spec_of(bank, &rules, draft) {
         Ok(spec) => Ok(spec),
         Err(fault) => Err(PlanFault::Spec(fault)),
@@ -127,9 +128,7 @@ pub fn read_plan<S: Source>(alloc: Global, bank: &Bank, source: &mut S) -> Resul
         → S.has source.new name ≡ S.has source.old name }
     ensures beside { IsTrue (S.tells source.old) → (name : List ℕ)
         → S.beside source.new name ≡ S.beside source.old name }
-    ensures grows { S.faults source.old ≤ S.faults source.new }
-    ensures tells { S.tells source.new ≡ S.tells source.old }
-    ensures identity { S.identity source.new ≡ S.identity source.old }
+    ensures frame { IsLent S.tells S.identity S.faults source.old source.new }
 {
     match text_of(alloc, source, 1_048_576) {
         Ok(text) => plan_in(alloc, bank, &text),

@@ -7,7 +7,7 @@ ghost use Rattle.exam_text.specs.Numbers.{number_of};
 ghost use Rattle.hex.specs.Hex.{encode_lower};
 ghost use Rattle.exam_text.specs.Words.{word, none_empty};
 ghost use Rattle.spec_reader.specs.Keywords.{fits_setting, fits_constraint, fits_count};
-ghost use Rattle.spec_reader.specs.Rules.{said, number_in, signeds_in, key_of, key_in, set_in, setting_said, constraint_said, rule_said, line_of};
+ghost use Rattle.spec_reader.specs.Rules.{said, number_in, signeds_in, points_in, key_of, key_in, set_in, setting_said, constraint_said, rule_said, line_of};
 ghost use Rattle.spec_reader.specs.declared.keyword.Constraint.TheVariants as constraint;
 ghost use Rattle.spec_reader.specs.declared.line_fault.LineFault.TheVariants.{Memory};
 
@@ -25,6 +25,7 @@ pub enum Rule {
     Prior(Vec<i32>),
     Rate(u32, u32),
     Key([u8; 32]),
+    Bands(Vec<u8>),
     Budget(u32),
     BaseBudget(u32),
     Sessions(u32),
@@ -57,6 +58,20 @@ fn signeds_in(alloc: Global, at: u64, words: &[&[u8]]) -> Result<Vec<i32>, LineF
     for i in 0..words.len() - 1 {
         match exam_text::signed(word_at(words, i + 1)) {
             Some(value) => values.push(value)?,
+            None => return Err(LineFault::Line(at, Kind::Number)),
+        }
+    }
+    Ok(values)
+}
+
+fn points_in(alloc: Global, at: u64, words: &[&[u8]]) -> Result<Vec<u8>, LineFault>
+    requires { 0 < length words.now }
+    ensures { Gives Memory (λ v. v.items) result (points_in at (map (λ w. w.now) words.now)) }
+{
+    let mut values = Vec::new(alloc);
+    for i in 0..words.len() - 1 {
+        match exam_text::number(word_at(words, i + 1), 255) {
+            Some(value) => values.push(value as u8)?,
             None => return Err(LineFault::Line(at, Kind::Number)),
         }
     }
@@ -119,6 +134,7 @@ fn setting_in(alloc: Global, at: u64, setting: Setting, words: &[&[u8]]) -> Resu
             Ok(Rule::Rate(num, den))
         }
         Setting::Key => Ok(Rule::Key(key_in(at, words)?)),
+        Setting::Bands => Ok(Rule::Bands(points_in(alloc, at, words)?)),
         Setting::Budget => Ok(Rule::Budget(number_in(at, MOST, 1, words)?)),
         Setting::BaseBudget => Ok(Rule::BaseBudget(number_in(at, MOST, 1, words)?)),
         Setting::Sessions => Ok(Rule::Sessions(number_in(at, MOST, 1, words)?)),

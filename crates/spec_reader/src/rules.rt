@@ -28,12 +28,13 @@ fn mark_of(rule: &Rule) -> Option<u32>
         Rule::Prior(_) => Some(1),
         Rule::Rate(_, _) => Some(2),
         Rule::Key(_) => Some(3),
-        Rule::Budget(_) => Some(4),
-        Rule::BaseBudget(_) => Some(5),
-        Rule::Sessions(_) => Some(6),
-        Rule::Journal(_) => Some(7),
-        Rule::Base(_) => Some(8),
-        Rule::Stimulus(s, _, _) => Some(9 + *s as u32),
+        Rule::Bands(_) => Some(4),
+        Rule::Budget(_) => Some(5),
+        Rule::BaseBudget(_) => Some(6),
+        Rule::Sessions(_) => Some(7),
+        Rule::Journal(_) => Some(8),
+        Rule::Base(_) => Some(9),
+        Rule::Stimulus(s, _, _) => Some(10 + *s as u32),
         Rule::Count(_, _, _)
         | Rule::Quantity(_, _, _, _)
         | Rule::Enemies(_)

@@ -7,6 +7,7 @@ use crate::constraints::{Line, Multiplier};
 use crate::ranking::{Weighed, put_in_order, reorder};
 use crate::selection::{Selection, reweigh};
 use crate::stimuli::Stimulus;
+use bank_tables::sides::{CAP_HIGH, CAP_LOW};
 use bank_tables::{Bank, ItemSet};
 use constraint_model::{Problem, Row, StimulusBound};
 use lagrange_bound::Cut;
@@ -451,7 +452,9 @@ impl Flat {
             self.add_row(problem, cut, free, sides, number, row)?;
         }
         self.wanted = (problem.spec.length() as i64).wrapping_sub(cut.taken.count() as i64);
-        self.threshold = multiplier_at(sides, 384).wrapping_sub(multiplier_at(sides, 385));
+        let low = multiplier_at(sides, CAP_LOW as usize);
+        let high = multiplier_at(sides, CAP_HIGH as usize);
+        self.threshold = low.wrapping_sub(high);
         self.step(0);
         self.begin_top()
     }

@@ -6,6 +6,7 @@ use crate::constraints::{Line, MOST};
 use crate::direction::{RowsValue, Slope};
 use crate::problem::Flat;
 use crate::step_size::Level;
+use bank_tables::sides::{CAP_HIGH, CAP_LOW};
 use bank_tables::{ItemSet, List};
 use constraint_model::Problem;
 use lagrange_bound::Cut;
@@ -37,11 +38,11 @@ fn push_rows(pairs: &mut Vec<(u16, u32)>, lines: &[Line]) -> Result<(), Memory> 
 /// The sides of the cap; both of them for the cap 0.
 fn push_cap(pairs: &mut Vec<(u16, u32)>, cap: i64) -> Result<(), Memory> {
     if cap == 0 {
-        pairs.push((384, 1))?;
-        pairs.push((385, 1))?;
+        pairs.push((CAP_LOW, 1))?;
+        pairs.push((CAP_HIGH, 1))?;
         return Ok(());
     }
-    push_sides(pairs, 384, cap, cap.wrapping_neg())
+    push_sides(pairs, CAP_LOW, cap, cap.wrapping_neg())
 }
 
 /// Gives the items of a set the share of those always selected.

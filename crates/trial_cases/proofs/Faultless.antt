@@ -6,10 +6,10 @@ use Rattle.std.proofs.lemmas.Result.{IfOk-weaker, IfOk-at_ok}
 use Rattle.bank_tables.specs.declared.bank_fault.BankFault.{BankFault}
 use Rattle.bank_tables.specs.Tables.{Tables}
 use Rattle.bank_tables.specs.Faults.{bank_fault, item_fault}
-use Rattle.exam_model.proofs.BankA.{bank_a, item_a, sevens}
-use Rattle.exam_model.proofs.BankS.{bank_s, item_s, ones}
-use Rattle.exam_model.proofs.BankE.{bank_e, item_e}
-use Rattle.exam_model.proofs.BankQ.{bank_q, item_q}
+use Rattle.form_model.proofs.BankA.{bank_a, item_a, sevens}
+use Rattle.form_model.proofs.BankS.{bank_s, item_s, ones}
+use Rattle.form_model.proofs.BankE.{bank_e, item_e}
+use Rattle.form_model.proofs.BankQ.{bank_q, item_q}
 use Rattle.trial_cases.specs.Rows.{bank_l, item_l}
 
 pub faultless_a : bank_fault bank_a ≡ None

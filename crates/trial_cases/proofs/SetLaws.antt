@@ -1,12 +1,12 @@
 -- The words of a set of items.
-use Rattle.std.proofs.Common.{◌≡◌, ℕ, zero, suc, ◌^◌, ◌<◌, ◌≤◌, inl, inr, Bool, true, false, ◌&&◌, ◌||◌, ◌==◌, List, [], ◌∷◌, get_or, nat_lt, refl, sym, ap, ◌∙◌, arith}
+use Rattle.std.proofs.Common.{◌≡◌, ℕ, zero, suc, ◌^◌, ◌<◌, ◌≤◌, inl, inr, Bool, true, false, ◌&&◌, List, [], ◌∷◌, get_or, nat_lt, refl, sym, ap, ◌∙◌, arith}
 use Rattle.std.proofs.Math.Dec.{lit≤}
 use Rattle.std.proofs.lemmas.Bool.{cases_lt, lt-ltb}
 use Rattle.std.specs.List.{list_all}
 use Rattle.std.specs.Prelude.{nat_le}
 use Rattle.bank_tables.specs.Items.{has, AreWords}
 use Rattle.bank_tables.proofs.Bits.{same_sets}
-use Rattle.exam_model.proofs.Computed.{these, these_below, one_word, word_below}
+use Rattle.form_model.proofs.Computed.{these, these_below, one_word, word_below}
 
 -- ---- a set of items below n, which is at most 64
 are_words : (word : ℕ) → word < 2 ^ 64 → AreWords (one_word word)

@@ -1,8 +1,8 @@
 -- Plans with the defaults of a plan's text.
-use Rattle.std.specs.Prelude.{ℕ, List, ℤ, replicate, None}
-use Rattle.exam_model.specs.declared.row.Row.{Row}
-use Rattle.exam_model.specs.declared.row.StimulusBound.{StimulusBound}
-use Rattle.exam_model.specs.Plan.{Plan}
+use Rattle.std.specs.Prelude.{ℕ, List, [], ℤ, replicate, None}
+use Rattle.form_model.specs.declared.row.Row.{Row}
+use Rattle.form_model.specs.declared.row.StimulusBound.{StimulusBound}
+use Rattle.form_model.specs.Plan.{Plan}
 
 -- the plan of these numbers; every other number is as where no line of a plan's text names it
 unfoldable pub plan_of : ℕ → List ℤ → List Row → List StimulusBound → Plan
@@ -14,6 +14,7 @@ plan_of length prior rows bounds =
       bounds = bounds;
       rate = record { num = 1; den = 1 };
       key = replicate 32 0;
+      bands = [];
       budget = 2001;
       base_budget = 4095;
       sessions = 1000;

@@ -2,10 +2,10 @@
 
 ghost use Rattle.std.specs.Prelude.{◌≡◌, IfOk, IfErr};
 ghost use Rattle.bank_tables.specs.Faults.{bank_fault};
-ghost use Rattle.exam_model.proofs.BankA.{bank_a};
-ghost use Rattle.exam_model.proofs.BankS.{bank_s};
-ghost use Rattle.exam_model.proofs.BankE.{bank_e};
-ghost use Rattle.exam_model.proofs.BankQ.{bank_q};
+ghost use Rattle.form_model.proofs.BankA.{bank_a};
+ghost use Rattle.form_model.proofs.BankS.{bank_s};
+ghost use Rattle.form_model.proofs.BankE.{bank_e};
+ghost use Rattle.form_model.proofs.BankQ.{bank_q};
 ghost use Rattle.trial_cases.specs.Rows.{bank_l};
 
 use crate::rows::{rows_a, rows_e, rows_l, rows_q, rows_s};

@@ -1,12 +1,12 @@
 //! The worked plans.
 
 ghost use Rattle.std.specs.Prelude.{◌≡◌, IfOk};
-ghost use Rattle.exam_model.proofs.BankA.{plan_a};
+ghost use Rattle.form_model.proofs.BankA.{plan_a};
 ghost use Rattle.trial_cases.specs.Plans.{plan_of};
 
 use crate::sets::set_of;
 use bank_tables::List;
-use exam_model::{Draft, Rate, Row, StimulusBound};
+use form_model::{Draft, Rate, Row, StimulusBound};
 use std::alloc::{AllocError, Global};
 
 /// The plan of bank A: three items, one of 0 and 1, and not both 2 and 5.
@@ -43,6 +43,7 @@ pub fn draft_of(
         bounds: List::of(bounds.to_vec(alloc)?),
         rate: Rate { num: 1, den: 1 },
         key: [0; 32],
+        bands: List::of(Vec::new(alloc)),
         budget: 2_001,
         base_budget: 4_095,
         sessions: 1_000,

@@ -1,10 +1,10 @@
 //! The rows of the worked banks. Each item has two response categories.
 
 ghost use Rattle.std.specs.Prelude.{◌≡◌, ◌<◌, ◌++◌, [], ◌∷◌, IfOk, OnOk, map};
-ghost use Rattle.exam_model.proofs.BankA.{bank_a};
-ghost use Rattle.exam_model.proofs.BankS.{bank_s};
-ghost use Rattle.exam_model.proofs.BankE.{bank_e};
-ghost use Rattle.exam_model.proofs.BankQ.{bank_q};
+ghost use Rattle.form_model.proofs.BankA.{bank_a};
+ghost use Rattle.form_model.proofs.BankS.{bank_s};
+ghost use Rattle.form_model.proofs.BankE.{bank_e};
+ghost use Rattle.form_model.proofs.BankQ.{bank_q};
 ghost use Rattle.trial_cases.specs.Rows.{two_categories, points_l, stimulus_l, info_l, loglik_l, item_l, bank_l};
 
 use bank_tables::{ItemRow, List, Rows};
@@ -69,7 +69,7 @@ const LINES_A: [Line<'static>; 6] = [
 ];
 
 /// Bank A: six items without stimulus, three points.
-#[tactic(auto, unfolding(exam_model::proofs::BankA::bank_a, exam_model::proofs::BankA::item_a, exam_model::proofs::BankA::sevens))]
+#[tactic(auto, unfolding(form_model::proofs::BankA::bank_a, form_model::proofs::BankA::item_a, form_model::proofs::BankA::sevens))]
 pub fn rows_a(alloc: Global) -> Result<Rows, AllocError>
     ensures { IfOk result (λ b. b ≡ bank_a) }
 {
@@ -88,7 +88,7 @@ const LINES_S: [Line<'static>; 5] = [
 ];
 
 /// Bank S: five items, two points; items 0, 1 and 2 have stimulus 1.
-#[tactic(auto, unfolding(exam_model::proofs::BankS::bank_s, exam_model::proofs::BankS::item_s, exam_model::proofs::BankS::ones))]
+#[tactic(auto, unfolding(form_model::proofs::BankS::bank_s, form_model::proofs::BankS::item_s, form_model::proofs::BankS::ones))]
 pub fn rows_s(alloc: Global) -> Result<Rows, AllocError>
     ensures { IfOk result (λ b. b ≡ bank_s) }
 {
@@ -107,7 +107,7 @@ const LINES_E: [Line<'static>; 5] = [
 ];
 
 /// Bank E: five items without stimulus, one point.
-#[tactic(auto, unfolding(exam_model::proofs::BankE::bank_e, exam_model::proofs::BankE::item_e))]
+#[tactic(auto, unfolding(form_model::proofs::BankE::bank_e, form_model::proofs::BankE::item_e))]
 pub fn rows_e(alloc: Global) -> Result<Rows, AllocError>
     ensures { IfOk result (λ b. b ≡ bank_e) }
 {
@@ -118,7 +118,7 @@ pub fn rows_e(alloc: Global) -> Result<Rows, AllocError>
 const LINES_Q: [Line<'static>; 4] = [(0, &[10], &[5], &[-1, -1]); 4];
 
 /// Bank Q: four items without stimulus, one point; each has 10 of the one quantity.
-#[tactic(auto, unfolding(exam_model::proofs::BankQ::bank_q, exam_model::proofs::BankQ::item_q))]
+#[tactic(auto, unfolding(form_model::proofs::BankQ::bank_q, form_model::proofs::BankQ::item_q))]
 pub fn rows_q(alloc: Global) -> Result<Rows, AllocError>
     ensures { IfOk result (λ b. b ≡ bank_q) }
 {

@@ -2,7 +2,7 @@
 
 ghost use Rattle.std.specs.Prelude.{◌≡◌, ℕ, ◌&&◌, nat_lt};
 ghost use Rattle.bank_tables.specs.Items.{has, AreWords};
-ghost use Rattle.exam_model.proofs.Computed.{these};
+ghost use Rattle.form_model.proofs.Computed.{these};
 
 use bank_tables::ItemSet;
 use bank_tables::limits::ITEMS;

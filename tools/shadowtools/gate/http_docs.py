@@ -1,4 +1,5 @@
-"""Holds docs/HTTP.md and docs/openapi.json against the routes, statuses and error words of crates/exam_http.
+"""Holds docs/HTTP.md and docs/openapi.json against the routes, statuses and error words of crates/exam_http, and the words for
+refusals of crates/history_model.
 
 usage: tools/http_docs.py
 
@@ -15,6 +16,7 @@ from shadowtools.places import TOP
 
 REPOSITORY = Path(TOP)
 CODE = REPOSITORY / "crates" / "exam_http" / "src"
+WORDS = REPOSITORY / "crates" / "history_model" / "src" / "words.rt"
 
 # A reply of this kind never leaves the office.
 INTERNAL = {"stale"}
@@ -50,8 +52,9 @@ def code_errors():
     errors = set()
     for patterns, value in arms(status, "fault_name"):
         errors.add((value.strip('"'), statuses[patterns[0]], False))
+    words = {pattern: value.strip('"') for patterns, value in arms(WORDS.read_text(), "refusal_word") for pattern in patterns}
     for patterns, value in arms(body, "refusal_value"):
-        word = re.search(r'"([a-z-]+)"', value).group(1)
+        word = words[patterns[0]]
         if word not in INTERNAL:
             errors.add((word, statuses[patterns[0]], "error_value" not in value))
     for number, word in re.findall(r'error_text\(alloc, (\d+), "([a-z-]+)", true\)', texts):

@@ -1,6 +1,6 @@
 use Rattle.std.proofs.Common.{◌∙◌, ap, sym, subst}
-use Rattle.exam_model.specs.declared.seat.Seat.{Seat}
-use Rattle.exam_model.specs.Seats.{IsSeat, with_response}
+use Rattle.serving_model.specs.declared.seat.Seat.{Seat}
+use Rattle.serving_model.specs.Seats.{IsSeat, with_response}
 use Rattle.constraint_model.specs.Views.{problem_of}
 use Rattle.assembly_bench.proofs.Serving.{after_step}
 use Rattle.assembly_bench.proofs.seat.seat_after.Goals as goal

@@ -1,4 +1,4 @@
-use Rattle.exam_model.specs.Seats.{IsSeat}
+use Rattle.serving_model.specs.Seats.{IsSeat}
 use Rattle.assembly_bench.proofs.steps.serve.Given as goal
 
 abbrev pub invariant-loop-digit : goal.invariant-loop-digit

@@ -1,7 +1,7 @@
 use Rattle.std.proofs.Common.{refl}
 use Rattle.bank_maker.specs.Draws.{state_after}
 use Rattle.bank_maker.specs.Items.{items}
-use Rattle.bank_maker.specs.Scripts.{turns, group_turns, requests_from}
+use Rattle.bank_maker.specs.Scripts.{acts, group_acts, requests_from}
 use Rattle.bank_maker.proofs.laws.drill_of_seven.Goals as goal
 
 pub returns-clause-draws : goal.returns-clause-draws
@@ -21,5 +21,5 @@ unfolding state_after items
 returns-clause-base c = refl
 
 pub returns-clause-script : goal.returns-clause-script
-unfolding state_after turns group_turns requests_from
+unfolding state_after acts group_acts requests_from
 returns-clause-script c = refl

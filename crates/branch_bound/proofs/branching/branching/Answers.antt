@@ -1,6 +1,6 @@
 use Rattle.std.proofs.Common.{◌≡◌, true, Some, None, sym, ◌∙◌, ap, arith}
 use Rattle.bank_tables.specs.Items.{Set}
-use Rattle.exam_model.specs.Paths.{is_open}
+use Rattle.certificate_model.specs.Paths.{is_open}
 use Rattle.constraint_model.specs.Views.{problem_of}
 use Rattle.branch_bound.proofs.LeafLaws.{open_is_branch, few_stimuli, none_free}
 use Rattle.branch_bound.proofs.branching.branching.Goals as goal

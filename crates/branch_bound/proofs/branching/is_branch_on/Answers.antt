@@ -1,7 +1,7 @@
 use Rattle.std.proofs.Common.{◌≡◌, sym, ◌∙◌, ap, subst}
 use Rattle.bank_tables.specs.Items.{Set, has}
-use Rattle.exam_model.specs.declared.node.Node.TheVariants.{BranchStimulus}
-use Rattle.exam_model.specs.Paths.{is_open}
+use Rattle.certificate_model.specs.declared.node.Node.TheVariants.{BranchStimulus}
+use Rattle.certificate_model.specs.Paths.{is_open}
 use Rattle.constraint_model.specs.Views.{problem_of}
 use Rattle.branch_bound.specs.Searches.{IsBranchOn}
 use Rattle.branch_bound.proofs.LeafLaws.{open_is_branch}

@@ -1,7 +1,7 @@
 use Rattle.std.proofs.Common.{rules, ◌∙◌, ap, subst}
 use Rattle.bank_tables.specs.Items.{Set}
-use Rattle.exam_model.specs.declared.node.Node.TheVariants.{BranchItem, BranchStimulus}
-use Rattle.exam_model.specs.Paths.{with_item, with_stimulus}
+use Rattle.certificate_model.specs.declared.node.Node.TheVariants.{BranchItem, BranchStimulus}
+use Rattle.certificate_model.specs.Paths.{with_item, with_stimulus}
 use Rattle.constraint_model.specs.Views.{problem_of}
 use Rattle.branch_bound.specs.Searches.{IsBranchOn}
 use Rattle.branch_bound.proofs.branching.side.Goals as goal

@@ -3,7 +3,7 @@ use Rattle.std.proofs.Math.Bool.{true≢false}
 use Rattle.std.proofs.Math.Path.{fun_ext}
 use Rattle.bank_tables.specs.Items.{Set, has}
 use Rattle.bank_tables.specs.Tables.{info}
-use Rattle.exam_model.specs.Forms.{Form}
+use Rattle.form_model.specs.Forms.{Form}
 use Rattle.constraint_model.specs.Views.{problem_of}
 use Rattle.branch_bound.specs.Exchanges.{exchange}
 use Rattle.branch_bound.proofs.ExchangeLaws.{no_better, exchange_is_better}

@@ -1,7 +1,7 @@
 use Rattle.std.proofs.Common.{◌≡◌, ℕ, ◌<◌, false}
 use Rattle.bank_tables.specs.Items.{has}
 use Rattle.bank_tables.specs.Tables.{info}
-use Rattle.exam_model.specs.Forms.{Form}
+use Rattle.form_model.specs.Forms.{Form}
 use Rattle.constraint_model.specs.Views.{problem_of}
 use Rattle.branch_bound.specs.Exchanges.{exchange}
 use Rattle.branch_bound.proofs.exchanges.exchange_of.Given as goal

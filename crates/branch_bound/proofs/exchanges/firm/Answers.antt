@@ -1,6 +1,6 @@
 use Rattle.std.proofs.Common.{◌<◌, arith}
 use Rattle.bank_tables.specs.Items.{has}
-use Rattle.exam_model.specs.Forms.{objective}
+use Rattle.form_model.specs.Forms.{objective}
 use Rattle.constraint_model.specs.Views.{problem_of}
 use Rattle.branch_bound.proofs.ExchangeLaws.{objective_small}
 use Rattle.branch_bound.proofs.exchanges.firm.Goals as goal

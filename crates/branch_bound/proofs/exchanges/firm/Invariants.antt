@@ -1,6 +1,6 @@
 use Rattle.std.proofs.Common.{◌≤◌, ◌-◌}
 use Rattle.bank_tables.specs.Items.{has}
-use Rattle.exam_model.specs.Forms.{Form, objective}
+use Rattle.form_model.specs.Forms.{Form, objective}
 use Rattle.constraint_model.specs.Views.{problem_of}
 use Rattle.branch_bound.proofs.exchanges.firm.Given as goal
 

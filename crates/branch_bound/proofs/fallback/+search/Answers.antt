@@ -1,7 +1,7 @@
 use Rattle.std.proofs.Common.{◌-◌, true, false, [], ◌∷◌, arith}
 use Rattle.std.specs.Option.{option_map}
 use Rattle.bank_tables.specs.Items.{has}
-use Rattle.exam_model.specs.declared.node.Node.TheVariants.{Open}
+use Rattle.certificate_model.specs.declared.node.Node.TheVariants.{Open}
 use Rattle.constraint_model.specs.Views.{problem_of}
 use Rattle.branch_bound.specs.Searches.{side_of}
 use Rattle.branch_bound.proofs.Comparisons.{as_good-trans}

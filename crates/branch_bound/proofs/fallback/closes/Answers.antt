@@ -3,8 +3,8 @@ use Rattle.std.specs.Prelude.{◌≤ℤ◌, ◌<ℤ◌, pos}
 use Rattle.std.specs.Option.{option_map}
 use Rattle.std.proofs.lemmas.Int.{ints}
 use Rattle.bank_tables.specs.Items.{Set, has}
-use Rattle.exam_model.specs.Forms.{objective}
-use Rattle.exam_model.specs.Verdicts.{ClosesByBound}
+use Rattle.form_model.specs.Forms.{objective}
+use Rattle.certificate_model.specs.Verdicts.{ClosesByBound}
 use Rattle.constraint_model.specs.Views.{problem_of}
 use Rattle.branch_bound.specs.Searches.{ExceedsForm}
 use Rattle.branch_bound.proofs.fallback.closes.Goals as goal

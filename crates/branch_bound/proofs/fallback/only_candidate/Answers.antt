@@ -2,8 +2,8 @@ use Rattle.std.proofs.Common.{◌≡◌, ◌||◌, ap₂, Bool, true, sym, ◌�
 use Rattle.std.proofs.Math.Path.{fun_ext}
 use Rattle.bank_tables.specs.Items.{Set, has}
 use Rattle.bank_tables.specs.Validity.{HoldsItems}
-use Rattle.exam_model.specs.Counting.{taken_or_free}
-use Rattle.exam_model.specs.Paths.{is_free}
+use Rattle.certificate_model.specs.Counting.{taken_or_free}
+use Rattle.certificate_model.specs.Paths.{is_free}
 use Rattle.constraint_model.specs.Views.{problem_of}
 use Rattle.branch_bound.proofs.LeafLaws.{none_free, full_of_taken, full_of_all, several_left, candidate_found, counts_as, may_hold_in_bank}
 use Rattle.branch_bound.proofs.fallback.only_candidate.Goals as goal

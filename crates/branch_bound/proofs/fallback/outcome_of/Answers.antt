@@ -2,10 +2,10 @@ use Rattle.std.proofs.Common.{◌≡◌, ℕ, zero, suc, ◌<◌, true, false, s
 use Rattle.std.proofs.Math.Bool.{true≢false}
 use Rattle.std.specs.Option.{option_map}
 use Rattle.bank_tables.specs.Items.{has}
-use Rattle.exam_model.specs.declared.verdict.Verdict.{Verdict}
-use Rattle.exam_model.specs.declared.verdict.Verdict.TheVariants.{Optimal, Partial}
-use Rattle.exam_model.specs.Spending.{open_leaves}
-use Rattle.exam_model.specs.Verdicts.{verdict_of, IsVerdict}
+use Rattle.certificate_model.specs.declared.verdict.Verdict.{Verdict}
+use Rattle.certificate_model.specs.declared.verdict.Verdict.TheVariants.{Optimal, Partial}
+use Rattle.certificate_model.specs.Spending.{open_leaves}
+use Rattle.certificate_model.specs.Verdicts.{verdict_of, IsVerdict}
 use Rattle.constraint_model.specs.Views.{problem_of}
 use Rattle.branch_bound.specs.declared.outcome.Outcome.TheVariants.{Found}
 use Rattle.branch_bound.specs.Showing.{Shows}

@@ -1,14 +1,14 @@
 use Rattle.std.proofs.Common.{◌≡◌, ◌-◌, ◌/◌, ◌<◌, ◌≤◌, List, [], ◌∷◌, ◌++◌, length, refl, sym, ap, ap₂, ◌∙◌, subst, arith, Option}
 use Rattle.std.specs.Option.{option_map}
 use Rattle.bank_tables.specs.Items.{Set, has}
-use Rattle.exam_model.specs.declared.node.Node.{Node}
-use Rattle.exam_model.specs.Paths.{root}
-use Rattle.exam_model.specs.Problem.{Problem}
-use Rattle.exam_model.specs.ProofTrees.{ProofTree}
-use Rattle.exam_model.specs.Relaxed.{Multipliers}
-use Rattle.exam_model.specs.Spending.{open_leaves, IsSpent}
-use Rattle.exam_model.specs.Validity.{IsBudget}
-use Rattle.exam_model.specs.Verdicts.{verdict_of, IsFormOrNone, IsVerdict}
+use Rattle.certificate_model.specs.declared.node.Node.{Node}
+use Rattle.certificate_model.specs.Paths.{root}
+use Rattle.form_model.specs.Problem.{Problem}
+use Rattle.certificate_model.specs.ProofTrees.{ProofTree}
+use Rattle.certificate_model.specs.Relaxed.{Multipliers}
+use Rattle.certificate_model.specs.Spending.{open_leaves, IsSpent}
+use Rattle.form_model.specs.Validity.{IsBudget}
+use Rattle.certificate_model.specs.Verdicts.{verdict_of, IsFormOrNone, IsVerdict}
 use Rattle.proof_tree.specs.Shape.{IsTree}
 use Rattle.constraint_model.specs.Views.{problem_of}
 use Rattle.branch_bound.specs.declared.outcome.Outcome.{Outcome}

@@ -1,8 +1,8 @@
 use Rattle.std.proofs.Common.{◌≡◌, suc, ◌+◌, ◌<◌, true, false, ◌∷◌, length, drop, get_or, refl, sym, ◌∙◌, arith}
 use Rattle.std.proofs.Math.Bool.{true≢false}
-use Rattle.exam_model.specs.declared.node.Node.{Node}
-use Rattle.exam_model.specs.declared.node.Node.TheVariants.{BranchItem}
-use Rattle.exam_model.specs.ProofTrees.{AreTrees}
+use Rattle.certificate_model.specs.declared.node.Node.{Node}
+use Rattle.certificate_model.specs.declared.node.Node.TheVariants.{BranchItem}
+use Rattle.certificate_model.specs.ProofTrees.{AreTrees}
 use Rattle.constraint_model.specs.Views.{problem_of}
 use Rattle.certificate_check.proofs.WalkSteps.{read_here, begins_within}
 use Rattle.branch_bound.specs.Searches.{side_of}

@@ -2,8 +2,8 @@ use Rattle.std.proofs.Common.{◌≡◌, ◌<◌, length, arith, ◌∙◌, w64,
 use Rattle.std.specs.Prelude.{ℤ, ◌-ℤ◌, slice_index, List}
 use Rattle.std.proofs.lemmas.Int.{ints}
 use Rattle.std.proofs.lemmas.List.{length-set}
-use Rattle.exam_model.specs.Paths.{Path}
-use Rattle.exam_model.specs.Ranges.{IsWithin, at}
+use Rattle.certificate_model.specs.Paths.{Path}
+use Rattle.certificate_model.specs.Ranges.{IsWithin, at}
 use Rattle.constraint_model.specs.Views.{problem_of}
 use Rattle.certificate_check.specs.Cuts.{path_of}
 use Rattle.certificate_check.specs.Weights.{item_top, excess_at}

@@ -1,7 +1,7 @@
 use Rattle.std.proofs.Common.{◌≡◌, ℕ, ◌<◌, length}
 use Rattle.std.specs.Prelude.{◌-ℤ◌, slice_index}
 use Rattle.constraint_model.specs.Views.{problem_of}
-use Rattle.exam_model.specs.Ranges.{IsWithin, at}
+use Rattle.certificate_model.specs.Ranges.{IsWithin, at}
 use Rattle.certificate_check.specs.Cuts.{path_of}
 use Rattle.certificate_check.specs.Weights.{item_top, excess_at}
 use Rattle.certificate_check.proofs.cap.capped_weights.Given as goal

@@ -3,7 +3,7 @@ use Rattle.std.specs.Prelude.{slice_index}
 use Rattle.bank_tables.specs.Sums.{sum_in_z}
 use Rattle.bank_tables.specs.Tables.{stimulus}
 use Rattle.constraint_model.specs.Views.{problem_of}
-use Rattle.exam_model.specs.Ranges.{IsWithin, at}
+use Rattle.certificate_model.specs.Ranges.{IsWithin, at}
 use Rattle.certificate_check.specs.Cuts.{path_of}
 use Rattle.certificate_check.specs.Weights.{excess_at}
 use Rattle.certificate_check.proofs.cap.excesses_of.Given as goal

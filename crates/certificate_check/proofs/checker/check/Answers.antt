@@ -1,7 +1,7 @@
 use Rattle.std.proofs.Common.{subst, List, ℕ, Option}
 use Rattle.std.specs.Option.{option_map, option_copied}
 use Rattle.bank_tables.specs.Items.{has}
-use Rattle.exam_model.specs.Verdicts.{IsVerdict}
+use Rattle.certificate_model.specs.Verdicts.{IsVerdict}
 use Rattle.constraint_model.specs.Views.{problem_of}
 use Rattle.certificate_check.proofs.CheckLaws.{optimal_has_form, no_form_has_none}
 use Rattle.certificate_check.proofs.checker.check.Goals as goal

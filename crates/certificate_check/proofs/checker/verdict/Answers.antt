@@ -2,7 +2,7 @@ use Rattle.std.proofs.Common.{inl, inr, refl, sym, ◌∙◌}
 use Rattle.std.specs.Option.{option_map}
 use Rattle.std.proofs.Math.Bool.{true≢false}
 use Rattle.bank_tables.specs.Items.{has}
-use Rattle.exam_model.specs.Paths.{Path}
+use Rattle.certificate_model.specs.Paths.{Path}
 use Rattle.constraint_model.specs.Views.{problem_of}
 use Rattle.certificate_check.specs.Cuts.{path_of}
 use Rattle.certificate_check.proofs.CheckLaws.{whole_walk}

@@ -1,6 +1,6 @@
 use Rattle.std.proofs.Common.{◌≡◌, ℕ, ◌<◌, false}
-use Rattle.exam_model.specs.Counting.{row_impossible}
-use Rattle.exam_model.specs.Plan.{row_at}
+use Rattle.certificate_model.specs.Counting.{row_impossible}
+use Rattle.form_model.specs.Plan.{row_at}
 use Rattle.constraint_model.specs.Views.{problem_of}
 use Rattle.certificate_check.specs.Columns.{IsColumn}
 use Rattle.certificate_check.specs.Cuts.{path_of}

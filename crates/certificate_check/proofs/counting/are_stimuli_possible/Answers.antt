@@ -1,8 +1,8 @@
 use Rattle.std.proofs.Common.{◌≡◌, ℕ, suc, ◌+◌, ◌≤◌, sym, ap, ◌∙◌, arith}
 use Rattle.std.proofs.Math.Bool.{true≢false}
 use Rattle.bank_tables.specs.Tables.{size, stimulus}
-use Rattle.exam_model.specs.Counting.{stimulus_impossible}
-use Rattle.exam_model.specs.Forms.{stimuli_of}
+use Rattle.certificate_model.specs.Counting.{stimulus_impossible}
+use Rattle.form_model.specs.Forms.{stimuli_of}
 use Rattle.constraint_model.specs.Views.{problem_of}
 use Rattle.certificate_check.specs.Cuts.{path_of}
 use Rattle.certificate_check.proofs.Steps.{greatest_at_most}

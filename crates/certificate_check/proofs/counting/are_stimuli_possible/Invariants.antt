@@ -1,5 +1,5 @@
 use Rattle.std.proofs.Common.{◌≡◌, ℕ, suc, ◌<◌, false}
-use Rattle.exam_model.specs.Counting.{stimulus_impossible}
+use Rattle.certificate_model.specs.Counting.{stimulus_impossible}
 use Rattle.constraint_model.specs.Views.{problem_of}
 use Rattle.certificate_check.specs.Cuts.{path_of}
 use Rattle.certificate_check.proofs.counting.are_stimuli_possible.Given as goal

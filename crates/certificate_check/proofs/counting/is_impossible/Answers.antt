@@ -1,8 +1,8 @@
 use Rattle.std.proofs.Common.{◌≡◌, ℕ, suc, ◌+◌, ◌-◌, List, length, get_or, arith, ap, ◌∙◌, refl}
 use Rattle.std.proofs.lemmas.List.{get_or_read_under}
-use Rattle.exam_model.specs.declared.row.Row.{Row}
-use Rattle.exam_model.specs.Counting.{row_impossible, stimulus_impossible}
-use Rattle.exam_model.specs.Plan.{row_at, no_row}
+use Rattle.form_model.specs.declared.row.Row.{Row}
+use Rattle.certificate_model.specs.Counting.{row_impossible, stimulus_impossible}
+use Rattle.form_model.specs.Plan.{row_at, no_row}
 use Rattle.constraint_model.specs.Views.{problem_of}
 use Rattle.certificate_check.specs.Cuts.{path_of}
 use Rattle.certificate_check.proofs.RowsByNumber.{number_zero, number_row, number_stimulus, number_past}

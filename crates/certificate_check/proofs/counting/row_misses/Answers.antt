@@ -3,8 +3,8 @@ use Rattle.std.proofs.lemmas.Bool.{le-ltb}
 use Rattle.bank_tables.specs.Items.{Set, has}
 use Rattle.bank_tables.specs.Sums.{sum_in}
 use Rattle.bank_tables.specs.Tables.{size, quantity}
-use Rattle.exam_model.specs.declared.row.Row.{Row}
-use Rattle.exam_model.specs.Counting.{row_impossible, taken_or_free}
+use Rattle.form_model.specs.declared.row.Row.{Row}
+use Rattle.certificate_model.specs.Counting.{row_impossible, taken_or_free}
 use Rattle.constraint_model.specs.Views.{problem_of}
 use Rattle.certificate_check.specs.Cuts.{path_of}
 use Rattle.certificate_check.proofs.counting.row_misses.Goals as goal

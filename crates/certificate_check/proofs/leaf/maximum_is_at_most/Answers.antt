@@ -1,7 +1,7 @@
 use Rattle.std.proofs.Common.{◌≡◌, ◌+◌, ◌*◌, ◌<◌, ◌≤◌, ◌⊎◌, inl, inr, ℕ, length, get_or, arith, sym}
 use Rattle.std.proofs.Math.Bool.{true≢false}
 use Rattle.bank_tables.specs.Tables.{size, stimulus}
-use Rattle.exam_model.specs.Forms.{stimuli_of}
+use Rattle.form_model.specs.Forms.{stimuli_of}
 use Rattle.constraint_model.specs.Views.{problem_of}
 use Rattle.certificate_check.proofs.Steps.{greatest_at_most}
 use Rattle.certificate_check.proofs.leaf.maximum_is_at_most.Goals as goal

@@ -3,13 +3,13 @@ use Rattle.std.specs.Prelude.{ℤ, List, Some, None, slice_index, ◌-ℤ◌}
 use Rattle.std.proofs.lemmas.Int.{ints}
 use Rattle.bank_tables.specs.Sums.{sum_in_z}
 use Rattle.bank_tables.specs.Tables.{size, stimulus}
-use Rattle.exam_model.specs.Forms.{stimuli_of}
-use Rattle.exam_model.specs.Paths.{Path}
-use Rattle.exam_model.specs.Problem.{Problem}
-use Rattle.exam_model.specs.Ranges.{IsWithin, at}
-use Rattle.exam_model.specs.Weights.{price}
-use Rattle.exam_model.specs.ProofTrees.{IsVector}
-use Rattle.exam_model.specs.Relaxed.{Multipliers, cap, multiplier, cap_side, IsRelaxedMaximum}
+use Rattle.form_model.specs.Forms.{stimuli_of}
+use Rattle.certificate_model.specs.Paths.{Path}
+use Rattle.form_model.specs.Problem.{Problem}
+use Rattle.certificate_model.specs.Ranges.{IsWithin, at}
+use Rattle.certificate_model.specs.Weights.{price}
+use Rattle.certificate_model.specs.ProofTrees.{IsVector}
+use Rattle.certificate_model.specs.Relaxed.{Multipliers, cap, multiplier, cap_side, IsRelaxedMaximum}
 use Rattle.constraint_model.specs.Views.{problem_of}
 use Rattle.certificate_check.specs.Weights.{excess_at}
 use Rattle.certificate_check.specs.Caps.{has_cap}

@@ -3,12 +3,12 @@ use Rattle.std.proofs.Math.Path.{fun_ext}
 use Rattle.std.specs.Prelude.{ℤ, pos, List, Some, None, slice_index}
 use Rattle.std.proofs.lemmas.Int.{ints}
 use Rattle.bank_tables.specs.Tables.{size}
-use Rattle.exam_model.specs.ProofTrees.{IsVector}
-use Rattle.exam_model.specs.Paths.{Path}
-use Rattle.exam_model.specs.Problem.{Problem}
-use Rattle.exam_model.specs.Ranges.{IsWithin, at}
-use Rattle.exam_model.specs.Weights.{price, item_weight}
-use Rattle.exam_model.specs.Relaxed.{Multipliers, multiplier, cap, cap_side, IsRelaxedMaximum}
+use Rattle.certificate_model.specs.ProofTrees.{IsVector}
+use Rattle.certificate_model.specs.Paths.{Path}
+use Rattle.form_model.specs.Problem.{Problem}
+use Rattle.certificate_model.specs.Ranges.{IsWithin, at}
+use Rattle.certificate_model.specs.Weights.{price, item_weight}
+use Rattle.certificate_model.specs.Relaxed.{Multipliers, multiplier, cap, cap_side, IsRelaxedMaximum}
 use Rattle.constraint_model.specs.Views.{problem_of}
 use Rattle.certificate_check.specs.Weights.{excess_top}
 use Rattle.certificate_check.specs.Caps.{has_cap}

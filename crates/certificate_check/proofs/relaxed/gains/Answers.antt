@@ -3,13 +3,13 @@ use Rattle.std.specs.Prelude.{FitsSigned, ℤ, ◌+ℤ◌, slice_index}
 use Rattle.std.proofs.lemmas.Int.{ints}
 use Rattle.bank_tables.specs.Sums.{total_z}
 use Rattle.bank_tables.specs.Tables.{size, stimulus}
-use Rattle.exam_model.specs.Forms.{stimuli_of}
-use Rattle.exam_model.specs.Paths.{Path}
+use Rattle.form_model.specs.Forms.{stimuli_of}
+use Rattle.certificate_model.specs.Paths.{Path}
 use Rattle.constraint_model.specs.Views.{problem_of}
 use Rattle.certificate_check.specs.Cuts.{path_of}
 use Rattle.certificate_check.specs.Weights.{excess_top}
 use Rattle.certificate_check.specs.Maximum.{gain_of_stimulus}
-use Rattle.exam_model.specs.Ranges.{IsWithin, at}
+use Rattle.certificate_model.specs.Ranges.{IsWithin, at}
 use Rattle.certificate_check.proofs.Steps.{greatest_at_most}
 use Rattle.certificate_check.proofs.relaxed.gains.Goals as goal
 

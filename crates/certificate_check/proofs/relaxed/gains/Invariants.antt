@@ -4,7 +4,7 @@ use Rattle.bank_tables.specs.Sums.{total_z}
 use Rattle.constraint_model.specs.Views.{problem_of}
 use Rattle.certificate_check.specs.Cuts.{path_of}
 use Rattle.certificate_check.specs.Maximum.{gain_of_stimulus}
-use Rattle.exam_model.specs.Ranges.{IsWithin, at}
+use Rattle.certificate_model.specs.Ranges.{IsWithin, at}
 use Rattle.certificate_check.proofs.relaxed.gains.Given as goal
 
 abbrev pub invariant-loop-k : goal.invariant-loop-k

@@ -1,7 +1,7 @@
 use Rattle.std.proofs.Common.{◌≡◌, arith, inl, inr, ap, ◌∙◌}
 use Rattle.bank_tables.specs.Items.{Set}
-use Rattle.exam_model.specs.Forms.{size_in}
-use Rattle.exam_model.specs.Paths.{Path, is_free}
+use Rattle.form_model.specs.Forms.{size_in}
+use Rattle.certificate_model.specs.Paths.{Path, is_free}
 use Rattle.constraint_model.specs.Views.{problem_of}
 use Rattle.certificate_check.specs.Cuts.{path_of}
 use Rattle.certificate_check.proofs.MaximumLaws.{no_maximum}

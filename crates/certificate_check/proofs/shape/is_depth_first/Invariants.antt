@@ -1,5 +1,5 @@
 use Rattle.std.proofs.Common.{◌↔◌, drop}
-use Rattle.exam_model.specs.Spending.{IsDepthFirst}
+use Rattle.certificate_model.specs.Spending.{IsDepthFirst}
 use Rattle.certificate_check.proofs.ShapeLaws.{IsRestDepthFirst}
 use Rattle.certificate_check.proofs.shape.is_depth_first.Given as goal
 

@@ -1,7 +1,7 @@
 use Rattle.std.proofs.Common.{◌≡◌, ◌≤◌, ◌<◌, ◌+◌, ℕ, List, length, drop, get_or, arith, refl, sym, ◌∙◌, subst}
 use Rattle.std.proofs.Math.ListN.{drop_of_length-le}
 use Rattle.std.proofs.lemmas.List.{length-set, drop_more}
-use Rattle.exam_model.specs.Relaxed.{Multipliers, multiplier}
+use Rattle.certificate_model.specs.Relaxed.{Multipliers, multiplier}
 use Rattle.certificate_check.proofs.SideLaws.{IsRead, none_read, more_read, all_read, multiplier_high}
 use Rattle.certificate_check.proofs.sides.sides_of.Goals as goal
 

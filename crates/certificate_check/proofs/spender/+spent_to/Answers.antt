@@ -1,8 +1,8 @@
 use Rattle.std.proofs.Common.{◌≡◌, ◌<◌, length, inl, inr, refl, ap, subst, arith}
 use Rattle.std.proofs.lemmas.Grind.{common_steps}
-use Rattle.exam_model.specs.declared.node.Node.TheVariants.{BranchItem, Bound, Ray, Count, Whole, Open}
-use Rattle.exam_model.specs.Paths.{Path}
-use Rattle.exam_model.specs.Spending.{IsSpentNode}
+use Rattle.certificate_model.specs.declared.node.Node.TheVariants.{BranchItem, Bound, Ray, Count, Whole, Open}
+use Rattle.certificate_model.specs.Paths.{Path}
+use Rattle.certificate_model.specs.Spending.{IsSpentNode}
 use Rattle.constraint_model.specs.Views.{problem_of}
 use Rattle.certificate_check.specs.declared.cut.Cut.{Cut}
 use Rattle.certificate_check.specs.Cuts.{path_of}

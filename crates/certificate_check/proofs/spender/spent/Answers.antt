@@ -1,6 +1,6 @@
 use Rattle.std.proofs.Common.{◌≡◌, ◌<◌, List, length, ap, subst, arith}
-use Rattle.exam_model.specs.declared.node.Node.{Node}
-use Rattle.exam_model.specs.Spending.{open_leaves, IsDepthFirst}
+use Rattle.certificate_model.specs.declared.node.Node.{Node}
+use Rattle.certificate_model.specs.Spending.{open_leaves, IsDepthFirst}
 use Rattle.constraint_model.specs.Views.{problem_of}
 use Rattle.certificate_check.specs.Cuts.{path_of}
 use Rattle.certificate_check.proofs.SpendSteps.{spent_where}

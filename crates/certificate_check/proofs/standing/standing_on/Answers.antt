@@ -1,8 +1,8 @@
 use Rattle.std.proofs.Common.{◌≡◌, ℕ, ◌∙◌, ap, Bool, ◌||◌}
 use Rattle.std.proofs.Math.Path.{fun_ext}
 use Rattle.bank_tables.specs.Items.{has}
-use Rattle.exam_model.specs.Forms.{used}
-use Rattle.exam_model.specs.Paths.{Path, is_free, is_chosen, is_open}
+use Rattle.form_model.specs.Forms.{used}
+use Rattle.certificate_model.specs.Paths.{Path, is_free, is_chosen, is_open}
 use Rattle.constraint_model.specs.Views.{problem_of}
 use Rattle.certificate_check.specs.Cuts.{path_of}
 use Rattle.certificate_check.proofs.Collected.{both_tests}

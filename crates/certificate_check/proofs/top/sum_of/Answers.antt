@@ -4,7 +4,7 @@ use Rattle.std.proofs.lemmas.Int.{ints}
 use Rattle.bank_tables.specs.Items.{Set, has}
 use Rattle.bank_tables.specs.Sums.{sum_in_z}
 use Rattle.bank_tables.proofs.Walks.{rest_from, all_rest, none_rest, none_rest_below, in_rest, next_rest}
-use Rattle.exam_model.specs.Ranges.{IsWithin, at}
+use Rattle.certificate_model.specs.Ranges.{IsWithin, at}
 use Rattle.certificate_check.proofs.MemberSums.{member_fits, one_summed, all_summed, same_below, sum_within}
 use Rattle.certificate_check.proofs.top.sum_of.Goals as goal
 

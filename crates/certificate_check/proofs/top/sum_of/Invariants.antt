@@ -3,7 +3,7 @@ use Rattle.std.specs.Prelude.{◌+ℤ◌}
 use Rattle.bank_tables.specs.Items.{has}
 use Rattle.bank_tables.specs.Sums.{sum_in_z}
 use Rattle.bank_tables.proofs.Walks.{rest_from}
-use Rattle.exam_model.specs.Ranges.{at}
+use Rattle.certificate_model.specs.Ranges.{at}
 use Rattle.certificate_check.proofs.top.sum_of.Given as goal
 
 -- the sum so far, and that of the members that are left

@@ -1,10 +1,10 @@
 use Rattle.std.proofs.Common.{◌≡◌, ◌+◌, ◌<◌, true, false, [], ◌∷◌, length, drop, get_or, Err, refl, inl, inr, arith, ap, subst}
 use Rattle.std.specs.Option.{option_map}
 use Rattle.bank_tables.specs.Items.{has}
-use Rattle.exam_model.specs.declared.node.Node.TheVariants.{BranchItem, BranchStimulus, Bound, Ray, Count, Whole, Open}
-use Rattle.exam_model.specs.declared.node.Node.{Node}
-use Rattle.exam_model.specs.Paths.{Path, with_item, with_stimulus}
-use Rattle.exam_model.specs.Verdicts.{IsSound, IsUnsound, below}
+use Rattle.certificate_model.specs.declared.node.Node.TheVariants.{BranchItem, BranchStimulus, Bound, Ray, Count, Whole, Open}
+use Rattle.certificate_model.specs.declared.node.Node.{Node}
+use Rattle.certificate_model.specs.Paths.{Path, with_item, with_stimulus}
+use Rattle.certificate_model.specs.Verdicts.{IsSound, IsUnsound, below}
 use Rattle.constraint_model.specs.Views.{problem_of}
 use Rattle.certificate_check.specs.declared.cut.Cut.{Cut}
 use Rattle.certificate_check.specs.declared.walk.Unsound.{Unsound}

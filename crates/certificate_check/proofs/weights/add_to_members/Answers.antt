@@ -3,7 +3,7 @@ use Rattle.std.specs.Prelude.{pos, ◌-ℤ◌}
 use Rattle.std.proofs.lemmas.Bool.{false_from_ne_true}
 use Rattle.bank_tables.specs.Items.{Set, has}
 use Rattle.bank_tables.specs.Tables.{size}
-use Rattle.exam_model.specs.Ranges.{at}
+use Rattle.certificate_model.specs.Ranges.{at}
 use Rattle.bank_tables.proofs.Walks.{rest_from, all_rest, none_rest, in_rest, next_rest}
 use Rattle.certificate_check.proofs.RowShares.{none_has, one_member, kept_outside}
 use Rattle.certificate_check.proofs.weights.add_to_members.Goals as goal

@@ -3,10 +3,10 @@ use Rattle.std.specs.Prelude.{ℤ, pos, ◌+ℤ◌, List, slice_index}
 use Rattle.std.proofs.lemmas.Int.{ints}
 use Rattle.bank_tables.specs.Sums.{total_z}
 use Rattle.bank_tables.specs.Tables.{stimulus}
-use Rattle.exam_model.specs.declared.row.Row.{Row}
-use Rattle.exam_model.specs.Weights.{weight, item_share, price_of_stimulus, item_weight}
+use Rattle.form_model.specs.declared.row.Row.{Row}
+use Rattle.certificate_model.specs.Weights.{weight, item_share, price_of_stimulus, item_weight}
 use Rattle.constraint_model.specs.Views.{problem_of}
-use Rattle.exam_model.specs.Ranges.{IsWithin, at}
+use Rattle.certificate_model.specs.Ranges.{IsWithin, at}
 use Rattle.certificate_check.specs.Weights.{IsAdded, weight_up_to, item_top}
 use Rattle.certificate_check.proofs.weights.item_weights.Goals as goal
 

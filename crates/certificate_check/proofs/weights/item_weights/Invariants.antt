@@ -2,7 +2,7 @@ use Rattle.std.proofs.Common.{◌≡◌, ◌<◌, ◌+◌, ◌*◌, ℕ}
 use Rattle.std.specs.Prelude.{slice_index}
 use Rattle.bank_tables.specs.Tables.{size}
 use Rattle.constraint_model.specs.Views.{problem_of}
-use Rattle.exam_model.specs.Ranges.{IsWithin, at}
+use Rattle.certificate_model.specs.Ranges.{IsWithin, at}
 use Rattle.certificate_check.specs.Columns.{IsColumn}
 use Rattle.certificate_check.specs.Weights.{weight_up_to}
 use Rattle.certificate_check.proofs.weights.item_weights.Given as goal

@@ -3,7 +3,7 @@ use Rattle.std.specs.Prelude.{ℤ, slice_index}
 use Rattle.std.proofs.lemmas.Int.{ints}
 use Rattle.std.proofs.lemmas.List.{length-set}
 use Rattle.constraint_model.specs.Views.{problem_of}
-use Rattle.exam_model.specs.Ranges.{IsWithin}
+use Rattle.certificate_model.specs.Ranges.{IsWithin}
 use Rattle.certificate_check.specs.Weights.{weight_up_to}
 use Rattle.certificate_check.proofs.TopLaws.{written}
 use Rattle.certificate_check.proofs.weights.plain_weights.Goals as goal

@@ -1,12 +1,12 @@
 use Rattle.std.proofs.Common.{◌≡◌, ◌<◌, length, arith, ◌+◌, ◌*◌, ℕ, ap, ◌∙◌, w64, to_z, of_z, add-one, sym, subst, refl}
 use Rattle.std.specs.Prelude.{ℤ, ◌+ℤ◌, slice_index, List}
 use Rattle.bank_tables.specs.Sums.{total_z}
-use Rattle.exam_model.specs.declared.row.Row.{Row}
-use Rattle.exam_model.specs.Forms.{lower_bound, upper_bound}
-use Rattle.exam_model.specs.Plan.{row_at}
+use Rattle.form_model.specs.declared.row.Row.{Row}
+use Rattle.form_model.specs.Forms.{lower_bound, upper_bound}
+use Rattle.form_model.specs.Plan.{row_at}
 use Rattle.constraint_model.specs.Views.{problem_of}
-use Rattle.exam_model.specs.Weights.{constant_share, bounds_price, rows_constant}
-use Rattle.exam_model.specs.Ranges.{IsWithin}
+use Rattle.certificate_model.specs.Weights.{constant_share, bounds_price, rows_constant}
+use Rattle.certificate_model.specs.Ranges.{IsWithin}
 use Rattle.certificate_check.proofs.Steps.{constant_step, constant_within, row_read, rows_few}
 use Rattle.certificate_check.proofs.weights.rows_constant.Goals as goal
 

@@ -1,11 +1,11 @@
 use Rattle.std.proofs.Common.{◌≡◌, ◌<◌, ◌+◌, ◌*◌, ℕ, ap, ◌∙◌, w64, to_z, of_z, add-one, sym, subst, refl, rules}
 use Rattle.std.specs.Prelude.{ℤ, pos, ◌+ℤ◌, ◌*ℤ◌, slice_index}
 use Rattle.bank_tables.specs.Sums.{total_z}
-use Rattle.exam_model.specs.declared.row.Row.{Row}
-use Rattle.exam_model.specs.Plan.{row_at}
+use Rattle.form_model.specs.declared.row.Row.{Row}
+use Rattle.form_model.specs.Plan.{row_at}
 use Rattle.constraint_model.specs.Views.{problem_of}
-use Rattle.exam_model.specs.Weights.{stimulus_share, stimulus_activity, price}
-use Rattle.exam_model.specs.Ranges.{IsWithin}
+use Rattle.certificate_model.specs.Weights.{stimulus_share, stimulus_activity, price}
+use Rattle.certificate_model.specs.Ranges.{IsWithin}
 use Rattle.certificate_check.proofs.Steps.{item_step, item_within, row_read, rows_few}
 use Rattle.certificate_check.proofs.weights.rows_stimulus.Goals as goal
 

@@ -2,8 +2,8 @@ use Rattle.std.proofs.Common.{◌≡◌, ◌*◌}
 use Rattle.std.specs.Prelude.{slice_index}
 use Rattle.bank_tables.specs.Sums.{total_z}
 use Rattle.constraint_model.specs.Views.{problem_of}
-use Rattle.exam_model.specs.Weights.{stimulus_share}
-use Rattle.exam_model.specs.Ranges.{IsWithin}
+use Rattle.certificate_model.specs.Weights.{stimulus_share}
+use Rattle.certificate_model.specs.Ranges.{IsWithin}
 use Rattle.certificate_check.proofs.weights.rows_stimulus.Given as goal
 
 abbrev pub invariant-loop-r : goal.invariant-loop-r

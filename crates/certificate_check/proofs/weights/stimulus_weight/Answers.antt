@@ -1,8 +1,8 @@
 use Rattle.std.proofs.Common.{rules, ◌≤◌, List, length, ap, arith}
 use Rattle.bank_tables.specs.Tables.{size, stimulus}
-use Rattle.exam_model.specs.declared.row.Row.{Row}
-use Rattle.exam_model.specs.Weights.{stimulus_weight}
-use Rattle.exam_model.specs.Forms.{stimuli_of}
+use Rattle.form_model.specs.declared.row.Row.{Row}
+use Rattle.certificate_model.specs.Weights.{stimulus_weight}
+use Rattle.form_model.specs.Forms.{stimuli_of}
 use Rattle.constraint_model.specs.Views.{problem_of}
 use Rattle.certificate_check.proofs.Steps.{greatest_at_most}
 use Rattle.certificate_check.proofs.weights.stimulus_weight.Goals as goal

@@ -1,7 +1,7 @@
 use Rattle.std.proofs.Common.{ap, ◌∙◌}
 use Rattle.std.proofs.Math.Path.{fun_ext}
 use Rattle.bank_tables.specs.Items.{Set, has}
-use Rattle.exam_model.specs.Forms.{activity}
+use Rattle.form_model.specs.Forms.{activity}
 use Rattle.constraint_model.proofs.breaches.activity_at.Goals as goal
 
 pub returns : goal.returns

@@ -2,8 +2,8 @@ use Rattle.std.proofs.Common.{◌≡◌, ◌<◌, ℕ, ◌==◌, Bool, true, fal
 use Rattle.std.proofs.lemmas.Bool.{lt-ltb}
 use Rattle.bank_tables.specs.Items.{Set, has}
 use Rattle.bank_tables.specs.Tables.{Tables, size, stimulus}
-use Rattle.exam_model.specs.Forms.{items_of, used}
-use Rattle.exam_model.proofs.SumLaws.{count_none}
+use Rattle.form_model.specs.Forms.{items_of, used}
+use Rattle.form_model.proofs.SumLaws.{count_none}
 use Rattle.constraint_model.proofs.breaches.items_at.Goals as goal
 
 rest_false : (a b : Bool) → a ≡ true → (a && b) ≡ false → b ≡ false

@@ -4,7 +4,7 @@ use Rattle.bank_tables.specs.Items.{Set, has}
 use Rattle.bank_tables.specs.Sums.{size_of, count_in}
 use Rattle.bank_tables.specs.Tables.{size}
 use Rattle.bank_tables.proofs.Bits.{size_of-below}
-use Rattle.exam_model.proofs.SumLaws.{either}
+use Rattle.form_model.proofs.SumLaws.{either}
 use Rattle.constraint_model.proofs.breaches.wrong_length.Goals as goal
 use Rattle.constraint_model.proofs.breaches.wrong_length.Goals.{else-all_below-via-then-all_below+else-found-plan, else-all_below-via-else-all_below}
 

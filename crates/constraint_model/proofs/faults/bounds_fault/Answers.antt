@@ -2,9 +2,9 @@ use Rattle.std.proofs.Common.{◌≡◌, ◌+◌, ◌<◌, ◌∙◌, get_or, le
 use Rattle.exam_text.specs.First.{first_below}
 use Rattle.std.proofs.lemmas.Bool.{le-ltb}
 use Rattle.exam_text.proofs.Firsts.{found_at}
-use Rattle.exam_model.specs.declared.row.StimulusBound.{StimulusBound}
-use Rattle.exam_model.specs.Plan.{no_bound}
-use Rattle.exam_model.specs.Forms.{stimuli_of}
+use Rattle.form_model.specs.declared.row.StimulusBound.{StimulusBound}
+use Rattle.form_model.specs.Plan.{no_bound}
+use Rattle.form_model.specs.Forms.{stimuli_of}
 use Rattle.constraint_model.specs.Faults.{bound_fault, bounds_fault}
 use Rattle.constraint_model.proofs.faults.bounds_fault.Goals as goal
 

@@ -1,6 +1,6 @@
 use Rattle.std.proofs.Common.{◌≡◌, ◌+◌, None, get_or}
 use Rattle.exam_text.specs.First.{first_below}
-use Rattle.exam_model.specs.Plan.{no_bound}
+use Rattle.form_model.specs.Plan.{no_bound}
 use Rattle.constraint_model.specs.Faults.{bound_fault}
 use Rattle.constraint_model.proofs.faults.bounds_fault.Given as goal
 

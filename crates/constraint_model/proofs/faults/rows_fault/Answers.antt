@@ -1,8 +1,8 @@
 use Rattle.std.proofs.Common.{◌≡◌, ◌<◌, ◌∙◌, get_or, length, ap, sym, subst, List, ℕ}
 use Rattle.std.proofs.lemmas.List.{get_or_read}
 use Rattle.exam_text.proofs.Firsts.{found_at}
-use Rattle.exam_model.specs.declared.row.Row.{Row}
-use Rattle.exam_model.specs.Plan.{no_row, row_at}
+use Rattle.form_model.specs.declared.row.Row.{Row}
+use Rattle.form_model.specs.Plan.{no_row, row_at}
 use Rattle.constraint_model.specs.Faults.{row_fault}
 use Rattle.constraint_model.proofs.faults.rows_fault.Goals as goal
 

@@ -1,6 +1,6 @@
 use Rattle.std.proofs.Common.{◌≡◌, None}
 use Rattle.exam_text.specs.First.{first_below}
-use Rattle.exam_model.specs.Plan.{row_at}
+use Rattle.form_model.specs.Plan.{row_at}
 use Rattle.constraint_model.specs.Faults.{row_fault}
 use Rattle.constraint_model.proofs.faults.rows_fault.Given as goal
 

@@ -1,5 +1,5 @@
 use Rattle.std.proofs.Common.{◌≡◌, ◌∙◌, Some, None, sym, ap}
-use Rattle.exam_model.specs.Plan.{Plan}
+use Rattle.form_model.specs.Plan.{Plan}
 use Rattle.exam_drill.specs.Leading.{fault_of}
 use Rattle.exam_drill.proofs.AskingLaws.{becomes_so, done_so, durable_so, short_so}
 use Rattle.exam_drill.proofs.asking.ask.Goals as goal

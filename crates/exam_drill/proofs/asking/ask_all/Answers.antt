@@ -1,6 +1,6 @@
 use Rattle.std.proofs.Common.{◌≡◌, length, refl, arith}
 use Rattle.bank_tables.specs.Tables.{Tables}
-use Rattle.exam_model.specs.Plan.{Plan}
+use Rattle.form_model.specs.Plan.{Plan}
 use Rattle.exam_office.specs.Asking.{IsDurable}
 use Rattle.exam_office.specs.Marks.{history}
 use Rattle.exam_drill.specs.Leading.{none}

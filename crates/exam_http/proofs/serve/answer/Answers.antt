@@ -1,6 +1,6 @@
 use Rattle.std.proofs.Common.{[], inl, inr, refl, sym, subst, append-nil}
 use Rattle.exam_http.specs.Serving.{LeadsTo, unchanged, then_idle}
-use Rattle.exam_http.proofs.Turns.{response_leads}
+use Rattle.exam_http.proofs.AfterMessages.{response_leads}
 use Rattle.exam_http.proofs.serve.answer.Goals as goal
 
 pub returns-in-Err-clause-becomes : goal.returns-in-Err-clause-becomes

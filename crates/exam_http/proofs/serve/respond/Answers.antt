@@ -1,7 +1,7 @@
 use Rattle.std.proofs.Common.{inr, refl}
 use Rattle.std.specs.Prelude.{Ok}
 use Rattle.exam_http.specs.Replies.{reply_text}
-use Rattle.exam_http.proofs.Turns.{on_err}
+use Rattle.exam_http.proofs.AfterMessages.{on_err}
 use Rattle.exam_http.proofs.serve.respond.Goals as goal
 
 pub returns-in-Ok-asked-clause-memory : goal.returns-in-Ok-asked-clause-memory

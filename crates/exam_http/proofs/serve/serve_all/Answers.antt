@@ -1,6 +1,6 @@
 use Rattle.std.proofs.Common.{◌++◌, [], IsTrue, arith, refl, sym, ◌∙◌, append-nil}
 use Rattle.exam_http.specs.Serving.{begun, one_more, unchanged}
-use Rattle.exam_http.proofs.Turns.{joined, leads_through}
+use Rattle.exam_http.proofs.AfterMessages.{joined, leads_through}
 use Rattle.exam_http.proofs.serve.serve_all.Goals as goal
 
 pub messages-init : goal.messages-init
@@ -13,18 +13,18 @@ messages-init g c = record {
 pub messages-preserved : goal.messages-preserved
 messages-preserved g c =
     let frame = c.messages.invariant.frame in
-    let turn = c.in-Answered.ensures.frame in
+    let last = c.in-Answered.ensures.frame in
     record {
       leads = leads_through g.H.Handler.does g.H.Handler.idles _ _ _ c.messages.invariant.leads c.in-Answered.ensures.leads;
       served = λ tells.
           let told : IsTrue (g.K.Link.tells c.messages.link) = rw frame.tells tells in
           let before = c.messages.invariant.served tells in
-          let now = c.in-Answered.ensures.turns told in
+          let now = c.in-Answered.ensures.after told in
           (before.0 ++ now.0, joined _ _ _ before.0 now.0 before.1 now.1, one_more before.0 _ now.0 _ _ _ before.2 now.2);
       frame = record {
-        grows = omega (arith, frame.grows, turn.grows);
-        tells = turn.tells ∙ frame.tells;
-        identity = turn.identity ∙ frame.identity;
+        grows = omega (arith, frame.grows, last.grows);
+        tells = last.tells ∙ frame.tells;
+        identity = last.identity ∙ frame.identity;
       };
     }
 

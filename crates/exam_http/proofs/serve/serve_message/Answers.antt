@@ -1,10 +1,10 @@
 use Rattle.std.proofs.Common.{◌++◌, ℕ, List, IsTrue, ap, subst, sym, ◌∙◌}
 use Rattle.wire_http.specs.Messages.{bytes_of, IsMessage}
-use Rattle.exam_http.proofs.Turns.{answered_turn}
+use Rattle.exam_http.proofs.AfterMessages.{answered_after}
 use Rattle.exam_http.proofs.serve.serve_message.Goals as goal
 
-pub returns-in-Ok-Some-clause-turns : goal.returns-in-Ok-Some-clause-turns
-returns-in-Ok-Some-clause-turns g c tells =
+pub returns-in-Ok-Some-clause-after : goal.returns-in-Ok-Some-clause-after
+returns-in-Ok-Some-clause-after g c tells =
     let told : IsTrue (g.K.Link.tells c.read_request.new.link) = rw c.in-Ok-Some.ensures.frame.tells tells in
     let becomes = c.answer.ensures.becomes told in
     let message = rw c.in-Ok-Some.field-0-is at c.in-Ok-Some.ensures.message in
@@ -14,6 +14,6 @@ returns-in-Ok-Some-clause-turns g c tells =
     subst (λ (left : List ℕ). IsMessage whole c.in-Ok-Some.message (kept ++ left)) (sym (c.answer.ensures.left told)) (message tells) in (
       becomes.0,
       becomes.1 ∙ ap (λ (x : List ℕ). x ++ becomes.0) (c.in-Ok-Some.ensures.written tells),
-      answered_turn g.H.Handler.does g.H.Handler.idles whole becomes.0 _ c.args.handler.now c.answer.new.handler
+      answered_after g.H.Handler.does g.H.Handler.idles whole becomes.0 _ c.args.handler.now c.answer.new.handler
           c.in-Ok-Some.message c.answer.result reads becomes.2,
     )

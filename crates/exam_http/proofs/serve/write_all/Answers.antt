@@ -1,5 +1,5 @@
 use Rattle.std.proofs.Common.{◌≡◌, ◌≤◌, ◌-◌, ◌++◌, ℕ, List, IsTrue, length, take, drop, ap, ◌∙◌, arith, append_assoc, length-drop}
-use Rattle.exam_http.proofs.Turns.{piece_more}
+use Rattle.exam_http.proofs.AfterMessages.{piece_more}
 use Rattle.exam_http.proofs.serve.write_all.Goals as goal
 
 pub pieces-preserved : goal.pieces-preserved
@@ -24,8 +24,8 @@ pieces-preserved g c =
           let told : IsTrue (g.K.Link.tells c.pieces.link) = rw frame.tells tells in
           c.in-Ok.ensures.left told ∙ c.pieces.invariant.left tells;
       frame = record {
-        grows = omega (arith, frame.grows, c.in-Ok.ensures.grows);
-        tells = c.in-Ok.ensures.tells ∙ frame.tells;
-        identity = c.in-Ok.ensures.identity ∙ frame.identity;
+        grows = omega (arith, frame.grows, c.in-Ok.ensures.frame.grows);
+        tells = c.in-Ok.ensures.frame.tells ∙ frame.tells;
+        identity = c.in-Ok.ensures.frame.identity ∙ frame.identity;
       };
     }

@@ -1,6 +1,6 @@
 use Rattle.std.proofs.Common.{◌∙◌, sym, ap, subst}
 use Rattle.bank_tables.specs.Tables.{Tables}
-use Rattle.exam_model.specs.Plan.{Plan}
+use Rattle.form_model.specs.Plan.{Plan}
 use Rattle.history_model.specs.Judging.{Record}
 use Rattle.exam_office.specs.KeptVectors.{AreWith}
 use Rattle.exam_office.proofs.taking.take_record.Goals as goal
@@ -14,8 +14,8 @@ returns-in-Ok-keep_vector-clause-taken c =
       taken = record {
         last = r;
         is_entry = sym (ap (λ (q : Record). q.entry) c.rec.view_is);
-        spells = c.in-Ok.ensures.found.0;
-        spelling = sym c.in-Ok.ensures.found.1;
+        spells = c.in-Ok.ensures.reads.spells;
+        spelling = c.in-Ok.ensures.reads.spelling;
         may = c.in-Ok-follow.ensures.may;
       };
       vectors_are =

@@ -1,6 +1,6 @@
 use Rattle.std.proofs.Common.{◌≡◌, ℕ, sym, ap, ◌∙◌, subst}
 use Rattle.constraint_model.specs.Views.{problem_of}
-use Rattle.exam_model.specs.ProofTrees.{ProofTree}
+use Rattle.certificate_model.specs.ProofTrees.{ProofTree}
 use Rattle.proof_tree.specs.Shape.{IsTree}
 use Rattle.branch_bound.specs.declared.outcome.Outcome.TheVariants.{NoneFound}
 use Rattle.exam_program.specs.Texts.{no_base_form}

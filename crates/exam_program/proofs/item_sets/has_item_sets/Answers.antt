@@ -1,8 +1,8 @@
 use Rattle.std.proofs.Common.{◌≡◌, ℕ, ◌+◌, ◌<◌, ◌≤◌, ◌⊎◌, inl, inr, List, length, get_or, Option, IfSome, ap, ◌∙◌, subst, rules, arith}
 use Rattle.std.proofs.lemmas.List.{get_or_default}
 use Rattle.bank_tables.specs.Items.{AreWords}
-use Rattle.exam_model.specs.declared.row.Row.{Row}
-use Rattle.exam_model.specs.Plan.{no_row}
+use Rattle.form_model.specs.declared.row.Row.{Row}
+use Rattle.form_model.specs.Plan.{no_row}
 use Rattle.exam_program.specs.ItemSets.{set_of}
 use Rattle.exam_program.proofs.item_sets.has_item_sets.Goals as goal
 

@@ -1,6 +1,6 @@
 use Rattle.std.proofs.Common.{ℕ, ◌<◌, get_or, IfSome}
 use Rattle.bank_tables.specs.Items.{AreWords}
-use Rattle.exam_model.specs.Plan.{no_row}
+use Rattle.form_model.specs.Plan.{no_row}
 use Rattle.exam_program.specs.ItemSets.{set_of}
 use Rattle.exam_program.proofs.item_sets.has_item_sets.Given as goal
 

@@ -1,5 +1,5 @@
 use Rattle.std.proofs.Common.{◌≡◌, ◌∙◌, Some, None, sym, ap}
-use Rattle.exam_model.specs.Plan.{Plan}
+use Rattle.form_model.specs.Plan.{Plan}
 use Rattle.replay_cli.specs.Replies.{line_of}
 use Rattle.exam_program.specs.Replays.{halt_of}
 use Rattle.exam_program.specs.Stopping.{IsAnswered, IsStopped, IsUnprinted}

@@ -29,5 +29,5 @@ returns-in-Ok-clause-bookings c = λ b plan H run legal kept.
     let at : IsPlaceFor bookings order booking place = subst (λ (xs : List ℕ). IsPlaceFor bookings xs booking place) c.as_slice-in-Started.ensures.value lent in
     let started : AreBookings (H ++ c.args.entry.now ∷ []) (bookings ++ booking ∷ []) (insert order place session) =
     subst (λ (e : Entry). AreBookings (H ++ e ∷ []) (bookings ++ booking ∷ []) (insert order place session)) (sym is)
-    (bookings_started b plan H bookings order session booking place c.in-Started.eligible at (subst (λ (e : Entry). Legal b plan H e) is legal) kept) in
+    (bookings_started b plan H bookings order session booking place c.in-Started.eligible c.in-Started.without at (subst (λ (e : Entry). Legal b plan H e) is legal) kept) in
     rw (c.in-Ok.ensures.items, c.push_reserved.ensures.items) started

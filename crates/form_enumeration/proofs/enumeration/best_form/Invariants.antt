@@ -2,8 +2,8 @@ use Rattle.std.proofs.Common.{◌<◌}
 use Rattle.std.specs.Option.{option_map}
 use Rattle.bank_tables.specs.Items.{Set, has}
 use Rattle.bank_tables.specs.Tables.{size}
-use Rattle.exam_model.specs.Forms.{Form}
-use Rattle.exam_model.specs.Verdicts.{IsFormOrNone, IsAtLeast}
+use Rattle.form_model.specs.Forms.{Form}
+use Rattle.certificate_model.specs.Verdicts.{IsFormOrNone, IsAtLeast}
 use Rattle.constraint_model.specs.Views.{problem_of}
 use Rattle.form_enumeration.proofs.Masks.{mask_of}
 use Rattle.form_enumeration.proofs.enumeration.best_form.Given as goal

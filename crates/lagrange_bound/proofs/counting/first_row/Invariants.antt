@@ -1,7 +1,7 @@
 use Rattle.std.proofs.Common.{◌≡◌, ℕ, ◌<◌, false}
-use Rattle.exam_model.specs.Paths.{Path}
-use Rattle.exam_model.specs.Plan.{row_at}
-use Rattle.exam_model.specs.Counting.{row_impossible}
+use Rattle.certificate_model.specs.Paths.{Path}
+use Rattle.form_model.specs.Plan.{row_at}
+use Rattle.certificate_model.specs.Counting.{row_impossible}
 use Rattle.constraint_model.specs.Views.{problem_of}
 use Rattle.lagrange_bound.specs.Cuts.{IsCutOf}
 use Rattle.lagrange_bound.proofs.counting.first_row.Given as goal

@@ -1,15 +1,15 @@
 use Rattle.std.proofs.Common.{◌≡◌, ◌+◌, ◌≤◌, ◌||◌, ap, ◌∙◌, arith}
 use Rattle.bank_tables.specs.Items.{Set, has}
 use Rattle.bank_tables.specs.Tables.{size, stimulus}
-use Rattle.exam_model.specs.Forms.{items_of, stimuli_of}
+use Rattle.form_model.specs.Forms.{items_of, stimuli_of}
 use Rattle.constraint_model.specs.Views.{problem_of}
-use Rattle.exam_model.specs.Problem.{Problem}
-use Rattle.exam_model.specs.Validity.{IsWellMade}
+use Rattle.form_model.specs.Problem.{Problem}
+use Rattle.form_model.specs.Validity.{IsWellMade}
 use Rattle.lagrange_bound.proofs.CountingSteps.{greatest_at_most}
 use Rattle.lagrange_bound.proofs.CountingSteps.{greatest_at_most}
 use Rattle.std.proofs.Math.Path.{fun_ext}
-use Rattle.exam_model.specs.Problem.{Problem}
-use Rattle.exam_model.specs.Validity.{IsWellMade}
+use Rattle.form_model.specs.Problem.{Problem}
+use Rattle.form_model.specs.Validity.{IsWellMade}
 use Rattle.lagrange_bound.proofs.counting.first_stimulus.Goals as goal
 
 few : (P : Problem) → IsWellMade P → stimuli_of P.bank ≤ 64

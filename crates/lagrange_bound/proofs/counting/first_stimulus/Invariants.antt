@@ -1,6 +1,6 @@
 use Rattle.std.proofs.Common.{◌≡◌, ℕ, suc, ◌<◌, false}
-use Rattle.exam_model.specs.Paths.{Path}
-use Rattle.exam_model.specs.Counting.{stimulus_impossible}
+use Rattle.certificate_model.specs.Paths.{Path}
+use Rattle.certificate_model.specs.Counting.{stimulus_impossible}
 use Rattle.constraint_model.specs.Views.{problem_of}
 use Rattle.lagrange_bound.specs.Cuts.{IsCutOf}
 use Rattle.lagrange_bound.proofs.counting.first_stimulus.Given as goal

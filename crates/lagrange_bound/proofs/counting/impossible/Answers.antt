@@ -1,10 +1,10 @@
 use Rattle.std.proofs.Common.{◌≡◌, ℕ, ◌+◌, ◌≤◌, List, length, ap, arith}
 use Rattle.bank_tables.specs.Tables.{size, stimulus}
-use Rattle.exam_model.specs.declared.row.Row.{Row}
-use Rattle.exam_model.specs.Forms.{stimuli_of}
+use Rattle.form_model.specs.declared.row.Row.{Row}
+use Rattle.form_model.specs.Forms.{stimuli_of}
 use Rattle.constraint_model.specs.Views.{problem_of}
-use Rattle.exam_model.specs.Problem.{Problem}
-use Rattle.exam_model.specs.Validity.{IsWellMade}
+use Rattle.form_model.specs.Problem.{Problem}
+use Rattle.form_model.specs.Validity.{IsWellMade}
 use Rattle.lagrange_bound.proofs.CountingSteps.{first_length, first_of_rows, first_of_stimuli, none_first, greatest_at_most}
 use Rattle.lagrange_bound.proofs.counting.impossible.Goals as goal
 

@@ -1,7 +1,7 @@
 use Rattle.std.proofs.Common.{◌-◌, List, get_or, ap, ◌∙◌}
 use Rattle.constraint_model.specs.Views.{problem_of}
 use Rattle.lagrange_bound.proofs.CountingSteps.{stimulus_is}
-use Rattle.exam_model.specs.declared.row.StimulusBound.{StimulusBound}
+use Rattle.form_model.specs.declared.row.StimulusBound.{StimulusBound}
 use Rattle.lagrange_bound.proofs.counting.stimulus_impossible.Goals as goal
 
 pub returns : goal.returns

@@ -1,7 +1,7 @@
 use Rattle.std.proofs.Common.{◌≡◌, ℕ, w64, to_z, of_z, sym, ap, ◌∙◌, arith}
 use Rattle.std.specs.Prelude.{ℤ, Some}
-use Rattle.exam_model.specs.Relaxed.{multiplier}
-use Rattle.exam_model.specs.Weights.{price}
+use Rattle.certificate_model.specs.Relaxed.{multiplier}
+use Rattle.certificate_model.specs.Weights.{price}
 use Rattle.lagrange_bound.proofs.Linked.{cap_none, cap_low, cap_high}
 use Rattle.lagrange_bound.proofs.Sums.{read_back}
 use Rattle.lagrange_bound.proofs.links.cap_of.Goals as goal

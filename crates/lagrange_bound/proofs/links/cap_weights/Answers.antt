@@ -2,7 +2,7 @@ use Rattle.std.proofs.Common.{◌≡◌, List, ◌==◌, w64, to_z, of_z, sym, a
 use Rattle.std.specs.Prelude.{ℤ, pos, ◌-ℤ◌, Option, Some}
 use Rattle.std.proofs.lemmas.Int.{ints}
 use Rattle.bank_tables.specs.Tables.{size, stimulus}
-use Rattle.exam_model.specs.Ranges.{IsWithin, at}
+use Rattle.certificate_model.specs.Ranges.{IsWithin, at}
 use Rattle.lagrange_bound.specs.Links.{excess_on, is_linked_on, link_on}
 use Rattle.lagrange_bound.specs.Ranges.{excesses_top, item_top}
 use Rattle.lagrange_bound.proofs.Linked.{excess_none, lowered, sum_in_z-same, zero_at}

@@ -1,7 +1,7 @@
 use Rattle.std.proofs.Common.{◌≡◌, ℕ, ◌<◌, w64, to_z, of_z, length, ◌∙◌, subst, sym, arith}
 use Rattle.std.specs.Prelude.{ℤ, Some}
 use Rattle.std.proofs.lemmas.List.{length-set}
-use Rattle.exam_model.specs.Ranges.{IsWithin}
+use Rattle.certificate_model.specs.Ranges.{IsWithin}
 use Rattle.lagrange_bound.specs.Links.{link_on}
 use Rattle.lagrange_bound.specs.Ranges.{excess_top}
 use Rattle.lagrange_bound.proofs.Linked.{filled}

@@ -1,6 +1,6 @@
 use Rattle.std.proofs.Common.{◌≡◌, ℕ, ◌<◌, length}
 use Rattle.std.specs.Prelude.{Some}
-use Rattle.exam_model.specs.Ranges.{IsWithin, at}
+use Rattle.certificate_model.specs.Ranges.{IsWithin, at}
 use Rattle.lagrange_bound.specs.Links.{link_on}
 use Rattle.lagrange_bound.specs.Ranges.{excess_top}
 use Rattle.lagrange_bound.proofs.links.links.Given as goal

@@ -1,6 +1,6 @@
 use Rattle.std.proofs.Common.{◌≡◌, ℕ, ◌<◌, ◌≤◌, length}
 use Rattle.std.specs.Prelude.{◌-ℤ◌}
-use Rattle.exam_model.specs.Ranges.{at}
+use Rattle.certificate_model.specs.Ranges.{at}
 use Rattle.lagrange_bound.proofs.links.lower.Given as goal
 
 abbrev pub invariant-loop-i : goal.invariant-loop-i

@@ -2,7 +2,7 @@ use Rattle.std.proofs.Common.{◌≡◌, ℕ, List, set, ◌+◌, ◌*◌, ◌<�
 use Rattle.std.specs.Prelude.{ℤ, ◌+ℤ◌}
 use Rattle.std.proofs.lemmas.Int.{ints}
 use Rattle.bank_tables.specs.Tables.{stimulus}
-use Rattle.exam_model.specs.Ranges.{IsWithin, at}
+use Rattle.certificate_model.specs.Ranges.{IsWithin, at}
 use Rattle.lagrange_bound.specs.Ranges.{excess_top}
 use Rattle.lagrange_bound.proofs.Linked.{one_more, one_more_within, zero_at}
 use Rattle.lagrange_bound.proofs.Sums.{read_back}

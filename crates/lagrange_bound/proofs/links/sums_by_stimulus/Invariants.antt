@@ -1,7 +1,7 @@
 use Rattle.std.proofs.Common.{◌≡◌, ℕ, ◌*◌, ◌≤◌, ◌==◌, length}
 use Rattle.bank_tables.specs.Sums.{sum_in_z}
 use Rattle.bank_tables.specs.Tables.{stimulus}
-use Rattle.exam_model.specs.Ranges.{IsWithin, at}
+use Rattle.certificate_model.specs.Ranges.{IsWithin, at}
 use Rattle.lagrange_bound.specs.Ranges.{excess_top}
 use Rattle.lagrange_bound.proofs.links.sums_by_stimulus.Given as goal
 

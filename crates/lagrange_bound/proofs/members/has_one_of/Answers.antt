@@ -2,7 +2,7 @@ use Rattle.std.proofs.Common.{◌&&◌, ◌==◌, sym}
 use Rattle.std.proofs.lemmas.Bool.{and_from, eq-eqb}
 use Rattle.bank_tables.specs.Items.{has}
 use Rattle.bank_tables.specs.Tables.{size, stimulus}
-use Rattle.exam_model.proofs.SumLaws.{any_intro}
+use Rattle.form_model.proofs.SumLaws.{any_intro}
 use Rattle.std.proofs.Common.{◌<◌, arith, ◌∙◌}
 use Rattle.lagrange_bound.proofs.members.has_one_of.Goals as goal
 

@@ -1,11 +1,11 @@
 use Rattle.std.proofs.Common.{◌≡◌, ℕ, ◌+◌, ◌*◌, ◌<◌, List, length, w64, to_z, of_z, add-one, sym, ap, ◌∙◌, subst, arith, rules}
 use Rattle.std.specs.Prelude.{ℤ, ◌+ℤ◌, slice_index}
 use Rattle.bank_tables.specs.Sums.{total_z}
-use Rattle.exam_model.specs.declared.row.Row.{Row}
-use Rattle.exam_model.specs.Plan.{row_at}
-use Rattle.exam_model.specs.Forms.{lower_bound, upper_bound}
-use Rattle.exam_model.specs.Ranges.{IsWithin}
-use Rattle.exam_model.specs.Weights.{bounds_price, constant_share, rows_constant}
+use Rattle.form_model.specs.declared.row.Row.{Row}
+use Rattle.form_model.specs.Plan.{row_at}
+use Rattle.form_model.specs.Forms.{lower_bound, upper_bound}
+use Rattle.certificate_model.specs.Ranges.{IsWithin}
+use Rattle.certificate_model.specs.Weights.{bounds_price, constant_share, rows_constant}
 use Rattle.constraint_model.specs.Views.{problem_of}
 use Rattle.lagrange_bound.specs.Ranges.{bounds_top}
 use Rattle.lagrange_bound.proofs.Sums.{summed, summed_within, row_read, row_number}

@@ -1,10 +1,10 @@
 use Rattle.std.proofs.Common.{◌≡◌, ℕ, ◌+◌, ◌*◌, ◌<◌, w64, to_z, of_z, add-one, sym, ap, ◌∙◌, subst, arith, rules}
 use Rattle.std.specs.Prelude.{ℤ, pos, ◌+ℤ◌, ◌*ℤ◌, slice_index}
 use Rattle.bank_tables.specs.Sums.{total_z}
-use Rattle.exam_model.specs.declared.row.Row.{Row}
-use Rattle.exam_model.specs.Plan.{row_at}
-use Rattle.exam_model.specs.Ranges.{IsWithin}
-use Rattle.exam_model.specs.Weights.{price, stimulus_activity, stimulus_share}
+use Rattle.form_model.specs.declared.row.Row.{Row}
+use Rattle.form_model.specs.Plan.{row_at}
+use Rattle.certificate_model.specs.Ranges.{IsWithin}
+use Rattle.certificate_model.specs.Weights.{price, stimulus_activity, stimulus_share}
 use Rattle.constraint_model.specs.Views.{problem_of}
 use Rattle.lagrange_bound.proofs.Sums.{read_back, summed, summed_within, row_read, row_number}
 use Rattle.lagrange_bound.proofs.prices.rows_on_stimuli.Goals as goal

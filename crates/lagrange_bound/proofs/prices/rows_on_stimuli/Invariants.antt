@@ -1,8 +1,8 @@
 use Rattle.std.proofs.Common.{◌≡◌, ◌*◌}
 use Rattle.std.specs.Prelude.{slice_index}
 use Rattle.bank_tables.specs.Sums.{total_z}
-use Rattle.exam_model.specs.Ranges.{IsWithin}
-use Rattle.exam_model.specs.Weights.{stimulus_share}
+use Rattle.certificate_model.specs.Ranges.{IsWithin}
+use Rattle.certificate_model.specs.Weights.{stimulus_share}
 use Rattle.constraint_model.specs.Views.{problem_of}
 use Rattle.lagrange_bound.proofs.prices.rows_on_stimuli.Given as goal
 

@@ -1,8 +1,8 @@
 use Rattle.std.proofs.Common.{◌≡◌, ℕ, ◌-◌, ◌<◌, ◌≤◌, length, get_or, sym, ap, ◌∙◌, subst, refl, arith}
-use Rattle.exam_model.specs.Relaxed.{Multipliers, multiplier}
+use Rattle.certificate_model.specs.Relaxed.{Multipliers, multiplier}
 use Rattle.std.proofs.Common.{drop}
 use Rattle.std.proofs.Math.Path.{fun_ext}
-use Rattle.exam_model.specs.ProofTrees.{IsVector}
+use Rattle.certificate_model.specs.ProofTrees.{IsVector}
 use Rattle.std.proofs.lemmas.List.{length-set, get_or_default}
 use Rattle.lagrange_bound.proofs.CountingSteps.{zero_at}
 use Rattle.lagrange_bound.proofs.Sides.{at_most, one_more, bounded, none}

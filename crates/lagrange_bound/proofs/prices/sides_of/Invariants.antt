@@ -1,5 +1,5 @@
 use Rattle.std.proofs.Common.{◌≡◌, ℕ, ◌-◌, ◌≤◌, get_or, length, drop}
-use Rattle.exam_model.specs.Relaxed.{multiplier}
+use Rattle.certificate_model.specs.Relaxed.{multiplier}
 use Rattle.lagrange_bound.proofs.prices.sides_of.Given as goal
 
 -- the multipliers of the last pairs

@@ -1,14 +1,14 @@
 use Rattle.std.proofs.Common.{◌≡◌, w64, to_z, of_z, sym, subst, arith}
 use Rattle.std.specs.Prelude.{ℤ, ◌≤ℤ◌}
 use Rattle.std.proofs.lemmas.Int.{ints}
-use Rattle.exam_model.specs.Relaxed.{Multipliers}
+use Rattle.certificate_model.specs.Relaxed.{Multipliers}
 use Rattle.constraint_model.specs.Views.{problem_of}
 use Rattle.std.proofs.Common.{true, false, Bool}
 use Rattle.bank_tables.specs.Items.{Set}
-use Rattle.exam_model.specs.Problem.{Problem}
-use Rattle.exam_model.specs.Paths.{Path, Under}
-use Rattle.exam_model.specs.Relaxed.{IsRelaxedMaximum}
-use Rattle.exam_model.proofs.Duality.{weak_duality, weak_ray}
+use Rattle.form_model.specs.Problem.{Problem}
+use Rattle.certificate_model.specs.Paths.{Path, Under}
+use Rattle.certificate_model.specs.Relaxed.{IsRelaxedMaximum}
+use Rattle.certificate_model.proofs.Duality.{weak_duality, weak_ray}
 use Rattle.lagrange_bound.specs.Bounds.{bounded_value}
 use Rattle.lagrange_bound.proofs.relaxation.bound.Goals as goal
 

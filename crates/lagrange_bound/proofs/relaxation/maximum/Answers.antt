@@ -4,10 +4,10 @@ use Rattle.std.proofs.lemmas.Int.{ints}
 use Rattle.bank_tables.specs.Items.{Set, has}
 use Rattle.bank_tables.specs.Sums.{sum_in_z, total_z}
 use Rattle.bank_tables.specs.Tables.{size, stimulus}
-use Rattle.exam_model.specs.Forms.{size_in, stimuli_of}
-use Rattle.exam_model.specs.Ranges.{at}
-use Rattle.exam_model.specs.Relaxed.{Multipliers, multiplier, cap, IsRelaxedMaximum}
-use Rattle.exam_model.specs.Weights.{item_weight, rows_constant}
+use Rattle.form_model.specs.Forms.{size_in, stimuli_of}
+use Rattle.certificate_model.specs.Ranges.{at}
+use Rattle.certificate_model.specs.Relaxed.{Multipliers, multiplier, cap, IsRelaxedMaximum}
+use Rattle.certificate_model.specs.Weights.{item_weight, rows_constant}
 use Rattle.constraint_model.specs.Views.{problem_of}
 use Rattle.lagrange_bound.specs.Fills.{at_least, IsSumOfGreatest}
 use Rattle.lagrange_bound.specs.Links.{excess_on, gain_on, link_on}

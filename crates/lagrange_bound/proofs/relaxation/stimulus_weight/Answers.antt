@@ -1,12 +1,12 @@
 use Rattle.std.proofs.Common.{◌≡◌, ℕ, ◌+◌, ◌-◌, ◌*◌, ◌≤◌, List, length, get_or, ap, ◌∙◌, arith}
 use Rattle.std.specs.Prelude.{◌+ℤ◌, slice_index}
-use Rattle.exam_model.specs.declared.row.Row.{Row}
+use Rattle.form_model.specs.declared.row.Row.{Row}
 use Rattle.constraint_model.specs.Views.{problem_of}
 use Rattle.lagrange_bound.specs.Ranges.{bounds_top}
 use Rattle.bank_tables.specs.Tables.{size, stimulus}
-use Rattle.exam_model.specs.declared.row.StimulusBound.{StimulusBound}
-use Rattle.exam_model.specs.Forms.{stimuli_of}
-use Rattle.exam_model.specs.Weights.{bounds_price, stimulus_weight, stimulus_side}
+use Rattle.form_model.specs.declared.row.StimulusBound.{StimulusBound}
+use Rattle.form_model.specs.Forms.{stimuli_of}
+use Rattle.certificate_model.specs.Weights.{bounds_price, stimulus_weight, stimulus_side}
 use Rattle.lagrange_bound.proofs.CountingSteps.{greatest_at_most}
 use Rattle.lagrange_bound.proofs.Sums.{two_summed}
 use Rattle.lagrange_bound.proofs.relaxation.stimulus_weight.Goals as goal

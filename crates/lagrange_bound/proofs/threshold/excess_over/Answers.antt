@@ -2,7 +2,7 @@ use Rattle.std.proofs.Common.{◌≡◌, ◌+◌, ◌*◌, ◌<◌, w64, to_z, o
 use Rattle.std.specs.Prelude.{ℤ, ◌+ℤ◌}
 use Rattle.std.proofs.lemmas.Int.{ints}
 use Rattle.bank_tables.specs.Sums.{total_z}
-use Rattle.exam_model.specs.Ranges.{IsWithin, at}
+use Rattle.certificate_model.specs.Ranges.{IsWithin, at}
 use Rattle.lagrange_bound.proofs.Sums.{summed, summed_within}
 use Rattle.lagrange_bound.specs.Fills.{excess}
 use Rattle.lagrange_bound.proofs.threshold.excess_over.Goals as goal

@@ -1,7 +1,7 @@
 use Rattle.std.proofs.Common.{◌≡◌, ◌*◌, ◌+◌}
 use Rattle.bank_tables.specs.Sums.{total_z}
 use Rattle.lagrange_bound.specs.Fills.{excess}
-use Rattle.exam_model.specs.Ranges.{IsWithin, at}
+use Rattle.certificate_model.specs.Ranges.{IsWithin, at}
 use Rattle.lagrange_bound.specs.Ranges.{item_top}
 use Rattle.lagrange_bound.proofs.threshold.excess_over.Given as goal
 

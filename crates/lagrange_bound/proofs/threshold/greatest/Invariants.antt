@@ -1,6 +1,6 @@
 use Rattle.std.proofs.Common.{ℕ, ◌<◌}
 use Rattle.std.specs.Prelude.{pos, neg_ℤ, ◌≤ℤ◌}
-use Rattle.exam_model.specs.Ranges.{at}
+use Rattle.certificate_model.specs.Ranges.{at}
 use Rattle.lagrange_bound.specs.Ranges.{item_top}
 use Rattle.lagrange_bound.proofs.threshold.greatest.Given as goal
 

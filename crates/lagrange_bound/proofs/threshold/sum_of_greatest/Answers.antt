@@ -2,7 +2,7 @@ use Rattle.std.proofs.Common.{◌≡◌, List, w64, to_z, of_z, ap, ◌∙◌, a
 use Rattle.std.specs.Prelude.{ℤ, pos, ◌*ℤ◌}
 use Rattle.std.proofs.lemmas.Int.{ints}
 use Rattle.bank_tables.specs.Sums.{total_z}
-use Rattle.exam_model.specs.Ranges.{at}
+use Rattle.certificate_model.specs.Ranges.{at}
 use Rattle.lagrange_bound.specs.Fills.{excess, IsThreshold}
 use Rattle.lagrange_bound.proofs.threshold.sum_of_greatest.Goals as goal
 

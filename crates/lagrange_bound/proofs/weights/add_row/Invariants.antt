@@ -1,7 +1,7 @@
 use Rattle.std.proofs.Common.{◌≡◌, ℕ, ◌<◌, ◌≤◌, length}
 use Rattle.std.specs.Prelude.{pos, ◌+ℤ◌, ◌*ℤ◌}
-use Rattle.exam_model.specs.Ranges.{at}
-use Rattle.exam_model.specs.Weights.{item_activity}
+use Rattle.certificate_model.specs.Ranges.{at}
+use Rattle.certificate_model.specs.Weights.{item_activity}
 use Rattle.lagrange_bound.proofs.weights.add_row.Given as goal
 
 abbrev pub invariant-loop-i : goal.invariant-loop-i

@@ -2,13 +2,13 @@ use Rattle.std.proofs.Common.{◌≡◌, ℕ, List, length, ◌+◌, ◌*◌, �
 use Rattle.std.specs.Prelude.{ℤ, pos, ◌+ℤ◌, ◌*ℤ◌, slice_index}
 use Rattle.std.proofs.lemmas.Int.{ints}
 use Rattle.bank_tables.specs.Sums.{total_z}
-use Rattle.exam_model.specs.declared.row.Row.{Row}
-use Rattle.exam_model.specs.Plan.{row_at}
-use Rattle.exam_model.specs.Ranges.{IsWithin, at}
+use Rattle.form_model.specs.declared.row.Row.{Row}
+use Rattle.form_model.specs.Plan.{row_at}
+use Rattle.certificate_model.specs.Ranges.{IsWithin, at}
 use Rattle.constraint_model.specs.Views.{problem_of}
 use Rattle.lagrange_bound.proofs.Sums.{read_back, summed_within, row_read, row_number}
 use Rattle.bank_tables.specs.Tables.{size, stimulus}
-use Rattle.exam_model.specs.Weights.{price, item_activity, item_share, item_weight, price_of_stimulus, weight}
+use Rattle.certificate_model.specs.Weights.{price, item_activity, item_share, item_weight, price_of_stimulus, weight}
 use Rattle.lagrange_bound.specs.Ranges.{item_top, row_top}
 use Rattle.lagrange_bound.specs.Shares.{own_weight}
 use Rattle.lagrange_bound.proofs.Sums.{product_within, activity_high, total_more, wider}

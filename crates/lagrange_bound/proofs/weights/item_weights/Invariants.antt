@@ -2,8 +2,8 @@ use Rattle.std.proofs.Common.{◌≡◌, ℕ, ◌+◌, ◌*◌, ◌<◌}
 use Rattle.std.specs.Prelude.{◌+ℤ◌, slice_index}
 use Rattle.bank_tables.specs.Sums.{total_z}
 use Rattle.bank_tables.specs.Tables.{size}
-use Rattle.exam_model.specs.Ranges.{IsWithin, at}
-use Rattle.exam_model.specs.Weights.{item_share}
+use Rattle.certificate_model.specs.Ranges.{IsWithin, at}
+use Rattle.certificate_model.specs.Weights.{item_share}
 use Rattle.constraint_model.specs.Views.{problem_of}
 use Rattle.lagrange_bound.specs.Ranges.{row_top}
 use Rattle.lagrange_bound.specs.Shares.{own_weight}

@@ -1,6 +1,6 @@
 use Rattle.std.proofs.Common.{◌≡◌, ℕ, ◌<◌, ◌≤◌, cond, length}
 use Rattle.bank_tables.specs.Items.{has}
-use Rattle.exam_model.specs.Ranges.{at}
+use Rattle.certificate_model.specs.Ranges.{at}
 use Rattle.lagrange_bound.specs.Fills.{no_weight}
 use Rattle.lagrange_bound.proofs.weights.mark_others.Given as goal
 

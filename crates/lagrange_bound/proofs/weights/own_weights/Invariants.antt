@@ -1,6 +1,6 @@
 use Rattle.std.proofs.Common.{◌≡◌, ℕ, ◌<◌, length}
 use Rattle.std.specs.Prelude.{slice_index}
-use Rattle.exam_model.specs.Ranges.{IsWithin, at}
+use Rattle.certificate_model.specs.Ranges.{IsWithin, at}
 use Rattle.constraint_model.specs.Views.{problem_of}
 use Rattle.lagrange_bound.specs.Shares.{own_weight}
 use Rattle.lagrange_bound.proofs.weights.own_weights.Given as goal

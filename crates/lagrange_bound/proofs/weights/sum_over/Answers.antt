@@ -1,6 +1,6 @@
 use Rattle.std.proofs.Common.{◌≡◌, ◌+◌, ◌*◌, ◌<◌, w64, to_z, of_z, add-one, sym, ap, ◌∙◌, subst, arith}
 use Rattle.std.specs.Prelude.{ℤ, ◌+ℤ◌}
-use Rattle.exam_model.specs.Ranges.{IsWithin, at}
+use Rattle.certificate_model.specs.Ranges.{IsWithin, at}
 use Rattle.lagrange_bound.specs.Ranges.{item_top}
 use Rattle.lagrange_bound.proofs.Sums.{summed, summed_within}
 use Rattle.bank_tables.specs.Items.{has}

@@ -1,9 +1,9 @@
 use Rattle.std.proofs.Common.{◌≡◌, Bool, Option, Some, None, subst}
 use Rattle.std.specs.Prelude.{ℤ, ◌≤ℤ◌}
-use Rattle.exam_model.specs.Problem.{Problem}
-use Rattle.exam_model.specs.Paths.{Path}
-use Rattle.exam_model.specs.Relaxed.{Multipliers}
-use Rattle.exam_model.proofs.SomeMaximum.{one_maximum}
+use Rattle.form_model.specs.Problem.{Problem}
+use Rattle.certificate_model.specs.Paths.{Path}
+use Rattle.certificate_model.specs.Relaxed.{Multipliers}
+use Rattle.certificate_model.proofs.SomeMaximum.{one_maximum}
 use Rattle.constraint_model.specs.Views.{problem_of}
 use Rattle.lagrange_bound.specs.Bounds.{IsBound}
 use Rattle.multiplier_steps.specs.Improvement.{AreInOrder, IsNoHigher}

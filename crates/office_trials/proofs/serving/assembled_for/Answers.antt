@@ -1,5 +1,5 @@
 use Rattle.std.proofs.Common.{◌∙◌, sym, ap, subst}
-use Rattle.exam_model.specs.Plan.{Plan}
+use Rattle.form_model.specs.Plan.{Plan}
 use Rattle.constraint_model.specs.declared.problem.Problem.{Problem as Given}
 use Rattle.constraint_model.specs.Views.{problem_of}
 use Rattle.history_model.specs.SessionProblems.{IsProblemOf}

@@ -1,5 +1,5 @@
 use Rattle.std.proofs.Common.{◌≡◌, drop}
-use Rattle.exam_model.specs.Spending.{open_leaves}
+use Rattle.certificate_model.specs.Spending.{open_leaves}
 use Rattle.proof_tree.proofs.shape.has_open_leaf.Given as goal
 
 abbrev pub invariant-loop-node : goal.invariant-loop-node

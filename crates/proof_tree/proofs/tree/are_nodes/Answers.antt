@@ -1,8 +1,8 @@
 use Rattle.std.proofs.Common.{List, All, subst, refl}
 use Rattle.std.proofs.lemmas.List.{take_all}
 use Rattle.std.proofs.lemmas.List.Elements.{All-more}
-use Rattle.exam_model.specs.declared.node.Node.{Node}
-use Rattle.exam_model.specs.declared.node.Node.TheVariants.{BranchItem}
+use Rattle.certificate_model.specs.declared.node.Node.{Node}
+use Rattle.certificate_model.specs.declared.node.Node.TheVariants.{BranchItem}
 use Rattle.proof_tree.specs.Shape.{IsNode}
 use Rattle.proof_tree.proofs.tree.are_nodes.Goals as goal
 

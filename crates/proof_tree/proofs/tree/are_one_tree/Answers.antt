@@ -1,5 +1,5 @@
 use Rattle.std.proofs.Common.{get_or, arith}
-use Rattle.exam_model.specs.declared.node.Node.TheVariants.{BranchItem}
+use Rattle.certificate_model.specs.declared.node.Node.TheVariants.{BranchItem}
 use Rattle.proof_tree.proofs.Shapes.{tree_step_at, none_waits, few_children}
 use Rattle.proof_tree.proofs.tree.are_one_tree.Goals as goal
 

@@ -1,5 +1,5 @@
 use Rattle.std.proofs.Common.{◌↔◌, ◌≤◌, ◌+◌, drop}
-use Rattle.exam_model.specs.ProofTrees.{AreTrees}
+use Rattle.certificate_model.specs.ProofTrees.{AreTrees}
 use Rattle.proof_tree.proofs.tree.are_one_tree.Given as goal
 
 abbrev pub invariant-loop-node : goal.invariant-loop-node

@@ -1,5 +1,5 @@
 use Rattle.std.proofs.Common.{ℕ, ◌<◌, All, get_or, []}
-use Rattle.exam_model.specs.ProofTrees.{IsVector}
+use Rattle.certificate_model.specs.ProofTrees.{IsVector}
 use Rattle.proof_tree.proofs.tree.have_low_sides.Given as goal
 
 abbrev pub invariant-loop-vector : goal.invariant-loop-vector

@@ -1,5 +1,5 @@
 use Rattle.std.proofs.Common.{◌↔◌, ◌≤◌, drop}
-use Rattle.exam_model.specs.ProofTrees.{IsVector}
+use Rattle.certificate_model.specs.ProofTrees.{IsVector}
 use Rattle.proof_tree.proofs.vector.is_vector.Given as goal
 
 abbrev pub invariant-loop-pair : goal.invariant-loop-pair

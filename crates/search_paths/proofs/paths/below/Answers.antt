@@ -1,5 +1,5 @@
 -- Below a branch there is the state of the path that the branch makes.
-use Rattle.exam_model.specs.Paths.{with_item, with_stimulus}
+use Rattle.certificate_model.specs.Paths.{with_item, with_stimulus}
 use Rattle.constraint_model.specs.Views.{problem_of}
 use Rattle.search_paths.proofs.paths.below.Goals as goal
 

@@ -3,10 +3,10 @@ use Rattle.std.specs.Prelude.{ℤ, ◌+ℤ◌, slice_index}
 use Rattle.std.specs.Int.{w128}
 use Rattle.bank_tables.specs.Sums.{total_z}
 use Rattle.bank_tables.specs.Tables.{size, stimulus}
-use Rattle.exam_model.specs.Forms.{stimuli_of}
-use Rattle.exam_model.specs.Paths.{Path}
-use Rattle.exam_model.specs.Problem.{Problem}
-use Rattle.exam_model.specs.Ranges.{IsWithin}
+use Rattle.form_model.specs.Forms.{stimuli_of}
+use Rattle.certificate_model.specs.Paths.{Path}
+use Rattle.form_model.specs.Problem.{Problem}
+use Rattle.certificate_model.specs.Ranges.{IsWithin}
 use Rattle.certificate_check.proofs.Steps.{greatest_at_most}
 use Rattle.series_check.specs.Cuts.{one_form, form_path_of}
 use Rattle.series_check.specs.Gains.{gain_of}

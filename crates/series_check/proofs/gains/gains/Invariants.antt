@@ -1,7 +1,7 @@
 use Rattle.std.proofs.Common.{◌≡◌, ◌*◌, suc}
 use Rattle.std.specs.Prelude.{slice_index}
 use Rattle.bank_tables.specs.Sums.{total_z}
-use Rattle.exam_model.specs.Ranges.{IsWithin}
+use Rattle.certificate_model.specs.Ranges.{IsWithin}
 use Rattle.series_check.specs.Cuts.{one_form, form_path_of}
 use Rattle.series_check.specs.Gains.{gain_of}
 use Rattle.series_check.proofs.gains.gains.Given as goal

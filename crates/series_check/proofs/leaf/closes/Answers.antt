@@ -4,7 +4,7 @@ use Rattle.std.specs.Int.{w128}
 use Rattle.std.proofs.Math.Bool.{true≢false}
 use Rattle.std.proofs.Math.Path.{fun_ext}
 use Rattle.bank_tables.specs.Sums.{sum_in}
-use Rattle.exam_model.specs.Relaxed.{Multipliers, multiplier}
+use Rattle.certificate_model.specs.Relaxed.{Multipliers, multiplier}
 use Rattle.series_model.specs.Series.{SeriesProblem}
 use Rattle.series_model.specs.SeriesBounds.{points}
 use Rattle.series_model.specs.SeriesVerdicts.{MaximumIsBelow}

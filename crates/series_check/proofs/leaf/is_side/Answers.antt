@@ -1,8 +1,8 @@
 use Rattle.std.proofs.Common.{◌≡◌, ◌≤◌, ◌<◌, List, length, ap, arith}
 use Rattle.std.proofs.lemmas.Bool.{lt-ltb, ltb-true}
 use Rattle.bank_tables.specs.Tables.{size, stimulus}
-use Rattle.exam_model.specs.declared.row.Row.{Row}
-use Rattle.exam_model.specs.Forms.{stimuli_of}
+use Rattle.form_model.specs.declared.row.Row.{Row}
+use Rattle.form_model.specs.Forms.{stimuli_of}
 use Rattle.certificate_check.proofs.Steps.{greatest_at_most}
 use Rattle.series_check.specs.Cuts.{problem_of}
 use Rattle.series_check.proofs.NameLaws.{use_named, named_use, row_named, named_row}

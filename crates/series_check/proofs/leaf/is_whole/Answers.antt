@@ -1,6 +1,6 @@
 use Rattle.std.proofs.Common.{◌≡◌, ℕ, ◌+◌, ◌<◌, ◌⊎◌, inl, inr, false, sym, ap, ◌∙◌, subst, arith}
 use Rattle.bank_tables.specs.Items.{has, Set}
-use Rattle.exam_model.specs.Paths.{Path, is_free}
+use Rattle.certificate_model.specs.Paths.{Path, is_free}
 use Rattle.series_model.specs.SeriesPaths.{is_free_in}
 use Rattle.series_check.specs.Cuts.{problem_of, one_form, path_of}
 use Rattle.series_check.proofs.ApartLaws.{no_member}

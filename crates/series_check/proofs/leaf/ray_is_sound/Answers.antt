@@ -1,6 +1,6 @@
 use Rattle.std.proofs.Common.{◌≡◌, ◌<◌, List, length, ◌∙◌, pos, true, sym, ap, subst, arith}
 use Rattle.std.proofs.Math.Bool.{true≢false}
-use Rattle.exam_model.specs.Relaxed.{Multipliers}
+use Rattle.certificate_model.specs.Relaxed.{Multipliers}
 use Rattle.series_model.specs.Series.{SeriesProblem}
 use Rattle.series_model.specs.SeriesPaths.{SeriesPath}
 use Rattle.series_model.specs.SeriesTrees.{vector_at}

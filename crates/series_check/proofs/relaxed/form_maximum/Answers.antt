@@ -3,11 +3,11 @@ use Rattle.std.specs.Prelude.{ℤ, List, slice_index}
 use Rattle.std.proofs.Math.Path.{fun_ext}
 use Rattle.bank_tables.specs.Items.{Set}
 use Rattle.bank_tables.specs.Tables.{size}
-use Rattle.exam_model.specs.Forms.{size_in}
-use Rattle.exam_model.specs.Paths.{Path, is_free}
-use Rattle.exam_model.specs.Problem.{Problem}
-use Rattle.exam_model.specs.Ranges.{at}
-use Rattle.exam_model.specs.Relaxed.{multiplier, IsRelaxedPair}
+use Rattle.form_model.specs.Forms.{size_in}
+use Rattle.certificate_model.specs.Paths.{Path, is_free}
+use Rattle.form_model.specs.Problem.{Problem}
+use Rattle.certificate_model.specs.Ranges.{at}
+use Rattle.certificate_model.specs.Relaxed.{multiplier, IsRelaxedPair}
 use Rattle.series_model.specs.Series.{SeriesProblem}
 use Rattle.series_model.specs.SeriesBounds.{multipliers_of}
 use Rattle.series_model.specs.SeriesPaths.{SeriesPath, form_path}

@@ -3,9 +3,9 @@ use Rattle.std.specs.Prelude.{ℤ, List, slice_index}
 use Rattle.bank_tables.specs.Items.{Set, has}
 use Rattle.bank_tables.specs.Sums.{sum_in_z}
 use Rattle.bank_tables.specs.Tables.{size}
-use Rattle.exam_model.specs.Paths.{Path, is_free}
-use Rattle.exam_model.specs.Problem.{Problem}
-use Rattle.exam_model.specs.Ranges.{at}
+use Rattle.certificate_model.specs.Paths.{Path, is_free}
+use Rattle.form_model.specs.Problem.{Problem}
+use Rattle.certificate_model.specs.Ranges.{at}
 use Rattle.certificate_check.specs.Tops.{IsTopOf}
 use Rattle.series_check.specs.Cuts.{one_form, form_path_of}
 use Rattle.series_check.specs.Maximum.{IsValueOf}

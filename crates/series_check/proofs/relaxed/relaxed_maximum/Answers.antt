@@ -4,8 +4,8 @@ use Rattle.std.specs.Int.{w128}
 use Rattle.std.proofs.Math.Path.{fun_ext}
 use Rattle.bank_tables.specs.Sums.{sum_in}
 use Rattle.bank_tables.specs.Tables.{size}
-use Rattle.exam_model.specs.Ranges.{IsWithin}
-use Rattle.exam_model.specs.Relaxed.{multiplier}
+use Rattle.certificate_model.specs.Ranges.{IsWithin}
+use Rattle.certificate_model.specs.Relaxed.{multiplier}
 use Rattle.series_model.specs.Series.{SeriesProblem}
 use Rattle.series_model.specs.SeriesBounds.{uses}
 use Rattle.series_model.specs.SeriesPaths.{SeriesPath}

@@ -1,6 +1,6 @@
 use Rattle.std.proofs.Common.{◌+◌, ◌*◌}
-use Rattle.exam_model.specs.Ranges.{IsWithin}
-use Rattle.exam_model.specs.Relaxed.{Multipliers}
+use Rattle.certificate_model.specs.Ranges.{IsWithin}
+use Rattle.certificate_model.specs.Relaxed.{Multipliers}
 use Rattle.series_check.specs.Cuts.{problem_of, path_of}
 use Rattle.series_check.specs.Maximum.{IsSides}
 use Rattle.series_check.proofs.MaximumLaws.{IsMaximumTo}

@@ -2,7 +2,7 @@ use Rattle.std.proofs.Common.{◌≡◌, ◌<◌, length, arith, ◌∙◌, to_z
 use Rattle.std.specs.Prelude.{ℤ, slice_index}
 use Rattle.std.specs.Int.{w128}
 use Rattle.std.proofs.lemmas.List.{length-set}
-use Rattle.exam_model.specs.Ranges.{IsWithin}
+use Rattle.certificate_model.specs.Ranges.{IsWithin}
 use Rattle.certificate_check.proofs.TopLaws.{written}
 use Rattle.series_check.specs.Cuts.{problem_of}
 use Rattle.series_check.specs.Maximum.{weight_at}

@@ -1,6 +1,6 @@
 use Rattle.std.proofs.Common.{◌≡◌, ℕ, ◌<◌, length}
 use Rattle.std.specs.Prelude.{slice_index}
-use Rattle.exam_model.specs.Ranges.{IsWithin, at}
+use Rattle.certificate_model.specs.Ranges.{IsWithin, at}
 use Rattle.series_check.specs.Cuts.{problem_of}
 use Rattle.series_check.specs.Maximum.{weight_at}
 use Rattle.series_check.specs.Tops.{item_top}

@@ -2,7 +2,7 @@ use Rattle.std.proofs.Common.{◌≡◌, ℕ, ◌∙◌, ap, arith, pos}
 use Rattle.std.specs.Prelude.{ℤ, ◌+ℤ◌, slice_index}
 use Rattle.std.proofs.lemmas.Int.{ints}
 use Rattle.bank_tables.specs.Tables.{stimulus}
-use Rattle.exam_model.specs.Weights.{price_of_stimulus, item_weight}
+use Rattle.certificate_model.specs.Weights.{price_of_stimulus, item_weight}
 use Rattle.series_check.specs.Cuts.{one_form}
 use Rattle.series_check.proofs.Wide.{wide_top, nearer, two_summed}
 use Rattle.series_check.proofs.rows.item_weight.Goals as goal

@@ -2,11 +2,11 @@ use Rattle.std.proofs.Common.{◌≡◌, ◌<◌, ◌+◌, ◌*◌, ℕ, List, l
 use Rattle.std.specs.Prelude.{ℤ, ◌+ℤ◌, slice_index}
 use Rattle.std.specs.Int.{w128}
 use Rattle.bank_tables.specs.Sums.{total_z}
-use Rattle.exam_model.specs.declared.row.Row.{Row}
-use Rattle.exam_model.specs.Plan.{row_at}
-use Rattle.exam_model.specs.Ranges.{IsWithin}
-use Rattle.exam_model.specs.Forms.{lower_bound, upper_bound}
-use Rattle.exam_model.specs.Weights.{bounds_price, constant_share, rows_constant}
+use Rattle.form_model.specs.declared.row.Row.{Row}
+use Rattle.form_model.specs.Plan.{row_at}
+use Rattle.certificate_model.specs.Ranges.{IsWithin}
+use Rattle.form_model.specs.Forms.{lower_bound, upper_bound}
+use Rattle.certificate_model.specs.Weights.{bounds_price, constant_share, rows_constant}
 use Rattle.certificate_check.proofs.Steps.{row_read, rows_few}
 use Rattle.series_check.specs.Cuts.{one_form}
 use Rattle.series_check.proofs.Wide.{wide_top, nearer, both_within, summed}

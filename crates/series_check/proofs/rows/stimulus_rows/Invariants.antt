@@ -1,8 +1,8 @@
 use Rattle.std.proofs.Common.{◌≡◌, ◌*◌}
 use Rattle.std.specs.Prelude.{slice_index}
 use Rattle.bank_tables.specs.Sums.{total_z}
-use Rattle.exam_model.specs.Ranges.{IsWithin}
-use Rattle.exam_model.specs.Weights.{stimulus_share}
+use Rattle.certificate_model.specs.Ranges.{IsWithin}
+use Rattle.certificate_model.specs.Weights.{stimulus_share}
 use Rattle.series_check.specs.Cuts.{one_form}
 use Rattle.series_check.proofs.rows.stimulus_rows.Given as goal
 

@@ -2,8 +2,8 @@ use Rattle.std.proofs.Common.{◌≡◌, ℕ, ◌∙◌, ap, sym, false, not, na
 use Rattle.std.proofs.Math.Path.{fun_ext}
 use Rattle.bank_tables.specs.Items.{has}
 use Rattle.bank_tables.specs.Tables.{Tables, size}
-use Rattle.exam_model.specs.Forms.{used}
-use Rattle.exam_model.specs.Paths.{Path, is_free, is_chosen, is_open}
+use Rattle.form_model.specs.Forms.{used}
+use Rattle.certificate_model.specs.Paths.{Path, is_free, is_chosen, is_open}
 use Rattle.certificate_check.proofs.Collected.{both_tests}
 use Rattle.series_check.proofs.standing.standing_with.Goals as goal
 

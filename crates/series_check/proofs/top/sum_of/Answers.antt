@@ -2,7 +2,7 @@ use Rattle.std.proofs.Common.{◌≡◌, ◌<◌, ◌+◌, ◌*◌, true, false,
 use Rattle.std.specs.Prelude.{ℤ, ◌+ℤ◌}
 use Rattle.std.specs.Int.{w128}
 use Rattle.bank_tables.specs.Items.{has}
-use Rattle.exam_model.specs.Ranges.{IsWithin, at}
+use Rattle.certificate_model.specs.Ranges.{IsWithin, at}
 use Rattle.series_check.specs.Tops.{item_top}
 use Rattle.series_check.proofs.Wide.{wide_top, nearer, both_within, summed, one_in, one_out}
 use Rattle.series_check.proofs.top.sum_of.Goals as goal

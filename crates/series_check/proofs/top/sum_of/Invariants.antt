@@ -1,7 +1,7 @@
 use Rattle.std.proofs.Common.{◌≡◌, ◌*◌}
 use Rattle.bank_tables.specs.Items.{has}
 use Rattle.bank_tables.specs.Sums.{sum_in_z}
-use Rattle.exam_model.specs.Ranges.{IsWithin, at}
+use Rattle.certificate_model.specs.Ranges.{IsWithin, at}
 use Rattle.series_check.proofs.top.sum_of.Given as goal
 
 abbrev pub invariant-loop-i : goal.invariant-loop-i

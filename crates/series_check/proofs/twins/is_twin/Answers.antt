@@ -2,8 +2,8 @@ use Rattle.std.proofs.Common.{◌≡◌, Bool, true, ◌&&◌, ◌∙◌, sym, a
 use Rattle.std.proofs.lemmas.Bool.{lt-ltb}
 use Rattle.bank_tables.specs.Items.{has, Set}
 use Rattle.bank_tables.specs.Tables.{size}
-use Rattle.exam_model.specs.Paths.{Path, is_free}
-use Rattle.exam_model.specs.Problem.{Problem}
+use Rattle.certificate_model.specs.Paths.{Path, is_free}
+use Rattle.form_model.specs.Problem.{Problem}
 use Rattle.series_model.specs.Series.{SeriesProblem}
 use Rattle.series_model.specs.SeriesPaths.{SeriesPath, is_free_in}
 use Rattle.series_model.specs.SeriesTwins.{same_items}

@@ -3,7 +3,7 @@ use mathlib.Core.Bool.{beq}
 use Rattle.std.proofs.Math.Bool.{true≢false}
 use Rattle.bank_tables.specs.Items.{has, Set}
 use Rattle.bank_tables.specs.Tables.{size}
-use Rattle.exam_model.proofs.SumLaws.{any_intro}
+use Rattle.form_model.proofs.SumLaws.{any_intro}
 use Rattle.series_check.proofs.twins.same_items.Goals as goal
 
 differ : (a b : Bool) → (a ≡ b → ⊥) → ((a && not b) || (not a && b)) ≡ true

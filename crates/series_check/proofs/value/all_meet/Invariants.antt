@@ -1,5 +1,5 @@
 use Rattle.std.proofs.Common.{ℕ, ◌<◌}
-use Rattle.exam_model.specs.Forms.{Meets}
+use Rattle.form_model.specs.Forms.{Meets}
 use Rattle.series_model.specs.Series.{forms_of}
 use Rattle.series_check.proofs.value.all_meet.Given as goal
 

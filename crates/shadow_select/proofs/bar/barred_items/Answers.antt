@@ -1,6 +1,6 @@
 use Rattle.std.proofs.Common.{◌≡◌, ◌∙◌, sym, true, false}
 use Rattle.bank_tables.specs.Items.{has}
-use Rattle.exam_model.specs.Seats.{is_barred}
+use Rattle.serving_model.specs.Seats.{is_barred, is_unavailable_in}
 use Rattle.shadow_select.proofs.ShownLaws.{last_is_item, grown, not_grown}
 use Rattle.shadow_select.proofs.bar.barred_items.Goals as goal
 use Rattle.shadow_select.proofs.bar.barred_items.Goals.{then-is_barred, else-is_barred}
@@ -10,7 +10,7 @@ last_stimulus-last-requires c = last_is_item c.args.bank.now c.args.seat.now c.l
 
 pub loop-i-preserved : goal.loop-i-preserved
 loop-i-preserved c = λ j.
-    let p = is_barred c.args.bank.now c.args.seat.now in
+    let p = is_barred c.args.bank.now c.args.seat.now (is_unavailable_in c.args.seat.now c.args.band) in
     let i = c.loop-i.i in
     elim c.if-is_barred.branch [
       | then-is_barred w ↦

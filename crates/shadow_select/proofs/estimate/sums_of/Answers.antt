@@ -2,8 +2,8 @@ use Rattle.std.proofs.Common.{◌≡◌, ◌≤◌, ◌<◌, [], ◌∙◌, sym,
 use Rattle.std.proofs.lemmas.List.{take_all}
 use Rattle.std.proofs.lemmas.Slice.Zip.{length-zip}
 use Rattle.bank_tables.specs.Tables.{categories}
-use Rattle.exam_model.specs.Ability.{AnswerList}
-use Rattle.exam_model.specs.Seats.{answers}
+use Rattle.form_model.specs.Ability.{AnswerList}
+use Rattle.serving_model.specs.Seats.{answers}
 use Rattle.ability_grid.specs.Running.{IsSumsOf}
 use Rattle.shadow_select.proofs.ShownLaws.{found_at, answer_more}
 use Rattle.shadow_select.proofs.estimate.sums_of.Goals as goal

@@ -1,5 +1,5 @@
 use Rattle.std.proofs.Common.{take}
-use Rattle.exam_model.specs.Seats.{answers}
+use Rattle.serving_model.specs.Seats.{answers}
 use Rattle.ability_grid.specs.Running.{IsSumsOf}
 use Rattle.shadow_select.proofs.estimate.sums_of.Given as goal
 

@@ -1,7 +1,7 @@
 use Rattle.std.proofs.Common.{◌≡◌, ◌+◌, ◌<◌, ◌≤◌, true, false, sym, ◌∙◌, subst, arith, Some, None}
 use Rattle.bank_tables.specs.Items.{has}
 use Rattle.bank_tables.specs.Tables.{info}
-use Rattle.exam_model.specs.Serving.{is_candidate}
+use Rattle.serving_model.specs.Serving.{is_candidate}
 use Rattle.constraint_model.specs.Views.{problem_of}
 use Rattle.shadow_select.specs.Next.{IsNextBelow}
 use Rattle.shadow_select.proofs.NextLaws.{passed_over, first_found, bettered, stayed}

@@ -1,5 +1,5 @@
 use Rattle.std.proofs.Common.{sym, ◌∙◌, map}
-use Rattle.exam_model.specs.Forms.{stimuli_of}
+use Rattle.form_model.specs.Forms.{stimuli_of}
 use Rattle.exam_text.proofs.Firsts.{none_split}
 use Rattle.constraint_model.specs.Faults.{front_fault}
 use Rattle.spec_reader.specs.Rules.{said}

@@ -42,3 +42,7 @@ returns-in_err-set_in-in-Base c = grind (arith, common_steps)
 pub returns-in_err-signeds_in-in-Prior : goal.returns-in_err-signeds_in-in-Prior
 unfolding setting_said
 returns-in_err-signeds_in-in-Prior c = grind (arith, common_steps)
+
+pub returns-in_err-points_in-in-Bands : goal.returns-in_err-points_in-in-Bands
+unfolding setting_said
+returns-in_err-points_in-in-Bands c = grind (arith, common_steps)

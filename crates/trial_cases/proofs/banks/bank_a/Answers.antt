@@ -1,4 +1,4 @@
-use Rattle.exam_model.proofs.BankA.{bank_a}
+use Rattle.form_model.proofs.BankA.{bank_a}
 use Rattle.trial_cases.proofs.Faultless.{faultless_a, none_faulty, bank_is_them}
 use Rattle.trial_cases.proofs.banks.bank_a.Goals as goal
 

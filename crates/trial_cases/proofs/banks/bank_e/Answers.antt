@@ -1,4 +1,4 @@
-use Rattle.exam_model.proofs.BankE.{bank_e}
+use Rattle.form_model.proofs.BankE.{bank_e}
 use Rattle.trial_cases.proofs.Faultless.{faultless_e, none_faulty, bank_is_them}
 use Rattle.trial_cases.proofs.banks.bank_e.Goals as goal
 

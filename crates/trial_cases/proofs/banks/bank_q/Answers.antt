@@ -1,4 +1,4 @@
-use Rattle.exam_model.proofs.BankQ.{bank_q}
+use Rattle.form_model.proofs.BankQ.{bank_q}
 use Rattle.trial_cases.proofs.Faultless.{faultless_q, none_faulty, bank_is_them}
 use Rattle.trial_cases.proofs.banks.bank_q.Goals as goal
 

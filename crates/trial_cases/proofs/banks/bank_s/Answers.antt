@@ -1,4 +1,4 @@
-use Rattle.exam_model.proofs.BankS.{bank_s}
+use Rattle.form_model.proofs.BankS.{bank_s}
 use Rattle.trial_cases.proofs.Faultless.{faultless_s, none_faulty, bank_is_them}
 use Rattle.trial_cases.proofs.banks.bank_s.Goals as goal
 

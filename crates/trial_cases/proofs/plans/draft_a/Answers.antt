@@ -1,7 +1,7 @@
 use Rattle.std.proofs.Common.{List, ℕ, [], ◌∷◌, pos, negsuc, ◌∙◌, ap₂}
 use Rattle.std.proofs.lemmas.Result.{IfOk-weaker}
-use Rattle.exam_model.specs.declared.row.Row.TheVariants.{Count, Enemies}
-use Rattle.exam_model.proofs.BankA.{plan_a, plan_of_rows}
+use Rattle.form_model.specs.declared.row.Row.TheVariants.{Count, Enemies}
+use Rattle.form_model.proofs.BankA.{plan_a, plan_of_rows}
 use Rattle.trial_cases.specs.Plans.{plan_of}
 use Rattle.trial_cases.proofs.SetLaws.{zero_and_one, two_and_five}
 use Rattle.trial_cases.proofs.plans.draft_a.Goals as goal

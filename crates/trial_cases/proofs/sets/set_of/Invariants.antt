@@ -1,6 +1,6 @@
 use Rattle.std.proofs.Common.{◌≡◌, ℕ, ◌&&◌, nat_lt, take}
 use Rattle.bank_tables.specs.Items.{has}
-use Rattle.exam_model.proofs.Computed.{these}
+use Rattle.form_model.proofs.Computed.{these}
 use Rattle.trial_cases.proofs.sets.set_of.Given as goal
 
 abbrev pub invariant-loop-item : goal.invariant-loop-item

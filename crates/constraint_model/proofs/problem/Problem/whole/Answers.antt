@@ -1,6 +1,6 @@
 use Rattle.std.proofs.Common.{◌≡◌, ℤ, List, [], length, ap, sym, ◌∙◌, subst}
 use Rattle.bank_tables.specs.Items.{has}
-use Rattle.exam_model.specs.Ability.{IsPosteriorMode}
+use Rattle.form_model.specs.Ability.{IsPosteriorMode}
 use Rattle.constraint_model.proofs.WholeLaws.{whole_from}
 use Rattle.constraint_model.proofs.problem.Problem.whole.Goals as goal
 

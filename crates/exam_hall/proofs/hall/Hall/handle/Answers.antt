@@ -1,5 +1,5 @@
 use Rattle.std.proofs.Common.{Option, IfSome, sym, subst}
-use Rattle.exam_model.specs.Relaxed.{Multipliers}
+use Rattle.certificate_model.specs.Relaxed.{Multipliers}
 use Rattle.exam_office.specs.Warm.{FitsPlan}
 use Rattle.exam_hall.specs.Known.{marked}
 use Rattle.exam_hall.proofs.Seen.{sees_done, sees_served, sees_failed}

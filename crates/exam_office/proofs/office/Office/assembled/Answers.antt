@@ -1,7 +1,7 @@
 use Rattle.std.proofs.Common.{◌≡◌, ◌∙◌, Option, Some, IfSome, sym, subst}
 use Rattle.history_model.specs.Entries.{seat_of}
-use Rattle.exam_model.specs.Relaxed.{Multipliers}
-use Rattle.exam_model.specs.Verdicts.{NamesOnlySides}
+use Rattle.certificate_model.specs.Relaxed.{Multipliers}
+use Rattle.certificate_model.specs.Verdicts.{NamesOnlySides}
 use Rattle.exam_office.specs.Warm.{FitsPlan}
 use Rattle.exam_office.proofs.Warmed.{fits_seat}
 use Rattle.bank_tables.specs.Items.{has}

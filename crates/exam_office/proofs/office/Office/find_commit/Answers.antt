@@ -1,7 +1,7 @@
 use Rattle.std.proofs.Common.{◌≡◌, ◌∙◌, List, length, true, Some, sym, ap, subst}
-use Rattle.exam_model.specs.Problem.{Problem}
-use Rattle.exam_model.specs.declared.node.Node.{Node}
-use Rattle.exam_model.specs.ProofTrees.{ProofTree}
+use Rattle.form_model.specs.Problem.{Problem}
+use Rattle.certificate_model.specs.declared.node.Node.{Node}
+use Rattle.certificate_model.specs.ProofTrees.{ProofTree}
 use Rattle.constraint_model.specs.declared.problem.Problem.{Problem as Given}
 use Rattle.constraint_model.specs.Views.{problem_of}
 use Rattle.history_model.specs.Entries.{is_started}
@@ -32,9 +32,9 @@ entry_for-requires-clause-form g c =
     let H = history o.marks in
     let m : MayBeCommitted b plan o.base H a = subst (λ (r : Running g.row.D.Denot). MayBeCommitted r.bank r.plan r.base (history r.marks) a) (sym c.self.view_is) c.requires in
     let is_here = c.problem-problem.ensures in
-    let waits : IsWaitingFor now.plan (history now.marks) c.problem-problem.result.now.session c.problem-problem.result.now.step c.problem-problem.result.now.aside = rw c.in_default.is at c.find_stale.ensures.none in
-    let still_now : IsStillAsked now.plan (history now.marks) P = subst (λ (p : Given). IsWaitingFor now.plan (history now.marks) p.session p.step p.aside) is_here waits in
-    let still : IsStillAsked plan H P = subst (λ (r : Running g.row.D.Denot). IsStillAsked r.plan (history r.marks) P) (sym c.self.view_is) still_now in
+    let waits : IsWaitingFor now.bank now.plan (history now.marks) c.problem-problem.result.now.session c.problem-problem.result.now.step c.problem-problem.result.now.aside = rw c.in_default.is at c.find_stale.ensures.none in
+    let still_now : IsStillAsked now.bank now.plan (history now.marks) P = subst (λ (p : Given). IsWaitingFor now.bank now.plan (history now.marks) p.session p.step p.aside) is_here waits in
+    let still : IsStillAsked b plan H P = subst (λ (r : Running g.row.D.Denot). IsStillAsked r.bank r.plan (history r.marks) P) (sym c.self.view_is) still_now in
     let run : LegalRun b plan H = run_of b plan o.base o.book o.journal o.marks o.doubt (handed g.D.Disk.content g.D.Disk.accounts g.D.Disk.faults o.opened.value) c.self.invariant.0 c.entries.ensures.examination in
     let asked = c.in-Some-problem.asked in
     let found : IsProblemOf b plan H P.session asked.step (problem_of asked) =
@@ -55,9 +55,9 @@ returns-clause-found g c =
     let H = history o.marks in
     let m : MayBeCommitted b plan o.base H a = subst (λ (r : Running g.row.D.Denot). MayBeCommitted r.bank r.plan r.base (history r.marks) a) (sym c.self.view_is) c.requires in
     let is_here = c.problem-problem.ensures in
-    let waits : IsWaitingFor now.plan (history now.marks) c.problem-problem.result.now.session c.problem-problem.result.now.step c.problem-problem.result.now.aside = rw c.in_default.is at c.find_stale.ensures.none in
-    let still_now : IsStillAsked now.plan (history now.marks) P = subst (λ (p : Given). IsWaitingFor now.plan (history now.marks) p.session p.step p.aside) is_here waits in
-    let still : IsStillAsked plan H P = subst (λ (r : Running g.row.D.Denot). IsStillAsked r.plan (history r.marks) P) (sym c.self.view_is) still_now in
+    let waits : IsWaitingFor now.bank now.plan (history now.marks) c.problem-problem.result.now.session c.problem-problem.result.now.step c.problem-problem.result.now.aside = rw c.in_default.is at c.find_stale.ensures.none in
+    let still_now : IsStillAsked now.bank now.plan (history now.marks) P = subst (λ (p : Given). IsWaitingFor now.bank now.plan (history now.marks) p.session p.step p.aside) is_here waits in
+    let still : IsStillAsked b plan H P = subst (λ (r : Running g.row.D.Denot). IsStillAsked r.bank r.plan (history r.marks) P) (sym c.self.view_is) still_now in
     let run : LegalRun b plan H = run_of b plan o.base o.book o.journal o.marks o.doubt (handed g.D.Disk.content g.D.Disk.accounts g.D.Disk.faults o.opened.value) c.self.invariant.0 c.entries.ensures.examination in
     let asked = c.in-Some-problem.asked in
     let found : IsProblemOf b plan H P.session asked.step (problem_of asked) =
@@ -71,7 +71,7 @@ returns-clause-found g c =
     let nodes_are : c.nodes.result.now ≡ a.tree.nodes = c.nodes.ensures.nodes ∙ ap (λ (t : ProofTree). t.nodes) c.tree.ensures in
     let e3 : IsEntryFor P (length a.tree.nodes) a.outcome c.entry_for.result = subst (λ (ns : List Node). IsEntryFor P (length ns) a.outcome c.entry_for.result) nodes_are e2 in
     let may : MayFollow b plan H c.entry_for.result (Some a.tree) =
-    may_commit b plan o.base H P a.tree a.budget a.outcome c.entry_for.result (asked_now b plan o.base H a run m still) still.aside m.budget promise.shown promise.firm m.of_start e3 in
+    may_commit b plan o.base H P a.tree a.budget a.outcome c.entry_for.result (asked_now b plan o.base H a run m still) m.budget promise.shown promise.firm m.of_start e3 in
     let legal : Legal b plan H c.entry_for.result = c.may_is_legal.ensures b plan H c.entry_for.result (Some a.tree) may in
     (still_now, e3, subst (λ (r : Running g.row.D.Denot). Legal r.bank r.plan (history r.marks) c.entry_for.result) c.self.view_is legal)
 
@@ -86,9 +86,9 @@ returns-clause-may g c =
     let H = history o.marks in
     let m : MayBeCommitted b plan o.base H a = subst (λ (r : Running g.row.D.Denot). MayBeCommitted r.bank r.plan r.base (history r.marks) a) (sym c.self.view_is) c.requires in
     let is_here = c.problem-problem.ensures in
-    let waits : IsWaitingFor now.plan (history now.marks) c.problem-problem.result.now.session c.problem-problem.result.now.step c.problem-problem.result.now.aside = rw c.in_default.is at c.find_stale.ensures.none in
-    let still_now : IsStillAsked now.plan (history now.marks) P = subst (λ (p : Given). IsWaitingFor now.plan (history now.marks) p.session p.step p.aside) is_here waits in
-    let still : IsStillAsked plan H P = subst (λ (r : Running g.row.D.Denot). IsStillAsked r.plan (history r.marks) P) (sym c.self.view_is) still_now in
+    let waits : IsWaitingFor now.bank now.plan (history now.marks) c.problem-problem.result.now.session c.problem-problem.result.now.step c.problem-problem.result.now.aside = rw c.in_default.is at c.find_stale.ensures.none in
+    let still_now : IsStillAsked now.bank now.plan (history now.marks) P = subst (λ (p : Given). IsWaitingFor now.bank now.plan (history now.marks) p.session p.step p.aside) is_here waits in
+    let still : IsStillAsked b plan H P = subst (λ (r : Running g.row.D.Denot). IsStillAsked r.bank r.plan (history r.marks) P) (sym c.self.view_is) still_now in
     let run : LegalRun b plan H = run_of b plan o.base o.book o.journal o.marks o.doubt (handed g.D.Disk.content g.D.Disk.accounts g.D.Disk.faults o.opened.value) c.self.invariant.0 c.entries.ensures.examination in
     let asked = c.in-Some-problem.asked in
     let found : IsProblemOf b plan H P.session asked.step (problem_of asked) =
@@ -102,5 +102,5 @@ returns-clause-may g c =
     let nodes_are : c.nodes.result.now ≡ a.tree.nodes = c.nodes.ensures.nodes ∙ ap (λ (t : ProofTree). t.nodes) c.tree.ensures in
     let e3 : IsEntryFor P (length a.tree.nodes) a.outcome c.entry_for.result = subst (λ (ns : List Node). IsEntryFor P (length ns) a.outcome c.entry_for.result) nodes_are e2 in
     let may : MayFollow b plan H c.entry_for.result (Some a.tree) =
-    may_commit b plan o.base H P a.tree a.budget a.outcome c.entry_for.result (asked_now b plan o.base H a run m still) still.aside m.budget promise.shown promise.firm m.of_start e3 in
+    may_commit b plan o.base H P a.tree a.budget a.outcome c.entry_for.result (asked_now b plan o.base H a run m still) m.budget promise.shown promise.firm m.of_start e3 in
     subst (λ (r : Running g.row.D.Denot). MayFollow r.bank r.plan (history r.marks) c.entry_for.result (Some a.tree)) c.self.view_is may

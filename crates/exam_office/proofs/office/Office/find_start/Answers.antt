@@ -1,6 +1,6 @@
-use Rattle.std.proofs.Common.{◌≡◌, ◌<◌, ℕ, List, Some, sym, ap, ◌∙◌, subst}
+use Rattle.std.proofs.Common.{◌≡◌, ◌<◌, ℕ, List, Some, None, sym, ap, ◌∙◌, subst}
 use Rattle.bank_tables.specs.Tables.{Tables}
-use Rattle.exam_model.specs.Plan.{Plan}
+use Rattle.form_model.specs.Plan.{Plan}
 use Rattle.history_model.specs.declared.entry.Entry.{Entry}
 use Rattle.history_model.specs.declared.entry.Entry.TheVariants.{Started}
 use Rattle.exam_office.specs.Marks.{history}
@@ -16,7 +16,7 @@ returns-clause-found g c =
     let session = c.sessions-session.result in
     let eligible = c.drawn-eligible.result in
     let booking = c.args.booking in
-    let entry : Entry = Started session booking eligible in
+    let entry : Entry = Started session booking eligible None in
     let plan_is : book.plan ≡ o.spec.now = c.self.invariant.0.plan_is in
     let within : session < book.plan.sessions = subst (λ (n : ℕ). session < n) (c.sessions.ensures ∙ ap (λ (p : Plan). p.sessions) (sym plan_is)) c.if-session-sessions.false in
     let here : IsStartFound book.bank book.plan book.entries booking session (Some entry) =

@@ -1,12 +1,15 @@
-use Rattle.std.proofs.Common.{◌≡◌, ◌∙◌, None, Some, ap}
+use Rattle.std.proofs.Common.{◌≡◌, ◌∙◌, None, Some, ap, subst}
+use Rattle.form_model.specs.Validity.{IsPlanFor}
 use Rattle.history_model.specs.declared.place.Place.{Place}
 use Rattle.history_model.specs.declared.place.Place.TheVariants.{Pending}
 use Rattle.history_model.specs.Places.{place}
 use Rattle.exam_office.specs.Calls.{refused_with}
 use Rattle.exam_office.specs.Marks.{history}
+use Rattle.exam_office.specs.Running.{Running, handed}
 use Rattle.exam_office.specs.Serving.{IsTried}
 use Rattle.exam_office.proofs.Advancing.{stopped_first, served_first, first_steps, IsAsideFirst, aside_first, tried_twice, two_steps, settled_twice, settled_unless}
 use Rattle.exam_office.proofs.Asked.{durable_on}
+use Rattle.exam_office.proofs.Committed.{plan_in}
 use Rattle.exam_office.proofs.office.Office.serve_pending.Goals as goal
 
 pub try_to_serve-requires-in-Pending-clause-pending : goal.try_to_serve-requires-in-Pending-clause-pending
@@ -47,7 +50,11 @@ returns-in-Pending-clause-steps g c =
     let first : IsTried old.bank old.plan old.base s old mid None = c.in-Ok.ensures.tried in
     let a : IsAsideFirst s old mid waits.0 waits.1 = aside_first s old mid waits.0 waits.1 k steps.same stands first in
     let new = c.try_to_serve-in-Pending.new.self in
-    two_steps s old mid waits.0 waits.1 new a steps.frame.grows steps.same steps c.try_to_serve-in-Pending.ensures.steps
+    let o = c.self.inside in
+    let fits : IsPlanFor old.bank old.plan =
+    subst (λ (r : Running g.row.D.Denot). IsPlanFor r.bank r.plan) c.self.view_is
+    (plan_in o.bank.now o.spec.now o.base o.book o.journal o.marks o.doubt (handed g.D.Disk.content g.D.Disk.accounts g.D.Disk.faults o.opened.value) c.self.invariant.0 c.entries.ensures.examination) in
+    two_steps s old mid waits.0 waits.1 fits new a steps.frame.grows steps.same steps c.try_to_serve-in-Pending.ensures.steps
 
 pub returns-in-Pending-clause-served : goal.returns-in-Pending-clause-served
 returns-in-Pending-clause-served g c =
@@ -61,7 +68,11 @@ returns-in-Pending-clause-served g c =
     let first : IsTried old.bank old.plan old.base s old mid None = c.in-Ok.ensures.tried in
     let a : IsAsideFirst s old mid waits.0 waits.1 = aside_first s old mid waits.0 waits.1 k steps.same stands first in
     let new = c.try_to_serve-in-Pending.new.self in
-    tried_twice s old mid waits.0 waits.1 new a steps.frame.grows steps.same (refused_with c.try_to_serve-in-Pending.result) c.try_to_serve-in-Pending.ensures.tried
+    let o = c.self.inside in
+    let fits : IsPlanFor old.bank old.plan =
+    subst (λ (r : Running g.row.D.Denot). IsPlanFor r.bank r.plan) c.self.view_is
+    (plan_in o.bank.now o.spec.now o.base o.book o.journal o.marks o.doubt (handed g.D.Disk.content g.D.Disk.accounts g.D.Disk.faults o.opened.value) c.self.invariant.0 c.entries.ensures.examination) in
+    tried_twice s old mid waits.0 waits.1 fits new a steps.frame.grows steps.same (refused_with c.try_to_serve-in-Pending.result) c.try_to_serve-in-Pending.ensures.tried
 
 pub returns-in-Pending-clause-settled : goal.returns-in-Pending-clause-settled
 returns-in-Pending-clause-settled g c =
@@ -75,8 +86,12 @@ returns-in-Pending-clause-settled g c =
     let first : IsTried old.bank old.plan old.base s old mid None = c.in-Ok.ensures.tried in
     let a : IsAsideFirst s old mid waits.0 waits.1 = aside_first s old mid waits.0 waits.1 k steps.same stands first in
     let new = c.try_to_serve-in-Pending.new.self in
+    let o = c.self.inside in
+    let fits : IsPlanFor old.bank old.plan =
+    subst (λ (r : Running g.row.D.Denot). IsPlanFor r.bank r.plan) c.self.view_is
+    (plan_in o.bank.now o.spec.now o.base o.book o.journal o.marks o.doubt (handed g.D.Disk.content g.D.Disk.accounts g.D.Disk.faults o.opened.value) c.self.invariant.0 c.entries.ensures.examination) in
     let then = c.try_to_serve-in-Pending.ensures in
-    settled_twice s old mid waits.0 waits.1 new a steps.frame.grows c.try_to_serve-in-Pending.result steps.same then.steps.same then.tried then.at
+    settled_twice s old mid waits.0 waits.1 fits new a steps.frame.grows c.try_to_serve-in-Pending.result steps.same then.steps.same then.tried then.at
 
 pub returns-in_default-clause-steps : goal.returns-in_default-clause-steps
 returns-in_default-clause-steps g c =

@@ -1,10 +1,10 @@
 use Rattle.std.proofs.Common.{rules, ◌≡◌, ℕ, sym, subst, Option}
 use Rattle.std.specs.Option.{option_copied}
 use Rattle.bank_tables.specs.Items.{has}
-use Rattle.exam_model.specs.declared.breach.Breach.{Breach}
-use Rattle.exam_model.specs.Forms.{Form}
-use Rattle.exam_model.specs.Breaches.{IsFirstBreach}
-use Rattle.exam_model.specs.Serving.{IsNext}
+use Rattle.form_model.specs.declared.breach.Breach.{Breach}
+use Rattle.form_model.specs.Forms.{Form}
+use Rattle.form_model.specs.Breaches.{IsFirstBreach}
+use Rattle.serving_model.specs.Serving.{IsNext}
 use Rattle.constraint_model.specs.Views.{problem_of}
 use Rattle.exam_session.proofs.ReasonNotes.{of_serving, if_err}
 use Rattle.exam_session.proofs.book.Book.judge_serving.Goals as goal

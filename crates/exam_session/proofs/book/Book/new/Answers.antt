@@ -1,6 +1,6 @@
 use Rattle.std.proofs.Common.{◌∙◌, arith}
 use Rattle.history_model.specs.Legality.{empty}
-use Rattle.exam_session.proofs.EmptyBook.{no_kept, no_bookings, no_counts, no_sums}
+use Rattle.exam_session.proofs.EmptyBook.{no_kept, no_bookings, no_counts, no_counts_by_band, no_sums}
 use Rattle.exam_session.proofs.TotalLaws.{no_totals}
 use Rattle.exam_session.proofs.book.Book.new.Goals as goal
 
@@ -22,4 +22,5 @@ invariant_of-result c =
       (λ some below. absurd (omega arith)),
       (let long = c.new-3.ensures.len in omega arith),
       (let long = c.new-4.ensures.len in omega arith),
+      no_counts_by_band c.args.bank.now c.args.spec.now c.in_ok-band_counters.band_counters.items c.in_ok-band_counters.ensures.number c.in_ok-band_counters.ensures.items c.in_ok-band_counters.ensures.none,
     )

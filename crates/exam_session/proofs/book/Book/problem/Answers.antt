@@ -1,7 +1,7 @@
 use Rattle.std.proofs.Common.{◌≡◌, ◌∙◌, sym, ap, subst, Some, None, Option, Bor}
 use Rattle.std.specs.Option.{option_copied, option_map}
-use Rattle.exam_model.specs.declared.seat.Seat.{Seat}
-use Rattle.exam_model.specs.Seats.{answers}
+use Rattle.serving_model.specs.declared.seat.Seat.{Seat}
+use Rattle.serving_model.specs.Seats.{answers}
 use Rattle.history_model.specs.declared.place.Place.{Place}
 use Rattle.history_model.specs.Places.{place}
 use Rattle.ability_grid.specs.Running.{IsSumsOf}

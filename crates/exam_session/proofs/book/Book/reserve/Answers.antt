@@ -25,6 +25,7 @@ invariant_of-self c =
       (λ more below. absurd (omega arith)),
       omega (arith, kept.9),
       omega (arith, kept.10, number, booked),
+      search rules,
     )
 
 pub invariant_of-self-in_err-reserve : goal.invariant_of-self-in_err-reserve
@@ -52,4 +53,5 @@ invariant_of-self-2 c =
       search rules,
       omega (arith, kept.9),
       omega (arith, kept.10),
+      search rules,
     )

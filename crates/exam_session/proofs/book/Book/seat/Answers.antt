@@ -1,6 +1,6 @@
 use Rattle.std.proofs.Common.{◌∙◌, sym, ap, Some, Option, Bor}
 use Rattle.std.specs.Option.{option_copied, option_map}
-use Rattle.exam_model.specs.declared.seat.Seat.{Seat}
+use Rattle.serving_model.specs.declared.seat.Seat.{Seat}
 use Rattle.exam_session.specs.declared.kept_seat.KeptSeat.{KeptSeat}
 use Rattle.exam_session.specs.KeptSeats.{seat_kept}
 use Rattle.exam_session.proofs.KeptLaws.{found_kept, kept_there, is_short}

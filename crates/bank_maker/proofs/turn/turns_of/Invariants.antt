@@ -1,7 +1,0 @@
-use Rattle.std.proofs.Common.{◌≡◌, ◌*◌}
-use Rattle.std.specs.List.{flat_map, range_with_len}
-use Rattle.bank_maker.specs.Scripts.{group_turns}
-use Rattle.bank_maker.proofs.turn.turns_of.Given as goal
-
-abbrev pub invariant-loop-group : goal.invariant-loop-group
-invariant-loop-group l = l.turns.items ≡ flat_map (λ g. group_turns l.sessions (10 * g)) (range_with_len 0 l.group)

@@ -1,0 +1,11 @@
+pub mod Paths
+pub mod Counting
+pub mod Ranges
+pub mod Weights
+pub mod Relaxed
+pub mod ClosedForm
+pub mod ProofTrees
+pub mod Verdicts
+pub mod Pruning
+pub mod Spending
+pub mod Laws

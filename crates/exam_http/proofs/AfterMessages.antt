@@ -1,0 +1,79 @@
+-- What is after one message, and the loop over messages.
+use Rattle.std.proofs.Common.{◌≡◌, ℕ, ◌+◌, ◌≤◌, Bool, List, ◌++◌, length, take, drop, refl, sym, ap, subst, ◌∙◌, inl, inr, append_assoc}
+use Rattle.std.specs.Prelude.{Result, Ok, Err, OnErr}
+use Rattle.std.proofs.Math.Seq.{take-append-add}
+use Rattle.std.proofs.lemmas.List.{take-append-drop, length-take-le}
+use Rattle.history_model.specs.declared.request.Request.{Request}
+use Rattle.history_model.specs.declared.request.Reply.{Reply}
+use Rattle.wire_http.specs.declared.message.Message.{Message}
+use Rattle.wire_http.specs.declared.message.WireFault.{WireFault}
+use Rattle.wire_http.specs.Messages.{IsMessage, IsFault}
+use Rattle.exam_http.specs.declared.ended.Ended.TheVariants.{Done, BadInput, Link, Memory}
+use Rattle.exam_http.specs.declared.ended.AfterMessage.{AfterMessage}
+use Rattle.exam_http.specs.declared.ended.AfterMessage.TheVariants.{Answered, Over}
+use Rattle.exam_http.specs.Replies.{wire_fault_text}
+use Rattle.exam_http.specs.declared.message_fault.MessageFault.{MessageFault}
+use Rattle.exam_http.specs.Serving as serving
+use Rattle.exam_http.specs.Serving.{IsCutOff, IsAfter, Becomes, IsPartOfResponse, Refuses, Gets, IsResponse, LeadsTo, unchanged, then_asked}
+
+pub on_err : {T E : Type 0} (r : Result T E) (P : Type 0) → P → OnErr r P
+on_err (Ok x) P p = tt
+on_err (Err e) P p = p
+
+-- one piece more of a text
+pub piece_more : (text : List ℕ) (d k : ℕ) → d ≤ length text → take d text ++ take k (drop d text) ≡ take (d + k) text
+piece_more text d k le =
+    sym (take-append-add (take d text) (drop d text) k)
+    ∙ ap (λ (x : List ℕ). take (length (take d text) + k) x) (take-append-drop d text)
+    ∙ ap (λ n. take (n + k) text) (length-take-le d text le)
+
+module _ {H : Type 0} (does : H → Request → Reply → H → Type 0) (idles : H → H → Type 0) where
+  pub refused_after : (bytes text left : List ℕ) (old : H) (fault : WireFault) (after : AfterMessage) → IsFault bytes fault
+      → Refuses fault text after → IsAfter does idles old bytes text left old after
+  refused_after bytes text left old fault Answered f r = absurd r
+  refused_after bytes text left old fault (Over Done) f r = absurd r
+  refused_after bytes text left old fault (Over (BadInput found)) f r =
+      (subst (λ (x : WireFault). IsFault bytes x) (sym r.0) f, r.1 ∙ ap wire_fault_text (sym r.0), refl)
+  refused_after bytes text left old fault (Over Link) f r = inr (inr (refl, fault, f, r))
+  refused_after bytes text left old fault (Over Memory) f r = (r, inl (refl, r))
+
+  part_cut : (bytes text left : List ℕ) (old new : H) (m : Message) → IsMessage bytes m left
+      → IsPartOfResponse does old m text new → IsCutOff does old bytes text new
+  part_cut bytes text left old new m reads (inl x) = inl x
+  part_cut bytes text left old new m reads (inr x) =
+      inr (inl (record { message = m; left = left; reads = reads; whole = x.0; response = x.2; begins = x.1 }))
+
+  pub answered_after : (bytes text left : List ℕ) (old new : H) (m : Message) (after : AfterMessage) → IsMessage bytes m left
+      → Becomes does idles old m text new after → IsAfter does idles old bytes text left new after
+  answered_after bytes text left old new m Answered reads b = record { message = m; reads = reads; closes = b.0; answer = b.1 }
+  answered_after bytes text left old new m (Over Done) reads b =
+      inr (left, record { message = m; reads = reads; closes = b.0; answer = b.1 })
+  answered_after bytes text left old new m (Over (BadInput fault)) reads b = absurd b
+  answered_after bytes text left old new m (Over Link) reads b = part_cut bytes text left old new m reads b
+  answered_after bytes text left old new m (Over Memory) reads b = (b.0, part_cut bytes text left old new m reads b.1)
+
+  -- what a message asked leads to the handler after it
+  gets_leads : (asked : Result Request MessageFault) (close : Bool) (old : H) (text : List ℕ) (new : H)
+      → Gets does asked close old text new → LeadsTo does idles old new
+  gets_leads (Ok request) close old text new g = then_asked request g.0 old new unchanged g.1
+  gets_leads (Err fault) close old text new g = subst (λ h. LeadsTo does idles old h) (sym g.0) unchanged
+
+  pub nothing_leads : (start : H) → LeadsTo does idles start start
+  nothing_leads start = unchanged
+
+  pub response_leads : (old : H) (m : Message) (text : List ℕ) (new : H) → IsResponse does old m text new
+      → LeadsTo does idles old new
+  response_leads old m text new r = gets_leads r.asked m.close old text new r.gets
+
+  pub leads_through : (start middle new : H) → LeadsTo does idles start middle → LeadsTo does idles middle new
+      → LeadsTo does idles start new
+  leads_through start middle _ before serving.unchanged = before
+  leads_through start middle _ before (serving.then_asked request reply old new after asked) =
+      then_asked request reply old new (leads_through start middle old before after) asked
+  leads_through start middle _ before (serving.then_idle old new after idle) =
+      serving.then_idle old new (leads_through start middle old before after) idle
+
+-- what was written by two calls
+pub joined : (first middle last texts text : List ℕ) → middle ≡ first ++ texts → last ≡ middle ++ text
+    → last ≡ first ++ (texts ++ text)
+joined first middle last texts text a b = b ∙ ap (λ (x : List ℕ). x ++ text) a ∙ append_assoc first texts text

@@ -1,5 +1,0 @@
-use Rattle.exam_model.proofs.Bettering.{bettering_keeps}
-use Rattle.exam_model.proofs.laws.bettering_keeps.Goals as goal
-
-pub returns : goal.returns
-returns c = bettering_keeps

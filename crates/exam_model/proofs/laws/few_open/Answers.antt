@@ -1,5 +1,0 @@
-use Rattle.exam_model.proofs.Undecided.{few_open}
-use Rattle.exam_model.proofs.laws.few_open.Goals as goal
-
-pub returns : goal.returns
-returns c = few_open

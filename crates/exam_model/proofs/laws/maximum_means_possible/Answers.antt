@@ -1,5 +1,0 @@
-use Rattle.exam_model.proofs.SomeMaximum.{maximum_means_possible}
-use Rattle.exam_model.proofs.laws.maximum_means_possible.Goals as goal
-
-pub returns : goal.returns
-returns c = maximum_means_possible

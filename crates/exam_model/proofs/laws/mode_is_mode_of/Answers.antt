@@ -1,5 +1,0 @@
-use Rattle.exam_model.proofs.SomeMode.{mode_is_mode_of}
-use Rattle.exam_model.proofs.laws.mode_is_mode_of.Goals as goal
-
-pub returns : goal.returns
-returns c = mode_is_mode_of

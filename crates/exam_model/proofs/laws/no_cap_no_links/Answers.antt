@@ -1,5 +1,0 @@
-use Rattle.exam_model.proofs.Duality.{no_cap_no_links}
-use Rattle.exam_model.proofs.laws.no_cap_no_links.Goals as goal
-
-pub returns : goal.returns
-returns c = no_cap_no_links

@@ -1,5 +1,0 @@
-use Rattle.exam_model.proofs.TreeLaws.{no_form_is_none}
-use Rattle.exam_model.proofs.laws.no_form_verdict_is_right.Goals as goal
-
-pub returns : goal.returns
-returns c = no_form_is_none

@@ -1,5 +1,0 @@
-use Rattle.exam_model.proofs.OneBreach.{one_breach}
-use Rattle.exam_model.proofs.laws.one_breach.Goals as goal
-
-pub returns : goal.returns
-returns c = one_breach

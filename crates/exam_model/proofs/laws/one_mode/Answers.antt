@@ -1,5 +1,0 @@
-use Rattle.exam_model.proofs.OneMode.{one_mode}
-use Rattle.exam_model.proofs.laws.one_mode.Goals as goal
-
-pub returns : goal.returns
-returns c = one_mode

@@ -1,5 +1,0 @@
-use Rattle.exam_model.proofs.Duality.{weak_ray}
-use Rattle.exam_model.proofs.laws.ray_is_not_negative.Goals as goal
-
-pub returns : goal.returns
-returns c = weak_ray

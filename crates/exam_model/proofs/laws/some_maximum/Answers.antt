@@ -1,5 +1,0 @@
-use Rattle.exam_model.proofs.SomeMaximum.{some_maximum}
-use Rattle.exam_model.proofs.laws.some_maximum.Goals as goal
-
-pub returns : goal.returns
-returns c = some_maximum

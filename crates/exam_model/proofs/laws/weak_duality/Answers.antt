@@ -1,5 +1,0 @@
-use Rattle.exam_model.proofs.Duality.{weak_duality}
-use Rattle.exam_model.proofs.laws.weak_duality.Goals as goal
-
-pub returns : goal.returns
-returns c = weak_duality

@@ -1,0 +1,123 @@
+//! The stations of a hall: how each door gets one, and how its pass and its door come back.
+
+ghost use Rattle.std.specs.Prelude.{◌≡◌, ◌+◌, ◌<◌, ◌≤◌, ◌++◌, ◌∷◌, ℕ, [], List, true, false, map, vec_len, vec_capacity};
+ghost use Rattle.std.specs.List.{All, list_any};
+ghost use mathlib.Core.List.{reverse};
+ghost use Rattle.turn_lock.specs.Histories.{StartsWith};
+ghost use Rattle.turn_lock.specs.Passes.{TakesIn};
+ghost use Rattle.exam_hall.specs.Known.{IsOf};
+ghost use Rattle.exam_serve.specs.Doors.{IsNewStation, door_of, has_failed};
+ghost use Rattle.exam_serve.specs.Joining.{AreJoined};
+
+use exam_edge::{Disk, Door, Gate};
+use exam_hall::{Caller, Hall};
+use exam_office::Office;
+use exam_workers::Station;
+use turn_lock::Pass;
+
+/// Makes a station of a door, with a pass of its own.
+fn station_at<'h, 'a, D: Disk, G: Gate, L: Door>(
+    hall: &'h Hall<'a, D>,
+    gate: &'h G,
+    pass: &mut Pass<Office<'a, D>>,
+    door: L,
+) -> Station<L, Caller<'h, 'a, D, G>>
+    requires of { IsOf pass.old hall.now }
+    requires first { (pass.old.number ≡ 0) × (pass.old.splits < 65535) }
+    requires home { L.is_out door ≡ false }
+    ensures door { result.door ≡ door }
+    ensures made { IsNewStation L.is_out hall.now pass.old.seen result }
+    ensures pass { pass.new ≡ record pass.old { splits = pass.old.splits + 1 } }
+    ensures of { IsOf pass.new hall.now }
+{
+    Station {
+        door,
+        token: Caller::new(hall, gate, hall.split(pass)),
+        links: 0,
+        failed: false,
+    }
+}
+
+/// Makes a station of each door, the last door first. There is room for them.
+pub(crate) fn make_stations<'h, 'a, D: Disk, G: Gate, L: Door>(
+    hall: &'h Hall<'a, D>,
+    gate: &'h G,
+    pass: &mut Pass<Office<'a, D>>,
+    doors: &mut Vec<L>,
+    stations: &mut Vec<Station<L, Caller<'h, 'a, D, G>>>,
+)
+    requires of { IsOf pass.old hall.now }
+    requires first { (pass.old.number ≡ 0) × (pass.old.splits + vec_len doors.old ≤ 65535) }
+    requires home { All (λ d. L.is_out d ≡ false) doors.old.items }
+    requires empty { stations.old.items ≡ [] }
+    requires room { vec_len doors.old ≤ vec_capacity stations.old }
+    ensures made { All (IsNewStation L.is_out hall.now pass.old.seen) stations.new.items }
+    ensures doors { map door_of stations.new.items ≡ reverse doors.old.items }
+    ensures none { doors.new.items ≡ [] }
+    ensures room { vec_capacity doors.new ≡ vec_capacity doors.old }
+    ensures pass { pass.new ≡ record pass.old {
+      splits = pass.old.splits + vec_len doors.old;
+    } }
+    ensures of { IsOf pass.new hall.now }
+{
+    for _ in 0..doors.len() {
+        let door = doors.pop().unwrap();
+        stations.push_reserved(station_at(hall, gate, pass, door));
+    }
+}
+
+/// Joins the pass of a station, and takes its door back. Answers whether the door failed.
+fn clear_station<'h, 'a, D: Disk, G: Gate, L: Door>(
+    hall: &'h Hall<'a, D>,
+    pass: &mut Pass<Office<'a, D>>,
+    doors: &mut Vec<L>,
+    station: Station<L, Caller<'h, 'a, D, G>>,
+) -> bool
+    requires of { IsOf pass.old hall.now }
+    requires same { station.token.hall ≡ hall.now }
+    requires room { vec_len doors.old < vec_capacity doors.old }
+    ensures doors { doors.new.items ≡ doors.old.items ++ station.entry.door ∷ [] }
+    ensures len { vec_len doors.new ≡ vec_len doors.old + 1 }
+    ensures room { vec_capacity doors.new ≡ vec_capacity doors.old }
+    ensures joined { TakesIn pass.old station.entry.token.pass pass.new }
+    ensures of { IsOf pass.new hall.now }
+    ensures failed { result ≡ station.entry.failed }
+{
+    let Station {
+        door,
+        token,
+        links: _,
+        failed,
+    } = station;
+    hall.join(pass, token.into_pass());
+    doors.push_reserved(door);
+    failed
+}
+
+/// Joins the passes of the stations, the last station first, and takes their doors back. There is room for them.
+/// Answers whether a door failed.
+pub(crate) fn clear_stations<'h, 'a, D: Disk, G: Gate, L: Door>(
+    hall: &'h Hall<'a, D>,
+    pass: &mut Pass<Office<'a, D>>,
+    doors: &mut Vec<L>,
+    stations: &mut Vec<Station<L, Caller<'h, 'a, D, G>>>,
+) -> bool
+    requires of { IsOf pass.old hall.now }
+    requires same { All (λ s. s.token.hall ≡ hall.now) stations.old.items }
+    requires empty { doors.old.items ≡ [] }
+    requires room { vec_len stations.old ≤ vec_capacity doors.old }
+    ensures doors { doors.new.items ≡ map door_of (reverse stations.old.items) }
+    ensures joined { AreJoined pass.new (reverse stations.old.items) }
+    ensures begins { StartsWith pass.new.seen pass.old.seen }
+    ensures none { stations.new.items ≡ [] }
+    ensures of { IsOf pass.new hall.now }
+    ensures failed { result ≡ list_any has_failed (reverse stations.old.items) }
+{
+    let mut failed = false;
+    for _ in 0..stations.len() {
+        let station = stations.pop().unwrap();
+        let now = clear_station(hall, pass, doors, station);
+        failed = failed || now;
+    }
+    failed
+}

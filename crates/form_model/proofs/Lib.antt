@@ -1,0 +1,13 @@
+pub mod SumLaws
+pub mod BreachLaws
+pub mod OneMode
+pub mod SomeMode
+pub mod OneBreach
+pub mod Computed
+pub mod BankA
+pub mod BankS
+pub mod BankC
+pub mod BankE
+pub mod BankQ
+pub mod Ties
+pub mod EveryRow

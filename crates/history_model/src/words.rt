@@ -1,0 +1,25 @@
+//! The words for refusals.
+
+ghost use Rattle.std.specs.Prelude.{◌≡◌};
+ghost use Rattle.history_model.specs.Words.{refusal_word};
+
+use crate::refusal::Refusal;
+
+/// The word for a refusal, in replies of each kind: lowercase letters and dashes. A reply has the value of the refusal
+/// beside it.
+pub fn refusal_word(refusal: Refusal) -> &'static str
+    ensures { result.now ≡ refusal_word refusal }
+{
+    match refusal {
+        Refusal::NoSession(_) => "no-session",
+        Refusal::WrongStep(_) => "wrong-step",
+        Refusal::Other(_) => "other",
+        Refusal::BadResponse(_) => "bad-response",
+        Refusal::IsClosed(_) => "is-closed",
+        Refusal::Stale(_, _) => "stale",
+        Refusal::SessionsFull(_) => "sessions-full",
+        Refusal::JournalFull(_) => "journal-full",
+        Refusal::Disk => "disk",
+        Refusal::Memory => "memory",
+    }
+}

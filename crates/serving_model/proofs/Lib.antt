@@ -1,0 +1,10 @@
+pub mod OneMode
+pub mod NextItems
+pub mod Staying
+pub mod Computed
+pub mod BankA
+pub mod StepsOfA
+pub mod BandsOfA
+pub mod WithheldOfA
+pub mod BankS
+pub mod Ties
