@@ -16,6 +16,7 @@ sys.path[:0] = [os.path.dirname(os.path.dirname(os.path.abspath(__file__))), os.
 import check_tree  # noqa: E402
 import data_of_bank_a as bytes_of  # noqa: E402
 from examination import read_bank, read_journal, read_plan, sessions_of  # noqa: E402
+from shadowtools.formats.exposure import exposure_of  # noqa: E402
 
 FAULT = os.environ.get("FAKE", "")
 PATH = os.environ.get("SHADOWD_JOURNAL", "shadowd.journal")
@@ -45,21 +46,30 @@ class Office:
         step = len(session.responses)
         if step == self.plan.length:
             return
-        sums = list(self.plan.prior)
-        for item, response in zip(session.items, session.responses):
-            sums = [a + b for a, b in zip(sums, self.bank[item].logs[response])]
-        problem = self.problem._replace(theta=sums.index(max(sums)), given=frozenset(session.items))
+        counts = self.counts()
+        seat = counts.seats[number]
+        given, all_items = frozenset(session.items), frozenset(range(len(self.bank)))
+        may = frozenset(counts.may(seat, counts.band_now(seat)))
+        problem = self.problem._replace(theta=seat.sums.index(max(seat.sums)), given=given, barred=all_items - may - given)
         form = check_tree.best_of_all(problem)
-        item = max(sorted(form - set(session.items)), key=lambda i: self.bank[i].information[problem.theta])
+        if form is None:
+            self.add(b"\2" + number.to_bytes(4, "big") + bytes.fromhex("00 0001 0006"))
+            form = check_tree.best_of_all(problem._replace(barred=frozenset()))
+        item = max(sorted(form - given), key=lambda i: self.bank[i].information[problem.theta])
         self.add(bytes_of.served(number, step, item, form))
         session.items.append(item)
+
+    def counts(self):
+        """The exposure so far, with the seats of the sessions."""
+        return exposure_of(read_journal(PATH) if os.path.exists(PATH) else [], self.bank, self.plan)
 
     def begin(self, booking):
         for number, session in enumerate(self.sessions):
             if session.booking == booking:
                 return number
         number = len(self.sessions)
-        self.add(bytes_of.started(number, booking, range(len(self.bank))))
+        counts = self.counts()
+        self.add(bytes_of.started(number, booking, counts.draw(number, counts.first)))
         self.sessions = sessions_of(read_journal(PATH))
         self.serve(number)
         return number
@@ -93,10 +103,10 @@ class Office:
         return {"item": item, "proved": True, "session": number, "state": "waiting", "step": len(session.responses)}
 
     def exposure(self):
-        whole = [session for number, session in enumerate(self.sessions) if self.complete(number)]
-        rows = [[sum(i in session.items for session in whole), len(whole)] for i in range(len(self.bank))]
+        total = self.counts().total
+        rows = [list(row) for row in zip(total.shown, total.eligible)]
         rows[0][0] += FAULT == "count"
-        return len(whole), rows
+        return total.visited, rows
 
 
 def replay(office, requests):

@@ -11,6 +11,7 @@ import audit
 import data_of_bank_a as a
 import drill_texts
 from common import PROGRAM, Folder, needs_program
+from shadowtools.formats import exposure
 
 EMPTY = b"SHADOWJ1\0"
 # Three records with payloads of one, two and three bytes, the gates at 8, 14, 21 and 29.
@@ -26,8 +27,16 @@ class Draw(unittest.TestCase):
     def test_block_of_the_rfc(self):
         """RFC 8439, section 2.3.2: counter 1, nonce 000000090000004a00000000."""
         words = audit.chacha_block(bytes(range(32)), 0x4A000000, 0x09000000 << 32 | 1)
+        self.assertEqual(exposure.words_of(bytes(range(32)), 0x4A000000, 0x09000000 << 32 | 1), tuple(words))
         self.assertEqual(words[:4], [0xE4E7F110, 0x15593BD1, 0x1FDD0F50, 0xC47120A3])
         self.assertEqual(words[-1], 0x4E3C50A2)
+
+
+    def test_words_of_other_bands(self):
+        """The key of zeros and stream 3, at the places 0, 512 and 3,584 (`openssl enc -chacha20`, 3.0.19)."""
+        for place, wanted in ((0, (0xF02B2F02, 0x43175876)), (512, (0xA1EDD8BF, 0x129C84AC)), (3584, (0x1FA12891, 0x2B827120))):
+            for block in (audit.chacha_block, exposure.words_of):
+                self.assertEqual(tuple(block(bytes(32), 3, place // 16)[:2]), wanted)
 
 
 class Files(Folder):
@@ -47,7 +56,7 @@ class Files(Folder):
         none = (0, "entries 0 sessions 0 finished 0 proved 0 unproved 0 aside 0 nodes 0")
         for data, wanted in (
                 (b"", none), (b"any bytes", none), (EMPTY, none), (EMPTY + b"junk", none), (b"SHADOWJ1\2junk", none),
-                (b"SHADOWJ2\0junk", (6, "journal: header")),
+                (b"SHADOWJ2\0junk", none), (b"SHADOWJ3\0junk", (6, "journal: header")),
                 (b"SHADOWJ1\1\0\0\0", (6, "journal: cut at 8")),
                 (b"SHADOWJ1\1\0\0\0\0\0", (6, "journal: length at 8")),
                 (b"SHADOWJ1\1\0\2\0\1\0", (6, "journal: length at 8")),

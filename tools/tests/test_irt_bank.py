@@ -1,9 +1,15 @@
 """From parameters to bank and plan: conventions, refusals, warnings, and the numbers of a bank worked out apart."""
 import json
 import math
+import re
 import unittest
 
 from common import Folder, PROGRAM, needs_numpy, needs_program
+
+try:
+    from shadowtools.agency import band_points
+except ImportError:
+    pass
 
 HEAD = "ID,MODEL,PAR1,PAR2,PAR3\n"
 TWO = HEAD + "A,2PL,1,0,\nB,2PL,1,0,\n"
@@ -135,6 +141,63 @@ class Plans(Converter):
         status, errors = self.convert(dict(items=TWO, attributes=ATTRIBUTES, constraints=rules))
         self.assertEqual(status, 0, errors)
         self.assertNotIn("count", self.read("o.plan.txt"))
+
+
+@needs_numpy
+class Bands(Converter):
+    """Ten items with a = 2 and b = 0 inform 10 at 0; half a test of ten has 5, with the prior 6: a standard error of 0.41."""
+    ITEMS = "a,b\n" + "2,0\n" * 10
+    RATE = ("--length", "10", "--rate", "1", "1", "--key", "0" * 64)
+
+    def bands(self, *words, items=ITEMS):
+        """The points of the plan's line, and the standard output and error."""
+        self.write("items", items)
+        status, said, errors = self.tool("irt_bank", "--items", "items", "--out", "o", "--program", self.write("none", ""), *self.RATE, *words)
+        found = re.search(r"(?m)^bands (.*)$", self.read("o.plan.txt")) if status != 2 else None
+        return [int(word) for word in found.group(1).split()] if found else [], said, errors
+
+    def test_equal_shares_of_a_flat_prior(self):
+        """20 points on -4 to 4 have four bands of five; a step is 8 / 19, so a band is 2.1 wide."""
+        points, _, errors = self.bands("--bands", "4", "--prior", "flat", "--grid", "-4", "4", "20")
+        self.assertEqual(points, [5, 10, 15], errors)
+        self.assertNotIn("too many", errors)
+
+    def test_quantiles_of_a_normal_prior(self):
+        """The quartiles of N(0, 1) are -0.67, 0 and 0.67. The weight of a point goes half a step of 0.1 to either side, so a band that
+        begins at a point begins 0.05 below it: at -0.65, -0.05 (as near as 0.05) and 0.65."""
+        points, _, errors = self.bands("--bands", "4", "--grid", "-3", "3", "61")
+        self.assertEqual(points, [24, 30, 37], errors)
+
+    def test_bands_that_are_too_narrow(self):
+        """Eight bands of equal shares are 0.32 to 0.49 wide in the middle, below 0.41: there are fewer, and none is narrower."""
+        points, _, errors = self.bands("--bands", "8", "--grid", "-3", "3", "61")
+        self.assertIn("warning: 8 bands are too many: the band from ", errors)
+        self.assertIn(f"the plan has {len(points) + 1}\n", errors)
+        self.assertTrue(1 < len(points) < 7)
+        self.assertTrue(all(0.1 * (high - low) > 0.4 for low, high in zip(points, points[1:])))
+
+    def test_a_grid_with_too_few_points(self):
+        points, _, errors = self.bands("--bands", "5", "--prior", "flat", "--grid", "-40", "40", "3")
+        self.assertEqual(points, [1, 2], errors)
+        self.assertIn("5 bands are too many: the grid has too few points; the plan has 3", errors)
+
+    def test_sessions_until_the_counts_mean_something(self):
+        """At the rate 1 / 4 ten shows take 40 visits, and a band with a quarter of the examinees has them in 160 sessions."""
+        self.assertEqual(band_points.sessions_needed((1, 4), 0.25), 160)
+        _, said, _ = self.bands("--bands", "4", "--prior", "flat", "--grid", "-4", "4", "20")
+        self.assertIn("band 0: -4 to -2.31579, 25.0% of the expected examinees; an item at the rate is shown 10 times there in about 40 sessions\n",
+                      said)
+
+    def test_a_remark_with_the_abilities(self):
+        self.bands("--bands", "2", "--prior", "flat", "--grid", "-2", "2", "4")
+        self.assertIn("\n# bands of abilities begin at 0.666667\nbands 2\n", self.read("o.plan.txt"))
+
+    def test_bands_without_a_rate(self):
+        self.write("items", self.ITEMS)
+        self.assertEqual(self.tool("irt_bank", "--items", "items", "--out", "o", "--length", "5", "--bands", "3"),
+                         (1, "", "--bands is not used without --rate\n"))
+        for number in ("1", "9"):
+            self.assertEqual(self.tool("irt_bank", "--items", "items", "--out", "o", *self.RATE, "--bands", number)[0], 2)
 
 
 @needs_numpy

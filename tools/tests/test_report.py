@@ -14,7 +14,7 @@ from common import PAGE, Folder, needs_page
 from shadowtools.command import Refused
 from shadowtools.formats.examination import BankItem, Session, plan_of
 from shadowtools.needs import is_there
-from test_simulate import ATTRIBUTES, Examination
+from test_simulate import ATTRIBUTES, Examination, ExaminationWithBands
 
 if is_there(*PAGE):
     import numpy as np
@@ -342,6 +342,44 @@ class Pages(Examination):
         self.write("own", "{{ title }} in {{ sections | length }} sections")
         self.assertEqual(self.report("--template", "own")[0], 0)
         self.assertEqual(self.read("page.html"), "Simulated examination: e in 12 sections\n")
+
+
+@needs_page
+class PagesWithBands(ExaminationWithBands):
+    def rows_of(self, page, head):
+        """The cells of the table whose first heading is this."""
+        table = re.search(rf'<thead><tr><th scope="col" class="text">{head}</th>.*?</tbody>', page, re.S).group()
+        return [re.findall(r"<td[^>]*>(.*?)</td>", row) for row in re.findall(r"<tr>.*?</tr>", table.split("<tbody>")[1], re.S)]
+
+    def test_the_section(self):
+        """The page has what simulate.py printed, one row a band, and the table of items each rate."""
+        _, said, errors = self.simulate("--examinees", "12", "--group", "3")
+        printed = [re.fullmatch(r"band (\d), (.*): visits (\d+), greatest rate ([\d.]+) \((I\d)\), above the rate (\d+), never eligible (\d+) of 8, "
+                                r"set aside (\d+)", line).groups() for line in said.splitlines()[1:]]
+        self.assertEqual(self.tool("report", "e", "--run", "run", "--to", "page.html")[0], 0)
+        page = self.read("page.html")
+        self.assertIn(">Exposure by bands of the estimate</h2>", page)
+        rows = self.rows_of(page, "Band")
+        self.assertEqual([(row[0], row[1].replace("\N{MINUS SIGN}", "-"), row[2], *row[4:7], *row[8:10]) for row in rows], printed)
+        with open(self.path("page.items.csv")) as file:
+            items = list(csv.DictReader(file))
+        for number, row in enumerate(rows):
+            rates = [float(item[f"rate in band {number}"]) for item in items]
+            self.assertAlmostEqual(max(rates), float(row[4]), 3)
+            self.assertEqual(str(sum(rate > 2 / 3 for rate in rates)), row[6])
+        above = sum(any(float(item[f"rate in band {k}"]) > 2 / 3 for k in range(3)) for item in items)
+        self.assertIn(f"{above} {'item is' if above == 1 else 'items are'} above the rate in some band of the estimate", page)
+        self.assertIn("The plan steers the rates of each band.", page)
+
+    def test_bands_that_are_watched(self):
+        self.simulate("--examinees", "4")
+        status, _, errors = self.tool("report", "e", "--run", "run", "--to", "page.html", "--watch", "1")
+        self.assertEqual((status, errors), (0, ""))
+        page = self.read("page.html")
+        self.assertEqual(len(self.rows_of(page, "Band")), 2)
+        self.assertIn("does not steer these rates", page)
+        status, _, errors = self.tool("report", "e", "--run", "run", "--to", "page.html", "--watch", "9")
+        self.assertEqual((status, errors.count("\n"), "--watch" in errors), (1, 1, True), errors)
 
 
 if __name__ == "__main__":

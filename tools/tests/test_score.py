@@ -48,7 +48,7 @@ class Readers(Folder):
         with open(self.path("j"), "wb") as file:
             file.write(a.journal([start, aside, serve, close]))
         self.assertEqual(read_journal(self.path("j")), [
-            Started(0, 70, frozenset(range(6))), SetAside(0, 1, 3), Served(0, 0, 2, frozenset({1, 2, 3}), True, 1), Closed(0)])
+            Started(0, 70, (frozenset(range(6)),), True), SetAside(0, None, None, 1, 3), Served(0, 0, 2, frozenset({1, 2, 3}), True, 1), Closed(0)])
 
     def test_journals_that_are_none(self):
         for data in (b"nonsense and more", a.journal([b"\4\0\0\0\0\0\0\1"])[:-1], a.journal([b"\7"])):

@@ -1,4 +1,5 @@
 """Simulated examinees through a stand-in for shadowd, and through the program."""
+import hashlib
 import json
 import math
 import os
@@ -62,6 +63,7 @@ class Examinees(unittest.TestCase):
 
     def test_points_have_equal_numbers(self):
         self.assertEqual(simulation.abilities(["points", "-1", "0", "2"], 6, 1).tolist(), [-1, -1, 0, 0, 2, 2])
+        self.assertEqual(simulation.abilities(["turns", "-1", "0", "2"], 5, 1).tolist(), [-1, 0, 2, -1, 0])
 
     def test_responses_follow_the_model(self):
         """At one ability the shares of the categories are within four standard errors of their probabilities."""
@@ -72,7 +74,7 @@ class Examinees(unittest.TestCase):
 
     def test_words_that_are_none(self):
         for words in (["normal", "0"], ["points", "a"], ["other"], ["normal", "nan", "1"], ["normal", "0", "-1"], ["normal", "0", "inf"],
-                      ["uniform", "1", "0"], ["points"], ["points", "7"]):
+                      ["uniform", "1", "0"], ["points"], ["points", "7"], ["turns"]):
             with self.subTest(words), self.assertRaises(Refused):
                 simulation.abilities(words, 3, 1)
         with self.assertRaises(Refused):
@@ -106,7 +108,7 @@ class Estimation(Examination):
 
 
 def simulation_session(items, responses):
-    return Session(booking=0, items=list(items), responses=list(responses), eligible=frozenset(range(512)))
+    return Session(booking=0, items=list(items), responses=list(responses))
 
 
 @needs_numpy
@@ -199,6 +201,72 @@ class Tails(Examination):
         status, _, errors = self.simulate("--tails", "-2", "--each", "1", "--group", "3")
         self.assertEqual(status, 0, errors)
         self.assertEqual([booking for booking, _, _ in self.sessions("run.tails.journal")], [0, 1, 2, 3, 4])
+
+
+class ExaminationWithBands(Examination):
+    """The same examination with a rate and three bands, whose points are -3 to -1, 0, and 1 to 3."""
+
+    def setUp(self):
+        super().setUp()
+        status, _, errors = self.tool("irt_bank", "--items", "items", "--attributes", "attributes", "--constraints", "constraints", "--out",
+                                      "e", "--grid", "-3", "3", "7", "--rate", "2", "3", "--key", "07" * 32, "--program", self.fake)
+        self.assertEqual(status, 0, errors)
+        self.write("e.plan.txt", self.read("e.plan.txt") + "bands 3 4\n")
+        found = json.loads(self.read("e.map.json"))
+        found["sha256"]["plan"] = hashlib.sha256(self.read("e.plan.txt").encode()).hexdigest()
+        self.write("e.map.json", json.dumps(found))
+
+
+@needs_numpy
+class Bands(ExaminationWithBands):
+    def lines(self, said):
+        """By band the visits, the greatest rate, and how many items are above the rate and never eligible."""
+        return [line.split(": ")[1] for line in said.splitlines() if line.startswith("band ")]
+
+    def test_the_line_of_each_band(self):
+        """Counted from the sessions: the estimate at each step is the mode of the answers before it."""
+        status, said, errors = self.simulate("--examinees", "12", "--group", "3")
+        self.assertEqual(status, 0, errors)
+        examination = simulation.load(self.path("e"))
+        visits, shown = [0, 0, 0], [[0] * 8 for _ in range(3)]
+        for _, items, responses in self.sessions():
+            sums = simulation.grid_sums(examination, items, responses)
+            bands = [int(point >= 3) + int(point >= 4) for point in sums.argmax(1)[:4]]
+            for band in set(bands):
+                visits[band] += 1
+            for band, item in zip(bands, items):
+                shown[band][item] += 1
+        found = self.lines(said)
+        self.assertEqual([int(line.split(",")[0].split()[1]) for line in found], visits)
+        self.assertEqual(visits[1], 12)
+        for line, number, counts in zip(found, visits, shown):
+            rates = [count / number if number else 0 for count in counts]
+            self.assertIn(f"greatest rate {max(rates):.3f} (I{rates.index(max(rates))}), above the rate {sum(r > 2 / 3 for r in rates)}, ", line)
+        self.assertEqual([line.split(":")[0] for line in said.splitlines()[1:]], ["band 0, -3 to -1", "band 1, 0 to 0", "band 2, 1 to 3"])
+
+    def test_equal_numbers_at_the_middle_of_each_band(self):
+        status, _, errors = self.simulate("--examinees", "6", "--true", "bands")
+        self.assertEqual(status, 0, errors)
+        true = json.loads(self.read("run.run.json"))["true"]
+        self.assertEqual(true, [true[0], 0, -true[0]] * 2)
+        self.assertTrue(-1.5 < true[0] < -1)
+        self.assertFalse(os.path.exists(self.path("run.tails.journal")))
+
+    def test_bands_that_are_watched(self):
+        status, said, errors = self.simulate("--watch", "1")
+        self.assertEqual((status, [line.split(":")[0] for line in said.splitlines()[1:]]), (0, ["band 0, -3 to -3", "band 1, -2 to 3"]), errors)
+        for points in (["0"], ["2", "2"], ["7"]):
+            status, _, errors = self.simulate("--watch", *points)
+            self.assertEqual((status, errors), (1, "--watch: the points of bands ascend from 1 to 6, and are at most 7\n"))
+
+    def test_a_count_that_is_wrong(self):
+        status, _, errors = self.simulate(fake="count")
+        self.assertEqual((status, "item 0: shown " in errors), (1, True), errors)
+
+    @needs_program
+    def test_the_program(self):
+        status, said, errors = self.simulate("--examinees", "12", "--group", "3", program=PROGRAM)
+        self.assertEqual((status, len(self.lines(said))), (0, 3), errors)
 
 
 @needs_numpy

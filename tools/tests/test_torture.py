@@ -6,7 +6,10 @@ import os
 import unittest
 from unittest import mock
 
+import audit
 import data_of_bank_a as a
+import data_of_bands as bands
+import journal_maker
 import message_model
 import mutate_bank
 import reply_model
@@ -32,9 +35,15 @@ class Draws(unittest.TestCase):
                              draws.damaged(second, draws.EXAMPLE[0]))
 
     def test_texts_without_damage_are_read(self):
+        """Some of them have bands, and of these some more than two."""
+        numbers = []
         for number in range(20):
             bank, plan = draws.small_exam(draws.of_case(4, number))
             text_readers.read_plan(plan, *mutate_bank.read(bank))
+            bank, plan = draws.drill_exam(draws.of_case(4, number), 1)
+            numbers.append(len(text_readers.read_plan(plan, *mutate_bank.read(bank)).lines[b"bands"]))
+        self.assertIn(0, numbers)
+        self.assertGreater(max(numbers), 2)
 
 
 class Plans(unittest.TestCase):
@@ -60,6 +69,13 @@ class Plans(unittest.TestCase):
                 (front + b"quantity 0 0 1 0", "row 0 quantity"),
                              (front + b"quantity 256 0 1 0", "line 3 number"),
                              (front + b"stimulus 1 1 2", "stimulus 1"),
+                (front + b"bands", "line 3 shape"), (front + b"bands 1 ", "line 3 shape"),
+                (front + b"bands 256", "line 3 number"), (front + b"bands 01", "line 3 number"),
+                (front + b"bands 1\nbands 2", "line 4 twice"), (front + b"bands 0", "bands"),
+                (front + b"bands 3", "bands"), (front + b"bands 2 1", "bands"),
+                (front + b"bands 1 1", "bands"), (front + b"bands 1 2 3 4 5 6 7 8", "bands"),
+                (front + b"bands 3\nbudget 2", "bands"),
+                (front + b"rate 2 1\nbands 3\nkey " + b"0" * 64, "rate"),
                 (front + b"budget 2", "budget"), (front + b"journal 63", "limit"),
                              (front + b"base 0-1", "base"), (b"prior 0\nlength 7", "length"),
                 (b"prior 0\nlength 6", "prior"), (front + b"key " + b"A" * 64, "line 3 number"),
@@ -67,12 +83,60 @@ class Plans(unittest.TestCase):
             with self.subTest(text):
                 self.assertEqual(self.said(text), f"plan: {wanted}")
 
+    def test_bands_of_larger_grids(self):
+        """Seven points on a grid of nine are taken, also its last point; eight are not, nor the point 9."""
+        items = [(0, 2, [], [1] * 9, [-1] * 18)]
+        front = b"length 1\nprior" + b" 0" * 9 + b"\nbands "
+        plan = text_readers.read_plan(front + b"1 2 3 4 5 6 8", 9, items)
+        self.assertIn("\nkey " + "0" * 64 + "\nbands 1 2 3 4 5 6 8\nbudget 2001\n",
+                      text_readers.canonical(plan, 0))
+        for points in (b"1 2 3 4 5 6 7 8", b"9", b"255"):
+            with self.assertRaisesRegex(mutate_bank.Refused, "plan: bands"):
+                text_readers.read_plan(front + points, 9, items)
+
     def test_canonical(self):
         text = b"#\nprior -10 0 -10\ncount 0 3 0-1 2 4\nlength 3\nbase 1 4-5"
         self.assertEqual(self.said(text).splitlines(),
                          ["length 3", "prior -10 0 -10", "rate 1 1", "key " + "0" * 64,
                           "budget 2001", "base-budget 4095", "sessions 1000",
                           "journal 67108864", "count 0 3 0-2 4", "base 1 4-5"])
+
+
+class Models(unittest.TestCase):
+    """The model of the requests over a journal in which eligibility is set aside at a later step."""
+
+    def setUp(self):
+        self.maker = journal_maker.Maker(bands.BANK_TWO, bands.PLAN_TWO).run(bands.SCRIPT_TWO)
+        self.requests = text_readers.read_script(bands.SCRIPT_TWO.encode())
+
+    def replies(self, data):
+        """The lines of the replies, until the journal lacks an entry; what it lacks."""
+        model, said = reply_model.Model(self.maker.rules, reply_model.records_of(data)[0]), []
+        for request in self.requests:
+            try:
+                said += reply_model.lines_of(model.reply(request), self.maker.rules)
+            except reply_model.Missing as missing:
+                return said, missing
+        return said, None
+
+    def test_replies_over_each_file(self):
+        for data in self.maker.files():
+            self.assertEqual(self.replies(data), (bands.REPLIES_TWO.splitlines(), None))
+            records, kept = reply_model.records_of(data)
+            self.assertEqual((len(records), kept), (17, data))
+            self.assertEqual(reply_model.length_of(records), len(data))
+
+    def test_what_is_missing(self):
+        """Eligibility may be set aside before the first item of a session, and before the second, whose estimate is in another
+        band; then only the item is missing. A file of version 1 has 77 bytes at a start, and 10 or more where it is set aside."""
+        kinds = [payload[0] for payload in self.maker.old]
+        self.assertEqual([k for k, kind in enumerate(kinds) if kind == 2], [11, 14])
+        for many, kind, least, exact in ((0, audit.STARTED, 77, True), (1, audit.ASIDE, 10, False), (2, audit.ANSWERED, 8, True),
+                                         (3, audit.ASIDE, 10, False), (11, audit.ASIDE, 10, False), (12, audit.SERVED, 78, False),
+                                         (14, audit.ASIDE, 10, False), (15, audit.SERVED, 78, False)):
+            _, missing = self.replies(journal_maker.file_of(journal_maker.ONE, self.maker.old[:many]))
+            with self.subTest(many):
+                self.assertEqual((missing.kind, missing.least, missing.exact), (kind, least, exact))
 
 
 class Messages(unittest.TestCase):

@@ -16,6 +16,8 @@ usage: irt_bank.py --items ITEMS.csv [--attributes ATTRIBUTES.csv] [--constraint
   --quantity NAME      an attribute that becomes a quantity of the bank, in the order given (words, seconds)
   --budget N, --base-budget N, --sessions N, --journal N   lines of the plan
   --rate NUM DEN --key HEX                                 exposure control
+  --bands N            2 to 8, with a rate: the control is for each of N bands of abilities with equal shares of the expected
+                       examinees, or of fewer where one would be narrower than the standard error half way through the test
   --program SHADOWD    the program that checks what is written; default $SHADOWD, else crates/shadowd/out/shadowd if it is there
 
 ATTRIBUTES has a line for each item: ID, perhaps STID (the name of its passage), and any other columns. An item
@@ -41,6 +43,9 @@ from shadowtools.needs import require
 
 require("irt_bank.py", "numpy")
 
+import numpy as np  # noqa: E402
+
+from shadowtools.agency import band_points  # noqa: E402
 from shadowtools.agency.bank_parameters import FORMATS, Reading, read_items  # noqa: E402
 from shadowtools.agency.bank_tables import (Tables, ability_grid, grid_warnings, item_warnings, least_error,  # noqa: E402
                                             log_prior, rate_warnings, rounding_cost)
@@ -75,12 +80,15 @@ def options(words: Sequence[str]) -> argparse.Namespace:
     for name, value in (("budget", 2001), ("base-budget", 4095), ("sessions", 1000), ("journal", 67108864)):
         parser.add_argument("--" + name, type=whole(0, 999_999_999), default=value)
     parser.add_argument("--rate", nargs=2, type=whole(1, 65_535))
+    parser.add_argument("--bands", type=whole(band_points.FEWEST_BANDS, band_points.MOST_BANDS))
     parser.add_argument("--length", type=whole(1, 512))
     found = parser.read(words, lambda given: bool(given.items and given.out and (given.constraints or given.length)))
     if found.constraints and found.length:
         raise Refused("--length: the table of --constraints has the length; leave one of the two out")
     if bool(found.rate) != bool(found.key):
         raise Refused("--rate needs --key, 64 hexadecimal digits drawn at random" if found.rate else "--key is not used without --rate")
+    if found.bands and not found.rate:
+        raise Refused("--bands is not used without --rate")
     if found.model and found.model.upper() not in ("GR", "GPC", "PC"):
         raise Refused(f"--model {found.model}: GR, GPC or PC")
     return found
@@ -155,7 +163,15 @@ def quantity_of(path: str, item: Item, name: str) -> int:
 
 # ---------------------------------------------------------------- what is written
 
-def plan_text(given: argparse.Namespace, tables: Tables, blueprint: Blueprint) -> str:
+def advice_of(given: argparse.Namespace, tables: Tables, length: int) -> band_points.Advice:
+    """The points of the bands that are asked for; none where none are."""
+    if not given.bands:
+        return band_points.Advice([], [], [])
+    weights = np.exp(log_prior(given.prior, tables.theta, given.log_unit) / given.log_unit)
+    return band_points.advice(given.bands, tables.items, tables.theta, given.scaling, length, given.prior, weights)
+
+
+def plan_text(given: argparse.Namespace, tables: Tables, blueprint: Blueprint, points: Sequence[int] = ()) -> str:
     """The plan, with a remark above each rule."""
     theta = tables.theta
     lines = [f"# made by irt_bank.py from {' '.join(os.path.basename(given.items).split())}",
@@ -166,6 +182,9 @@ def plan_text(given: argparse.Namespace, tables: Tables, blueprint: Blueprint) -
              f"sessions {given.sessions}", f"journal {given.journal}"]
     if given.rate:
         lines += [f"rate {given.rate[0]} {given.rate[1]}", f"key {given.key}"]
+    if points:
+        lines += [f"# bands of abilities begin at {', '.join(f'{theta[point]:g}' for point in points)}",
+                  "bands " + " ".join(map(str, points))]
     row = 0
     for rule in blueprint.rules:
         if rule.lines[0].startswith("stimulus "):
@@ -275,13 +294,16 @@ def main(words: Sequence[str]) -> int:
     blueprint, quantities = blueprint_of(given, items)
     theta = ability_grid(given.grid, items, given.scaling, blueprint.length)
     tables = Tables(items, quantities, theta, given.scaling, given.information_unit, given.log_unit)
-    bank, plan = tables.text(), plan_text(given, tables, blueprint)
+    bands = advice_of(given, tables, blueprint.length)
+    bank, plan = tables.text(), plan_text(given, tables, blueprint, bands.points)
     warnings = blueprint.warnings + item_warnings(items, theta) + grid_warnings(given.prior, tables, blueprint.length)
-    warnings += rate_warnings(given.rate, blueprint.length, len(items))
+    warnings += ([] if bands.points else rate_warnings(given.rate, blueprint.length, len(items))) + bands.warnings
     written = map_text(given, tables, blueprint, bank, plan)
     for end, text in ((".bank.csv", bank), (".plan.txt", plan), (".map.json", written)):
         write(given.out + end, text)
     print_made(given, form, tables, blueprint)
+    for line in band_points.sentences(bands, theta, given.rate):
+        print(line)
     for warning in warnings:
         print("warning: " + warning, file=sys.stderr)
     return tried(given, tables, blueprint, plan)

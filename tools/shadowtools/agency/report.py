@@ -8,6 +8,7 @@ usage: report.py PREFIX --run OUT --to REPORT.html [options]
   --bands T ..                   edges of ability bands, for exposure, overlap and error; default -2 -1 0 1 2, and each ability
                                  where there are at most 20
   --by truth|estimate            whether the bands of exposure and overlap are of the true ability (default) or the mean (EAP)
+  --watch P ..                   the rates in bands of the estimate that begin at these points of the grid; default the plan's bands
   --between LOW HIGH             where the page states the standard error; default -1 1
   --rules PLAN                   counts the rules of another plan
   --template FILE                another template for jinja2 than report.html of these tools
@@ -21,7 +22,7 @@ where the files are refused or a rule is broken.
 import argparse
 import os
 import sys
-from typing import List, Sequence, Tuple
+from typing import List, Optional, Sequence, Tuple
 
 from shadowtools.needs import require
 
@@ -34,9 +35,10 @@ import pandas as pd  # noqa: E402
 from shadowtools.agency.custody import sha256_of  # noqa: E402
 from shadowtools.agency.simulation import Examination, load, parted, read_run  # noqa: E402
 from shadowtools.command import Refused, as_command  # noqa: E402
-from shadowtools.formats.examination import Session, read_journal, read_plan, sessions_of  # noqa: E402
+from shadowtools.formats.examination import Session, read_journal, read_plan, require_points  # noqa: E402
+from shadowtools.formats.exposure import Exposure, exposure_of  # noqa: E402
 from shadowtools.formats.tables import text_of  # noqa: E402
-from shadowtools.options import Options, finite, require_folder  # noqa: E402
+from shadowtools.options import Options, finite, require_folder, whole  # noqa: E402
 from shadowtools.page.pictures import at_a_glance  # noqa: E402
 from shadowtools.page.sections import chosen, sections  # noqa: E402
 from shadowtools.page.study import Questions, Study, answers, table_by_item, target_of  # noqa: E402
@@ -53,6 +55,7 @@ def options(words: Sequence[str]) -> argparse.Namespace:
     parser.add_argument("--target", nargs="+")
     parser.add_argument("--cuts", nargs="+", type=finite, default=[])
     parser.add_argument("--bands", nargs="+", type=finite)
+    parser.add_argument("--watch", nargs="+", type=whole(0, 60))
     parser.add_argument("--by", choices=("truth", "estimate"), default="truth")
     parser.add_argument("--between", nargs=2, type=finite, default=[-1.0, 1.0])
     parser.add_argument("--template", default=TEMPLATE)
@@ -71,25 +74,30 @@ def questions(given: argparse.Namespace) -> Questions:
 
 # ---------------------------------------------------------------- what is read
 
-def sessions_of_run(given: argparse.Namespace, run: dict, examination: Examination) -> Tuple[List[Session], List[Session]]:
-    """The whole sessions of the sample and of the tails. Refused are a journal that is not the run's by its SHA-256, and a
-    run of another bank or plan."""
+def sessions_of_run(given: argparse.Namespace, run: dict,
+                    examination: Examination) -> Tuple[List[Session], List[Session], Exposure]:
+    """The whole sessions of the sample and of the tails, and the exposure of the sample. Refused are a journal that is not the
+    run's by its SHA-256, and a run of another bank or plan."""
     for name in ("bank", "plan", "map"):
         if run["sha256"].get(name) != examination.sha256[name]:
             raise Refused(f"{given.run}.run.json is of another {name} than that of {given.prefix}; simulate again")
-    sample = journal_of(given.run + ".journal", run, "journal")
-    tails = parted(journal_of(given.run + ".tails.journal", run, "tails"), run["examinees"])[1] if run["tails"] else []
+    require_points(given.watch or [], len(examination.theta), "--watch")
+    counts, tails = journal_of(given.run + ".journal", run, "journal", examination, given.watch), []
+    if run["tails"]:
+        more = journal_of(given.run + ".tails.journal", run, "tails", examination)
+        tails = parted(more.sessions, run["examinees"])[1]
+    sample = counts.sessions
     whole = [[one for one in part if len(one.responses) == examination.plan.length] for part in (sample, tails)]
     last = [max((one.booking for one in part), default=0) for part in (sample, tails)]
     if not whole[0] or last[0] >= run["examinees"] or last[1] >= len(run["true"]):
         raise Refused(f"{given.run}.journal has no whole session, or is not the journal of {given.run}.run.json")
-    return whole[0], whole[1]
+    return whole[0], whole[1], counts
 
 
-def journal_of(path: str, run: dict, name: str) -> List[Session]:
+def journal_of(path: str, run: dict, name: str, examination: Examination, watch: Optional[List[int]] = None) -> Exposure:
     if run["sha256"].get(name) != sha256_of(path):
         raise Refused(f"{path} is not the journal of the run, by its SHA-256; use the files that simulate.py wrote together")
-    return sessions_of(read_journal(path))
+    return exposure_of(read_journal(path), examination.bank, examination.plan, watch)
 
 
 # ---------------------------------------------------------------- what is written
@@ -121,8 +129,8 @@ def main(words: Sequence[str]) -> int:
         require_folder("--to" if path != given.picture else "--picture", path)
     examination, run = load(given.prefix), read_run(given.run + ".run.json")
     rules = (read_plan(given.rules) if given.rules else examination.plan).rules
-    sample, tails = sessions_of_run(given, run, examination)
-    study = Study(examination, run, sample, tails, rules, asked)
+    sample, tails, counts = sessions_of_run(given, run, examination)
+    study = Study(examination, run, sample, tails, rules, asked, counts)
     text = page(study, given.template)
     try:
         with open(given.to, "w", encoding="utf-8") as file:

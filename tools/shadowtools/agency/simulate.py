@@ -5,7 +5,10 @@ usage: simulate.py PREFIX --out OUT [options]      PREFIX.bank.csv, PREFIX.plan.
   --examinees N     default 1000; at most 65,536 with those of the tails
   --seed N          default 1: the same seed gives the same abilities and answers
   --true ..         normal MEAN SD (default normal 0 1), uniform LOW HIGH, or points T T .. with equal numbers: a conditional
-                    simulation, for which report.py gives exposure and error at each point
+                    simulation, for which report.py gives exposure and error at each point. `turns T T ..` takes the points in
+                    turn, as a rate is steered where examinees of all abilities come. `--true bands` takes in turn the middle of
+                    each band: the ability that halves the prior within it
+  --watch P P ..    counts the rates in the bands that begin at these points of the grid, in the place of the plan's
   --tails T T ..    abilities at which more examinees are taken through after the others; default -3 -2.5 -2 2 2.5 3, none
                     where --true names points. They show the ends of the scale, and count in no total. `--tails none`
   --each N          how many at each of them; default 1 for each 40 examinees
@@ -21,7 +24,8 @@ exposure rate; OUT.run.json, the examinees, how they were taken through, and the
 journals. report.py reads all. The journal is kept in memory (/dev/shm, where there is one) until the end, so that no disk is
 waited for. The answers of an examinee are drawn beforehand for every item. At the end the journals are read, the items of
 each session are held against every rule of the plan by a reader that shares nothing with the product, and the program's
-exposure counts against those of the journal. Exit status: 0; 1 with the place of a broken rule, a refusal or another status.
+exposure counts against those of the journal: in all, and where the plan has bands also those of the bands, which are printed. Each
+draw of eligible items is made anew for that. Exit status: 0; 1 with the place of a broken rule, a refusal or another status.
 """
 import argparse
 import datetime
@@ -47,9 +51,10 @@ from shadowtools.agency.drivers import (  # noqa: E402
     Progress, Replay, Server, Stopped, by_http, by_replay, replay_exposure)
 from shadowtools.agency.program import form_of, run  # noqa: E402
 from shadowtools.agency.simulation import (  # noqa: E402
-    MOST_SEED, Examination, abilities, abilities_of, broken_rules, drawn_responses, load)
+    MOST_SEED, Examination, abilities, abilities_of, band_names, broken_rules, drawn_responses, load, middles)
 from shadowtools.command import Refused, as_command  # noqa: E402
-from shadowtools.formats.examination import Session, read_journal, read_plan, sessions_of  # noqa: E402
+from shadowtools.formats.examination import Session, read_journal, read_plan, require_points  # noqa: E402
+from shadowtools.formats.exposure import Exposure, differs, exposure_of  # noqa: E402
 from shadowtools.formats.tables import runs  # noqa: E402
 from shadowtools.options import Options, require_folder, whole  # noqa: E402
 from shadowtools.places import BUILT, TOP  # noqa: E402
@@ -67,6 +72,7 @@ def options(words: Sequence[str]) -> argparse.Namespace:
     parser.add_argument("--examinees", type=whole(1, MOST_SESSIONS), default=1000)
     parser.add_argument("--seed", type=whole(0, MOST_SEED), default=1)
     parser.add_argument("--true", nargs="+", default=["normal", "0", "1"])
+    parser.add_argument("--watch", nargs="+", type=whole(0, 60))
     parser.add_argument("--tails", nargs="+")
     parser.add_argument("--each", type=whole(1, MOST_SESSIONS))
     parser.add_argument("--through", choices=("replay", "serve"), default="replay")
@@ -78,7 +84,7 @@ def options(words: Sequence[str]) -> argparse.Namespace:
 
 def tails_of(given: argparse.Namespace) -> List[float]:
     """The true abilities of the examinees of the tails."""
-    words = given.tails or (["none"] if given.true[0] == "points" else TAILS)
+    words = given.tails or (["none"] if given.true[0] in ("points", "turns", "bands") else TAILS)
     if words == ["none"]:
         return []
     points = abilities_of(words)
@@ -117,6 +123,7 @@ class Stage:
     exposure: Tuple[int, list] = (0, [])
     said: str = ""
     sessions: List[Session] = field(default_factory=list)
+    counts: Optional[Exposure] = None
 
 
 def taken_through(given: argparse.Namespace, examination: Examination, responses: np.ndarray, stage: Stage, folder: str) -> None:
@@ -171,7 +178,8 @@ def take(given: argparse.Namespace, examination: Examination, responses: np.ndar
                 taken_through(given, examination, responses, stage, folder)
             finally:
                 keep(journal, stage.journal)
-            stage.sessions = sessions_of(read_journal(stage.journal))
+            stage.counts = exposure_of(read_journal(stage.journal), examination.bank, examination.plan, given.watch)
+            stage.sessions = stage.counts.sessions
 
 
 # ---------------------------------------------------------------- what is tested at the end
@@ -188,22 +196,9 @@ def answers_kept(stage: Stage, responses: np.ndarray) -> Optional[str]:
     return None
 
 
-def exposure_differs(stage: Stage, items: int) -> Optional[str]:
-    """Where the program's exposure counts are not those of the journal."""
-    sessions, (finished, rows) = stage.sessions, stage.exposure
-    if finished != len(sessions):
-        return f"{finished} sessions are counted as finished, the journal has {len(sessions)}"
-    for item in range(items):
-        shown = sum(item in session.items for session in sessions)
-        eligible = sum(session.aside or item in session.eligible for session in sessions)
-        if (shown, eligible) != tuple(rows[item]):
-            return f"item {item}: shown {rows[item][0]} and eligible {rows[item][1]}, the journal has {shown} and {eligible}"
-    return None
-
-
 def verdict(examination: Examination, rules, stage: Stage, responses: np.ndarray) -> Optional[str]:
     """The first fault, or None."""
-    fault = answers_kept(stage, responses) or exposure_differs(stage, len(examination.items))
+    fault = answers_kept(stage, responses) or differs(stage.counts, stage.exposure)
     if fault:
         return fault
     broken = broken_rules(rules, stage.sessions, examination.bank)
@@ -247,6 +242,17 @@ def write_run(given: argparse.Namespace, examination: Examination, theta: np.nda
         raise Refused(f"{given.out}.run.json: {error.strerror}")
 
 
+def print_bands(examination: Examination, counts: Exposure) -> None:
+    """A line for each band that is watched, from the sample."""
+    rate = examination.plan.rate[0] / examination.plan.rate[1]
+    for band, (one, name) in enumerate(zip(counts.watched, band_names(examination.theta, counts.points))):
+        rates = one.rates()
+        most = max(range(len(rates)), key=lambda item: (rates[item], -item))
+        of_items = (f", greatest rate {rates[most]:.3f} ({examination.items[most].name}), above the rate "
+                    f"{sum(value > rate for value in rates)}, never eligible {one.eligible.count(0)} of {len(rates)}, set aside {one.aside}")
+        print(f"band {band}, {name}: visits {one.visited}" + (of_items if one.visited else ""))
+
+
 def main(words: Sequence[str]) -> int:
     given = options(words)
     tails = tails_of(given)
@@ -254,6 +260,9 @@ def main(words: Sequence[str]) -> int:
         require_folder("--out", given.out + end)
     examination = load(given.prefix)
     rules = read_plan(given.rules).rules if given.rules else examination.plan.rules
+    require_points(given.watch or [], len(examination.theta), "--watch")
+    if given.true == ["bands"]:
+        given.true = ["turns", *(f"{point:.4g}" for point in middles(examination, given.watch or examination.plan.points))]
     theta = np.concatenate([abilities(given.true, given.examinees, given.seed), tails])
     responses = drawn_responses(examination.items, theta, examination.scaling, given.seed)
     line = said_by(given.program, "check", *examination.files())[0]
@@ -273,6 +282,8 @@ def main(words: Sequence[str]) -> int:
     more = f", and {len(tails)} in the tails" if tails else ""
     print(f"{given.examinees} sessions of {examination.plan.length} items through {given.through}{more}: no rule of {len(rules)} "
           f"is broken; {wall:.1f} s; {stages[0].said}")
+    if stages[0].counts.points:
+        print_bands(examination, stages[0].counts)
     return 0
 
 

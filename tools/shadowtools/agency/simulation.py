@@ -12,7 +12,7 @@ import numpy as np
 from shadowtools.agency.custody import read_documents
 from shadowtools.agency.irt import DICHOTOMOUS, FIELD, POLYTOMOUS, Item, fault
 from shadowtools.command import Refused
-from shadowtools.formats.examination import BankItem, Plan, Rule, Session, is_finite, json_of
+from shadowtools.formats.examination import BankItem, Plan, Rule, Session, bands_of, is_finite, json_of
 from shadowtools.formats.tables import is_number
 
 FINE = np.linspace(-6, 6, 1201)
@@ -62,7 +62,8 @@ def load(prefix: str) -> Examination:
 # ---------------------------------------------------------------- examinees
 
 def abilities(words: Sequence[str], number: int, seed: int) -> np.ndarray:
-    """True abilities: normal MEAN SD, uniform LOW HIGH, or points T T .. with equal numbers at each."""
+    """True abilities: normal MEAN SD, uniform LOW HIGH, points T T .. with equal numbers at each, one point after the other, or
+    turns T T .. with the same in turn."""
     if not 0 <= seed <= MOST_SEED:
         raise Refused(f"--seed {seed}: 0 to {MOST_SEED}")
     rng = np.random.default_rng([seed, 1])
@@ -73,14 +74,31 @@ def abilities(words: Sequence[str], number: int, seed: int) -> np.ndarray:
         return rng.uniform(*numbers, number)
     if words[0] == "points" and numbers:
         return np.repeat(numbers, -(-number // len(numbers)))[:number]
-    raise Refused(f"--true {' '.join(words)}: normal MEAN SD, uniform LOW HIGH, or points T T .., with abilities from -6 to 6 "
-                  "and an SD of 0 to 6")
+    if words[0] == "turns" and numbers:
+        return np.resize(numbers, number)
+    raise Refused(f"--true {' '.join(words)}: normal MEAN SD, uniform LOW HIGH, points T T .. or turns T T .., with abilities from "
+                  "-6 to 6 and an SD of 0 to 6")
 
 
 def abilities_of(words: Sequence[str]) -> List[float]:
     """The words as numbers from -6 to 6, the range of the fine grid; none where a word is no such number."""
     numbers = [float(word) for word in words if is_number(word)]
     return numbers if len(numbers) == len(words) and all(-6 <= number <= 6 for number in numbers) else []
+
+
+def band_names(theta: np.ndarray, points: Sequence[int]) -> List[str]:
+    """The abilities of each band that begins at a point, in logits: from its first to its last point."""
+    return [f"{theta[band[0]]:g} to {theta[band[-1]]:g}" for band in bands_of(points, len(theta))]
+
+
+def middles(examination: Examination, points: Sequence[int]) -> List[float]:
+    """The middle of each band: the ability that halves the prior within it, between two points by a straight line."""
+    theta, weights = examination.theta, np.exp(prior_on(examination.map["prior"], examination.theta))
+    found = []
+    for inside in map(list, bands_of(points, len(theta))):
+        below = np.cumsum(weights[inside]) - weights[inside] / 2
+        found.append(float(np.interp(weights[inside].sum() / 2, below, theta[inside])))
+    return found
 
 
 def drawn_responses(items: Sequence[Item], theta: np.ndarray, scaling: float, seed: int) -> np.ndarray:

@@ -1,6 +1,6 @@
 """Audits a journal: reads each record, judges it, and checks every proof tree in it.
 
-usage: audit.py BANK PLAN JOURNAL [--trees]
+usage: audit.py BANK PLAN JOURNAL [--trees] [--bands]
        audit.py --seal JOURNAL
        audit.py --against SEAL JOURNAL
 
@@ -11,16 +11,20 @@ bank and plan gives one line in place of that: `journal: too long L`, `journal: 
 
   --trees    first prints a line for each proof tree: `tree at A nodes N VERDICT`, with ` spent` after a tree that spends
              the plan's budget
+  --bands    where the plan has more than one band of abilities, then prints for each band `band B visited V`, the finished
+             sessions that visited it, and a line `band B item I shown A eligible E` for each item
 
   --seal     prints `seal records N bytes B sha256 H`: the number of the records, the bytes up to the gate after them, and the
              SHA-256 of these bytes, which `head -c B JOURNAL | sha256sum` prints too. The records are not judged
   --against  tests that the journal begins with the records of a seal, a file with such a line, and prints the seal of now
 
-It shares no text with the product: its rules are those of docs/FORMATS.md alone. The journal is only read. One record is
-in memory at a time. Exit status: 0; 6 for a journal that is refused; 2 for a faulty command line; 1 for a file that can't be read,
+It shares no text with the product: its rules are those of docs/FORMATS.md alone. The journal is only read, by version 1 or 2 of
+its format: the header tells which, and a file of version 1 that was moved has its records of version 2 after a mark. One record
+is in memory at a time. Exit status: 0; 6 for a journal that is refused; 2 for a faulty command line; 1 for a file that can't be read,
 and for a bank or a plan that shadowd does not take.
 """
 import csv
+import functools
 import hashlib
 import itertools
 import re
@@ -32,12 +36,21 @@ from typing import BinaryIO, Callable, Dict, Iterator, List, NamedTuple, Optiona
 from shadowtools.checkers import check_tree
 from shadowtools.command import Refused, as_command
 
-HEADER, OPEN, LONGEST = b"SHADOWJ1", 1, 131072
-DEFAULTS = {"rate": (1, 1), "key": bytes(32), "budget": 2001, "sessions": 1000, "journal": 67108864}
-STARTED, ASIDE, SERVED, ANSWERED, CLOSED = 1, 2, 3, 4, 5
-NO_FORM = 0
+# The header that is written, and the version of each that is read. In a file of version 1 that was moved to version 2 the
+# payloads before the mark count for nothing, and those after it are of version 2.
+HEADER, VERSIONS, MARK = b"SHADOWJ1", {b"SHADOWJ1": 1, b"SHADOWJ2": 2}, b"\x08"
+OPEN, LONGEST = 1, 131072
+DEFAULTS = {"rate": (1, 1), "key": bytes(32), "bands": (), "budget": 2001, "sessions": 1000, "journal": 67108864}
+STARTED, ASIDE, SERVED, ANSWERED, CLOSED = range(5)
+# What the first byte of a payload says, by version.
+KINDS = {1: {1: STARTED, 2: ASIDE, 3: SERVED, 4: ANSWERED, 5: CLOSED},
+         2: {6: STARTED, 7: ASIDE, 3: SERVED, 4: ANSWERED, 5: CLOSED}}
+NO_FORM, MOST_BANDS, PLACES = 0, 8, 512
 
-Rules = namedtuple("Rules", "bank plan categories likelihood rate key budget sessions journal")
+# `bands` has the grid points that begin new bands.
+Rules = namedtuple("Rules", "bank plan categories likelihood rate key budget sessions journal bands")
+# A record that counts: the place of its gate, its version and its payload.
+Record = namedtuple("Record", "at version payload")
 
 
 # ---------------------------------------------------------------- bank and plan
@@ -63,6 +76,8 @@ def read_limits(path: str) -> Dict[str, object]:
                 limits[word] = int(rest[0]), int(rest[1])
             elif word == "key":
                 limits[word] = bytes.fromhex(rest[0])
+            elif word == "bands":
+                limits[word] = tuple(map(int, rest))
             elif word in limits:
                 limits[word] = int(rest[0])
     return limits
@@ -84,6 +99,7 @@ def quarter(x, a, b, c, d):
         x[other] = (mixed << turn | mixed >> 32 - turn) % 2**32
 
 
+@functools.lru_cache(maxsize=512)
 def chacha_block(key: bytes, stream: int, number: int) -> List[int]:
     """The sixteen words of a block of ChaCha20, with a counter and a stream of 64 bits each."""
     start = list(struct.unpack("<16I", b"expand 32-byte k" + key + struct.pack("<QQ", number, stream)))
@@ -99,19 +115,51 @@ def chacha_block(key: bytes, stream: int, number: int) -> List[int]:
 # ---------------------------------------------------------------- a history
 
 class Session:
+    """A session: its eligible items by band, the bands in which eligibility was set aside, the items shown with the band of the
+    estimate at each, and the responses."""
+
     def __init__(self, eligible):
-        self.eligible, self.aside, self.closed = eligible, False, False
-        self.shown, self.responses, self.form = [], [], None
+        self.eligible, self.aside, self.closed = eligible, set(), False
+        self.shown, self.bands, self.responses, self.form = [], [], [], None
+
+
+class Counts:
+    """Of the finished sessions that visited a band: their number, in how many of them an item was shown there, and in how many
+    it could be."""
+
+    def __init__(self, items):
+        self.visited, self.shown, self.eligible = 0, [0] * items, [0] * items
+
+    def add(self, shown, eligible):
+        self.visited += 1
+        for i in shown:
+            self.shown[i] += 1
+        for i in eligible:
+            self.eligible[i] += 1
 
 
 class History:
-    """The sessions so far, the exposure counts of the finished ones, and the numbers of the summary."""
+    """The sessions so far, the exposure counts of the finished ones in all and by band, and the numbers of the summary."""
 
     def __init__(self, rules):
         self.rules, self.sessions, self.bookings = rules, [], set()
-        items = len(rules.bank.items)
-        self.finished, self.shown, self.eligible = 0, [0] * items, [0] * items
+        self.items = range(len(rules.bank.items))
+        self.total = Counts(len(self.items))
+        self.bands = [Counts(len(self.items)) for _ in range(len(rules.bands) + 1)]
+        self.first_band = self.band(self.mode(Session([])))
         self.entries = self.proved = self.unproved = self.aside = self.nodes = 0
+
+    @property
+    def finished(self):
+        return self.total.visited
+
+    @property
+    def shown(self):
+        return self.total.shown
+
+    @property
+    def eligible(self):
+        return self.total.eligible
 
     def place(self, session):
         """`pending`, `waiting` or `over`, with the step."""
@@ -120,15 +168,27 @@ class History:
             return "over", step
         return ("waiting" if len(session.shown) > step else "pending"), step
 
-    def draw(self, number):
-        """The items that are eligible for a session."""
-        (above, below), words, drawn = self.rules.rate, [], set()
-        for i in range(len(self.rules.bank.items)):
-            if i % 16 == 0:
-                words = chacha_block(self.rules.key, number, i // 16)
-            if self.shown[i] == 0 or words[i % 16] * below * self.shown[i] < 2**32 * above * self.eligible[i]:
-                drawn.add(i)
-        return drawn
+    def band(self, point):
+        """The number of the band that a grid point is in."""
+        return sum(begin <= point for begin in self.rules.bands)
+
+    def band_now(self, session):
+        return self.band(self.mode(session))
+
+    def draw(self, number, band):
+        """The items that are eligible for a session in a band."""
+        (above, below), counts = self.rules.rate, self.bands[band]
+
+        def word(i):
+            place = PLACES * band + i
+            return chacha_block(self.rules.key, number, place // 16)[place % 16]
+
+        return frozenset(i for i in self.items if counts.shown[i] == 0
+                         or word(i) * below * counts.shown[i] < 2**32 * above * counts.eligible[i])
+
+    def draws(self, number):
+        """The same in each band of the plan."""
+        return [self.draw(number, band) for band in range(len(self.bands))]
 
     def mode(self, session):
         """The lowest grid point at which the posterior is greatest."""
@@ -141,10 +201,14 @@ class History:
         """The problem of a session that waits for an item."""
         items, given = self.rules.bank.items, frozenset(session.shown)
         last = items[session.shown[-1]].stimulus if session.shown else 0
-        left = {items[i].stimulus for i in given} - {0, last}
-        barred = frozenset(i for i in range(len(items)) if i not in given
-                           and (items[i].stimulus in left or not session.aside and i not in session.eligible))
-        return check_tree.Problem(self.rules.bank, self.rules.plan, self.mode(session), given, barred, session.form)
+        left, theta = {items[i].stimulus for i in given} - {0, last}, self.mode(session)
+        may = self.open_in(session, self.band(theta))
+        barred = frozenset(i for i in self.items if i not in given and (items[i].stimulus in left or i not in may))
+        return check_tree.Problem(self.rules.bank, self.rules.plan, theta, given, barred, session.form)
+
+    def open_in(self, session, band):
+        """The items that may be served in a band: those eligible there, or all where eligibility was set aside there."""
+        return frozenset(self.items) if band in session.aside else session.eligible[band]
 
     def next_item(self, session, problem, form):
         """The item that is served from a form."""
@@ -154,11 +218,13 @@ class History:
         return max(same or left, key=lambda i: (items[i].info[problem.theta], -i))
 
     def end(self, session):
-        """Counts a session that is finished."""
-        self.finished += 1
-        for i in range(len(self.rules.bank.items)):
-            self.shown[i] += i in session.shown
-            self.eligible[i] += session.aside or i in session.eligible
+        """Counts a session that is finished, in all and in each band that it visited: the one where it began, and those in which
+        an item was shown."""
+        visited = {self.first_band, *session.bands}
+        for band in visited:
+            there = {item for item, at in zip(session.shown, session.bands) if at == band}
+            self.bands[band].add(there, self.open_in(session, band))
+        self.total.add(set(session.shown), frozenset().union(*(self.open_in(session, band) for band in visited)))
 
 
 # ---------------------------------------------------------------- records
@@ -175,9 +241,10 @@ class Fields:
         self.at += size
         return int.from_bytes(self.payload[self.at - size:self.at], "big")
 
-    def flag(self):
+    def within(self, low, high):
+        """A number of one byte in a range."""
         value = self.number(1)
-        if value > 1:
+        if not low <= value <= high:
             raise ValueError("field")
         return value
 
@@ -197,19 +264,27 @@ class Fields:
         return vectors, read
 
 
-def read_record(payload: bytes) -> Tuple[int, tuple]:
-    """The kind of a record and its fields, in the order of the format."""
-    fields = Fields(payload)
-    kind = fields.number(1)
-    if not STARTED <= kind <= CLOSED:
+def kind_of(payload: bytes, version: int) -> Optional[int]:
+    """The kind that the first byte of a payload says, or None."""
+    return KINDS[version].get(payload[0]) if payload else None
+
+
+def read_record(payload: bytes, version: int) -> Tuple[int, tuple]:
+    """The kind of a record and its fields, in the order of the format. Version 1 has one set of a start, and neither step nor band
+    where eligibility is set aside: these two are None."""
+    fields, kind = Fields(payload), kind_of(payload, version)
+    if kind is None:
         raise ValueError("kind")
+    fields.number(1)
     session = fields.number(4)
     if kind == STARTED:
-        record = session, fields.number(8), fields.items()
+        booking = fields.number(8)
+        record = session, booking, [fields.items() for _ in range(1 if version == 1 else fields.within(1, MOST_BANDS))]
     elif kind == ASIDE:
-        record = session, fields.flag(), fields.tree()
+        place = (None, None) if version == 1 else (fields.number(2), fields.within(0, MOST_BANDS - 1))
+        record = (session, *place, fields.within(0, 1), fields.tree())
     elif kind == SERVED:
-        record = session, fields.number(2), fields.number(2), fields.items(), fields.flag(), fields.tree()
+        record = session, fields.number(2), fields.number(2), fields.items(), fields.within(0, 1), fields.tree()
     elif kind == ANSWERED:
         record = session, fields.number(2), fields.number(1)
     else:
@@ -227,14 +302,31 @@ class Judge:
     def __init__(self, rules, note):
         self.history, self.note = History(rules), note
 
-    def take(self, at, payload):
+    def take(self, record: Record):
+        at = record.at
         try:
-            kind, record = read_record(payload)
+            kind, fields = read_record(record.payload, record.version)
         except ValueError as fault:
             raise Refused(f"journal: record at {at}") from fault
+        if record.version == 1:
+            fields = self.lifted(kind, fields)
         steps = {STARTED: self.start, ASIDE: self.set_aside, SERVED: self.serve, ANSWERED: self.answer, CLOSED: self.close}
-        steps[kind](at, *record)
+        steps[kind](at, *fields)
         self.history.entries += 1
+
+    def lifted(self, kind, fields):
+        """The fields of a record of version 1 as version 2 has them: a start also has the draws of the other bands, and where
+        eligibility is set aside are the step and the band of the session's place."""
+        H = self.history
+        if kind == STARTED:
+            number, booking, (first,) = fields
+            sets = H.draws(number)
+            sets[H.first_band] = first
+            return number, booking, sets
+        if kind == ASIDE and fields[0] < len(H.sessions):
+            session = H.sessions[fields[0]]
+            return (fields[0], H.place(session)[1], H.band_now(session), *fields[3:])
+        return fields
 
     def session(self, at, number, *places):
         """A session at one of these places."""
@@ -256,19 +348,19 @@ class Judge:
             raise Refused(f"journal: bad tree at {at}")
         self.history.nodes += len(tree[1])
 
-    def start(self, at, number, booking, eligible):
+    def start(self, at, number, booking, sets):
         H = self.history
         self.require(number == len(H.sessions) < H.rules.sessions and booking not in H.bookings, at)
-        self.require(eligible == H.draw(number), at)
-        H.sessions.append(Session(eligible))
+        self.require(sets == H.draws(number), at)
+        H.sessions.append(Session(sets))
         H.bookings.add(booking)
 
-    def set_aside(self, at, number, cause, tree):
-        session = self.session(at, number, ("pending", 0))
-        self.require(not session.aside, at)
-        self.tree(at, self.history.problem(session), None, "NoForm" if cause == NO_FORM else "Partial", tree)
-        session.aside = True
-        self.history.aside += 1
+    def set_aside(self, at, number, step, band, cause, tree):
+        H, session = self.history, self.session(at, number, ("pending", step))
+        self.require(band == H.band_now(session) and band not in session.aside, at)
+        self.tree(at, H.problem(session), None, "NoForm" if cause == NO_FORM else "Partial", tree)
+        session.aside.add(band)
+        H.aside += 1
 
     def serve(self, at, number, step, item, form, proved, tree):
         H, session = self.history, self.session(at, number, ("pending", step))
@@ -276,6 +368,7 @@ class Judge:
         self.require(check_tree.is_form(problem, form) and item == H.next_item(session, problem, form), at)
         self.tree(at, problem, form, "Optimal" if proved else "Partial", tree)
         session.shown.append(item)
+        session.bands.append(H.band(problem.theta))
         session.form = form
         H.proved += proved
         H.unproved += not proved
@@ -296,12 +389,19 @@ class Judge:
 
 # ---------------------------------------------------------------- the journal
 
-def frames(file: BinaryIO, size: int) -> Iterator[Tuple[int, int]]:
-    """The place of each record's gate with its payload's place and length, and then the place of the first closed gate."""
+def version_of(file: BinaryIO) -> int:
+    """The version that the header of a file names."""
     file.seek(0)
-    if file.read(8) != HEADER:
+    version = VERSIONS.get(file.read(len(HEADER)))
+    if version is None:
         raise Refused("journal: header")
-    at = 8
+    return version
+
+
+def frames(file: BinaryIO, size: int) -> Iterator[Tuple[int, int]]:
+    """The place of each record's gate with its payload's length, up to the first closed gate."""
+    version_of(file)
+    at = len(HEADER)
     while True:
         file.seek(at)
         head = file.read(5)
@@ -318,28 +418,56 @@ def frames(file: BinaryIO, size: int) -> Iterator[Tuple[int, int]]:
         at += 5 + length
 
 
+def payload_at(file: BinaryIO, at: int, length: int) -> bytes:
+    file.seek(at + 5)
+    return file.read(length)
+
+
+def begins(file: BinaryIO, size: int) -> Tuple[int, int]:
+    """The place from which records count, and their version. All frames are tested to the end."""
+    version, first = version_of(file), len(HEADER)
+    for at, length in frames(file, size):
+        if version == 1 and length == len(MARK) and payload_at(file, at, length) == MARK:
+            version, first = 2, at + 5 + length
+    return first, version
+
+
+def counted(file: BinaryIO, size: int) -> Iterator[Record]:
+    """The records that count. The frames are tested to the end before the first of them; a file of at most nine bytes has none."""
+    if size > len(HEADER) + 1:
+        first, version = begins(file, size)
+        for at, length in frames(file, size):
+            if at >= first:
+                yield Record(at, version, payload_at(file, at, length))
+
+
 def audit(rules: Rules, file: BinaryIO, note: Callable[[int, int, str, bool], None] = lambda at, nodes, said, spent: None) -> History:
-    """The history of a journal. The frames are tested to the end before the first record."""
+    """The history of a journal."""
     size = file.seek(0, 2)
     if size > rules.journal:
         raise Refused(f"journal: too long {size}")
     judge = Judge(rules, note)
-    if size > 9:
-        for _ in frames(file, size):
-            pass
-        for at, length in frames(file, size):
-            file.seek(at + 5)
-            judge.take(at, file.read(length))
+    for record in counted(file, size):
+        judge.take(record)
     return judge.history
 
 
-def lines(history: History) -> Iterator[str]:
+def lines(history: History, with_bands: bool = False) -> Iterator[str]:
+    """The summary and the exposure. With bands, the exposure in each band of a plan that has more than one follows."""
     H = history
     yield (f"entries {H.entries} sessions {len(H.sessions)} finished {H.finished} proved {H.proved} unproved {H.unproved} "
            f"aside {H.aside} nodes {H.nodes}")
     yield f"exposure finished {H.finished}"
-    for i, counts in enumerate(zip(H.shown, H.eligible)):
-        yield f"item {i} shown {counts[0]} eligible {counts[1]}"
+    yield from item_lines("", H.total)
+    if with_bands and len(H.bands) > 1:
+        for band, counts in enumerate(H.bands):
+            yield f"band {band} visited {counts.visited}"
+            yield from item_lines(f"band {band} ", counts)
+
+
+def item_lines(front: str, counts: Counts) -> Iterator[str]:
+    for i, (shown, eligible) in enumerate(zip(counts.shown, counts.eligible)):
+        yield f"{front}item {i} shown {shown} eligible {eligible}"
 
 
 def print_tree(at: int, nodes: int, said: str, spent: bool) -> None:
@@ -350,7 +478,7 @@ def print_tree(at: int, nodes: int, said: str, spent: bool) -> None:
 
 class Seal(NamedTuple):
     """The records of a journal at one moment: their number, the bytes of the file up to the gate that ends them, and the
-    SHA-256 of these bytes. A record that is added later changes none of them."""
+    SHA-256 of these bytes. A record that is added later changes none of them, nor does a move to version 2."""
     records: int
     bytes: int
     sha256: str
@@ -364,7 +492,9 @@ def seal_of(file: BinaryIO, most: Optional[int] = None) -> Seal:
     size, records, end = file.seek(0, 2), 0, len(HEADER)
     for at, length in itertools.islice(frames(file, size) if size > 9 else (), most):
         records, end = records + 1, at + 5 + length
-    digest, left = hashlib.sha256(HEADER), end - len(HEADER)
+    file.seek(0)
+    header = file.read(len(HEADER)) if size > 9 else HEADER
+    digest, left = hashlib.sha256(header), end - len(HEADER)
     file.seek(len(HEADER))
     while left:
         block = file.read(min(left, 1 << 20))
@@ -434,7 +564,7 @@ def require_texts(bank_path: str, plan_path: str) -> None:
 def main(words: Sequence[str]) -> int:
     if words and words[0] in ("--seal", "--against") and len(words) == (2 if words[0] == "--seal" else 3):
         return sealed_or_refused(words[-1], words[1] if words[0] == "--against" else None)
-    paths = [word for word in words if word != "--trees"]
+    paths = [word for word in words if word not in ("--trees", "--bands")]
     if len(paths) != 3 or any(path.startswith("--") for path in paths):
         print(__doc__.split("\n\n")[1], file=sys.stderr)
         return 2
@@ -447,7 +577,7 @@ def main(words: Sequence[str]) -> int:
         except Refused as refused:
             print(refused)
             return 6
-    print("\n".join(lines(history)))
+    print("\n".join(lines(history, "--bands" in words)))
     return 0
 
 

@@ -13,7 +13,9 @@ from shadowtools.checkers import audit
 from shadowtools.checkers import check_tree
 from shadowtools.command import Refused
 
-EMPTY = b"SHADOWJ1\0"
+# The version of the journals that the program writes.
+VERSION = audit.VERSIONS[audit.HEADER]
+EMPTY = audit.HEADER + b"\0"
 ENDED = ("complete", "closed")
 
 # The place of a session after a request; `fresh` where the request started it.
@@ -36,20 +38,19 @@ class Missing(Exception):
 
 
 def records_of(data):
-    """The records of a journal's bytes as (place, payload), and the bytes up to the first closed
-    gate with that gate."""
+    """The records that count of a journal's bytes, and the bytes up to the first closed gate with
+    that gate."""
     if len(data) <= 9:
         return [], EMPTY
-    file, records, end = io.BytesIO(data), [], 8
+    file, end = io.BytesIO(data), len(audit.HEADER)
     for at, length in audit.frames(file, len(data)):
-        records.append((at, data[at + 5:at + 5 + length]))
         end = at + 5 + length
-    return records, data[:end + 1]
+    return list(audit.counted(file, len(data))), data[:end + 1]
 
 
 def length_of(records):
-    """The length of a journal that has these records."""
-    return len(EMPTY) + sum(5 + len(payload) for _, payload in records)
+    """The length of a journal that ends with the last of these records."""
+    return records[-1].at + 5 + len(records[-1].payload) + 1 if records else len(EMPTY)
 
 
 class Model:
@@ -69,16 +70,18 @@ class Model:
 
     def kind(self):
         """The kind of the next record, or None."""
-        return self.records[self.taken][1][0] if self.taken < len(self.records) else None
+        if self.taken == len(self.records):
+            return None
+        return audit.kind_of(self.records[self.taken].payload, self.records[self.taken].version)
 
     def take(self):
         """Judges the next record."""
-        at, payload = self.records[self.taken]
+        record = self.records[self.taken]
         try:
-            kind, fields = audit.read_record(payload)
+            kind, fields = audit.read_record(record.payload, record.version)
             if kind == audit.SERVED and fields[4] == 0 and fields[0] < len(self.history.sessions):
                 self.no_exchange(self.history.problem(self.history.sessions[fields[0]]), fields[3])
-            self.judge.take(at, payload)
+            self.judge.take(record)
         except (Refused, ValueError) as refused:
             raise Surprise(f"record {self.taken}: {refused}") from refused
         self.taken += 1
@@ -105,13 +108,19 @@ class Model:
 
     def need(self, kind, *wanted):
         """Takes a record of this kind whose first fields are these."""
-        sizes = {audit.STARTED: 77, audit.ASIDE: 10, audit.SERVED: 78, audit.ANSWERED: 8,
-                 audit.CLOSED: 5}
         exact = kind not in (audit.ASIDE, audit.SERVED)
-        fields = self.kind() == kind and audit.read_record(self.records[self.taken][1])[1]
+        next_one = self.records[self.taken] if self.kind() == kind else None
+        fields = next_one and audit.read_record(next_one.payload, next_one.version)[1]
         if not fields or fields[:len(wanted)] != wanted:
-            raise Missing(kind, sizes[kind], exact)
+            raise Missing(kind, self.least_size(kind), exact)
         self.take()
+
+    def least_size(self, kind):
+        """How many bytes a payload of this kind has at the least, as the program writes it. The
+        least tree has two bytes."""
+        started = 77 if VERSION == 1 else 14 + 64 * (len(self.rules.bands) + 1)
+        return {audit.STARTED: started, audit.ASIDE: 10 if VERSION == 1 else 13, audit.SERVED: 78,
+                audit.ANSWERED: 8, audit.CLOSED: 5}[kind]
 
     # ------------------------------------------------------------ places
 
@@ -126,11 +135,12 @@ class Model:
         return At(number, kind, step, session.shown[step], bool(self.marks[number, step]), fresh)
 
     def advance(self, number, fresh=False):
-        """Serves an item where the session waits for one. Before its first item its eligibility may
-        be set aside once."""
+        """Serves an item where the session waits for one. Before its first item, and before an item
+        in another band than that of the one before, its eligibility may be set aside there once."""
         if self.place(number).state == "pending":
             session = self.history.sessions[number]
-            may_be_aside = not session.shown and not session.aside
+            band = self.history.band_now(session)
+            may_be_aside = session.bands[-1:] != [band] and band not in session.aside
             if self.kind() == audit.ASIDE or self.kind() is None and may_be_aside:
                 self.need(audit.ASIDE, number)
             self.need(audit.SERVED, number)

@@ -14,10 +14,10 @@ from shadowtools.command import Refused
 from shadowtools.formats.tables import runs
 
 LONGEST_PLAN, LONGEST_SCRIPT = 1048576, 16777216
-NINE = 999999999
+NINE, MOST_POINT, MOST_POINTS = 999999999, 255, 7
 # How many words a line has; the second is None where there is no most.
-WORDS = {b"length": (2, 2), b"prior": (2, None), b"rate": (3, 3), b"key": (2, 2), b"budget": (2, 2),
-         b"base-budget": (2, 2),
+WORDS = {b"length": (2, 2), b"prior": (2, None), b"rate": (3, 3), b"key": (2, 2),
+         b"bands": (2, None), b"budget": (2, 2), b"base-budget": (2, 2),
          b"sessions": (2, 2), b"journal": (2, 2), b"count": (4, None), b"quantity": (5, None),
          b"enemies": (2, None),
          b"stimuli": (3, 3), b"stimulus": (4, 4), b"base": (2, None)}
@@ -29,8 +29,8 @@ NUMBERS = {b"length": [NINE], b"rate": [NINE, NINE], b"budget": [NINE], b"base-b
            b"stimulus": [255, NINE, NINE], b"base": []}
 WITH_SET = {b"count", b"quantity", b"enemies", b"base"}
 ROWS = {b"count", b"quantity", b"enemies", b"stimuli"}
-DEFAULTS = {b"rate": [1, 1], b"key": "0" * 64, b"budget": [2001], b"base-budget": [4095],
-            b"sessions": [1000], b"journal": [67108864]}
+DEFAULTS = {b"rate": [1, 1], b"key": "0" * 64, b"bands": [], b"budget": [2001],
+            b"base-budget": [4095], b"sessions": [1000], b"journal": [67108864]}
 MOST = {b"count": 512, b"quantity": 33553920, b"stimuli": 64}
 
 # `lines` has the values of each line that occurs once, `bounds` those of stimuli by number, `rows`
@@ -75,9 +75,10 @@ def values_of(line):
         is_key = re.fullmatch(rb"[0-9a-f]{64}", rest[0])
         values = rest[0].decode("ascii") if is_key else [None]
     else:
-        values = [number(one) for one in rest[:len(NUMBERS[word])]]
+        greatest = [MOST_POINT] * len(rest) if word == b"bands" else NUMBERS[word]
+        values = [number(one) for one in rest[:len(greatest)]]
         values = [value if value is None or value <= most else None
-                  for value, most in zip(values, NUMBERS[word])]
+                  for value, most in zip(values, greatest)]
     if None in values if isinstance(values, list) else False:
         return "number"
     items = set_of(rest[len(NUMBERS[word]):]) if word in WITH_SET else frozenset()
@@ -138,14 +139,18 @@ def plan_faults(plan, named, grid, items):
         low, high = plan.bounds.get(s, (1, 512))
         if not 1 <= low <= high <= 512:
             yield f"stimulus {s}"
-    yield from limit_faults(plan.lines)
+    yield from limit_faults(plan.lines, grid)
 
 
-def limit_faults(lines):
-    """The faults of the rate, the budgets and the limits."""
+def limit_faults(lines, grid):
+    """The faults of the rate, the bands, the budgets and the limits."""
     above, below = lines[b"rate"]
     if not 1 <= above <= below <= 65535:
         yield "rate"
+    points = lines[b"bands"]
+    if (len(points) > MOST_POINTS or any(not 1 <= point < grid for point in points)
+            or any(one >= other for one, other in zip(points, points[1:]))):
+        yield "bands"
     if any(nodes % 2 == 0 or nodes > 4095 for nodes in lines[b"budget"] + lines[b"base-budget"]):
         yield "budget"
     sessions, journal = lines[b"sessions"][0], lines[b"journal"][0]
@@ -193,6 +198,8 @@ def canonical(plan: Plan, stimuli: int) -> str:
     lines = [[b"length", *plan.lines[b"length"]], [b"prior", *plan.lines[b"prior"]],
              [b"rate", *plan.lines[b"rate"]],
              [b"key", plan.lines[b"key"]]]
+    if plan.lines[b"bands"]:
+        lines.append([b"bands", *plan.lines[b"bands"]])
     lines += [[word, *plan.lines[word]]
               for word in (b"budget", b"base-budget", b"sessions", b"journal")]
     lines += [[word, *values] + [runs(members)] * (word != b"stimuli")

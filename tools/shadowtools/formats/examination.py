@@ -10,20 +10,26 @@ import math
 import re
 from collections import namedtuple
 from dataclasses import dataclass, field
-from typing import Any, Collection, Dict, FrozenSet, Iterable, List, Optional, Sequence, Tuple
+from typing import Any, Collection, Dict, FrozenSet, Iterable, Iterator, List, Optional, Sequence, Tuple
 
 from shadowtools.command import Refused
 from shadowtools.formats.tables import members, text_of
 
-Started = namedtuple("Started", "session booking eligible")
-SetAside = namedtuple("SetAside", "session cause nodes")
+# `eligible` has a set for each band. Records of version 1 have that of the first estimate's band alone (`is_first_alone`), and of
+# a setting aside neither step nor band, which are None; exposure.py has the rest.
+Started = namedtuple("Started", "session booking eligible is_first_alone")
+SetAside = namedtuple("SetAside", "session step band cause nodes")
 Served = namedtuple("Served", "session step item form proved nodes")
 Answered = namedtuple("Answered", "session step response")
 Closed = namedtuple("Closed", "session")
 
-MAGIC, LONGEST_PAYLOAD = b"SHADOWJ1", 131_072
+VERSIONS, LONGEST_PAYLOAD = {b"SHADOWJ1": 1, b"SHADOWJ2": 2}, 131_072
+# The payload behind which the records of a file that was moved from version 1 to version 2 begin.
+MOVED = b"\x08"
 RULE_WORDS = ("count", "quantity", "enemies", "stimuli", "stimulus")
-OTHER_WORDS = ("key", "budget", "base-budget", "sessions", "journal", "base")
+HEAD_WORDS = ("length", "prior", "rate", "bands")
+OTHER_WORDS = ("budget", "base-budget", "sessions", "journal", "base")
+MOST_BANDS = 8
 WHOLE = re.compile(r"-?(0|[1-9][0-9]{0,8})", re.ASCII)
 
 
@@ -184,16 +190,34 @@ class Rule:
 
 @dataclass
 class Plan:
-    """A plan. The label of a rule is the remark above it, if there is one."""
+    """A plan. The label of a rule is the remark above it, if there is one. `points` are those of the grid that begin new bands."""
     length: int = 0
     prior: List[int] = field(default_factory=list)
     rate: Tuple[int, int] = (1, 1)
+    key: bytes = bytes(32)
+    points: List[int] = field(default_factory=list)
     rules: List[Rule] = field(default_factory=list)
 
     @property
     def start(self) -> int:
         """The point where the estimate begins."""
         return self.prior.index(max(self.prior))
+
+    @property
+    def bands(self) -> int:
+        """The number of bands of abilities."""
+        return len(self.points) + 1
+
+
+def band_of(points: Sequence[int], point: int) -> int:
+    """The band of a grid point, where bands begin at `points`."""
+    return sum(begin <= point for begin in points)
+
+
+def bands_of(points: Sequence[int], grid: int) -> List[range]:
+    """The grid points of each band."""
+    ends = [0, *points, grid]
+    return [range(low, high) for low, high in zip(ends, ends[1:])]
 
 
 def rule_of(words: Sequence[str], remark: str, line: int, where: str) -> Rule:
@@ -224,8 +248,10 @@ def plan_of(text: str, path: str = "plan") -> Plan:
             continue
         if words and words[0] in RULE_WORDS:
             plan.rules.append(rule_of(words, remark, number, where))
-        elif words and words[0] in ("length", "prior", "rate"):
+        elif words and words[0] in HEAD_WORDS:
             read_head(plan, words, where)
+        elif words and words[0] == "key":
+            plan.key = key_of(words, where)
         elif words and words[0] not in OTHER_WORDS:
             raise Refused(f"{where}: {words[0][:20]!r} begins no line of a plan")
         if not words or words[0] != "stimulus":
@@ -234,16 +260,25 @@ def plan_of(text: str, path: str = "plan") -> Plan:
 
 
 def read_head(plan: Plan, words: Sequence[str], where: str) -> None:
-    """Reads the line of length, prior or rate."""
+    """Reads the line of length, prior, rate or bands."""
     values = [whole(word, where) for word in words[1:]]
     if len(values) != {"length": 1, "rate": 2}.get(words[0], len(values) or 1):
         raise Refused(f"{where}: {len(values)} numbers after {words[0]}")
     if words[0] == "prior":
         plan.prior = values
+    elif words[0] == "bands":
+        plan.points = values
     elif words[0] == "length":
         plan.length = values[0]
     else:
         plan.rate = values[0], values[1]
+
+
+def key_of(words: Sequence[str], where: str) -> bytes:
+    """The key of the draws. What it says of a faulty one does not show it."""
+    if len(words) != 2 or not re.fullmatch("[0-9a-f]{64}", words[1]):
+        raise Refused(f"{where}: a key has 64 lower-case hexadecimal digits")
+    return bytes.fromhex(words[1])
 
 
 def read_plan(path: str) -> Plan:
@@ -257,32 +292,47 @@ def require_agreement(bank: Sequence[BankItem], plan: Plan, path: str) -> None:
     """Refuses a plan that names a point, an item or a quantity that the bank does not have."""
     if len(plan.prior) != len(bank[0].information):
         raise Refused(f"{path}: the prior has {len(plan.prior)} points, the bank {len(bank[0].information)}")
+    require_points(plan.points, len(plan.prior), path)
     for rule in plan.rules:
         if max(rule.members, default=0) >= len(bank) or rule.kind == "quantity" and rule.number >= len(bank[0].quantities):
             raise Refused(f"{path}: line {rule.line}: an item or a quantity that the bank does not have")
 
 
+def require_points(points: Sequence[int], grid: int, where: str) -> None:
+    """Refuses points at which no bands can begin."""
+    if len(points) >= MOST_BANDS or not all(map(len, bands_of(points, grid))):
+        raise Refused(f"{where}: the points of bands ascend from 1 to {grid - 1}, and are at most {MOST_BANDS - 1}")
+
+
 # ---------------------------------------------------------------- journal
 
 def read_journal(path: str) -> List[tuple]:
-    """The entries of a journal's records, in order."""
+    """The entries of a journal's records, in order; of a file that was moved to version 2 those of version 2."""
     with opened(path, "rb") as file:
         data = file.read()
     if len(data) <= 9:
         return []
-    if data[:8] != MAGIC:
+    version = VERSIONS.get(data[:8])
+    if version is None:
         raise Refused(f"{path}: no journal of shadowd")
-    found, gate = [], 8
+    payloads = list(payloads_of(path, data))
+    if version == 1 and (moved := next((k for k, (_, payload) in enumerate(payloads) if payload == MOVED), None)) is not None:
+        version, payloads = 2, payloads[moved + 1:]
+    return [entry(f"{path}: byte {gate}", payload, version) for gate, payload in payloads]
+
+
+def payloads_of(path: str, data: bytes) -> Iterator[Tuple[int, bytes]]:
+    """The place of the gate and the payload of each record before the first closed gate."""
+    gate = 8
     while data[gate] == 1:
         length = int.from_bytes(data[gate + 1:gate + 5], "big")
         if not 1 <= length <= LONGEST_PAYLOAD or gate + 5 + length >= len(data):
             raise Refused(f"{path}: the record at byte {gate} is cut off")
-        found.append(entry(f"{path}: byte {gate}", data[gate + 5:gate + 5 + length]))
+        yield gate, data[gate + 5:gate + 5 + length]
         gate += 5 + length
-    return found
 
 
-def entry(where: str, payload: bytes) -> tuple:
+def entry(where: str, payload: bytes, version: int) -> tuple:
     """One entry, without its proof tree."""
     def number(first: int, size: int) -> int:
         return int.from_bytes(payload[first:first + size], "big")
@@ -290,29 +340,35 @@ def entry(where: str, payload: bytes) -> tuple:
     def items(first: int) -> FrozenSet[int]:
         return frozenset(k for k in range(512) if payload[first + k // 8] >> k % 8 & 1)
 
-    kind, session = payload[0], number(1, 4)
-    if kind == 1 and len(payload) == 77:
-        return Started(session, number(5, 8), items(13))
-    if kind == 2 and len(payload) > 8:
-        return SetAside(session, number(5, 1), number(6, 2))
-    if kind == 3 and len(payload) > 76:
+    kind, session, size = payload[0], number(1, 4), len(payload)
+    if kind == (1 if version == 1 else 6):
+        first, bands = (13, 1) if version == 1 else (14, number(13, 1))
+        if 1 <= bands <= MOST_BANDS and size == first + 64 * bands:
+            return Started(session, number(5, 8), tuple(items(first + 64 * band) for band in range(bands)), version == 1)
+    if version == 1 and kind == 2 and size > 8:
+        return SetAside(session, None, None, number(5, 1), number(6, 2))
+    if version == 2 and kind == 7 and size > 11 and payload[7] < MOST_BANDS:
+        return SetAside(session, number(5, 2), payload[7], payload[8], number(9, 2))
+    if kind == 3 and size > 76:
         return Served(session, number(5, 2), number(7, 2), items(9), payload[73] == 1, number(74, 2))
-    if kind == 4 and len(payload) == 8:
+    if kind == 4 and size == 8:
         return Answered(session, number(5, 2), number(7, 1))
-    if kind == 5 and len(payload) == 5:
+    if kind == 5 and size == 5:
         return Closed(session)
     raise Refused(f"{where}: a record is no entry")
 
 
 @dataclass
 class Session:
-    """One examinee's session, as a journal or the lines of a replay have it."""
+    """One examinee's session, as a journal or the lines of a replay have it. `eligible` has the sets of its start, `aside` the steps
+    at which eligibility was set aside; `could` has the items that it could be shown, where exposure.py counted it as finished."""
     booking: Optional[int] = None
     items: List[int] = field(default_factory=list)
     responses: List[int] = field(default_factory=list)
     served: List[Served] = field(default_factory=list)
-    eligible: Optional[FrozenSet[int]] = None
-    aside: bool = False
+    eligible: Tuple[FrozenSet[int], ...] = ()
+    aside: List[int] = field(default_factory=list)
+    could: FrozenSet[int] = frozenset()
     closed: bool = False
 
 
@@ -331,8 +387,8 @@ def follow(session: Session, one: tuple) -> bool:
     """Takes an entry into its session, where its step is the session's."""
     if session.closed:
         return False
-    if isinstance(one, SetAside):
-        session.aside = True
+    if isinstance(one, SetAside) and one.step in (None, len(session.items)) and len(session.items) == len(session.responses):
+        session.aside.append(len(session.items))
     elif isinstance(one, Served) and one.step == len(session.items) == len(session.responses):
         session.items.append(one.item)
         session.served.append(one)

@@ -2,8 +2,10 @@
 
 usage: audit_drills.py PROGRAM [DRILLS]      the built shadowd, and the number of drills; default 60
 
-For each number from 1 on, the texts of a drill of one to three sessions are made and replayed. Its journal, and three copies of it with
-one drawn bit changed, are read by both. They must print the same, and no journal may be changed. The last line is 'N passed, M failed'.
+For each number from 1 on, the texts of a drill of one to three sessions are made and replayed. Every second plan also gets one to seven
+drawn points at which bands of abilities begin, and its sessions follow one another, so that the draws of one rest on those before. The
+journal of each, and three copies of it with one drawn bit changed, are read by both. They must print the same, and no journal may be
+changed. The last line is 'N passed, M failed'.
 """
 import os
 import random
@@ -11,7 +13,9 @@ import subprocess
 import sys
 import tempfile
 
+from shadowtools.checkers import drill_texts
 from shadowtools.command import as_command
+from shadowtools.gate import torture_draws
 from shadowtools.places import TOOLS
 
 COPIES = 3
@@ -36,17 +40,35 @@ def read_both(program, folder, data):
     return None
 
 
+def add_bands(drawn, folder):
+    """Gives the plan of a drill bands, and takes its sessions one after another."""
+    with open(os.path.join(folder, "plan.txt"), "a", encoding="ascii") as file:
+        file.write(f"bands {torture_draws.band_points(drawn, len(drill_texts.POINTS))}\n")
+    path = os.path.join(folder, "script.txt")
+    with open(path, encoding="ascii") as file:
+        lines = file.readlines()
+    with open(path, "w", encoding="ascii") as file:
+        file.writelines(sorted(lines, key=session_of))
+
+
+def session_of(line):
+    """The session of a line of a drill's script: session s is begun for booking s + 1."""
+    word, number, *_ = line.split()
+    return int(number) - (word == "begin")
+
+
 def journals_of(program, number, folder):
     """The journal of a drill, and its changed copies."""
-    sessions = 1 + number % 3
-    subprocess.run([sys.executable, os.path.join(TOOLS, "drill_texts.py"), str(number), str(sessions), folder], check=True)
+    drawn = random.Random(number)
+    drill_texts.main([str(number), str(1 + number % 3), folder])
+    if number % 2 == 0:
+        add_bands(drawn, folder)
     environment = dict(os.environ, SHADOWD_JOURNAL="journal")
     subprocess.run([program, "replay", "bank.csv", "plan.txt", "script.txt"], cwd=folder, env=environment,
                    stdout=subprocess.DEVNULL, check=True)
     with open(os.path.join(folder, "journal"), "rb") as file:
         data = file.read()
     yield data
-    drawn = random.Random(number)
     for _ in range(COPIES):
         changed = bytearray(data)
         changed[drawn.randrange(len(changed))] ^= 1 << drawn.randrange(8)

@@ -79,7 +79,7 @@ def journals(case):
     whole = case.read("journal")
     if whole is None:
         return
-    gates = [at for at, _ in reply_model.records_of(whole)[0]]
+    gates = [record.at for record in reply_model.records_of(whole)[0]]
     for _ in range(draw.randrange(1, 5)):
         case.write("journal", draws.damaged_journal(draw, whole, gates))
         exam.audit()

@@ -132,7 +132,8 @@ class Exam:
                       for _, count, _, _, logs in self.items]
         return audit.Rules(self.problem.bank, self.problem.plan, [item[1] for item in self.items],
                            likelihood, tuple(lines[b"rate"]), bytes.fromhex(lines[b"key"]),
-                           lines[b"budget"][0], lines[b"sessions"][0], lines[b"journal"][0])
+                           lines[b"budget"][0], lines[b"sessions"][0], lines[b"journal"][0],
+                           tuple(lines[b"bands"]))
 
     def expect(self, done, status, lines):
         """Demands that a run gave this status and these lines."""

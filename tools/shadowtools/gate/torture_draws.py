@@ -131,7 +131,10 @@ def plan_lines(draw, problem, best):
     lines += [f"stimulus {s} {low} {high}" for s, (low, high) in enumerate(plan.bounds, 1)]
     if draw.random() < 0.6:
         above = draw.randrange(1, 4)
-        lines += [f"rate {above} {above + draw.randrange(3)}", f"key {draw.randbytes(32).hex()}"]
+        lines += [f"rate {above} {draw.choice([above + draw.randrange(3), 65535])}",
+                  f"key {draw.randbytes(32).hex()}"]
+    if draw.random() < 0.5 and len(plan.prior) > 1:
+        lines.append("bands " + band_points(draw, len(plan.prior)))
     if draw.random() < 0.4:
         lines.append(f"budget {draw.choice([1, 1, 3, 5, 9, 501])}")
     if best is not None and draw.random() < 0.3:
@@ -142,6 +145,12 @@ def plan_lines(draw, problem, best):
         lines.append(f"journal {draw.randrange(64, 3000)}")
     draw.shuffle(lines)
     return "".join(draw.choice(["", "", "", "\n", "# a remark\n"]) + line + "\n" for line in lines)
+
+
+def band_points(draw, grid):
+    """The points that begin new bands on a grid of two points at the least: one to seven."""
+    points = draw.sample(range(1, grid), draw.randrange(1, min(7, grid - 1) + 1))
+    return " ".join(map(str, sorted(points)))
 
 
 def small_exam(draw):
@@ -162,8 +171,10 @@ def drill_exam(draw, sessions):
     """Bank and plan of a drill."""
     number = draw.randrange(2**32)
     items = drill_texts.draw_items(drill_texts.draws(number))
-    texts = drill_texts.bank_text(items), drill_texts.plan_text(number, sessions, items)
-    return tuple(text.encode("ascii") for text in texts)
+    bank, plan = drill_texts.bank_text(items), drill_texts.plan_text(number, sessions, items)
+    if draw.random() < 0.5:
+        plan += f"bands {band_points(draw, len(drill_texts.POINTS))}\n"
+    return bank.encode("ascii"), plan.encode("ascii")
 
 
 def any_exam(draw, drills=0.05):

@@ -9,7 +9,7 @@ from shadowtools.agency.simulation import grid_sums
 from shadowtools.formats.examination import Session
 from shadowtools.page.measures import common_items, standard_error
 from shadowtools.page.parts import Picture
-from shadowtools.page.study import Study, plain, table_by_band
+from shadowtools.page.study import Study, estimates_of, plain, table_by_band
 
 matplotlib.use("Agg")
 import matplotlib.pyplot as plt  # noqa: E402
@@ -160,6 +160,19 @@ def rate_line(study: Study, axes) -> None:
         axes.axhline(study.rate, color=RED, ls="--", lw=1.2, label=f"rate of the plan, {study.rate:.0%}")
         axes.set_ylim(0, 1.2)
         axes.legend(loc="upper right", borderaxespad=0)
+
+
+def exposure_by_estimate(study: Study) -> Picture:
+    """The rates of each band that is watched, sorted, as a line."""
+    figure, axes = plt.subplots(figsize=(WHOLE, 3.8), layout="constrained")
+    colours = plt.get_cmap("viridis")(np.linspace(0, 0.85, len(study.counts.watched)))
+    for band, (counts, name, colour) in enumerate(zip(study.counts.watched, estimates_of(study), colours)):
+        axes.plot(sorted(counts.rates(), reverse=True), "-", color=colour, label=f"band {band}, {name}")
+    rate_line(study, axes)
+    axes.set(xlabel="items, from the most shown in the band", ylabel="share of the visits")
+    axes.legend(loc="upper right", borderaxespad=0)
+    return picture(figure, "Rates in each band of the estimate, sorted",
+                   f"The sorted rates of the items in each of {len(colours)} bands of the estimate, beside the rate of the plan.", wide=True)
 
 
 def exposure_by_information(study: Study) -> Picture:

@@ -7,7 +7,7 @@ import numpy as np
 
 from shadowtools.agency.irt import FIELD
 from shadowtools.formats.examination import Rule
-from shadowtools.page import pictures
+from shadowtools.page import conditional, pictures
 from shadowtools.page.measures import accuracy, consistency, level_chances, levels, marginal_reliability, standard_error
 from shadowtools.page.parts import Facts, Note, Pictures, Section, Table, Text
 from shadowtools.page.study import Study, interval_names, plain, table_by_band, table_by_item
@@ -19,7 +19,8 @@ MOST_NAMED = 12
 
 def sections(study: Study) -> List[Section]:
     """All sections, in the order of a committee's questions."""
-    return [identity(study), rules(study), precision(study), recovery(study), classification(study), exposure(study),
+    bands = [conditional.section(study)] if study.counts.points else []
+    return [identity(study), rules(study), precision(study), recovery(study), classification(study), exposure(study), *bands,
             eligibility(study), examinees(study), forms(study), certificates(study), items(study), plan(study)]
 
 
@@ -256,7 +257,7 @@ def eligibility(study: Study) -> Section:
     if not study.controlled:
         return Section("eligibility", "Eligibility", [Note("The plan has no exposure rate: every item is eligible in every session.")])
     eligible = study.eligible[study.sample]
-    aside = sum(session.aside for session in study.sessions[:len(study.sample)])
+    aside = sum(bool(session.aside) for session in study.sessions[:len(study.sample)])
     return Section("eligibility", "Eligibility", [
         Pictures([pictures.eligibility(study), pictures.exposure_so_far(study)]),
         Facts([("Sessions whose eligibility was set aside", f"{aside} of {len(study.sample):,}"),

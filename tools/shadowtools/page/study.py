@@ -7,9 +7,10 @@ import numpy as np
 import pandas as pd
 
 from shadowtools.agency.irt import FIELD
-from shadowtools.agency.simulation import Broken, Examination, Estimates, broken_rules, estimates
+from shadowtools.agency.simulation import Broken, Examination, Estimates, band_names, broken_rules, estimates
 from shadowtools.command import Refused
 from shadowtools.formats.examination import Rule, Session
+from shadowtools.formats.exposure import Exposure
 from shadowtools.formats.tables import number, read_table
 from shadowtools.page.measures import levels, local_weights, mean_overlap, standard_error
 
@@ -110,12 +111,13 @@ def plain(value: float) -> str:
 class Study:
     """The whole sessions of a simulation: first those of the sample, then those of the tails.
 
+    `counts` has the exposure of the sample by its journal, in all and in each band of the estimate that is watched.
     `people` has a row for each session: booking, true ability, estimates, information at the true ability and its standard
     error. `shown` and `eligible` are arrays [session, item]. `sample` has the rows that count in the totals."""
 
     def __init__(self, examination: Examination, run: dict, sample: List[Session], tails: List[Session],
-                 rules: List[Rule], questions: Questions) -> None:
-        self.examination, self.run, self.rules, self.questions = examination, run, rules, questions
+                 rules: List[Rule], questions: Questions, counts: Exposure) -> None:
+        self.examination, self.run, self.rules, self.questions, self.counts = examination, run, rules, questions, counts
         self.sessions = sample + tails
         self.items, self.length = examination.items, examination.plan.length
         self.names = np.array([item.name for item in examination.items])
@@ -130,11 +132,10 @@ class Study:
 
     def tables_of_items(self):
         shown = np.zeros((len(self.sessions), len(self.items)), bool)
-        eligible = np.ones_like(shown)
+        eligible = np.zeros_like(shown)
         for k, session in enumerate(self.sessions):
             shown[k, session.items] = True
-            if not session.aside:
-                eligible[k] = [item in session.eligible for item in range(len(self.items))]
+            eligible[k, sorted(session.could)] = True
         return shown, eligible
 
     def table_of_people(self, found: Estimates) -> pd.DataFrame:
@@ -182,10 +183,16 @@ class Study:
         return np.sort(bank, 0)[::-1][:self.length].sum(0)
 
 
+def estimates_of(study: Study) -> List[str]:
+    """The estimates of each band that is watched, with minus signs."""
+    return [name.replace("-", "\N{MINUS SIGN}") for name in band_names(study.examination.theta, study.counts.points)]
+
+
 def table_by_item(study: Study) -> pd.DataFrame:
     """A row for each item of the bank: how often it was shown to the sample, the rate, and what it informs at most.
 
-    `mean_step` counts from 0, and is empty where the item was never shown. A column for each band has the exposure there."""
+    `mean_step` counts from 0, and is empty where the item was never shown. A column for each band of the page has the exposure
+    there, and where bands of the estimate are watched one for each of those the rate in it."""
     examination, sample = study.examination, study.sample
     theta = examination.theta
     information = np.stack([item.information(theta, examination.scaling) for item in study.items])
@@ -204,6 +211,8 @@ def table_by_item(study: Study) -> pd.DataFrame:
         "mean_step": [float(np.mean(one)) if one else np.nan for one in steps]})
     for band in study.bands:
         table["exposure " + band.label.replace("\N{MINUS SIGN}", "-")] = study.exposure(band.members)
+    for band, counts in enumerate(study.counts.watched if study.counts.points else []):
+        table[f"rate in band {band}"] = counts.rates()
     return table
 
 

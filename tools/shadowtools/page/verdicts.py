@@ -73,6 +73,18 @@ def exposure(study: Study) -> Iterator[Verdict]:
     above = int((rates > study.rate).sum())
     yield Verdict(NOT_MET if above else MET, f"{above} {'item is' if above == 1 else 'items are'} above the rate of {study.rate:.1%}; "
                                              f"the greatest exposure is {rates.max():.1%} (item {most}). Of {len(rates)} items {unseen}.")
+    if study.counts.points:
+        yield exposure_by_estimate(study)
+
+
+def exposure_by_estimate(study: Study) -> Verdict:
+    """Whether the rate is met in each band of the estimate that is watched."""
+    rates = np.array([counts.rates() for counts in study.counts.watched])
+    above = int((rates > study.rate).any(0).sum())
+    band, item = np.unravel_index(rates.argmax(), rates.shape)
+    return Verdict(NOT_MET if above else MET, f"{above} {'item is' if above == 1 else 'items are'} above the rate in some band of the "
+                                              f"estimate; the greatest rate is {rates.max():.1%} of the visits (item "
+                                              f"{study.names[item]} in band {band}).")
 
 
 def counted(number: int) -> str:
