@@ -2,7 +2,7 @@
 //! counts that follow from it. Upward it promises by its type that each entry is legal after those
 //! before it, that what it reports is what the entries give, and that `judge` lets a record follow
 //! exactly where it may, its proof tree included, and otherwise names the first reason. `lift` makes
-//! of a record of the first version of the journal the one that it stands for. The book writes no
+//! of a record of the first version of the journal the one of today. The book writes no
 //! journal and assembles no form. Only `new` and `reserve` take memory.
 #![tactic(auto)]
 

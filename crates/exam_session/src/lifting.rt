@@ -75,7 +75,7 @@ impl<'a> Book<'a> {
         }
     }
 
-    /// The record of today that a record of the first version stands for, after the entries of the book: a start gets its
+    /// A record of the first version as one of today, after the entries of the book: a start gets its
     /// draw in the bands that the record has no set of, and a setting aside the step and the band of its session, if the
     /// session waits for an item. Every other record stays as it is. Takes no memory.
     pub fn lift(&self, old: Record) -> Record

@@ -101,30 +101,32 @@ fn bands_of(count: u8, items: [u8; 2]) -> Bands {
     }
 }
 
+/// A start of this session, for this booking.
+fn start(session: u32, booking: u64, eligible: Bands, without: Option<Without>) -> Entry {
+    Entry::Started {
+        session,
+        booking,
+        eligible,
+        without,
+    }
+}
+
 /// Its entry.
 pub(crate) fn entry_of(line: &Line) -> Entry {
     match *line {
-        Line::Started(session, booking, eligible) => Entry::Started {
-            session,
-            booking,
-            eligible: bands_of(1, [eligible, 0]),
-            without: None,
-        },
-        Line::StartedInTwo(session, booking, eligible) => Entry::Started {
-            session,
-            booking,
-            eligible: bands_of(2, eligible),
-            without: None,
-        },
-        Line::StartedWithout(session, booking, eligible, items) => Entry::Started {
-            session,
-            booking,
-            eligible: bands_of(1, [eligible, 0]),
-            without: Some(Without {
+        Line::Started(session, booking, eligible) => {
+            start(session, booking, bands_of(1, [eligible, 0]), None)
+        }
+        Line::StartedInTwo(session, booking, eligible) => {
+            start(session, booking, bands_of(2, eligible), None)
+        }
+        Line::StartedWithout(session, booking, eligible, items) => {
+            let list = Without {
                 items: items_of(items),
                 form: items_of(0x0e),
-            }),
-        },
+            };
+            start(session, booking, bands_of(1, [eligible, 0]), Some(list))
+        }
         Line::SetAside(session, (step, band), shape) => Entry::SetAside {
             session,
             step,
