@@ -4,12 +4,15 @@
 usage: many.py PROGRAM FOLDER [close]      a folder in memory, such as /dev/shm, so that no disk is measured
 
 The bank has six items and three points of ability, a test three items; each session has seven entries (started, and three times served
-and answered). With `close` each is closed after its first answer, and has five. Bookings are numbers in no order. For each number of sessions one script is done over a new journal (`replay`). Then the
-journal is opened with an empty script, and audited (`audit`), three times each; the least time counts. Memory is the greatest resident
-size of the process. It asserts nothing about time; it stops where a run does not end with 0, or an audit has other counts.
+and answered). With `close` each is closed after its first answer, and has five. Bookings are numbers in no order. For each number of
+sessions one script is done over a new journal (`replay`). Then the journal is opened with an empty script, and audited (`audit`), three
+times each; the least time counts. Memory is the greatest resident size of the process. The system counts that of Python before the program
+is started in it, and Python's own is printed at the end. It asserts nothing about time; it stops where a run does not end with 0, or an
+audit has other counts.
 """
 import os
 import random
+import resource
 import subprocess
 import sys
 import tempfile
@@ -21,15 +24,12 @@ SIZES = (100, 1_000, 10_000, 65_536)
 
 
 def script_of(sessions, drawn, closes):
-    """The requests of whole sessions, or of closed ones, with bookings in no order."""
-    bookings = drawn.sample(range(1 << 31), sessions)
-    lines = []
-    for session, booking in enumerate(bookings):
-        lines.append(f"begin {booking}")
-        lines += [f"answer {session} {step} {drawn.randrange(2)}" for step in range(1 if closes else 3)]
+    """The requests of whole sessions, or of closed ones, with bookings in no order, line by line: what this script keeps counts."""
+    for session, booking in enumerate(drawn.sample(range(1 << 31), sessions)):
+        yield f"begin {booking}\n"
+        yield from (f"answer {session} {step} {drawn.randrange(2)}\n" for step in range(1 if closes else 3))
         if closes:
-            lines.append(f"close {session}")
-    return "\n".join(lines) + "\n"
+            yield f"close {session}\n"
 
 
 def run(program, words, folder):
@@ -54,7 +54,7 @@ def measure(program, sessions, folder, bank, closes):
     drawn = random.Random(sessions)
     for name, text in (("bank.csv", bank), ("plan.txt", PLAN), ("script.txt", script_of(sessions, drawn, closes)), ("none.txt", "")):
         with open(os.path.join(folder, name), "w", encoding="utf-8") as file:
-            file.write(text)
+            file.writelines(text)
     entries = (5 if closes else 7) * sessions
     files = ["bank.csv", "plan.txt"]
     took, size, _ = run(program, ["replay", *files, "script.txt"], folder)
@@ -79,7 +79,8 @@ def main(words):
     for sessions in SIZES:
         with tempfile.TemporaryDirectory(dir=words[1]) as folder:
             measure(program, sessions, folder, bank, bool(words[2:]))
-    print(f"load {os.getloadavg()[0]:.1f} after")
+    own = resource.getrusage(resource.RUSAGE_SELF).ru_maxrss / 1000
+    print(f"load {os.getloadavg()[0]:.1f} after; Python's own memory was at most {own:.1f} MB")
 
 
 if __name__ == "__main__":
