@@ -53,8 +53,26 @@ def item_set(items):
     return sum(1 << item for item in items).to_bytes(64, "little")
 
 
-def started(session, booking, eligible=range(6)):
+def started(session, booking, sets=(range(6),)):
+    """A start, with the eligible items of each band."""
+    head = b"\6" + session.to_bytes(4, "big") + booking.to_bytes(8, "big")
+    return head + bytes([len(sets)]) + b"".join(map(item_set, sets))
+
+
+def set_aside(session, step, band, cause, nodes, tree):
+    """Eligibility set aside."""
+    head = b"\7" + session.to_bytes(4, "big") + step.to_bytes(2, "big")
+    return head + bytes([band, cause]) + nodes.to_bytes(2, "big") + tree
+
+
+def old_started(session, booking, eligible=range(6)):
+    """A start as version 1 has it, with the eligible items of the first estimate's band."""
     return b"\1" + session.to_bytes(4, "big") + booking.to_bytes(8, "big") + item_set(eligible)
+
+
+def old_set_aside(session, cause, nodes, tree):
+    """The same of eligibility set aside."""
+    return b"\2" + session.to_bytes(4, "big") + bytes([cause]) + nodes.to_bytes(2, "big") + tree
 
 
 def served(session, step, item, form, proved=True, tree=bytes.fromhex("000600")):
@@ -80,4 +98,4 @@ def history():
 
 def journal(payloads):
     """A journal of these payloads."""
-    return b"SHADOWJ1" + b"".join(b"\1" + len(p).to_bytes(4, "big") + p for p in payloads) + b"\0"
+    return b"SHADOWJ2" + b"".join(b"\1" + len(p).to_bytes(4, "big") + p for p in payloads) + b"\0"

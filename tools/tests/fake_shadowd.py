@@ -36,7 +36,7 @@ class Office:
         self.lock, self.ended = threading.Lock(), 0
 
     def add(self, payload):
-        data = open(PATH, "rb").read() if os.path.exists(PATH) else b"SHADOWJ1\0"
+        data = open(PATH, "rb").read() if os.path.exists(PATH) else b"SHADOWJ2\0"
         with open(PATH, "wb") as file:
             file.write(data[:-1] + b"\1" + len(payload).to_bytes(4, "big") + payload + b"\0")
 
@@ -53,7 +53,7 @@ class Office:
         problem = self.problem._replace(theta=seat.sums.index(max(seat.sums)), given=given, barred=all_items - may - given)
         form = check_tree.best_of_all(problem)
         if form is None:
-            self.add(b"\2" + number.to_bytes(4, "big") + bytes.fromhex("00 0001 0006"))
+            self.add(bytes_of.set_aside(number, step, counts.band_now(seat), 0, 1, bytes.fromhex("0006")))
             form = check_tree.best_of_all(problem._replace(barred=frozenset()))
         item = max(sorted(form - given), key=lambda i: self.bank[i].information[problem.theta])
         self.add(bytes_of.served(number, step, item, form))
@@ -69,7 +69,7 @@ class Office:
                 return number
         number = len(self.sessions)
         counts = self.counts()
-        self.add(bytes_of.started(number, booking, counts.draw(number, counts.first)))
+        self.add(bytes_of.started(number, booking, [counts.draw(number, band) for band in range(self.plan.bands)]))
         self.sessions = sessions_of(read_journal(PATH))
         self.serve(number)
         return number

@@ -26,23 +26,6 @@ def rules_of(bank: str, plan: str) -> audit.Rules:
                        tuple(lines[b"bands"]))
 
 
-def started(session: int, booking: int, sets: Sequence[FrozenSet[int]]) -> bytes:
-    """A start as version 2 has it."""
-    return (b"\6" + session.to_bytes(4, "big") + booking.to_bytes(8, "big") + bytes([len(sets)])
-            + b"".join(map(a.item_set, sets)))
-
-
-def set_aside(session: int, step: int, band: int, cause: int, nodes: int, tree: bytes) -> bytes:
-    """Eligibility set aside, as version 2 has it."""
-    return (b"\7" + session.to_bytes(4, "big") + step.to_bytes(2, "big") + bytes([band, cause])
-            + nodes.to_bytes(2, "big") + tree)
-
-
-def old_set_aside(session: int, cause: int, nodes: int, tree: bytes) -> bytes:
-    """The same in version 1."""
-    return b"\2" + session.to_bytes(4, "big") + bytes([cause]) + nodes.to_bytes(2, "big") + tree
-
-
 def file_of(header: bytes, payloads: Sequence[bytes]) -> bytes:
     return header + b"".join(b"\1" + len(one).to_bytes(4, "big") + one for one in payloads) + b"\0"
 
@@ -83,7 +66,7 @@ class Maker:
         form = check_tree.best_of_all(problem)
         if form is None:
             nodes, tree = self.tree(problem, None)
-            self.add(set_aside(number, step, band, 0, nodes, tree), old_set_aside(number, 0, nodes, tree))
+            self.add(a.set_aside(number, step, band, 0, nodes, tree), a.old_set_aside(number, 0, nodes, tree))
             problem = H.problem(session)
             form = check_tree.best_of_all(problem)
         nodes, tree = self.tree(problem, form)
@@ -93,7 +76,7 @@ class Maker:
     def begin(self, booking: int) -> None:
         number = len(self.history.sessions)
         sets = self.history.draws(number)
-        self.add(started(number, booking, sets), a.started(number, booking, sets[self.history.first_band]))
+        self.add(a.started(number, booking, sets), a.old_started(number, booking, sets[self.history.first_band]))
         self.serve(number)
 
     def answer(self, number: int, step: int, response: int) -> None:

@@ -19,8 +19,8 @@ EXAMPLES = [(d.BANK_ONE, d.PLAN_ONE, d.SCRIPT_ONE, d.ITEMS_ONE, d.SUMMARY_ONE, d
             (d.BANK_TWO, d.PLAN_TWO, d.SCRIPT_TWO, d.ITEMS_TWO, d.SUMMARY_TWO, d.LINES_TWO)]
 # The first records of bank A's example: a start with items 0 to 5, and item 2 from the form of items 1 to 3.
 PLAN_A = "length 3\nprior -10 0 -10\ncount 1 1 0-1\nenemies 2 5\n"
-START, SERVED = a.started(0, 70), a.served(0, 0, 2, {1, 2, 3}, tree=bytes.fromhex("0100010003000000010300"))
-NEW_START = made.started(0, 70, [range(6)])
+START, SERVED = a.old_started(0, 70), a.served(0, 0, 2, {1, 2, 3}, tree=bytes.fromhex("0100010003000000010300"))
+NEW_START = a.started(0, 70)
 OLD_FILE = made.file_of(made.ONE, [START, SERVED])
 
 
@@ -103,10 +103,10 @@ class Versions(unittest.TestCase):
         self.assertEqual(said(self.rules, data[:-1]), ["journal: cut at 96"])
 
     def test_records_of_the_other_version(self):
-        aside = made.set_aside(0, 0, 0, 0, 1, bytes.fromhex("0006"))
+        aside = a.set_aside(0, 0, 0, 0, 1, bytes.fromhex("0006"))
         for header, payloads, wanted in (
                 (made.ONE, [NEW_START], "record at 8"), (made.TWO, [START], "record at 8"),
-                (made.ONE, [START, aside], "record at 90"), (made.TWO, [NEW_START, made.old_set_aside(0, 0, 1, b"\0\6")], "record at 91"),
+                (made.ONE, [START, aside], "record at 90"), (made.TWO, [NEW_START, a.old_set_aside(0, 0, 1, b"\0\6")], "record at 91"),
                 (made.TWO, [NEW_START, b"\x08"], "record at 91"), (made.ONE, [b"\x08", b"\x08"], "record at 14"),
                 (made.ONE, [START, b"\x08", START], "record at 96"), (made.TWO, [b"\6"], "record at 8")):
             with self.subTest(header, payloads=payloads):
@@ -123,7 +123,7 @@ class Versions(unittest.TestCase):
         both = frozenset(range(3))
         for sets, wanted in (([], "record"), ([both] * 9, "record"), ([both], "illegal"), ([both] * 3, "illegal"),
                              ([both, frozenset({0, 1})], "illegal"), ([frozenset({0, 1}), both], "illegal")):
-            self.assertEqual(said(rules, made.file_of(made.TWO, [made.started(0, 70, sets)])), [f"journal: {wanted} at 8"])
+            self.assertEqual(said(rules, made.file_of(made.TWO, [a.started(0, 70, sets)])), [f"journal: {wanted} at 8"])
         where = [k for k, payload in enumerate(maker.new) if payload[0] == 7]
         self.assertEqual([maker.new[k][1:8].hex() for k in where], ["00000002000000", "00000002000101"])
         for k in where:
@@ -259,7 +259,7 @@ class Plans(Folder):
 @needs_program
 class Program(Folder):
     def test_the_two_histories(self):
-        """The replies of the program, its exposure, and what tools/audit.py reads of its journal."""
+        """The replies of the program, its exposure, and what tools/audit.py and the program itself read of its journal."""
         for bank, plan, script, items, summary, lines in EXAMPLES:
             for name, text in (("bank", bank), ("plan", plan), ("script", script + "exposure\n")):
                 self.write(name, text)
@@ -272,6 +272,9 @@ class Program(Folder):
             self.assertEqual((done.returncode, found, said[-len(totals):]), (0, items, totals))
             status, said, _ = self.tool("audit", "bank", "plan", "journal", "--bands")
             self.assertEqual((status, said.splitlines()[0].split(" nodes ")[0], said.splitlines()[1:]), (0, summary, lines))
+            done = subprocess.run([PROGRAM, "audit", "bank", "plan"], cwd=self.folder, capture_output=True, text=True,
+                                  env=dict(os.environ, SHADOWD_JOURNAL="journal"))
+            self.assertEqual((done.returncode, done.stdout), (status, said))
             os.unlink(self.path("journal"))
 
 

@@ -261,10 +261,10 @@ class Scores(Folder):
         """A journal whose second item another one should have been, and the journal of a plan with another length."""
         history = a.history()
         self.journal(history[:3] + [a.served(0, 1, 3, {1, 2, 3}, tree=bytes.fromhex("0100010003000000410300"))])
-        self.refuses("journal: bad tree at 195", "--open")
+        self.refuses("journal: bad tree at 196", "--open")
         self.journal(history)
         self.texts(bank=a.BANK.encode(), plan=a.PLAN.replace("length 3", "length 2").encode())
-        self.refuses("journal: illegal at 90", "--open")
+        self.refuses("journal: illegal at 91", "--open")
 
     def test_what_is_not_audited_says_so(self):
         forged = a.history()[:-1] + [a.answered(0, 2, 0), a.closed(1)]

@@ -126,7 +126,7 @@ class Others(Cases):
         for case in range(CASES):
             rng = random.Random(SEED * 300_000 + case)
             texts = {"bank": a.BANK.encode(), "plan": a.PLAN.encode(), "map": json.dumps(a.scale_map()).encode(), "j": journal,
-                     "seal": b"seal records 0 bytes 8 sha256 " + hashlib.sha256(b"SHADOWJ1").hexdigest().encode()}
+                     "seal": b"seal records 0 bytes 8 sha256 " + hashlib.sha256(b"SHADOWJ2").hexdigest().encode()}
             damaged = rng.choice(tuple(texts))
             texts[damaged] = self.changed(rng, texts[damaged])
             for name, data in texts.items():

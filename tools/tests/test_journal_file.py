@@ -3,18 +3,28 @@ import http.client
 import json
 import os
 import re
+import resource
 import signal
 import stat
 import subprocess
 import threading
 import unittest
 
+import data_of_bands as bands
+import journal_maker
 from common import PROGRAM, Folder, needs_program
 from data_of_bank_a import BANK, PLAN, SCRIPT
+from shadowtools.checkers import journal_move
 
 LIMIT = 60  # seconds for each wait
 LINE = "shadowd: journal {}: {}\n"
 BEGIN, *ANSWERS = SCRIPT.splitlines()[:4]
+
+
+def limit_files(size):
+    """A file may get so many bytes; a call that would write more fails."""
+    resource.setrlimit(resource.RLIMIT_FSIZE, (size, size))
+    signal.signal(signal.SIGXFSZ, signal.SIG_IGN)
 
 
 def behind(*payloads, last=b"\0"):
@@ -131,6 +141,89 @@ class PutAside(WithJournal):
         self.assertEqual((status, said), (9, "disk failed\n"))
         self.assertRegex(errors, r"File name too long \(os error 36\)\n\Z")
         self.assertEqual((self.bytes_of(name), self.copies()), (data, []))
+
+
+@needs_program
+class Moved(WithJournal):
+    """A journal of version 1 in which eligibility is set aside at a later step, and what `migrate` makes of it."""
+
+    def setUp(self):
+        super().setUp()
+        self.files = [self.write("bank.csv", bands.BANK_TWO), self.write("plan.txt", bands.PLAN_TWO)]
+        self.maker = journal_maker.Maker(bands.BANK_TWO, bands.PLAN_TWO).run(bands.SCRIPT_TWO)
+        self.old, self.new, self.moved = self.maker.files()
+        self.said = f"migrated 17 records length {len(self.moved)}\n"
+
+    def audited(self, data):
+        self.put(data)
+        status, said, errors = self.run_program("audit")
+        self.assertEqual((status, errors, self.bytes_of(self.journal)), (0, "", data))
+        return said.splitlines()
+
+    def test_an_audit_reads_each_file(self):
+        for data in (self.old, self.new, self.moved):
+            found = self.audited(data)
+            self.assertEqual((found[0].rsplit(" nodes ")[0], found[1:]), (bands.SUMMARY_TWO, bands.LINES_TWO))
+
+    def test_an_old_journal_is_moved(self):
+        for tail in (b"\0", b"\2", b"\0junk", b"\0" + self.moved[len(self.old):-1]):
+            with self.subTest(tail=tail[:9]):
+                self.put(self.old[:-1] + tail)
+                self.assertEqual(self.run_program("migrate"), (0, self.said, ""))
+                self.assertEqual((self.bytes_of(self.journal), self.copies()), (self.moved, []))
+                self.assertEqual(self.run_program("migrate"), (0, self.said.replace(" 17 ", " 0 "), ""))
+                self.assertEqual(self.bytes_of(self.journal), self.moved)
+
+    def test_whole_records_behind_the_gate_are_kept(self):
+        data = behind(b"\4one", b"\4two")
+        self.put(self.old + data)
+        status, said, errors = self.run_program("migrate")
+        self.assertEqual((status, said, self.bytes_of(self.journal)), (0, self.said, self.moved))
+        self.assertIn(f"2 whole records, {len(data)} bytes, are behind the closed gate at {len(self.old) - 1}", errors)
+        self.assertEqual([self.bytes_of(self.path(name)) for name in self.copies()], [data])
+
+    def test_an_old_journal_is_not_opened(self):
+        for data in (self.old, self.old + b"junk", b"SHADOWJ1\0x"):
+            self.put(data)
+            status, said, errors = self.replay("begin 9")
+            self.assertEqual((status, said, self.bytes_of(self.journal)), (6, "journal: version\n", data))
+            self.assertRegex(errors, r"\A.*migrate.*\n\Z")
+
+    def test_a_moved_journal_goes_on(self):
+        for data in (self.moved, self.moved + b"junk"):
+            self.put(data)
+            self.assertEqual(self.replay("begin 73", "begin 70"), (0, "session 3 step 0 item 0 proved\nsession 0 complete\n", ""))
+            left = self.bytes_of(self.journal)
+            self.assertTrue(left.startswith(self.moved[:-1] + b"\1"))
+            self.assertEqual(self.run_program("migrate"), (0, f"migrated 0 records length {len(left)}\n", ""))
+            self.assertEqual(self.bytes_of(self.journal), left)
+
+    def test_a_new_journal_is_of_version_2(self):
+        for data in (b"", b"SHADOWJ1\0", b"any bytes"):
+            self.put(data)
+            self.assertEqual(self.run_program("migrate"), (0, f"migrated 0 records length {len(data)}\n", ""))
+            self.assertEqual((self.bytes_of(self.journal), self.replay(), self.bytes_of(self.journal)), (data, (0, "", ""), b"SHADOWJ2\0"))
+
+    def test_there_is_no_room(self):
+        for limit, wanted in ((len(self.moved), (0, self.said, "")),
+                              (len(self.moved) - 1, (13, f"limit journal {len(self.moved)} of {len(self.moved) - 1}\n", "")),
+                              (len(self.old) - 1, (6, f"journal: too long {len(self.old)}\n", ""))):
+            self.write("plan.txt", f"{bands.PLAN_TWO}journal {limit}\n")
+            self.put(self.old)
+            self.assertEqual(self.run_program("migrate"), wanted)
+            self.assertEqual(self.bytes_of(self.journal), self.moved if wanted[0] == 0 else self.old)
+
+    def test_each_write_that_cannot_grow_the_file(self):
+        """The file may get so many bytes and no more: what is left represents the history, and a second run moves it."""
+        for size in range(len(self.old), len(self.moved), 7):
+            self.put(self.old)
+            done = subprocess.run([PROGRAM, "migrate", *self.files], env=dict(os.environ, SHADOWD_JOURNAL=self.journal),
+                                  preexec_fn=lambda size=size: limit_files(size), capture_output=True, text=True, timeout=LIMIT)
+            left = self.bytes_of(self.journal)
+            with self.subTest(size=size):
+                self.assertEqual((done.returncode, done.stdout, left[:len(self.old)]), (9, "disk failed\n", self.old))
+                self.assertEqual(self.audited(left)[1:], bands.LINES_TWO)
+                self.assertEqual((self.run_program("migrate")[:2], self.bytes_of(self.journal)), ((0, self.said), self.moved))
 
 
 @needs_program

@@ -40,15 +40,15 @@ class Readers(Folder):
     def test_journal_of_the_format_page(self):
         """The examples of docs/FORMATS.md, byte for byte."""
         with open(self.path("j"), "wb") as file:
-            file.write(bytes.fromhex("534841444f574a310100000008040000000000000100"))
+            file.write(bytes.fromhex("534841444f574a320100000008040000000000000100"))
         self.assertEqual(read_journal(self.path("j")), [Answered(0, 0, 1)])
-        start = bytes.fromhex("0100000000" "0000000000000046" "3f") + bytes(63)
+        start = bytes.fromhex("0600000000" "0000000000000046" "01" "3f") + bytes(63)
         serve = bytes.fromhex("03000000000000" "0002" "0e") + bytes(63) + bytes.fromhex("010001" "00010003000000010300")
-        aside, close = bytes.fromhex("0200000000" "01" "0003" "000100040707"), bytes.fromhex("0500000000")
+        aside, close = bytes.fromhex("0700000000" "0000" "00" "01" "0003" "000100040707"), bytes.fromhex("0500000000")
         with open(self.path("j"), "wb") as file:
             file.write(a.journal([start, aside, serve, close]))
         self.assertEqual(read_journal(self.path("j")), [
-            Started(0, 70, (frozenset(range(6)),), True), SetAside(0, None, None, 1, 3), Served(0, 0, 2, frozenset({1, 2, 3}), True, 1), Closed(0)])
+            Started(0, 70, (frozenset(range(6)),), False), SetAside(0, 0, 0, 1, 3), Served(0, 0, 2, frozenset({1, 2, 3}), True, 1), Closed(0)])
 
     def test_journals_that_are_none(self):
         for data in (b"nonsense and more", a.journal([b"\4\0\0\0\0\0\0\1"])[:-1], a.journal([b"\7"])):

@@ -66,5 +66,51 @@ class Opening(unittest.TestCase):
                 self.assertNotEqual(self.wrong(*lines), [])
 
 
+class Moving(unittest.TestCase):
+    """A journal with one record and a byte behind its closed gate is migrated: a mark and a record are written at its end."""
+    SYNC, CUT = "1 fsync(4</d/j>) = 0", "1 ftruncate(4</d/j>, 15) = 0"
+    GATES = ['1 pwrite64(4</d/j>, "\\x01", 1, 8) = 1', '1 pwrite64(4</d/j>, "\\x00", 1, 14) = 1']
+    MARK = '1 pwrite64(4</d/j>, "\\x00\\x00\\x00\\x01\\x08\\x01", 6, 15) = 6'
+    RECORD = '1 pwrite64(4</d/j>, "\\x00\\x00\\x00\\x01\\x05\\x00", 6, 21) = 6'
+    OPENED = '1 pwrite64(4</d/j>, "\\x01", 1, 14) = 1'
+    WHOLE = [SYNC, *GATES, SYNC, CUT, SYNC, MARK, RECORD, SYNC, OPENED, SYNC]
+    LINE = '1 write(1</dev/null>, "\\x6d", 1) = 1'
+
+    def moved(self, lines):
+        return system_calls.after(system_calls.Journal("/d/j", FILE + b"x", True), "\n".join(lines))
+
+    def wrong(self, lines):
+        return [name for name, faults in system_calls.tests_of_moving(self.moved(lines), [8, 14], 1) if faults]
+
+    def test_the_order_of_a_migration(self):
+        self.assertEqual(self.wrong([*self.WHOLE, self.LINE]), [])
+        moved = self.moved(self.WHOLE)
+        self.assertEqual((moved.data, moved.letters), (FILE[:14] + bytes.fromhex("01 00000001 08 01 00000001 05 00"), "SRRSCSWWSGS"))
+
+    def test_each_sync_that_is_missing(self):
+        for at, line in enumerate(self.WHOLE):
+            if line == self.SYNC and at:
+                with self.subTest(at=at):
+                    self.assertNotEqual(self.wrong([*self.WHOLE[:at], *self.WHOLE[at + 1:], self.LINE]), [])
+
+    def test_another_order(self):
+        sync, mark, record, opened, line = self.SYNC, self.MARK, self.RECORD, self.OPENED, self.LINE
+        for lines in ([opened, sync, mark, record, sync], [mark, record, opened, sync], [mark, record, opened, sync, sync],
+                      [mark, record, sync, opened, line, sync], [mark, record, sync], [sync, opened, sync]):
+            with self.subTest(lines=lines):
+                self.assertNotEqual(self.wrong(self.WHOLE[:6] + lines), [])
+
+    def test_a_migration_of_a_moved_journal(self):
+        data = self.moved(self.WHOLE).data
+        renewed = '1 pwrite64(4</d/j>, "\\x01", 1, 14) = 1'
+        for lines, wanted in (([renewed, self.SYNC], []), ([self.SYNC, *self.GATES[:1], renewed, self.SYNC], []), ([], [14]),
+                              ([self.SYNC], [14]), ([renewed], [14]), ([self.GATES[0], self.SYNC], [14]),
+                              ([renewed, self.SYNC, "1 ftruncate(4</d/j>, 27) = 0", self.SYNC], [14])):
+            again = system_calls.after(system_calls.Journal("/d/j", data, True), "\n".join(lines))
+            found = [faults for _, faults in system_calls.tests_of_moving_again(again, 14) if faults]
+            with self.subTest(lines=lines):
+                self.assertEqual(bool(found), bool(wanted))
+
+
 if __name__ == "__main__":
     unittest.main()

@@ -128,13 +128,13 @@ class Models(unittest.TestCase):
 
     def test_what_is_missing(self):
         """Eligibility may be set aside before the first item of a session, and before the second, whose estimate is in another
-        band; then only the item is missing. A file of version 1 has 77 bytes at a start, and 10 or more where it is set aside."""
+        band; then only the item is missing. A start of two bands has 142 bytes, and a setting aside 13 or more."""
         kinds = [payload[0] for payload in self.maker.old]
         self.assertEqual([k for k, kind in enumerate(kinds) if kind == 2], [11, 14])
-        for many, kind, least, exact in ((0, audit.STARTED, 77, True), (1, audit.ASIDE, 10, False), (2, audit.ANSWERED, 8, True),
-                                         (3, audit.ASIDE, 10, False), (11, audit.ASIDE, 10, False), (12, audit.SERVED, 78, False),
-                                         (14, audit.ASIDE, 10, False), (15, audit.SERVED, 78, False)):
-            _, missing = self.replies(journal_maker.file_of(journal_maker.ONE, self.maker.old[:many]))
+        for many, kind, least, exact in ((0, audit.STARTED, 142, True), (1, audit.ASIDE, 13, False), (2, audit.ANSWERED, 8, True),
+                                         (3, audit.ASIDE, 13, False), (11, audit.ASIDE, 13, False), (12, audit.SERVED, 78, False),
+                                         (14, audit.ASIDE, 13, False), (15, audit.SERVED, 78, False)):
+            _, missing = self.replies(journal_maker.file_of(journal_maker.TWO, self.maker.new[:many]))
             with self.subTest(many):
                 self.assertEqual((missing.kind, missing.least, missing.exact), (kind, least, exact))
 
@@ -270,7 +270,7 @@ class Wrong(Folder):
     def test_faults(self):
         for fault, kind in (("item", "stops"), ("twice", "stops"), ("lost", "stops"),
                             ("byte", "stops"), ("shorter", "stops"), ("status", "journals"),
-                            ("touch", "journals"), ("fault", "texts"), ("canonical", "texts"),
+                            ("touch", "journals"), ("mark", "moves"), ("records", "moves"), ("fault", "texts"), ("canonical", "texts"),
                             ("status", "texts")):
             with self.subTest(fault=fault, kind=kind):
                 status, said = self.tortured(fault, kind, 8)

@@ -33,6 +33,22 @@ kept_in bound a0 a1 w g =
 pub dropped_moments : (P : List ℕ → Type 0) (a0 a1 a2 : List Account) → AtEachMoment a0 a1 P → AllImages P (latest a1) → Grows (dropped (latest a1)) a1 a2 → AtEachMoment a0 a2 P
 dropped_moments P a0 a1 a2 so_far here g = goes_on P (dropped (latest a1)) a0 a1 a2 so_far g (λ file i. here file (image_of_dropped (latest a1) file i))
 
+-- where one byte of a settled file was being written, that byte written again leaves nothing suspect
+pub one_place_clean : (whole : List ℕ) (at : ℕ) (l : Account) → at < length whole → IsWithin l (dropped (written at 1 (settled whole))) → IsClean (renewed at 1 l)
+one_place_clean whole at l lt within p = elim (cases_eq p at) [
+  | inl here ↦ without_clears at 1 l.suspect p (omega (arith, here)) (omega (arith, here))
+  | inr other ↦ without_keeps at 1 l.suspect p (within.clean p (in_length p, (outside p other, tt)))
+]
+  where
+    outside : (k : ℕ) → k ≢ at → (k < at) ⊎ (at + 1 ≤ k)
+    outside k other = elim (cases_lt k at) [ inl below ↦ inl below | inr le ↦ inr (omega (arith, le, other)) ]
+
+    in_length : (k : ℕ) → (k < (dropped (written at 1 (settled whole))).least) ⊎ ((dropped (written at 1 (settled whole))).greatest ≤ k)
+    in_length k = elim (cases_lt k (length whole)) [
+      | inl below ↦ inl below
+      | inr le ↦ inr (omega (arith, le, lt))
+    ]
+
 module _ (h : FileHeader) where
   -- ---- a record is added
   module _ (content : List ℕ) (a0 : List Account) (size : ℕ) (rest : IsAtRest h content a0 size) where
@@ -137,27 +153,12 @@ module _ (h : FileHeader) where
     pub opened_still : (a1 : List Account) → Grows (dropped (latest a0)) a0 a1 → IsBeingOpened h ps payload a1 size
     opened_still a1 g = record { gate = o.gate; closed = o.closed; within = kept_in opening_bound a0 a1 o.within g }
 
-    outside_gate : (p : ℕ) → p ≢ size - 1 → IsUntouched (dropped opening_bound).suspect p
-    outside_gate p other = elim (cases_lt p (size - 1)) [
-      | inl lt ↦ (in_length p, (inl lt, tt))
-      | inr le ↦ (in_length p, (inr (omega (arith, le, other, size_is)), tt))
-    ]
-      where
-        in_length : (k : ℕ) → (k < (dropped opening_bound).least) ⊎ ((dropped opening_bound).greatest ≤ k)
-        in_length k = elim (cases_lt k (length whole)) [
-          | inl lt ↦ inl lt
-          | inr le ↦ inr (omega (arith, le, size_is, length-append (front h ps) (o.gate ∷ frame_of payload)))
-        ]
-
     pub kept_opened : (a1 : List Account) → Grows (latest a0) a0 a1 → IsBeingOpened h ps payload a1 size
     kept_opened a1 g = record { gate = o.gate; closed = o.closed; within = within_trans (latest a1) (latest a0) (dropped opening_bound) (grows_to (latest a0) a0 a1 (within_refl (latest a0)) g) o.within }
 
     -- the gate written again leaves nothing suspect
     pub gate_clean : IsClean (renewed (size - 1) 1 (latest a0))
-    gate_clean p = elim (cases_eq p (size - 1)) [
-      | inl here ↦ without_clears (size - 1) 1 (latest a0).suspect p (omega (arith, here)) (omega (arith, here))
-      | inr other ↦ without_keeps (size - 1) 1 (latest a0).suspect p (o.within.clean p (outside_gate p other))
-    ]
+    gate_clean = one_place_clean whole (size - 1) (latest a0) (omega (arith, size_is, length-append (front h ps) (o.gate ∷ frame_of payload))) o.within
 
 -- ---- once the gate is on the disk
 module _ (h : FileHeader) (ps : List (List ℕ)) (size : ℕ) (size_is : size ≡ length (front h ps) + 1) (content : List ℕ) (u : Unopened h ps content) (a1 : List Account) (settles : IsSettled content a1) where

@@ -5,7 +5,7 @@ use Rattle.std.proofs.lemmas.Bool.{le-leb, lt-leb}
 use Rattle.std.proofs.lemmas.List.{drop_more, drop_all, append-nil}
 use Rattle.exam_edge.specs.Images.{Account, IsSettled, IsClean, latest, cut_to, shortened, dropped, overwritten, Grows, AtEachMoment}
 use Rattle.exam_edge.specs.ImageLaws.{trimmed, image_of_dropped, only, settled_clean, shortened_clean, started, goes_on}
-use Rattle.answer_journal.specs.Frames.{FileHeader, front, payloads}
+use Rattle.answer_journal.specs.Frames.{FileHeader, shadowj2, front, payloads}
 use Rattle.answer_journal.specs.Standing.{payload_list, IsAtRest, IsBeingWritten, Unopened, opened_file}
 use Rattle.answer_journal.specs.StandingLaws.{unopened_gives}
 use Rattle.answer_journal.specs.Reading.{IsRead}
@@ -16,6 +16,9 @@ module _ (h : FileHeader) where
   pub short_gives : (file : List ℕ) → length file ≤ 9 → payloads h file ≡ Some []
   unfolding payloads
   short_gives file le = let e : nat_le (length file) 9 ≡ true = le-leb (length file) 9 le in rw e refl
+
+  pub short_list : (file : List ℕ) → length file ≤ 9 → payload_list h file ≡ []
+  short_list file few = ap (λ (o : Option (List (List ℕ))). unwrap_or o []) (short_gives file few)
 
   pub listed : (file : List ℕ) (ps : List (List ℕ)) → payloads h file ≡ Some ps → payloads h file ≡ Some (payload_list h file)
   listed file ps is = is ∙ ap Some (sym (ap (λ (o : Option (List (List ℕ))). unwrap_or o []) is))
@@ -68,16 +71,17 @@ module _ (h : FileHeader) where
       let bytes = h.bytes ++ 0 ∷ [] in
       is ∙ ap (λ (l : List ℕ). bytes ++ l) (drop_all (0 + length bytes) content (omega (arith, few, length-append h.bytes (0 ∷ []), h.eight))) ∙ append-nil bytes
 
-  pub opened_file-short : (file : List ℕ) (size : ℕ) → length file ≤ 9 → opened_file h file size ≡ h.bytes ++ 0 ∷ []
-  unfolding opened_file
-  opened_file-short file size few = let short : nat_le (length file) 9 ≡ true = le-leb (length file) 9 few in rw short refl
-
-  pub opened_file-long : (file : List ℕ) (size : ℕ) → 9 < length file → opened_file h file size ≡ take size file
-  unfolding opened_file
-  opened_file-long file size more = let long : nat_le (length file) 9 ≡ false = lt-leb (length file) 9 more in rw long refl
-
   pub begun_rests : (content c1 : List ℕ) (a2 : List Account) → length content ≤ 9 → c1 ≡ overwritten content 0 (h.bytes ++ 0 ∷ []) → IsSettled c1 a2 → IsAtRest h c1 a2 9 × (payload_list h c1 ≡ [])
   begun_rests content c1 a2 few is settles =
       let file : c1 ≡ h.bytes ++ 0 ∷ [] = begun_is content c1 few is in
       let framed : c1 ≡ front h [] ++ 0 ∷ [] = file ∙ ap (λ (l : List ℕ). l ++ 0 ∷ []) (sym (append-nil h.bytes)) in
       at_rest h [] 0 c1 a2 9 tt (λ e. absurd (omega (arith, e))) framed (omega (arith, ap length file, length-append h.bytes (0 ∷ []), h.eight)) settles
+
+-- ---- the content afterwards
+pub opened_file-short : (file : List ℕ) (size : ℕ) → length file ≤ 9 → opened_file file size ≡ shadowj2.bytes ++ 0 ∷ []
+unfolding opened_file
+opened_file-short file size few = let short : nat_le (length file) 9 ≡ true = le-leb (length file) 9 few in rw short refl
+
+pub opened_file-long : (file : List ℕ) (size : ℕ) → 9 < length file → opened_file file size ≡ take size file
+unfolding opened_file
+opened_file-long file size more = let long : nat_le (length file) 9 ≡ false = lt-leb (length file) 9 more in rw long refl

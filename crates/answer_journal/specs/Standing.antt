@@ -1,10 +1,12 @@
 -- The state of a journal's disk: at rest, or with a record in doubt.
 use Rattle.std.specs.Prelude.{◌≡◌, ◌≢◌, ◌⊎◌, ℕ, ◌+◌, ◌-◌, ◌≤◌, nat_le, if◌then◌else◌}
-use Rattle.std.specs.Prelude.{List, [], ◌∷◌, ◌++◌, length, take, Some, unwrap_or}
+use Rattle.std.specs.Prelude.{List, [], ◌∷◌, ◌++◌, length, take, None, Some, unwrap_or}
 use Rattle.std.specs.List.{AllByRecursion}
 use Rattle.exam_edge.specs.Images.{Account, latest, settled, written, dropped}
 use Rattle.exam_edge.specs.Images.{IsClean, IsWithin, IsSettled, IsImage, AllImages}
-use Rattle.answer_journal.specs.Frames.{FileHeader, IsPayload, frame_of, front, payloads}
+use Rattle.std.specs.Int.{to_be_bytes, w32}
+use Rattle.answer_journal.specs.Frames.{FileHeader, IsPayload, shadowj1, shadowj2, frame_of, frames, front, payloads}
+use Rattle.answer_journal.specs.Versions.{header, mark, after_mark, contents}
 
 -- the payloads of a file, none where a rule is broken
 abbrev pub payload_list : FileHeader → List ℕ → List (List ℕ)
@@ -95,23 +97,54 @@ pub record IsBeingMade (accounts : List Account) : Type 0 where
   pub few : length bytes ≤ 9
   pub within : IsWithin (latest accounts) (dropped (written 0 9 (settled bytes)))
 
--- a journal or its opening was interrupted: one record is in doubt, or the header was being written
-abbrev pub IsInterrupted : FileHeader → List Account → Type 0
-IsInterrupted h accounts = HasDoubt h accounts ⊎ IsBeingMade accounts
+-- what follows the closed gate of a journal of the first version that is being moved: the mark, and
+-- records of the second version so far, each but the mark after an open gate
+abbrev pub moved_records : List (List ℕ) → List ℕ
+moved_records ps = to_be_bytes w32 (length mark) ++ (mark ++ frames ps)
+
+-- the frames of the mark and of all records are after that gate, on the disk, and it was being
+-- opened: it may be suspect
+pub record IsBeingSwitched (accounts : List Account) : Type 0 where
+  pub before : List (List ℕ)
+  pub after : List (List ℕ)
+  pub fits : AllByRecursion IsPayload before
+  pub after_fits : AllByRecursion IsPayload after
+  pub unmoved : after_mark before ≡ None
+  pub gate : ℕ
+  pub closed : gate ≢ 1
+  pub within : IsWithin (latest accounts)
+      (dropped (written (length (front shadowj1 before)) 1
+      (settled (front shadowj1 before ++ gate ∷ (moved_records after ++ 0 ∷ [])))))
+
+-- one record of a journal of some version is in doubt
+pub record HasSomeDoubt (accounts : List Account) : Type 0 where
+  pub version : ℕ
+  pub doubt : HasDoubt (header version) accounts
+
+-- a journal or its opening was interrupted: one record is in doubt, or the header was being written,
+-- or the gate that moves the journal was being opened
+abbrev pub IsInterrupted : List Account → Type 0
+IsInterrupted accounts =
+    HasSomeDoubt accounts ⊎ (IsBeingMade accounts ⊎ IsBeingSwitched accounts)
 
 -- a disk as a reboot or a journal left it: nothing is suspect, or the journal was interrupted
-abbrev pub IsAsLeft : FileHeader → List Account → Type 0
-IsAsLeft h accounts = IsClean (latest accounts) ⊎ IsInterrupted h accounts
+abbrev pub IsAsLeft : List Account → Type 0
+IsAsLeft accounts = IsClean (latest accounts) ⊎ IsInterrupted accounts
 
 -- such a disk after a sync that succeeded: it is settled, or the journal was interrupted
-abbrev pub IsSettledOrInterrupted : FileHeader → List ℕ → List Account → Type 0
-IsSettledOrInterrupted h content accounts = IsSettled content accounts ⊎ IsInterrupted h accounts
+abbrev pub IsSettledOrInterrupted : List ℕ → List Account → Type 0
+IsSettledOrInterrupted content accounts = IsSettled content accounts ⊎ IsInterrupted accounts
 
 -- a file that a crash might have left before, or one that gives the same payloads
 abbrev pub IsImageOrGives : FileHeader → Account → List ℕ → List ℕ → Type 0
 IsImageOrGives h before content file = IsImage before file ⊎ (payloads h file ≡ payloads h content)
 
+-- a file that a crash might have left before, or one in which the same payloads count
+abbrev pub IsImageOrHolds : Account → List ℕ → List ℕ → Type 0
+IsImageOrHolds before content file = IsImage before file ⊎ (contents file ≡ contents content)
+
 -- the content of the disk once a file is opened: so many of the file's first bytes, or an empty
--- journal where the file had at most nine bytes
-unfoldable pub opened_file : FileHeader → List ℕ → ℕ → List ℕ
-opened_file h file size = if nat_le (length file) 9 then h.bytes ++ 0 ∷ [] else take size file
+-- journal of the second version where the file had at most nine bytes
+unfoldable pub opened_file : List ℕ → ℕ → List ℕ
+opened_file file size =
+    if nat_le (length file) 9 then shadowj2.bytes ++ 0 ∷ [] else take size file

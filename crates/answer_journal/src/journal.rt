@@ -1,20 +1,24 @@
 // A journal over a disk.
-ghost use Rattle.std.specs.Prelude.{◌≡◌, ◌≢◌, ◌≤◌, ◌<◌, ◌+◌, ◌-◌, ◌↔◌, ◌⊎◌, ◌==◌, List, ℕ, [], ◌∷◌, ◌++◌, length, slice_index, map, max, Some, None, IsTrue, is_some, unwrap_or, IfOk, IfErr, OnOk, OnErr};
+ghost use Rattle.std.specs.Prelude.{◌≡◌, ◌≢◌, ◌≤◌, ◌<◌, ◌+◌, ◌-◌, ◌↔◌, ◌⊎◌, ◌==◌, List, ℕ, [], ◌∷◌, ◌++◌, length, take, get_or, slice_index, map, max, Some, None, IsTrue, is_some, unwrap_or, IfOk, IfErr, OnOk, OnErr};
 ghost use Rattle.std.specs.Option.{ForSome};
 ghost use Rattle.exam_edge.specs.Faults.{Rose};
 ghost use Rattle.exam_edge.specs.Lent.{IsLent, FailsOnly};
 ghost use Rattle.exam_edge.specs.Images.{AllImages, AtEachMoment, IsClean, IsImage, IsSettled, latest};
-ghost use Rattle.answer_journal.specs.Frames.{shadowj1, front, payloads};
-ghost use Rattle.answer_journal.specs.OpenFault.{IsAnswerTo, first_fault};
+ghost use Rattle.answer_journal.specs.Frames.{frame_of};
+ghost use Rattle.answer_journal.specs.OpenFault.{IsOpenAnswer, IsWalkAnswer, fault_in};
+ghost use Rattle.answer_journal.specs.Versions.{HoldsOrOneMore, contents, counted_in, second};
+ghost use Rattle.answer_journal.specs.Versions.{version_of as named_version};
+ghost use Rattle.answer_journal.specs.Reading.{IsRoomFor};
+ghost use Rattle.answer_journal.specs.Walk.{IsJust, first_gate};
 ghost use Rattle.answer_journal.specs.Opening.{PutsTailAside, tail_gates};
 ghost use Rattle.answer_journal.specs.Outcome.{OnFull, OnDisk, payloads_after, size_after};
-ghost use Rattle.answer_journal.specs.Payload.{bytes_of, at_of, places_of};
-ghost use Rattle.answer_journal.specs.Standing.{IsAsLeft, IsBeforeOrWith, IsImageOrGives, opened_file, payload_list};
+ghost use Rattle.answer_journal.specs.Payload.{bytes_of, at_of, end_of, places_of};
+ghost use Rattle.answer_journal.specs.Standing.{IsAsLeft, IsBeingSwitched, IsImageOrHolds, opened_file};
 
 use crate::appending::{resolve_record, write_record};
 use crate::opening::test_file;
-use crate::walk::read_all;
-use crate::{Frame, OpenFault, Payload, Walk};
+use crate::walk::{read_all, read_before};
+use crate::{Frame, OpenFault, Payload, Walk, WalkFault};
 use exam_edge::{Disk, Failed};
 use std::alloc::Global;
 use std::marker::Model;
@@ -33,7 +37,8 @@ pub enum Adopted {
 pub enum AppendFault {
     /// The journal would have this length in bytes, above its limit. Nothing was written.
     Full(u64),
-    /// A call of the disk failed, and the disk has counted that. The record is in doubt.
+    /// A call of the disk failed, and the disk has counted that. Of a journal the record is in doubt; a move has only `stop`
+    /// left.
     Disk,
 }
 
@@ -58,6 +63,10 @@ pub struct Journal<D: Disk> {
     pub(crate) size: u64,
     pub(crate) limit: u64,
     pub(crate) doubt: Option<u64>,
+    /// The version that the header names.
+    pub(crate) version: u8,
+    /// The place of the first gate whose record counts, or is to count.
+    pub(crate) start: u64,
 }
 
 impl<D: Disk> Model for Journal<D> {
@@ -76,35 +85,46 @@ impl<D: Disk> Model for Journal<D> {
       size = j.size;
       limit = j.limit;
       doubt = j.doubt;
+      version = j.version;
+      start = j.start;
     } };
 
-    ghost invariant = { λ j. AreLengths j.size j.limit j.doubt };
+    ghost invariant = { λ j. AreLengths j.size j.limit j.doubt j.start };
 }
 
 impl<D: Disk> Journal<D> {
     ghost use Rattle.answer_journal.specs.Journal.{disk_of, tells_of, content_of, accounts_of};
     ghost use Rattle.answer_journal.specs.Journal.{aside_of, faults_of, identity_of, length_of};
-    ghost use Rattle.answer_journal.specs.Journal.{limit_of, doubt_of, payloads_of};
+    ghost use Rattle.answer_journal.specs.Journal.{limit_of, doubt_of, payloads_of, version_of, start_of};
     ghost use Rattle.answer_journal.specs.Journal.{AreLengths, IsReady, IsDoubtful};
 
     /// Tests the frames of a file, to walk over its payloads one after another. It syncs first, and writes nothing. The
-    /// disk is as a reboot or a journal left it: a record may be in doubt. It takes no memory. The limit of the journal's
+    /// disk is as a reboot or a journal left it: a record may be in doubt, or the gate that moves the journal. It takes no memory. The limit of the journal's
     /// length is in bytes, at most 536,870,912. A refusal gives the disk back.
     pub fn walk(disk: D, limit: u64) -> Result<Walk<D>, (D, OpenFault)>
         requires limit { limit ≤ 536870912 }
-        requires left { IsTrue (D.tells disk) → IsAsLeft shadowj1 (D.accounts disk) }
+        requires left { IsTrue (D.tells disk) → IsAsLeft (D.accounts disk) }
         ensures limit { IfOk result (λ walk. walk.limit ≡ limit) }
-        ensures start { IfOk result (λ walk. (walk.at ≡ 8) × (walk.given ≡ 0)) }
+        ensures start { IfOk result (λ walk. walk.given ≡ 0) }
+        ensures place { IfOk result
+            (λ walk. IsTrue (D.tells disk) → walk.at ≡ first_gate (D.content disk)) }
 
-        // No rule is broken: its payloads are those that the walk is to give.
+        // No rule is broken: the walk is to give the payloads that count.
         ensures gives { IfOk result (λ walk. IsTrue (D.tells disk)
-            → payloads shadowj1 (D.content disk) ≡ Some (payload_list shadowj1 (D.content disk))) }
+            → contents (D.content disk) ≡ Some (counted_in (D.content disk))) }
+        // The version of the header, and that of the records that count.
+        ensures versions { IfOk result (λ walk. IsTrue (D.tells disk)
+            → (walk.header_version ≡ named_version (D.content disk))
+            × (walk.record_version ≡ (counted_in (D.content disk)).version)) }
+        // A gate that was being opened to move the journal may still be suspect.
+        ensures switching { IfOk result (λ walk. IsTrue (D.tells disk)
+            → IsBeingSwitched (D.accounts disk) → IsBeingSwitched (D.accounts walk.disk)) }
 
         // The first thing that is wrong with the file, if anything is, unless the disk failed.
         ensures sound { IfOk result (λ walk. IsTrue (D.tells disk)
-            → first_fault shadowj1 limit (D.content disk) ≡ None) }
+            → fault_in limit (D.content disk) ≡ None) }
         ensures why { IfErr result (λ e. IsTrue (D.tells disk)
-            → IsAnswerTo shadowj1 limit (D.content disk) e.1) }
+            → IsWalkAnswer limit (D.content disk) e.1) }
         ensures cause { IfErr result
             (λ e. e.1 ≡ OpenFault.Disk → Rose (D.faults disk) (D.faults e.0)) }
         ensures no_memory { IfErr result (λ e. e.1 ≢ OpenFault.Memory) }
@@ -148,17 +168,17 @@ impl<D: Disk> Journal<D> {
                 disk,
                 limit,
                 extent,
-                at: 8,
-                given: 0,
-                last: 8,
+                at: extent.start,
+                passed: extent.skipped,
+                last: extent.mark_gate(),
             }),
             Err(e) => Err((disk, e)),
         }
     }
 
     /// Opens a file, and gives its payloads with the places of their gates: first a walk over all of them, then its
-    /// `finish`. It makes a file of at most nine bytes an empty journal. In any other file it writes the last open gate and
-    /// the first closed one again as they read, and cuts what follows the closed one. The limit of the journal's length is in
+    /// `finish`. It makes a file of at most nine bytes an empty journal. In any other file it writes the gate of the mark, the
+    /// last open gate and the first closed one again as they read, and cuts what follows the closed one. The limit of the journal's length is in
     /// bytes, at most 536,870,912. A refusal gives the disk back.
     pub fn open(
         alloc: Global,
@@ -166,23 +186,27 @@ impl<D: Disk> Journal<D> {
         limit: u64,
     ) -> Result<(Journal<D>, Vec<Payload>), (D, OpenFault)>
         requires limit { limit ≤ 536870912 }
-        requires left { IsTrue (D.tells disk) → IsAsLeft shadowj1 (D.accounts disk) }
+        requires left { IsTrue (D.tells disk) → IsAsLeft (D.accounts disk) }
         ensures ready { IfOk result (λ opened. IsReady opened.0) }
         ensures limit { IfOk result (λ opened. limit_of opened.0 ≡ limit) }
         ensures gives { IfOk result (λ opened. IsTrue (D.tells disk)
-            → payloads shadowj1 (D.content disk) ≡ Some (map bytes_of opened.1.items)) }
+            → contents (D.content disk) ≡ Some (second (map bytes_of opened.1.items))) }
         ensures keeps { IfOk result (λ opened. IsTrue (D.tells disk)
             → payloads_of opened.0 ≡ map bytes_of opened.1.items) }
-        ensures places { IfOk result (λ opened. map at_of opened.1.items
-            ≡ places_of 8 (map bytes_of opened.1.items)) }
+        ensures version { IfOk result (λ opened. IsTrue (D.tells disk)
+            → version_of opened.0 ≡ named_version (D.content disk)) }
+        ensures start { IfOk result (λ opened. IsTrue (D.tells disk)
+            → start_of opened.0 ≡ first_gate (D.content disk)) }
+        ensures places { IfOk result (λ opened. IsTrue (D.tells disk) → map at_of opened.1.items
+            ≡ places_of (first_gate (D.content disk)) (map bytes_of opened.1.items)) }
         ensures content { IfOk result (λ opened. IsTrue (D.tells disk)
-            → content_of opened.0 ≡ opened_file shadowj1 (D.content disk) (length_of opened.0)) }
+            → content_of opened.0 ≡ opened_file (D.content disk) (length_of opened.0)) }
 
         // The first thing that is wrong with the file, if anything is, unless memory or the disk failed.
         ensures sound { IfOk result (λ opened. IsTrue (D.tells disk)
-            → first_fault shadowj1 limit (D.content disk) ≡ None) }
+            → fault_in limit (D.content disk) ≡ None) }
         ensures why { IfErr result (λ e. IsTrue (D.tells disk)
-            → IsAnswerTo shadowj1 limit (D.content disk) e.1) }
+            → IsOpenAnswer limit (D.content disk) e.1) }
         ensures cause { IfErr result (λ e. e.1 ≡ OpenFault.Disk
             → Rose (D.faults disk) (D.faults e.0)) }
         ensures untouched { IfErr result (λ e. e.1 ≢ OpenFault.Disk → IsTrue (D.tells disk)
@@ -191,27 +215,27 @@ impl<D: Disk> Journal<D> {
         // At each moment of the call a crash leaves what it might have left before, or the same payloads.
         ensures moments { IfOk result (λ opened. IsTrue (D.tells disk)
             → AtEachMoment (D.accounts disk) (accounts_of opened.0)
-            (IsImageOrGives shadowj1 (latest (D.accounts disk)) (D.content disk))) }
+            (IsImageOrHolds (latest (D.accounts disk)) (D.content disk))) }
         ensures moments_err { IfErr result (λ e. IsTrue (D.tells disk)
             → AtEachMoment (D.accounts disk) (D.accounts e.0)
-            (IsImageOrGives shadowj1 (latest (D.accounts disk)) (D.content disk))) }
+            (IsImageOrHolds (latest (D.accounts disk)) (D.content disk))) }
         ensures settled { IfOk result (λ opened. IsTrue (D.tells disk)
             → IsSettled (D.content disk) (D.accounts disk)
-            → AtEachMoment (D.accounts disk) (accounts_of opened.0) (λ file. payloads shadowj1 file
-            ≡ payloads shadowj1 (D.content disk))) }
+            → AtEachMoment (D.accounts disk) (accounts_of opened.0) (λ file. contents file
+            ≡ contents (D.content disk))) }
         ensures settled_err { IfErr result (λ e. IsTrue (D.tells disk)
             → IsSettled (D.content disk) (D.accounts disk)
-            → AtEachMoment (D.accounts disk) (D.accounts e.0) (λ file. payloads shadowj1 file
-            ≡ payloads shadowj1 (D.content disk))) }
+            → AtEachMoment (D.accounts disk) (D.accounts e.0) (λ file. contents file
+            ≡ contents (D.content disk))) }
         ensures images { IfOk result (λ opened. IsTrue (D.tells disk)
-            → AllImages (λ file. payloads shadowj1 file ≡ Some (map bytes_of opened.1.items))
+            → AllImages (λ file. contents file ≡ Some (second (map bytes_of opened.1.items)))
             (latest (accounts_of opened.0))) }
 
         // What is cut was put aside before, and nothing else was.
         ensures aside { IfOk result (λ opened. IsTrue (D.tells disk) → aside_of opened.0
-            ≡ D.aside disk ++ tail_gates shadowj1 (D.content disk)) }
+            ≡ D.aside disk ++ tail_gates (D.content disk)) }
         ensures aside_err { IfErr result (λ e. IsTrue (D.tells disk)
-            → PutsTailAside shadowj1 (D.content disk) (D.content e.0)
+            → PutsTailAside (D.content disk) (D.content e.0)
             (D.accounts disk) (D.accounts e.0) (D.aside disk) (D.aside e.0)) }
 
         ensures grows { IfOk result (λ opened. D.faults disk ≤ faults_of opened.0) }
@@ -223,6 +247,9 @@ impl<D: Disk> Journal<D> {
             Ok(walk) => walk,
             Err(refused) => return Err(refused),
         };
+        if walk.record_version() == 1 {
+            return Err((walk.stop(), OpenFault::Version));
+        }
         let read = match read_all(alloc, &mut walk) {
             Ok(read) => read,
             Err(fault) => return Err((walk.stop(), fault)),
@@ -244,15 +271,21 @@ impl<D: Disk> Journal<D> {
         ensures added { OnOk result (IsTrue (tells_of self.old)
             → payloads_of self.new ≡ payloads_of self.old ++ frame.now ∷ []) }
         ensures content { OnOk result (IsTrue (tells_of self.old)
-            → content_of self.new ≡ front shadowj1 (payloads_of self.old ++ frame.now ∷ [])
-            ++ 0 ∷ []) }
+            → content_of self.new ≡ take (length_of self.old - 1) (content_of self.old)
+            ++ 1 ∷ frame_of frame.now) }
         ensures images { OnOk result (IsTrue (tells_of self.old)
-            → AllImages (λ file. payloads shadowj1 file
-            ≡ Some (payloads_of self.old ++ frame.now ∷ [])) (latest (accounts_of self.new))) }
+            → AllImages (λ file. contents file
+            ≡ Some (second (payloads_of self.old ++ frame.now ∷ []))) (latest (accounts_of self.new))) }
         // At each moment of the call a crash leaves the payloads from before it, or those with the new one.
         ensures moments { IsTrue (tells_of self.old)
             → AtEachMoment (accounts_of self.old) (accounts_of self.new)
-            (IsBeforeOrWith shadowj1 (payloads_of self.old) frame.now) }
+            (HoldsOrOneMore (payloads_of self.old) frame.now) }
+
+        // None of them has other bytes before the closed gate.
+        ensures before { IsTrue (tells_of self.old)
+            → AtEachMoment (accounts_of self.old) (accounts_of self.new)
+            (λ file. take (length_of self.old - 1) file
+            ≡ take (length_of self.old - 1) (content_of self.old)) }
 
         ensures full { IfErr result
             (λ e. OnFull e (λ n. (n ≡ length_of self.old + 5 + length frame.now)
@@ -266,6 +299,8 @@ impl<D: Disk> Journal<D> {
         ensures length_err { OnErr result (length_of self.new ≡ length_of self.old) }
 
         ensures limit { limit_of self.new ≡ limit_of self.old }
+        ensures versions { (version_of self.new ≡ version_of self.old)
+            × (start_of self.new ≡ start_of self.old) }
         ensures aside { IsTrue (tells_of self.old) → aside_of self.new ≡ aside_of self.old }
         ensures frame { IsLent tells_of identity_of faults_of self.old self.new }
     {
@@ -303,7 +338,7 @@ impl<D: Disk> Journal<D> {
             → payloads_of self.new ≡ payloads_after adopted ps payload) }
         ensures images { IfOk result (λ adopted. IsTrue (tells_of self.old) → (ps : _) (payload : _)
             → IsDoubtful ps payload self.old
-            → AllImages (λ file. payloads shadowj1 file ≡ Some (payloads_after adopted ps payload))
+            → AllImages (λ file. contents file ≡ Some (second (payloads_after adopted ps payload)))
             (latest (accounts_of self.new))) }
         ensures gate { IfOk result (λ adopted. IsTrue (tells_of self.old)
             → IsTrue (slice_index (content_of self.old) (length_of self.old - 1) == 1)
@@ -314,7 +349,12 @@ impl<D: Disk> Journal<D> {
         ensures moments { IsTrue (tells_of self.old) → (ps : _) (payload : _)
             → IsDoubtful ps payload self.old
             → AtEachMoment (accounts_of self.old) (accounts_of self.new)
-            (IsBeforeOrWith shadowj1 ps payload) }
+            (HoldsOrOneMore ps payload) }
+        // None of them has other bytes before the gate of the record.
+        ensures before { IsTrue (tells_of self.old)
+            → AtEachMoment (accounts_of self.old) (accounts_of self.new)
+            (λ file. take (length_of self.old - 1) file
+            ≡ take (length_of self.old - 1) (content_of self.old)) }
 
         ensures cause { FailsOnly faults_of self.old self.new result }
         ensures length_err { OnErr result (length_of self.new ≡ length_of self.old) }
@@ -322,6 +362,8 @@ impl<D: Disk> Journal<D> {
             → IsDoubtful ps payload self.new) }
 
         ensures limit { limit_of self.new ≡ limit_of self.old }
+        ensures versions { (version_of self.new ≡ version_of self.old)
+            × (start_of self.new ≡ start_of self.old) }
         ensures aside { IsTrue (tells_of self.old) → aside_of self.new ≡ aside_of self.old }
         ensures frame { IsLent tells_of identity_of faults_of self.old self.new }
     {
@@ -338,9 +380,54 @@ impl<D: Disk> Journal<D> {
     /// The length of the journal in bytes, without a record in doubt.
     pub fn length(&self) -> u64
         ensures length { result ≡ length_of self.now }
-        ensures lengths { AreLengths (length_of self.now) (limit_of self.now) (doubt_of self.now) }
+        ensures lengths { AreLengths (length_of self.now) (limit_of self.now) (doubt_of self.now)
+            (start_of self.now) }
     {
         self.size
+    }
+
+    /// The version that the header names, 1 or 2. The records that count are of the second version in either.
+    pub fn version(&self) -> u8
+        ensures { result ≡ version_of self.now }
+    {
+        self.version
+    }
+
+    /// The place in bytes of the first gate whose record counts, or is to count.
+    pub fn start(&self) -> u64
+        ensures start { result ≡ start_of self.now }
+        ensures within { (8 ≤ result) × (result < length_of self.now) }
+    {
+        self.start
+    }
+
+    /// Reads the payload after the gate at a place, which is one of the gates from the first that counts to the closed one.
+    /// `None` exactly at the closed gate; at any other place the answer means nothing. No record may be in doubt. The file is not changed. Only of a disk that does not
+    /// report its content the record may not be there any more: then there is none.
+    pub fn read_frame(&mut self, alloc: Global, at: u64) -> Result<Option<Vec<u8>>, WalkFault>
+        requires ready { IsReady self.old }
+        requires gate { at < length_of self.old }
+        ensures payload { IfOk result (λ found. IsTrue (tells_of self.old) → (k : ℕ)
+            → k < length (payloads_of self.old)
+            → at ≡ end_of (start_of self.old) (take k (payloads_of self.old))
+            → IsJust found (λ v. v.items ≡ get_or (payloads_of self.old) k [])) }
+        ensures end { IfOk result (λ found. at + 1 ≡ length_of self.old → found ≡ None) }
+        ensures room { IfOk result (λ found. ForSome found
+            (λ v. IsRoomFor at (length_of self.old) (length v.items))) }
+        ensures cause { IfErr result (λ e. e ≡ WalkFault.Disk
+            → Rose (faults_of self.old) (faults_of self.new)) }
+        ensures ready { IsReady self.new }
+        ensures content { IsTrue (tells_of self.old) → content_of self.new ≡ content_of self.old }
+        ensures accounts { IsTrue (tells_of self.old)
+            → accounts_of self.new ≡ accounts_of self.old }
+        ensures aside { IsTrue (tells_of self.old) → aside_of self.new ≡ aside_of self.old }
+        ensures length { length_of self.new ≡ length_of self.old }
+        ensures limit { limit_of self.new ≡ limit_of self.old }
+        ensures versions { (version_of self.new ≡ version_of self.old)
+            × (start_of self.new ≡ start_of self.old) }
+        ensures frame { IsLent tells_of identity_of faults_of self.old self.new }
+    {
+        read_before(alloc, &mut self.disk, at, self.size - 1, self.size)
     }
 
     /// The disk as it is. It may be opened again, also with a record in doubt.
@@ -354,13 +441,15 @@ impl<D: Disk> Journal<D> {
         ensures identity { D.identity result ≡ identity_of self }
         ensures left { IsTrue (tells_of self)
             → IsReady self ⊎ ((ps : _) × (payload : _) × IsDoubtful ps payload self)
-            → IsAsLeft shadowj1 (accounts_of self) }
+            → IsAsLeft (accounts_of self) }
     {
         let Journal {
             disk,
             size: _,
             limit: _,
             doubt: _,
+            version: _,
+            start: _,
         } = self;
         disk
     }

@@ -1,26 +1,29 @@
 // A file that is walked over to be opened, one payload in memory at a time.
-ghost use Rattle.std.specs.Prelude.{◌≡◌, ◌≢◌, ◌≤◌, ◌<◌, ◌+◌, ◌^◌, List, ℕ, [], ◌∷◌, ◌++◌, length, map, take, drop, Some, None, IsTrue, IfOk, IfErr, OnOk, OnErr};
+ghost use Rattle.std.specs.Prelude.{◌≡◌, ◌≢◌, ◌≤◌, ◌<◌, ◌+◌, ◌^◌, ◌⊎◌, List, ℕ, [], ◌∷◌, ◌++◌, length, map, take, drop, Some, None, IsTrue, IfOk, IfErr, OnOk, OnErr};
 ghost use Rattle.std.specs.Option.{ForSome};
 ghost use Rattle.exam_edge.specs.Faults.{Rose};
 ghost use Rattle.exam_edge.specs.Lent.{IsLent, FailsOnly};
-ghost use Rattle.exam_edge.specs.Images.{AllImages, AtEachMoment, latest};
-ghost use Rattle.answer_journal.specs.Frames.{IsPayload, shadowj1, payloads};
+ghost use Rattle.exam_edge.specs.Images.{AllImages, AtEachMoment, IsImage, IsSettled, latest};
+ghost use Rattle.answer_journal.specs.Frames.{IsPayload};
+ghost use Rattle.answer_journal.specs.Moving.{IsImageOrUnmoved, IsMoving, IsUnmoved};
+ghost use Rattle.answer_journal.specs.Versions.{contents, counted_in, second};
 ghost use Rattle.answer_journal.specs.OpenFault.{IsOfDevice};
 ghost use Rattle.answer_journal.specs.Opening.{PutsTailAside, tail_gates};
 ghost use Rattle.answer_journal.specs.Payload.{at_of, bytes_of, places_of};
 ghost use Rattle.answer_journal.specs.Reading.{IsRoomFor};
-ghost use Rattle.answer_journal.specs.Standing.{payload_list, IsImageOrGives, opened_file};
-ghost use Rattle.answer_journal.specs.Walk.{HasRecord, IsJust, first_payloads};
+ghost use Rattle.answer_journal.specs.Standing.{IsBeingSwitched, IsImageOrHolds, IsSettledOrInterrupted, opened_file};
+ghost use Rattle.answer_journal.specs.Walk.{HasRecord, IsJust, first_gate, first_payloads};
 
 use crate::frames::Found;
 use crate::gates::{find_frame, read_from};
-use crate::opening::{Extent, finish_file, put_tail_aside};
+use crate::moving::{Moving, write_mark};
+use crate::opening::{Extent, finish_file, put_tail_aside, settle_mark};
 use crate::{Journal, OpenFault, Payload};
 use exam_edge::{Disk, Failed};
 use std::alloc::{AllocError, Global};
 use std::marker::Model;
 
-/// Why a walk gave no payload. The walk is as it was.
+/// Why no payload was given. What reads it is as it was.
 #[derive(Clone, Copy, Debug, PartialEq, Eq)]
 pub enum WalkFault {
     /// A call of the disk failed, and the disk has counted that.
@@ -40,23 +43,24 @@ impl From<AllocError> for WalkFault {
 }
 
 /// A file whose frames were tested up to the first closed gate, and that was not changed. It gives
-/// the payloads one after another. Once all were given, `finish` makes the file a journal; `stop`
-/// leaves it as it is. Contracts see the place of the next gate, and how many payloads of the file
-/// were given.
+/// the payloads that count one after another. Once all were given, `finish` makes the file a journal,
+/// and `start_move` begins to move one of the first version; `stop` leaves it as it is. Contracts see
+/// the place of the next gate, how many payloads of the file were given, and the versions.
 pub struct Walk<D: Disk> {
     pub(crate) disk: D,
     pub(crate) limit: u64,
     pub(crate) extent: Extent,
     pub(crate) at: u64,
-    pub(crate) given: u64,
-    /// The place of the gate of the last record that was given; of the first gate before.
+    /// How many payloads are before that place, those that do not count among them.
+    pub(crate) passed: u64,
+    /// The place of the gate of the last record that was passed; of the first gate before.
     pub(crate) last: u64,
 }
 
 impl<D: Disk> Model for Walk<D> {
     ghost use Rattle.std.specs.Prelude.{◌+◌};
-    ghost use Rattle.answer_journal.specs.Frames.{shadowj1};
-    ghost use Rattle.answer_journal.specs.Walk.{WalkState, IsWalk};
+    ghost use Rattle.std.specs.Prelude.{◌-◌};
+    ghost use Rattle.answer_journal.specs.Walk.{WalkState, IsWalk, counted_version};
 
     ghost Value = { WalkState D };
 
@@ -65,23 +69,24 @@ impl<D: Disk> Model for Walk<D> {
       limit = w.limit;
       size = w.extent.end + 1;
       at = w.at;
-      given = w.given;
+      given = w.passed - w.extent.skipped;
+      header_version = w.extent.version;
+      record_version = counted_version w.extent.version w.extent.skipped;
     } };
 
-    ghost invariant = { λ w. IsWalk shadowj1 (D.tells w.disk) (D.content w.disk)
-        (D.accounts w.disk) w.limit w.extent w.at w.given w.last };
+    ghost invariant = { λ w. IsWalk (D.tells w.disk) (D.content w.disk)
+        (D.accounts w.disk) w.limit w.extent w.at w.passed w.last };
 }
 
-// The length of the payload after the gate at a place, where that record ends by the end of these
-// records.
-fn find_record<D: Disk>(disk: &mut D, at: u64, extent: Extent) -> Result<Option<usize>, Failed>
-    requires before { at < extent.end }
-    requires within { extent.end < extent.size }
-    requires few { extent.size ≤ 536870912 }
-    requires all { IsTrue (D.tells disk.old) → extent.size ≡ length (D.content disk.old) }
-    ensures room { IfOk result (λ found. ForSome found (IsRoomFor at (extent.end + 1))) }
+// The length of the payload after the gate at a place of a file of this length, where that record ends by the gate at `end`.
+fn find_record<D: Disk>(disk: &mut D, at: u64, end: u64, size: u64) -> Result<Option<usize>, Failed>
+    requires before { at < end }
+    requires within { end < size }
+    requires few { size ≤ 536870918 }
+    requires all { IsTrue (D.tells disk.old) → size ≡ length (D.content disk.old) }
+    ensures room { IfOk result (λ found. ForSome found (IsRoomFor at (end + 1))) }
     ensures found { IfOk result (λ found. IsTrue (D.tells disk.old) → (p : List ℕ)
-        → HasRecord (D.content disk.old) at p → at + 5 + length p ≤ extent.end
+        → HasRecord (D.content disk.old) at p → at + 5 + length p ≤ end
         → found ≡ Some (length p)) }
     ensures content { IsTrue (D.tells disk.old) → D.content disk.new ≡ D.content disk.old }
     ensures accounts { IsTrue (D.tells disk.old) → D.accounts disk.new ≡ D.accounts disk.old }
@@ -89,9 +94,9 @@ fn find_record<D: Disk>(disk: &mut D, at: u64, extent: Extent) -> Result<Option<
     ensures failed { FailsOnly D.faults disk.old disk.new result }
     ensures frame { IsLent D.tells D.identity D.faults disk.old disk.new }
 {
-    match find_frame(disk, at, extent.size)? {
+    match find_frame(disk, at, size)? {
         Found::Record(count) => {
-            if at + 5 + count as u64 <= extent.end {
+            if at + 5 + count as u64 <= end {
                 Ok(Some(count))
             } else {
                 Ok(None)
@@ -140,22 +145,23 @@ fn refill(buffer: &mut Vec<u8>, bytes: Vec<u8>)
     *buffer = bytes;
 }
 
-// Reads the payload after the gate at a place. Only of a disk that doesn't report its content the
+// Reads the payload after the gate at a place before `end`. Only of a disk that doesn't report its content the
 // record may not be there any more: then there is none.
 fn read_record<D: Disk>(
     alloc: Global,
     disk: &mut D,
     at: u64,
-    extent: Extent,
+    end: u64,
+    size: u64,
 ) -> Result<Option<Vec<u8>>, WalkFault>
-    requires before { at < extent.end }
-    requires within { extent.end < extent.size }
-    requires few { extent.size ≤ 536870912 }
-    requires all { IsTrue (D.tells disk.old) → extent.size ≡ length (D.content disk.old) }
+    requires before { at < end }
+    requires within { end < size }
+    requires few { size ≤ 536870918 }
+    requires all { IsTrue (D.tells disk.old) → size ≡ length (D.content disk.old) }
     ensures room { IfOk result
-        (λ found. ForSome found (λ v. IsRoomFor at (extent.end + 1) (length v.items))) }
+        (λ found. ForSome found (λ v. IsRoomFor at (end + 1) (length v.items))) }
     ensures payload { IfOk result (λ found. IsTrue (D.tells disk.old) → (p : List ℕ)
-        → HasRecord (D.content disk.old) at p → at + 5 + length p ≤ extent.end
+        → HasRecord (D.content disk.old) at p → at + 5 + length p ≤ end
         → IsJust found (λ v. v.items ≡ p)) }
     ensures cause { IfErr result
         (λ e. e ≡ WalkFault.Disk → Rose (D.faults disk.old) (D.faults disk.new)) }
@@ -164,17 +170,50 @@ fn read_record<D: Disk>(
     ensures aside { IsTrue (D.tells disk.old) → D.aside disk.new ≡ D.aside disk.old }
     ensures frame { IsLent D.tells D.identity D.faults disk.old disk.new }
 {
-    match find_record(disk, at, extent) {
+    match find_record(disk, at, end, size) {
         Ok(Some(count)) => read_payload(alloc, disk, at + 5, count),
         Ok(None) => Ok(None),
         Err(_) => Err(WalkFault::Disk),
     }
 }
 
+/// Reads the payload after the gate at a place up to `end`, where there is none. The file has this length. Only of a disk that
+/// doesn't report its content the record may not be there any more: then there is none.
+pub fn read_before<D: Disk>(
+    alloc: Global,
+    disk: &mut D,
+    at: u64,
+    end: u64,
+    size: u64,
+) -> Result<Option<Vec<u8>>, WalkFault>
+    requires before { at ≤ end }
+    requires within { end < size }
+    requires few { size ≤ 536870918 }
+    requires all { IsTrue (D.tells disk.old) → size ≡ length (D.content disk.old) }
+    ensures room { IfOk result
+        (λ found. ForSome found (λ v. IsRoomFor at (end + 1) (length v.items))) }
+    ensures payload { IfOk result (λ found. IsTrue (D.tells disk.old) → (p : List ℕ)
+        → HasRecord (D.content disk.old) at p → at + 5 + length p ≤ end
+        → IsJust found (λ v. v.items ≡ p)) }
+    ensures end { IfOk result (λ found. at ≡ end → found ≡ None) }
+    ensures cause { IfErr result
+        (λ e. e ≡ WalkFault.Disk → Rose (D.faults disk.old) (D.faults disk.new)) }
+    ensures content { IsTrue (D.tells disk.old) → D.content disk.new ≡ D.content disk.old }
+    ensures accounts { IsTrue (D.tells disk.old) → D.accounts disk.new ≡ D.accounts disk.old }
+    ensures aside { IsTrue (D.tells disk.old) → D.aside disk.new ≡ D.aside disk.old }
+    ensures frame { IsLent D.tells D.identity D.faults disk.old disk.new }
+{
+    if at == end {
+        return Ok(None);
+    }
+    read_record(alloc, disk, at, end, size)
+}
+
 impl<D: Disk> Walk<D> {
     ghost use Rattle.answer_journal.specs.Journal.{tells_of, content_of, accounts_of, aside_of};
     ghost use Rattle.answer_journal.specs.Journal.{faults_of};
     ghost use Rattle.answer_journal.specs.Journal.{identity_of, length_of, limit_of, payloads_of};
+    ghost use Rattle.answer_journal.specs.Journal.{version_of, start_of};
     ghost use Rattle.answer_journal.specs.Journal.{IsReady};
 
     /// Puts the next payload into the buffer, which then has just that payload, and gives the place
@@ -196,7 +235,7 @@ impl<D: Disk> Walk<D> {
         // None only after the last.
         ensures last { IfOk result (λ found. found ≡ None → IsTrue (D.tells self.old.disk)
             → first_payloads self.old.given (D.content self.old.disk)
-            ≡ payload_list shadowj1 (D.content self.old.disk)) }
+            ≡ (counted_in (D.content self.old.disk)).payloads) }
         ensures ended { IfOk result (λ found. found ≡ None → IsTrue (D.tells self.old.disk)
             → self.old.at + 1 ≡ self.old.size) }
         ensures stays { IfOk result (λ found. found ≡ None
@@ -211,6 +250,8 @@ impl<D: Disk> Walk<D> {
 
         ensures within { self.new.at < self.new.size }
         ensures size { self.new.size ≡ self.old.size }
+        ensures versions { (self.new.header_version ≡ self.old.header_version)
+            × (self.new.record_version ≡ self.old.record_version) }
         ensures limit { self.new.limit ≡ self.old.limit }
         ensures untouched { IsTrue (D.tells self.old.disk)
             → D.content self.new.disk ≡ D.content self.old.disk }
@@ -223,11 +264,17 @@ impl<D: Disk> Walk<D> {
         if self.extent.end <= self.at {
             return Ok(None);
         }
-        match read_record(alloc, &mut self.disk, self.at, self.extent) {
+        match read_record(
+            alloc,
+            &mut self.disk,
+            self.at,
+            self.extent.end,
+            self.extent.size,
+        ) {
             Ok(Some(bytes)) => {
                 let place = self.at;
                 self.at += 5 + bytes.len() as u64;
-                self.given += 1;
+                self.passed += 1;
                 self.last = place;
                 refill(buffer, bytes);
                 Ok(Some(place))
@@ -244,9 +291,30 @@ impl<D: Disk> Walk<D> {
         self.at
     }
 
+    /// The version that the file's header names, 1 or 2; 2 for a file of at most nine bytes.
+    pub fn version(&self) -> u8
+        ensures { result ≡ self.now.header_version }
+    {
+        self.extent.version
+    }
+
+    /// The version of the records that the walk gives: 2 also for a file with the header of the first version that was
+    /// moved.
+    pub fn record_version(&self) -> u8
+        ensures version { result ≡ self.now.record_version }
+        ensures one_of { (result ≡ 1) ⊎ (result ≡ 2) }
+    {
+        if self.extent.version == 1 && self.extent.skipped == 0 {
+            1
+        } else {
+            2
+        }
+    }
+
     /// The length in bytes that the journal is to have.
     pub fn length(&self) -> u64
-        ensures { result ≡ self.now.size }
+        ensures length { result ≡ self.now.size }
+        ensures few { result ≤ 536870912 }
     {
         self.extent.end + 1
     }
@@ -257,13 +325,15 @@ impl<D: Disk> Walk<D> {
         ensures at { self.new.at ≡ self.old.at }
         ensures given { self.new.given ≡ self.old.given }
         ensures size { self.new.size ≡ self.old.size }
+        ensures versions { (self.new.header_version ≡ self.old.header_version)
+            × (self.new.record_version ≡ self.old.record_version) }
         ensures limit { self.new.limit ≡ self.old.limit }
         ensures untouched { IsTrue (D.tells self.old.disk)
             → D.content self.new.disk ≡ D.content self.old.disk }
         ensures accounts { IsTrue (D.tells self.old.disk)
             → D.accounts self.new.disk ≡ D.accounts self.old.disk }
         ensures aside { OnOk result (IsTrue (D.tells self.old.disk) → D.aside self.new.disk
-            ≡ D.aside self.old.disk ++ tail_gates shadowj1 (D.content self.old.disk)) }
+            ≡ D.aside self.old.disk ++ tail_gates (D.content self.old.disk)) }
         ensures kept { OnErr result (IsTrue (D.tells self.old.disk)
             → D.aside self.new.disk ≡ D.aside self.old.disk) }
         ensures cause { OnErr result
@@ -273,22 +343,56 @@ impl<D: Disk> Walk<D> {
         put_tail_aside(&mut self.disk, self.extent)
     }
 
+    /// Writes the gate of the mark again as it reads, where one moved the file, and syncs: the last writer may have ended after
+    /// a sync that failed. The file and the walk stay as they are.
+    pub fn settle_mark(&mut self) -> Result<(), Failed>
+        ensures at { self.new.at ≡ self.old.at }
+        ensures given { self.new.given ≡ self.old.given }
+        ensures size { self.new.size ≡ self.old.size }
+        ensures versions { (self.new.header_version ≡ self.old.header_version)
+            × (self.new.record_version ≡ self.old.record_version) }
+        ensures limit { self.new.limit ≡ self.old.limit }
+        ensures untouched { IsTrue (D.tells self.old.disk)
+            → D.content self.new.disk ≡ D.content self.old.disk }
+        ensures moments { IsTrue (D.tells self.old.disk)
+            → AtEachMoment (D.accounts self.old.disk) (D.accounts self.new.disk)
+            (IsImage (latest (D.accounts self.old.disk))) }
+        ensures left { IsTrue (D.tells self.old.disk)
+            → IsSettledOrInterrupted (D.content self.new.disk) (D.accounts self.new.disk) }
+        // If that gate was being opened, it is on the disk now.
+        ensures settled { OnOk result (IsTrue (D.tells self.old.disk)
+            → self.old.header_version ≡ 1 → self.old.record_version ≡ 2
+            → IsBeingSwitched (D.accounts self.old.disk)
+            → IsSettled (D.content self.new.disk) (D.accounts self.new.disk)) }
+        ensures aside { IsTrue (D.tells self.old.disk)
+            → D.aside self.new.disk ≡ D.aside self.old.disk }
+        ensures cause { OnErr result
+            (Rose (D.faults self.old.disk) (D.faults self.new.disk)) }
+        ensures frame { IsLent D.tells D.identity D.faults self.old.disk self.new.disk }
+    {
+        settle_mark(&mut self.disk, self.extent)
+    }
+
     /// Makes the file a journal, as opening does, once all payloads were given. What follows the first closed gate is put
     /// aside before it is cut. If a call of the disk fails, the disk has counted that and comes back. The file may then be
     /// changed in part.
     pub fn finish(self) -> Result<Journal<D>, (D, OpenFault)>
-        requires { IsTrue (D.tells self.disk)
+        requires version { self.record_version ≡ 2 }
+        requires all { IsTrue (D.tells self.disk)
             → first_payloads self.given (D.content self.disk)
-            ≡ payload_list shadowj1 (D.content self.disk) }
+            ≡ (counted_in (D.content self.disk)).payloads }
         ensures ready { IfOk result IsReady }
         ensures limit { IfOk result (λ journal. limit_of journal ≡ self.limit) }
         ensures length { IfOk result (λ journal. length_of journal ≡ self.size) }
         // The walk is at the end of the file, also of a disk that does not report its content.
         ensures whole { OnOk result (self.at + 1 ≡ self.size) }
+        ensures version { IfOk result (λ journal. version_of journal ≡ self.header_version) }
+        ensures start { IfOk result (λ journal. IsTrue (D.tells self.disk)
+            → start_of journal ≡ first_gate (D.content self.disk)) }
         ensures keeps { IfOk result (λ journal. IsTrue (D.tells self.disk)
-            → payloads shadowj1 (D.content self.disk) ≡ Some (payloads_of journal)) }
+            → contents (D.content self.disk) ≡ Some (second (payloads_of journal))) }
         ensures content { IfOk result (λ journal. IsTrue (D.tells self.disk)
-            → content_of journal ≡ opened_file shadowj1 (D.content self.disk) (length_of journal)) }
+            → content_of journal ≡ opened_file (D.content self.disk) (length_of journal)) }
 
         // Only the disk can fail. A disk that doesn't report its content may have lost a record
         // since its frame was tested: then the file is not changed.
@@ -300,28 +404,28 @@ impl<D: Disk> Walk<D> {
         // At each moment of the call a crash leaves what it might have left before, or the same payloads.
         ensures moments { IfOk result (λ journal. IsTrue (D.tells self.disk)
             → AtEachMoment (D.accounts self.disk) (accounts_of journal)
-            (IsImageOrGives shadowj1 (latest (D.accounts self.disk)) (D.content self.disk))) }
+            (IsImageOrHolds (latest (D.accounts self.disk)) (D.content self.disk))) }
         ensures moments_err { IfErr result (λ e. IsTrue (D.tells self.disk)
             → AtEachMoment (D.accounts self.disk) (D.accounts e.0)
-            (IsImageOrGives shadowj1 (latest (D.accounts self.disk)) (D.content self.disk))) }
+            (IsImageOrHolds (latest (D.accounts self.disk)) (D.content self.disk))) }
         // The same payloads, where before it could leave nothing but the content.
         ensures settled { IfOk result (λ journal. IsTrue (D.tells self.disk)
             → AllImages (λ file. file ≡ D.content self.disk) (latest (D.accounts self.disk))
             → AtEachMoment (D.accounts self.disk) (accounts_of journal)
-            (λ file. payloads shadowj1 file ≡ payloads shadowj1 (D.content self.disk))) }
+            (λ file. contents file ≡ contents (D.content self.disk))) }
         ensures settled_err { IfErr result (λ e. IsTrue (D.tells self.disk)
             → AllImages (λ file. file ≡ D.content self.disk) (latest (D.accounts self.disk))
             → AtEachMoment (D.accounts self.disk) (D.accounts e.0)
-            (λ file. payloads shadowj1 file ≡ payloads shadowj1 (D.content self.disk))) }
+            (λ file. contents file ≡ contents (D.content self.disk))) }
         ensures images { IfOk result (λ journal. IsTrue (D.tells self.disk)
-            → AllImages (λ file. payloads shadowj1 file ≡ payloads shadowj1 (D.content self.disk))
+            → AllImages (λ file. contents file ≡ contents (D.content self.disk))
             (latest (accounts_of journal))) }
 
         // What is cut was put aside before, and nothing else was.
         ensures aside { IfOk result (λ journal. IsTrue (D.tells self.disk) → aside_of journal
-            ≡ D.aside self.disk ++ tail_gates shadowj1 (D.content self.disk)) }
+            ≡ D.aside self.disk ++ tail_gates (D.content self.disk)) }
         ensures aside_err { IfErr result (λ e. IsTrue (D.tells self.disk)
-            → PutsTailAside shadowj1 (D.content self.disk) (D.content e.0)
+            → PutsTailAside (D.content self.disk) (D.content e.0)
             (D.accounts self.disk) (D.accounts e.0) (D.aside self.disk) (D.aside e.0)) }
 
         ensures grows { IfOk result (λ journal. D.faults self.disk ≤ faults_of journal) }
@@ -335,7 +439,7 @@ impl<D: Disk> Walk<D> {
             limit,
             extent,
             at,
-            given: _,
+            passed: _,
             last,
         } = self;
         if at < extent.end {
@@ -348,6 +452,89 @@ impl<D: Disk> Walk<D> {
                 size: extent.end + 1,
                 limit,
                 doubt: None,
+                version: extent.version,
+                start: extent.start,
+            }),
+            Err(_) => Err((disk, OpenFault::Disk)),
+        }
+    }
+
+    /// Makes the file of a journal of the first version ready to be moved, once all payloads were given: as `finish` does it
+    /// puts aside and cuts what follows the first closed gate. Then it writes the mark after that gate, which stays closed.
+    /// There has to be room for the mark and a gate. If a call of the disk fails, the disk has counted that and comes back.
+    /// The file may then be changed in part.
+    pub fn start_move(self) -> Result<Moving<D>, (D, OpenFault)>
+        requires version { self.record_version ≡ 1 }
+        requires room { self.size + 6 ≤ self.limit }
+        requires all { IsTrue (D.tells self.disk)
+            → first_payloads self.given (D.content self.disk)
+            ≡ (counted_in (D.content self.disk)).payloads }
+        ensures moving { IfOk result (λ moving. IsTrue (D.tells self.disk)
+            → IsMoving (counted_in (D.content self.disk)).payloads [] (D.content moving.disk)
+            (D.accounts moving.disk) moving.gate moving.end) }
+        ensures places { IfOk result
+            (λ moving. (moving.gate + 1 ≡ self.size) × (moving.end ≡ self.size + 5)) }
+        ensures limit { IfOk result (λ moving. moving.limit ≡ self.limit) }
+        ensures whole { OnOk result (self.at + 1 ≡ self.size) }
+
+        // Only the disk can fail, as where the file is finished.
+        ensures why { IfErr result (λ e. IsTrue (D.tells self.disk) → e.1 ≡ OpenFault.Disk) }
+        ensures cause { IfErr result
+            (λ e. e.1 ≡ OpenFault.Disk → Rose (D.faults self.disk) (D.faults e.0)) }
+        ensures untouched { IfErr result (λ e. e.1 ≢ OpenFault.Disk → e.0 ≡ self.disk) }
+
+        // At each moment of the call a crash leaves what it might have left before, or the same payloads.
+        ensures moments { IfOk result (λ moving. IsTrue (D.tells self.disk)
+            → AtEachMoment (D.accounts self.disk) (D.accounts moving.disk)
+            (IsImageOrUnmoved (latest (D.accounts self.disk))
+            (counted_in (D.content self.disk)).payloads)) }
+        ensures moments_err { IfErr result (λ e. IsTrue (D.tells self.disk)
+            → AtEachMoment (D.accounts self.disk) (D.accounts e.0)
+            (IsImageOrUnmoved (latest (D.accounts self.disk))
+            (counted_in (D.content self.disk)).payloads)) }
+        // The same payloads, where before it could leave nothing but the content.
+        ensures settled { IfOk result (λ moving. IsTrue (D.tells self.disk)
+            → AllImages (λ file. file ≡ D.content self.disk) (latest (D.accounts self.disk))
+            → AtEachMoment (D.accounts self.disk) (D.accounts moving.disk)
+            (IsUnmoved (counted_in (D.content self.disk)).payloads)) }
+        ensures settled_err { IfErr result (λ e. IsTrue (D.tells self.disk)
+            → AllImages (λ file. file ≡ D.content self.disk) (latest (D.accounts self.disk))
+            → AtEachMoment (D.accounts self.disk) (D.accounts e.0)
+            (IsUnmoved (counted_in (D.content self.disk)).payloads)) }
+
+        // What is cut was put aside before, and nothing else was.
+        ensures aside { IfOk result (λ moving. IsTrue (D.tells self.disk) → D.aside moving.disk
+            ≡ D.aside self.disk ++ tail_gates (D.content self.disk)) }
+        ensures aside_err { IfErr result (λ e. IsTrue (D.tells self.disk)
+            → PutsTailAside (D.content self.disk) (D.content e.0)
+            (D.accounts self.disk) (D.accounts e.0) (D.aside self.disk) (D.aside e.0)) }
+
+        ensures frame { IfOk result
+            (λ moving. IsLent D.tells D.identity D.faults self.disk moving.disk) }
+        ensures frame_err { IfErr result
+            (λ e. IsLent D.tells D.identity D.faults self.disk e.0) }
+    {
+        let Walk {
+            disk,
+            limit,
+            extent,
+            at,
+            passed: _,
+            last,
+        } = self;
+        if at < extent.end {
+            return Err((disk, OpenFault::Cut(at)));
+        }
+        let mut disk = disk;
+        if finish_file(&mut disk, extent, last).is_err() {
+            return Err((disk, OpenFault::Disk));
+        }
+        match write_mark(&mut disk, extent.end) {
+            Ok(()) => Ok(Moving {
+                disk,
+                limit,
+                gate: extent.end,
+                end: extent.end + 6,
             }),
             Err(_) => Err((disk, OpenFault::Disk)),
         }
@@ -362,7 +549,7 @@ impl<D: Disk> Walk<D> {
             limit: _,
             extent: _,
             at: _,
-            given: _,
+            passed: _,
             last: _,
         } = self;
         disk
@@ -371,15 +558,17 @@ impl<D: Disk> Walk<D> {
 
 /// The payloads that a walk is to give from its start on, with the places of their gates.
 pub fn read_all<D: Disk>(alloc: Global, walk: &mut Walk<D>) -> Result<Vec<Payload>, OpenFault>
-    requires start { (walk.old.at ≡ 8) × (walk.old.given ≡ 0) }
+    requires start { walk.old.given ≡ 0 }
     ensures places { IfOk result
-        (λ read. map at_of read.items ≡ places_of 8 (map bytes_of read.items)) }
+        (λ read. map at_of read.items ≡ places_of walk.old.at (map bytes_of read.items)) }
     ensures bytes { IfOk result (λ read. IsTrue (D.tells walk.old.disk)
         → map bytes_of read.items ≡ first_payloads walk.new.given (D.content walk.old.disk)) }
     // All of them.
     ensures last { OnOk result (IsTrue (D.tells walk.old.disk)
         → first_payloads walk.new.given (D.content walk.old.disk)
-        ≡ payload_list shadowj1 (D.content walk.old.disk)) }
+        ≡ (counted_in (D.content walk.old.disk)).payloads) }
+    ensures versions { (walk.new.header_version ≡ walk.old.header_version)
+        × (walk.new.record_version ≡ walk.old.record_version) }
     ensures err { IfErr result
         (IsOfDevice (Rose (D.faults walk.old.disk) (D.faults walk.new.disk))) }
     ensures limit { walk.new.limit ≡ walk.old.limit }

@@ -1,7 +1,7 @@
 -- The definition, computed on command lines.
 use Rattle.std.proofs.Common.{◌≡◌, ℕ, List, [], ◌∷◌, Some, None, refl, codes}
 use Rattle.exam_text.specs.Numbers.{number_of}
-use Rattle.command_line.specs.Commands.{Check, Assemble, Replay, Serve, Audit, Drill, command_of, table, of_two, drill_of}
+use Rattle.command_line.specs.Commands.{Check, Assemble, Replay, Serve, Audit, Drill, Migrate, command_of, table, of_two, drill_of}
 
 -- ---- the words of the table
 a_check : command_of (codes "check" ∷ codes "b" ∷ codes "p" ∷ []) ≡ Some (Check (codes "b") (codes "p"))
@@ -23,6 +23,10 @@ a_server = refl
 an_audit : command_of (codes "audit" ∷ codes "b" ∷ codes "p" ∷ []) ≡ Some (Audit (codes "b") (codes "p"))
 unfolding command_of table of_two
 an_audit = refl
+
+a_migration : command_of (codes "migrate" ∷ codes "b" ∷ codes "p" ∷ []) ≡ Some (Migrate (codes "b") (codes "p"))
+unfolding command_of table of_two
+a_migration = refl
 
 a_drill : command_of (codes "drill" ∷ codes "7" ∷ codes "2" ∷ []) ≡ Some (Drill 7 2)
 unfolding command_of table of_two drill_of number_of

@@ -9,7 +9,7 @@ use Rattle.std.proofs.lemmas.Fmt.{decimal_nonempty, first_decimal, decimal_digit
 use Rattle.std.proofs.lemmas.Slice.Eq.{bytes_eq-Decides}
 use Rattle.exam_text.specs.Numbers.{number_of}
 use Rattle.exam_text.proofs.Numerals.{number_is, number_again}
-use Rattle.command_line.specs.Commands.{Command, Check, Assemble, Replay, Serve, Audit, Drill, IsCommand, is_no_name, sessions_of, drill_of, of_two, table, command_of, words_of}
+use Rattle.command_line.specs.Commands.{Command, Check, Assemble, Replay, Serve, Audit, Drill, Migrate, IsCommand, is_no_name, sessions_of, drill_of, of_two, table, command_of, words_of}
 
 -- ---- the words of a command ask for it
 
@@ -45,6 +45,7 @@ answered (Check bank plan) h = named (words_of (Check bank plan)) (Check bank pl
 answered (Assemble bank plan) h = named (words_of (Assemble bank plan)) (Assemble bank plan) (two_names bank plan h.0 h.1) refl
 answered (Serve bank plan) h = named (words_of (Serve bank plan)) (Serve bank plan) (two_names bank plan h.0 h.1) refl
 answered (Audit bank plan) h = named (words_of (Audit bank plan)) (Audit bank plan) (two_names bank plan h.0 h.1) refl
+answered (Migrate bank plan) h = named (words_of (Migrate bank plan)) (Migrate bank plan) (two_names bank plan h.0 h.1) refl
 answered (Replay bank plan script) h =
     named (words_of (Replay bank plan script)) (Replay bank plan script) (or_from (is_no_name bank) _ h.0 (two_names plan script h.1 h.2)) refl
 answered (Drill n s) h =
@@ -103,7 +104,8 @@ two_asked word first second c a b e =
     (λ _ e3. either (P c) c (bytes_eq word (codes "audit")) _ _ e3 (λ h f. at P (Audit first second) c f ((a, b), ap front (same_word word (codes "audit") h)))
     (λ _ e4. either (P c) c (bytes_eq word (codes "drill")) _ _ e4
     (λ h f. (let d = drill_asked first second c f in (d.0, ap front (same_word word (codes "drill") h) ∙ d.1)))
-    (λ _ e5. absurd (none_is c e5))))))
+    (λ _ e5. either (P c) c (bytes_eq word (codes "migrate")) _ _ e5 (λ h f. at P (Migrate first second) c f ((a, b), ap front (same_word word (codes "migrate") h)))
+    (λ _ e6. absurd (none_is c e6)))))))
 
 table_asked : (words : List (List ℕ)) (c : Command) → list_any is_no_name words ≡ false → table words ≡ Some c → IsAsked words c
 unfolding table

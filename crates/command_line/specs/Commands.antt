@@ -5,7 +5,7 @@ use Rattle.std.specs.List.{list_any}
 use Rattle.std.specs.Option.{option_map, option_and_then}
 use Rattle.exam_text.specs.Numbers.{number_of}
 use Rattle.command_line.specs.declared.command.Command.{Command as Asked}
-use Rattle.command_line.specs.declared.command.Command.TheVariants.{Check as AskedCheck, Assemble as AskedAssemble, Replay as AskedReplay, Serve as AskedServe, Audit as AskedAudit, Drill as AskedDrill}
+use Rattle.command_line.specs.declared.command.Command.TheVariants.{Check as AskedCheck, Assemble as AskedAssemble, Replay as AskedReplay, Serve as AskedServe, Audit as AskedAudit, Drill as AskedDrill, Migrate as AskedMigrate}
 
 -- a command, with the names of its files as bytes
 pub data Command : Type 0 where
@@ -15,6 +15,7 @@ pub data Command : Type 0 where
   Serve : (bank plan : List ℕ) → Command
   Audit : (bank plan : List ℕ) → Command
   Drill : (number sessions : ℕ) → Command
+  Migrate : (bank plan : List ℕ) → Command
 
 -- a word that names nothing: an empty one, or one that begins with a hyphen
 abbrev pub is_no_name : List ℕ → Bool
@@ -38,7 +39,8 @@ of_two word first second =
     else (if bytes_eq word (codes "serve") then Some (Serve first second)
     else (if bytes_eq word (codes "audit") then Some (Audit first second)
     else (if bytes_eq word (codes "drill") then drill_of first second
-    else None))))
+    else (if bytes_eq word (codes "migrate") then Some (Migrate first second)
+    else None)))))
 
 -- the commands that there are, by their words
 unfoldable pub table : List (List ℕ) → Option Command
@@ -59,6 +61,7 @@ said (AskedReplay bank plan script) = Replay bank.now plan.now script.now
 said (AskedServe bank plan) = Serve bank.now plan.now
 said (AskedAudit bank plan) = Audit bank.now plan.now
 said (AskedDrill number sessions) = Drill number sessions
+said (AskedMigrate bank plan) = Migrate bank.now plan.now
 
 -- the words that ask for it
 abbrev pub words_of : Command → List (List ℕ)
@@ -68,6 +71,7 @@ words_of (Replay bank plan script) = codes "replay" ∷ bank ∷ plan ∷ script
 words_of (Serve bank plan) = codes "serve" ∷ bank ∷ plan ∷ []
 words_of (Audit bank plan) = codes "audit" ∷ bank ∷ plan ∷ []
 words_of (Drill number sessions) = codes "drill" ∷ decimal number ∷ decimal sessions ∷ []
+words_of (Migrate bank plan) = codes "migrate" ∷ bank ∷ plan ∷ []
 
 -- words may name its files, and its numbers are in their ranges
 abbrev pub IsCommand : Command → Type 0
@@ -78,6 +82,7 @@ IsCommand (Replay bank plan script) =
 IsCommand (Serve bank plan) = IsFalse (is_no_name bank) × IsFalse (is_no_name plan)
 IsCommand (Audit bank plan) = IsFalse (is_no_name bank) × IsFalse (is_no_name plan)
 IsCommand (Drill number sessions) = (number < 2 ^ 32) × (0 < sessions) × (sessions ≤ 200)
+IsCommand (Migrate bank plan) = IsFalse (is_no_name bank) × IsFalse (is_no_name plan)
 
 -- the names of the bank and the plan that it reads; a drill reads no file
 abbrev pub files_of : Command → Option (List ℕ × List ℕ)
@@ -87,6 +92,7 @@ files_of (Replay bank plan script) = Some (bank, plan)
 files_of (Serve bank plan) = Some (bank, plan)
 files_of (Audit bank plan) = Some (bank, plan)
 files_of (Drill number sessions) = None
+files_of (Migrate bank plan) = Some (bank, plan)
 
 -- it is a replay
 abbrev pub IsReplay : Command → Type 0
@@ -96,6 +102,7 @@ IsReplay (Replay bank plan script) = Unit {0}
 IsReplay (Serve bank plan) = ⊥
 IsReplay (Audit bank plan) = ⊥
 IsReplay (Drill number sessions) = ⊥
+IsReplay (Migrate bank plan) = ⊥
 
 -- the words ask for one
 abbrev pub IsOfReplay : Option Command → Type 0
@@ -110,6 +117,7 @@ IsServe (Replay bank plan script) = ⊥
 IsServe (Serve bank plan) = Unit {0}
 IsServe (Audit bank plan) = ⊥
 IsServe (Drill number sessions) = ⊥
+IsServe (Migrate bank plan) = ⊥
 
 -- the words ask for that
 abbrev pub IsOfServe : Option Command → Type 0
@@ -124,6 +132,7 @@ HasJournal (Replay bank plan script) = Unit {0}
 HasJournal (Serve bank plan) = Unit {0}
 HasJournal (Audit bank plan) = Unit {0}
 HasJournal (Drill number sessions) = ⊥
+HasJournal (Migrate bank plan) = Unit {0}
 
 -- the words ask for that
 abbrev pub IsOfJournal : Option Command → Type 0
@@ -138,6 +147,7 @@ IsInRange (Assemble bank plan) = Unit {0}
 IsInRange (Replay bank plan script) = Unit {0}
 IsInRange (Serve bank plan) = Unit {0}
 IsInRange (Audit bank plan) = Unit {0}
+IsInRange (Migrate bank plan) = Unit {0}
 
 abbrev pub AreInRange : Option Command → Type 0
 AreInRange (Some command) = IsInRange command

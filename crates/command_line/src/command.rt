@@ -39,6 +39,11 @@ pub enum Command<'a> {
         number: u32,
         sessions: u32,
     },
+    /// Move the journal to the second version.
+    Migrate {
+        bank: &'a str,
+        plan: &'a str,
+    },
 }
 
 #[tactic(auto, unfolding(crate::specs::Commands::drill_of))]
@@ -80,6 +85,10 @@ fn of_two<'a>(word: &str, first: &'a str, second: &'a str) -> Option<Command<'a>
             plan: second,
         }),
         "drill" => drill_of(first, second),
+        "migrate" => Some(Command::Migrate {
+            bank: first,
+            plan: second,
+        }),
         _ => None,
     }
 }

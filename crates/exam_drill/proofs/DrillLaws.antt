@@ -21,6 +21,7 @@ use Rattle.bank_maker.specs.Items.{items}
 use Rattle.bank_maker.specs.Plans.{between, plan}
 use Rattle.history_model.specs.Summaries.{summary}
 use Rattle.answer_journal.specs.Frames.{payloads}
+use Rattle.answer_journal.specs.Versions.{contents, version_of}
 use Rattle.exam_office.specs.Files.{Stands}
 use Rattle.exam_office.specs.Marks.{history}
 use Rattle.exam_office.specs.Running.{Running}
@@ -32,8 +33,8 @@ use Rattle.exam_drill.specs.Leading.{LeadsTo, IsSummaryOf, IsExamFault, IsStoppe
 
 -- an empty file represents the empty history
 empty_stands : (b : Tables) (plan : Plan) → Stands b plan [] []
-unfolding payloads
-empty_stands b plan = record { records = []; are = record { spell = tt; backed = empty; entries = refl }; holds = refl }
+unfolding contents version_of payloads
+empty_stands b plan = record { records = []; are = record { spell = tt; backed = empty; entries = refl }; version = 2; holds = refl }
 
 pub begins_empty : (b : Tables) (plan : Plan) (H : List Entry) (file : List ℕ) → file ≡ [] → Stands b plan H file → H ≡ []
 begins_empty b plan H file e stands = one_history b plan H [] [] (subst (λ (bytes : List ℕ). Stands b plan H bytes) e stands) (empty_stands b plan)

@@ -12,8 +12,8 @@ use Rattle.history_model.specs.Halting.{IsCutOff, IsNextOf}
 use Rattle.history_model.specs.Judging.{Record, MayFollow}
 use Rattle.history_model.specs.Requests.{Does}
 use Rattle.history_model.specs.Summaries.{summary}
-use Rattle.exam_office.specs.Files.{payload_in}
 use Rattle.exam_records.specs.Shape.{IsRecord}
+use Rattle.exam_records.specs.Spelling.{payload_of}
 use Rattle.exam_drill.specs.declared.fault.DrillFault.{DrillFault}
 use Rattle.exam_drill.specs.declared.fault.DrillFault.TheVariants.{JournalFull, Memory}
 
@@ -45,7 +45,7 @@ pub record IsTooLong (b : Tables) (plan : Plan) (H : List Entry) (request : Requ
   pub spells : IsRecord last
   pub may : MayFollow b plan G last.entry last.tree
   pub reached : ℕ
-  pub size_is : size ≡ reached + 5 + length (payload_in b plan last)
+  pub size_is : size ≡ reached + 5 + length (payload_of last)
   pub above : plan.journal < size
 
 -- why a request was not done: the limit of the journal, or lack of memory

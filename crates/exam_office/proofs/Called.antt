@@ -11,7 +11,7 @@ use Rattle.exam_office.specs.declared.mark.Mark.{Mark}
 use Rattle.exam_office.specs.declared.mark.Mark.TheVariants.{Own}
 use Rattle.history_model.specs.declared.refusal.Refusal.{Refusal}
 use Rattle.history_model.specs.declared.refusal.Refusal.TheVariants.{NoSession, WrongStep, Other, BadResponse, IsClosed, Stale, SessionsFull, JournalFull, Disk, Memory}
-use Rattle.exam_office.specs.Files.{payload_in, Stands}
+use Rattle.exam_office.specs.Files.{Stands}
 use Rattle.exam_office.specs.Marks.{reach, history}
 use Rattle.exam_office.specs.Running.{Running}
 use Rattle.exam_office.specs.Writing.{IsMending, IsWriting, IsMended, IsSameOffice, IsFaulted, IsUnmended, IsUnwritten, with_record}
@@ -43,7 +43,7 @@ module _ {D : Type 0} (finds : List Entry → Finding → Type 0) (old mid new :
       is_entry = refl;
       spells = why.3;
       may = subst (λ (p : Plan). MayFollow old.bank p (history mid.marks) rec.entry rec.tree) same.plan (subst (λ (b : Tables). MayFollow b mid.plan (history mid.marks) rec.entry rec.tree) same.bank may);
-      size_is = why.1 ∙ (ap (λ (b : Tables). reach mid.marks + 5 + length (payload_in b mid.plan rec)) same.bank ∙ ap (λ (p : Plan). reach mid.marks + 5 + length (payload_in old.bank p rec)) same.plan);
+      size_is = why.1;
       above = subst (λ (p : Plan). p.journal < size) same.plan why.2;
     },
   )

@@ -8,10 +8,9 @@ use Rattle.certificate_model.specs.Relaxed.{Multipliers}
 use Rattle.history_model.specs.declared.entry.Entry.{Entry}
 use Rattle.history_model.specs.Judging.{MayFollow, Record}
 use Rattle.answer_journal.specs.Journal.{JournalState, length_of, tells_of, payloads_of, accounts_of, IsDoubtful}
-use Rattle.answer_journal.specs.Frames.{shadowj1}
-use Rattle.answer_journal.specs.Standing.{IsInDoubt}
+use Rattle.answer_journal.specs.Journal.{IsInDoubtAfter as OfJournal}
 use Rattle.exam_records.specs.Shape.{IsRecord}
-use Rattle.exam_office.specs.Files.{payload_in}
+use Rattle.exam_records.specs.Spelling.{payload_of}
 use Rattle.exam_office.specs.declared.vectors.NewVector.{NewVector}
 use Rattle.exam_office.specs.Warm.{IsInDoubtAfter, Holds}
 use Rattle.exam_office.specs.KeptVectors.{vector_at, AreVectorsOf, new_vector, HasRoom, AreVectorsWith, AreKeptVectors}
@@ -22,7 +21,7 @@ module _ {D : Type 0} (b : Tables) (plan : Plan) (H : List Entry) (j : JournalSt
   no_last R None held = refl
   no_last R (Some r) held = absurd held
 
-  held_surely : (R : List Record) (last : Option Record) → Holds b plan H j R None last → IsTrue (tells_of j) → payloads_of j ≡ map (payload_in b plan) R
+  held_surely : (R : List Record) (last : Option Record) → Holds b plan H j R None last → IsTrue (tells_of j) → payloads_of j ≡ map payload_of R
   held_surely R None held = held
   held_surely R (Some r) held = absurd held
 
@@ -30,13 +29,13 @@ module _ {D : Type 0} (b : Tables) (plan : Plan) (H : List Entry) (j : JournalSt
   has_last R entry None held = absurd held
   has_last R entry (Some r) held = (r, refl, held)
 
-  doubtful_so : (R : List Record) (j1 : JournalState D) (payload : List ℕ) → (IsTrue (tells_of j) → payloads_of j ≡ map (payload_in b plan) R) → tells_of j1 ≡ tells_of j
-      → IsDoubtful (payloads_of j) payload j1 → IsDoubtful (map (payload_in b plan) R) payload j1
+  doubtful_so : (R : List Record) (j1 : JournalState D) (payload : List ℕ) → (IsTrue (tells_of j) → payloads_of j ≡ map payload_of R) → tells_of j1 ≡ tells_of j
+      → IsDoubtful (payloads_of j) payload j1 → IsDoubtful (map payload_of R) payload j1
   doubtful_so R j1 payload holds tells d = record {
     with_it = d.with_it;
     doubt = d.doubt;
     with_is = d.with_is;
-    is = λ told1. subst (λ (ps : List (List ℕ)). IsInDoubt shadowj1 ps payload (accounts_of j1) (length_of j1) d.with_it) (holds (sym tells ∙ told1)) (d.is told1);
+    is = λ told1. subst (λ (ps : List (List ℕ)). OfJournal j1.version j1.start ps payload (accounts_of j1) (length_of j1) d.with_it) (holds (sym tells ∙ told1)) (d.is told1);
   }
 
   module _ (each each0 : List (Option Multipliers)) (new new0 : Option NewVector) (same : (s : ℕ) → vector_at each0 s ≡ vector_at each s) (same_new : new0 ≡ new) where
@@ -45,7 +44,7 @@ module _ {D : Type 0} (b : Tables) (plan : Plan) (H : List Entry) (j : JournalSt
       none_new : new0 ≡ None
       none_new = same_new ∙ (kept.new_is ∙ ap (option_and_then (new_vector b plan)) (no_last kept.records kept.last kept.holds))
 
-      holds_surely : IsTrue (tells_of j) → payloads_of j ≡ map (payload_in b plan) kept.records
+      holds_surely : IsTrue (tells_of j) → payloads_of j ≡ map payload_of kept.records
       holds_surely = held_surely kept.records kept.last kept.holds
 
       each_is : AreVectorsOf b plan kept.records each0
@@ -65,7 +64,7 @@ module _ {D : Type 0} (b : Tables) (plan : Plan) (H : List Entry) (j : JournalSt
 
       module _ (j1 : JournalState D) (r : Record) (spells : IsRecord r) (may : MayFollow b plan H r.entry r.tree) (tells : tells_of j1 ≡ tells_of j) (fresh : Option NewVector) (fresh_is : fresh ≡ new_vector b plan r) where
         -- the record was written
-        pub vectors_written : (IsTrue (tells_of j) → payloads_of j1 ≡ payloads_of j ++ payload_in b plan r ∷ []) → (each1 : List (Option Multipliers)) (new1 : Option NewVector) → AreVectorsWith each0 fresh each1 → new1 ≡ new0
+        pub vectors_written : (IsTrue (tells_of j) → payloads_of j1 ≡ payloads_of j ++ payload_of r ∷ []) → (each1 : List (Option Multipliers)) (new1 : Option NewVector) → AreVectorsWith each0 fresh each1 → new1 ≡ new0
             → AreKeptVectors b plan (H ++ r.entry ∷ []) j1 None each1 new1
         vectors_written added each1 new1 kept1 same1 = record {
           records = kept.records ++ r ∷ [];
@@ -73,14 +72,14 @@ module _ {D : Type 0} (b : Tables) (plan : Plan) (H : List Entry) (j : JournalSt
           last = None;
           holds = λ told1.
               let told = sym tells ∙ told1 in
-              added told ∙ (ap (λ (ps : List (List ℕ)). ps ++ payload_in b plan r ∷ []) (holds_surely told) ∙ sym (map-append (payload_in b plan) kept.records (r ∷ [])));
+              added told ∙ (ap (λ (ps : List (List ℕ)). ps ++ payload_of r ∷ []) (holds_surely told) ∙ sym (map-append payload_of kept.records (r ∷ [])));
           each_is = kept1 b plan r fresh_is kept.records each_is;
           new_is = same1 ∙ none_new;
           room = subst (HasRoom each1) (sym (same1 ∙ none_new)) tt;
         }
 
         -- the disk failed meanwhile
-        pub vectors_faulted : IsDoubtful (payloads_of j) (payload_in b plan r) j1 → HasRoom each0 fresh → (each1 : List (Option Multipliers)) (new1 : Option NewVector) → each1 ≡ each0 → new1 ≡ fresh
+        pub vectors_faulted : IsDoubtful (payloads_of j) (payload_of r) j1 → HasRoom each0 fresh → (each1 : List (Option Multipliers)) (new1 : Option NewVector) → each1 ≡ each0 → new1 ≡ fresh
             → AreKeptVectors b plan H j1 (Some r.entry) each1 new1
         vectors_faulted doubtful room each1 new1 each_same new_same =
             subst (λ (vs : List (Option Multipliers)). AreKeptVectors b plan H j1 (Some r.entry) vs new1) (sym each_same)
@@ -88,7 +87,7 @@ module _ {D : Type 0} (b : Tables) (plan : Plan) (H : List Entry) (j : JournalSt
               records = kept.records;
               are = kept.are;
               last = Some r;
-              holds = record { is_entry = refl; spells = spells; may = may; doubtful = doubtful_so kept.records j1 (payload_in b plan r) holds_surely tells doubtful };
+              holds = record { is_entry = refl; spells = spells; may = may; doubtful = doubtful_so kept.records j1 (payload_of r) holds_surely tells doubtful };
               each_is = each_is;
               new_is = fresh_is;
               room = room;
@@ -113,7 +112,7 @@ module _ {D : Type 0} (b : Tables) (plan : Plan) (H : List Entry) (j : JournalSt
             records = kept.records ++ r ∷ [];
             are = are_more b plan H kept.records kept.are r d.spells d.may;
             last = None;
-            holds = λ told1. mended (sym tells ∙ told1) (map (payload_in b plan) kept.records) (payload_in b plan r) d.doubtful ∙ sym (map-append (payload_in b plan) kept.records (r ∷ []));
+            holds = λ told1. mended (sym tells ∙ told1) (map payload_of kept.records) (payload_of r) d.doubtful ∙ sym (map-append payload_of kept.records (r ∷ []));
             each_is = kept1 b plan r new_found kept.records kept.each_is;
             new_is = none;
             room = subst (HasRoom each1) (sym none) tt;
@@ -129,7 +128,7 @@ module _ {D : Type 0} (b : Tables) (plan : Plan) (H : List Entry) (j : JournalSt
             records = kept.records;
             are = kept.are;
             last = None;
-            holds = λ told1. mended (sym tells ∙ told1) (map (payload_in b plan) kept.records) (payload_in b plan r) d.doubtful;
+            holds = λ told1. mended (sym tells ∙ told1) (map payload_of kept.records) (payload_of r) d.doubtful;
             each_is = λ s. ap (λ (vs : List (Option Multipliers)). vector_at vs s) same ∙ kept.each_is s;
             new_is = none;
             room = subst (HasRoom each1) (sym none) tt;
@@ -144,7 +143,7 @@ module _ {D : Type 0} (b : Tables) (plan : Plan) (H : List Entry) (j : JournalSt
           records = kept.records;
           are = kept.are;
           last = Some r;
-          holds = record { is_entry = d.is_entry; spells = d.spells; may = d.may; doubtful = still (map (payload_in b plan) kept.records) (payload_in b plan r) d.doubtful };
+          holds = record { is_entry = d.is_entry; spells = d.spells; may = d.may; doubtful = still (map payload_of kept.records) (payload_of r) d.doubtful };
           each_is = kept.each_is;
           new_is = new_found;
           room = kept.room;

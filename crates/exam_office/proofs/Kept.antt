@@ -9,12 +9,12 @@ use Rattle.history_model.specs.declared.entry.Entry.{Entry}
 use Rattle.history_model.specs.Judging.{MayFollow, Record}
 use Rattle.exam_session.specs.Ledgers.{Ledger}
 use Rattle.answer_journal.specs.Journal.{JournalState, length_of, limit_of, tells_of, accounts_of, payloads_of, IsReady, IsDoubtful, faults_of}
-use Rattle.answer_journal.specs.Frames.{shadowj1}
-use Rattle.answer_journal.specs.Standing.{IsInDoubt}
+use Rattle.answer_journal.specs.Journal.{IsInDoubtAfter as OfJournal}
 use Rattle.exam_records.specs.Shape.{IsRecord}
+use Rattle.exam_records.specs.Spelling.{payload_of}
 use Rattle.exam_office.specs.declared.mark.Mark.{Mark}
 use Rattle.exam_office.specs.declared.mark.Mark.TheVariants.{Own, Adopted, Fault}
-use Rattle.exam_office.specs.Files.{payload_in, AreRecordsOf}
+use Rattle.exam_office.specs.Files.{AreRecordsOf}
 use Rattle.exam_office.specs.Marks.{history, reach, AreMarks, own, fault, adopted, AreCounted}
 use Rattle.exam_office.specs.Keeping.{IsSure, IsUnsure, IsBacked, IsKept}
 use Rattle.exam_office.specs.Moments.{IsInHand, written, failed, kept as kept_on_disk, dropped, AreMoments, one_more}
@@ -29,14 +29,14 @@ some_room now before is = omega (arith, is)
 
 module _ {D : Type 0} (b : Tables) (plan : Plan) (base : List ℕ) (was : HandedDisk) (book book1 : Ledger) (j j1 : JournalState D) (M : List Mark) where
   sure_more : (H : List Entry) (r : Record) (s : IsSure b plan H j) → IsRecord r → MayFollow b plan H r.entry r.tree → IsReady j1 → tells_of j1 ≡ tells_of j
-      → (IsTrue (tells_of j) → payloads_of j1 ≡ payloads_of j ++ payload_in b plan r ∷ []) → IsSure b plan (H ++ r.entry ∷ []) j1
+      → (IsTrue (tells_of j) → payloads_of j1 ≡ payloads_of j ++ payload_of r ∷ []) → IsSure b plan (H ++ r.entry ∷ []) j1
   sure_more H r s spells may ready tells added = record {
     records = s.records ++ r ∷ [];
     are = are_more b plan H s.records s.are r spells may;
     ready = ready;
     holds = λ told1.
         let told = sym tells ∙ told1 in
-        added told ∙ (ap (λ (ps : List (List ℕ)). ps ++ payload_in b plan r ∷ []) (s.holds told) ∙ sym (map-append (payload_in b plan) s.records (r ∷ [])));
+        added told ∙ (ap (λ (ps : List (List ℕ)). ps ++ payload_of r ∷ []) (s.holds told) ∙ sym (map-append payload_of s.records (r ∷ [])));
   }
 
   -- an entry was in hand
@@ -51,7 +51,7 @@ module _ {D : Type 0} (b : Tables) (plan : Plan) (base : List ℕ) (was : Handed
   pub kept_own : (kept : IsKept b plan base book j M None was) (r : Record) → IsRecord r → MayFollow b plan (history M) r.entry r.tree
       → book1.bank ≡ book.bank → book1.plan ≡ book.plan → book1.entries ≡ book.entries ++ r.entry ∷ []
       → IsReady j1 → limit_of j1 ≡ limit_of j → faults_of j ≤ faults_of j1 → tells_of j1 ≡ tells_of j
-      → (IsTrue (tells_of j) → payloads_of j1 ≡ payloads_of j ++ payload_in b plan r ∷ [])
+      → (IsTrue (tells_of j) → payloads_of j1 ≡ payloads_of j ++ payload_of r ∷ [])
       → (IsTrue (tells_of j) → AtEachMoment (accounts_of j) (accounts_of j1) (IsWriting b plan (history M) r.entry))
       → IsKept b plan base book1 j1 (M ++ Own r.entry (length_of j1) ∷ []) None was
   kept_own kept r spells may bank plan_is entries ready limit grows tells added writing =
@@ -70,18 +70,18 @@ module _ {D : Type 0} (b : Tables) (plan : Plan) (base : List ℕ) (was : Handed
         moments = moments_more None kept tells r.entry (M ++ Own r.entry (length_of j1) ∷ []) (written M (length_of j1)) writing;
       }
 
-  doubtful_so : (H : List Entry) (s : IsSure b plan H j) (payload : List ℕ) → tells_of j1 ≡ tells_of j → IsDoubtful (payloads_of j) payload j1 → IsDoubtful (map (payload_in b plan) s.records) payload j1
+  doubtful_so : (H : List Entry) (s : IsSure b plan H j) (payload : List ℕ) → tells_of j1 ≡ tells_of j → IsDoubtful (payloads_of j) payload j1 → IsDoubtful (map payload_of s.records) payload j1
   doubtful_so H s payload tells d = record {
     with_it = d.with_it;
     doubt = d.doubt;
     with_is = d.with_is;
-    is = λ told1. subst (λ (ps : List (List ℕ)). IsInDoubt shadowj1 ps payload (accounts_of j1) (length_of j1) d.with_it) (s.holds (sym tells ∙ told1)) (d.is told1);
+    is = λ told1. subst (λ (ps : List (List ℕ)). OfJournal j1.version j1.start ps payload (accounts_of j1) (length_of j1) d.with_it) (s.holds (sym tells ∙ told1)) (d.is told1);
   }
 
   -- the disk failed while an entry was written
   pub kept_fault : (kept : IsKept b plan base book j M None was) (r : Record) → IsRecord r → MayFollow b plan (history M) r.entry r.tree
       → book1.bank ≡ book.bank → book1.plan ≡ book.plan → book1.entries ≡ book.entries → 0 < book1.room
-      → IsDoubtful (payloads_of j) (payload_in b plan r) j1 → length_of j1 ≡ length_of j → limit_of j1 ≡ limit_of j → Rose (faults_of j) (faults_of j1) → faults_of j ≤ faults_of j1 → tells_of j1 ≡ tells_of j
+      → IsDoubtful (payloads_of j) (payload_of r) j1 → length_of j1 ≡ length_of j → limit_of j1 ≡ limit_of j → Rose (faults_of j) (faults_of j1) → faults_of j ≤ faults_of j1 → tells_of j1 ≡ tells_of j
       → (IsTrue (tells_of j) → AtEachMoment (accounts_of j) (accounts_of j1) (IsWriting b plan (history M) r.entry))
       → IsKept b plan base book1 j1 (M ++ Fault r.entry ∷ []) (Some r.entry) was
   kept_fault kept r spells may bank plan_is entries room doubtful size limit rose grows tells writing =
@@ -103,7 +103,7 @@ module _ {D : Type 0} (b : Tables) (plan : Plan) (base : List ℕ) (was : Handed
           is_entry = refl;
           spells = spells;
           may = subst (λ (H : List Entry). MayFollow b plan H r.entry r.tree) (sym e) may;
-          doubtful = doubtful_so (history M) s (payload_in b plan r) tells doubtful;
+          doubtful = doubtful_so (history M) s (payload_of r) tells doubtful;
           has_room = room;
           before = M;
           fault = refl;
@@ -128,7 +128,7 @@ module _ {D : Type 0} (b : Tables) (plan : Plan) (base : List ℕ) (was : Handed
         records = u.records ++ u.last ∷ [];
         are = are_more b plan H u.records u.are u.last u.spells u.may;
         ready = ready;
-        holds = λ told1. mended (sym tells ∙ told1) (map (payload_in b plan) u.records) (payload_in b plan u.last) u.doubtful ∙ sym (map-append (payload_in b plan) u.records (u.last ∷ []));
+        holds = λ told1. mended (sym tells ∙ told1) (map payload_of u.records) (payload_of u.last) u.doubtful ∙ sym (map-append payload_of u.records (u.last ∷ []));
       } in
       record {
         bank = bank ∙ kept.bank;
@@ -164,7 +164,7 @@ module _ {D : Type 0} (b : Tables) (plan : Plan) (base : List ℕ) (was : Handed
         marks_are = kept.marks_are;
         counted = counted-still M was.faults (faults_of j) (faults_of j1) kept.counted grows;
         grows = omega (arith, kept.grows, grows);
-        backed = record { records = u.records; are = u.are; ready = ready; holds = λ told1. mended (sym tells ∙ told1) (map (payload_in b plan) u.records) (payload_in b plan u.last) u.doubtful };
+        backed = record { records = u.records; are = u.are; ready = ready; holds = λ told1. mended (sym tells ∙ told1) (map payload_of u.records) (payload_of u.last) u.doubtful };
         base_is = kept.base_is;
         moments = moments_more (Some entry) kept tells entry M (subst (λ (N : List Mark). IsInHand entry N N) (sym u.fault) (dropped u.before)) writing;
       }
@@ -195,7 +195,7 @@ module _ {D : Type 0} (b : Tables) (plan : Plan) (base : List ℕ) (was : Handed
           is_entry = u.is_entry;
           spells = u.spells;
           may = subst (λ (H : List Entry). MayFollow b plan H u.last.entry u.last.tree) (sym e) u.may;
-          doubtful = still (map (payload_in b plan) u.records) (payload_in b plan u.last) u.doubtful;
+          doubtful = still (map payload_of u.records) (payload_of u.last) u.doubtful;
           has_room = subst (λ (n : ℕ). 0 < n) (sym room) u.has_room;
           before = M;
           fault = refl;

@@ -29,3 +29,10 @@ pub mod VectorLaws
 pub mod KeepingVectors
 pub mod Warmed
 mod WarmOfA
+pub mod MigratingLengths
+pub mod MigratingFiles
+pub mod MigratingSteps
+pub mod MigratingPassing
+pub mod MigratingEnds
+pub mod MigratingLaws
+pub mod MigratingSwitch

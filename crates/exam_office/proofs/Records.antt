@@ -9,9 +9,9 @@ use Rattle.history_model.specs.declared.entry.Entry.{Entry}
 use Rattle.history_model.specs.declared.entry.Entry.TheVariants.{Started, SetAside, Served, Answered, Closed}
 use Rattle.history_model.specs.Judging.{MayFollow, Record, entries_of, Backed, more}
 use Rattle.exam_records.specs.Shape.{GoesWith, IsRecord}
-use Rattle.answer_journal.specs.Frames.{payloads, shadowj1}
-use Rattle.answer_journal.specs.Standing.{IsBeforeOrWith}
-use Rattle.exam_office.specs.Files.{payload_in, AreRecordsOf, Stands}
+use Rattle.exam_records.specs.Spelling.{payload_of}
+use Rattle.answer_journal.specs.Versions.{contents, second, HoldsOrOneMore}
+use Rattle.exam_office.specs.Files.{counted_of, AreRecordsOf, Stands}
 use Rattle.exam_office.specs.Writing.{IsWriting}
 
 -- a record that may follow has a tree if its entry needs one, with as many nodes as its entry has
@@ -39,17 +39,21 @@ module _ (b : Tables) (plan : Plan) (H : List Entry) (R : List Record) (are : Ar
     entries = map-append (λ (q : Record). q.entry) R (r ∷ []) ∙ ap (λ (G : List Entry). G ++ r.entry ∷ []) are.entries;
   }
 
-  pub stands_so : (file : List ℕ) → payloads shadowj1 file ≡ Some (map (payload_in b plan) R) → Stands b plan H file
-  stands_so file holds = record { records = R; are = are; holds = holds }
+  pub stands_by : (version : ℕ) (file : List ℕ) → contents file ≡ Some (counted_of b plan version R) → Stands b plan H file
+  stands_by version file holds = record { records = R; are = are; version = version; holds = holds }
 
-  pub stands_more : (r : Record) → IsRecord r → MayFollow b plan H r.entry r.tree → (file : List ℕ) → payloads shadowj1 file ≡ Some (map (payload_in b plan) R ++ payload_in b plan r ∷ []) → Stands b plan (H ++ r.entry ∷ []) file
+  pub stands_so : (file : List ℕ) → contents file ≡ Some (second (map payload_of R)) → Stands b plan H file
+  stands_so file holds = stands_by 2 file holds
+
+  pub stands_more : (r : Record) → IsRecord r → MayFollow b plan H r.entry r.tree → (file : List ℕ) → contents file ≡ Some (second (map payload_of R ++ payload_of r ∷ [])) → Stands b plan (H ++ r.entry ∷ []) file
   stands_more r spells may file holds = record {
     records = R ++ r ∷ [];
     are = are_more r spells may;
-    holds = holds ∙ ap Some (sym (map-append (payload_in b plan) R (r ∷ [])));
+    version = 2;
+    holds = holds ∙ ap (λ (ps : List (List ℕ)). Some (second ps)) (sym (map-append payload_of R (r ∷ [])));
   }
 
-  pub writes : (r : Record) → IsRecord r → MayFollow b plan H r.entry r.tree → (file : List ℕ) → IsBeforeOrWith shadowj1 (map (payload_in b plan) R) (payload_in b plan r) file → IsWriting b plan H r.entry file
+  pub writes : (r : Record) → IsRecord r → MayFollow b plan H r.entry r.tree → (file : List ℕ) → HoldsOrOneMore (map payload_of R) (payload_of r) file → IsWriting b plan H r.entry file
   writes r spells may file either = elim either [
     | inl before ↦ inl (stands_so file before)
     | inr after ↦ inr (stands_more r spells may file after)

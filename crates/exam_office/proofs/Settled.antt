@@ -9,11 +9,11 @@ use Rattle.history_model.specs.Legality.{Legal}
 use Rattle.history_model.specs.Laws.{MayIsLegal}
 use Rattle.exam_session.specs.Ledgers.{Ledger}
 use Rattle.answer_journal.specs.Journal.{JournalState, length_of, limit_of, tells_of, accounts_of, payloads_of, IsReady, IsDoubtful, faults_of}
-use Rattle.answer_journal.specs.Standing.{IsBeforeOrWith}
-use Rattle.answer_journal.specs.Frames.{shadowj1}
+use Rattle.answer_journal.specs.Versions.{HoldsOrOneMore}
 use Rattle.exam_office.specs.declared.mark.Mark.{Mark}
 use Rattle.exam_office.specs.declared.mark.Mark.TheVariants.{Adopted, Fault}
-use Rattle.exam_office.specs.Files.{payload_in, Stands}
+use Rattle.exam_records.specs.Spelling.{payload_of}
+use Rattle.exam_office.specs.Files.{Stands}
 use Rattle.exam_office.specs.Marks.{history}
 use Rattle.exam_office.specs.Running.{HandedDisk, Running}
 use Rattle.exam_office.specs.Keeping.{IsUnsure, IsKept}
@@ -65,7 +65,7 @@ module _ {D : Type 0} (b : Tables) (plan : Plan) (base : List ℕ) (book : Ledge
     unsure = kept_some.backed
 
     pub has_doubt : (ps : List (List ℕ)) × (payload : List ℕ) × IsDoubtful ps payload j
-    has_doubt = (map (payload_in b plan) unsure.records, payload_in b plan unsure.last, unsure.doubtful)
+    has_doubt = (map payload_of unsure.records, payload_of unsure.last, unsure.doubtful)
 
     pub room_is : 0 < book.room
     room_is = unsure.has_room
@@ -82,10 +82,10 @@ module _ {D : Type 0} (b : Tables) (plan : Plan) (base : List ℕ) (book : Ledge
         subst (λ (o : Running D). AtEachMoment (accounts_of o.journal) (accounts_of o.journal) (IsMending o.bank o.plan (history o.marks) o.doubt)) view
         (subst (λ (d : Option Entry). AtEachMoment (accounts_of j) (accounts_of j) (IsMending b plan (history M) d)) (sym is) (still_mending b plan j M entry book.room unsure (told_here told)))
 
-    pub moments_mended : (later : List Account) → (IsTrue (tells_of j) → (ps : List (List ℕ)) (payload : List ℕ) → IsDoubtful ps payload j → AtEachMoment (accounts_of j) later (IsBeforeOrWith shadowj1 ps payload)) → IsTrue (tells_of now.journal) → AtEachMoment (accounts_of now.journal) later (IsMending now.bank now.plan (history now.marks) now.doubt)
+    pub moments_mended : (later : List Account) → (IsTrue (tells_of j) → (ps : List (List ℕ)) (payload : List ℕ) → IsDoubtful ps payload j → AtEachMoment (accounts_of j) later (HoldsOrOneMore ps payload)) → IsTrue (tells_of now.journal) → AtEachMoment (accounts_of now.journal) later (IsMending now.bank now.plan (history now.marks) now.doubt)
     moments_mended later moments told =
         seen later (subst (λ (d : Option Entry). AtEachMoment (accounts_of j) later (IsMending b plan (history M) d)) (sym is)
-        (mending_moments b plan j M entry book.room unsure later (moments (told_here told) (map (payload_in b plan) unsure.records) (payload_in b plan unsure.last) unsure.doubtful)))
+        (mending_moments b plan j M entry book.room unsure later (moments (told_here told) (map payload_of unsure.records) (payload_of unsure.last) unsure.doubtful)))
 
     pub mended_kept : (size : ℕ) → IsMended now.marks now.doubt (M ++ Adopted entry size ∷ [])
     mended_kept size = subst (λ (o : Running D). IsMended o.marks o.doubt (M ++ Adopted entry size ∷ [])) view (subst (λ (d : Option Entry). IsMended M d (M ++ Adopted entry size ∷ [])) (sym is) (kept entry size))
@@ -93,16 +93,16 @@ module _ {D : Type 0} (b : Tables) (plan : Plan) (base : List ℕ) (book : Ledge
     pub mended_dropped : IsMended now.marks now.doubt M
     mended_dropped = subst (λ (o : Running D). IsMended o.marks o.doubt M) view (subst (λ (d : Option Entry). IsMended M d M) (sym is) (dropped entry))
 
-    in_hand : (j1 : JournalState D) → (IsTrue (tells_of j) → (ps : List (List ℕ)) (payload : List ℕ) → IsDoubtful ps payload j → AtEachMoment (accounts_of j) (accounts_of j1) (IsBeforeOrWith shadowj1 ps payload))
+    in_hand : (j1 : JournalState D) → (IsTrue (tells_of j) → (ps : List (List ℕ)) (payload : List ℕ) → IsDoubtful ps payload j → AtEachMoment (accounts_of j) (accounts_of j1) (HoldsOrOneMore ps payload))
         → IsTrue (tells_of j) → AtEachMoment (accounts_of j) (accounts_of j1) (IsWriting b plan (history M) entry)
     in_hand j1 moments told =
-        in_hand_moments b plan j M entry book.room unsure (accounts_of j1) (moments told (map (payload_in b plan) unsure.records) (payload_in b plan unsure.last) unsure.doubtful)
+        in_hand_moments b plan j M entry book.room unsure (accounts_of j1) (moments told (map payload_of unsure.records) (payload_of unsure.last) unsure.doubtful)
 
     module _ (book1 : Ledger) (j1 : JournalState D) where
       pub kept_so : book1.bank ≡ book.bank → book1.plan ≡ book.plan → book1.entries ≡ book.entries ++ entry ∷ []
           → IsReady j1 → limit_of j1 ≡ limit_of j → faults_of j ≤ faults_of j1 → tells_of j1 ≡ tells_of j
           → (IsTrue (tells_of j) → (ps : List (List ℕ)) (payload : List ℕ) → IsDoubtful ps payload j → payloads_of j1 ≡ ps ++ payload ∷ [])
-          → (IsTrue (tells_of j) → (ps : List (List ℕ)) (payload : List ℕ) → IsDoubtful ps payload j → AtEachMoment (accounts_of j) (accounts_of j1) (IsBeforeOrWith shadowj1 ps payload))
+          → (IsTrue (tells_of j) → (ps : List (List ℕ)) (payload : List ℕ) → IsDoubtful ps payload j → AtEachMoment (accounts_of j) (accounts_of j1) (HoldsOrOneMore ps payload))
           → IsKept b plan base book1 j1 (M ++ Adopted entry (length_of j1) ∷ []) None was
       kept_so bank plan_is entries ready limit grows tells mended moments =
           kept_adopted b plan base was book book1 j j1 M entry kept_some bank plan_is entries ready limit grows tells mended (in_hand j1 moments)
@@ -110,7 +110,7 @@ module _ {D : Type 0} (b : Tables) (plan : Plan) (base : List ℕ) (book : Ledge
       pub dropped_so : book1.bank ≡ book.bank → book1.plan ≡ book.plan → book1.entries ≡ book.entries
           → IsReady j1 → length_of j1 ≡ length_of j → limit_of j1 ≡ limit_of j → faults_of j ≤ faults_of j1 → tells_of j1 ≡ tells_of j
           → (IsTrue (tells_of j) → (ps : List (List ℕ)) (payload : List ℕ) → IsDoubtful ps payload j → payloads_of j1 ≡ ps)
-          → (IsTrue (tells_of j) → (ps : List (List ℕ)) (payload : List ℕ) → IsDoubtful ps payload j → AtEachMoment (accounts_of j) (accounts_of j1) (IsBeforeOrWith shadowj1 ps payload))
+          → (IsTrue (tells_of j) → (ps : List (List ℕ)) (payload : List ℕ) → IsDoubtful ps payload j → AtEachMoment (accounts_of j) (accounts_of j1) (HoldsOrOneMore ps payload))
           → IsKept b plan base book1 j1 M None was
       dropped_so bank plan_is entries ready size limit grows tells mended moments =
           kept_dropped b plan base was book book1 j j1 M entry kept_some bank plan_is entries ready size limit grows tells mended (in_hand j1 moments)
@@ -118,7 +118,7 @@ module _ {D : Type 0} (b : Tables) (plan : Plan) (base : List ℕ) (book : Ledge
       pub still_so : book1.bank ≡ book.bank → book1.plan ≡ book.plan → book1.entries ≡ book.entries → book1.room ≡ book.room
           → length_of j1 ≡ length_of j → limit_of j1 ≡ limit_of j → Rose (faults_of j) (faults_of j1) → faults_of j ≤ faults_of j1 → tells_of j1 ≡ tells_of j
           → ((ps : List (List ℕ)) (payload : List ℕ) → IsDoubtful ps payload j → IsDoubtful ps payload j1)
-          → (IsTrue (tells_of j) → (ps : List (List ℕ)) (payload : List ℕ) → IsDoubtful ps payload j → AtEachMoment (accounts_of j) (accounts_of j1) (IsBeforeOrWith shadowj1 ps payload))
+          → (IsTrue (tells_of j) → (ps : List (List ℕ)) (payload : List ℕ) → IsDoubtful ps payload j → AtEachMoment (accounts_of j) (accounts_of j1) (HoldsOrOneMore ps payload))
           → IsKept b plan base book1 j1 (M ++ Fault entry ∷ []) doubt was
       still_so bank plan_is entries room size limit rose grows tells still moments =
           subst (λ (d : Option Entry). IsKept b plan base book1 j1 (M ++ Fault entry ∷ []) d was) (sym is)

@@ -13,7 +13,8 @@ use Rattle.answer_journal.specs.Journal.{tells_of, accounts_of, faults_of, ident
 use Rattle.exam_office.specs.declared.mark.Mark.{Mark}
 use Rattle.exam_office.specs.Asking.{IsStoppedBy, IsDurable, StandsForOne, Steps}
 use Rattle.exam_office.specs.Calls.{Finding, refuse, nothing, add, IsHalted, IsLeft, Calls, unmended, refused, found, written, unwritten}
-use Rattle.exam_office.specs.Files.{payload_in, Stands}
+use Rattle.exam_records.specs.Spelling.{payload_of}
+use Rattle.exam_office.specs.Files.{Stands}
 use Rattle.exam_office.specs.Marks.{history, reach}
 use Rattle.exam_office.specs.Running.{Running}
 use Rattle.exam_office.specs.Writing.{IsOneOf, as_before, with_doubt, IsMended, sure, dropped, kept, IsSameOffice, IsUnmended}
@@ -84,7 +85,7 @@ module _ {D : Type 0} (finds : List Entry → Finding → Type 0) (old new : Run
           next = subst (λ (x : Entry). finds (history old.marks) (add x)) (sym t.is_entry) (there (add e) says);
           spells = t.spells;
           may = subst (λ (N : List Mark). MayFollow old.bank old.plan (history N) t.last.entry t.last.tree) is t.may;
-          size_is = t.size_is ∙ ap (λ (N : List Mark). reach N + 5 + length (payload_in old.bank old.plan t.last)) (sym why.0.marks_are);
+          size_is = t.size_is ∙ ap (λ (N : List Mark). reach N + 5 + length (payload_of t.last)) (sym why.0.marks_are);
           above = t.above;
           sure = why.0.sure;
         })

@@ -9,7 +9,7 @@ use Rattle.history_model.specs.Judging.{Record, MayFollow}
 use Rattle.history_model.specs.Reasons.{IsIllegal}
 use Rattle.exam_records.specs.Shape.{IsRecord}
 use Rattle.exam_office.specs.declared.fault.OpenFault.{OpenFault}
-use Rattle.exam_office.specs.declared.fault.OpenFault.TheVariants.{Journal as OfJournal, BadRecord, BadTree, Illegal as NotLegal, Disk, Memory}
+use Rattle.exam_office.specs.declared.fault.OpenFault.TheVariants.{Journal as OfJournal, Version, BadRecord, BadTree, Illegal as NotLegal, Disk, Memory}
 use Rattle.exam_office.specs.Files.{payload_in}
 use Rattle.exam_office.specs.Opening.{fault_of, IsTaken, IsUnlawful, IsNotFollowing, IsReadAs, IsNotTaken, IsRefusedFor}
 
@@ -32,14 +32,15 @@ not_following b plan H at last (NotWaiting p) why = record { reason = NotWaiting
 not_following b plan H at last (BadResponse n) why = record { reason = BadResponse n; illegal = why; is = refl }
 not_following b plan H at last (Ended p) why = record { reason = Ended p; illegal = why; is = refl }
 
-pub taken_so : (b : Tables) (plan : Plan) (H : List Entry) (payload : List ℕ) (rec : Record) → IsRecord rec → payload_in b plan rec ≡ payload → MayFollow b plan H rec.entry rec.tree → IsTaken b plan H payload rec.entry
-taken_so b plan H payload rec is spelling may = record { last = record { entry = rec.entry; tree = rec.tree }; is_entry = refl; spells = is; spelling = spelling; may = may }
+pub taken_so : (b : Tables) (plan : Plan) (version : ℕ) (H : List Entry) (payload : List ℕ) (rec : Record) → IsRecord rec → payload_in b plan version rec ≡ payload → MayFollow b plan H rec.entry rec.tree → IsTaken b plan version H payload rec.entry
+taken_so b plan version H payload rec is spelling may = record { last = record { entry = rec.entry; tree = rec.tree }; is_entry = refl; spells = is; spelling = spelling; may = may }
 
-module _ (b : Tables) (plan : Plan) (H : List Entry) (at : ℕ) (payload : List ℕ) (rec : Record) (reads : IsReadAs b plan H payload rec) where
-  pub not_taken_so : (fault : OpenFault) → IsNotFollowing b plan H at rec fault → IsNotTaken b plan H at payload fault
+module _ (b : Tables) (plan : Plan) (version : ℕ) (H : List Entry) (at : ℕ) (payload : List ℕ) (rec : Record) (reads : IsReadAs b plan version H payload rec) where
+  pub not_taken_so : (fault : OpenFault) → IsNotFollowing b plan H at rec fault → IsNotTaken b plan version H at payload fault
   not_taken_so (BadTree place) why = record { last = rec; reads = reads; reason = why.reason; illegal = why.illegal; is = why.is }
   not_taken_so (NotLegal place reason) why = record { last = rec; reads = reads; reason = why.reason; illegal = why.illegal; is = why.is }
   not_taken_so Memory why = tt
   not_taken_so (OfJournal fault) why = absurd why
+  not_taken_so Version why = absurd why
   not_taken_so (BadRecord place fault) why = absurd why
   not_taken_so Disk why = absurd why

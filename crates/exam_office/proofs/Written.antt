@@ -8,12 +8,12 @@ use Rattle.history_model.specs.declared.entry.Entry.{Entry}
 use Rattle.history_model.specs.Judging.{MayFollow, Record}
 use Rattle.exam_session.specs.Ledgers.{Ledger}
 use Rattle.answer_journal.specs.Journal.{JournalState, length_of, limit_of, tells_of, accounts_of, payloads_of, IsReady, IsDoubtful, faults_of}
-use Rattle.answer_journal.specs.Standing.{IsBeforeOrWith}
+use Rattle.answer_journal.specs.Versions.{HoldsOrOneMore}
 use Rattle.exam_records.specs.Shape.{IsRecord}
-use Rattle.answer_journal.specs.Frames.{shadowj1}
+use Rattle.exam_records.specs.Spelling.{payload_of}
 use Rattle.exam_office.specs.declared.mark.Mark.{Mark}
 use Rattle.exam_office.specs.declared.mark.Mark.TheVariants.{Own, Fault}
-use Rattle.exam_office.specs.Files.{payload_in, Stands}
+use Rattle.exam_office.specs.Files.{Stands}
 use Rattle.exam_office.specs.Marks.{history}
 use Rattle.exam_office.specs.Running.{HandedDisk, Running}
 use Rattle.exam_office.specs.Keeping.{IsBacked, IsKept}
@@ -44,9 +44,6 @@ module _ {D : Type 0} (b : Tables) (plan : Plan) (base : List ℕ) (book : Ledge
   seen : (later : List Account) → AtEachMoment (accounts_of j) later (IsWriting b plan (history M) r.entry) → AtEachMoment (accounts_of now.journal) later (IsWriting now.bank now.plan (history now.marks) r.entry)
   seen later moments = subst (λ (o : Running D). AtEachMoment (accounts_of o.journal) later (IsWriting o.bank o.plan (history o.marks) r.entry)) view moments
 
-  payload_here : (payload : List ℕ) → payload ≡ payload_in now.bank now.plan r → payload ≡ payload_in b plan r
-  payload_here payload is = subst (λ (o : Running D). payload ≡ payload_in o.bank o.plan r) (sym view) is
-
   -- before anything is written
   pub moments_before : IsTrue (tells_of now.journal) → AtEachMoment (accounts_of now.journal) (accounts_of j) (IsWriting now.bank now.plan (history now.marks) r.entry)
   moments_before told = seen (accounts_of j) (still_writing b plan j (history M) r.entry kept_sure.backed (told_here told))
@@ -55,11 +52,11 @@ module _ {D : Type 0} (b : Tables) (plan : Plan) (base : List ℕ) (book : Ledge
   moments_still told = subst (λ (o : Running D). AtEachMoment (accounts_of o.journal) (accounts_of o.journal) (IsWriting o.bank o.plan (history o.marks) r.entry)) view (still_writing b plan j (history M) r.entry kept_sure.backed (told_here told))
 
   -- while it is written
-  in_hand : (later : List Account) (payload : List ℕ) → payload ≡ payload_in now.bank now.plan r → IsRecord r → (IsTrue (tells_of j) → AtEachMoment (accounts_of j) later (IsBeforeOrWith shadowj1 (payloads_of j) payload)) → IsTrue (tells_of j) → AtEachMoment (accounts_of j) later (IsWriting b plan (history M) r.entry)
+  in_hand : (later : List Account) (payload : List ℕ) → payload ≡ payload_of r → IsRecord r → (IsTrue (tells_of j) → AtEachMoment (accounts_of j) later (HoldsOrOneMore (payloads_of j) payload)) → IsTrue (tells_of j) → AtEachMoment (accounts_of j) later (IsWriting b plan (history M) r.entry)
   in_hand later payload is spells moments told =
-      writing_moments b plan j (history M) kept_sure.backed r spells may_here later told (subst (λ (p : List ℕ). AtEachMoment (accounts_of j) later (IsBeforeOrWith shadowj1 (payloads_of j) p)) (payload_here payload is) (moments told))
+      writing_moments b plan j (history M) kept_sure.backed r spells may_here later told (subst (λ (p : List ℕ). AtEachMoment (accounts_of j) later (HoldsOrOneMore (payloads_of j) p)) is (moments told))
 
-  pub moments_of : (later : List Account) (payload : List ℕ) → payload ≡ payload_in now.bank now.plan r → IsRecord r → (IsTrue (tells_of j) → AtEachMoment (accounts_of j) later (IsBeforeOrWith shadowj1 (payloads_of j) payload)) → IsTrue (tells_of now.journal) → AtEachMoment (accounts_of now.journal) later (IsWriting now.bank now.plan (history now.marks) r.entry)
+  pub moments_of : (later : List Account) (payload : List ℕ) → payload ≡ payload_of r → IsRecord r → (IsTrue (tells_of j) → AtEachMoment (accounts_of j) later (HoldsOrOneMore (payloads_of j) payload)) → IsTrue (tells_of now.journal) → AtEachMoment (accounts_of now.journal) later (IsWriting now.bank now.plan (history now.marks) r.entry)
   moments_of later payload is spells moments told = seen later (in_hand later payload is spells moments (told_here told))
 
   -- room was taken in the book
@@ -79,15 +76,15 @@ module _ {D : Type 0} (b : Tables) (plan : Plan) (base : List ℕ) (book : Ledge
   }
 
   -- it was written
-  pub kept_written : (book1 : Ledger) (j1 : JournalState D) (payload : List ℕ) → payload ≡ payload_in now.bank now.plan r → IsRecord r
+  pub kept_written : (book1 : Ledger) (j1 : JournalState D) (payload : List ℕ) → payload ≡ payload_of r → IsRecord r
       → book1.bank ≡ book.bank → book1.plan ≡ book.plan → book1.entries ≡ book.entries ++ r.entry ∷ []
       → IsReady j1 → limit_of j1 ≡ limit_of j → faults_of j ≤ faults_of j1 → tells_of j1 ≡ tells_of j
       → (IsTrue (tells_of j) → payloads_of j1 ≡ payloads_of j ++ payload ∷ [])
-      → (IsTrue (tells_of j) → AtEachMoment (accounts_of j) (accounts_of j1) (IsBeforeOrWith shadowj1 (payloads_of j) payload))
+      → (IsTrue (tells_of j) → AtEachMoment (accounts_of j) (accounts_of j1) (HoldsOrOneMore (payloads_of j) payload))
       → IsKept b plan base book1 j1 (M ++ Own r.entry (length_of j1) ∷ []) doubt was
   kept_written book1 j1 payload is spells bank plan_is entries ready limit grows tells added moments =
       subst (λ (d : Option Entry). IsKept b plan base book1 j1 (M ++ Own r.entry (length_of j1) ∷ []) d was) (sym none)
-      (kept_own b plan base was book book1 j j1 M kept_sure r spells may_here bank plan_is entries ready limit grows tells (λ told. added told ∙ ap (λ (p : List ℕ). payloads_of j ++ p ∷ []) (payload_here payload is))
+      (kept_own b plan base was book book1 j j1 M kept_sure r spells may_here bank plan_is entries ready limit grows tells (λ told. added told ∙ ap (λ (p : List ℕ). payloads_of j ++ p ∷ []) is)
       (in_hand (accounts_of j1) payload is spells moments))
 
   pub images_written : (j1 : JournalState D) (M1 : List Mark) (book1 : Ledger) → IsKept b plan base book1 j1 M1 doubt was → tells_of j1 ≡ tells_of j → IsTrue (tells_of now.journal) → AllImages (Stands now.bank now.plan (history M1)) (latest (accounts_of j1))
@@ -97,13 +94,13 @@ module _ {D : Type 0} (b : Tables) (plan : Plan) (base : List ℕ) (book : Ledge
       (sure_images b plan j1 (history M1) k.backed (subst IsTrue (sym tells) (told_here told)))
 
   -- the disk failed
-  pub kept_faulted : (book1 : Ledger) (j1 : JournalState D) (payload : List ℕ) → payload ≡ payload_in now.bank now.plan r → IsRecord r
+  pub kept_faulted : (book1 : Ledger) (j1 : JournalState D) (payload : List ℕ) → payload ≡ payload_of r → IsRecord r
       → book1.bank ≡ book.bank → book1.plan ≡ book.plan → book1.entries ≡ book.entries → 0 < book1.room
       → IsDoubtful (payloads_of j) payload j1 → length_of j1 ≡ length_of j → limit_of j1 ≡ limit_of j → Rose (faults_of j) (faults_of j1) → faults_of j ≤ faults_of j1 → tells_of j1 ≡ tells_of j
-      → (IsTrue (tells_of j) → AtEachMoment (accounts_of j) (accounts_of j1) (IsBeforeOrWith shadowj1 (payloads_of j) payload))
+      → (IsTrue (tells_of j) → AtEachMoment (accounts_of j) (accounts_of j1) (HoldsOrOneMore (payloads_of j) payload))
       → IsKept b plan base book1 j1 (M ++ Fault r.entry ∷ []) (Some r.entry) was
   kept_faulted book1 j1 payload is spells bank plan_is entries room doubtful size limit rose grows tells moments =
-      kept_fault b plan base was book book1 j j1 M kept_sure r spells may_here bank plan_is entries room (subst (λ (p : List ℕ). IsDoubtful (payloads_of j) p j1) (payload_here payload is) doubtful) size limit rose grows tells
+      kept_fault b plan base was book book1 j j1 M kept_sure r spells may_here bank plan_is entries room (subst (λ (p : List ℕ). IsDoubtful (payloads_of j) p j1) is doubtful) size limit rose grows tells
       (in_hand (accounts_of j1) payload is spells moments)
 
   -- the vectors: room was taken
@@ -115,7 +112,7 @@ module _ {D : Type 0} (b : Tables) (plan : Plan) (base : List ℕ) (book : Ledge
     pub roomy_vectors : AreKeptVectors b plan (history M) j doubt each0 new0
     roomy_vectors = subst (λ (d : Option Entry). AreKeptVectors b plan (history M) j d each0 new0) (sym none) (with_room b plan (history M) j each each0 new new0 same same_new vectors_sure)
 
-    module _ (j1 : JournalState D) (payload : List ℕ) (is : payload ≡ payload_in now.bank now.plan r) (spells : IsRecord r) (tells : tells_of j1 ≡ tells_of j) (fresh : Option NewVector) (fresh_is : fresh ≡ new_vector b plan r)
+    module _ (j1 : JournalState D) (payload : List ℕ) (is : payload ≡ payload_of r) (spells : IsRecord r) (tells : tells_of j1 ≡ tells_of j) (fresh : Option NewVector) (fresh_is : fresh ≡ new_vector b plan r)
         (each1 : List (Option Multipliers)) (new1 : Option NewVector) where
       -- the record was written
       pub written_vectors : (IsTrue (tells_of j) → payloads_of j1 ≡ payloads_of j ++ payload ∷ []) → AreVectorsWith each0 fresh each1 → new1 ≡ new0
@@ -124,7 +121,7 @@ module _ {D : Type 0} (b : Tables) (plan : Plan) (base : List ℕ) (book : Ledge
           subst (λ (d : Option Entry). AreKeptVectors b plan (history (M ++ Own r.entry (length_of j1) ∷ [])) j1 d each1 new1) (sym none)
           (subst (λ (H : List Entry). AreKeptVectors b plan H j1 None each1 new1) (sym (history-own M r.entry (length_of j1)))
           (vectors_written b plan (history M) j each each0 new new0 same same_new vectors_sure j1 r spells may_here tells fresh fresh_is
-          (λ told. added told ∙ ap (λ (p : List ℕ). payloads_of j ++ p ∷ []) (payload_here payload is)) each1 new1 kept1 same1))
+          (λ told. added told ∙ ap (λ (p : List ℕ). payloads_of j ++ p ∷ []) is) each1 new1 kept1 same1))
 
       -- the disk failed
       pub faulted_vectors : IsDoubtful (payloads_of j) payload j1 → HasRoom each0 fresh → each1 ≡ each0 → new1 ≡ fresh
@@ -132,4 +129,4 @@ module _ {D : Type 0} (b : Tables) (plan : Plan) (base : List ℕ) (book : Ledge
       faulted_vectors doubtful room each_same new_same =
           subst (λ (H : List Entry). AreKeptVectors b plan H j1 (Some r.entry) each1 new1) (sym (history-fault M r.entry))
           (vectors_faulted b plan (history M) j each each0 new new0 same same_new vectors_sure j1 r spells may_here tells fresh fresh_is
-          (subst (λ (p : List ℕ). IsDoubtful (payloads_of j) p j1) (payload_here payload is) doubtful) room each1 new1 each_same new_same)
+          (subst (λ (p : List ℕ). IsDoubtful (payloads_of j) p j1) is doubtful) room each1 new1 each_same new_same)

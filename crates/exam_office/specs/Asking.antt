@@ -25,8 +25,9 @@ use Rattle.history_model.specs.Refusals.{refusal_of}
 use Rattle.history_model.specs.Requests.{Does}
 use Rattle.history_model.specs.SessionProblems.{IsProblemOf}
 use Rattle.exam_records.specs.Shape.{IsRecord}
+use Rattle.exam_records.specs.Spelling.{payload_of}
 use Rattle.answer_journal.specs.Journal.{tells_of, accounts_of, faults_of, identity_of}
-use Rattle.exam_office.specs.Files.{payload_in, Stands}
+use Rattle.exam_office.specs.Files.{Stands}
 use Rattle.exam_handler.specs.Handling.{IsRefusal}
 use Rattle.exam_office.specs.Marks.{history, reach}
 use Rattle.exam_office.specs.Running.{Running}
@@ -41,7 +42,7 @@ pub record IsTooLongWith {D : Type 0} (b : Tables) (plan : Plan) (H : List Entry
   pub next : comes_next last.entry
   pub spells : IsRecord last
   pub may : MayFollow b plan H last.entry last.tree
-  pub size_is : size ≡ reach new.marks + 5 + length (payload_in b plan last)
+  pub size_is : size ≡ reach new.marks + 5 + length (payload_of last)
   pub above : plan.journal < size
   pub sure : new.doubt ≡ None
 

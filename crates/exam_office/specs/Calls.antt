@@ -9,12 +9,13 @@ use Rattle.history_model.specs.Entries.{holder}
 use Rattle.history_model.specs.Judging.{Record, MayFollow}
 use Rattle.history_model.specs.Legality.{Legal}
 use Rattle.exam_records.specs.Shape.{IsRecord}
+use Rattle.exam_records.specs.Spelling.{payload_of}
 use Rattle.exam_office.specs.declared.mark.Mark.{Mark}
 use Rattle.exam_office.specs.declared.mark.Mark.TheVariants.{Own}
 use Rattle.history_model.specs.declared.refusal.Refusal.{Refusal}
 use Rattle.history_model.specs.declared.refusal.Refusal.TheVariants.{JournalFull, Disk, Memory}
 use Rattle.history_model.specs.declared.request.Request.TheVariants.{Begin, Answer, Close}
-use Rattle.exam_office.specs.Files.{payload_in, Stands}
+use Rattle.exam_office.specs.Files.{Stands}
 use Rattle.exam_office.specs.Marks.{reach, history}
 use Rattle.history_model.specs.Refusals.{recorded, refusal_of}
 use Rattle.exam_office.specs.Running.{Running}
@@ -50,7 +51,7 @@ pub record IsTooLong (b : Tables) (plan : Plan) (marks : List Mark) (entry : Ent
   pub is_entry : last.entry ≡ entry
   pub spells : IsRecord last
   pub may : MayFollow b plan (history marks) last.entry last.tree
-  pub size_is : size ≡ reach marks + 5 + length (payload_in b plan last)
+  pub size_is : size ≡ reach marks + 5 + length (payload_of last)
   pub above : plan.journal < size
 
 -- why the entry that was to be added after these marks was not

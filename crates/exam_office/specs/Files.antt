@@ -1,5 +1,5 @@
 -- The history that the bytes of a file represent.
-use Rattle.std.specs.Prelude.{◌≡◌, ℕ, List, map, Some}
+use Rattle.std.specs.Prelude.{◌≡◌, ℕ, ◌==◌, if◌then◌else◌, List, map, Some}
 use Rattle.std.specs.List.{AllByRecursion}
 use Rattle.bank_tables.specs.Tables.{Tables}
 use Rattle.form_model.specs.Plan.{Plan}
@@ -7,8 +7,8 @@ use Rattle.serving_model.specs.Seats.{first_band}
 use Rattle.history_model.specs.declared.entry.Entry.{Entry}
 use Rattle.history_model.specs.Judging.{Record, entries_of, Backed}
 use Rattle.exam_records.specs.Shape.{IsRecord}
-use Rattle.exam_records.specs.Spelling.{old_payload_of}
-use Rattle.answer_journal.specs.Frames.{shadowj1, payloads}
+use Rattle.exam_records.specs.Spelling.{payload_of, old_payload_of}
+use Rattle.answer_journal.specs.Versions.{Counted, contents}
 
 -- the records of a history: each has a spelling and may follow the entries before it
 pub record AreRecordsOf (b : Tables) (plan : Plan) (H : List Entry) (R : List Record) : Type 0 where
@@ -16,13 +16,18 @@ pub record AreRecordsOf (b : Tables) (plan : Plan) (H : List Entry) (R : List Re
   pub backed : Backed b plan R
   pub entries : entries_of R ≡ H
 
--- the payload of a record in a journal, which is of the first version: of a start it has the eligible set of the band where
--- each session begins, and of a setting aside neither the step nor the band; these follow from the entries before
-abbrev pub payload_in : Tables → Plan → Record → List ℕ
-payload_in b plan r = old_payload_of (first_band b plan) r
+-- the payload of a record by its version. The first keeps of a start the eligible set of the band where each session begins,
+-- and of a setting aside neither the step nor the band; these follow from the entries before. The second keeps all
+abbrev pub payload_in : Tables → Plan → (version : ℕ) → Record → List ℕ
+payload_in b plan version r = if version == 1 then old_payload_of (first_band b plan) r else payload_of r
 
--- a file represents a history: its payloads are those of records of that history
+-- payloads of these records, by their version
+abbrev pub counted_of : Tables → Plan → (version : ℕ) → List Record → Counted
+counted_of b plan version R = record { version = version; payloads = map (payload_in b plan version) R }
+
+-- a file represents a history: its payloads that count are those of records of that history, by the version of its records
 pub record Stands (b : Tables) (plan : Plan) (H : List Entry) (file : List ℕ) : Type 0 where
   pub records : List Record
   pub are : AreRecordsOf b plan H records
-  pub holds : payloads shadowj1 file ≡ Some (map (payload_in b plan) records)
+  pub version : ℕ
+  pub holds : contents file ≡ Some (counted_of b plan version records)

@@ -10,9 +10,10 @@ use Rattle.history_model.specs.Judging.{Record, MayFollow}
 use Rattle.exam_session.specs.Ledgers.{Ledger}
 use Rattle.answer_journal.specs.Journal.{JournalState, length_of, limit_of, tells_of, payloads_of, IsReady, IsDoubtful, accounts_of, faults_of}
 use Rattle.exam_records.specs.Shape.{IsRecord}
+use Rattle.exam_records.specs.Spelling.{payload_of}
 use Rattle.exam_office.specs.declared.mark.Mark.{Mark}
 use Rattle.exam_office.specs.declared.mark.Mark.TheVariants.{Fault}
-use Rattle.exam_office.specs.Files.{payload_in, AreRecordsOf}
+use Rattle.exam_office.specs.Files.{AreRecordsOf}
 use Rattle.exam_office.specs.Marks.{history, reach, AreMarks, AreCounted}
 use Rattle.exam_office.specs.Moments.{AreMoments}
 use Rattle.exam_office.specs.Running.{HandedDisk}
@@ -22,7 +23,7 @@ pub record IsSure {D : Type 0} (b : Tables) (plan : Plan) (H : List Entry) (jour
   pub records : List Record
   pub are : AreRecordsOf b plan H records
   pub ready : IsReady journal
-  pub holds : IsTrue (tells_of journal) → payloads_of journal ≡ map (payload_in b plan) records
+  pub holds : IsTrue (tells_of journal) → payloads_of journal ≡ map payload_of records
 
 -- a record of the entry is in doubt after them, and its fault is the last mark
 pub record IsUnsure {D : Type 0} (b : Tables) (plan : Plan) (marks : List Mark) (entry : Entry) (room : ℕ)
@@ -33,7 +34,7 @@ pub record IsUnsure {D : Type 0} (b : Tables) (plan : Plan) (marks : List Mark) 
   pub is_entry : last.entry ≡ entry
   pub spells : IsRecord last
   pub may : MayFollow b plan (history marks) last.entry last.tree
-  pub doubtful : IsDoubtful (map (payload_in b plan) records) (payload_in b plan last) journal
+  pub doubtful : IsDoubtful (map payload_of records) (payload_of last) journal
   pub has_room : 0 < room
   pub before : List Mark
   pub fault : marks ≡ before ++ Fault entry ∷ []

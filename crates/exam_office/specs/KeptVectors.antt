@@ -69,13 +69,13 @@ abbrev pub AreWith : Tables → Plan → Option Vectors → Record → Option Ve
 AreWith b plan before r after = (R : List Record) → AreOf b plan R before → AreOf b plan (R ++ r ∷ []) after
 
 -- a payload is taken, and what its record gives
-pub record IsTakenWith (b : Tables) (plan : Plan) (H : List Entry) (payload : List ℕ) (entry : Entry) (before after : Option Vectors)
-    : Type 0 where
-  pub taken : IsTaken b plan H payload entry
+pub record IsTakenWith (b : Tables) (plan : Plan) (version : ℕ) (H : List Entry) (payload : List ℕ) (entry : Entry)
+    (before after : Option Vectors) : Type 0 where
+  pub taken : IsTaken b plan version H payload entry
   pub vectors_are : AreWith b plan before taken.last after
 
 -- so many payloads of a file are taken, and what their records give
-pub record AreTakenWith (b : Tables) (plan : Plan) (tells : Bool) (file : List ℕ) (given at : ℕ) (H : List Entry)
-    (vectors : Option Vectors) : Type 0 where
-  pub taken : AreTaken b plan tells file given at H
+pub record AreTakenWith (b : Tables) (plan : Plan) (version start : ℕ) (tells : Bool) (file : List ℕ) (given at : ℕ)
+    (H : List Entry) (vectors : Option Vectors) : Type 0 where
+  pub taken : AreTaken b plan version start tells file given at H
   pub vectors_are : AreOf b plan taken.records vectors

@@ -23,9 +23,11 @@ use Rattle.exam_office.specs.declared.fault.OpenFault.{OpenFault}
 use Rattle.exam_office.specs.declared.fault.OpenFault.TheVariants.{Disk, Memory}
 use Rattle.exam_office.specs.declared.mark.Mark.{Mark}
 use Rattle.exam_office.specs.Files.{Stands}
+use Rattle.exam_office.specs.declared.migrating.MigrateFault.{MigrateFault}
 use Rattle.exam_office.specs.Marks.{history}
+use Rattle.exam_office.specs.Migrating.{IsMigrateAnswer, IsRefusedMove}
 use Rattle.exam_office.specs.Moments.{AreMoments, IsLeftOnTheWay}
-use Rattle.exam_office.specs.Opening.{IsOpenAnswer}
+use Rattle.exam_office.specs.Opening.{IsOpenAnswer, IsReadAnswer}
 use Rattle.exam_office.specs.Running.{Running}
 
 -- a file represents at most one history, and that is a legal run
@@ -35,11 +37,17 @@ OneHistory = (b : Tables) (plan : Plan) (H G : List Entry) (file : List ℕ) →
 abbrev pub StandsForLegalRun : Type 0
 StandsForLegalRun = (b : Tables) (plan : Plan) (H : List Entry) (file : List ℕ) → Stands b plan H file → LegalRun b plan H
 
--- a file within the limit that represents a history is refused only if memory runs out, or by a
--- fault of the disk
+-- a file within the limit that represents a history by records of the second version is refused only if memory runs out, or
+-- by a fault of the disk
 abbrev pub StandingIsOpened : Type 0
-StandingIsOpened = (b : Tables) (plan : Plan) (H : List Entry) (file : List ℕ) (fault : OpenFault) → Stands b plan H file
-    → length file ≤ plan.journal → IsOpenAnswer b plan file fault → (fault ≡ Disk) ⊎ (fault ≡ Memory)
+StandingIsOpened = (b : Tables) (plan : Plan) (H : List Entry) (file : List ℕ) (fault : OpenFault) (stands : Stands b plan H file)
+    → stands.version ≡ 2 → length file ≤ plan.journal → IsOpenAnswer b plan file fault → (fault ≡ Disk) ⊎ (fault ≡ Memory)
+
+-- of a file of either version within the limit that represents a history, the history is read, unless memory runs out or the
+-- disk fails
+abbrev pub StandingIsRead : Type 0
+StandingIsRead = (b : Tables) (plan : Plan) (H : List Entry) (file : List ℕ) (fault : OpenFault) → Stands b plan H file
+    → length file ≤ plan.journal → IsReadAnswer b plan file fault → (fault ≡ Disk) ⊎ (fault ≡ Memory)
 
 -- at each moment since the disk was handed in, each file that a crash may leave represents the history of the office's marks
 -- at some moment, or that with the one entry in doubt then
@@ -71,3 +79,9 @@ AskedIsAnswered D = (old new : Running D) (request : Request) (answer : Reply) (
     → ((size : ℕ) → IsTooLongWith old.bank old.plan (history new.marks)
     (IsNextOf old.bank old.plan asked.from request (history new.marks)) new size → ⊥)
     → IsAnswered answer
+
+-- a file within the limit that represents a history is not migrated only if memory runs out, by a fault of the disk, or because
+-- the file would be too long once its records of the history are moved
+abbrev pub MigrateIsComplete : Type 0
+MigrateIsComplete = (b : Tables) (plan : Plan) (H : List Entry) (file : List ℕ) (fault : MigrateFault) → Stands b plan H file
+    → length file ≤ plan.journal → IsMigrateAnswer b plan file fault → IsRefusedMove b plan H file fault

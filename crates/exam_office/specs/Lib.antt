@@ -6,6 +6,7 @@ pub mod Keeping
 pub mod Writing
 pub mod Calls
 pub mod Opening
+pub mod Migrating
 pub mod Laws
 pub mod Commits
 pub mod Asking

@@ -18,7 +18,8 @@ use Rattle.history_model.specs.declared.request.Request.TheVariants.{Look}
 use Rattle.history_model.specs.Refusals.{refusal_of}
 use Rattle.answer_journal.specs.Journal.{JournalState, tells_of, payloads_of, IsDoubtful}
 use Rattle.exam_records.specs.Shape.{IsRecord}
-use Rattle.exam_office.specs.Files.{payload_in, AreRecordsOf}
+use Rattle.exam_records.specs.Spelling.{payload_of}
+use Rattle.exam_office.specs.Files.{AreRecordsOf}
 use Rattle.exam_office.specs.Marks.{history}
 use Rattle.exam_office.specs.Running.{Running}
 
@@ -63,11 +64,11 @@ pub record IsInDoubtAfter {D : Type 0} (b : Tables) (plan : Plan) (H : List Entr
   pub is_entry : last.entry ≡ entry
   pub spells : IsRecord last
   pub may : MayFollow b plan H last.entry last.tree
-  pub doubtful : IsDoubtful (map (payload_in b plan) R) (payload_in b plan last) journal
+  pub doubtful : IsDoubtful (map payload_of R) (payload_of last) journal
 
 -- the journal holds these records; with an entry in doubt, perhaps one of it after them
 abbrev pub Holds : {D : Type 0} → Tables → Plan → List Entry → JournalState D → List Record → Option Entry → Option Record → Type 0
-Holds b plan H journal R None None = IsTrue (tells_of journal) → payloads_of journal ≡ map (payload_in b plan) R
+Holds b plan H journal R None None = IsTrue (tells_of journal) → payloads_of journal ≡ map payload_of R
 Holds b plan H journal R None (Some last) = ⊥
 Holds b plan H journal R (Some entry) None = ⊥
 Holds b plan H journal R (Some entry) (Some last) = IsInDoubtAfter b plan H journal R entry last

@@ -6,12 +6,13 @@ use Rattle.form_model.specs.Plan.{Plan}
 use Rattle.exam_edge.specs.Faults.{Rose}
 use Rattle.history_model.specs.declared.entry.Entry.{Entry}
 use Rattle.exam_records.specs.Shape.{IsRecord}
+use Rattle.exam_records.specs.Spelling.{payload_of}
 use Rattle.answer_journal.specs.Journal.{faults_of}
 use Rattle.exam_office.specs.declared.mark.Mark.{Mark}
 use Rattle.exam_office.specs.declared.mark.Mark.TheVariants.{Own, Adopted, Fault}
 use Rattle.history_model.specs.declared.refusal.Refusal.{Refusal}
 use Rattle.history_model.specs.declared.refusal.Refusal.TheVariants.{JournalFull, Disk, Memory}
-use Rattle.exam_office.specs.Files.{payload_in, Stands}
+use Rattle.exam_office.specs.Files.{Stands}
 use Rattle.exam_office.specs.Marks.{reach, history}
 use Rattle.exam_office.specs.Running.{Running}
 
@@ -46,8 +47,8 @@ pub record IsSameOffice {D : Type 0} (old new : Running D) : Type 0 where
   pub opened : new.opened ≡ old.opened
 
 -- the length of the journal with one record more
-abbrev pub with_record : Tables → Plan → List Mark → Record → ℕ
-with_record b plan marks rec = reach marks + 5 + length (payload_in b plan rec)
+abbrev pub with_record : List Mark → Record → ℕ
+with_record marks rec = reach marks + 5 + length (payload_of rec)
 
 -- the disk failed, and has counted that: this entry is in doubt, and the last mark is its fault
 pub record IsFaulted {D : Type 0} (old new : Running D) (marks : List Mark) (entry : Entry) : Type 0 where
@@ -66,7 +67,7 @@ IsUnmended old new refusal = ⊥
 -- or a fault of the disk. Before the first two nothing is done
 abbrev pub IsUnwritten : {D : Type 0} → Running D → Running D → Record → Refusal → Type 0
 IsUnwritten old new rec Memory = new ≡ old
-IsUnwritten old new rec (JournalFull size) = (new ≡ old) × (size ≡ with_record old.bank old.plan old.marks rec) × (old.plan.journal < size)
+IsUnwritten old new rec (JournalFull size) = (new ≡ old) × (size ≡ with_record old.marks rec) × (old.plan.journal < size)
     × IsRecord rec
 IsUnwritten old new rec Disk = IsFaulted old new old.marks rec.entry
 IsUnwritten old new rec refusal = ⊥

@@ -1,6 +1,6 @@
 //! What the definitions imply, for every file, bank and plan.
 
-ghost use Rattle.exam_office.specs.Laws.{OneHistory, StandsForLegalRun, StandingIsOpened, EachMomentStands, MayBeCommittedNow, AskedIsAnswered};
+ghost use Rattle.exam_office.specs.Laws.{OneHistory, StandsForLegalRun, StandingIsOpened, StandingIsRead, EachMomentStands, MayBeCommittedNow, AskedIsAnswered, MigrateIsComplete};
 
 use exam_edge::Disk;
 
@@ -14,10 +14,16 @@ pub fn stands_for_legal_run()
     ensures { StandsForLegalRun }
 {}
 
-/// A file within the limit that represents a history is refused only if memory runs out, or by a
-/// fault of the disk.
+/// A file within the limit that represents a history by records of the second version is refused
+/// only if memory runs out, or by a fault of the disk.
 pub fn standing_is_opened()
     ensures { StandingIsOpened }
+{}
+
+/// Of a file of either version within the limit that represents a history, the history is read,
+/// unless memory runs out or the disk fails.
+pub fn standing_is_read()
+    ensures { StandingIsRead }
 {}
 
 /// At each moment since the disk was handed in, each file that a crash may leave represents the
@@ -36,4 +42,10 @@ pub fn may_be_committed()
 /// unless the disk counts a fault, or the next record is above the journal's limit.
 pub fn asked_is_answered<D: Disk>()
     ensures { AskedIsAnswered D }
+{}
+
+/// A file within the limit that represents a history is not migrated only if memory runs out, by a
+/// fault of the disk, or because it would be too long once its records are moved.
+pub fn migrate_is_complete()
+    ensures { MigrateIsComplete }
 {}

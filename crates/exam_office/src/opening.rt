@@ -11,9 +11,10 @@ ghost use Rattle.history_model.specs.declared.entry.Entry.{Entry};
 ghost use Rattle.history_model.specs.Legality.{LegalRun};
 ghost use Rattle.exam_office.specs.declared.mark.Mark.TheVariants.{Old, Opened};
 ghost use Rattle.exam_office.specs.declared.fault.OpenFault.TheVariants.{Disk as OfDisk};
-ghost use Rattle.answer_journal.specs.Frames.{shadowj1};
 ghost use Rattle.answer_journal.specs.Standing.{IsAsLeft};
-ghost use Rattle.answer_journal.specs.Journal.{disk_of, tells_of, accounts_of, faults_of, identity_of};
+ghost use Rattle.answer_journal.specs.Versions.{counted_in};
+ghost use Rattle.answer_journal.specs.Journal.{disk_of, tells_of, accounts_of, aside_of, faults_of, identity_of};
+ghost use Rattle.answer_journal.specs.Opening.{PutsTailAside, tail_gates};
 ghost use Rattle.exam_office.specs.Writing.{IsMending};
 ghost use Rattle.exam_office.specs.Files.{Stands};
 ghost use Rattle.exam_office.specs.Marks.{history, reach};
@@ -34,7 +35,7 @@ use std::alloc::Global;
 impl<'a, D: Disk> Office<'a, D> {
     /// Opens an office over a disk: reads the journal, and takes each record that may follow those
     /// before it, with one record in memory. Only then it makes the file a journal that ends with
-    /// its first closed gate. The base is a form of the plan alone. The disk is as a reboot or a journal left it. A refusal
+    /// its first closed gate. A journal of the first version that was not moved is refused. The base is a form of the plan alone. The disk is as a reboot or a journal left it. A refusal
     /// gives the disk back.
     pub fn open(
         alloc: Global,
@@ -45,7 +46,7 @@ impl<'a, D: Disk> Office<'a, D> {
     ) -> Result<Office<'a, D>, (D, OpenFault)>
         requires plan { IsPlanFor bank.now spec.now }
         requires base { Meets bank.now spec.now (has base) }
-        requires left { IsTrue (D.tells disk) → IsAsLeft shadowj1 (D.accounts disk) }
+        requires left { IsTrue (D.tells disk) → IsAsLeft (D.accounts disk) }
         ensures bank { IfOk result (λ office. office.bank ≡ bank.now) }
         ensures plan { IfOk result (λ office. office.plan ≡ spec.now) }
         ensures base { IfOk result (λ office. office.base ≡ base) }
@@ -58,6 +59,9 @@ impl<'a, D: Disk> Office<'a, D> {
         // The file represented the history, and so does each file that a crash may leave now.
         ensures stands { IfOk result (λ office. IsTrue (D.tells disk)
             → Stands bank.now spec.now (history office.marks) (D.content disk)) }
+        // Its records were of the second version.
+        ensures version { IfOk result (λ office. IsTrue (D.tells disk)
+            → (counted_in (D.content disk)).version ≡ 2) }
         // The file was within the journal's limit.
         ensures short { IfOk result (λ office. IsTrue (D.tells disk)
             → length (D.content disk) ≤ spec.now.journal) }
@@ -73,7 +77,7 @@ impl<'a, D: Disk> Office<'a, D> {
             → Stands bank.now spec.now H (D.content disk)
             → AtEachMoment (D.accounts disk) (D.accounts e.0) (Stands bank.now spec.now H)) }
         // What is wrong with the file, if anything is. Nothing is wrong with a file within the
-        // limit that represents a history.
+        // limit that represents a history by records of the second version.
         ensures why { IfErr result (λ e. IsTrue (D.tells disk)
             → IsOpenAnswer bank.now spec.now (D.content disk) e.1) }
         ensures cause { IfErr result (λ e. e.1 ≡ OfDisk → Rose (D.faults disk) (D.faults e.0)) }
@@ -83,6 +87,12 @@ impl<'a, D: Disk> Office<'a, D> {
         ensures unwritten { IfErr result (λ e. e.1 ≢ OfDisk → IsTrue (D.tells disk)
             → AtEachMoment (D.accounts disk) (D.accounts e.0)
             (IsImage (latest (D.accounts disk)))) }
+        // What is cut was put aside before, and nothing else was.
+        ensures tail_aside { IfOk result (λ office. IsTrue (D.tells disk)
+            → aside_of office.journal ≡ D.aside disk ++ tail_gates (D.content disk)) }
+        ensures tail_aside_err { IfErr result (λ e. IsTrue (D.tells disk)
+            → PutsTailAside (D.content disk) (D.content e.0) (D.accounts disk) (D.accounts e.0)
+            (D.aside disk) (D.aside e.0)) }
         ensures grows { IfOk result (λ office. D.faults disk ≤ faults_of office.journal) }
         ensures tells { IfOk result (λ office. tells_of office.journal ≡ D.tells disk) }
         ensures identity { IfOk result (λ office. identity_of office.journal ≡ D.identity disk) }
@@ -93,6 +103,9 @@ impl<'a, D: Disk> Office<'a, D> {
             Ok(walk) => walk,
             Err((disk, fault)) => return Err((disk, journal_fault(fault))),
         };
+        if walk.record_version() == 1 {
+            return Err((walk.stop(), OpenFault::Version));
+        }
         let mut vectors = Some(Vectors::new(alloc));
         let (book, marks) = match take_all(alloc, bank, spec, &mut walk, &mut vectors) {
             Ok(found) => found,

@@ -7,15 +7,13 @@ ghost use Rattle.exam_edge.specs.Lent.{IsLent};
 ghost use Rattle.form_model.specs.Validity.{IsPlanFor};
 ghost use Rattle.history_model.specs.Judging.{MayFollow};
 ghost use Rattle.exam_records.specs.declared.fault.RecordFault.TheVariants.{Memory as NoMemory};
-ghost use Rattle.exam_records.specs.Reading.{old_record_of};
-ghost use Rattle.answer_journal.specs.Frames.{payloads, shadowj1};
-ghost use Rattle.answer_journal.specs.Standing.{payload_list};
-ghost use Rattle.answer_journal.specs.Walk.{first_payloads};
+ghost use Rattle.answer_journal.specs.Versions.{contents, counted_in};
+ghost use Rattle.answer_journal.specs.Walk.{first_gate, first_payloads};
 ghost use Rattle.exam_office.specs.declared.fault.OpenFault.TheVariants.{Disk as OfDisk};
 ghost use Rattle.exam_office.specs.declared.mark.Mark.TheVariants.{Old, Opened};
 ghost use Rattle.exam_office.specs.Files.{Stands};
 ghost use Rattle.exam_office.specs.KeptVectors.{AreOf, AreWith, IsTakenWith, AreTakenWith};
-ghost use Rattle.exam_office.specs.Opening.{IsNotFollowing, IsReadAs, AreTaken, IsNotTaken, IsOpenAnswer};
+ghost use Rattle.exam_office.specs.Opening.{IsNotFollowing, IsReadAs, AreTaken, IsNotTaken, IsReadAnswer, record_in};
 
 use crate::fault::OpenFault;
 use crate::mark::{Mark, note};
@@ -24,7 +22,7 @@ use answer_journal::{OpenFault as JournalFault, Walk, WalkFault};
 use bank_tables::Bank;
 use constraint_model::Spec;
 use exam_edge::{Disk, Memory};
-use exam_records::{Record, RecordFault, decode_old};
+use exam_records::{Record, RecordFault, decode, decode_old};
 use exam_session::Book;
 use history_log::Counted;
 use history_model::laws::may_is_legal;
@@ -47,13 +45,14 @@ pub fn journal_fault(fault: JournalFault) -> OpenFault
 {
     match fault {
         JournalFault::Disk => OpenFault::Disk,
+        JournalFault::Version => OpenFault::Version,
         JournalFault::Memory => OpenFault::Memory,
         _ => OpenFault::Journal(fault),
     }
 }
 
 /// Takes a record into the book, where it may follow.
-fn follow(alloc: Global, at: u64, rec: &Record, book: &mut Book) -> Result<(), OpenFault>
+pub(crate) fn follow(alloc: Global, at: u64, rec: &Record, book: &mut Book) -> Result<(), OpenFault>
     ensures bank { book.new.bank ≡ book.old.bank }
     ensures plan { book.new.plan ≡ book.old.plan }
     ensures may { OnOk result
@@ -92,22 +91,32 @@ fn keep_vector(
     }
 }
 
-/// The record of a payload: what the first version of the journal leaves out is that of the book.
-fn read_record(alloc: Global, payload: &[u8], book: &Book) -> Result<Record, RecordFault>
+/// The record of a payload by its version: what the first version leaves out is that of the book.
+pub(crate) fn read_record(
+    alloc: Global,
+    version: u8,
+    payload: &[u8],
+    book: &Book,
+) -> Result<Record, RecordFault>
     ensures reads { IfOk result
-        (IsReadAs book.now.bank book.now.plan book.now.entries payload.now) }
+        (IsReadAs book.now.bank book.now.plan version book.now.entries payload.now) }
     ensures fault { IfErr result
-        (λ fault. (fault ≡ NoMemory) ⊎ (old_record_of payload.now ≡ Err fault)) }
+        (λ fault. (fault ≡ NoMemory) ⊎ (record_in version payload.now ≡ Err fault)) }
 {
-    match decode_old(alloc, payload) {
-        Ok(old) => Ok(book.lift(old)),
-        Err(fault) => Err(fault),
+    if version == 1 {
+        match decode_old(alloc, payload) {
+            Ok(old) => Ok(book.lift(old)),
+            Err(fault) => Err(fault),
+        }
+    } else {
+        decode(alloc, payload)
     }
 }
 
 /// Takes the record of a payload into the book, where it may follow, and gives its entry.
 fn take_record(
     alloc: Global,
+    version: u8,
     at: u64,
     payload: &[u8],
     book: &mut Book,
@@ -115,14 +124,14 @@ fn take_record(
 ) -> Result<Entry, OpenFault>
     ensures bank { book.new.bank ≡ book.old.bank }
     ensures plan { book.new.plan ≡ book.old.plan }
-    ensures taken { IfOk result (λ entry. IsTakenWith book.old.bank book.old.plan book.old.entries
-        payload.now entry vectors.old vectors.new) }
+    ensures taken { IfOk result (λ entry. IsTakenWith book.old.bank book.old.plan version
+        book.old.entries payload.now entry vectors.old vectors.new) }
     ensures entries { IfOk result (λ entry. book.new.entries ≡ book.old.entries ++ entry ∷ []) }
     ensures asked { is_some vectors.new ≡ is_some vectors.old }
     ensures refused { IfErr result
-        (IsNotTaken book.old.bank book.old.plan book.old.entries at payload.now) }
+        (IsNotTaken book.old.bank book.old.plan version book.old.entries at payload.now) }
 {
-    let rec = match read_record(alloc, payload, book) {
+    let rec = match read_record(alloc, version, payload, book) {
         Ok(rec) => rec,
         Err(RecordFault::Memory) => return Err(OpenFault::Memory),
         Err(fault) => return Err(OpenFault::BadRecord(at, fault)),
@@ -147,41 +156,50 @@ fn take_records<D: Disk>(
     marks: &mut Counted<Mark>,
     vectors: &mut Option<Vectors>,
 ) -> Result<(), OpenFault>
-    requires start { (walk.old.at ≡ 8) × (walk.old.given ≡ 0) }
-    requires gives { IsTrue (D.tells walk.old.disk)
-        → payloads shadowj1 (D.content walk.old.disk)
-        ≡ Some (payload_list shadowj1 (D.content walk.old.disk)) }
+    requires start { walk.old.given ≡ 0 }
+    requires place { IsTrue (D.tells walk.old.disk)
+        → walk.old.at ≡ first_gate (D.content walk.old.disk) }
+    requires version { IsTrue (D.tells walk.old.disk)
+        → walk.old.record_version ≡ (counted_in (D.content walk.old.disk)).version }
+    requires gives { IsTrue (D.tells walk.old.disk) → contents (D.content walk.old.disk)
+        ≡ Some (counted_in (D.content walk.old.disk)) }
     requires empty { book.old.entries ≡ [] }
     requires none { marks.old ≡ [] }
     requires cold { AreOf book.old.bank book.old.plan [] vectors.old }
     ensures bank { book.new.bank ≡ book.old.bank }
     ensures plan { book.new.plan ≡ book.old.plan }
-    ensures taken { OnOk result (AreTakenWith book.old.bank book.old.plan (D.tells walk.old.disk)
-        (D.content walk.old.disk) walk.new.given walk.new.at book.new.entries vectors.new) }
+    ensures taken { OnOk result (AreTakenWith book.old.bank book.old.plan walk.old.record_version
+        walk.old.at (D.tells walk.old.disk) (D.content walk.old.disk) walk.new.given walk.new.at
+        book.new.entries vectors.new) }
     ensures noted { OnOk result (marks.new ≡ map Old book.new.entries) }
     ensures asked { is_some vectors.new ≡ is_some vectors.old }
     // All of them.
     ensures last { OnOk result (IsTrue (D.tells walk.old.disk)
         → first_payloads walk.new.given (D.content walk.old.disk)
-        ≡ payload_list shadowj1 (D.content walk.old.disk)) }
+        ≡ (counted_in (D.content walk.old.disk)).payloads) }
     ensures why { IfErr result (λ e. IsTrue (D.tells walk.old.disk)
-        → IsOpenAnswer book.old.bank book.old.plan (D.content walk.old.disk) e) }
+        → IsReadAnswer book.old.bank book.old.plan (D.content walk.old.disk) e) }
     ensures cause { IfErr result (λ e. e ≡ OfDisk
         → Rose (D.faults walk.old.disk) (D.faults walk.new.disk)) }
     ensures limit { walk.new.limit ≡ walk.old.limit }
     ensures size { walk.new.size ≡ walk.old.size }
     // The walk is at the end of the file, also of a disk that does not report its content.
     ensures whole { OnOk result (walk.new.at + 1 ≡ walk.new.size) }
+    ensures versions { (walk.new.header_version ≡ walk.old.header_version)
+        × (walk.new.record_version ≡ walk.old.record_version) }
     ensures content { IsTrue (D.tells walk.old.disk)
         → D.content walk.new.disk ≡ D.content walk.old.disk }
     ensures accounts { IsTrue (D.tells walk.old.disk)
         → D.accounts walk.new.disk ≡ D.accounts walk.old.disk }
+    ensures aside { IsTrue (D.tells walk.old.disk)
+        → D.aside walk.new.disk ≡ D.aside walk.old.disk }
     ensures frame { IsLent D.tells D.identity D.faults walk.old.disk walk.new.disk }
 {
+    let version = walk.record_version();
     let mut payload = Vec::new(alloc);
     'records: loop {
         match walk.next(alloc, &mut payload) {
-            Ok(Some(at)) => match take_record(alloc, at, &payload, book, vectors) {
+            Ok(Some(at)) => match take_record(alloc, version, at, &payload, book, vectors) {
                 Ok(entry) => match note(marks, &Mark::Old(entry)) {
                     Ok(()) => {}
                     Err(_) => return Err(OpenFault::Memory),
@@ -201,8 +219,8 @@ fn take_records<D: Disk>(
     }
 }
 
-/// Judges each record of a file that is walked over, its proof tree included, and takes it into a
-/// new book, with one record in memory. It gives the book, and the marks of an office opened with
+/// Judges each record of a file of either version that is walked over, its proof tree included, and
+/// takes it into a new book, with one record in memory. It gives the book, and the marks of an office opened with
 /// it: the entries found, and the length of the journal. It writes nothing.
 pub fn take_history<'a, D: Disk>(
     alloc: Global,
@@ -211,35 +229,43 @@ pub fn take_history<'a, D: Disk>(
     walk: &mut Walk<D>,
 ) -> Result<(Book<'a>, Counted<Mark>), OpenFault>
     requires plan { IsPlanFor bank.now spec.now }
-    requires start { (walk.old.at ≡ 8) × (walk.old.given ≡ 0) }
-    requires gives { IsTrue (D.tells walk.old.disk)
-        → payloads shadowj1 (D.content walk.old.disk)
-        ≡ Some (payload_list shadowj1 (D.content walk.old.disk)) }
+    requires start { walk.old.given ≡ 0 }
+    requires place { IsTrue (D.tells walk.old.disk)
+        → walk.old.at ≡ first_gate (D.content walk.old.disk) }
+    requires version { IsTrue (D.tells walk.old.disk)
+        → walk.old.record_version ≡ (counted_in (D.content walk.old.disk)).version }
+    requires gives { IsTrue (D.tells walk.old.disk) → contents (D.content walk.old.disk)
+        ≡ Some (counted_in (D.content walk.old.disk)) }
     ensures bank { IfOk result (λ found. found.0.bank ≡ bank.now) }
     ensures plan { IfOk result (λ found. found.0.plan ≡ spec.now) }
-    ensures taken { IfOk result (λ found. AreTaken bank.now spec.now (D.tells walk.old.disk)
-        (D.content walk.old.disk) walk.new.given walk.new.at found.0.entries) }
+    ensures taken { IfOk result (λ found. AreTaken bank.now spec.now walk.old.record_version walk.old.at
+        (D.tells walk.old.disk) (D.content walk.old.disk) walk.new.given walk.new.at
+        found.0.entries) }
     ensures marks { IfOk result
         (λ found. found.1 ≡ map Old found.0.entries ++ Opened walk.new.size ∷ []) }
     // All of them: the file represents this history.
     ensures last { OnOk result (IsTrue (D.tells walk.old.disk)
         → first_payloads walk.new.given (D.content walk.old.disk)
-        ≡ payload_list shadowj1 (D.content walk.old.disk)) }
+        ≡ (counted_in (D.content walk.old.disk)).payloads) }
     ensures stands { IfOk result (λ found. IsTrue (D.tells walk.old.disk)
         → Stands bank.now spec.now found.0.entries (D.content walk.old.disk)) }
     // The first record that is refused, if memory and the disk don't fail before.
     ensures why { IfErr result (λ e. IsTrue (D.tells walk.old.disk)
-        → IsOpenAnswer bank.now spec.now (D.content walk.old.disk) e) }
+        → IsReadAnswer bank.now spec.now (D.content walk.old.disk) e) }
     ensures cause { IfErr result (λ e. e ≡ OfDisk
         → Rose (D.faults walk.old.disk) (D.faults walk.new.disk)) }
     ensures limit { walk.new.limit ≡ walk.old.limit }
     ensures size { walk.new.size ≡ walk.old.size }
     // The walk is at the end of the file, also of a disk that does not report its content.
     ensures whole { OnOk result (walk.new.at + 1 ≡ walk.new.size) }
+    ensures versions { (walk.new.header_version ≡ walk.old.header_version)
+        × (walk.new.record_version ≡ walk.old.record_version) }
     ensures content { IsTrue (D.tells walk.old.disk)
         → D.content walk.new.disk ≡ D.content walk.old.disk }
     ensures accounts { IsTrue (D.tells walk.old.disk)
         → D.accounts walk.new.disk ≡ D.accounts walk.old.disk }
+    ensures aside { IsTrue (D.tells walk.old.disk)
+        → D.aside walk.new.disk ≡ D.aside walk.old.disk }
     ensures frame { IsLent D.tells D.identity D.faults walk.old.disk walk.new.disk }
 {
     take_all(alloc, bank, spec, walk, &mut None)
@@ -254,37 +280,45 @@ pub(crate) fn take_all<'a, D: Disk>(
     vectors: &mut Option<Vectors>,
 ) -> Result<(Book<'a>, Counted<Mark>), OpenFault>
     requires plan { IsPlanFor bank.now spec.now }
-    requires start { (walk.old.at ≡ 8) × (walk.old.given ≡ 0) }
-    requires gives { IsTrue (D.tells walk.old.disk)
-        → payloads shadowj1 (D.content walk.old.disk)
-        ≡ Some (payload_list shadowj1 (D.content walk.old.disk)) }
+    requires start { walk.old.given ≡ 0 }
+    requires place { IsTrue (D.tells walk.old.disk)
+        → walk.old.at ≡ first_gate (D.content walk.old.disk) }
+    requires version { IsTrue (D.tells walk.old.disk)
+        → walk.old.record_version ≡ (counted_in (D.content walk.old.disk)).version }
+    requires gives { IsTrue (D.tells walk.old.disk) → contents (D.content walk.old.disk)
+        ≡ Some (counted_in (D.content walk.old.disk)) }
     requires cold { AreOf bank.now spec.now [] vectors.old }
     ensures bank { IfOk result (λ found. found.0.bank ≡ bank.now) }
     ensures plan { IfOk result (λ found. found.0.plan ≡ spec.now) }
-    ensures taken { IfOk result (λ found. AreTakenWith bank.now spec.now (D.tells walk.old.disk)
-        (D.content walk.old.disk) walk.new.given walk.new.at found.0.entries vectors.new) }
+    ensures taken { IfOk result (λ found. AreTakenWith bank.now spec.now walk.old.record_version
+        walk.old.at (D.tells walk.old.disk) (D.content walk.old.disk) walk.new.given walk.new.at
+        found.0.entries vectors.new) }
     ensures asked { is_some vectors.new ≡ is_some vectors.old }
     ensures marks { IfOk result
         (λ found. found.1 ≡ map Old found.0.entries ++ Opened walk.new.size ∷ []) }
     // All of them: the file represents this history.
     ensures last { OnOk result (IsTrue (D.tells walk.old.disk)
         → first_payloads walk.new.given (D.content walk.old.disk)
-        ≡ payload_list shadowj1 (D.content walk.old.disk)) }
+        ≡ (counted_in (D.content walk.old.disk)).payloads) }
     ensures stands { IfOk result (λ found. IsTrue (D.tells walk.old.disk)
         → Stands bank.now spec.now found.0.entries (D.content walk.old.disk)) }
     // The first record that is refused, if memory and the disk don't fail before.
     ensures why { IfErr result (λ e. IsTrue (D.tells walk.old.disk)
-        → IsOpenAnswer bank.now spec.now (D.content walk.old.disk) e) }
+        → IsReadAnswer bank.now spec.now (D.content walk.old.disk) e) }
     ensures cause { IfErr result (λ e. e ≡ OfDisk
         → Rose (D.faults walk.old.disk) (D.faults walk.new.disk)) }
     ensures limit { walk.new.limit ≡ walk.old.limit }
     ensures size { walk.new.size ≡ walk.old.size }
     // The walk is at the end of the file, also of a disk that does not report its content.
     ensures whole { OnOk result (walk.new.at + 1 ≡ walk.new.size) }
+    ensures versions { (walk.new.header_version ≡ walk.old.header_version)
+        × (walk.new.record_version ≡ walk.old.record_version) }
     ensures content { IsTrue (D.tells walk.old.disk)
         → D.content walk.new.disk ≡ D.content walk.old.disk }
     ensures accounts { IsTrue (D.tells walk.old.disk)
         → D.accounts walk.new.disk ≡ D.accounts walk.old.disk }
+    ensures aside { IsTrue (D.tells walk.old.disk)
+        → D.aside walk.new.disk ≡ D.aside walk.old.disk }
     ensures frame { IsLent D.tells D.identity D.faults walk.old.disk walk.new.disk }
 {
     let mut book = match Book::new(alloc, bank, spec) {

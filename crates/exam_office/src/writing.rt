@@ -6,9 +6,10 @@ ghost use Rattle.exam_edge.specs.Lent.{IsLent};
 ghost use Rattle.exam_edge.specs.Images.{AllImages, AtEachMoment, latest};
 ghost use Rattle.history_model.specs.Judging.{MayFollow};
 ghost use Rattle.exam_records.specs.Shape.{IsRecord};
+ghost use Rattle.exam_records.specs.Spelling.{payload_of};
 ghost use Rattle.answer_journal.specs.Journal.{tells_of, accounts_of, faults_of, identity_of};
 ghost use Rattle.exam_office.specs.declared.mark.Mark.TheVariants.{Own};
-ghost use Rattle.exam_office.specs.Files.{payload_in, Stands};
+ghost use Rattle.exam_office.specs.Files.{Stands};
 ghost use Rattle.exam_office.specs.Marks.{history};
 ghost use Rattle.exam_office.specs.Writing.{IsMending, IsWriting, IsMended, IsSameOffice, IsUnmended, IsUnwritten, with_record};
 
@@ -16,7 +17,7 @@ use crate::mark::{Mark, room_for_mark};
 use crate::office::Office;
 use answer_journal::{Adopted, AppendFault, Frame};
 use exam_edge::{Disk, Memory};
-use exam_records::encode_old_parts;
+use exam_records::encode_parts;
 use history_model::laws::may_is_legal;
 use history_model::{Entry, Refusal};
 use proof_tree::Tree;
@@ -27,14 +28,13 @@ impl<'a, D: Disk> Office<'a, D> {
     fn frame_of(&self, alloc: Global, entry: &Entry, tree: Option<&Tree>) -> Result<Frame, Memory>
         requires { MayFollow self.now.bank self.now.plan (history self.now.marks) entry.now
             (option_copied tree) }
-        ensures frame { IfOk result (λ frame. frame ≡ payload_in self.now.bank self.now.plan
-            (record { entry = entry.now; tree = option_copied tree.entry })) }
+        ensures frame { IfOk result (λ frame. frame
+            ≡ payload_of (record { entry = entry.now; tree = option_copied tree.entry })) }
         ensures is_record { IsRecord
             (record { entry = entry.now; tree = option_copied tree.entry }) }
     {
         let _ = self.book.entries();
-        let first = self.book.first_band();
-        let payload = encode_old_parts(alloc, first, entry, tree)?;
+        let payload = encode_parts(alloc, entry, tree)?;
         let mut bytes = Frame::room(alloc)?;
         bytes.extend_from_slice(&payload)?;
         let frame = Frame::of(bytes)?;
@@ -97,7 +97,7 @@ impl<'a, D: Disk> Office<'a, D> {
         ensures same { IsSameOffice self.old self.new }
         ensures sure { OnOk result (self.new.doubt ≡ None) }
         ensures written { OnOk result (self.new.marks ≡ self.old.marks ++ Own entry.now
-            (with_record self.old.bank self.old.plan self.old.marks
+            (with_record self.old.marks
             (record { entry = entry.now; tree = option_copied tree.entry })) ∷ []) }
         ensures refused { IfErr result (IsUnwritten self.old self.new
             (record { entry = entry.now; tree = option_copied tree.entry })) }

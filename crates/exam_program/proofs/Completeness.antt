@@ -14,20 +14,21 @@ use Rattle.history_model.specs.declared.entry.Entry.{Entry}
 use Rattle.history_model.specs.declared.request.Request.{Request}
 use Rattle.exam_office.specs.declared.fault.OpenFault.{OpenFault}
 use Rattle.exam_office.specs.Files.{Stands}
-use Rattle.exam_office.proofs.FileLaws.{standing_is_opened}
+use Rattle.exam_office.specs.Migrating.{IsTooLongMoved, StandsMoved}
+use Rattle.exam_office.proofs.FileLaws.{standing_is_opened, standing_is_read}
 use Rattle.replay_cli.specs.declared.script_fault.ScriptFault.{ScriptFault}
 use Rattle.replay_cli.specs.declared.script_fault.ScriptFault.TheVariants as script_fault
 use Rattle.replay_cli.specs.Reading.{IsScriptFault, IsOfText as IsOfScript}
 use Rattle.replay_cli.proofs.ReadLaws.{no_fault}
 use Rattle.exam_program.specs.Bases.{ShowsNoForm, ShowsNoBase}
-use Rattle.command_line.specs.Commands.{Command, Check, Assemble, Replay, Serve, Audit, Drill, HasJournal, IsReplay, IsServe, command_of, files_of}
+use Rattle.command_line.specs.Commands.{Command, Check, Assemble, Replay, Serve, Audit, Drill, Migrate, HasJournal, IsServe, command_of, files_of}
 use Rattle.exam_program.specs.Halts.{IsPlanIn, IsOfText, Reads, IsScriptIn}
-use Rattle.exam_program.specs.Laws.{CheckIsComplete, AssembleIsComplete, ReplayIsComplete, ServeIsComplete, AuditIsComplete, MeetsLimit, of_sessions, of_journal}
+use Rattle.exam_program.specs.Laws.{CheckIsComplete, AssembleIsComplete, ReplayIsComplete, ServeIsComplete, AuditIsComplete, MigrateIsComplete, MeetsLimit, of_sessions, of_journal}
 use Rattle.exam_program.specs.Outside.{Outside}
-use Rattle.exam_program.specs.Replays.{IsOfFile, IsJournalRefused}
+use Rattle.exam_program.specs.Replays.{IsOfFile, IsJournalRefused, IsReadingRefused}
 use Rattle.exam_program.proofs.BaseLaws.{whole_form}
 use Rattle.exam_program.proofs.OnePlan.{one_plan_in}
-use Rattle.exam_program.specs.Outcomes.{IsOver, IsReady, IsReplayOf, Outcome, faulty_words, bank_refused, plan_refused, script_refused, checked, form_found, without_form, without_base_form, journal_refused, replayed, sessions_full, journal_full, without_files, without_journal, without_disk, without_memory, without_more_memory, server_refused, server_without_journal, server_without_memory, IsAuditOf, audited, audit_refused, without_audit, drilled, drill_full}
+use Rattle.exam_program.specs.Outcomes.{IsOver, IsReady, IsReplayOf, Outcome, faulty_words, bank_refused, plan_refused, script_refused, checked, form_found, without_form, without_base_form, journal_refused, replayed, sessions_full, journal_full, without_files, without_journal, without_disk, without_memory, without_more_memory, server_refused, server_without_journal, server_without_memory, IsAuditOf, audited, audit_refused, without_audit, drilled, drill_full, IsMigrationOf, migrated, migration_refused, migration_full, without_migration, migration_without_memory, migrated_without_line}
 use Rattle.exam_program.specs.Serves.{IsServeOf}
 
 -- ---- a reading is one
@@ -99,9 +100,16 @@ no_script_fault text script script_fault.Memory is of_script halts = of_script
 no_script_fault text script script_fault.TooLong is of_script halts = omega (arith, is.short, halts)
 no_script_fault text script (script_fault.Line n) is of_script halts = no_fault text script n is.says halts.1
 
--- a file that represents a history is not refused
-no_journal_fault : (b : Tables) (p : Plan) (o : Outside) (f : OpenFault) (H : List Entry) → Stands b p H o.disk.found → length o.disk.found ≤ p.journal → IsTrue o.disk.told → IsJournalRefused b p o.disk f → ⊥
-no_journal_fault b p o f H stands short told is = elim (standing_is_opened b p H o.disk.found f stands short (is.answer told)) [
+-- a file that represents a history by records of the second version is not refused
+no_journal_fault : (b : Tables) (p : Plan) (o : Outside) (f : OpenFault) (H : List Entry) → StandsMoved b p H o.disk.found → length o.disk.found ≤ p.journal → IsTrue o.disk.told → IsJournalRefused b p o.disk f → ⊥
+no_journal_fault b p o f H moved short told is = elim (standing_is_opened b p H o.disk.found f moved.stands moved.second short (is.answer told)) [
+  | inl e ↦ subst (λ (g : OpenFault). IsOfFile g) e is.of_file
+  | inr e ↦ subst (λ (g : OpenFault). IsOfFile g) e is.of_file
+]
+
+-- of either version it is not, where it is read
+no_reading_fault : (b : Tables) (p : Plan) (o : Outside) (f : OpenFault) (H : List Entry) → Stands b p H o.disk.found → length o.disk.found ≤ p.journal → IsTrue o.disk.told → IsReadingRefused b p o.disk f → ⊥
+no_reading_fault b p o f H stands short told is = elim (standing_is_read b p H o.disk.found f stands short (is.answer told)) [
   | inl e ↦ subst (λ (g : OpenFault). IsOfFile g) e is.of_file
   | inr e ↦ subst (λ (g : OpenFault). IsOfFile g) e is.of_file
 ]
@@ -115,6 +123,7 @@ NoScript o (Assemble bank plan) = ⊥
 NoScript o (Serve bank plan) = ⊥
 NoScript o (Audit bank plan) = ⊥
 NoScript o (Drill number sessions) = ⊥
+NoScript o (Migrate bank plan) = ⊥
 NoScript o (Replay bank plan name) = (f : ScriptFault) × IsOfScript f × IsScriptFault (o.content name) f
 
 -- its journal is refused
@@ -123,8 +132,19 @@ NoJournal o (Check bank plan) = ⊥
 NoJournal o (Assemble bank plan) = ⊥
 NoJournal o (Replay bank plan name) = (b : Tables) × (p : Plan) × (f : OpenFault) × Reads o.named o.content bank plan b p × IsJournalRefused b p o.disk f
 NoJournal o (Serve bank plan) = (b : Tables) × (p : Plan) × (f : OpenFault) × Reads o.named o.content bank plan b p × IsJournalRefused b p o.disk f
-NoJournal o (Audit bank plan) = (b : Tables) × (p : Plan) × (f : OpenFault) × Reads o.named o.content bank plan b p × IsJournalRefused b p o.disk f
+NoJournal o (Audit bank plan) = (b : Tables) × (p : Plan) × (f : OpenFault) × Reads o.named o.content bank plan b p × IsReadingRefused b p o.disk f
 NoJournal o (Drill number sessions) = ⊥
+NoJournal o (Migrate bank plan) = (b : Tables) × (p : Plan) × (f : OpenFault) × Reads o.named o.content bank plan b p × IsReadingRefused b p o.disk f
+
+-- the plan's limit has no room: for a request of a replay, or for the records of a migration
+abbrev NoRoom : List (List ℕ) → Outside → Command → Type 0
+NoRoom words o (Check bank plan) = ⊥
+NoRoom words o (Assemble bank plan) = ⊥
+NoRoom words o (Replay bank plan name) = MeetsLimit words o
+NoRoom words o (Serve bank plan) = ⊥
+NoRoom words o (Audit bank plan) = ⊥
+NoRoom words o (Drill number sessions) = ⊥
+NoRoom words o (Migrate bank plan) = (b : Tables) × (p : Plan) × (size : ℕ) × Reads o.named o.content bank plan b p × (IsTrue o.disk.told → IsTooLongMoved b p o.disk.found size)
 
 data Left (words : List (List ℕ)) (o : Outside) (command : Command) : ℕ → Type 0 where
   done : Left words o command 0
@@ -133,15 +153,15 @@ data Left (words : List (List ℕ)) (o : Outside) (command : Command) : ℕ → 
   no_base : (b : Tables) (p : Plan) (T : ProofTree) → IsReady o.named o.content command b p → ShowsNoBase b p T → Left words o command 12
   no_script : NoScript o command → Left words o command 5
   no_journal : NoJournal o command → Left words o command 6
-  limit : IsReplay command → MeetsLimit words o → Left words o command 13
+  limit : NoRoom words o command → Left words o command 13
   disk : HasJournal command → Rose o.disk.before o.disk.after → Left words o command 9
 
 module _ (words : List (List ℕ)) (o : Outside) (command : Command) (e : command_of words ≡ Some command) where
   same_command : (other : Command) → command_of words ≡ Some other → other ≡ command
   same_command other f = command_same (command_of words) other command f e
 
-  is_replay : (b : Tables) (p : Plan) (script : List Request) (base : List ℕ) → IsReplayOf words o b p script base → IsReplay command
-  is_replay b p script base is = subst IsReplay (same_command (Replay is.bank is.plan is.name) is.asked) tt
+  meets : (b : Tables) (p : Plan) (script : List Request) (base : List ℕ) → IsReplayOf words o b p script base → MeetsLimit words o → NoRoom words o command
+  meets b p script base is met = subst (NoRoom words o) (same_command (Replay is.bank is.plan is.name) is.asked) met
 
   has_journal : (b : Tables) (p : Plan) (script : List Request) (base : List ℕ) → IsReplayOf words o b p script base → HasJournal command
   has_journal b p script base is = subst HasJournal (same_command (Replay is.bank is.plan is.name) is.asked) tt
@@ -151,6 +171,9 @@ module _ (words : List (List ℕ)) (o : Outside) (command : Command) (e : comman
 
   audits_journal : (b : Tables) (p : Plan) → IsAuditOf words o b p → HasJournal command
   audits_journal b p is = subst HasJournal (same_command (Audit is.bank is.plan) is.asked) tt
+
+  moves_journal : (b : Tables) (p : Plan) → IsMigrationOf words o b p → HasJournal command
+  moves_journal b p is = subst HasJournal (same_command (Migrate is.bank is.plan) is.asked) tt
 
   -- the bank of the files that are read
   module _ (bank plan : List ℕ) (names : files_of command ≡ Some (bank, plan)) where
@@ -194,9 +217,9 @@ module _ (words : List (List ℕ)) (o : Outside) (command : Command) (e : comman
       no_journal (subst (NoJournal o) (same_command (Replay is.bank is.plan is.name) is.asked) (c, q, why, is.reads.reads, refusal))
   left bank plan names b p _ _ reads quiet (replayed c q script base H G replies is way) = done
   left bank plan names b p _ _ reads quiet (sessions_full c q script base H G request rest replies count is way why) =
-      limit (is_replay c q script base is) (of_sessions c q script base H G request rest replies count is way why)
+      limit (meets c q script base is (of_sessions c q script base H G request rest replies count is way why))
   left bank plan names b p _ _ reads quiet (journal_full c q script base H G request rest replies K now size is way full at) =
-      limit (is_replay c q script base is) (of_journal c q script base H G request rest replies K now size is way full at)
+      limit (meets c q script base is (of_journal c q script base H G request rest replies K now size is way full at))
   left bank plan names b p _ _ reads quiet (without_files other_bank other_plan over rose untouched) = absurd (quiet rose)
   left bank plan names b p _ _ reads quiet (without_journal c q script base is so) = disk (has_journal c q script base is) so.rose
   left bank plan names b p _ _ reads quiet (without_disk c q script base H G rest replies is way rose) = disk (has_journal c q script base is) rose
@@ -206,12 +229,20 @@ module _ (words : List (List ℕ)) (o : Outside) (command : Command) (e : comman
       no_journal (subst (NoJournal o) (same_command (Serve is.bank is.plan) is.asked) (c, q, why, is.reads, refusal))
   left bank plan names b p _ _ reads quiet (server_without_journal c q base is so) = disk (serves_journal c q base is) so.rose
   left bank plan names b p _ _ reads quiet (server_without_memory c q base opened H is examined) = memory
-  left bank plan names b p _ _ reads quiet (audited c q s exposure is found untouched) = done
+  left bank plan names b p _ _ reads quiet (audited c q s exposure bands is found untouched) = done
   left bank plan names b p _ _ reads quiet (audit_refused c q why is refusal) =
       no_journal (subst (NoJournal o) (same_command (Audit is.bank is.plan) is.asked) (c, q, why, is.reads, refusal))
   left bank plan names b p _ _ reads quiet (without_audit c q is rose untouched) = disk (audits_journal c q is) rose
   left bank plan names b p _ _ reads quiet (drilled number sessions s f is untouched) = absurd (no_drill bank plan names number sessions f)
   left bank plan names b p _ _ reads quiet (drill_full number sessions size most f is untouched) = absurd (no_drill bank plan names number sessions f)
+  left bank plan names b p _ _ reads quiet (migrated c q moved is so) = done
+  left bank plan names b p _ _ reads quiet (migration_refused c q why is refusal) =
+      no_journal (subst (NoJournal o) (same_command (Migrate is.bank is.plan) is.asked) (c, q, why, is.reads, refusal))
+  left bank plan names b p _ _ reads quiet (migration_full c q size is full) =
+      limit (subst (NoRoom words o) (same_command (Migrate is.bank is.plan) is.asked) (c, q, size, is.reads, full.long))
+  left bank plan names b p _ _ reads quiet (without_migration c q is rose cut) = disk (moves_journal c q is) rose
+  left bank plan names b p _ _ reads quiet (migration_without_memory c q is cut still) = memory
+  left bank plan names b p _ _ reads quiet (migrated_without_line c q moved is so) = memory
 
 -- a server that served no connection was not done
 module _ (words : List (List ℕ)) (o : Outside) (command : Command) (e : command_of words ≡ Some command) (server : IsServe command) where
@@ -222,7 +253,7 @@ module _ (words : List (List ℕ)) (o : Outside) (command : Command) (e : comman
   not_done _ _ (checked bank plan c q f there untouched) zero = no_server (Check bank plan) f (λ x. x)
   not_done _ _ (form_found bank plan c q P form proved T f there finds untouched) zero = no_server (Assemble bank plan) f (λ x. x)
   not_done _ _ (replayed c q script base H G replies is way) zero = no_server (Replay is.bank is.plan is.name) is.asked (λ x. x)
-  not_done _ _ (audited c q s exposure is found untouched) zero = no_server (Audit is.bank is.plan) is.asked (λ x. x)
+  not_done _ _ (audited c q s exposure bands is found untouched) zero = no_server (Audit is.bank is.plan) is.asked (λ x. x)
   not_done _ _ (faulty_words f untouched) zero = omega (arith, zero)
   not_done _ _ (bank_refused bank plan why over found is untouched) zero = omega (arith, zero)
   not_done _ _ (plan_refused bank plan c why over found plan_found is of_text refusal untouched) zero = omega (arith, zero)
@@ -242,6 +273,12 @@ module _ (words : List (List ℕ)) (o : Outside) (command : Command) (e : comman
   not_done _ _ (server_without_memory c q base opened H is examined) zero = omega (arith, zero)
   not_done _ _ (audit_refused c q why is refusal) zero = omega (arith, zero)
   not_done _ _ (without_audit c q is rose untouched) zero = omega (arith, zero)
+  not_done _ _ (migrated c q moved is so) zero = no_server (Migrate is.bank is.plan) is.asked (λ x. x)
+  not_done _ _ (migration_refused c q why is refusal) zero = omega (arith, zero)
+  not_done _ _ (migration_full c q size is full) zero = omega (arith, zero)
+  not_done _ _ (without_migration c q is rose cut) zero = omega (arith, zero)
+  not_done _ _ (migration_without_memory c q is cut still) zero = omega (arith, zero)
+  not_done _ _ (migrated_without_line c q moved is so) zero = omega (arith, zero)
   not_done _ _ (drilled number sessions s f is untouched) zero = no_server (Drill number sessions) f (λ x. x)
   not_done _ _ (drill_full number sessions size most f is untouched) zero = omega (arith, zero)
 
@@ -256,7 +293,7 @@ check_is_complete words o bank plan b p status text e reads quiet outcome = of s
     of _ (no_base c q T ready shows) = absurd ready
     of _ (no_script none) = absurd none
     of _ (no_journal none) = absurd none
-    of _ (limit none met) = absurd none
+    of _ (limit none) = absurd none
     of _ (disk none rose) = absurd none
 
 pub assemble_is_complete : AssembleIsComplete
@@ -269,19 +306,33 @@ assemble_is_complete words o bank plan base b p status text e reads with_base qu
     of _ (no_base c q T ready shows) = absurd (no_base_there o.named o.content bank plan base b c p q T reads with_base ready shows)
     of _ (no_script none) = absurd none
     of _ (no_journal none) = absurd none
-    of _ (limit none met) = absurd none
+    of _ (limit none) = absurd none
     of _ (disk none rose) = absurd none
 
 -- a journal of the files that are read is not refused
 module _ (o : Outside) (bank plan : List ℕ) (b : Tables) (p : Plan) (H : List Entry) (reads : Reads o.named o.content bank plan b p)
-    (told : IsTrue o.disk.told) (stands : Stands b p H o.disk.found) (short : length o.disk.found ≤ p.journal) where
-  not_refused : (c : Tables) (q : Plan) (f : OpenFault) → Reads o.named o.content bank plan c q → IsJournalRefused c q o.disk f → ⊥
-  not_refused c q f there refusal =
+    (told : IsTrue o.disk.told) (short : length o.disk.found ≤ p.journal) where
+  not_refused : StandsMoved b p H o.disk.found → (c : Tables) (q : Plan) (f : OpenFault) → Reads o.named o.content bank plan c q → IsJournalRefused c q o.disk f → ⊥
+  not_refused stands c q f there refusal =
       let same = plan_same o.named o.content bank plan b c p q reads there in
       let refused : IsJournalRefused b p o.disk f =
       subst (λ (x : Plan). IsJournalRefused b x o.disk f) same.1
       (subst (λ (t : Tables). IsJournalRefused t q o.disk f) same.0 refusal) in
       no_journal_fault b p o f H stands short told refused
+
+  read_so : Stands b p H o.disk.found → (c : Tables) (q : Plan) (f : OpenFault) → Reads o.named o.content bank plan c q → IsReadingRefused c q o.disk f → ⊥
+  read_so stands c q f there refusal =
+      let same = plan_same o.named o.content bank plan b c p q reads there in
+      let refused : IsReadingRefused b p o.disk f =
+      subst (λ (x : Plan). IsReadingRefused b x o.disk f) same.1
+      (subst (λ (t : Tables). IsReadingRefused t q o.disk f) same.0 refusal) in
+      no_reading_fault b p o f H stands short told refused
+
+  room_so : ((size : ℕ) → IsTooLongMoved b p o.disk.found size → ⊥) → (c : Tables) (q : Plan) (size : ℕ) → Reads o.named o.content bank plan c q → IsTooLongMoved c q o.disk.found size → ⊥
+  room_so room c q size there long =
+      let same = plan_same o.named o.content bank plan b c p q reads there in
+      room size (subst (λ (x : Plan). IsTooLongMoved b x o.disk.found size) same.1
+      (subst (λ (t : Tables). IsTooLongMoved t q o.disk.found size) same.0 long))
 
 pub replay_is_complete : ReplayIsComplete
 replay_is_complete words o bank plan name base b p script H status text e reads with_base says told stands short within quiet disk_quiet outcome =
@@ -293,8 +344,8 @@ replay_is_complete words o bank plan name base b p script H status text e reads 
     of _ (no_form c q T ready shows) = absurd (form_there o.named o.content bank plan base b c p q T reads with_base ready.0 shows)
     of _ (no_base c q T ready shows) = absurd (no_base_there o.named o.content bank plan base b c p q T reads with_base ready.0 shows)
     of _ (no_script none) = absurd (no_script_fault (o.content name) script none.0 says none.1 none.2)
-    of _ (no_journal none) = absurd (not_refused o bank plan b p H reads told stands short none.0 none.1 none.2 none.3 none.4)
-    of _ (limit is met) = absurd (within met)
+    of _ (no_journal none) = absurd (not_refused o bank plan b p H reads told short stands none.0 none.1 none.2 none.3 none.4)
+    of _ (limit met) = absurd (within met)
     of _ (disk has rose) = absurd (disk_quiet rose)
 
 pub serve_is_complete : ServeIsComplete
@@ -307,8 +358,8 @@ serve_is_complete words o bank plan base b p H status text e reads with_base tol
     of _ (no_form c q T ready shows) not = absurd (form_there o.named o.content bank plan base b c p q T reads with_base ready shows)
     of _ (no_base c q T ready shows) not = absurd (no_base_there o.named o.content bank plan base b c p q T reads with_base ready shows)
     of _ (no_script none) not = absurd none
-    of _ (no_journal none) not = absurd (not_refused o bank plan b p H reads told stands short none.0 none.1 none.2 none.3 none.4)
-    of _ (limit none met) not = absurd none
+    of _ (no_journal none) not = absurd (not_refused o bank plan b p H reads told short stands none.0 none.1 none.2 none.3 none.4)
+    of _ (limit none) not = absurd none
     of _ (disk has rose) not = absurd (disk_quiet rose)
 
 pub audit_is_complete : AuditIsComplete
@@ -321,6 +372,20 @@ audit_is_complete words o bank plan b p H status text e reads told stands short 
     of _ (no_form c q T ready shows) = absurd ready
     of _ (no_base c q T ready shows) = absurd ready
     of _ (no_script none) = absurd none
-    of _ (no_journal none) = absurd (not_refused o bank plan b p H reads told stands short none.0 none.1 none.2 none.3 none.4)
-    of _ (limit none met) = absurd none
+    of _ (no_journal none) = absurd (read_so o bank plan b p H reads told short stands none.0 none.1 none.2 none.3 none.4)
+    of _ (limit none) = absurd none
+    of _ (disk has rose) = absurd (disk_quiet rose)
+
+pub migrate_is_complete : MigrateIsComplete
+migrate_is_complete words o bank plan b p H status text e reads told stands short room quiet disk_quiet outcome =
+    of status (left words o (Migrate bank plan) e bank plan refl b p status text reads quiet outcome)
+  where
+    of : (s : ℕ) → Left words o (Migrate bank plan) s → (s ≡ 0) ⊎ (s ≡ 10)
+    of _ done = inl refl
+    of _ memory = inr refl
+    of _ (no_form c q T ready shows) = absurd ready
+    of _ (no_base c q T ready shows) = absurd ready
+    of _ (no_script none) = absurd none
+    of _ (no_journal none) = absurd (read_so o bank plan b p H reads told short stands none.0 none.1 none.2 none.3 none.4)
+    of _ (limit full) = absurd (room_so o bank plan b p H reads told short room full.0 full.1 full.2 full.3 (full.4 told))
     of _ (disk has rose) = absurd (disk_quiet rose)

@@ -6,6 +6,7 @@ use Rattle.spec_reader.specs.Canonical.{canonical}
 use Rattle.exam_edge.specs.Faults.{Rose}
 use Rattle.exam_edge.specs.Images.{Account}
 use Rattle.form_model.specs.Plan.{Plan}
+use Rattle.exam_lines.specs.Texts.{migrated_text}
 use Rattle.exam_text.specs.Texts.{no_memory}
 use Rattle.history_model.specs.declared.request.Request.{Request}
 use Rattle.replay_cli.specs.Replies.{lines_of}
@@ -18,12 +19,17 @@ use Rattle.exam_program.specs.Halts.{HaltsAtExam, HaltsAtScript, HaltsAtBase, Re
 use Rattle.exam_program.specs.Outside.{Outside, DiskSeen, disk_seen, IsUntouched}
 use Rattle.exam_office.specs.declared.fault.OpenFault.{OpenFault}
 use Rattle.exam_office.specs.declared.fault.OpenFault.TheVariants as open_fault
-use Rattle.exam_office.specs.Opening.{IsOpenAnswer}
-use Rattle.exam_program.specs.Replays.{IsLeftAt, IsJournalRefused}
+use Rattle.exam_office.specs.declared.migrating.Moved.{Moved}
+use Rattle.exam_office.specs.declared.migrating.MigrateFault.{MigrateFault}
+use Rattle.exam_office.specs.declared.migrating.MigrateFault.TheVariants as migrate_fault
+use Rattle.exam_office.specs.Migrating.{IsMigrateAnswer, IsOfContent, migrate_fault as migrate_fault_of}
+use Rattle.exam_office.specs.Opening.{IsReadAnswer}
+use Rattle.exam_program.specs.Migrations.{IsMigrationCutOff, IsMigrationDone, IsStillUnmoved, migration_halt}
+use Rattle.exam_program.specs.Replays.{IsLeftAt, IsReadingRefused, IsOfFile}
 use Rattle.exam_program.specs.Stopping.{opening_halt, IsUnprinted, IsUnopened, refused, failed, out_of_memory, Stops, by_sessions, by_journal, by_disk, by_memory, by_sink, Finishes, IsReplayed, Halted}
 use Rattle.exam_program.specs.Texts.{bank_line, journal_text, usage}
 use Rattle.exam_program.specs.Writing.{IsWritten, WritesPart}
-use Rattle.exam_program.specs.Outcomes.{IsOver, IsReady, IsReplayOf, Outcome, faulty_words, bank_refused, plan_refused, script_refused, checked, form_found, without_form, without_base_form, journal_refused, replayed, sessions_full, journal_full, without_files, without_journal, without_disk, without_memory, without_more_memory, server_refused, server_without_journal, server_without_memory, IsAuditOf, audited, audit_refused, without_audit, drilled, drill_full, Prints, PrintsPart, PrintsBefore, PrintsBeforeText, Ends, LeavesJournal, as_found, at_opening, after_requests, server_at_opening, after_opening, Halts, EndsBy, IsStatus}
+use Rattle.exam_program.specs.Outcomes.{IsOver, IsReady, IsReplayOf, Outcome, faulty_words, bank_refused, plan_refused, script_refused, checked, form_found, without_form, without_base_form, journal_refused, replayed, sessions_full, journal_full, without_files, without_journal, without_disk, without_memory, without_more_memory, server_refused, server_without_journal, server_without_memory, IsAuditOf, audited, audit_refused, without_audit, drilled, drill_full, IsMigrationOf, migrated, migration_refused, migration_full, without_migration, migration_without_memory, migrated_without_line, Prints, PrintsPart, PrintsBefore, PrintsBeforeText, Ends, LeavesJournal, as_found, at_opening, after_requests, server_at_opening, after_opening, after_migration, at_migration, Halts, EndsBy, IsStatus}
 
 -- a count that rose later, rose
 pub rose_later : (before now after : ℕ) → before ≤ now → Rose now after → Rose before after
@@ -100,20 +106,58 @@ module _ (words : List (List ℕ)) (o : Outside) (told : Bool) (old : List ℕ) 
   halts_unprinted new text h outcome untouched is = absurd is
 
   -- ---- an audit
-  refused_audit : (b : Tables) (p : Plan) (f : OpenFault) → IsAuditOf words o b p → IsJournalRefused b p o.disk f
+  refused_audit : (b : Tables) (p : Plan) (f : OpenFault) → IsAuditOf words o b p → IsReadingRefused b p o.disk f
       → PrintsBeforeText words o told old old 6 (journal_text f)
   refused_audit b p f is so = (nothing_before 6 _ (audit_refused b p f is so), nothing_before 10 _ (without_memory so.untouched))
 
   -- a journal that was not read, or is refused
   pub halts_audited : (b : Tables) (p : Plan) (f : OpenFault) → IsAuditOf words o b p → IsUntouched o.disk
-      → (IsTrue o.disk.told → IsOpenAnswer b p o.disk.found f) → (f ≡ open_fault.Disk → Rose o.disk.before o.disk.after)
+      → (IsTrue o.disk.told → IsReadAnswer b p o.disk.found f) → (f ≡ open_fault.Disk → Rose o.disk.before o.disk.after)
       → Halts words o told old old (opening_halt f)
   halts_audited b p open_fault.Disk is untouched answer rose = nothing_before 9 _ (without_audit b p is (rose refl) untouched)
   halts_audited b p open_fault.Memory is untouched answer rose = nothing_before 10 _ (without_memory untouched)
   halts_audited b p (open_fault.Journal f) is untouched answer rose = refused_audit b p (open_fault.Journal f) is (record { of_file = tt; answer = answer; untouched = untouched })
+  halts_audited b p open_fault.Version is untouched answer rose = refused_audit b p open_fault.Version is (record { of_file = tt; answer = answer; untouched = untouched })
   halts_audited b p (open_fault.BadRecord at f) is untouched answer rose = refused_audit b p (open_fault.BadRecord at f) is (record { of_file = tt; answer = answer; untouched = untouched })
   halts_audited b p (open_fault.BadTree at) is untouched answer rose = refused_audit b p (open_fault.BadTree at) is (record { of_file = tt; answer = answer; untouched = untouched })
   halts_audited b p (open_fault.Illegal at f) is untouched answer rose = refused_audit b p (open_fault.Illegal at f) is (record { of_file = tt; answer = answer; untouched = untouched })
+
+  -- ---- a migration
+  refused_migration : (b : Tables) (p : Plan) (f : OpenFault) → IsMigrationOf words o b p → IsReadingRefused b p o.disk f
+      → Halts words o told old old (halt.Journal f)
+  refused_migration b p f is so = (nothing_before 6 _ (migration_refused b p f is so), nothing_before 10 _ (without_memory so.untouched))
+
+  -- the journal was not opened
+  halts_unopened : (b : Tables) (p : Plan) (f : OpenFault) → IsMigrationOf words o b p → migrate_fault_of f ≡ migrate_fault.Open f → IsUntouched o.disk
+      → (IsTrue o.disk.told → IsMigrateAnswer b p o.disk.found (migrate_fault.Open f)) → Halts words o told old old (halt.Journal f)
+  halts_unopened b p open_fault.Disk is so untouched answer = absurd cc
+  halts_unopened b p open_fault.Memory is so untouched answer = absurd cc
+  halts_unopened b p open_fault.Version is so untouched answer = refused_migration b p open_fault.Version is (record { of_file = tt; answer = answer; untouched = untouched })
+  halts_unopened b p (open_fault.Journal f) is so untouched answer = refused_migration b p (open_fault.Journal f) is (record { of_file = tt; answer = answer; untouched = untouched })
+  halts_unopened b p (open_fault.BadRecord at f) is so untouched answer = refused_migration b p (open_fault.BadRecord at f) is (record { of_file = tt; answer = answer; untouched = untouched })
+  halts_unopened b p (open_fault.BadTree at) is so untouched answer = refused_migration b p (open_fault.BadTree at) is (record { of_file = tt; answer = answer; untouched = untouched })
+  halts_unopened b p (open_fault.Illegal at f) is so untouched answer = refused_migration b p (open_fault.Illegal at f) is (record { of_file = tt; answer = answer; untouched = untouched })
+
+  -- or it was not moved
+  pub halts_unmoved : (b : Tables) (p : Plan) (f : MigrateFault) → IsMigrationOf words o b p
+      → ((why : OpenFault) → f ≡ migrate_fault.Open why → migrate_fault_of why ≡ migrate_fault.Open why)
+      → (IsTrue o.disk.told → IsMigrateAnswer b p o.disk.found f) → (IsOfContent f → IsUntouched o.disk)
+      → (f ≡ migrate_fault.Disk → Rose o.disk.before o.disk.after) → IsMigrationCutOff b p o.disk
+      → ((f ≡ migrate_fault.Disk → ⊥) → IsStillUnmoved o.disk)
+      → Halts words o told old old (migration_halt p f)
+  halts_unmoved b p (migrate_fault.Open why) is of_file answer untouched rose cut still = halts_unopened b p why is (of_file why refl) (untouched tt) answer
+  halts_unmoved b p (migrate_fault.Full size) is of_file answer untouched rose cut still =
+      let so = untouched tt in
+      (nothing_before 13 _ (migration_full b p size is (record { long = answer; untouched = so })), nothing_before 10 _ (without_memory so))
+  halts_unmoved b p migrate_fault.Disk is of_file answer untouched rose cut still = nothing_before 9 _ (without_migration b p is (rose refl) cut)
+  halts_unmoved b p migrate_fault.Memory is of_file answer untouched rose cut still = nothing_before 10 _ (migration_without_memory b p is cut (still (λ e. cc)))
+
+  -- its line was not printed
+  pub halts_moved : (new : List ℕ) (b : Tables) (p : Plan) (moved : Moved) (h : Halt) → IsMigrationOf words o b p → IsMigrationDone b p o.disk moved
+      → IsUnprinted told old new (migrated_text moved.records moved.length) h → Halts words o told old new h
+  halts_moved new b p moved halt.Memory is so written = record { text = []; written = written; outcome = migrated_without_line b p moved is so }
+  halts_moved new b p moved halt.Sink is so part = prints_part new (migrated_text moved.records moved.length) (migrated b p moved is so) part
+  halts_moved new b p moved h is so unprinted = absurd unprinted
 
   -- ---- a drill
   module _ (number sessions : ℕ) (e : command_of words ≡ Some (Drill number sessions)) (untouched : IsUntouched o.disk) where
@@ -201,11 +245,17 @@ module _ (words : List (List ℕ)) (o : Outside) where
   leaves _ _ (server_refused b p base fault is so) = as_found so.untouched
   leaves _ _ (server_without_journal b p base is so) = server_at_opening b p base is so
   leaves _ _ (server_without_memory b p base opened H is examined) = after_opening b p base opened H is examined
-  leaves _ _ (audited b p s exposure is found untouched) = as_found untouched
+  leaves _ _ (audited b p s exposure bands is found untouched) = as_found untouched
   leaves _ _ (audit_refused b p fault is so) = as_found so.untouched
   leaves _ _ (without_audit b p is rose untouched) = as_found untouched
   leaves _ _ (drilled number sessions s e is untouched) = as_found untouched
   leaves _ _ (drill_full number sessions size most e is untouched) = as_found untouched
+  leaves _ _ (migrated b p done is so) = after_migration b p done is so
+  leaves _ _ (migration_refused b p fault is so) = as_found so.untouched
+  leaves _ _ (migration_full b p size is so) = as_found so.untouched
+  leaves _ _ (without_migration b p is rose cut) = at_migration b p is cut
+  leaves _ _ (migration_without_memory b p is cut still) = at_migration b p is cut
+  leaves _ _ (migrated_without_line b p done is so) = after_migration b p done is so
 
   pub leaves_journal : (told : Bool) (old new : List ℕ) (status : ℕ) → Ends words o told old new status → LeavesJournal words o
   leaves_journal told old new status (inl prints) = leaves status prints.text prints.outcome

@@ -1,5 +1,6 @@
 -- A replay over a disk, from its office.
-use Rattle.std.proofs.Common.{◌≡◌, ℕ, ◌≤◌, inr, Bool, List, [], length, Option, None, Result, Err, IfErr, IsTrue, refl, sym, ◌∙◌, subst, arith}
+use Rattle.std.proofs.Common.{◌≡◌, ℕ, ◌≤◌, inr, Bool, List, [], length, Option, None, Result, Err, IfErr, IsTrue, refl, sym, ◌∙◌, ap, subst, arith}
+use Rattle.std.specs.Option.{unwrap_or}
 use Rattle.bank_tables.specs.Tables.{Tables}
 use Rattle.exam_edge.specs.Faults.{Rose}
 use Rattle.exam_edge.specs.Images.{Account, IsImage, AtEachMoment, IsSettled, latest}
@@ -11,14 +12,17 @@ use Rattle.history_model.specs.declared.request.Request.{Request}
 use Rattle.history_model.specs.Legality.{LegalRun}
 use Rattle.exam_office.specs.declared.fault.OpenFault.{OpenFault}
 use Rattle.exam_office.specs.declared.fault.OpenFault.TheVariants as fault
-use Rattle.exam_office.specs.Files.{Stands}
+use Rattle.exam_office.specs.Files.{counted_of, Stands}
+use Rattle.exam_office.specs.Migrating.{IsImageOrStands, StandsMoved}
 use Rattle.exam_office.specs.Marks.{history, reach}
 use Rattle.exam_office.specs.Opening.{IsOpenAnswer}
 use Rattle.exam_office.specs.Running.{Running}
 use Rattle.exam_office.specs.Writing.{IsOneOf, as_before, with_doubt, IsMending}
 use Rattle.answer_journal.specs.Journal.{tells_of, accounts_of, faults_of}
+use Rattle.answer_journal.specs.Versions.{Counted, counted_in, second}
 use Rattle.exam_program.specs.declared.halt.Halt.{Halt}
 use Rattle.exam_program.specs.declared.halt.Halt.TheVariants as halt
+use Rattle.exam_program.specs.Migrations.{KeepsHistory}
 use Rattle.exam_program.specs.Outside.{DiskSeen, disk_seen, IsUntouched, WasSettled}
 use Rattle.exam_program.specs.Replays.{none, IsGoingOn, IsReached, IsFileOnTheWay, IsLeftAt, IsOpeningFailed}
 use Rattle.exam_office.specs.Asking.{no_more}
@@ -38,6 +42,17 @@ module _ {D : Type 0} (tells : D → Bool) (content : D → List ℕ) (accounts 
     moments = each;
   }
 
+  pub keeps_so : (b : Tables) (plan : Plan) → (IsTrue (tells old) → IsImage (latest (accounts new)) (content new))
+      → (IsTrue (tells old) → IsSettled (content old) (accounts old) → (H : List Entry) → Stands b plan H (content old) → AtEachMoment (accounts old) (accounts new) (Stands b plan H))
+      → (IsTrue (tells old) → (H : List Entry) → Stands b plan H (content old) → AtEachMoment (accounts old) (accounts new) (IsImageOrStands b plan H (latest (accounts old))))
+      → KeepsHistory b plan (disk_seen tells content accounts faults old new)
+  keeps_so b plan image each others = record {
+    left = λ t settled H stands. at_end (Stands b plan H) (accounts old) (accounts new) (each t settled H stands) (content new) (image t);
+    images = λ t settled H stands. at_end (Stands b plan H) (accounts old) (accounts new) (each t settled H stands);
+    moments = each;
+    others = others;
+  }
+
   pub unwritten_so : (IsTrue (tells old) → content new ≡ content old) → (IsTrue (tells old) → AtEachMoment (accounts old) (accounts new) (IsImage (latest (accounts old))))
       → IsUntouched (disk_seen tells content accounts faults old new)
   unwritten_so same each = record { left = same; images = λ t. at_end (IsImage (latest (accounts old))) (accounts old) (accounts new) (each t); moments = each }
@@ -47,6 +62,7 @@ pub unopened_so : (b : Tables) (plan : Plan) (disk : DiskSeen) (f : OpenFault) �
 unopened_so b plan disk fault.Disk answer so untouched = failed (so refl)
 unopened_so b plan disk fault.Memory answer so untouched = out_of_memory (untouched (λ e. cc))
 unopened_so b plan disk (fault.Journal f) answer so untouched = refused (fault.Journal f) (record { of_file = tt; answer = answer; untouched = untouched (λ e. cc) })
+unopened_so b plan disk fault.Version answer so untouched = refused fault.Version (record { of_file = tt; answer = answer; untouched = untouched (λ e. cc) })
 unopened_so b plan disk (fault.BadRecord at f) answer so untouched = refused (fault.BadRecord at f) (record { of_file = tt; answer = answer; untouched = untouched (λ e. cc) })
 unopened_so b plan disk (fault.BadTree at) answer so untouched = refused (fault.BadTree at) (record { of_file = tt; answer = answer; untouched = untouched (λ e. cc) })
 unopened_so b plan disk (fault.Illegal at f) answer so untouched = refused (fault.Illegal at f) (record { of_file = tt; answer = answer; untouched = untouched (λ e. cc) })
@@ -55,11 +71,18 @@ pub no_sink : (f : OpenFault) → opening_halt f ≡ halt.Sink → ⊥
 no_sink fault.Disk e = cc
 no_sink fault.Memory e = cc
 no_sink (fault.Journal f) e = cc
+no_sink fault.Version e = cc
 no_sink (fault.BadRecord at f) e = cc
 no_sink (fault.BadTree at) e = cc
 no_sink (fault.Illegal at f) e = cc
 
 -- ---- a journal that was opened
+-- the records of the second version of a file that represents a history
+pub moved_so : (b : Tables) (plan : Plan) (H : List Entry) (file : List ℕ) → Stands b plan H file → (counted_in file).version ≡ 2 → StandsMoved b plan H file
+moved_so b plan H file stands is =
+    let counts : counted_of b plan stands.version stands.records ≡ counted_in file = ap (λ (o : Option Counted). unwrap_or o (second [])) (sym stands.holds) in
+    record { stands = stands; second = ap (λ (c : Counted). c.version) counts ∙ is }
+
 -- a file with nothing in doubt
 sure_of : (b : Tables) (plan : Plan) (H : List Entry) (doubt : Option Entry) (file : List ℕ) → doubt ≡ None → IsMending b plan H doubt file → Stands b plan H file
 sure_of b plan H doubt file e m = subst (λ (G : List Entry). Stands b plan G file) (here doubt e m.so_far m.is_one_of) m.stands
@@ -71,7 +94,7 @@ sure_of b plan H doubt file e m = subst (λ (G : List Entry). Stands b plan G fi
 -- what is known of an office's disk when it is handed back
 pub record IsHandedBack {D : Type 0} (b : Tables) (plan : Plan) (disk : DiskSeen) (old new : Running D) : Type 0 where
   pub legal : LegalRun b plan (history old.marks)
-  pub found : IsTrue disk.told → Stands b plan (history old.marks) disk.found
+  pub found : IsTrue disk.told → StandsMoved b plan (history old.marks) disk.found
   pub told : tells_of old.journal ≡ disk.told
   pub images : latest (accounts_of new.journal) ≡ disk.images
   pub moments : accounts_of new.journal ≡ disk.moments

@@ -1,9 +1,10 @@
 -- The definitions of a replay, computed on the worked session of bank A: its lines, its history, its file, and what a crash
 -- may leave; and on a disk that fails at the first write.
-use Rattle.std.proofs.Common.{◌≡◌, ℕ, zero, suc, ◌^◌, ◌<◌, ◌≤◌, nat_le, Bool, true, false, List, [], ◌∷◌, ◌++◌, length, map, get_or, Option, None, Some, refl, sym, ◌∙◌, subst, codes, arith}
+use Rattle.std.proofs.Common.{◌≡◌, ℕ, zero, suc, ◌^◌, ◌<◌, ◌≤◌, nat_le, Bool, true, false, inl, inr, List, [], ◌∷◌, ◌++◌, length, map, get_or, Option, None, Some, refl, sym, ap, ◌∙◌, subst, codes, arith}
 use Rattle.std.proofs.Math.Dec.{lit≤}
 use Rattle.std.specs.List.{AllByRecursion}
-use Rattle.std.proofs.lemmas.Bool.{le-leb}
+use Rattle.std.specs.Option.{option_map}
+use Rattle.std.proofs.lemmas.Bool.{cases_Bool, le-leb}
 use Rattle.std.proofs.lemmas.List.{append-nil}
 use Rattle.std.specs.Fmt.{digits}
 use Rattle.bank_tables.specs.Items.{has, AreWords}
@@ -14,7 +15,6 @@ use Rattle.form_model.specs.Problem.{Problem}
 use Rattle.form_model.specs.Forms.{Best, Firm}
 use Rattle.certificate_model.specs.ProofTrees.{ProofTree}
 use Rattle.certificate_model.specs.Relaxed.{Multipliers}
-use Rattle.serving_model.specs.Seats.{first_band}
 use Rattle.form_model.proofs.Computed.{one_word}
 use Rattle.form_model.proofs.BankA.{item_a, bank_a, plan_of_rows, plan_a}
 use Rattle.certificate_model.proofs.BankA.{one_bound}
@@ -37,14 +37,17 @@ use Rattle.history_model.proofs.HistoriesOfA.{started_a as old_started, served_a
 use Rattle.history_model.proofs.JudgingLaws.{may_is_legal}
 use Rattle.history_model.proofs.RecordsOfA.{may_start as old_start, may_serve_0 as old_serve_0, may_serve_1 as old_serve_1, may_serve_2 as old_serve_2, none_past}
 use Rattle.exam_records.specs.Shape.{IsRecord}
-use Rattle.exam_records.proofs.AgainLaws.{record_len}
-use Rattle.answer_journal.specs.Frames.{IsPayload, front, payloads, shadowj1}
+use Rattle.exam_records.specs.Spelling.{payload_of}
+use Rattle.exam_records.proofs.SecondLaws.{record_len}
+use Rattle.answer_journal.specs.Frames.{IsPayload, begins, front, payloads, shadowj1, shadowj2}
+use Rattle.answer_journal.specs.Versions.{counted, contents, second, version_of}
 use Rattle.answer_journal.specs.FrameLaws.{payloads-front}
 use Rattle.proof_tree.specs.Shape.{IsTree}
 use Rattle.proof_tree.proofs.TreeLaws.{is_tree}
 use Rattle.replay_cli.specs.Replies.{place_line, line_of, lines_of}
 use Rattle.exam_office.specs.Asking.{IsGood, AreGood, no_more, one_more as good_more}
-use Rattle.exam_office.specs.Files.{payload_in, Stands}
+use Rattle.exam_office.specs.Files.{Stands}
+use Rattle.exam_office.specs.Migrating.{StandsMoved}
 use Rattle.exam_office.proofs.FileLaws.{one_history}
 use Rattle.exam_program.specs.Outside.{DiskSeen}
 use Rattle.exam_program.specs.Replays.{AreDone, none, one_more, IsFileOf, IsFileOnTheWay, IsUnderWay, IsOpeningFailed}
@@ -304,8 +307,8 @@ tree_2 : IsTree (one_bound [])
 unfolding one_bound
 tree_2 = is_tree ([] ∷ []) (Bound 0 ∷ []) (omega arith) ((tt, tt, omega arith), tt) (lit≤ tt) (omega arith) tt (omega arith, tt)
 
-payload_fits : (r : Record) → IsRecord r → IsPayload (payload_in bank_a plan_a r)
-payload_fits r is = let len = record_len (first_band bank_a plan_a) r is.goes_with is.tree in record { some = omega (arith, len.0); few = omega (arith, len.1) }
+payload_fits : (r : Record) → IsRecord r → IsPayload (payload_of r)
+payload_fits r is = let len = record_len r is.goes_with is.bands is.tree in record { some = omega (arith, len.0); few = omega (arith, len.1) }
 
 started_spelled : IsRecord (bare (Started 0 70 eligible_a None))
 unfolding bare eligible_a
@@ -344,21 +347,44 @@ unfolding records_1 records_3 records_a
 spelled_a = (started_spelled, (served_spelled 0 2 14 ((3, 1) ∷ []) (omega arith) (omega arith) (omega arith) tree_0, (answer_spelled 0 1 (omega arith) (omega arith), (served_spelled 1 4 22 ((0, 1536) ∷ []) (omega arith) (omega arith) (omega arith) tree_1, (answer_spelled 1 0 (omega arith) (omega arith), (served_spelled 2 1 22 [] (omega arith) (omega arith) (omega arith) tree_2, (answer_spelled 2 1 (omega arith) (omega arith), tt)))))))
 
 file_a : List ℕ
-file_a = front shadowj1 (map (payload_in bank_a plan_a) records_a) ++ 0 ∷ []
+file_a = front shadowj2 (map payload_of records_a) ++ 0 ∷ []
 
-holds_a : payloads shadowj1 file_a ≡ Some (map (payload_in bank_a plan_a) records_a)
+gives_a : payloads shadowj2 file_a ≡ Some (map payload_of records_a)
 unfolding file_a records_1 records_3 records_a
-holds_a = payloads-front shadowj1 (map (payload_in bank_a plan_a) records_a) 0 [] (payload_fits _ spelled_a.0, (payload_fits _ spelled_a.1.0, (payload_fits _ spelled_a.1.1.0, (payload_fits _ spelled_a.1.1.1.0, (payload_fits _ spelled_a.1.1.1.1.0, (payload_fits _ spelled_a.1.1.1.1.1.0, (payload_fits _ spelled_a.1.1.1.1.1.1.0, tt))))))) (λ e. omega (arith, e))
+gives_a = payloads-front shadowj2 (map payload_of records_a) 0 [] (payload_fits _ spelled_a.0, (payload_fits _ spelled_a.1.0, (payload_fits _ spelled_a.1.1.0, (payload_fits _ spelled_a.1.1.1.0, (payload_fits _ spelled_a.1.1.1.1.0, (payload_fits _ spelled_a.1.1.1.1.1.0, (payload_fits _ spelled_a.1.1.1.1.1.1.0, tt))))))) (λ e. omega (arith, e))
 
-short_holds : (file : List ℕ) → length file ≤ 9 → payloads shadowj1 file ≡ Some []
+none_short : (file : List ℕ) → nat_le (length file) 9 ≡ true → payloads shadowj2 file ≡ Some []
 unfolding payloads
-short_holds file short = let e : nat_le (length file) 9 ≡ true = le-leb (length file) 9 short in rw e refl
+none_short file short = rw short refl
+
+long_a : nat_le (length file_a) 9 ≡ false
+unfolding records_1 records_3 records_a
+long_a = elim (cases_Bool (nat_le (length file_a) 9)) [
+  | inl short ↦ (let none = none_short file_a short in let some = gives_a in absurd cc)
+  | inr long ↦ long
+]
+
+begins_a : begins shadowj1 file_a ≡ false
+unfolding file_a
+begins_a = refl
+
+holds_a : contents file_a ≡ Some (second (map payload_of records_a))
+unfolding contents version_of
+holds_a = rw (long_a, begins_a) (ap (option_map (counted 2)) gives_a)
+
+short_holds : (file : List ℕ) → length file ≤ 9 → contents file ≡ Some (second [])
+unfolding contents version_of
+short_holds file short = let e : nat_le (length file) 9 ≡ true = le-leb (length file) 9 short in rw e (ap (option_map (counted 2)) (none_short file e))
 
 file_stands : Stands bank_a plan_a answered_2 file_a
-file_stands = record { records = records_a; are = record { spell = spelled_a; backed = backed_a; entries = entries_a }; holds = holds_a }
+file_stands = record { records = records_a; are = record { spell = spelled_a; backed = backed_a; entries = entries_a }; version = 2; holds = holds_a }
 
 empty_stands : Stands bank_a plan_a [] []
-empty_stands = record { records = []; are = record { spell = tt; backed = empty; entries = refl }; holds = short_holds [] (omega arith) }
+empty_stands = record { records = []; are = record { spell = tt; backed = empty; entries = refl }; version = 2; holds = short_holds [] (omega arith) }
+
+empty_moved : StandsMoved bank_a plan_a [] []
+unfolding empty_stands
+empty_moved = record { stands = empty_stands; second = refl }
 
 -- ---- the requests, one after another, each with its reply
 reply_at : ℕ → ℕ → Bool → Reply
@@ -421,7 +447,7 @@ replayed_a : IsUnderWay bank_a plan_a base_a disk_a script_a [] answered_2 [] re
 unfolding disk_a
 replayed_a = record {
   legal = LegalRun.empty;
-  found = λ t. empty_stands;
+  found = λ t. empty_moved;
   left = λ t. is_file_a;
   going_on = record {
     done = script_a;
@@ -443,7 +469,7 @@ torn : List ℕ → DiskSeen
 torn left = record { told = true; before = 0; after = 1; found = []; left = left; images_before = settled []; images = written 0 9 (settled []); moments_before = settled [] ∷ []; moments = settled [] ∷ written 0 9 (settled []) ∷ [] }
 
 short_stands : (file : List ℕ) → length file ≤ 9 → Stands bank_a plan_a [] file
-short_stands file short = record { records = []; are = record { spell = tt; backed = empty; entries = refl }; holds = short_holds file short }
+short_stands file short = record { records = []; are = record { spell = tt; backed = empty; entries = refl }; version = 2; holds = short_holds file short }
 
 opening_failed : IsOpeningFailed bank_a plan_a (torn (83 ∷ 72 ∷ []))
 unfolding torn

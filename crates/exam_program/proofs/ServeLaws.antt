@@ -18,7 +18,7 @@ use Rattle.exam_office.specs.declared.fault.OpenFault.{OpenFault}
 use Rattle.exam_office.specs.declared.fault.OpenFault.TheVariants as fault
 use Rattle.exam_office.specs.declared.mark.Mark.{Mark}
 use Rattle.exam_office.specs.declared.mark.Mark.TheVariants.{Old, Opened}
-use Rattle.exam_office.specs.Files.{Stands}
+use Rattle.exam_office.specs.Migrating.{StandsMoved}
 use Rattle.exam_office.specs.Marks.{entry_of, history, reach, AreMarks, AreCounted}
 use Rattle.exam_office.specs.Moments.{AreMoments}
 use Rattle.exam_office.specs.Noting.{OpenedWith, NotedMark, noted, marks_of, opened_with, IsDoubtOf}
@@ -61,7 +61,7 @@ pub record IsClosed {D : Type 0} (b : Tables) (p : Plan) (base : List ℕ) (disk
   pub base_is : old.base ≡ base
   pub told : tells_of old.journal ≡ disk.told
   pub handed : old.opened ≡ record { content = disk.found; accounts = disk.moments_before; faults = disk.before }
-  pub found : IsTrue disk.told → Stands b p (history old.marks) disk.found
+  pub found : IsTrue disk.told → StandsMoved b p (history old.marks) disk.found
   pub short : IsTrue disk.told → length disk.found ≤ p.journal
   pub marks : old.marks ≡ map Old (history old.marks) ++ Opened (reach old.marks) ∷ []
   pub same : opened_with new ≡ opened_with old

@@ -227,6 +227,7 @@ pub disk_fault : (f : OpenFault) → opening_halt f ≡ halt.Disk → f ≡ faul
 disk_fault fault.Disk is = refl
 disk_fault fault.Memory is = cc
 disk_fault (fault.Journal f) is = cc
+disk_fault fault.Version is = cc
 disk_fault (fault.BadRecord at f) is = cc
 disk_fault (fault.BadTree at) is = cc
 disk_fault (fault.Illegal at f) is = cc
@@ -235,6 +236,7 @@ pub late_fault : (f : OpenFault) → IsBeforeJournal (opening_halt f) → ⊥
 late_fault fault.Disk before = before
 late_fault fault.Memory before = before
 late_fault (fault.Journal f) before = before
+late_fault fault.Version before = before
 late_fault (fault.BadRecord at f) before = before
 late_fault (fault.BadTree at) before = before
 late_fault (fault.Illegal at f) before = before

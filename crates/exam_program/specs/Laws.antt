@@ -14,13 +14,14 @@ use Rattle.history_model.specs.Entries.{seat_of}
 use Rattle.history_model.specs.Places.{place}
 use Rattle.history_model.specs.Refusals.{refusal_of}
 use Rattle.exam_office.specs.Files.{Stands}
+use Rattle.exam_office.specs.Migrating.{IsTooLongMoved, StandsMoved}
 use Rattle.exam_office.specs.Noting.{NotedMark}
 use Rattle.form_model.specs.Plan.{Plan}
 use Rattle.certificate_model.specs.ProofTrees.{ProofTree}
 use Rattle.proof_tree.specs.Shape.{IsTree}
 use Rattle.proof_tree.specs.Spelling.{bytes_of}
 use Rattle.proof_tree.specs.Reading.{read}
-use Rattle.command_line.specs.Commands.{Check, Assemble, Replay, Serve, Audit, command_of}
+use Rattle.command_line.specs.Commands.{Check, Assemble, Replay, Serve, Audit, Migrate, command_of}
 use Rattle.exam_program.specs.Halts.{IsPlanIn, Reads, IsScriptIn}
 use Rattle.exam_program.specs.Outcomes.{IsReplayOf, Outcome}
 use Rattle.exam_program.specs.Outside.{Outside, DiskSeen}
@@ -83,8 +84,10 @@ pub data MeetsLimit (words : List (List ℕ)) (o : Outside) : Type 0 where
       → IsUnderWay b p base o.disk script H G (request ∷ rest) replies
       → IsFullAt b p G request K now size → IsLeftAt b p o.disk K now → MeetsLimit words o
 
--- and so does replay, where the plan has a base, the script is one, the file represents a history
--- within the journal's limit, no limit of the plan is met and no fault of the disk was counted
+-- and so does replay, where the plan has a base, the script is one, the file represents a history by
+-- records of the second version within the journal's limit, no limit of the plan is met and no fault of
+-- the disk was counted. A file that represents a history and is no unmoved journal of the first version
+-- does so by records of the second
 abbrev pub ReplayIsComplete : Type 0
 ReplayIsComplete =
     (words : List (List ℕ)) (o : Outside) (bank plan name base : List ℕ) (b : Tables) (p : Plan) (script : List Request) (H : List Entry) (status : ℕ) (text : List ℕ)
@@ -93,7 +96,7 @@ ReplayIsComplete =
     → p.base ≡ Some base
     → IsScriptIn (o.content name) script
     → IsTrue o.disk.told
-    → Stands b p H o.disk.found
+    → StandsMoved b p H o.disk.found
     → length o.disk.found ≤ p.journal
     → (MeetsLimit words o → ⊥)
     → (Rose o.files_before o.files_after → ⊥)
@@ -101,9 +104,9 @@ ReplayIsComplete =
     → Outcome words o status text
     → (status ≡ 0) ⊎ (status ≡ 10)
 
--- serve, where the plan has a base, the file represents a history within the journal's limit and no
--- fault of the disk was counted, serves connections, or memory ran out: if none was served, it ends
--- with 10
+-- serve, where the plan has a base, the file represents a history by records of the second version
+-- within the journal's limit and no fault of the disk was counted, serves connections, or memory ran
+-- out: if none was served, it ends with 10
 abbrev pub ServeIsComplete : Type 0
 ServeIsComplete =
     (words : List (List ℕ)) (o : Outside) (bank plan base : List ℕ) (b : Tables) (p : Plan) (H : List Entry) (status : ℕ) (text : List ℕ)
@@ -111,15 +114,15 @@ ServeIsComplete =
     → Reads o.named o.content bank plan b p
     → p.base ≡ Some base
     → IsTrue o.disk.told
-    → Stands b p H o.disk.found
+    → StandsMoved b p H o.disk.found
     → length o.disk.found ≤ p.journal
     → (Rose o.files_before o.files_after → ⊥)
     → (Rose o.disk.before o.disk.after → ⊥)
     → Outcome words o status text
     → status ≡ 10
 
--- and so does audit, where the file represents a history within the journal's limit and no fault of
--- the disk was counted
+-- and so does audit, where the file represents a history within the journal's limit, by records of
+-- either version, and no fault of the disk was counted
 abbrev pub AuditIsComplete : Type 0
 AuditIsComplete =
     (words : List (List ℕ)) (o : Outside) (bank plan : List ℕ) (b : Tables) (p : Plan) (H : List Entry) (status : ℕ) (text : List ℕ)
@@ -128,6 +131,21 @@ AuditIsComplete =
     → IsTrue o.disk.told
     → Stands b p H o.disk.found
     → length o.disk.found ≤ p.journal
+    → (Rose o.files_before o.files_after → ⊥)
+    → (Rose o.disk.before o.disk.after → ⊥)
+    → Outcome words o status text
+    → (status ≡ 0) ⊎ (status ≡ 10)
+
+-- and so does migrate, where besides the file is within the limit once it is moved
+abbrev pub MigrateIsComplete : Type 0
+MigrateIsComplete =
+    (words : List (List ℕ)) (o : Outside) (bank plan : List ℕ) (b : Tables) (p : Plan) (H : List Entry) (status : ℕ) (text : List ℕ)
+    → command_of words ≡ Some (Migrate bank plan)
+    → Reads o.named o.content bank plan b p
+    → IsTrue o.disk.told
+    → Stands b p H o.disk.found
+    → length o.disk.found ≤ p.journal
+    → ((size : ℕ) → IsTooLongMoved b p o.disk.found size → ⊥)
     → (Rose o.files_before o.files_after → ⊥)
     → (Rose o.disk.before o.disk.after → ⊥)
     → Outcome words o status text

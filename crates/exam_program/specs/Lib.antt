@@ -8,6 +8,7 @@ pub mod ItemSets
 pub mod Halts
 pub mod Drilling
 pub mod Serves
+pub mod Migrations
 pub mod Outcomes
 pub mod Runs
 pub mod Laws

@@ -20,29 +20,30 @@ use Rattle.history_model.specs.declared.request.Reply.{Reply}
 use Rattle.history_model.specs.declared.request.Request.{Request}
 use Rattle.history_model.specs.Refusals.{refusal_of}
 use Rattle.history_model.specs.declared.request.Exposure.{Exposure}
-use Rattle.history_model.specs.declared.request.Reply.TheVariants.{Exposure as Exposed}
 use Rattle.history_model.specs.declared.summary.Summary.{Summary}
 use Rattle.exam_drill.specs.declared.fault.DrillFault.TheVariants as drill
 use Rattle.exam_drill.specs.Drills.{IsSummaryOfDrill, IsDrillFault}
 use Rattle.exam_drill.specs.Texts.{drill_text}
-use Rattle.exam_lines.specs.Texts.{summary_text}
+use Rattle.exam_lines.specs.Texts.{summary_text, migrated_text}
 use Rattle.journal_audit.specs.Audit.{IsAudit}
 use Rattle.exam_office.specs.Noting.{NotedMark}
 use Rattle.exam_office.specs.declared.fault.OpenFault.{OpenFault}
+use Rattle.exam_office.specs.declared.migrating.Moved.{Moved}
 use Rattle.replay_cli.specs.declared.script_fault.ScriptFault.{ScriptFault}
 use Rattle.replay_cli.specs.Reading.{IsScriptFault, IsOfText as IsOfScript}
-use Rattle.replay_cli.specs.Replies.{line_of, lines_of}
+use Rattle.replay_cli.specs.Replies.{lines_of}
 use Rattle.replay_cli.specs.Texts.{script_text}
 use Rattle.exam_program.specs.declared.halt.Halt.{Halt}
 use Rattle.exam_program.specs.declared.halt.Halt.TheVariants as halt
 use Rattle.exam_program.specs.Bases.{FindsForm, ShowsNoForm, ShowsNoBase, IsBaseForm}
-use Rattle.command_line.specs.Commands.{Command, Check, Assemble, Replay, Serve, Audit, Drill, command_of, files_of}
+use Rattle.command_line.specs.Commands.{Command, Check, Assemble, Replay, Serve, Audit, Drill, Migrate, command_of, files_of}
 use Rattle.exam_program.specs.Halts.{Reads, IsOfText, IsScriptIn}
 use Rattle.exam_program.specs.Outside.{Outside, IsUntouched}
-use Rattle.exam_program.specs.Replays.{IsUnderWay, IsJournalRefused, IsOpeningFailed, IsFullAt, IsLeftAt}
+use Rattle.exam_program.specs.Migrations.{IsMigrationDone, IsMigrationCutOff, IsStillUnmoved, IsMigrationFull}
+use Rattle.exam_program.specs.Replays.{IsUnderWay, IsJournalRefused, IsReadingRefused, IsOpeningFailed, IsFullAt, IsLeftAt}
 use Rattle.exam_program.specs.Serves.{IsServeOf, IsExamined}
 use Rattle.exam_program.specs.Writing.{IsWritten}
-use Rattle.exam_program.specs.Texts.{usage, disk_failed, journal_text, sessions_limit, journal_limit, no_form, no_base_form, bank_line, form_text}
+use Rattle.exam_program.specs.Texts.{usage, disk_failed, journal_text, sessions_limit, journal_limit, no_form, no_base_form, bank_line, form_text, audit_text}
 
 -- there are the files of a replay, they describe this bank, plan and script, and this is the base
 -- form
@@ -67,6 +68,7 @@ IsReady named content (Replay bank plan name) b p = Reads named content bank pla
 IsReady named content (Serve bank plan) b p = Reads named content bank plan b p
 IsReady named content (Audit bank plan) b p = ⊥
 IsReady named content (Drill number sessions) b p = ⊥
+IsReady named content (Migrate bank plan) b p = ⊥
 
 -- the words ask for a replay; its files are read, and this is the base form
 pub record IsReplayOf (words : List (List ℕ)) (o : Outside) (b : Tables) (p : Plan)
@@ -82,6 +84,13 @@ pub record IsAuditOf (words : List (List ℕ)) (o : Outside) (b : Tables) (p : P
   pub bank : List ℕ
   pub plan : List ℕ
   pub asked : command_of words ≡ Some (Audit bank plan)
+  pub reads : Reads o.named o.content bank plan b p
+
+-- the words ask for a migration, and its files are read
+pub record IsMigrationOf (words : List (List ℕ)) (o : Outside) (b : Tables) (p : Plan) : Type 0 where
+  pub bank : List ℕ
+  pub plan : List ℕ
+  pub asked : command_of words ≡ Some (Migrate bank plan)
   pub reads : Reads o.named o.content bank plan b p
 
 -- the status and what is printed, for words and what is outside; each rule has its conditions. If
@@ -173,13 +182,14 @@ pub data Outcome (words : List (List ℕ)) (o : Outside) : ℕ → List ℕ → 
   server_without_memory : (b : Tables) (p : Plan) (base : List ℕ) (opened : List NotedMark)
       (H : List Entry) → IsServeOf words o b p base → IsExamined b p base o.disk opened opened H
       → Outcome words o 10 no_memory
-  -- the file represents a history: its numbers, and its exposure counts
-  audited : (b : Tables) (p : Plan) (s : Summary) (exposure : Exposure) → IsAuditOf words o b p
-      → (IsTrue o.disk.told → IsAudit b p o.disk.found s exposure) → IsUntouched o.disk
-      → Outcome words o 0 (summary_text s ++ line_of (Exposed exposure))
+  -- the file represents a history: its numbers, and its exposure counts, in all and in each band
+  audited : (b : Tables) (p : Plan) (s : Summary) (exposure : Exposure) (bands : List Exposure)
+      → IsAuditOf words o b p
+      → (IsTrue o.disk.told → IsAudit b p o.disk.found s exposure bands) → IsUntouched o.disk
+      → Outcome words o 0 (audit_text p s exposure bands)
   -- the journal of an audit is refused
   audit_refused : (b : Tables) (p : Plan) (fault : OpenFault) → IsAuditOf words o b p
-      → IsJournalRefused b p o.disk fault → Outcome words o 6 (journal_text fault)
+      → IsReadingRefused b p o.disk fault → Outcome words o 6 (journal_text fault)
   -- the disk failed in an audit
   without_audit : (b : Tables) (p : Plan) → IsAuditOf words o b p
       → Rose o.disk.before o.disk.after → IsUntouched o.disk → Outcome words o 9 disk_failed
@@ -192,6 +202,26 @@ pub data Outcome (words : List (List ℕ)) (o : Outside) : ℕ → List ℕ → 
   drill_full : (number sessions size most : ℕ) → command_of words ≡ Some (Drill number sessions)
       → IsDrillFault number sessions (drill.JournalFull size most) → IsUntouched o.disk
       → Outcome words o 13 (journal_limit size most)
+  -- the journal's records are of the second version now: how many were written, and its length
+  migrated : (b : Tables) (p : Plan) (done : Moved) → IsMigrationOf words o b p
+      → IsMigrationDone b p o.disk done
+      → Outcome words o 0 (migrated_text done.records done.length)
+  -- the journal of a migration is refused
+  migration_refused : (b : Tables) (p : Plan) (fault : OpenFault) → IsMigrationOf words o b p
+      → IsReadingRefused b p o.disk fault → Outcome words o 6 (journal_text fault)
+  -- a journal of the first version has no room for its records of the second
+  migration_full : (b : Tables) (p : Plan) (size : ℕ) → IsMigrationOf words o b p
+      → IsMigrationFull b p o.disk size → Outcome words o 13 (journal_limit size p.journal)
+  -- the disk failed in a migration
+  without_migration : (b : Tables) (p : Plan) → IsMigrationOf words o b p
+      → Rose o.disk.before o.disk.after → IsMigrationCutOff b p o.disk
+      → Outcome words o 9 disk_failed
+  -- memory ran out in a migration; what was written doesn't count
+  migration_without_memory : (b : Tables) (p : Plan) → IsMigrationOf words o b p
+      → IsMigrationCutOff b p o.disk → IsStillUnmoved o.disk → Outcome words o 10 no_memory
+  -- or for the line of one that was done
+  migrated_without_line : (b : Tables) (p : Plan) (done : Moved) → IsMigrationOf words o b p
+      → IsMigrationDone b p o.disk done → Outcome words o 10 no_memory
 
 -- this was printed
 pub record Prints (words : List (List ℕ)) (o : Outside) (told : Bool) (old new : List ℕ)
@@ -218,7 +248,8 @@ Ends words o told old new status = (Prints words o told old new status) ⊎ ((st
 -- the file is left as it was found; or the disk failed while the journal was opened, and a settled file
 -- kept its history; or the first requests of the script were done, and the file that is left, and each that a
 -- crash may leave, represents the history that they lead to, or that with the first entries of the
--- next; or a server's journal was opened, and memory ran out before any connection was accepted
+-- next; or a server's journal was opened, and memory ran out before any connection was accepted; or a
+-- migration was done; or one ended early, and the file keeps its history
 pub data LeavesJournal (words : List (List ℕ)) (o : Outside) : Type 0 where
   as_found : IsUntouched o.disk → LeavesJournal words o
   at_opening : (b : Tables) (p : Plan) (script : List Request) (base : List ℕ)
@@ -232,6 +263,10 @@ pub data LeavesJournal (words : List (List ℕ)) (o : Outside) : Type 0 where
   after_opening : (b : Tables) (p : Plan) (base : List ℕ) (opened : List NotedMark)
       (H : List Entry) → IsServeOf words o b p base → IsExamined b p base o.disk opened opened H
       → LeavesJournal words o
+  after_migration : (b : Tables) (p : Plan) (done : Moved) → IsMigrationOf words o b p
+      → IsMigrationDone b p o.disk done → LeavesJournal words o
+  at_migration : (b : Tables) (p : Plan) → IsMigrationOf words o b p
+      → IsMigrationCutOff b p o.disk → LeavesJournal words o
 
 -- ---- what a command has printed when it halts, before the text of its halt
 pub record PrintsBefore (words : List (List ℕ)) (o : Outside) (told : Bool) (old new : List ℕ)

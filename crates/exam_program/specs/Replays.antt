@@ -17,9 +17,11 @@ use Rattle.history_model.specs.Requests.{Does}
 use Rattle.exam_office.specs.declared.fault.OpenFault.{OpenFault}
 use Rattle.exam_office.specs.declared.fault.OpenFault.TheVariants as open_fault
 use Rattle.exam_office.specs.Asking.{AreGood, IsBegunBy, StandsForOne}
-use Rattle.exam_office.specs.Files.{payload_in, Stands}
-use Rattle.exam_office.specs.Opening.{IsOpenAnswer}
+use Rattle.exam_office.specs.Files.{Stands}
+use Rattle.exam_office.specs.Migrating.{StandsMoved}
+use Rattle.exam_office.specs.Opening.{IsOpenAnswer, IsReadAnswer}
 use Rattle.exam_records.specs.Shape.{IsRecord}
+use Rattle.exam_records.specs.Spelling.{payload_of}
 use Rattle.exam_program.specs.declared.halt.Halt.{Halt}
 use Rattle.exam_program.specs.declared.halt.Halt.TheVariants as halt
 use Rattle.exam_program.specs.Outside.{DiskSeen, IsUntouched, WasSettled}
@@ -80,14 +82,14 @@ pub record IsReached (b : Tables) (plan : Plan) (base : List ℕ) (script : List
 abbrev pub IsFileOnTheWay : Tables → Plan → List ℕ → List Request → List Entry → List ℕ → Type 0
 IsFileOnTheWay b plan base script H file = StandsForOne b plan (IsReached b plan base script H) file
 
--- a replay over a disk: the file that was found represents H, and the one that is left has what the
--- requests added. If the disk was settled, then at each moment of the run each file that a crash may
+-- a replay over a disk: the file that was found represents H by records of the second version, and the
+-- one that is left has what the requests added. If the disk was settled, then at each moment of the run each file that a crash may
 -- leave represents a history on the way of the script
 pub record IsUnderWay (b : Tables) (plan : Plan) (base : List ℕ) (disk : DiskSeen)
     (script : List Request) (H G : List Entry)
     (rest : List Request) (replies : List Reply) : Type 0 where
   pub legal : LegalRun b plan H
-  pub found : IsTrue disk.told → Stands b plan H disk.found
+  pub found : IsTrue disk.told → StandsMoved b plan H disk.found
   pub left : IsTrue disk.told → IsFileOf b plan base G rest disk.left
   pub going_on : IsGoingOn b plan base script disk.told disk.images H G rest replies
   pub moments : IsTrue disk.told → WasSettled disk
@@ -109,7 +111,7 @@ pub record IsFullAt (b : Tables) (plan : Plan) (G : List Entry) (request : Reque
   pub next : IsNextOf b plan G request K last.entry
   pub spells : IsRecord last
   pub may : MayFollow b plan K last.entry last.tree
-  pub size_is : size ≡ now + 5 + length (payload_in b plan last)
+  pub size_is : size ≡ now + 5 + length (payload_of last)
   pub above : plan.journal < size
 
 -- ---- a journal that is refused
@@ -119,11 +121,19 @@ IsOfFile open_fault.Disk = ⊥
 IsOfFile open_fault.Memory = ⊥
 IsOfFile fault = ⊤
 
--- the file represents no history of the bank and the plan, or is too long; it is as it was found
+-- the file represents no history of the bank and the plan, or is too long, or it is of the first version
+-- and was not moved; it is as it was found
 pub record IsJournalRefused (b : Tables) (plan : Plan) (disk : DiskSeen)
     (fault : OpenFault) : Type 0 where
   pub of_file : IsOfFile fault
   pub answer : IsTrue disk.told → IsOpenAnswer b plan disk.found fault
+  pub untouched : IsUntouched disk
+
+-- the same of an audit and a migration, which take either version
+pub record IsReadingRefused (b : Tables) (plan : Plan) (disk : DiskSeen)
+    (fault : OpenFault) : Type 0 where
+  pub of_file : IsOfFile fault
+  pub answer : IsTrue disk.told → IsReadAnswer b plan disk.found fault
   pub untouched : IsUntouched disk
 
 -- ---- a disk that failed while the journal was opened

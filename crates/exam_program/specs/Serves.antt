@@ -6,7 +6,7 @@ use Rattle.form_model.specs.Plan.{Plan}
 use Rattle.history_model.specs.declared.entry.Entry.{Entry}
 use Rattle.history_model.specs.Legality.{LegalRun}
 use Rattle.exam_office.specs.declared.mark.Mark.TheVariants.{Old, Opened}
-use Rattle.exam_office.specs.Files.{Stands}
+use Rattle.exam_office.specs.Migrating.{StandsMoved}
 use Rattle.exam_office.specs.Marks.{history, reach, AreMarks, AreCounted}
 use Rattle.exam_office.specs.Moments.{AreMoments}
 use Rattle.exam_office.specs.Noting.{OpenedWith, NotedMark, noted, marks_of, IsDoubtOf}
@@ -44,8 +44,8 @@ pub record AreOpening (office : OpenedWith) (found : List Entry) (opened : List 
   pub size : ℕ
   pub is : opened ≡ noted office (map Old found ++ Opened size ∷ [])
 
--- the file that was found is within the journal's limit and represents a history, with which an
--- office was opened. The office's marks at the close have the history H, a legal run that begins with
+-- the file that was found is within the journal's limit and represents a history by records of the
+-- second version, with which an office was opened. The office's marks at the close have the history H, a legal run that begins with
 -- the one that was found; they keep the rules of marks, and have no more faults than the disk counted.
 -- The file that is left, and each that a crash may leave, represents H, or H with the one entry in
 -- doubt; with none in doubt its length is that of the last mark that has one. If the disk was settled,
@@ -56,7 +56,7 @@ pub record IsExamined (b : Tables) (plan : Plan) (base : List ℕ) (disk : DiskS
   pub office : OpenedWith
   pub is_of : IsOpenedOn office b plan base disk
   pub found : List Entry
-  pub stands : IsTrue disk.told → Stands b plan found disk.found
+  pub stands : IsTrue disk.told → StandsMoved b plan found disk.found
   pub short : IsTrue disk.told → length disk.found ≤ plan.journal
   pub opening : AreOpening office found opened
   pub same_office : closed ≡ noted office (marks_of closed)

@@ -1,20 +1,26 @@
--- The texts of the statuses, and the line of a bank.
-use Rattle.std.specs.Prelude.{ℕ, zero, suc, ◌++◌, ◌∷◌, List, [], Bool, true, false, codes, length, if◌then◌else◌}
+-- The texts of the statuses, of a bank, of forms and of an audit.
+use Rattle.std.specs.Prelude.{ℕ, zero, suc, ◌++◌, ◌∷◌, List, [], Bool, true, false, codes, length, nat_lt, if◌then◌else◌}
 use Rattle.std.specs.Fmt.{decimal}
 use Rattle.hex.specs.Hex.{encode_lower}
 use Rattle.bank_tables.specs.Items.{Set, has}
 use Rattle.bank_tables.specs.Tables.{Tables, size}
+use Rattle.form_model.specs.Plan.{Plan, bands_of}
 use Rattle.form_model.specs.Problem.{Problem}
 use Rattle.form_model.specs.Forms.{stimuli_of, objective}
 use Rattle.certificate_model.specs.ProofTrees.{ProofTree}
 use Rattle.proof_tree.specs.Spelling.{bytes_of}
 use Rattle.exam_text.specs.Texts.{no_memory}
-use Rattle.answer_journal.specs.declared.open_fault.OpenFault.TheVariants.{TooLong, Header, Length, Cut, Disk as OfDisk, Memory as OfMemory}
+use Rattle.exam_lines.specs.Texts.{summary_text, bands_text}
+use Rattle.history_model.specs.declared.request.Exposure.{Exposure}
+use Rattle.history_model.specs.declared.request.Reply.TheVariants.{Exposure as Exposed}
+use Rattle.history_model.specs.declared.summary.Summary.{Summary}
+use Rattle.replay_cli.specs.Replies.{line_of}
+use Rattle.answer_journal.specs.declared.open_fault.OpenFault.TheVariants.{TooLong, Header, Version as OfVersion, Length, Cut, Disk as OfDisk, Memory as OfMemory}
 use Rattle.exam_office.specs.declared.fault.OpenFault.{OpenFault}
-use Rattle.exam_office.specs.declared.fault.OpenFault.TheVariants.{Journal, BadRecord, BadTree, Illegal, Disk, Memory}
+use Rattle.exam_office.specs.declared.fault.OpenFault.TheVariants.{Journal, Version, BadRecord, BadTree, Illegal, Disk, Memory}
 
 unfoldable pub usage : List ℕ
-usage = codes "usage: shadowd check BANK PLAN | assemble BANK PLAN | replay BANK PLAN SCRIPT | serve BANK PLAN | audit BANK PLAN | drill NUMBER SESSIONS\n"
+usage = codes "usage: shadowd check BANK PLAN | assemble BANK PLAN | replay BANK PLAN SCRIPT | serve BANK PLAN | audit BANK PLAN | drill NUMBER SESSIONS | migrate BANK PLAN\n"
 
 unfoldable pub disk_failed : List ℕ
 disk_failed = codes "disk failed\n"
@@ -22,12 +28,14 @@ disk_failed = codes "disk failed\n"
 unfoldable pub door_failed : List ℕ
 door_failed = codes "door failed\n"
 
--- what is wrong with the journal's file, with the place of the record's gate
+-- what is wrong with the journal's file, its version among that, with the place of the record's gate
 unfoldable pub journal_text : OpenFault → List ℕ
 journal_text (Journal (TooLong size)) = codes "journal: too long " ++ (decimal size ++ codes "\n")
 journal_text (Journal Header) = codes "journal: header\n"
 journal_text (Journal (Length at)) = codes "journal: length at " ++ (decimal at ++ codes "\n")
 journal_text (Journal (Cut at)) = codes "journal: cut at " ++ (decimal at ++ codes "\n")
+journal_text (Journal OfVersion) = codes "journal: version\n"
+journal_text Version = codes "journal: version\n"
 journal_text (BadRecord at fault) = codes "journal: record at " ++ (decimal at ++ codes "\n")
 journal_text (Illegal at reason) = codes "journal: illegal at " ++ (decimal at ++ codes "\n")
 journal_text (BadTree at) = codes "journal: bad tree at " ++ (decimal at ++ codes "\n")
@@ -79,3 +87,12 @@ objective_line value proved nodes = codes "objective " ++ (decimal value ++ (cod
 unfoldable pub form_text : Problem → List ℕ → Bool → ProofTree → List ℕ
 form_text P form proved T =
     codes "form" ++ (items_text (size P.bank) (has form) ++ (codes "\n" ++ (objective_line (objective P (has form)) proved (length T.nodes) ++ (codes "tree " ++ tree_text T))))
+
+-- the lines of each band of a plan that has more than one; of one band none
+abbrev pub bands_part : Plan → List Exposure → List ℕ
+bands_part plan bands = if nat_lt 1 (bands_of plan) then bands_text bands else []
+
+-- what an audit finds: the numbers of the history, its exposure counts, and those of each band
+unfoldable pub audit_text : Plan → Summary → Exposure → List Exposure → List ℕ
+audit_text plan total exposure bands =
+    summary_text total ++ line_of (Exposed exposure) ++ bands_part plan bands

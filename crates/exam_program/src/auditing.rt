@@ -1,9 +1,8 @@
 //! The command `audit`: what the journal has.
 
-ghost use Rattle.std.specs.Prelude.{◌≡◌, ℕ, ◌≤◌, ◌++◌, List, Some, OnOk, IsTrue, IfErr, IfSome};
+ghost use Rattle.std.specs.Prelude.{◌≡◌, ℕ, ◌≤◌, ◌++◌, List, Some, OnOk, IsTrue, IfErr, IfSome, string_bytes};
 ghost use Rattle.exam_edge.specs.Faults.{Rose};
 ghost use Rattle.exam_edge.specs.Lent.{IsLent};
-ghost use Rattle.answer_journal.specs.Frames.{shadowj1};
 ghost use Rattle.answer_journal.specs.Standing.{IsAsLeft};
 ghost use Rattle.history_model.specs.declared.request.Reply.TheVariants.{Exposure as Exposed};
 ghost use Rattle.command_line.specs.Commands.{Audit, command_of};
@@ -13,6 +12,7 @@ ghost use Rattle.replay_cli.specs.Replies.{line_of};
 ghost use Rattle.exam_program.specs.Halts.{IsBeforeJournal};
 ghost use Rattle.exam_program.specs.Outcomes.{IsAuditOf, Prints, Halts};
 ghost use Rattle.exam_program.specs.Outside.{Outside, outside, disk_seen};
+ghost use Rattle.exam_program.specs.Texts.{bands_part, audit_text};
 
 use crate::halt::Halt;
 use crate::output::{joined, put_text};
@@ -21,25 +21,52 @@ use crate::replay::halt_of_opening;
 use bank_tables::Bank;
 use constraint_model::Spec;
 use exam_edge::{Disk, Files, Sink};
-use exam_lines::summary_line;
+use exam_lines::{bands_text, summary_line};
 use exam_office::Reply;
 use history_model::{Exposure, Summary};
 use journal_audit::audit_disk;
 use replay_cli::reply_line;
 use std::alloc::Global;
 
-/// The lines of an audit: the numbers of the history, and its exposure counts.
-fn audit_text(alloc: Global, summary: &Summary, exposure: Exposure) -> Option<Vec<u8>>
+/// The numbers of a history, and its exposure counts in all.
+fn total_text(alloc: Global, total: &Summary, exposure: Exposure) -> Option<Vec<u8>>
     ensures { IfSome result (λ text. text.items
-        ≡ summary_text summary.now ++ line_of (Exposed exposure)) }
+        ≡ summary_text total.now ++ line_of (Exposed exposure)) }
 {
-    let line = summary_line(alloc, summary).ok()?;
+    let line = summary_line(alloc, total).ok()?;
     let counts = reply_line(alloc, &Reply::Exposure(exposure)).ok()?;
     joined(alloc, line.as_bytes(), &counts)
 }
 
+/// The exposure counts in each band, where the plan has more than one.
+fn bands_part(alloc: Global, spec: &Spec, bands: &[Exposure]) -> Option<String>
+    ensures { IfSome result (λ part. string_bytes part ≡ bands_part spec.now bands.now) }
+{
+    if spec.bands().is_empty() {
+        return Some(String::new(alloc));
+    }
+    bands_text(alloc, bands).ok()
+}
+
+/// The lines of an audit: the numbers of the history, and its exposure counts, in all and in each band.
+#[tactic(auto, unfolding(crate::specs::Texts::audit_text))]
+fn audit_text(
+    alloc: Global,
+    spec: &Spec,
+    total: &Summary,
+    exposure: Exposure,
+    bands: &[Exposure],
+) -> Option<Vec<u8>>
+    ensures { IfSome result (λ text. text.items
+        ≡ audit_text spec.now total.now exposure bands.now) }
+{
+    let text = total_text(alloc, total, exposure)?;
+    let part = bands_part(alloc, spec, bands)?;
+    joined(alloc, &text, part.as_bytes())
+}
+
 /// Judges every record of the journal on a disk, by a bank and a plan, and prints the numbers of its history and its exposure
-/// counts. It gives the disk back.
+/// counts, in all and in each band. It gives the disk back.
 fn audit_exam<O: Sink, D: Disk>(
     alloc: Global,
     bank: &Bank,
@@ -48,7 +75,7 @@ fn audit_exam<O: Sink, D: Disk>(
     disk: D,
 ) -> (D, Result<(), Halt>)
     requires plan { IsPlanFor bank.now spec.now }
-    requires left { IsTrue (D.tells disk) → IsAsLeft shadowj1 (D.accounts disk) }
+    requires left { IsTrue (D.tells disk) → IsAsLeft (D.accounts disk) }
     ensures ok { OnOk result.1 ((words : List (List ℕ)) (o : Outside)
         → IsAuditOf words o bank.now spec.now
         → o.disk ≡ disk_seen D.tells D.content D.accounts D.faults disk result.0
@@ -67,16 +94,16 @@ fn audit_exam<O: Sink, D: Disk>(
 {
     let (disk, found) = audit_disk(alloc, bank, spec, disk);
     match found {
-        Ok((summary, exposure)) => {
-            let done = put_text(out, audit_text(alloc, &summary, exposure));
+        Ok((total, exposure, bands)) => {
+            let done = put_text(out, audit_text(alloc, spec, &total, exposure, &bands));
             (disk, done)
         }
         Err(fault) => (disk, Err(halt_of_opening(fault))),
     }
 }
 
-/// Judges every record of the journal on a disk, and prints the numbers of its history and its exposure counts. It gives the
-/// disk back.
+/// Judges every record of the journal on a disk, and prints the numbers of its history and its exposure counts, in all and in
+/// each band. It gives the disk back.
 pub(crate) fn audit_journal<F: Files, O: Sink, D: Disk>(
     alloc: Global,
     files: &mut F,
@@ -85,7 +112,7 @@ pub(crate) fn audit_journal<F: Files, O: Sink, D: Disk>(
     bank: &str,
     plan: &str,
 ) -> (D, Result<(), Halt>)
-    requires { IsTrue (D.tells disk) → IsAsLeft shadowj1 (D.accounts disk) }
+    requires { IsTrue (D.tells disk) → IsAsLeft (D.accounts disk) }
     ensures ok { OnOk result.1 (IsTrue (F.tells files.old) → (words : List (List ℕ))
         → command_of words ≡ Some (Audit bank.now plan.now)
         → Prints words (outside (F.has files.old) (F.content files.old) (F.faults files.old)

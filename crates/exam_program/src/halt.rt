@@ -22,7 +22,8 @@ pub enum Halt {
     NoForm(Vec<u8>),
     /// No form of the whole problem was found within the base budget: the text to print, with the tree that spends it.
     NoBaseForm(Vec<u8>),
-    /// The journal's file represents no history of this bank and plan, or is too long.
+    /// The journal's file represents no history of this bank and plan, is too long, or is of a version that this command does
+    /// not take.
     Journal(OpenFault),
     /// A request would start one session more than the plan allows; the number of sessions, and the plan's limit.
     Sessions { count: u32, most: u32 },

@@ -1,6 +1,6 @@
 //! What the definitions imply, for all words and all files.
 
-ghost use Rattle.exam_program.specs.Laws.{PrintedTreeIsReadBack, OneTreeOfText, OnePlanOfText, CheckIsComplete, AssembleIsComplete, ReplayIsComplete, ServeIsComplete, AuditIsComplete, CompleteSessionsMeet, CompleteServedSessionsMeet};
+ghost use Rattle.exam_program.specs.Laws.{PrintedTreeIsReadBack, OneTreeOfText, OnePlanOfText, CheckIsComplete, AssembleIsComplete, ReplayIsComplete, ServeIsComplete, AuditIsComplete, MigrateIsComplete, CompleteSessionsMeet, CompleteServedSessionsMeet};
 
 /// A tree that is printed can be read: its digits give its bytes, and these give the tree.
 pub fn a_printed_tree_is_read_back()
@@ -27,19 +27,25 @@ pub fn assemble_is_complete()
     ensures { AssembleIsComplete }
 {}
 
-/// `replay` of a plan with a base, a script in its form and a journal of the plan ends so too, if no limit of the plan is met.
+/// `replay` of a plan with a base, a script in its form and a journal of the plan, of the second version or moved to it, ends so
+/// too, if no limit of the plan is met.
 pub fn replay_is_complete()
     ensures { ReplayIsComplete }
 {}
 
-/// `serve` of a plan with a base over a journal of the plan serves connections, or ends with status 10.
+/// `serve` of a plan with a base over such a journal serves connections, or ends with status 10.
 pub fn serve_is_complete()
     ensures { ServeIsComplete }
 {}
 
-/// `audit` over a journal of the plan ends so too.
+/// `audit` over a journal of the plan, of either version, ends so too.
 pub fn audit_is_complete()
     ensures { AuditIsComplete }
+{}
+
+/// And so does `migrate`, if the journal is within the limit once it is moved.
+pub fn migrate_is_complete()
+    ensures { MigrateIsComplete }
 {}
 
 /// The items shown in each complete session of a replay meet the plan.

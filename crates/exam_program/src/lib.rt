@@ -11,6 +11,7 @@ mod item_sets;
 pub mod laws;
 mod lines;
 mod marked_form;
+mod migrating;
 mod output;
 mod program;
 mod reading;

@@ -41,6 +41,10 @@ pub(crate) fn journal_text(alloc: Global, fault: OpenFault) -> Result<String, Al
             "journal: length at {at}\n"
         ),
         OpenFault::Journal(JournalFault::Cut(at)) => format!(in alloc; "journal: cut at {at}\n"),
+        OpenFault::Version | OpenFault::Journal(JournalFault::Version) => String::from_str(
+            alloc,
+            "journal: version\n",
+        ),
         OpenFault::BadRecord(at, _) => format!(in alloc; "journal: record at {at}\n"),
         OpenFault::Illegal(at, _) => format!(in alloc; "journal: illegal at {at}\n"),
         OpenFault::BadTree(at) => format!(in alloc; "journal: bad tree at {at}\n"),

@@ -4,7 +4,6 @@ ghost use Rattle.std.specs.Prelude.{◌≡◌, ℕ, ◌≤◌, ◌⊎◌, All, L
 ghost use Rattle.std.specs.Option.{option_map};
 ghost use Rattle.exam_edge.specs.Faults.{Rose};
 ghost use Rattle.exam_edge.specs.Lent.{IsLent};
-ghost use Rattle.answer_journal.specs.Frames.{shadowj1};
 ghost use Rattle.answer_journal.specs.Standing.{IsAsLeft};
 ghost use Rattle.exam_serve.specs.Doors.{AreLent, AreServed, HasFailedDoor};
 ghost use Rattle.command_line.specs.Commands.{HasJournal, IsOfJournal, IsServe, IsOfServe, IsInRange, AreInRange, command_of, said};
@@ -16,6 +15,7 @@ ghost use Rattle.exam_program.specs.Runs.{RunEnds, RunLeaves};
 use crate::auditing::audit_journal;
 use crate::drilling::drill;
 use crate::halt::Halt;
+use crate::migrating::migrate_journal;
 use crate::report::{print, report};
 use crate::serving::{Left, serve};
 use crate::work::{assemble, check, replay_script};
@@ -37,7 +37,7 @@ fn work<F: Files, O: Sink, D: Disk>(
 ) -> (D, Result<(), Halt>)
     requires alone { IsServe (said command) → ⊥ }
     requires range { IsInRange (said command) }
-    requires left { IsTrue (D.tells disk) → IsAsLeft shadowj1 (D.accounts disk) }
+    requires left { IsTrue (D.tells disk) → IsAsLeft (D.accounts disk) }
     ensures ok { OnOk result.1 (IsTrue (F.tells files.old) → (words : List (List ℕ))
         → command_of words ≡ Some (said command.entry)
         → Prints words (outside (F.has files.old) (F.content files.old) (F.faults files.old)
@@ -74,6 +74,7 @@ fn work<F: Files, O: Sink, D: Disk>(
             alloc, files, out, disk, bank, plan, script,
         ),
         Command::Audit { bank, plan } => audit_journal(alloc, files, out, disk, bank, plan),
+        Command::Migrate { bank, plan } => migrate_journal(alloc, files, out, disk, bank, plan),
         Command::Drill { number, sessions } => {
             let done = drill(alloc, out, number, sessions);
             (disk, done)
@@ -92,7 +93,7 @@ fn status_of<F: Files, O: Sink, D: Disk>(
 ) -> (D, u8)
     requires alone { IsOfServe (option_map said command) → ⊥ }
     requires range { AreInRange (option_map said command) }
-    requires left { IsTrue (D.tells disk) → IsAsLeft shadowj1 (D.accounts disk) }
+    requires left { IsTrue (D.tells disk) → IsAsLeft (D.accounts disk) }
     ensures answers { IsTrue (F.tells files.old) → (words : List (List ℕ))
         → option_map said command.entry ≡ command_of words
         → Ends words (outside (F.has files.old) (F.content files.old) (F.faults files.old)
@@ -116,7 +117,7 @@ fn status_of<F: Files, O: Sink, D: Disk>(
     let Some(command) = command else {
         let status = print(
             out,
-            b"usage: shadowd check BANK PLAN | assemble BANK PLAN | replay BANK PLAN SCRIPT | serve BANK PLAN | audit BANK PLAN | drill NUMBER SESSIONS\n",
+            b"usage: shadowd check BANK PLAN | assemble BANK PLAN | replay BANK PLAN SCRIPT | serve BANK PLAN | audit BANK PLAN | drill NUMBER SESSIONS | migrate BANK PLAN\n",
             2,
         );
         return (disk, status);
@@ -131,16 +132,17 @@ fn status_of<F: Files, O: Sink, D: Disk>(
 /// Does what the words ask for, which are those after the program's name, and waits for nobody. The words do not ask for a
 /// server. The journal's disk is as a reboot or a journal left it.
 /// It gives the status to end with: 0 the work was done, 2 the words are not in the table,
-/// 3, 4 and 5 the bank, the plan or the script is refused, 6 the journal represents no history of the bank and the plan,
-/// 7, 8 and 9 a call of the files, the sink or the disk failed, 10 out of memory, 11 no set of items is a form, 12 the plan has
-/// no base and none was found within the base budget, 13 a limit of the plan is met.
+/// 3, 4 and 5 the bank, the plan or the script is refused, 6 the journal represents no history of the bank and the plan, or, in
+/// a replay, is of the first version and was not moved, 7, 8 and 9 a call of the files, the sink or the disk failed, 10 out of
+/// memory, 11 no set of items is a form, 12 the plan has no base and none was found within the base budget, 13 a limit of the
+/// plan is met.
 pub fn run_alone<F: Files, O: Sink, D: Disk>(
     alloc: Global,
     words: &[String],
     tools: Tools<F, O, D>,
 ) -> (u8, Tools<F, O, D>)
     requires alone { IsOfServe (command_of (map (λ w. string_bytes w) words.now)) → ⊥ }
-    requires left { IsTrue (D.tells tools.disk) → IsAsLeft shadowj1 (D.accounts tools.disk) }
+    requires left { IsTrue (D.tells tools.disk) → IsAsLeft (D.accounts tools.disk) }
     // If the files report their content: what is printed, and with which status. If the sink reports its content too: that this
     // is written. If the disk reports its content too: what the journal holds, and what a crash may leave of it.
     ensures answers { IsTrue (F.tells tools.files)
@@ -211,7 +213,7 @@ where
     G: Gate + Sync,
     requires few { vec_len doors ≤ 65535 }
     requires home { All (λ door. L.is_out door ≡ false) doors.items }
-    requires left { IsTrue (D.tells disk) → IsAsLeft shadowj1 (D.accounts disk) }
+    requires left { IsTrue (D.tells disk) → IsAsLeft (D.accounts disk) }
     ensures answers { IsTrue (F.tells files.old)
         → RunEnds (λ opened closed failed. AreServed L.tells L.coming L.returned L.is_out L.faults
         L.identity L.Link.tells L.Link.left L.Link.written L.Link.faults L.Link.identity
@@ -264,9 +266,10 @@ where
 /// theirs is out. Only a server uses the doors and the gate; it may wait, and ends where each door ends.
 /// The journal's disk is as a reboot or a journal left it.
 /// It gives the status to end with: 0 the work was done, 2 the words are not in the table,
-/// 3, 4 and 5 the bank, the plan or the script is refused, 6 the journal represents no history of the bank and the plan,
-/// 7, 8 and 9 a call of the files, the sink or the disk failed, 10 out of memory, 11 no set of items is a form, 12 the plan has
-/// no base and none was found within the base budget, 13 a limit of the plan is met in a replay, 14 a door failed.
+/// 3, 4 and 5 the bank, the plan or the script is refused, 6 the journal represents no history of the bank and the plan, or, in
+/// a replay and a server, is of the first version and was not moved, 7, 8 and 9 a call of the files, the sink or the disk
+/// failed, 10 out of memory, 11 no set of items is a form, 12 the plan has no base and none was found within the base budget,
+/// 13 a limit of the plan is met in a replay, a drill or a migration, 14 a door failed.
 pub fn run<
     R: Threads + Wait + Sync,
     F: Files,
@@ -277,7 +280,7 @@ pub fn run<
 >(rt: &R, alloc: Global, words: &[String], world: World<F, O, D, L, G>) -> Finish<F, O, D, L>
     requires few { vec_len world.doors ≤ 65535 }
     requires home { All (λ door. L.is_out door ≡ false) world.doors.items }
-    requires left { IsTrue (D.tells world.disk) → IsAsLeft shadowj1 (D.accounts world.disk) }
+    requires left { IsTrue (D.tells world.disk) → IsAsLeft (D.accounts world.disk) }
     // If the files report their content: what is printed, and with which status; and what became of the doors. If the sink
     // reports its content too: that this is written. If the disk reports its content too: what the journal holds, and what a
     // crash may leave of it. Of a door that reports its links: that each was served, and what was written to it.

@@ -4,7 +4,6 @@ ghost use Rattle.std.specs.Prelude.{◌≡◌, ◌≤◌, [], ◌∷◌, IsTrue,
 ghost use Rattle.exam_edge.specs.Faults.{Rose};
 ghost use Rattle.exam_edge.specs.Images.{AtEachMoment};
 ghost use Rattle.exam_edge.specs.Lent.{IsLent};
-ghost use Rattle.answer_journal.specs.Frames.{shadowj1};
 ghost use Rattle.answer_journal.specs.Standing.{IsAsLeft};
 ghost use Rattle.bank_tables.specs.Items.{has};
 ghost use Rattle.form_model.specs.Forms.{Meets};
@@ -159,7 +158,7 @@ pub(crate) fn replay<'a, O: Sink, D: Disk>(
 ) -> (D, Result<(), Halt>)
     requires plan { IsPlanFor bank.now spec.now }
     requires base { Meets bank.now spec.now (has base.now) }
-    requires left { IsTrue (D.tells disk) → IsAsLeft shadowj1 (D.accounts disk) }
+    requires left { IsTrue (D.tells disk) → IsAsLeft (D.accounts disk) }
     ensures ok { OnOk result.1 (Finishes
         (IsReplayed bank.now spec.now base.now
         (disk_seen D.tells D.content D.accounts D.faults disk result.0) requests.now)

@@ -4,7 +4,6 @@ ghost use Rattle.std.specs.Prelude.{◌≡◌, ℕ, ◌≤◌, ◌⊎◌, List, 
 ghost use Rattle.bank_tables.specs.Items.{has};
 ghost use Rattle.exam_edge.specs.Faults.{Rose};
 ghost use Rattle.exam_edge.specs.Lent.{FailsOnly, IsLent};
-ghost use Rattle.answer_journal.specs.Frames.{shadowj1};
 ghost use Rattle.answer_journal.specs.Standing.{IsAsLeft};
 ghost use Rattle.form_model.specs.Forms.{Meets};
 ghost use Rattle.form_model.specs.Validity.{IsPlanFor};
@@ -137,7 +136,7 @@ where
     requires base { Meets bank.now spec.now (has base.now) }
     requires few { vec_len doors ≤ 65535 }
     requires home { All (λ d. L.is_out d ≡ false) doors.items }
-    requires left { IsTrue (D.tells disk) → IsAsLeft shadowj1 (D.accounts disk) }
+    requires left { IsTrue (D.tells disk) → IsAsLeft (D.accounts disk) }
     ensures answers { (words : List (List ℕ)) (o : Outside)
         → IsServeOf words o bank.now spec.now base.now
         → o.disk ≡ disk_seen D.tells D.content D.accounts D.faults disk result.disk
@@ -201,7 +200,7 @@ where
     G: Gate + Sync,
     requires few { vec_len doors ≤ 65535 }
     requires home { All (λ d. L.is_out d ≡ false) doors.items }
-    requires left { IsTrue (D.tells disk) → IsAsLeft shadowj1 (D.accounts disk) }
+    requires left { IsTrue (D.tells disk) → IsAsLeft (D.accounts disk) }
     ensures answers { IsTrue (F.tells files.old) → (words : List (List ℕ))
         → command_of words ≡ Some (Serve bank.now plan.now)
         → RunEnds (λ opened closed failed. AreServed L.tells L.coming L.returned L.is_out L.faults

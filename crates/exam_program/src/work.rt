@@ -3,7 +3,6 @@
 ghost use Rattle.std.specs.Prelude.{◌≡◌, ℕ, ◌≤◌, ◌++◌, List, Some, OnOk, IsTrue, IfSome, IfErr};
 ghost use Rattle.exam_edge.specs.Faults.{Rose};
 ghost use Rattle.exam_edge.specs.Lent.{IsLent};
-ghost use Rattle.answer_journal.specs.Frames.{shadowj1};
 ghost use Rattle.answer_journal.specs.Standing.{IsAsLeft};
 ghost use Rattle.command_line.specs.Commands.{Check, Assemble, Replay, command_of};
 ghost use Rattle.exam_program.specs.Halts.{IsBeforeJournal, IsOfNoDisk};
@@ -114,7 +113,7 @@ pub(crate) fn replay_script<F: Files, O: Sink, D: Disk>(
     plan: &str,
     script: &str,
 ) -> (D, Result<(), Halt>)
-    requires { IsTrue (D.tells disk) → IsAsLeft shadowj1 (D.accounts disk) }
+    requires { IsTrue (D.tells disk) → IsAsLeft (D.accounts disk) }
     ensures ok { OnOk result.1 (IsTrue (F.tells files.old) → (words : List (List ℕ))
         → command_of words ≡ Some (Replay bank.now plan.now script.now)
         → Prints words (outside (F.has files.old) (F.content files.old) (F.faults files.old)

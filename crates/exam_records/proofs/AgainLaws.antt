@@ -1,8 +1,8 @@
 -- What was written is read again, whatever follows; and the laws.
-use Rattle.std.proofs.Common.{◌≡◌, ℕ, ◌+◌, ◌^◌, ◌<◌, ◌≤◌, Bool, true, false, ltb, List, [], ◌∷◌, ◌++◌, length, drop, get_or, Option, Some, None, Result, Ok, Err, refl, sym, ap, subst, ◌∙◌, arith, length-append}
+use Rattle.std.proofs.Common.{◌≡◌, ℕ, ◌+◌, ◌^◌, ◌<◌, ◌≤◌, ◌==◌, Bool, true, false, ltb, List, [], ◌∷◌, ◌++◌, length, drop, get_or, Option, Some, None, Result, Ok, Err, refl, sym, ap, subst, ◌∙◌, arith, length-append}
 use Rattle.std.specs.Prelude.{IfOk}
 use Rattle.std.specs.Int.{w16, w32, w64, to_be_bytes}
-use Rattle.std.proofs.lemmas.Bool.{ltb-false, le-ltb, lt-ltb}
+use Rattle.std.proofs.lemmas.Bool.{ltb-false, le-ltb, lt-ltb, ne_eqb}
 use Rattle.std.proofs.lemmas.List.{append-nil, length-drop, nil_from_length}
 use Rattle.bank_tables.specs.Items.{has, AreWords}
 use Rattle.exam_text.specs.First.{◌>>=◌, unless, fault_where, Gives}
@@ -24,7 +24,7 @@ use Rattle.exam_records.specs.Shape.{GoesWith, IsInRange, IsTreeOrNone, IsRecord
 use Rattle.exam_records.specs.Old.{one_band, old_entry, old_record, IsOldRecord}
 use Rattle.exam_records.specs.Sets.{set_bytes}
 use Rattle.exam_records.specs.Spelling.{cause_byte, mark_byte, served_bytes, answered_bytes, closed_bytes, tree_bytes, old_entry_bytes, old_payload_of}
-use Rattle.exam_records.specs.Reading.{field, flag_at, cause_of, served, answered, closed, record_by, old_started, old_set_aside, old_record_of_kind, old_record_of}
+use Rattle.exam_records.specs.Reading.{field, flag_at, cause_of, served, answered, closed, shared_of_kind, record_by, old_started, old_set_aside, old_record_of_kind, old_record_of}
 use Rattle.exam_records.proofs.SetLaws.{numbers_len}
 use Rattle.exam_records.proofs.FieldLaws.{wide64, number_read, byte_found, byte_read, set_read, flag_read, tree_read}
 use Rattle.exam_records.proofs.BandLaws.{kept_is_old, kept_payload}
@@ -190,16 +190,23 @@ old_set_aside_again session cause nodes T bytes next fits number is p =
     let tree_is_read = tree_read nodes bytes 8 T next (record { is_tree = is; stands = tree; number = number }) in
     (2, kind_read bytes 2 (S ++ (C ++ N)) 8 entry, rw (session_read, cause_is_read.1, nodes_read, tree_is_read, cause_is_read.2) refl)
 
-pub old_kind_3 : (bytes : List ℕ) → old_record_of_kind 3 bytes ≡ served bytes
+pub old_shared_kind : (kind : ℕ) (bytes : List ℕ) → 3 ≤ kind → old_record_of_kind kind bytes ≡ shared_of_kind kind bytes
 unfolding old_record_of_kind
+old_shared_kind kind bytes some =
+    let one : (kind == 1) ≡ false = ne_eqb kind 1 (λ e. absurd (omega (arith, e, some))) in
+    let two : (kind == 2) ≡ false = ne_eqb kind 2 (λ e. absurd (omega (arith, e, some))) in
+    rw (one, two) refl
+
+pub old_kind_3 : (bytes : List ℕ) → old_record_of_kind 3 bytes ≡ served bytes
+unfolding old_record_of_kind shared_of_kind
 old_kind_3 bytes = refl
 
 pub old_kind_4 : (bytes : List ℕ) → old_record_of_kind 4 bytes ≡ answered bytes
-unfolding old_record_of_kind
+unfolding old_record_of_kind shared_of_kind
 old_kind_4 bytes = refl
 
 pub old_kind_5 : (bytes : List ℕ) → old_record_of_kind 5 bytes ≡ closed bytes
-unfolding old_record_of_kind
+unfolding old_record_of_kind shared_of_kind
 old_kind_5 bytes = refl
 
 entry_again : (entry : Entry) (tree : Option ProofTree) (bytes : List ℕ) (next : ℕ) → GoesWith entry tree → IsInRange entry → IsTreeOrNone tree → Stands bytes 0 (old_entry_bytes 0 entry ++ tree_bytes tree) next → ReadsTo old_record_of_kind bytes (record { entry = old_entry 0 entry; tree = tree }) next

@@ -23,7 +23,7 @@ use Rattle.exam_records.specs.declared.fault.RecordFault.{RecordFault}
 use Rattle.exam_records.specs.declared.fault.RecordFault.TheVariants.{Short, Tree, Extra}
 use Rattle.history_model.specs.Judging.{Record}
 use Rattle.exam_records.specs.Shape.{GoesWith, IsInRange, IsTreeOrNone, IsRecord}
-use Rattle.exam_records.specs.Old.{one_band, old_entry, old_record, IsOldRecord}
+use Rattle.exam_records.specs.Old.{one_band, old_record, IsOldRecord}
 use Rattle.exam_records.specs.Sets.{set_bytes}
 use Rattle.exam_records.specs.Spelling.{cause_byte, mark_byte, served_bytes, answered_bytes, closed_bytes, tree_bytes, old_entry_bytes, old_payload_of}
 use Rattle.exam_records.specs.Reading.{field, of_tree, set_at, flag_at, tree_at, served, answered, closed, record_by, old_started, old_set_aside, old_record_of_kind, old_record_of}
@@ -38,16 +38,16 @@ abbrev pub ReadsOrShort : {A : Type 0} → ℕ → ℕ → Result A RecordFault 
 ReadsOrShort k next cut x = ((next ≤ k) × (cut ≡ Ok x)) ⊎ ((k < next) × (cut ≡ Err Short))
 
 -- a field before the tree, and what follows
-and_then : {A B : Type 0} (tree k next : ℕ) (r : Result A RecordFault) (x : A) (f : A → Result B RecordFault) → next ≤ tree → ReadsOrShort k next r x → (next ≤ k → IsCutOff tree k (f x)) → IsCutOff tree k (r >>= f)
+pub and_then : {A B : Type 0} (tree k next : ℕ) (r : Result A RecordFault) (x : A) (f : A → Result B RecordFault) → next ≤ tree → ReadsOrShort k next r x → (next ≤ k → IsCutOff tree k (f x)) → IsCutOff tree k (r >>= f)
 and_then tree k next r x f le (inl h) g = rw h.1 (g h.0)
 and_then tree k next r x f le (inr h) g = (λ _. rw h.1 refl, λ behind. absurd (omega (arith, h.0)))
 
 -- what was cut off stays so
-and_stays : {A B : Type 0} (tree k : ℕ) (r : Result A RecordFault) (f : A → Result B RecordFault) → IsCutOff tree k r → IsCutOff tree k (r >>= f)
+pub and_stays : {A B : Type 0} (tree k : ℕ) (r : Result A RecordFault) (f : A → Result B RecordFault) → IsCutOff tree k r → IsCutOff tree k (r >>= f)
 and_stays tree k r f h = (λ lt. rw (h.0 lt) refl, λ le. let t = h.1 le in (t.0, rw t.1 refl, t.2))
 
 -- nothing follows in a record without a tree
-no_tree : {A : Type 0} (tree k : ℕ) (r : Result A RecordFault) → k < tree → tree ≤ k → IsCutOff tree k r
+pub no_tree : {A : Type 0} (tree k : ℕ) (r : Result A RecordFault) → k < tree → tree ≤ k → IsCutOff tree k r
 no_tree tree k r lt le = absurd (omega arith)
 
 -- ---- fields
@@ -65,7 +65,7 @@ stands_cut bytes k at text next kb le p =
       ends = p.ends;
     }
 
-cut_number : (w : Width) (limit : ℕ) (wide : IsWide w limit) (bytes : List ℕ) (k at n next : ℕ) → k ≤ length bytes → n < limit → Stands bytes at (to_be_bytes w n) next → ReadsOrShort k next (field (number_at w (take k bytes) at)) n
+pub cut_number : (w : Width) (limit : ℕ) (wide : IsWide w limit) (bytes : List ℕ) (k at n next : ℕ) → k ≤ length bytes → n < limit → Stands bytes at (to_be_bytes w n) next → ReadsOrShort k next (field (number_at w (take k bytes) at)) n
 cut_number w limit wide bytes k at n next kb lt p =
     let len : length (take k bytes) ≡ k = length-take-le k bytes kb in
     elim (cases_lt k next) [
@@ -73,7 +73,7 @@ cut_number w limit wide bytes k at n next kb lt p =
       | inr le ↦ inl (le, number_read w limit wide (take k bytes) at n next (stands_cut bytes k at (to_be_bytes w n) next kb le p) lt)
     ]
 
-cut_byte : (bytes : List ℕ) (k at b next : ℕ) → k ≤ length bytes → Stands bytes at (b ∷ []) next → ReadsOrShort k next (field (byte_at (take k bytes) at)) b
+pub cut_byte : (bytes : List ℕ) (k at b next : ℕ) → k ≤ length bytes → Stands bytes at (b ∷ []) next → ReadsOrShort k next (field (byte_at (take k bytes) at)) b
 cut_byte bytes k at b next kb p =
     let len : length (take k bytes) ≡ k = length-take-le k bytes kb in
     elim (cases_lt k next) [
@@ -81,7 +81,7 @@ cut_byte bytes k at b next kb p =
       | inr le ↦ inl (le, byte_read (take k bytes) at b next (stands_cut bytes k at (b ∷ []) next kb le p))
     ]
 
-cut_set : (bytes : List ℕ) (k at : ℕ) (words : List ℕ) (next : ℕ) → k ≤ length bytes → AreWords words → Stands bytes at (set_bytes (has words)) next → ReadsOrShort k next (set_at (take k bytes) at) words
+pub cut_set : (bytes : List ℕ) (k at : ℕ) (words : List ℕ) (next : ℕ) → k ≤ length bytes → AreWords words → Stands bytes at (set_bytes (has words)) next → ReadsOrShort k next (set_at (take k bytes) at) words
 unfolding set_at
 cut_set bytes k at words next kb are p =
     let len : length (take k bytes) ≡ k = length-take-le k bytes kb in
@@ -105,7 +105,7 @@ of_cut_tree : {A : Type 0} (k : ℕ) (r : Result A TreeFault) → IsTreeCutOff k
 of_cut_tree k r (inl e) = (tree_fault.Short, ap of_tree e, inl refl)
 of_cut_tree k r (inr e) = (tree_fault.Unfinished k, ap of_tree e, inr refl)
 
-cut_tree : (nodes : ℕ) (bytes : List ℕ) (k at : ℕ) (T : ProofTree) → IsTree T → k < length bytes → at ≤ k → Stands bytes at (bytes_of T) (length bytes) → IsCutOff at k (tree_at nodes (take k bytes) at)
+pub cut_tree : (nodes : ℕ) (bytes : List ℕ) (k at : ℕ) (T : ProofTree) → IsTree T → k < length bytes → at ≤ k → Stands bytes at (bytes_of T) (length bytes) → IsCutOff at k (tree_at nodes (take k bytes) at)
 unfolding tree_at
 cut_tree nodes bytes k at T is lt le p =
     let whole : at + (k - at) ≡ k = omega arith in

@@ -3,6 +3,10 @@ pub mod Joins
 pub mod SetLaws
 pub mod FieldLaws
 pub mod BandLaws
+pub mod BandFields
 pub mod RecordLaws
 pub mod AgainLaws
 pub mod CutLaws
+pub mod SecondLaws
+pub mod SecondCuts
+pub mod VersionLaws

@@ -19,7 +19,7 @@ use Rattle.exam_records.specs.Shape.{IsRecord}
 use Rattle.exam_records.specs.Sets.{set_bytes}
 use Rattle.exam_records.specs.Old.{one_band, IsOldRecord}
 use Rattle.exam_records.specs.Spelling.{cause_byte, mark_byte, served_bytes, answered_bytes, closed_bytes, tree_bytes, old_entry_bytes}
-use Rattle.exam_records.specs.Reading.{field, set_at, flag_at, cause_of, tree_at, served, answered, closed, old_started, old_set_aside, old_record_of_kind}
+use Rattle.exam_records.specs.Reading.{field, set_at, flag_at, cause_of, tree_at, served, answered, closed, shared_of_kind, old_started, old_set_aside, old_record_of_kind}
 use Rattle.exam_records.proofs.BandLaws.{one_band_eligible, one_band_sets}
 use Rattle.exam_records.proofs.FieldLaws.{wide64, number_found, byte_found, set_found, flag_found, tree_found}
 
@@ -105,6 +105,31 @@ module _ (P : Record → Type 0) (spell : Entry → List ℕ)
       } in
       subst (IsFound P spell bytes) {x = made} (ok_is {F = RecordFault} made x a.2) found
 
+-- the kind is this one
+pub as_kind : (bytes : List ℕ) (kind k : ℕ) → (kind == k) ≡ true → Stands bytes 0 (kind ∷ []) 1 → Stands bytes 0 (k ∷ []) 1
+as_kind bytes kind k test p = subst (λ (n : ℕ). Stands bytes 0 (n ∷ []) 1) (eqb-true kind k test) p
+
+module _ (P : Record → Type 0) (spell : Entry → List ℕ)
+    (same_served : (session step item : ℕ) (form : List ℕ) (proved : Bool) (nodes : ℕ) → spell (Served session step item form proved nodes) ≡ served_bytes session step item form proved nodes)
+    (same_answered : (session step response : ℕ) → spell (Answered session step response) ≡ answered_bytes session step response)
+    (same_closed : (session : ℕ) → spell (Closed session) ≡ closed_bytes session)
+    (good_served : (session step item : ℕ) (form : List ℕ) (proved : Bool) (nodes : ℕ) (T : ProofTree) → (let r : Record = record { entry = Served session step item form proved nodes; tree = Some T } in IsRecord r → P r))
+    (good_answered : (session step response : ℕ) → (let r : Record = record { entry = Answered session step response; tree = None } in IsRecord r → P r))
+    (good_closed : (session : ℕ) → (let r : Record = record { entry = Closed session; tree = None } in IsRecord r → P r)) where
+  pub shared_found : (bytes : List ℕ) (kind : ℕ) (x : Record × ℕ) → IsBytes bytes → Stands bytes 0 (kind ∷ []) 1 → shared_of_kind kind bytes ≡ Ok x → IsFound P spell bytes x
+  unfolding shared_of_kind
+  shared_found bytes kind x fits p e =
+      elim (chosen (kind == 3) (served bytes) _ (Ok x) e) [
+        | inl h ↦ served_found P spell same_served good_served bytes x fits (as_kind bytes kind 3 h.0 p) h.1
+        | inr r3 ↦ elim (chosen (kind == 4) (answered bytes) _ (Ok x) r3.1) [
+          | inl h ↦ answered_found P spell same_answered good_answered bytes x fits (as_kind bytes kind 4 h.0 p) h.1
+          | inr r4 ↦ elim (chosen (kind == 5) (closed bytes) _ (Ok x) r4.1) [
+            | inl h ↦ closed_found P spell same_closed good_closed bytes x fits (as_kind bytes kind 5 h.0 p) h.1
+            | inr r5 ↦ absurd (let no = r5.1 in cc)
+          ]
+        ]
+      ]
+
 -- ---- the first version
 
 abbrev pub IsOldFound : List ℕ → Record × ℕ → Type 0
@@ -154,10 +179,6 @@ old_set_aside_found bytes x fits kind e =
     } in
     subst (IsOldFound bytes) {x = made} (ok_is {F = RecordFault} made x t.2) found
 
--- the kind is this one
-pub as_kind : (bytes : List ℕ) (kind k : ℕ) → (kind == k) ≡ true → Stands bytes 0 (kind ∷ []) 1 → Stands bytes 0 (k ∷ []) 1
-as_kind bytes kind k test p = subst (λ (n : ℕ). Stands bytes 0 (n ∷ []) 1) (eqb-true kind k test) p
-
 pub old_kind_found : (bytes : List ℕ) (kind : ℕ) (x : Record × ℕ) → IsBytes bytes → Stands bytes 0 (kind ∷ []) 1 → old_record_of_kind kind bytes ≡ Ok x → IsOldFound bytes x
 unfolding old_record_of_kind old_entry_bytes
 old_kind_found bytes kind x fits p e =
@@ -165,15 +186,9 @@ old_kind_found bytes kind x fits p e =
       | inl h ↦ old_started_found bytes x fits (as_kind bytes kind 1 h.0 p) h.1
       | inr r1 ↦ elim (chosen (kind == 2) (old_set_aside bytes) _ (Ok x) r1.1) [
         | inl h ↦ old_set_aside_found bytes x fits (as_kind bytes kind 2 h.0 p) h.1
-        | inr r2 ↦ elim (chosen (kind == 3) (served bytes) _ (Ok x) r2.1) [
-          | inl h ↦ served_found IsOldRecord (old_entry_bytes 0) (λ session step item form proved nodes. refl) (λ session step item form proved nodes T is. record { is_record = is; all = refl }) bytes x fits (as_kind bytes kind 3 h.0 p) h.1
-          | inr r3 ↦ elim (chosen (kind == 4) (answered bytes) _ (Ok x) r3.1) [
-            | inl h ↦ answered_found IsOldRecord (old_entry_bytes 0) (λ session step response. refl) (λ session step response is. record { is_record = is; all = refl }) bytes x fits (as_kind bytes kind 4 h.0 p) h.1
-            | inr r4 ↦ elim (chosen (kind == 5) (closed bytes) _ (Ok x) r4.1) [
-              | inl h ↦ closed_found IsOldRecord (old_entry_bytes 0) (λ session. refl) (λ session is. record { is_record = is; all = refl }) bytes x fits (as_kind bytes kind 5 h.0 p) h.1
-              | inr r5 ↦ absurd (let no = r5.1 in cc)
-            ]
-          ]
-        ]
+        | inr r2 ↦ shared_found IsOldRecord (old_entry_bytes 0)
+            (λ session step item form proved nodes. refl) (λ session step response. refl) (λ session. refl)
+            (λ session step item form proved nodes T is. record { is_record = is; all = refl }) (λ session step response is. record { is_record = is; all = refl }) (λ session is. record { is_record = is; all = refl })
+            bytes kind x fits p r2.1
       ]
     ]

@@ -1,5 +1,5 @@
 -- The one spelling of each record in bytes; numbers are big-endian.
-use Rattle.std.specs.Prelude.{ℕ, List, [], ◌∷◌, ◌++◌, Bool, true, false, Option, Some, None}
+use Rattle.std.specs.Prelude.{ℕ, zero, suc, ◌*◌, ◌-◌, List, [], ◌∷◌, ◌++◌, Bool, true, false, Option, Some, None}
 use Rattle.std.specs.Int.{w16, w32, w64, to_be_bytes}
 use Rattle.bank_tables.specs.Items.{has}
 use Rattle.certificate_model.specs.ProofTrees.{ProofTree}
@@ -40,7 +40,32 @@ abbrev pub tree_bytes : Option ProofTree → List ℕ
 tree_bytes None = []
 tree_bytes (Some T) = bytes_of T
 
+-- ---- the second version of the journal
+
+-- the sets of so many bands, one after the other
+unfoldable pub sets_bytes : ℕ → List (List ℕ) → List ℕ
+sets_bytes zero sets = []
+sets_bytes (suc band) sets = sets_bytes band sets ++ set_bytes (items_in sets band)
+
+-- the kind of the entry in one byte, and its fields
+unfoldable pub entry_bytes : Entry → List ℕ
+entry_bytes (Started session booking eligible without) =
+    6 ∷ (to_be_bytes w32 session ++ (to_be_bytes w64 booking
+    ++ eligible.count ∷ sets_bytes eligible.count eligible.sets))
+entry_bytes (SetAside session step band cause nodes) =
+    7 ∷ (to_be_bytes w32 session ++ (to_be_bytes w16 step
+    ++ band ∷ cause_byte cause ∷ to_be_bytes w16 nodes))
+entry_bytes (Served session step item form proved nodes) =
+    served_bytes session step item form proved nodes
+entry_bytes (Answered session step response) = answered_bytes session step response
+entry_bytes (Closed session) = closed_bytes session
+
+-- the payload of a record: the entry, and the tree after it
+unfoldable pub payload_of : Record → List ℕ
+payload_of r = entry_bytes r.entry ++ tree_bytes r.tree
+
 -- ---- the first version of the journal
+
 -- the kind of the entry in one byte, and its fields: of a start the eligible set of the band where
 -- each session begins, and of a setting aside neither the step nor the band
 unfoldable pub old_entry_bytes : ℕ → Entry → List ℕ
@@ -57,3 +82,9 @@ old_entry_bytes first (Closed session) = closed_bytes session
 -- the payload of a record: the entry, and the tree after it
 unfoldable pub old_payload_of : ℕ → Record → List ℕ
 old_payload_of first r = old_entry_bytes first r.entry ++ tree_bytes r.tree
+
+-- by how many bytes the second version has more of an entry than the first
+abbrev pub more_bytes : Entry → ℕ
+more_bytes (Started session booking eligible without) = 64 * eligible.count - 63
+more_bytes (SetAside session step band cause nodes) = 3
+more_bytes entry = 0

@@ -1,14 +1,15 @@
 //! Reading a record.
 
-ghost use Rattle.std.specs.Prelude.{◌≡◌, ◌+◌, ◌≤◌, ◌<◌, ◌==◌, length, IfOk, OnOk, Ok};
+ghost use Rattle.std.specs.Prelude.{◌≡◌, ◌+◌, ◌*◌, ◌≤◌, ◌<◌, ◌==◌, nat_lt, length, IfOk, OnOk, Ok};
 ghost use Rattle.std.specs.Int.{w16, w32, w64};
-ghost use Rattle.exam_text.specs.First.{Gives};
+ghost use Rattle.exam_text.specs.First.{unless, fault_where, Gives};
 ghost use Rattle.proof_tree.specs.Reading.{number_at, byte_at};
-ghost use Rattle.exam_records.specs.declared.fault.RecordFault.TheVariants.{Memory};
+ghost use Rattle.exam_records.specs.declared.fault.RecordFault.TheVariants.{Extra, Memory};
 ghost use Rattle.history_model.specs.Judging.{Record};
+ghost use Rattle.exam_records.specs.Shape.{IsRecord};
 ghost use Rattle.exam_records.specs.Old.{one_band, IsOldRecord};
-ghost use Rattle.exam_records.specs.Spelling.{old_payload_of};
-ghost use Rattle.exam_records.specs.Reading.{field, flag_at, cause_of, tree_at, served, answered, closed, old_started, old_set_aside, old_record_of_kind, old_record_of};
+ghost use Rattle.exam_records.specs.Spelling.{payload_of, old_payload_of};
+ghost use Rattle.exam_records.specs.Reading.{field, flag_at, count_at, band_at, bands_at, cause_of, tree_at, served, answered, closed, shared_of_kind, started, set_aside, record_of_kind, record_of, old_started, old_set_aside, old_record_of_kind, old_record_of};
 
 use crate::fault::RecordFault;
 use crate::record::Record;
@@ -80,6 +81,45 @@ fn flag_of(bytes: &[u8], at: usize) -> Result<bool, RecordFault>
         return Err(RecordFault::Field(at as u64));
     }
     Ok(byte == 1)
+}
+
+/// A number of bands.
+#[tactic(auto, unfolding(crate::specs::Reading::count_at))]
+fn count_of(bytes: &[u8], at: usize) -> Result<u8, RecordFault>
+    ensures count { result ≡ count_at bytes.now at }
+    ensures few { IfOk result (λ count. count ≤ 8) }
+    ensures there { OnOk result (at + 1 ≤ length bytes.now) }
+{
+    let count = byte_of(bytes, at)?;
+    if count == 0 || 8 < count {
+        return Err(RecordFault::Field(at as u64));
+    }
+    Ok(count)
+}
+
+#[tactic(auto, unfolding(crate::specs::Reading::band_at))]
+fn band_of(bytes: &[u8], at: usize) -> Result<u8, RecordFault>
+    ensures band { result ≡ band_at bytes.now at }
+    ensures there { OnOk result (at + 1 ≤ length bytes.now) }
+{
+    let band = byte_of(bytes, at)?;
+    if 7 < band {
+        return Err(RecordFault::Field(at as u64));
+    }
+    Ok(band)
+}
+
+/// The number of bands, and the set of each.
+#[tactic(auto, unfolding(crate::specs::Reading::bands_at))]
+fn bands_of(bytes: &[u8], at: usize) -> Result<Bands, RecordFault>
+    ensures { result ≡ bands_at bytes.now at }
+{
+    let count = count_of(bytes, at)?;
+    let mut sets = [no_items(); 8];
+    for band in 0..count {
+        sets[band as usize] = set_of(bytes, at + 1 + 64 * band as usize)?;
+    }
+    Ok(Bands { count, sets })
 }
 
 fn cause(spent: bool) -> Cause
@@ -162,6 +202,112 @@ fn closed(bytes: &[u8]) -> Result<(Record, usize), RecordFault>
     Ok((Record { entry, tree: None }, 5))
 }
 
+/// The kinds that are the same in both versions of the journal.
+#[tactic(auto, unfolding(crate::specs::Reading::shared_of_kind))]
+fn shared_of_kind(alloc: Global, kind: u8, bytes: &[u8]) -> Result<(Record, usize), RecordFault>
+    requires { 1 ≤ length bytes.now }
+    ensures { Gives Memory (λ x. x) result (shared_of_kind kind bytes.now) }
+{
+    match kind {
+        3 => served(alloc, bytes),
+        4 => answered(bytes),
+        5 => closed(bytes),
+        _ => Err(RecordFault::Kind(0)),
+    }
+}
+
+/// The record that ends at a place, where the payload is to end.
+fn whole(rec: Record, next: usize, payload: &[u8]) -> Result<Record, RecordFault>
+    ensures { result
+        ≡ unless (fault_where (nat_lt next (length payload.now)) (Extra next)) (Ok rec) }
+{
+    if next < payload.len() {
+        return Err(RecordFault::Extra(next as u64));
+    }
+    Ok(rec)
+}
+
+#[tactic(auto, unfolding(crate::specs::Reading::started))]
+fn started(bytes: &[u8]) -> Result<(Record, usize), RecordFault>
+    requires { 1 ≤ length bytes.now }
+    ensures { result ≡ started bytes.now }
+{
+    let session = u32_of(bytes, 1)?;
+    let booking = u64_of(bytes, 5)?;
+    let eligible = bands_of(bytes, 13)?;
+    let next = 14 + 64 * eligible.count as usize;
+    let entry = Entry::Started {
+        session,
+        booking,
+        eligible,
+        without: None,
+    };
+    Ok((Record { entry, tree: None }, next))
+}
+
+#[tactic(auto, unfolding(crate::specs::Reading::set_aside))]
+fn set_aside(alloc: Global, bytes: &[u8]) -> Result<(Record, usize), RecordFault>
+    requires { 1 ≤ length bytes.now }
+    ensures { Gives Memory (λ x. x) result (set_aside bytes.now) }
+{
+    let session = u32_of(bytes, 1)?;
+    let step = u16_of(bytes, 5)?;
+    let band = band_of(bytes, 7)?;
+    let spent = flag_of(bytes, 8)?;
+    let nodes = u16_of(bytes, 9)?;
+    let (tree, next) = tree_of(alloc, nodes, bytes, 11)?;
+    let entry = Entry::SetAside {
+        session,
+        step,
+        band,
+        cause: cause(spent),
+        nodes,
+    };
+    Ok((
+        Record {
+            entry,
+            tree: Some(tree),
+        },
+        next,
+    ))
+}
+
+#[tactic(auto, unfolding(crate::specs::Reading::record_of_kind))]
+fn record_of_kind(alloc: Global, kind: u8, bytes: &[u8]) -> Result<(Record, usize), RecordFault>
+    requires { 1 ≤ length bytes.now }
+    ensures { Gives Memory (λ x. x) result (record_of_kind kind bytes.now) }
+{
+    match kind {
+        6 => started(bytes),
+        7 => set_aside(alloc, bytes),
+        _ => shared_of_kind(alloc, kind, bytes),
+    }
+}
+
+#[tactic(auto, unfolding(crate::specs::Reading::record_of, crate::specs::Reading::record_by))]
+fn record_of(alloc: Global, payload: &[u8]) -> Result<Record, RecordFault>
+    ensures { Gives Memory (λ x. x) result (record_of payload.now) }
+{
+    let kind = byte_of(payload, 0)?;
+    let (rec, next) = record_of_kind(alloc, kind, payload)?;
+    whole(rec, next, payload)
+}
+
+/// The record that the payload spells, all of its bytes, in the second version of the journal. The payload is the bytes of
+/// one record: the kind in a byte, the fields of the entry, and the tree where there is one; numbers are big-endian
+/// (docs/FORMATS.md has the table). Fails with the first fault in the order of reading, or out of memory.
+pub fn decode(alloc: Global, payload: &[u8]) -> Result<Record, RecordFault>
+    // What is read is a record, and the payload its one spelling.
+    ensures found { IfOk result (λ rec. IsRecord rec × (payload.now ≡ payload_of rec)) }
+    // What is spelled so is read, unless memory runs out.
+    ensures only { (r : Record) → IsRecord r → payload.now ≡ payload_of r
+        → Gives Memory (λ x. x) result (Ok r) }
+    // Which fault it is, and where.
+    ensures exact { Gives Memory (λ x. x) result (record_of payload.now) }
+{
+    record_of(alloc, payload)
+}
+
 /// One eligible set.
 fn one_band(eligible: ItemSet) -> Bands
     ensures { result ≡ one_band eligible }
@@ -221,10 +367,7 @@ fn old_record_of_kind(alloc: Global, kind: u8, bytes: &[u8]) -> Result<(Record, 
     match kind {
         1 => old_started(bytes),
         2 => old_set_aside(alloc, bytes),
-        3 => served(alloc, bytes),
-        4 => answered(bytes),
-        5 => closed(bytes),
-        _ => Err(RecordFault::Kind(0)),
+        _ => shared_of_kind(alloc, kind, bytes),
     }
 }
 
@@ -234,10 +377,7 @@ fn old_record_of(alloc: Global, payload: &[u8]) -> Result<Record, RecordFault>
 {
     let kind = byte_of(payload, 0)?;
     let (rec, next) = old_record_of_kind(alloc, kind, payload)?;
-    if next < payload.len() {
-        return Err(RecordFault::Extra(next as u64));
-    }
-    Ok(rec)
+    whole(rec, next, payload)
 }
 
 /// The record that the payload spells, all of its bytes, in the first version of the journal: a start has one eligible set,

@@ -1,16 +1,16 @@
 //! Writing a record.
 
-ghost use Rattle.std.specs.Prelude.{◌≡◌, ◌≤◌, ◌<◌, ◌∷◌, ◌++◌, length, OnOk, IfOk};
-ghost use Rattle.std.specs.Int.{w32, to_be_bytes};
+ghost use Rattle.std.specs.Prelude.{◌≡◌, ◌≤◌, ◌<◌, ◌∷◌, ◌++◌, [], length, OnOk, IfOk};
+ghost use Rattle.std.specs.Int.{w16, w32, w64, to_be_bytes};
 ghost use Rattle.std.specs.Option.{option_copied};
 ghost use Rattle.exam_records.specs.Shape.{GoesWith, HasBands, IsRecord};
-ghost use Rattle.exam_records.specs.Spelling.{cause_byte, served_bytes, tree_bytes, old_entry_bytes, old_payload_of};
+ghost use Rattle.exam_records.specs.Spelling.{cause_byte, served_bytes, answered_bytes, tree_bytes, sets_bytes, entry_bytes, payload_of, old_entry_bytes, old_payload_of};
 
 use crate::record::Record;
 use crate::sets::{push_set, set_in};
 use crate::spellable::is_record;
 use bank_tables::ItemSet;
-use history_model::{Cause, Entry};
+use history_model::{Bands, Cause, Entry};
 use proof_tree::{Memory, Tree};
 use std::alloc::{AllocError, Global};
 
@@ -52,6 +52,100 @@ fn push_served(
     out.extend_from_slice(&nodes.to_be_bytes())
 }
 
+/// The bytes of the entry of an answer.
+fn push_answered(out: &mut Vec<u8>, session: u32, step: u16, response: u8) -> Result<(), AllocError>
+    ensures { OnOk result (out.new.items ≡ out.old.items ++ answered_bytes session step response) }
+{
+    push_front(out, 4, session)?;
+    out.extend_from_slice(&step.to_be_bytes())?;
+    out.extend_from_slice(&[response])
+}
+
+/// The set of each band that counts.
+#[tactic(auto, unfolding(crate::specs::Spelling::sets_bytes))]
+fn push_sets(out: &mut Vec<u8>, eligible: &Bands) -> Result<(), AllocError>
+    requires { eligible.now.count ≤ 8 }
+    ensures { OnOk result (out.new.items
+        ≡ out.old.items ++ sets_bytes eligible.now.count eligible.now.sets) }
+{
+    for band in 0..eligible.count {
+        push_set(out, &set_in(&eligible.sets, band))?;
+    }
+    Ok(())
+}
+
+/// The bytes of the entry of a start.
+fn push_started(
+    out: &mut Vec<u8>,
+    session: u32,
+    booking: u64,
+    eligible: &Bands,
+) -> Result<(), AllocError>
+    requires { eligible.now.count ≤ 8 }
+    ensures { OnOk result (out.new.items ≡ out.old.items ++ 6 ∷ (to_be_bytes w32 session
+        ++ (to_be_bytes w64 booking
+        ++ eligible.now.count ∷ sets_bytes eligible.now.count eligible.now.sets))) }
+{
+    push_front(out, 6, session)?;
+    out.extend_from_slice(&booking.to_be_bytes())?;
+    out.push(eligible.count)?;
+    push_sets(out, eligible)
+}
+
+/// The bytes of the entry of a setting aside.
+fn push_set_aside(
+    out: &mut Vec<u8>,
+    session: u32,
+    step: u16,
+    band: u8,
+    cause: &Cause,
+    nodes: u16,
+) -> Result<(), AllocError>
+    ensures { OnOk result (out.new.items ≡ out.old.items ++ 7 ∷ (to_be_bytes w32 session
+        ++ (to_be_bytes w16 step ++ band ∷ cause_byte cause.now ∷ to_be_bytes w16 nodes))) }
+{
+    push_front(out, 7, session)?;
+    out.extend_from_slice(&step.to_be_bytes())?;
+    out.extend_from_slice(&[band, cause_byte(cause)])?;
+    out.extend_from_slice(&nodes.to_be_bytes())
+}
+
+#[tactic(auto, unfolding(crate::specs::Spelling::entry_bytes))]
+fn push_entry(out: &mut Vec<u8>, entry: &Entry) -> Result<(), AllocError>
+    requires { HasBands entry.now }
+    ensures { OnOk result (out.new.items ≡ out.old.items ++ entry_bytes entry.now) }
+{
+    match entry {
+        Entry::Started {
+            session,
+            booking,
+            eligible,
+            ..
+        } => push_started(out, *session, *booking, eligible),
+        Entry::SetAside {
+            session,
+            step,
+            band,
+            cause,
+            nodes,
+        } => push_set_aside(out, *session, *step, *band, cause, *nodes),
+        Entry::Served {
+            session,
+            step,
+            item,
+            form,
+            proved,
+            nodes,
+        } => push_served(out, *session, *step, *item, form, *proved, *nodes),
+        Entry::Answered {
+            session,
+            step,
+            response,
+        } => push_answered(out, *session, *step, *response),
+        Entry::Closed { session } => push_front(out, 5, *session),
+    }
+}
+
 #[tactic(auto, unfolding(crate::specs::Spelling::old_entry_bytes))]
 fn push_old_entry(out: &mut Vec<u8>, first: u8, entry: &Entry) -> Result<(), AllocError>
     requires { first < 8 }
@@ -90,11 +184,7 @@ fn push_old_entry(out: &mut Vec<u8>, first: u8, entry: &Entry) -> Result<(), All
             session,
             step,
             response,
-        } => {
-            push_front(out, 4, *session)?;
-            out.extend_from_slice(&step.to_be_bytes())?;
-            out.extend_from_slice(&[*response])
-        }
+        } => push_answered(out, *session, *step, *response),
         Entry::Closed { session } => push_front(out, 5, *session),
     }
 }
@@ -107,6 +197,40 @@ fn push_tree(alloc: Global, out: &mut Vec<u8>, tree: Option<&Tree>) -> Result<()
         out.extend_from_slice(&bytes)?;
     }
     Ok(())
+}
+
+/// The spelling of the record of an entry and its tree in the second version of the journal, at most 86,600 bytes. The
+/// conditions are that there is a tree exactly where the entry is SetAside or Served, that the entry's number of nodes is the
+/// tree's, that a start has 1 to 8 bands that count and no items in the others, and no list, and that the band of a setting
+/// aside is below 8. Fails only where it is out of memory.
+#[tactic(auto, unfolding(crate::specs::Spelling::payload_of))]
+pub fn encode_parts(alloc: Global, entry: &Entry, tree: Option<&Tree>) -> Result<Vec<u8>, Memory>
+    requires tree { GoesWith entry.now (option_copied tree) }
+    requires bands { HasBands entry.now }
+    ensures spelling { IfOk result (λ bytes. bytes.items
+        ≡ payload_of (record { entry = entry.now; tree = option_copied tree.entry })) }
+    // The entry and its tree are a record.
+    ensures is_record { IsRecord (record { entry = entry.now; tree = option_copied tree.entry }) }
+    ensures some { IfOk result (λ bytes. 0 < length bytes.items) }
+    ensures few { IfOk result (λ bytes. length bytes.items ≤ 86600) }
+{
+    is_record(entry, tree);
+    let mut out = Vec::new(alloc);
+    push_entry(&mut out, entry)?;
+    push_tree(alloc, &mut out, tree)?;
+    Ok(out)
+}
+
+/// The spelling of the record in the second version of the journal, as that of its entry and its tree.
+pub fn encode(alloc: Global, rec: &Record) -> Result<Vec<u8>, Memory>
+    requires tree { GoesWith rec.now.entry rec.now.tree }
+    requires bands { HasBands rec.now.entry }
+    ensures spelling { IfOk result (λ bytes. bytes.items ≡ payload_of rec.now) }
+    ensures is_record { IsRecord rec.now }
+    ensures some { IfOk result (λ bytes. 0 < length bytes.items) }
+    ensures few { IfOk result (λ bytes. length bytes.items ≤ 86600) }
+{
+    encode_parts(alloc, &rec.entry, rec.tree.as_ref())
 }
 
 /// The spelling of the record of an entry and its tree in the first version of the journal, at most 86,600 bytes. Of a

@@ -1,10 +1,10 @@
 //! Sessions under plans with bands of abilities: their items, the exposure, journals that go on, and what is refused.
 
-use crate::outcome::{CHECK, REPLAY, goes_on, prints};
-use trial_cases::BANK_A;
+use crate::outcome::{CHECK, REPLAY, audits, goes_on, prints};
+use trial_cases::{BANK_A, PLAN_A};
 
 /// Bank A, but response 1 to item 5 raises the estimate.
-const BANK_UP: &str = "item,stimulus,categories,i0,i1,i2,l0_0,l0_1,l0_2,l1_0,l1_1,l1_2
+pub const BANK_UP: &str = "item,stimulus,categories,i0,i1,i2,l0_0,l0_1,l0_2,l1_0,l1_1,l1_2
 0,0,2,9,5,1,-7,-7,-7,-7,-7,-7
 1,0,2,7,8,2,-7,-7,-7,-7,-7,-7
 2,0,2,4,9,3,-7,-7,-7,-30,-15,-1
@@ -13,7 +13,7 @@ const BANK_UP: &str = "item,stimulus,categories,i0,i1,i2,l0_0,l0_1,l0_2,l1_0,l1_
 5,0,2,3,7,5,-7,-7,-7,-30,-15,-1
 ";
 
-const PLAN_UP: &str = "length 3
+pub const PLAN_UP: &str = "length 3
 prior -10 0 -10
 count 1 1 0-1
 enemies 2 5
@@ -60,6 +60,10 @@ bands 1
 
 const BEGUN_TWO: &str =
     "begin 70\nanswer 0 0 1\nanswer 0 1 0\nbegin 71\nanswer 1 0 1\nanswer 1 1 0\nbegin 72\n";
+
+/// Three sessions. Eligibility is set aside for the last one in both bands.
+const SCRIPT_TWO: &str =
+    "begin 70\nanswer 0 0 1\nanswer 0 1 0\nbegin 71\nanswer 1 0 1\nanswer 1 1 0\nbegin 72\nanswer 2 0 1\nanswer 2 1 0\n";
 
 const LINES_BEGUN: &str = "session 0 step 0 item 0 proved
 session 0 step 1 item 1 proved
@@ -116,8 +120,6 @@ session 1 step 2 item 0 proved
 /// A session for which eligibility was set aside in both bands is read again from its journal.
 #[test]
 fn a_journal_with_bands_is_read_again(rt: HostRuntime) {
-    let all =
-        "begin 70\nanswer 0 0 1\nanswer 0 1 0\nbegin 71\nanswer 1 0 1\nanswer 1 1 0\nbegin 72\nanswer 2 0 1\nanswer 2 1 0\n";
     let again = "answer 2 1 0\nanswer 2 0 0\nexposure\n";
     let lines = "session 2 complete
 refused other 1
@@ -128,10 +130,78 @@ item 2 shown 1 eligible 3
 ";
     goes_on(
         &rt,
-        &[BANK_TWO, PLAN_TWO, all],
+        &[BANK_TWO, PLAN_TWO, SCRIPT_TWO],
         &[BANK_TWO, PLAN_TWO, again],
         lines,
     );
+}
+
+/// What an audit finds after `SCRIPT_UP`. Item 1 counts in both bands, and twice in all; session 0 did not visit the upper one.
+const AUDIT_UP: [&str; 2] = [
+    "entries 14 sessions 2 finished 2 proved 6 unproved 0 aside 0 nodes ",
+    "
+exposure finished 2
+item 0 shown 0 eligible 2
+item 1 shown 2 eligible 2
+item 2 shown 1 eligible 2
+item 3 shown 1 eligible 2
+item 4 shown 1 eligible 2
+item 5 shown 1 eligible 2
+band 0 visited 2
+band 0 item 0 shown 0 eligible 2
+band 0 item 1 shown 1 eligible 1
+band 0 item 2 shown 1 eligible 1
+band 0 item 3 shown 1 eligible 1
+band 0 item 4 shown 0 eligible 2
+band 0 item 5 shown 1 eligible 2
+band 1 visited 1
+band 1 item 0 shown 0 eligible 1
+band 1 item 1 shown 1 eligible 1
+band 1 item 2 shown 0 eligible 1
+band 1 item 3 shown 0 eligible 1
+band 1 item 4 shown 1 eligible 1
+band 1 item 5 shown 0 eligible 1
+",
+];
+
+/// What an audit finds after `SCRIPT_TWO`.
+const AUDIT_TWO: [&str; 2] = [
+    "entries 17 sessions 3 finished 3 proved 6 unproved 0 aside 2 nodes ",
+    "
+exposure finished 3
+item 0 shown 2 eligible 3
+item 1 shown 3 eligible 3
+item 2 shown 1 eligible 3
+band 0 visited 3
+band 0 item 0 shown 2 eligible 2
+band 0 item 1 shown 1 eligible 3
+band 0 item 2 shown 0 eligible 3
+band 1 visited 3
+band 1 item 0 shown 0 eligible 3
+band 1 item 1 shown 2 eligible 2
+band 1 item 2 shown 1 eligible 3
+",
+];
+
+/// Under a plan of one band an audit prints no line of a band.
+const AUDIT_ONE: [&str; 2] = [
+    "entries 3 sessions 1 finished 1 proved 1 unproved 0 aside 0 nodes ",
+    "
+exposure finished 1
+item 0 shown 0 eligible 1
+item 1 shown 0 eligible 1
+item 2 shown 1 eligible 1
+item 3 shown 0 eligible 1
+item 4 shown 0 eligible 1
+item 5 shown 0 eligible 1
+",
+];
+
+#[test]
+fn exposure_by_band(rt: HostRuntime) {
+    audits(&rt, &[BANK_UP, PLAN_UP, SCRIPT_UP], &AUDIT_UP);
+    audits(&rt, &[BANK_TWO, PLAN_TWO, SCRIPT_TWO], &AUDIT_TWO);
+    audits(&rt, &[BANK_A, PLAN_A, "begin 70\nclose 0\n"], &AUDIT_ONE);
 }
 
 /// Points at which no band begins: one that is not of the grid of three points, the lowest one, two that do not rise, and

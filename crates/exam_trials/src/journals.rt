@@ -67,7 +67,7 @@ fn ends_front<R: Abort + AllocGlobal + Threads + Wait + Sync>(rt: &R, whole: &[u
     requires { size ≤ length whole.now }
 {
     if size <= 9 {
-        ends(rt, &replayed(rt, "", &whole[..size]), 0, b"", b"SHADOWJ1\0");
+        ends(rt, &replayed(rt, "", &whole[..size]), 0, b"", b"SHADOWJ2\0");
     } else {
         ends_cut(rt, whole, size);
     }
@@ -91,5 +91,5 @@ fn an_altered_gate_is_closed(rt: HostRuntime) {
         ran.journal[8] = 0x81;
     }
     let ran = replayed(&rt, "look 0\n", &ran.journal);
-    ends(&rt, &ran, 0, b"refused no-session 0\n", b"SHADOWJ1\x81");
+    ends(&rt, &ran, 0, b"refused no-session 0\n", b"SHADOWJ2\x81");
 }

@@ -1,6 +1,5 @@
 //! The program over files, a sink and a disk in memory.
 
-ghost use Rattle.answer_journal.specs.Frames.{shadowj1};
 ghost use Rattle.answer_journal.specs.Standing.{IsAsLeft};
 ghost use Rattle.exam_edge.specs.MemoryDisk.{accounts_of};
 
@@ -15,6 +14,10 @@ use std::thread::Threads;
 pub const REPLAY: [&str; 4] = ["replay", "bank", "plan", "script"];
 
 pub const CHECK: [&str; 3] = ["check", "bank", "plan"];
+
+pub const AUDIT: [&str; 3] = ["audit", "bank", "plan"];
+
+pub const MIGRATE: [&str; 3] = ["migrate", "bank", "plan"];
 
 pub const ASSEMBLE: [&str; 3] = ["assemble", "bank", "plan"];
 
@@ -92,7 +95,7 @@ fn sink_of<R: Abort>(rt: &R, alloc: Global, fails: &[u64]) -> MemorySink {
 
 /// A disk with this journal; these calls of it fail.
 fn disk_of<R: Abort>(rt: &R, alloc: Global, journal: &[u8], fails: &[u64]) -> MemoryDisk
-    ensures { IsAsLeft shadowj1 (accounts_of result) }
+    ensures { IsAsLeft (accounts_of result) }
 {
     let journal = bytes_of(rt, alloc, journal);
     MemoryDisk::of(alloc, journal, numbers_of(rt, alloc, fails))
@@ -104,7 +107,7 @@ pub fn tools_of<R: Abort>(
     texts: &[&str; 3],
     given: &Given<'_>,
 ) -> Tools<MemoryFiles, MemorySink, MemoryDisk>
-    ensures { IsAsLeft shadowj1 (accounts_of result.disk) }
+    ensures { IsAsLeft (accounts_of result.disk) }
 {
     Tools {
         files: memory_files(rt, alloc, texts, given.files),
@@ -191,4 +194,19 @@ pub fn goes_on<R: Abort + AllocGlobal + Threads + Wait + Sync>(
 ) {
     let ran = outcome(rt, &REPLAY, first, &CALM);
     prints_over(rt, &ran.journal, second, text);
+}
+
+/// The audit of the journal that a replay left prints a text that begins and ends so, and leaves the journal as it was.
+pub fn audits<R: Abort + AllocGlobal + Threads + Wait + Sync>(
+    rt: &R,
+    texts: &[&str; 3],
+    ends: &[&str; 2],
+) {
+    let ran = outcome(rt, &REPLAY, texts, &CALM);
+    let journal = ran.journal.as_slice();
+    let found = outcome(rt, &AUDIT, texts, &Given { journal, ..CALM });
+    is_equal(rt, &found.status, &0);
+    assert!(rt; found.text.starts_with(ends[0].as_bytes()));
+    assert!(rt; found.text.ends_with(ends[1].as_bytes()));
+    has_bytes(rt, &found.journal, journal);
 }

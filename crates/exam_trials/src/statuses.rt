@@ -57,7 +57,7 @@ const FAULTY: [[&str; 3]; 3] = [
 ];
 
 const USAGE: &str =
-    "usage: shadowd check BANK PLAN | assemble BANK PLAN | replay BANK PLAN SCRIPT | serve BANK PLAN | audit BANK PLAN | drill NUMBER SESSIONS\n";
+    "usage: shadowd check BANK PLAN | assemble BANK PLAN | replay BANK PLAN SCRIPT | serve BANK PLAN | audit BANK PLAN | drill NUMBER SESSIONS | migrate BANK PLAN\n";
 
 #[test]
 fn faulty_words(rt: HostRuntime) {
@@ -109,10 +109,10 @@ const REPLAYED: [(&str, &str, u8, &str); 4] = [
     (PLAN_A, "", 0, ""),
     // A limit of the journal, and one of the sessions.
     (
-        "length 3\nprior -10 0 -10\ncount 1 1 0-1\nenemies 2 5\njournal 90\n",
+        "length 3\nprior -10 0 -10\ncount 1 1 0-1\nenemies 2 5\njournal 91\n",
         "begin 70\n",
         13,
-        "limit journal 91 of 90\n",
+        "limit journal 92 of 91\n",
     ),
     (
         "length 3\nprior -10 0 -10\ncount 1 1 0-1\nenemies 2 5\nsessions 1\n",
@@ -129,11 +129,20 @@ fn what_replay_prints(rt: HostRuntime) {
     }
 }
 
-/// Files that are no journal, each with the text of its fault.
-const NO_JOURNALS: [(&str, &str); 3] = [
+/// Files that are refused, each with the text of its fault. One of the first version is refused for that only where nothing is
+/// wrong with its frames; then it may have no record, or one that no version has. A mark is no record of the second version.
+const NO_JOURNALS: [(&str, &str); 8] = [
     ("no journal", "journal: header\n"),
-    ("SHADOWJ1\u{1}\0\0\0\u{1}\u{9}\0", "journal: record at 8\n"),
+    ("SHADOWJ2\u{1}\0\0\0\u{1}\u{9}\0", "journal: record at 8\n"),
+    ("SHADOWJ2\u{1}\0\0\0\u{1}\u{8}\0", "journal: record at 8\n"),
+    ("SHADOWJ2\u{1}\0\0\0\0\0", "journal: length at 8\n"),
+    ("SHADOWJ1\u{1}\0\0\0\u{1}\u{9}\0", "journal: version\n"),
+    ("SHADOWJ1\0\0", "journal: version\n"),
     ("SHADOWJ1\u{1}\0\0\0\0\0", "journal: length at 8\n"),
+    (
+        "SHADOWJ1\u{1}\0\0\0\u{1}\u{8}\u{1}\0\0\0\u{1}\u{9}\0",
+        "journal: record at 14\n",
+    ),
 ];
 
 /// A file that is refused is left as it was.

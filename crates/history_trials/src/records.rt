@@ -1,12 +1,14 @@
-//! The payloads of records in the first version of the journal: the worked ones, read and written again, and each fault that they can have at its place.
+//! The payloads of records in both versions of the journal: the worked ones, read and written again, and each fault that they can have at its place.
 
 ghost use Rattle.std.specs.Prelude.{IsTrue};
 ghost use Rattle.std.specs.Option.{option_copied};
-ghost use Rattle.exam_records.specs.Shape.{GoesWith};
+ghost use Rattle.exam_records.specs.Shape.{GoesWith, HasBands};
 
 use crate::equal::is_equal;
 use crate::worked::{FIRST_BEST, Line, Shape, entry_of, record, tree_bytes};
-use exam_records::{Entry, Record, RecordFault, decode_old, encode_old, encode_old_parts};
+use exam_records::{
+    Entry, Record, RecordFault, decode, decode_old, encode, encode_old, encode_old_parts,
+};
 use proof_tree::Tree;
 use std::alloc::Global;
 use std::process::Abort;
@@ -20,6 +22,9 @@ const ANSWERED: &[u8] = &[4, 0, 0, 0, 0, 0, 0, 1];
 /// Session 0 starts for booking 70, with items 0 to 5 eligible: the last byte here is the first of
 /// a set of items.
 const STARTED: &[u8] = &[1, 0, 0, 0, 0, 0, 0, 0, 0, 0, 0, 0, 70, 0x3f];
+
+/// The same without the number of bands and the sets, in the second version.
+const STARTED_NOW: &[u8] = &[6, 0, 0, 0, 0, 0, 0, 0, 0, 0, 0, 0, 70];
 
 /// Item 2 is served at step 0 of session 0, from the form {1, 2, 3}.
 const SERVED: &[u8] = &[3, 0, 0, 0, 0, 0, 0, 0, 2, 0x0e];
@@ -168,5 +173,78 @@ fn has_fault<R: Abort>(rt: &R, alloc: Global, parts: Parts, fault: RecordFault) 
 fn faults(rt: HostRuntime) {
     for (parts, fault) in &FAULTS {
         has_fault(&rt, rt.alloc(), parts, *fault);
+    }
+}
+
+/// Payloads of the second version with their lengths and their records.
+const WORKED_NOW: [(Parts, usize, Line); 4] = [
+    (&[ANSWERED], 8, Line::Answered(0, (0, 1), Shape::NoTree)),
+    (
+        &[STARTED_NOW, &[1, 0x3f], REST],
+        78,
+        Line::Started(0, 70, 0x3f),
+    ),
+    (
+        &[STARTED_NOW, &[2, 0x3f], REST, &[0x31], REST],
+        142,
+        Line::StartedInTwo(0, 70, [0x3f, 0x31]),
+    ),
+    (
+        &[&[7, 0, 0, 0, 0, 0, 2, 1, 1, 0, 1, 0, 7]],
+        13,
+        Line::SetAside(0, (2, 1), Shape::Open),
+    ),
+];
+
+/// The record has the entry and the tree of this line, and is spelled with these bytes.
+fn shows_now<R: Abort>(rt: &R, alloc: Global, rec: &Record, line: &Line, bytes: &[u8])
+    requires tree { GoesWith rec.now.entry rec.now.tree }
+    requires bands { HasBands rec.now.entry }
+{
+    is_equal(rt, &rec.entry, &entry_of(line));
+    has_tree(rt, alloc, rec, tree_bytes(line));
+    let found = encode(alloc, rec).expect(rt, "a payload");
+    is_equal(rt, &found.as_slice(), &bytes);
+}
+
+fn is_worked_now<R: Abort>(rt: &R, alloc: Global, parts: Parts, length: usize, line: &Line) {
+    let bytes = joined(rt, alloc, parts);
+    is_equal(rt, &bytes.len(), &length);
+    match decode(alloc, &bytes) {
+        Ok(rec) => shows_now(rt, alloc, &rec, line, &bytes),
+        Err(_) => panic!(rt; "no record"),
+    }
+}
+
+#[test]
+fn worked_records_now(rt: HostRuntime) {
+    for (parts, length, line) in &WORKED_NOW {
+        is_worked_now(&rt, rt.alloc(), parts, *length, line);
+    }
+}
+
+/// Payloads of the second version, each with its fault.
+const FAULTS_NOW: [(Parts, RecordFault); 8] = [
+    (&[&[6]], RecordFault::Short),
+    (&[&[1]], RecordFault::Kind(0)),
+    (&[&[8]], RecordFault::Kind(0)),
+    (&[ANSWERED, &[0]], RecordFault::Extra(8)),
+    // The number of bands, which is read before what is cut off.
+    (&[STARTED_NOW, &[0]], RecordFault::Field(13)),
+    (&[STARTED_NOW, &[9]], RecordFault::Field(13)),
+    (&[STARTED_NOW, &[2, 0x3f], REST], RecordFault::Short),
+    // The band.
+    (&[&[7, 0, 0, 0, 0, 0, 2, 8]], RecordFault::Field(7)),
+];
+
+fn has_fault_now<R: Abort>(rt: &R, alloc: Global, parts: Parts, fault: RecordFault) {
+    let bytes = joined(rt, alloc, parts);
+    is_equal(rt, &decode(alloc, &bytes).err(), &Some(fault));
+}
+
+#[test]
+fn faults_now(rt: HostRuntime) {
+    for (parts, fault) in &FAULTS_NOW {
+        has_fault_now(&rt, rt.alloc(), parts, *fault);
     }
 }

@@ -5,13 +5,14 @@ ghost use Rattle.form_model.specs.Validity.{IsPlanFor};
 ghost use Rattle.exam_edge.specs.Faults.{Rose};
 ghost use Rattle.exam_edge.specs.Lent.{IsLent};
 ghost use Rattle.exam_edge.specs.Images.{AtEachMoment, IsImage, IsSettled, latest};
-ghost use Rattle.answer_journal.specs.Frames.{payloads, shadowj1};
-ghost use Rattle.answer_journal.specs.Standing.{IsAsLeft, payload_list};
-ghost use Rattle.exam_office.specs.Opening.{IsOpenAnswer};
+ghost use Rattle.answer_journal.specs.Standing.{IsAsLeft};
+ghost use Rattle.answer_journal.specs.Versions.{contents, counted_in};
+ghost use Rattle.answer_journal.specs.Walk.{first_gate};
+ghost use Rattle.exam_office.specs.Opening.{IsReadAnswer};
 ghost use Rattle.exam_office.specs.declared.fault.OpenFault.TheVariants.{Disk as OfDisk};
 ghost use Rattle.journal_audit.specs.Audit.{IsAudit};
 
-use crate::report::exposure_of;
+use crate::report::report_of;
 use answer_journal::{Journal, Walk};
 use bank_tables::Bank;
 use constraint_model::Spec;
@@ -26,16 +27,20 @@ fn audit_walk<D: Disk>(
     bank: &Bank,
     spec: &Spec,
     walk: &mut Walk<D>,
-) -> Result<(Summary, Exposure), OpenFault>
+) -> Result<(Summary, Exposure, Vec<Exposure>), OpenFault>
     requires plan { IsPlanFor bank.now spec.now }
-    requires start { (walk.old.at ≡ 8) × (walk.old.given ≡ 0) }
-    requires gives { IsTrue (D.tells walk.old.disk)
-        → payloads shadowj1 (D.content walk.old.disk)
-        ≡ Some (payload_list shadowj1 (D.content walk.old.disk)) }
+    requires start { walk.old.given ≡ 0 }
+    requires place { IsTrue (D.tells walk.old.disk)
+        → walk.old.at ≡ first_gate (D.content walk.old.disk) }
+    requires version { IsTrue (D.tells walk.old.disk)
+        → walk.old.record_version ≡ (counted_in (D.content walk.old.disk)).version }
+    requires gives { IsTrue (D.tells walk.old.disk) → contents (D.content walk.old.disk)
+        ≡ Some (counted_in (D.content walk.old.disk)) }
     ensures found { IfOk result (λ found. IsTrue (D.tells walk.old.disk)
-        → IsAudit bank.now spec.now (D.content walk.old.disk) found.0 found.1) }
+        → IsAudit bank.now spec.now (D.content walk.old.disk) found.0 found.1
+        found.2.items) }
     ensures why { IfErr result (λ e. IsTrue (D.tells walk.old.disk)
-        → IsOpenAnswer bank.now spec.now (D.content walk.old.disk) e) }
+        → IsReadAnswer bank.now spec.now (D.content walk.old.disk) e) }
     ensures cause { IfErr result (λ e. e ≡ OfDisk
         → Rose (D.faults walk.old.disk) (D.faults walk.new.disk)) }
     ensures content { IsTrue (D.tells walk.old.disk)
@@ -51,8 +56,8 @@ fn audit_walk<D: Disk>(
         Ok(found) => found,
         Err(fault) => return Err(fault),
     };
-    match exposure_of(alloc, &book) {
-        Ok(exposure) => Ok((book.summary(), exposure)),
+    match report_of(alloc, &book) {
+        Ok(found) => Ok(found),
         Err(_) => Err(OpenFault::Memory),
     }
 }
@@ -63,14 +68,15 @@ fn audit_into<D: Disk>(
     bank: &Bank,
     spec: &Spec,
     disk: D,
-    answer: &mut Result<(Summary, Exposure), OpenFault>,
+    answer: &mut Result<(Summary, Exposure, Vec<Exposure>), OpenFault>,
 ) -> D
     requires plan { IsPlanFor bank.now spec.now }
-    requires left { IsTrue (D.tells disk) → IsAsLeft shadowj1 (D.accounts disk) }
+    requires left { IsTrue (D.tells disk) → IsAsLeft (D.accounts disk) }
     ensures found { IfOk answer.new (λ found. IsTrue (D.tells disk)
-        → IsAudit bank.now spec.now (D.content disk) found.0 found.1) }
+        → IsAudit bank.now spec.now (D.content disk) found.0 found.1
+        found.2.items) }
     ensures why { IfErr answer.new (λ e. IsTrue (D.tells disk)
-        → IsOpenAnswer bank.now spec.now (D.content disk) e) }
+        → IsReadAnswer bank.now spec.now (D.content disk) e) }
     ensures cause { IfErr answer.new (λ e. e ≡ OfDisk
         → Rose (D.faults disk) (D.faults result)) }
     ensures untouched { IsTrue (D.tells disk) → D.content result ≡ D.content disk }
@@ -92,25 +98,28 @@ fn audit_into<D: Disk>(
     walk.stop()
 }
 
-/// Judges every record of a journal, its proof tree included, and gives the summary and the
-/// exposure of the history that the file represents, or the fault that opening gives. It takes the
-/// memory of a book and one record. It syncs, writes nothing, and leaves the file as it was. What
-/// opening would cut is put aside, as opening does. The disk is as a reboot or a journal left it.
+/// Judges every record of a journal of either version, its proof tree included, and gives the
+/// summary and the exposure of the history that the file represents, in all and in each band of the
+/// plan, or what is wrong with the file; never that it is of the first version. It takes the memory
+/// of a book, one record and the counts. It syncs, writes nothing, and leaves the file as it was.
+/// What opening would cut is put aside, as opening does. The disk is as a reboot or a journal left
+/// it.
 pub fn audit<D: Disk>(
     alloc: Global,
     bank: &Bank,
     spec: &Spec,
     disk: &mut D,
-) -> Result<(Summary, Exposure), OpenFault>
+) -> Result<(Summary, Exposure, Vec<Exposure>), OpenFault>
     requires plan { IsPlanFor bank.now spec.now }
-    requires left { IsTrue (D.tells disk.old) → IsAsLeft shadowj1 (D.accounts disk.old) }
+    requires left { IsTrue (D.tells disk.old) → IsAsLeft (D.accounts disk.old) }
     // The file represents a history, and the numbers are those of that history.
     ensures found { IfOk result (λ found. IsTrue (D.tells disk.old)
-        → IsAudit bank.now spec.now (D.content disk.old) found.0 found.1) }
-    // What is wrong with the file, if anything is. Nothing is wrong with a file within the limit
-    // that represents a history.
+        → IsAudit bank.now spec.now (D.content disk.old) found.0 found.1
+        found.2.items) }
+    // What is wrong with the file, if anything is. Nothing is wrong with a file of either version
+    // within the limit that represents a history.
     ensures why { IfErr result (λ e. IsTrue (D.tells disk.old)
-        → IsOpenAnswer bank.now spec.now (D.content disk.old) e) }
+        → IsReadAnswer bank.now spec.now (D.content disk.old) e) }
     ensures cause { IfErr result (λ e. e ≡ OfDisk
         → Rose (D.faults disk.old) (D.faults disk.new)) }
     ensures untouched { IsTrue (D.tells disk.old) → D.content disk.new ≡ D.content disk.old }
@@ -136,13 +145,14 @@ pub fn audit_disk<D: Disk>(
     bank: &Bank,
     spec: &Spec,
     disk: D,
-) -> (D, Result<(Summary, Exposure), OpenFault>)
+) -> (D, Result<(Summary, Exposure, Vec<Exposure>), OpenFault>)
     requires plan { IsPlanFor bank.now spec.now }
-    requires left { IsTrue (D.tells disk) → IsAsLeft shadowj1 (D.accounts disk) }
+    requires left { IsTrue (D.tells disk) → IsAsLeft (D.accounts disk) }
     ensures found { IfOk result.1 (λ found. IsTrue (D.tells disk)
-        → IsAudit bank.now spec.now (D.content disk) found.0 found.1) }
+        → IsAudit bank.now spec.now (D.content disk) found.0 found.1
+        found.2.items) }
     ensures why { IfErr result.1 (λ e. IsTrue (D.tells disk)
-        → IsOpenAnswer bank.now spec.now (D.content disk) e) }
+        → IsReadAnswer bank.now spec.now (D.content disk) e) }
     ensures cause { IfErr result.1 (λ e. e ≡ OfDisk
         → Rose (D.faults disk) (D.faults result.0)) }
     ensures untouched { IsTrue (D.tells disk) → D.content result.0 ≡ D.content disk }

@@ -43,15 +43,25 @@ fn has_all_counts<R: Abort>(rt: &R, exposure: &Exposure, counts: &[Step]) {
     }
 }
 
-/// The audit finds this in the journal, and leaves the file as it was.
+/// The only band has the counts of the whole history.
+fn is_one_band<R: Abort>(rt: &R, bands: &[Exposure], expected: &Audited<'_>) {
+    is_equal(rt, &bands.len(), &1);
+    for band in bands {
+        is_equal(rt, &band.finished, &expected.summary.finished);
+        has_all_counts(rt, band, expected.counts);
+    }
+}
+
+/// The audit of a plan of one band finds this in the journal, and leaves the file as it was.
 fn is_found_over<R: Abort>(rt: &R, alloc: Global, bank: &Bank, spec: &Spec, expected: &Audited<'_>)
     requires { IsPlanFor bank.now spec.now }
 {
     let mut disk = disk_of(rt, alloc, &[expected.bytes], &[]);
-    let (summary, exposure) = audit(alloc, bank, spec, &mut disk).expect(rt, "a history");
+    let (summary, exposure, bands) = audit(alloc, bank, spec, &mut disk).expect(rt, "a history");
     is_equal(rt, &summary, &expected.summary);
     is_equal(rt, &exposure.finished, &expected.summary.finished);
     has_all_counts(rt, &exposure, expected.counts);
+    is_one_band(rt, &bands, expected);
     leaves(rt, disk.bytes(), expected.bytes);
 }
 

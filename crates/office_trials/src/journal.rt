@@ -1,9 +1,9 @@
 //! The journal: what is found after a call of the disk has failed, after a crash, and in a damaged file. What is expected
-//! was worked out by hand from the format: header `SHADOWJ1`, then a gate at place 8, and after each open gate a length of
+//! was worked out by hand from the format: header `SHADOWJ2`, then a gate at place 8, and after each open gate a length of
 //! four bytes, the payload and the next gate.
 
 ghost use Rattle.exam_edge.specs.MemoryDisk.{accounts_of};
-ghost use Rattle.answer_journal.specs.Frames.{IsPayload, shadowj1};
+ghost use Rattle.answer_journal.specs.Frames.{IsPayload};
 ghost use Rattle.answer_journal.specs.Journal.{IsReady};
 ghost use Rattle.answer_journal.specs.Standing.{IsAsLeft};
 
@@ -15,47 +15,77 @@ use exam_edge::{Memory, MemoryDisk};
 use std::alloc::Global;
 use std::process::Abort;
 
-const LIMIT: u64 = 100;
+pub(crate) const LIMIT: u64 = 100;
 
 /// An answered record: session 0, step 0, response 1.
 const ANSWER: [u8; 8] = [4, 0, 0, 0, 0, 0, 0, 1];
 
 /// Header and a closed gate.
-const EMPTY: [u8; 9] = [0x53, 0x48, 0x41, 0x44, 0x4f, 0x57, 0x4a, 0x31, 0];
+const EMPTY: [u8; 9] = [0x53, 0x48, 0x41, 0x44, 0x4f, 0x57, 0x4a, 0x32, 0];
 
 /// Header, a closed gate, and the answered record whole after it: length, payload, closed gate.
 const STAGED: [u8; 22] = [
-    0x53, 0x48, 0x41, 0x44, 0x4f, 0x57, 0x4a, 0x31, 0, 0, 0, 0, 8, 4, 0, 0, 0, 0, 0, 0, 1, 0,
+    0x53, 0x48, 0x41, 0x44, 0x4f, 0x57, 0x4a, 0x32, 0, 0, 0, 0, 8, 4, 0, 0, 0, 0, 0, 0, 1, 0,
 ];
 
 /// The same with the gate of the record open.
 const ADDED: [u8; 22] = [
-    0x53, 0x48, 0x41, 0x44, 0x4f, 0x57, 0x4a, 0x31, 1, 0, 0, 0, 8, 4, 0, 0, 0, 0, 0, 0, 1, 0,
+    0x53, 0x48, 0x41, 0x44, 0x4f, 0x57, 0x4a, 0x32, 1, 0, 0, 0, 8, 4, 0, 0, 0, 0, 0, 0, 1, 0,
 ];
 
 /// Three records, with payloads of one, two and three bytes. Gates at 8, 14, 21 and 29.
 const THREE: [u8; 30] = [
-    0x53, 0x48, 0x41, 0x44, 0x4f, 0x57, 0x4a, 0x31, 1, 0, 0, 0, 1, 5, 1, 0, 0, 0, 2, 6, 7, 1, 0, 0,
+    0x53, 0x48, 0x41, 0x44, 0x4f, 0x57, 0x4a, 0x32, 1, 0, 0, 0, 1, 5, 1, 0, 0, 0, 2, 6, 7, 1, 0, 0,
     0, 3, 8, 9, 10, 0,
 ];
 
 /// The same with two bytes after the gate that ends it.
 const TRAILED: [u8; 32] = [
-    0x53, 0x48, 0x41, 0x44, 0x4f, 0x57, 0x4a, 0x31, 1, 0, 0, 0, 1, 5, 1, 0, 0, 0, 2, 6, 7, 1, 0, 0,
+    0x53, 0x48, 0x41, 0x44, 0x4f, 0x57, 0x4a, 0x32, 1, 0, 0, 0, 1, 5, 1, 0, 0, 0, 2, 6, 7, 1, 0, 0,
     0, 3, 8, 9, 10, 0, 1, 1,
+];
+
+/// A journal of the first version that was moved: a payload of one byte, the mark, and one record
+/// that counts. Gates at 8, 14, 20 and 27.
+pub(crate) const MOVED: [u8; 28] = [
+    0x53, 0x48, 0x41, 0x44, 0x4f, 0x57, 0x4a, 0x31, 1, 0, 0, 0, 1, 5, 1, 0, 0, 0, 1, 8, 1, 0, 0, 0,
+    2, 6, 7, 0,
+];
+
+/// The same with two bytes after the gate that ends it.
+const MOVED_TRAILED: [u8; 30] = [
+    0x53, 0x48, 0x41, 0x44, 0x4f, 0x57, 0x4a, 0x31, 1, 0, 0, 0, 1, 5, 1, 0, 0, 0, 1, 8, 1, 0, 0, 0,
+    2, 6, 7, 0, 1, 1,
+];
+
+/// A journal of the first version without a record that was moved. Gates at 8 and 14.
+const MOVED_EMPTY: [u8; 15] = [
+    0x53, 0x48, 0x41, 0x44, 0x4f, 0x57, 0x4a, 0x31, 1, 0, 0, 0, 1, 8, 0,
+];
+
+/// The same with the answered record whole after it.
+const MOVED_STAGED: [u8; 28] = [
+    0x53, 0x48, 0x41, 0x44, 0x4f, 0x57, 0x4a, 0x31, 1, 0, 0, 0, 1, 8, 0, 0, 0, 0, 8, 4, 0, 0, 0, 0,
+    0, 0, 1, 0,
+];
+
+/// The same with the gate of the record open.
+const MOVED_ADDED: [u8; 28] = [
+    0x53, 0x48, 0x41, 0x44, 0x4f, 0x57, 0x4a, 0x31, 1, 0, 0, 0, 1, 8, 1, 0, 0, 0, 8, 4, 0, 0, 0, 0,
+    0, 0, 1, 0,
 ];
 
 /// The nine bytes of an empty journal, and each byte after them is 1.
 const TORN: [u8; 22] = [
-    0x53, 0x48, 0x41, 0x44, 0x4f, 0x57, 0x4a, 0x31, 0, 1, 1, 1, 1, 1, 1, 1, 1, 1, 1, 1, 1, 1,
+    0x53, 0x48, 0x41, 0x44, 0x4f, 0x57, 0x4a, 0x32, 0, 1, 1, 1, 1, 1, 1, 1, 1, 1, 1, 1, 1, 1,
 ];
 
 /// How many records are found in a file, and how long it is then; or why it is no journal.
-type Records = Result<(usize, u64), OpenFault>;
+pub(crate) type Records = Result<(usize, u64), OpenFault>;
 
 /// The disk after a file was opened, and what that gave.
-fn open(alloc: Global, disk: MemoryDisk) -> (MemoryDisk, Records)
-    requires { IsAsLeft shadowj1 (accounts_of disk) }
+pub(crate) fn open(alloc: Global, disk: MemoryDisk) -> (MemoryDisk, Records)
+    requires { IsAsLeft (accounts_of disk) }
 {
     match Journal::open(alloc, disk, LIMIT) {
         Ok((journal, payloads)) => {
@@ -67,7 +97,7 @@ fn open(alloc: Global, disk: MemoryDisk) -> (MemoryDisk, Records)
 }
 
 /// In a file of these bytes so many records are found, and it is so long then; or this fault is.
-fn finds<R: Abort>(rt: &R, alloc: Global, bytes: &[u8], expected: Records) {
+pub(crate) fn finds<R: Abort>(rt: &R, alloc: Global, bytes: &[u8], expected: Records) {
     let (disk, records) = open(alloc, disk_of(rt, alloc, &[bytes], &[]));
     is_equal(rt, &records, &expected);
 }
@@ -77,7 +107,7 @@ fn finds<R: Abort>(rt: &R, alloc: Global, bytes: &[u8], expected: Records) {
 /// then.
 type Opening = (&'static [u8], u64, u64, &'static [u8], (usize, u64));
 
-const OPENINGS: [Opening; 3] = [
+const OPENINGS: [Opening; 4] = [
     // A file of at most nine bytes: sync, length, cut, sync, write, sync.
     (&[], 6, 5, &EMPTY, (0, 9)),
     // A longer file of three records with bytes after its last gate: sync, length, header, each
@@ -86,6 +116,9 @@ const OPENINGS: [Opening; 3] = [
     (&TRAILED, 22, 21, &THREE, (3, 30)),
     // A longer file without such bytes: nothing is put aside.
     (&THREE, 21, 0, &THREE, (3, 30)),
+    // A file of the first version that was moved, with bytes after its last gate: two payloads of
+    // one byte are read to find the mark, and the mark's gate is read and written again too.
+    (&MOVED_TRAILED, 22, 21, &MOVED, (1, 28)),
 ];
 
 /// The file is opened with this call failing, which is one of the opening's calls or the next.
@@ -149,9 +182,9 @@ fn add(journal: &mut Journal<MemoryDisk>, frame: &Frame, mends: bool) -> Fate
     (fault, mended, again)
 }
 
-/// The same in a new journal on a disk; what is on the disk then.
+/// The same in the journal of a disk; what is on the disk then.
 fn add_over<R: Abort>(rt: &R, alloc: Global, disk: MemoryDisk, frame: &Frame, mends: bool) -> Added
-    requires { IsAsLeft shadowj1 (accounts_of disk) }
+    requires { IsAsLeft (accounts_of disk) }
 {
     match Journal::open(alloc, disk, LIMIT) {
         Ok((journal, _)) => {
@@ -177,10 +210,10 @@ fn frame_of(alloc: Global, payload: &[u8]) -> Result<Frame, Memory>
     Frame::of(bytes)
 }
 
-/// Adds the answered record to a new journal, calls of these numbers failing.
-fn after_adding<R: Abort>(rt: &R, alloc: Global, fails: &[u64], mends: bool) -> Added {
+/// Adds the answered record to the journal of a file, calls of these numbers failing.
+fn after_adding<R: Abort>(rt: &R, alloc: Global, file: &[u8], fails: &[u64], mends: bool) -> Added {
     match frame_of(alloc, &ANSWER) {
-        Ok(frame) => add_over(rt, alloc, disk_of(rt, alloc, &[], fails), &frame, mends),
+        Ok(frame) => add_over(rt, alloc, disk_of(rt, alloc, &[file], fails), &frame, mends),
         Err(_) => panic!(rt; "no frame"),
     }
 }
@@ -226,8 +259,60 @@ const ADDINGS: [Adding; 15] = [
     (&[10], false, (None, None, None), 22, &ADDED, (1, 22)),
 ];
 
-fn adds<R: Abort>(rt: &R, alloc: Global, (fails, mends, fate, length, bytes, records): &Adding) {
-    let added = after_adding(rt, alloc, fails, *mends);
+/// Calls 0 to 15 open the moved journal without a record: sync, length, header, the mark's gate,
+/// its payload, the last gate twice, three gates read and written again, sync, cut, sync. Adding is
+/// calls 16 to 19.
+const MOVED_ADDINGS: [Adding; 6] = [
+    (
+        &[16],
+        true,
+        (FAILED, DROPPED, None),
+        15,
+        &MOVED_EMPTY,
+        (0, 15),
+    ),
+    (
+        &[17, 18],
+        true,
+        (FAILED, None, DROPPED),
+        15,
+        &MOVED_EMPTY,
+        (0, 15),
+    ),
+    (
+        &[19],
+        true,
+        (FAILED, Some(Adopted::Kept), None),
+        28,
+        &MOVED_ADDED,
+        (1, 28),
+    ),
+    (
+        &[18],
+        false,
+        (FAILED, None, None),
+        15,
+        &MOVED_STAGED,
+        (0, 15),
+    ),
+    (
+        &[19],
+        false,
+        (FAILED, None, None),
+        15,
+        &MOVED_ADDED,
+        (1, 28),
+    ),
+    (&[20], false, (None, None, None), 28, &MOVED_ADDED, (1, 28)),
+];
+
+fn adds<R: Abort>(
+    rt: &R,
+    alloc: Global,
+    file: &[u8],
+    (fails, mends, fate, length, bytes, records): &Adding,
+) {
+    let added = after_adding(rt, alloc, file, fails, *mends);
     is_equal(rt, &added.fate, fate);
     is_equal(rt, &added.length, length);
     leaves(rt, added.disk.bytes(), bytes);
@@ -237,7 +322,14 @@ fn adds<R: Abort>(rt: &R, alloc: Global, (fails, mends, fate, length, bytes, rec
 #[test]
 fn each_call_of_adding_fails(rt: HostRuntime) {
     for row in &ADDINGS {
-        adds(&rt, rt.alloc(), row);
+        adds(&rt, rt.alloc(), &[], row);
+    }
+}
+
+#[test]
+fn each_call_of_adding_to_a_moved_journal_fails(rt: HostRuntime) {
+    for row in &MOVED_ADDINGS {
+        adds(&rt, rt.alloc(), &MOVED_EMPTY, row);
     }
 }
 

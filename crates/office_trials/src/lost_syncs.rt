@@ -9,10 +9,11 @@ use crate::equal::is_equal;
 use crate::expected::has_entries;
 use crate::files::{Parts, SERVED, joined};
 use crate::lossy_disk::LossyDisk;
+use crate::old_files::OLD_SERVED;
 use crate::outcome::{Call, FAILED, Trial, WORKED, ask, draft, run};
 use bank_tables::{Bank, ItemSet};
 use constraint_model::Spec;
-use exam_office::Office;
+use exam_office::{Office, OpenFault, migrate};
 use form_model::Draft;
 use std::alloc::Global;
 use std::process::Abort;
@@ -29,7 +30,26 @@ struct Losing<'a> {
     dies: bool,
 }
 
-/// The office on a disk. Opening fails at most twice.
+/// The disk once its journal was moved, where it was refused for its version.
+fn moved_if_old(
+    alloc: Global,
+    bank: &Bank,
+    spec: &Spec,
+    disk: LossyDisk,
+    fault: OpenFault,
+) -> LossyDisk
+    requires { IsPlanFor bank.now spec.now }
+{
+    if fault != OpenFault::Version {
+        return disk;
+    }
+    match migrate(alloc, bank, spec, disk) {
+        Ok((_, disk)) => disk,
+        Err((disk, _)) => disk,
+    }
+}
+
+/// The office on a disk, once its journal was moved. Opening and moving fail at most twice in all.
 fn opened<'a, R: Abort>(
     rt: &R,
     alloc: Global,
@@ -42,10 +62,10 @@ fn opened<'a, R: Abort>(
     requires base { Meets bank.now spec.now (has base) }
 {
     let mut disk = disk;
-    for _ in 0..3u8 {
+    for _ in 0..5u8 {
         match Office::open(alloc, bank, spec, base, disk) {
             Ok(office) => return office,
-            Err((back, _)) => disk = back,
+            Err((back, fault)) => disk = moved_if_old(alloc, bank, spec, back, fault),
         }
     }
     panic!(rt; "not opened")
@@ -173,6 +193,23 @@ fn what_is_acknowledged_after_a_lost_sync_is_on_the_device(rt: HostRuntime) {
         dies: false,
     };
     for first in 0..26u64 {
+        loses_nothing_from(&rt, rt.alloc(), &losing, first);
+    }
+}
+
+/// A journal of the first version is refused by seven calls, moved by 31 and opened by 24. The last sync
+/// of moving is call 37: where it fails, the office is opened at once, since the file reads moved. The
+/// first call that fails is one of moving or of opening then.
+#[test]
+fn what_is_acknowledged_after_a_migration_is_on_the_device(rt: HostRuntime) {
+    let losing = Losing {
+        file: OLD_SERVED,
+        calls: &[Call::Answer(0, 0, 1)],
+        entries: 3,
+        fails: &[],
+        dies: false,
+    };
+    for first in 7..62u64 {
         loses_nothing_from(&rt, rt.alloc(), &losing, first);
     }
 }

@@ -1,6 +1,5 @@
 //! An office over a disk in memory, and what becomes of calls of it.
 
-ghost use Rattle.answer_journal.specs.Frames.{shadowj1};
 ghost use Rattle.answer_journal.specs.Standing.{IsAsLeft};
 ghost use Rattle.exam_edge.specs.MemoryDisk.{accounts_of};
 ghost use Rattle.form_model.specs.Validity.{IsPlanFor};
@@ -8,7 +7,7 @@ ghost use Rattle.form_model.specs.Validity.{IsPlanFor};
 use crate::counted_disk::{Count, CountedDisk};
 use crate::files::{Parts, joined};
 use crate::serving::{serve, serve_again, serve_late};
-use bank_tables::Bank;
+use bank_tables::{Bank, List};
 use constraint_model::Spec;
 use exam_edge::{Disk, MemoryDisk};
 use exam_office::{Begun, Office, OpenFault, Place, Refusal, Summary};
@@ -24,6 +23,8 @@ pub(crate) struct Numbers {
     pub rate: Rate,
     pub sessions: u32,
     pub journal: u64,
+    /// The points at which new bands begin.
+    pub points: &'static [u8],
 }
 
 /// Those of the worked plan.
@@ -31,6 +32,7 @@ pub(crate) const WORKED: Numbers = Numbers {
     rate: Rate { num: 1, den: 1 },
     sessions: 1_000,
     journal: 67_108_864,
+    points: &[],
 };
 
 /// A call of an office.
@@ -67,6 +69,8 @@ pub(crate) enum Reply {
     Exposed(Option<Counts>),
     /// No call gives this. It is expected where `JournalFull` has this length at least.
     Full(u64),
+    /// No call gives this. It is expected where the reply is not tested.
+    Any,
 }
 
 /// A call, and what it has to give.
@@ -238,6 +242,7 @@ fn is_reply<R: Abort>(rt: &R, found: Reply, expected: Reply) {
         (Reply::Refused(Refusal::JournalFull(length)), Reply::Full(least)) => {
             assert!(rt; length >= least);
         }
+        (_, Reply::Any) => {}
         _ => assert!(rt; found == expected),
     }
 }
@@ -304,7 +309,7 @@ fn run_over<'a, R: Abort>(
     lists: &[&[Step]],
 ) -> Outcome
     requires plan { IsPlanFor bank.now spec.now }
-    requires left { IsAsLeft shadowj1 (accounts_of disk.disk) }
+    requires left { IsAsLeft (accounts_of disk.disk) }
 {
     let Some(base) = spec.base() else {
         panic!(rt; "no base");
@@ -328,13 +333,14 @@ pub(crate) fn draft<R: Abort>(rt: &R, alloc: Global, numbers: &Numbers) -> Draft
     draft.rate = numbers.rate;
     draft.sessions = numbers.sessions;
     draft.journal = numbers.journal;
+    draft.bands = List::of(numbers.points.to_vec(alloc).expect(rt, "points"));
     draft.base = Some(set_of(&[1, 2, 3]));
     draft
 }
 
 /// A disk with a file of these parts. Its calls that have these numbers fail.
 pub(crate) fn disk_of<R: Abort>(rt: &R, alloc: Global, file: Parts<'_>, fails: &[u64]) -> MemoryDisk
-    ensures { IsAsLeft shadowj1 (accounts_of result) }
+    ensures { IsAsLeft (accounts_of result) }
 {
     let numbers = fails.to_vec(alloc).expect(rt, "numbers");
     let disk = MemoryDisk::of(alloc, joined(rt, alloc, file), numbers);

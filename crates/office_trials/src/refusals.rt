@@ -99,11 +99,11 @@ fn calls_among_others(rt: HostRuntime) {
     adds_no_more(&rt, alloc, STARTED, (&[SERVED_ONCE], &[SERVED_TWICE]), 2);
 }
 
-const FULL_AT_91: Step = (Call::Begin(70), Reply::Refused(Refusal::JournalFull(91)));
+const FULL_AT_92: Step = (Call::Begin(70), Reply::Refused(Refusal::JournalFull(92)));
 
-const FULL_AT_196: Step = (
+const FULL_AT_197: Step = (
     Call::Answer(0, 0, 1),
-    Reply::Refused(Refusal::JournalFull(196)),
+    Reply::Refused(Refusal::JournalFull(197)),
 );
 
 const REFUSALS: [Row<'static>; 6] = [
@@ -147,17 +147,17 @@ const REFUSALS: [Row<'static>; 6] = [
         faults: 0,
         left: STARTED,
     },
-    // A start makes the journal 91 bytes long, and the first answer 196. One byte less is too few,
+    // A start makes the journal 92 bytes long, and the first answer 197. One byte less is too few,
     // and so it is once more.
     Row {
         trial: Trial {
             numbers: Numbers {
-                journal: 90,
+                journal: 91,
                 ..WORKED
             },
             file: EMPTY,
             fails: &[],
-            steps: &[&[FULL_AT_91, FULL_AT_91]],
+            steps: &[&[FULL_AT_92, FULL_AT_92]],
         },
         summary: NOTHING,
         calls: 6,
@@ -167,12 +167,12 @@ const REFUSALS: [Row<'static>; 6] = [
     Row {
         trial: Trial {
             numbers: Numbers {
-                journal: 195,
+                journal: 196,
                 ..WORKED
             },
             file: SERVED,
             fails: &[],
-            steps: &[&[FULL_AT_196, FULL_AT_196]],
+            steps: &[&[FULL_AT_197, FULL_AT_197]],
         },
         summary: ONE_SERVED,
         calls: 18,
@@ -180,16 +180,16 @@ const REFUSALS: [Row<'static>; 6] = [
         left: SERVED,
     },
     // With the length after the entry as the limit it is added. A served item makes the journal at
-    // least 173 bytes long: 91, then 5, 76 of the entry, and those of the tree.
+    // least 174 bytes long: 92, then 5, 76 of the entry, and those of the tree.
     Row {
         trial: Trial {
             numbers: Numbers {
-                journal: 91,
+                journal: 92,
                 ..WORKED
             },
             file: &[],
             fails: &[],
-            steps: &[&[(Call::Begin(70), BEGUN), (Call::Serve(0), Reply::Full(173))]],
+            steps: &[&[(Call::Begin(70), BEGUN), (Call::Serve(0), Reply::Full(174))]],
         },
         summary: ONE_STARTED,
         calls: 10,
@@ -199,7 +199,7 @@ const REFUSALS: [Row<'static>; 6] = [
     Row {
         trial: Trial {
             numbers: Numbers {
-                journal: 196,
+                journal: 197,
                 ..WORKED
             },
             file: SERVED,

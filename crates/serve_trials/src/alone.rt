@@ -216,8 +216,8 @@ fn a_halted_request_is_asked_again(rt: HostRuntime) -> Result<(), Fail> {
 const FILLING: [Request; 3] = [START, START, Request::Look(0)];
 
 const FULL: [Told; 3] = [
-    Err(Refusal::JournalFull(91)),
-    Err(Refusal::JournalFull(91)),
+    Err(Refusal::JournalFull(92)),
+    Err(Refusal::JournalFull(92)),
     Err(Refusal::NoSession(0)),
 ];
 
@@ -227,10 +227,10 @@ fn filled(alloc: Global, journal: u64) -> Result<Answered, Fail> {
     answers(alloc, &numbers, &[], &FILLING)
 }
 
-// The first record needs 91 bytes. At a limit of 90 nothing is added.
+// The first record needs 92 bytes. At a limit of 91 nothing is added.
 #[test]
 fn the_journal_is_full(rt: HostRuntime) -> Result<(), Fail> {
-    let answered = filled(rt.alloc(), 90)?;
+    let answered = filled(rt.alloc(), 91)?;
     is_equal(&rt, &answered.replies.as_slice(), &FULL.as_slice());
     is_equal(&rt, &answered.length, &9);
     Ok(())
@@ -244,11 +244,11 @@ fn lacks_room<R: Abort>(rt: &R, answered: &Answered) {
     is_equal(rt, &answered.replies.get(2), &first);
 }
 
-// At a limit of 91 bytes the session is started and not served.
+// At a limit of 92 bytes the session is started and not served.
 #[test]
 fn the_journal_is_full_once_the_session_is_started(rt: HostRuntime) -> Result<(), Fail> {
-    let answered = filled(rt.alloc(), 91)?;
+    let answered = filled(rt.alloc(), 92)?;
     lacks_room(&rt, &answered);
-    is_equal(&rt, &answered.length, &91);
+    is_equal(&rt, &answered.length, &92);
     Ok(())
 }

@@ -1,7 +1,6 @@
 //! What an office of one thread answers to some requests on bank A.
 
 ghost use Rattle.std.specs.Prelude.{IfOk};
-ghost use Rattle.answer_journal.specs.Frames.{shadowj1};
 ghost use Rattle.answer_journal.specs.Standing.{IsAsLeft};
 ghost use Rattle.exam_edge.specs.MemoryDisk.{accounts_of};
 ghost use Rattle.form_model.specs.Validity.{IsPlanFor};
@@ -72,7 +71,7 @@ fn answers_in(
 
 // A disk with an empty file, of which these calls fail.
 fn disk_of(alloc: Global, fails: &[u64]) -> Result<MemoryDisk, Fail>
-    ensures { IfOk result (λ disk. IsAsLeft shadowj1 (accounts_of disk)) }
+    ensures { IfOk result (λ disk. IsAsLeft (accounts_of disk)) }
 {
     let fails = fails.to_vec(alloc)?;
     Ok(MemoryDisk::of(alloc, Vec::new(alloc), fails))
@@ -86,7 +85,7 @@ fn answers_on(
     requests: &[Request],
 ) -> Result<Answered, Fail>
     requires plan { IsPlanFor bank.now spec.now }
-    requires left { IsAsLeft shadowj1 (accounts_of disk) }
+    requires left { IsAsLeft (accounts_of disk) }
 {
     match opened(alloc, bank, spec, disk) {
         Ok(office) => answers_in(alloc, office, requests),

@@ -1,7 +1,6 @@
 //! An office on bank A, whose plan is plan A with a base form.
 
 ghost use Rattle.std.specs.Prelude.{IfOk};
-ghost use Rattle.answer_journal.specs.Frames.{shadowj1};
 ghost use Rattle.answer_journal.specs.Standing.{IsAsLeft};
 ghost use Rattle.exam_edge.specs.MemoryDisk.{accounts_of};
 ghost use Rattle.form_model.specs.Validity.{IsPlanFor};
@@ -65,14 +64,14 @@ pub(crate) fn planned(alloc: Global, numbers: &Numbers) -> Result<(Bank, Spec), 
 
 /// A disk with an empty file.
 pub(crate) fn empty_disk(alloc: Global) -> MemoryDisk
-    ensures { IsAsLeft shadowj1 (accounts_of result) }
+    ensures { IsAsLeft (accounts_of result) }
 {
     MemoryDisk::of(alloc, Vec::new(alloc), Vec::new(alloc))
 }
 
 /// A disk with the file of another, as the host has it after a restart.
 pub(crate) fn restarted(alloc: Global, disk: &MemoryDisk) -> Result<MemoryDisk, Fail>
-    ensures { IfOk result (λ again. IsAsLeft shadowj1 (accounts_of again)) }
+    ensures { IfOk result (λ again. IsAsLeft (accounts_of again)) }
 {
     let bytes = disk.bytes().to_vec(alloc)?;
     Ok(MemoryDisk::of(alloc, bytes, Vec::new(alloc)))
@@ -86,7 +85,7 @@ pub(crate) fn opened<'a>(
     disk: MemoryDisk,
 ) -> Result<Office<'a, MemoryDisk>, Fail>
     requires plan { IsPlanFor bank.now spec.now }
-    requires left { IsAsLeft shadowj1 (accounts_of disk) }
+    requires left { IsAsLeft (accounts_of disk) }
 {
     let Some(base) = spec.base() else {
         return Err(Fail::from("no base"));

@@ -2,7 +2,6 @@
 
 ghost use Rattle.std.specs.Prelude.{◌≡◌, ◌≤◌, false, vec_len, IfOk};
 ghost use Rattle.std.specs.List.{All};
-ghost use Rattle.answer_journal.specs.Frames.{shadowj1};
 ghost use Rattle.answer_journal.specs.Standing.{IsAsLeft};
 ghost use Rattle.exam_edge.specs.MemoryDisk.{accounts_of};
 ghost use Rattle.exam_edge.specs.MemoryDoor.{out_of};
@@ -86,7 +85,7 @@ fn sessions_on(
     disk: MemoryDisk,
 ) -> Result<(Option<u32>, Option<u32>), Fail>
     requires plan { IsPlanFor bank.now spec.now }
-    requires left { IsAsLeft shadowj1 (accounts_of disk) }
+    requires left { IsAsLeft (accounts_of disk) }
 {
     match opened(alloc, bank, spec, disk) {
         Ok(office) => Ok(sessions_of(alloc, office)),

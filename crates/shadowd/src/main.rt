@@ -1,7 +1,7 @@
 //! The program `shadowd`: it hands the host's files, standard output, the journal's file and, to
 //! serve, the doors of a listener to `run`, and ends with its status. Standard error has a line on
-//! the address and the journal before connections are served, and a line on each object of the
-//! host of which a call failed, and why.
+//! the address and the journal before connections are served, a line on each object of the host of
+//! which a call failed, and why, and a line on a journal that is to be migrated first.
 #![tactic(auto)]
 
 ghost use Rattle.std.specs.Prelude.{◌≡◌, ◌≤◌, All, false, vec_len, IfOk};
@@ -10,6 +10,7 @@ ghost use Rattle.host_edge.specs.HostDoor.{out_of};
 
 mod settings;
 
+use answer_journal::Journal;
 use command_line::VERSION;
 use exam_edge::OpenGate;
 use exam_program::{Finish, World, run};
@@ -27,6 +28,12 @@ const NO_MEMORY: u8 = 10;
 
 /// The status of a program whose standard output failed.
 const NO_OUTPUT: u8 = 8;
+
+/// The status of a program whose journal is refused.
+const NO_JOURNAL: u8 = 6;
+
+/// The greatest length of a journal, in bytes, whatever the plan.
+const LONGEST: u64 = 536_870_912;
 
 /// The outside of the host.
 type HostWorld = World<HostFiles, HostSink, HostDisk, HostDoor, OpenGate>;
@@ -47,6 +54,11 @@ fn words_of(rt: &HostRuntime) -> io::Result<Vec<String>> {
 /// Whether the words ask for connections.
 fn ask_for_connections(words: &[String]) -> bool {
     words.first().is_some_and(|word| word.as_str() == "serve")
+}
+
+/// Whether the words ask for sessions, of a script or of connections.
+fn ask_for_sessions(words: &[String]) -> bool {
+    words.first().is_some_and(|word| word.as_str() == "replay" || word.as_str() == "serve")
 }
 
 /// Whether the words ask for an audit.
@@ -172,6 +184,36 @@ fn explain(rt: &HostRuntime, settings: &Settings, finish: &HostFinish) {
     }
 }
 
+/// Whether the journal is of the first version and was not moved. It is read, and not changed.
+fn is_to_be_migrated(disk: &mut HostDisk) -> bool {
+    match Journal::walk(&mut *disk, LONGEST) {
+        Ok(walk) => {
+            let version = walk.record_version();
+            let _ = walk.stop();
+            version == 1
+        }
+        Err(_) => false,
+    }
+}
+
+/// Writes a line to standard error where sessions were refused for the version of the journal.
+fn explain_version(
+    rt: &HostRuntime,
+    words: &[String],
+    settings: &Settings,
+    finish: &mut HostFinish,
+) {
+    if finish.status == NO_JOURNAL
+        && ask_for_sessions(words)
+        && is_to_be_migrated(&mut finish.disk)
+    {
+        let journal = settings.journal.as_str();
+        let _ = eprintln!(rt;
+            "shadowd: {journal}: a journal of the first version, which shadowd migrate BANK PLAN moves to the second"
+        );
+    }
+}
+
 /// The process ends with the status of the program.
 fn exit_code(finish: HostFinish) -> ExitCode
     ensures { exit_status result ≡ finish.status }
@@ -193,7 +235,8 @@ fn main(rt: HostRuntime) -> ExitCode {
     if ask_for_version(&words) {
         return print_version(&rt);
     }
-    let finish = run(&rt, rt.alloc(), &words, world);
+    let mut finish = run(&rt, rt.alloc(), &words, world);
     explain(&rt, &settings, &finish);
+    explain_version(&rt, &words, &settings, &mut finish);
     exit_code(finish)
 }

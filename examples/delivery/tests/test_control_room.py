@@ -116,7 +116,7 @@ class ControlRoom(Examination):
         self.assertIn("gives no reply that counts", self.page()[1])
 
     def test_a_journal_that_is_refused(self):
-        self.write("journal", "SHADOWJ2 is another format")
+        self.write("journal", "SHADOWJ9 is another format")
         page = self.page()[1]
         self.assertIn("A copy of the journal could not be audited.", page)
         os.unlink(self.path("journal"))

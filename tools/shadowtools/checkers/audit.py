@@ -36,9 +36,10 @@ from typing import BinaryIO, Callable, Dict, Iterator, List, NamedTuple, Optiona
 from shadowtools.checkers import check_tree
 from shadowtools.command import Refused, as_command
 
-# The header that is written, and the version of each that is read. In a file of version 1 that was moved to version 2 the
+# The header that is written, that of version 1, and the version of each. In a file of version 1 that was moved to version 2 the
 # payloads before the mark count for nothing, and those after it are of version 2.
-HEADER, VERSIONS, MARK = b"SHADOWJ1", {b"SHADOWJ1": 1, b"SHADOWJ2": 2}, b"\x08"
+HEADER, OLD_HEADER, MARK = b"SHADOWJ2", b"SHADOWJ1", b"\x08"
+VERSIONS = {OLD_HEADER: 1, HEADER: 2}
 OPEN, LONGEST = 1, 131072
 DEFAULTS = {"rate": (1, 1), "key": bytes(32), "bands": (), "budget": 2001, "sessions": 1000, "journal": 67108864}
 STARTED, ASIDE, SERVED, ANSWERED, CLOSED = range(5)

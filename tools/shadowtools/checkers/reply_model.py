@@ -244,5 +244,5 @@ def compact(body):
 
 
 def summary(history):
-    """The lines of an audit."""
-    return list(audit.lines(history))
+    """The lines of an audit: the first one is the summary."""
+    return list(audit.lines(history, with_bands=True))

@@ -28,7 +28,7 @@ def read_both(program, folder, data):
         file.write(data)
     environment = dict(os.environ, SHADOWD_JOURNAL="journal")
     ours = subprocess.run([program, "audit", "bank.csv", "plan.txt"], cwd=folder, env=environment, capture_output=True)
-    other = subprocess.run([sys.executable, os.path.join(TOOLS, "audit.py"), "bank.csv", "plan.txt", "journal"],
+    other = subprocess.run([sys.executable, os.path.join(TOOLS, "audit.py"), "bank.csv", "plan.txt", "journal", "--bands"],
                            cwd=folder, capture_output=True)
     with open(path, "rb") as file:
         if file.read() != data:

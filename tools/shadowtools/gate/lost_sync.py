@@ -13,6 +13,12 @@ have the same records, and a replay over the last one has to find each session c
   mending    the server goes on after a response 503
   opening    the server is killed (SIGKILL) after a response 503, and started again
 
+The same journal as one of version 1 is migrated over the same disk; then a session is begun, and what is acknowledged is looked for in
+the same views. Each run is done in two ways:
+
+  moving     `migrate` runs again after a status 9, until it ends with 0
+  beginning  after a status 9 a session is begun at once; `migrate` runs again only where the journal is refused as one of version 1
+
   --bases N      so many journals to begin with, of which the page boundary is in another record of the session (1 to 4)
   --only WORD    the runs of which the name has this word
 
@@ -36,6 +42,7 @@ import tempfile
 import time
 
 from shadowtools.checkers import audit
+from shadowtools.checkers import journal_move
 from shadowtools.command import as_command
 from shadowtools.gate import exam_client
 from shadowtools.places import DATA, TOOLS
@@ -48,9 +55,13 @@ IMAGE = 32 << 20
 ROOM = 64  # blocks behind the last one of the journal, into which it grows
 AFTER = 10  # sessions on the healthy disk
 TRIES = 8
+MOST_FAILED = 10  # after so many runs that lose something the others of their kind are left out
 
 Fault = collections.namedtuple("Fault", "low high first count")
 Base = collections.namedtuple("Base", "bookings journal")
+# What was acknowledged over a disk: requests with the lines that they have to have later, how many writes there were when the fault
+# was over, and how many requests were refused.
+Acknowledged = collections.namedtuple("Acknowledged", "requests lines made refused")
 
 
 class Lost(Exception):
@@ -182,13 +193,23 @@ def payloads(path):
     return [data[at + 5:at + 5 + length] for at, length in found]
 
 
-def replay(program, journal, requests, folder):
-    """The lines of a replay over a journal."""
+def run_over(program, journal, command, *script):
+    """A run of a command over a journal."""
+    return subprocess.run([program, command, BANK, PLAN, *script], env=dict(os.environ, SHADOWD_JOURNAL=journal),
+                          stdin=subprocess.DEVNULL, capture_output=True, text=True)
+
+
+def script_with(folder, requests):
+    """A script with these requests: its path."""
     script = os.path.join(folder, "script.txt")
     with open(script, "w", encoding="ascii") as file:
         file.write("".join(request + "\n" for request in requests))
-    done = subprocess.run([program, "replay", BANK, PLAN, script], env=dict(os.environ, SHADOWD_JOURNAL=journal),
-                          stdin=subprocess.DEVNULL, capture_output=True, text=True)
+    return script
+
+
+def replay(program, journal, requests, folder):
+    """The lines of a replay over a journal."""
+    done = run_over(program, journal, "replay", script_with(folder, requests))
     if done.returncode != 0:
         raise Lost(f"a replay ends with status {done.returncode}: {done.stdout.splitlines()[-1:]} {done.stderr.strip()}")
     return done.stdout.splitlines()
@@ -299,31 +320,61 @@ def compare(name, wanted, found):
         raise Lost(f"{len(wanted)} records are read, {name} has {len(found)}, of which {same} are the same")
 
 
-def run(program, folder, image, base, fault, is_restarted):
-    """One examination over one fault: how many writes there were, how many failed, and how many requests were refused."""
+def examined(program, journal, base, counts, is_restarted):
+    """A session over the fault, and ten more."""
+    examination = Examination(program, journal, is_restarted)
+    try:
+        examination.session(base.bookings)
+        made = counts[0]
+        for booking in range(base.bookings + 1, base.bookings + 1 + AFTER):
+            examination.session(booking)
+    finally:
+        examination.kill()
+    complete = examination.complete
+    return Acknowledged([f"begin {booking}" for booking in complete], [f"session {session} complete" for session in complete.values()],
+                        made, examination.refused)
+
+
+def moved(program, journal, base, counts, is_begun_at_once):
+    """A migration over the fault, and a session that is begun after it."""
+    requests, refused = [f"begin {base.bookings}"], 0
+    script = script_with(os.path.dirname(base.journal), requests)
+    for _ in range(TRIES):
+        done = run_over(program, journal, "migrate")
+        if done.returncode not in (0, 9):
+            raise Lost(f"migrate ends with status {done.returncode}: {done.stdout.strip()}")
+        refused += done.returncode == 9
+        if done.returncode == 0 or is_begun_at_once:
+            done = run_over(program, journal, "replay", script)
+            if done.returncode == 0:
+                return Acknowledged(requests, done.stdout.splitlines(), counts[0], refused)
+            if done.returncode != 9 and (done.returncode, done.stdout) != (6, "journal: version\n"):
+                raise Lost(f"a session is begun with status {done.returncode}: {done.stdout.strip()}")
+            refused += done.returncode == 9
+    raise Lost("the migration fails on and on")
+
+
+WAYS = {"mending": (examined, False), "opening": (examined, True), "moving": (moved, False), "beginning": (moved, True)}
+
+
+def run(program, folder, image, base, fault, way):
+    """One run over one fault: how many writes there were, how many failed, and how many requests were refused."""
     backing, cut = os.path.join(folder, "backing"), os.path.join(folder, "cut")
     shutil.copy(image, backing)
     with faulty(os.path.join(folder, "device"), backing, fault) as (disk, counts), \
             mounted(os.path.join(folder, "fs"), disk) as root:
-        journal = os.path.join(root, "journal")
-        examination = Examination(program, journal, is_restarted)
-        try:
-            examination.session(base.bookings)
-            made = counts[0]
-            for booking in range(base.bookings + 1, base.bookings + 1 + AFTER):
-                examination.session(booking)
-        finally:
-            examination.kill()
+        journal, (over, word) = os.path.join(root, "journal"), WAYS[way]
+        known = over(program, journal, base, counts, word)
         shutil.copy(backing, cut)
         read = payloads(journal)
         throw_out_pages(journal)
         compare("the disk", read, payloads(journal))
     with mounted(os.path.join(folder, "after"), cut) as root:
         compare("a power cut", read, payloads(os.path.join(root, "journal")))
-        said = replay(program, os.path.join(root, "journal"), [f"begin {booking}" for booking in examination.complete], folder)
-    if said != [f"session {session} complete" for session in examination.complete.values()]:
-        raise Lost(f"a session that was complete is not: {said}")
-    return made, counts[1], examination.refused
+        said = replay(program, os.path.join(root, "journal"), known.requests, folder)
+    if said != known.lines:
+        raise Lost(f"what was acknowledged is not there: {said}")
+    return known.made, counts[1], known.refused
 
 
 # ---------------------------------------------------------------- all runs
@@ -360,10 +411,12 @@ class Runs:
                 continue
             try:
                 made, failures, asked_again = run(self.program, self.folder, self.image, self.base,
-                                                  Fault(self.low, self.high, first, count), way == "opening")
+                                                  Fault(self.low, self.high, first, count), way)
             except Lost as lost:
                 self.failed += 1
                 print(f"FAIL {name}: {lost}", flush=True)
+                if self.failed >= MOST_FAILED:
+                    return
                 continue
             if first > made:
                 print(f"{way}, {count} in a row: {first - 1} writes, {refused} refusals", flush=True)
@@ -371,6 +424,14 @@ class Runs:
             if failures == 0:
                 raise RuntimeError(f"{name}: no write failed")
             self.passed, refused = self.passed + 1, refused + asked_again
+
+
+def old_journal(base, folder):
+    """The journal of a base as one of version 1."""
+    path = os.path.join(folder, "old.journal")
+    with open(base.journal, "rb") as made, open(path, "wb") as file:
+        file.write(journal_move.as_version_1(audit.read_rules(BANK, PLAN), made.read()))
+    return Base(base.bookings, path)
 
 
 def main(words):
@@ -389,9 +450,9 @@ def main(words):
     program = os.path.abspath(asked.program)
     with tempfile.TemporaryDirectory() as folder:
         for base in base_journals(program, folder, asked.bases):
-            with tempfile.TemporaryDirectory(dir=folder) as own:
-                runs = Runs(program, own, base, asked.only)
-                for way in ("mending", "opening"):
+            for way, (over, _) in WAYS.items():
+                with tempfile.TemporaryDirectory(dir=folder) as own:
+                    runs = Runs(program, own, old_journal(base, own) if over is moved else base, asked.only)
                     for count in (1, 2):
                         runs.each_write(way, count)
                 passed, failed = passed + runs.passed, failed + runs.failed

@@ -3,13 +3,14 @@
     refused_memory.py PROGRAM [--every N] [--command NAME]
 
 A small library is preloaded that counts the calls for memory after the program's start, and refuses one of them. Each command runs once for
-each call: `replay`, `audit` and `drill` on the example, and `serve` with one client that takes a session. With --every N each N-th call alone
-is refused. What has to hold:
+each call: `replay`, `audit` and `drill` on the example, `migrate` on its journal of version 1, and `serve` with one client that takes a session. With
+--every N each N-th call alone is refused. What has to hold:
 - The status is 0 with the whole output, or 10; or 7, 8, 9 or 14 where a call of the system had no memory. `no memory` is printed at 10 where
   nothing was printed before.
 - The lines that a replay printed are a beginning of those of a whole run. A second run, of the requests that have no line, prints the others; a session
   that was closed without a line is refused as closed.
 - An audit and a drill print the whole output or none of it, and an audit leaves the file as it was.
+- After a migration an audit prints what it printed before, and a second migration leaves the file that the whole one leaves.
 - Each response of a server that a client got is in the journal: a second server gives each answer's place again, and the session is completed.
 It needs gcc; without it, or over a program that brings its own allocator, it prints that it is skipped. The last line is 'N passed, M failed'.
 """
@@ -22,6 +23,8 @@ import subprocess
 import sys
 import tempfile
 
+from shadowtools.checkers import audit
+from shadowtools.checkers import journal_move
 from shadowtools.command import as_command
 from shadowtools.gate.exam_client import Connection, Lost, Server, answer, begin
 from shadowtools.places import DATA
@@ -92,8 +95,8 @@ def replays(trial, every):
     journal = os.path.join(trial.folder, "journal")
     status, wanted = trial.replay(SCRIPT, journal)
     total = trial.calls()
-    audit = [without_nodes(it) for it in trial.run(["audit", trial.bank, trial.plan], journal)[1]]
-    if status != DONE or not audit:
+    whole = [without_nodes(it) for it in trial.run(["audit", trial.bank, trial.plan], journal)[1]]
+    if status != DONE or not whole:
         yield f"replay, nothing refused: status {status}, {wanted}"
         return
     for at in range(1, total + 1, every):
@@ -107,7 +110,7 @@ def replays(trial, every):
         done = min(len(said), len(SCRIPT) - 1)
         second, rest = trial.replay(SCRIPT[done:], journal)
         found = [without_nodes(it) for it in trial.run(["audit", trial.bank, trial.plan], journal)[1]]
-        is_right = second == DONE and said[:done] + rest in (wanted, as_again(wanted, done)) and found == audit
+        is_right = second == DONE and said[:done] + rest in (wanted, as_again(wanted, done)) and found == whole
         yield None if is_right else f"replay, call {at}: then status {second}, {rest}, and the audit {found}"
 
 
@@ -129,6 +132,39 @@ def others(trial, every):
             is_whole = status == DONE and lines == wanted
             is_refused = status in (NO_MEMORY, *OF_THE_SYSTEM) and len(lines) <= 1 and lines != wanted
             yield None if is_same and (is_whole or is_refused) else f"{words[0]}, call {at}: status {status}, {lines}"
+
+
+def migrations(trial, every):
+    """Each refusal in a migration of the journal of version 1."""
+    journal = os.path.join(trial.folder, "moved")
+    trial.replay(SCRIPT, journal)
+    with open(journal, "rb") as file:
+        old = journal_move.as_version_1(audit.read_rules(trial.bank, trial.plan), file.read())
+    put(journal, old)
+    lines = trial.run(["audit", trial.bank, trial.plan], journal)
+    status, wanted = trial.run(["migrate", trial.bank, trial.plan], journal)
+    total = trial.calls()
+    with open(journal, "rb") as file:
+        moved = file.read()
+    if status != DONE or moved == old:
+        yield f"migrate, nothing refused: status {status}, {wanted}"
+        return
+    for at in range(1, total + 1, every):
+        put(journal, old)
+        status, said = trial.run(["migrate", trial.bank, trial.plan], journal, at)
+        is_whole = status == DONE and said == wanted
+        is_refused = status in (NO_MEMORY, *OF_THE_SYSTEM) and len(said) <= 1 and said != wanted
+        is_same = trial.run(["audit", trial.bank, trial.plan], journal) == lines
+        second, _ = trial.run(["migrate", trial.bank, trial.plan], journal)
+        with open(journal, "rb") as file:
+            is_moved = file.read() == moved
+        is_right = (is_whole or is_refused) and is_same and second == DONE and is_moved
+        yield None if is_right else f"migrate, call {at}: status {status}, {said}; then the same: {is_same}, moved: {is_moved}, status {second}"
+
+
+def put(path, data):
+    with open(path, "wb") as file:
+        file.write(data)
 
 
 def session_on(address, known):
@@ -184,7 +220,7 @@ def main(words):
     parser = argparse.ArgumentParser(description=__doc__, formatter_class=argparse.RawDescriptionHelpFormatter)
     parser.add_argument("program")
     parser.add_argument("--every", type=int, default=1)
-    parser.add_argument("--command", choices=("replay", "others", "serve"))
+    parser.add_argument("--command", choices=("replay", "others", "migrate", "serve"))
     given = parser.parse_args(words)
     if shutil.which("gcc") is None:
         print("skipped: refused memory: no gcc\n1 passed, 0 failed")
@@ -197,7 +233,7 @@ def main(words):
             print("skipped: refused memory: the program brings its own allocator\n1 passed, 0 failed")
             return 0
         os.remove(os.path.join(folder, "journal"))
-        for name, trials in (("replay", replays), ("others", others), ("serve", servers)):
+        for name, trials in (("replay", replays), ("others", others), ("migrate", migrations), ("serve", servers)):
             if given.command in (None, name):
                 for fault in trials(trial, given.every):
                     passed += fault is None

@@ -11,6 +11,9 @@ Kinds of cases:
   commands   words that are no command, files that are not there, drills beside their texts
   journals   journals so treated: `audit` and `replay` beside `audit.py`; a file that is refused
              stays byte for byte
+  moves      journals of version 1, whole and damaged, that `migrate` moves or that it is stopped in,
+             and moved ones with damage, most of it behind the mark: the file, and what `audit`,
+             `replay` and `serve` make of it
   stops      scripts of random requests, with runs that are killed, that may write so many bytes,
              or whose output fails, and that go on
   messages   HTTP in pieces, whole, refused and hostile, over connections one after another, also
@@ -30,6 +33,7 @@ prints the command that runs exactly this case again. The last line is 'N passed
 """
 import argparse
 import collections
+import io
 import os
 import re
 import shutil
@@ -38,7 +42,9 @@ import tempfile
 import time
 import traceback
 
+from shadowtools.checkers import audit
 from shadowtools.checkers import drill_texts
+from shadowtools.checkers import journal_move
 from shadowtools.checkers import reply_model
 from shadowtools.gate import torture_draws as draws
 from shadowtools.gate import torture_http
@@ -79,13 +85,64 @@ def journals(case):
     whole = case.read("journal")
     if whole is None:
         return
-    gates = [record.at for record in reply_model.records_of(whole)[0]]
     for _ in range(draw.randrange(1, 5)):
-        case.write("journal", draws.damaged_journal(draw, whole, gates))
-        exam.audit()
-        exam.serve_nobody() if draw.random() < 0.3 else exam.replay(b"")
-        exam.replay(script_of(draws.requests(draw, draw.randrange(8), 3, begun=draw.randrange(3))))
-        exam.audit()
+        case.write("journal", draws.damaged_journal(draw, whole, gates_of(whole)))
+        read_and_go_on(exam)
+
+
+def gates_of(data):
+    """The places of the gates of a journal's records, those before a mark too."""
+    return [at for at, _ in audit.frames(io.BytesIO(data), len(data))]
+
+
+def read_and_go_on(exam):
+    """The journal that is there is audited and opened, and goes on where it is accepted."""
+    draw = exam.case.draw
+    exam.audit()
+    exam.serve_nobody() if draw.random() < 0.3 else exam.replay(b"")
+    exam.replay(script_of(draws.requests(draw, draw.randrange(8), 3, begun=draw.randrange(3))))
+    exam.audit()
+
+
+def moves(case):
+    """A journal of version 1 with the history of a short examination, or what a move makes of it."""
+    draw = case.draw
+    exam = Exam(case, *draws.any_exam(draw, 0.02))
+    exam.assemble()
+    exam.replay(script_of(draws.requests(draw, draw.randrange(1, 25), exam.problem.plan.length)))
+    if case.read("journal") is None:
+        return
+    old = journal_move.as_version_1(exam.rules, case.read("journal"))
+    draw.choice([a_move, an_old_one, a_moved_one, a_moved_one])(exam, old)
+    exam.migrate()
+    read_and_go_on(exam)
+
+
+def a_move(exam, old):
+    """A journal that may have bytes behind its closed gate is moved; the program is stopped a few times."""
+    draw, case = exam.case.draw, exam.case
+    case.write("journal", draws.with_tail(draw, old, journal_move.moved(exam.rules, old)))
+    for _ in range(draw.randrange(4)):
+        exam.migrate(any_stop(draw, len(case.read("journal"))))
+        if draw.random() < 0.3:
+            exam.audit()
+            exam.replay(b"")
+
+
+def an_old_one(exam, old):
+    """A journal of version 1 is damaged; it is not opened before it is moved."""
+    draw = exam.case.draw
+    exam.case.write("journal", draws.damaged_journal(draw, old, gates_of(old)) if draw.random() < 0.7 else old)
+    read_and_go_on(exam)
+
+
+def a_moved_one(exam, old):
+    """A journal that was moved is damaged, most often behind its mark."""
+    draw, data = exam.case.draw, journal_move.moved(exam.rules, old)
+    gates = gates_of(data)
+    behind = [at for at in gates if at >= len(old)]
+    exam.case.write("journal", draws.damaged_journal(draw, data, draw.choice([behind, behind, gates])))
+    read_and_go_on(exam)
 
 
 def any_stop(draw, size):
@@ -115,8 +172,9 @@ def stops(case):
 
 
 USAGE = ("usage: shadowd check BANK PLAN | assemble BANK PLAN | replay BANK PLAN SCRIPT | "
-         "serve BANK PLAN | audit BANK PLAN | drill NUMBER SESSIONS")
-COMMANDS = {"check": 2, "assemble": 2, "replay": 3, "serve": 2, "audit": 2}
+         "serve BANK PLAN | audit BANK PLAN | drill NUMBER SESSIONS | migrate BANK PLAN")
+COMMANDS = {"check": 2, "assemble": 2, "replay": 3, "serve": 2, "audit": 2, "migrate": 2}
+OF_A_JOURNAL, WITHOUT_BASE = ("replay", "audit", "serve", "migrate"), ("audit", "migrate")
 ODD_WORDS = ["", "0", "-1", "01", "200", "201", "4294967296", "check", "Check", "--help", "\u00e9"]
 
 
@@ -143,11 +201,11 @@ def commands(case):
         done = case.run(command, *words)
         exam.expect(done, 7, ["files failed"])
         demand(words[at] in done.errors, f"standard error does not name the file: {done.errors!r}")
-    elif way == 2 and command in ("replay", "audit", "serve"):
+    elif way == 2 and command in OF_A_JOURNAL:
         exam.assemble()
         place = draw.choice(["folder", "missing/journal", "bank.csv/journal"])
         done = case.run(command, *good[:COMMANDS[command]], journal=place)
-        halts = exam.halt if command != "audit" else None
+        halts = exam.halt if command not in WITHOUT_BASE else None
         exam.expect(done, *(halts or (9, ["disk failed"])))
     else:
         words = [command, *draw.choices(good + ODD_WORDS, k=draw.randrange(5))]
@@ -165,9 +223,9 @@ def a_drill(case, number):
     exam.expect(case.run("drill", str(number), "1"), 0, [f"drill {number} sessions 1", line])
 
 
-KINDS = {"texts": texts, "commands": commands, "journals": journals, "stops": stops,
+KINDS = {"texts": texts, "commands": commands, "journals": journals, "moves": moves, "stops": stops,
          "messages": torture_http.messages, "crowd": torture_http.crowd, "waits": torture_waits.waits}
-SHARES = {"texts": 8, "commands": 1, "journals": 4, "stops": 4, "messages": 4, "crowd": 1, "waits": 0.1}
+SHARES = {"texts": 8, "commands": 1, "journals": 4, "moves": 3, "stops": 4, "messages": 4, "crowd": 1, "waits": 0.1}
 
 
 def run_case(program, seed, number, kinds, folder):

@@ -2,7 +2,7 @@
 run has to give.
 
 What is wanted is decided by readers and models in Python that share nothing with the product:
-`mutate_bank`, `text_readers`, `audit`, `check_tree` and `reply_model`.
+`mutate_bank`, `text_readers`, `audit`, `check_tree`, `journal_move` and `reply_model`.
 """
 import io
 import math
@@ -15,6 +15,7 @@ from collections import namedtuple
 
 from shadowtools.checkers import audit
 from shadowtools.checkers import check_tree
+from shadowtools.checkers import journal_move
 from shadowtools.checkers import mutate_bank
 from shadowtools.checkers import reply_model
 from shadowtools.checkers import text_readers
@@ -23,6 +24,7 @@ from shadowtools.command import Refused
 
 LIMIT = 900  # seconds that a run may take, also where it has little of the processor
 ENUMERATED = 20000  # so many sets of items are compared at the most
+VERSION = "journal: version"  # a journal of version 1 that was not moved, where entries are to be added
 
 Run = namedtuple("Run", "status out errors")
 # How a run is stopped: `size` is the most bytes that a file may get, `dies` whether a write beyond
@@ -36,6 +38,10 @@ NO_STOP = Stop()
 def demand(holds, text):
     if not holds:
         raise Surprise(text)
+
+
+def lines_text(lines):
+    return "".join(line + "\n" for line in lines).encode("ascii")
 
 
 def shown(data):
@@ -137,7 +143,7 @@ class Exam:
 
     def expect(self, done, status, lines):
         """Demands that a run gave this status and these lines."""
-        wanted = "".join(line + "\n" for line in lines).encode("ascii")
+        wanted = lines_text(lines)
         demand((done.status, done.out) == (status, wanted),
                f"wanted status {status} and {shown(wanted)}; "
                f"the program gave {done.status} and {shown(done.out)}")
@@ -202,6 +208,48 @@ class Exam:
         except Refused as refused:
             return str(refused)
 
+    def opened(self, data):
+        """The history as `replay` and `serve` have it, or the line of their refusal."""
+        try:
+            if len(data or b"") <= self.rules.journal and journal_move.is_unmoved(data or b""):
+                return VERSION
+        except Refused as refused:
+            return str(refused)
+        return self.history(data)
+
+    def refuse(self, done, status, lines):
+        """Demands that a run gave this status and these lines, and names the command that moves an old journal."""
+        self.expect(done, status, lines)
+        if lines == [VERSION]:
+            demand("migrate" in done.errors, f"standard error does not name migrate: {done.errors!r}")
+
+    def migrate(self, stop=NO_STOP):
+        """The command `migrate` beside `journal_move`. Where it is stopped, the file represents what it represented before."""
+        before = self.case.read("journal")
+        done = self.case.run("migrate", *self.words, stop=stop)
+        after = self.case.read("journal")
+        if self.refused:
+            self.expect(done, self.refused[0], [self.refused[1]])
+            demand(after == before, "migrate changed the journal of a plan that is refused")
+            return
+        wanted = journal_move.move_of(self.rules, before)
+        if stop == NO_STOP or (done.status, done.out) == (wanted.status, lines_text(wanted.lines)):
+            self.expect(done, wanted.status, wanted.lines)
+            demand(after == wanted.data, f"the file after {wanted.lines[0]!r} is another one")
+        else:
+            self.judge_stopped(before, after, done, stop)
+
+    def judge_stopped(self, before, after, done, stop):
+        """Demands that a migration which was stopped lost nothing, and ended as it was stopped."""
+        allowed = [-signal.SIGXFSZ if stop.dies else -signal.SIGKILL] if stop.stops else [8] if stop.full else [9]
+        demand(done.status in allowed, f"status {done.status} of a migration that was stopped by {stop}")
+        demand(done.out in (b"", b"disk failed\n") if done.status == 9 else done.out == b"", f"printed {shown(done.out)}")
+        front = journal_move.kept(before)[:-1] if len(before) > 9 else b""
+        demand(after.startswith(front), "a byte before the closed gate has changed")
+        found = [self.history(data) for data in (before, after)]
+        said = [one if isinstance(one, str) else reply_model.summary(one) for one in found]
+        demand(said[0] == said[1], f"the history was {said[0]}, and is {said[1]}")
+
     def audit(self):
         """The command `audit` beside `audit.py`; it changes nothing, and makes no file."""
         before = self.case.read("journal")
@@ -223,7 +271,7 @@ class Exam:
         done = self.case.run("serve", *self.words)
         early = self.early(b"", before)
         if early:
-            self.expect(done, *early)
+            self.refuse(done, *early)
             demand(self.case.read("journal") == before, "serve changed a journal that it refused")
         else:
             self.expect(done, 0, reply_model.summary(self.history(before))[:1])
@@ -242,7 +290,7 @@ class Exam:
             demand(after == before, "a run that halts before its requests changed the journal")
             killed = stop.after is not None and done.status == -signal.SIGKILL
             if not killed and not (stop.full and done.status == 8):
-                self.expect(done, *early)
+                self.refuse(done, *early)
             return 0
         return Judged(self, text_readers.read_script(script), before, after, done, stop).judge()
 
@@ -256,7 +304,7 @@ class Exam:
             return 5, [fault.line]
         if self.halt and b"base" not in self.plan.lines:
             return self.halt
-        found = self.history(before)
+        found = self.opened(before)
         return (6, [found]) if isinstance(found, str) else None
 
 

@@ -107,6 +107,15 @@ def damaged_journal(draw, data, gates):
     return data[:place] + bytes([(data[place] + draw.choice([1, 255, 2])) % 256]) + data[place + 1:]
 
 
+def with_tail(draw, old, moved):
+    """A journal of version 1 with what may be behind its closed gate: nothing, a part of a move that was stopped, records, or any
+    bytes; and with any value of that gate but 1."""
+    gate = draw.choice([0, 0, 0, 2, 255])
+    tail = draw.choice([b"", moved[len(old):draw.randrange(len(old), len(moved) + 1)], moved[8 + 1:],
+                        old[8 + 1:], draw.randbytes(draw.randrange(1, 40))])
+    return old[:-1] + bytes([gate]) + tail
+
+
 # ---------------------------------------------------------------- examinations
 
 def small_problem(draw):

@@ -2,14 +2,13 @@ use Rattle.std.proofs.Common.{◌≡◌, ℕ, List, length, sym, ◌∙◌, subs
 use Rattle.std.proofs.lemmas.List.{take_all}
 use Rattle.exam_edge.specs.Images.{Account, latest, cut_to, shortened, dropped, Grows, IsClean, IsImage, IsSettled, AtEachMoment}
 use Rattle.exam_edge.specs.ImageLaws.{started, goes_on}
-use Rattle.answer_journal.specs.Frames.{shadowj1}
 use Rattle.answer_journal.proofs.Settling.{own_length, short_settled}
 use Rattle.answer_journal.proofs.opening.settle_short.Goals as goal
 
 cut_moments : (content : List ℕ) (a0 a1 : List Account) (size : ℕ) → size ≡ length content → IsImage (latest a0) content → Grows (dropped (cut_to size (latest a0))) a0 a1 → AtEachMoment a0 a1 (IsImage (latest a0))
 cut_moments content a0 a1 size size_is image g =
     let h = subst (λ (n : ℕ). Grows (dropped (cut_to n (latest a0))) a0 a1) size_is g in
-    goes_on (IsImage (latest a0)) (dropped (cut_to (length content) (latest a0))) a0 a0 a1 (started (IsImage (latest a0)) a0 (λ file i. i)) h (own_length shadowj1 content a0 image)
+    goes_on (IsImage (latest a0)) (dropped (cut_to (length content) (latest a0))) a0 a0 a1 (started (IsImage (latest a0)) a0 (λ file i. i)) h (own_length content a0 image)
 
 pub cut_durably-requires : goal.cut_durably-requires
 cut_durably-requires g c = λ told. let size_is = c.requires.extent.size_is told in omega (arith, size_is)
@@ -40,5 +39,5 @@ returns-clause-left g c = λ told.
     let size_is : c.args.extent.size ≡ length content = c.requires.extent.size_is told in
     let synced : IsClean (shortened (length content) (latest a0)) → IsSettled content a1 = λ clean.
     subst (λ (f : List ℕ). IsSettled f a1) (returns-clause-content g c told) (c.in_ok-cut_durably.ensures.settled told (subst (λ (n : ℕ). IsClean (shortened n (latest a0))) (sym size_is) clean)) in
-    short_settled shadowj1 content a0 (g.met.D.Disk.is_image disk told) a1 (omega (arith, few, size_is)) (c.requires.extent.left told) synced
+    short_settled content a0 (g.met.D.Disk.is_image disk told) (omega (arith, few, size_is)) a1 (c.requires.extent.left told) synced
     (subst (λ (n : ℕ). Grows (dropped (cut_to n (latest a0))) a0 a1) size_is (c.cut_durably.ensures.crash told))

@@ -1,34 +1,34 @@
 use Rattle.std.proofs.Common.{Some, sym, ◌∙◌, ap}
-use Rattle.answer_journal.specs.Frames.{shadowj1}
+use Rattle.answer_journal.specs.Frames.{shadowj2}
 use Rattle.answer_journal.proofs.Settling.{header_moments, header_clean}
 use Rattle.answer_journal.proofs.Tidying.{begun_is, begun_rests, opened_file-short, short_gives}
 use Rattle.answer_journal.proofs.opening.write_header.Goals as goal
 
 pub returns-in_err-write_durably-clause-moments : goal.returns-in_err-write_durably-clause-moments
 returns-in_err-write_durably-clause-moments g c = λ told.
-    header_moments shadowj1 (g.D.Disk.content c.args.disk.now) (g.D.Disk.accounts c.args.disk.now) (c.requires.short told) (g.D.Disk.accounts c.write_durably.new.disk) (c.requires.left told) (c.write_durably.ensures.crash told)
+    header_moments shadowj2 (g.D.Disk.content c.args.disk.now) (g.D.Disk.accounts c.args.disk.now) (c.requires.short told) (g.D.Disk.accounts c.write_durably.new.disk) (c.requires.left told) (c.write_durably.ensures.crash told)
 
 pub returns-clause-moments : goal.returns-clause-moments
 returns-clause-moments g c = λ told.
-    header_moments shadowj1 (g.D.Disk.content c.args.disk.now) (g.D.Disk.accounts c.args.disk.now) (c.requires.short told) (g.D.Disk.accounts c.write_durably.new.disk) (c.requires.left told) (c.write_durably.ensures.crash told)
+    header_moments shadowj2 (g.D.Disk.content c.args.disk.now) (g.D.Disk.accounts c.args.disk.now) (c.requires.short told) (g.D.Disk.accounts c.write_durably.new.disk) (c.requires.left told) (c.write_durably.ensures.crash told)
 
 pub returns-clause-rest : goal.returns-clause-rest
 returns-clause-rest g c = λ told.
     let c0 = g.D.Disk.content c.args.disk.now in
     let few = c.requires.short told in
-    let clean = header_clean shadowj1 c0 (g.D.Disk.accounts c.args.disk.now) few (c.requires.left told) in
-    (begun_rests shadowj1 c0 (g.D.Disk.content c.write_durably.new.disk) (g.D.Disk.accounts c.write_durably.new.disk) few (c.in_ok-write_durably.ensures.content told) (c.in_ok-write_durably.ensures.settled told clean)).0
+    let clean = header_clean shadowj2 c0 (g.D.Disk.accounts c.args.disk.now) few (c.requires.left told) in
+    (begun_rests shadowj2 c0 (g.D.Disk.content c.write_durably.new.disk) (g.D.Disk.accounts c.write_durably.new.disk) few (c.in_ok-write_durably.ensures.content told) (c.in_ok-write_durably.ensures.settled told clean)).0
 
 pub returns-clause-keeps : goal.returns-clause-keeps
 returns-clause-keeps g c = λ told.
     let c0 = g.D.Disk.content c.args.disk.now in
     let few = c.requires.short told in
-    let clean = header_clean shadowj1 c0 (g.D.Disk.accounts c.args.disk.now) few (c.requires.left told) in
-    short_gives shadowj1 c0 few
-    ∙ ap Some (sym (begun_rests shadowj1 c0 (g.D.Disk.content c.write_durably.new.disk) (g.D.Disk.accounts c.write_durably.new.disk) few (c.in_ok-write_durably.ensures.content told) (c.in_ok-write_durably.ensures.settled told clean)).1)
+    let clean = header_clean shadowj2 c0 (g.D.Disk.accounts c.args.disk.now) few (c.requires.left told) in
+    short_gives shadowj2 c0 few
+    ∙ ap Some (sym (begun_rests shadowj2 c0 (g.D.Disk.content c.write_durably.new.disk) (g.D.Disk.accounts c.write_durably.new.disk) few (c.in_ok-write_durably.ensures.content told) (c.in_ok-write_durably.ensures.settled told clean)).1)
 
 pub returns-clause-content : goal.returns-clause-content
 returns-clause-content g c = λ told.
     let c0 = g.D.Disk.content c.args.disk.now in
     let few = c.requires.short told in
-    begun_is shadowj1 c0 (g.D.Disk.content c.write_durably.new.disk) few (c.in_ok-write_durably.ensures.content told) ∙ sym (opened_file-short shadowj1 c0 9 few)
+    begun_is shadowj2 c0 (g.D.Disk.content c.write_durably.new.disk) few (c.in_ok-write_durably.ensures.content told) ∙ sym (opened_file-short c0 9 few)

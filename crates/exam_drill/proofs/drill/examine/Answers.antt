@@ -1,12 +1,11 @@
 use Rattle.std.proofs.Common.{◌∙◌, refl}
-use Rattle.answer_journal.specs.Frames.{shadowj1}
 use Rattle.answer_journal.specs.StandingLaws.{settled_left}
 use Rattle.exam_drill.proofs.DrillLaws.{begins_empty, summed, unsummed}
 use Rattle.exam_drill.proofs.drill.examine.Goals as goal
 
 -- a file in memory that was just made
 pub open-requires-clause-left : goal.open-requires-clause-left
-open-requires-clause-left c = λ told. settled_left shadowj1 _ _ c.of-disk.ensures.accounts
+open-requires-clause-left c = λ told. settled_left _ _ c.of-disk.ensures.accounts
 
 pub returns-clause-err : goal.returns-clause-err
 returns-clause-err c =

@@ -9,13 +9,15 @@ abbrev pub invariant-records : goal.invariant-records
 invariant-records g l = record {
   bank : l.book.bank ≡ l.fn.book.bank;
   plan : l.book.plan ≡ l.fn.book.plan;
-  taken : AreTakenWith l.fn.book.bank l.fn.book.plan (g.D.Disk.tells l.fn.walk.disk) (g.D.Disk.content l.fn.walk.disk) l.walk.given l.walk.at l.book.entries l.vectors;
+  taken : AreTakenWith l.fn.book.bank l.fn.book.plan l.fn.walk.record_version l.fn.walk.at (g.D.Disk.tells l.fn.walk.disk) (g.D.Disk.content l.fn.walk.disk) l.walk.given l.walk.at l.book.entries l.vectors;
   asked : is_some l.vectors ≡ is_some l.fn.vectors;
   noted : l.marks ≡ map Old l.book.entries;
   limit : l.walk.limit ≡ l.fn.walk.limit;
   size : l.walk.size ≡ l.fn.walk.size;
+  versions : (l.walk.header_version ≡ l.fn.walk.header_version) × (l.walk.record_version ≡ l.fn.walk.record_version);
   content : IsTrue (g.D.Disk.tells l.fn.walk.disk) → g.D.Disk.content l.walk.disk ≡ g.D.Disk.content l.fn.walk.disk;
   accounts : IsTrue (g.D.Disk.tells l.fn.walk.disk) → g.D.Disk.accounts l.walk.disk ≡ g.D.Disk.accounts l.fn.walk.disk;
+  aside : IsTrue (g.D.Disk.tells l.fn.walk.disk) → g.D.Disk.aside l.walk.disk ≡ g.D.Disk.aside l.fn.walk.disk;
   frame : IsLent g.D.Disk.tells g.D.Disk.identity g.D.Disk.faults l.fn.walk.disk l.walk.disk;
 }
 

@@ -114,3 +114,20 @@ returns-in-Audit g c =
       sink_tells = c.audit_journal.ensures.sink_tells;
       disk = c.audit_journal.ensures.disk;
     }
+
+pub returns-in-Migrate : goal.returns-in-Migrate
+returns-in-Migrate g c =
+    record {
+      ok = rw c.in-Migrate.is c.migrate_journal.ensures.ok;
+      err = rw c.in-Migrate.is c.migrate_journal.ensures.err;
+      files = c.migrate_journal.ensures.files;
+      sink = c.migrate_journal.ensures.sink;
+      failed = c.migrate_journal.ensures.failed;
+      kept = c.migrate_journal.ensures.kept;
+      unused = rw c.in-Migrate.is (λ no. absurd (no tt));
+      files_grow = c.migrate_journal.ensures.files_grow;
+      sink_grows = c.migrate_journal.ensures.sink_grows;
+      files_tell = c.migrate_journal.ensures.files_tell;
+      sink_tells = c.migrate_journal.ensures.sink_tells;
+      disk = c.migrate_journal.ensures.disk;
+    }

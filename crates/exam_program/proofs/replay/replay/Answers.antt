@@ -11,7 +11,7 @@ use Rattle.exam_program.specs.Halts.{IsBeforeJournal}
 use Rattle.exam_program.specs.Outside.{disk_seen}
 use Rattle.exam_program.specs.Stopping.{Finishes, IsServed, IsUnserved, IsReplayed, Halted}
 use Rattle.exam_program.proofs.OutcomeLaws.{rose_so, opened_so}
-use Rattle.exam_program.proofs.ReplayLaws.{failing_so, unwritten_so, unopened_so, IsHandedBack, finish_so, halted_so, as_given, at_err}
+use Rattle.exam_program.proofs.ReplayLaws.{failing_so, unwritten_so, unopened_so, moved_so, IsHandedBack, finish_so, halted_so, as_given, at_err}
 use Rattle.exam_program.proofs.RequestLaws.{on_ok, if_err, nothing_written}
 use Rattle.exam_program.proofs.replay.replay.Goals as goal
 
@@ -47,7 +47,7 @@ returns-clause-ok g c =
     let still = λ (t : disk.told ≡ true). gone.tells ∙ (done.disk.tells ∙ (opened.tells ∙ t)) in
     let back : IsHandedBack b plan disk old new = record {
       legal = opened.legal;
-      found = opened.stands;
+      found = λ t. moved_so b plan (history old.marks) disk.found (opened.stands t) (opened.version t);
       told = opened.tells;
       images = sym (ap latest gone.accounts);
       moments = sym gone.accounts;
@@ -82,7 +82,7 @@ returns-clause-err g c =
     let still = λ (t : disk.told ≡ true). gone.tells ∙ (done.disk.tells ∙ (opened.tells ∙ t)) in
     let back : IsHandedBack b plan disk old new = record {
       legal = opened.legal;
-      found = opened.stands;
+      found = λ t. moved_so b plan (history old.marks) disk.found (opened.stands t) (opened.version t);
       told = opened.tells;
       images = sym (ap latest gone.accounts);
       moments = sym gone.accounts;

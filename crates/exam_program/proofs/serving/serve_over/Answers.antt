@@ -19,7 +19,7 @@ use Rattle.exam_program.specs.Serves.{IsExamined}
 use Rattle.exam_program.specs.Stopping.{IsUnopened, opening_halt}
 use Rattle.exam_program.specs.Halts.{IsBeforeJournal}
 use Rattle.exam_program.proofs.OutcomeLaws.{rose_later}
-use Rattle.exam_program.proofs.ReplayLaws.{failing_so, unwritten_so, unopened_so, no_sink}
+use Rattle.exam_program.proofs.ReplayLaws.{failing_so, unwritten_so, unopened_so, moved_so, no_sink}
 use Rattle.exam_program.proofs.RequestLaws.{nothing_written}
 use Rattle.exam_program.proofs.ServeLaws.{server_unopened, IsClosed, same_plan, examined_so, ends_serving, halt_status, ending_status, failed_door_so}
 use Rattle.exam_program.proofs.StatusLaws.{at_sink, at_disk, at_before, not_door, disk_fault, late_fault, ending_unprinted, ending_late}
@@ -78,7 +78,7 @@ returns-clause-answers g c = λ words o is same.
       base_is = opened.base;
       told = opened.tells;
       handed = opened.opened;
-      found = opened.stands;
+      found = λ t. moved_so b plan (history old.marks) disk.found (opened.stands t) (opened.version t);
       short = opened.short;
       marks = opened.marks;
       same = done.same;

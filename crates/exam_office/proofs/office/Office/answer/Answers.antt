@@ -90,10 +90,10 @@ returns-in-Ok-write-clause-call g c =
     let found : IsAnswerFound mid.bank mid.plan H s k r false = rw c.in-Ok-false.field-0-test at c.in-Ok-false.ensures.found in
     let rec : Record = record { entry = entry; tree = None } in
     let stood = answer_stands mid.bank mid.plan H s k r found.0 in
-    let stands = stands_written mid.plan mid.marks new.marks entry (with_record mid.bank mid.plan mid.marks rec) s stood.0 stood.1 c.in-Ok-write.ensures.written in
+    let stands = stands_written mid.plan mid.marks new.marks entry (with_record mid.marks rec) s stood.0 stood.1 c.in-Ok-write.ensures.written in
     subst (λ (o : Option Refusal). Calls (FindsAnswer old.bank old.plan s k r) old new o)
     (looked new.bank new.plan (history new.marks) s stands.0 c.look-in-Ok-write.result (subst (λ (p : Plan). Rattle.history_model.specs.Places.place p (history new.marks) s ≡ Some stands.0) (sym c.write.ensures.same.plan) stands.1) c.look-in-Ok-write.ensures.refused)
-    (call_written (FindsAnswer old.bank old.plan s k r) old mid new c.settle.ensures.same c.in-Ok.ensures.sure c.in-Ok.ensures.mended entry (with_record mid.bank mid.plan mid.marks rec) (finds_there old mid c.settle.ensures.same (λ (b : Tables) (plan : Plan). FindsAnswer b plan s k r) H (add entry) found) c.in-Ok-write.ensures.written c.in-Ok-write.ensures.sure)
+    (call_written (FindsAnswer old.bank old.plan s k r) old mid new c.settle.ensures.same c.in-Ok.ensures.sure c.in-Ok.ensures.mended entry (with_record mid.marks rec) (finds_there old mid c.settle.ensures.same (λ (b : Tables) (plan : Plan). FindsAnswer b plan s k r) H (add entry) found) c.in-Ok-write.ensures.written c.in-Ok-write.ensures.sure)
 
 pub returns-in-Err-write-clause-call : goal.returns-in-Err-write-clause-call
 returns-in-Err-write-clause-call g c =

@@ -75,7 +75,7 @@ returns-in-Ok-write-clause-call g c =
     let entry : Entry = c.in-Ok-default-Some.entry in
     let rec : Record = record { entry = entry; tree = None } in
     let found : IsStartFound mid.bank mid.plan H booking c.in-Ok-default-Some.session (Some entry) = rw c.in-Ok-default-Some.field-0-1-is at c.in-Ok-default-Some.ensures.found in
-    call_written (FindsStart old.bank old.plan booking) old mid new c.settle.ensures.same c.in-Ok.ensures.sure c.in-Ok.ensures.mended rec.entry (with_record mid.bank mid.plan mid.marks rec) (finds_there old mid c.settle.ensures.same (λ (b : Tables) (plan : Plan). FindsStart b plan booking) H (add rec.entry) found.0) c.in-Ok-write.ensures.written c.in-Ok-write.ensures.sure
+    call_written (FindsStart old.bank old.plan booking) old mid new c.settle.ensures.same c.in-Ok.ensures.sure c.in-Ok.ensures.mended rec.entry (with_record mid.marks rec) (finds_there old mid c.settle.ensures.same (λ (b : Tables) (plan : Plan). FindsStart b plan booking) H (add rec.entry) found.0) c.in-Ok-write.ensures.written c.in-Ok-write.ensures.sure
 
 pub returns-in-Ok-write-clause-session : goal.returns-in-Ok-write-clause-session
 returns-in-Ok-write-clause-session g c =
@@ -87,7 +87,7 @@ returns-in-Ok-write-clause-session g c =
     let entry : Entry = c.in-Ok-default-Some.entry in
     let rec : Record = record { entry = entry; tree = None } in
     let found : IsStartFound mid.bank mid.plan H booking c.in-Ok-default-Some.session (Some entry) = rw c.in-Ok-default-Some.field-0-1-is at c.in-Ok-default-Some.ensures.found in
-    held_written mid.marks new.marks rec.entry (with_record mid.bank mid.plan mid.marks rec) c.in-Ok-default-Some.session booking c.in-Ok-write.ensures.written found.1
+    held_written mid.marks new.marks rec.entry (with_record mid.marks rec) c.in-Ok-default-Some.session booking c.in-Ok-write.ensures.written found.1
 
 pub returns-in-Err-write-clause-call : goal.returns-in-Err-write-clause-call
 returns-in-Err-write-clause-call g c =
@@ -137,7 +137,7 @@ returns-in-Ok-write-clause-fresh g c =
     let entry : Entry = c.in-Ok-default-Some.entry in
     let rec : Record = record { entry = entry; tree = None } in
     let found : IsStartFound mid.bank mid.plan H booking c.in-Ok-default-Some.session (Some entry) = rw c.in-Ok-default-Some.field-0-1-is at c.in-Ok-default-Some.ensures.found in
-    (mid.marks, rec.entry, with_record mid.bank mid.plan mid.marks rec, c.in-Ok.ensures.mended, c.in-Ok-write.ensures.written, found.0.2)
+    (mid.marks, rec.entry, with_record mid.marks rec, c.in-Ok.ensures.mended, c.in-Ok-write.ensures.written, found.0.2)
 
 pub write-requires-clause-may : goal.write-requires-clause-may
 write-requires-clause-may g c =

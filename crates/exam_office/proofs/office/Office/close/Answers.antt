@@ -58,10 +58,10 @@ returns-in-Ok-write-clause-call g c =
     let rec : Record = record { entry = entry; tree = None } in
     let found = c.in-Ok-find_closing.ensures.found in
     let stood = stands_by H (place mid.plan H s) refusal_of_closing found.0 in
-    let stands = stands_written mid.plan mid.marks new.marks entry (with_record mid.bank mid.plan mid.marks rec) s stood.0 stood.1 c.in-Ok-write.ensures.written in
+    let stands = stands_written mid.plan mid.marks new.marks entry (with_record mid.marks rec) s stood.0 stood.1 c.in-Ok-write.ensures.written in
     subst (λ (o : Option Refusal). Calls (FindsClosing old.bank old.plan s) old new o)
     (looked new.bank new.plan (history new.marks) s stands.0 c.look.result (subst (λ (p : Plan). place p (history new.marks) s ≡ Some stands.0) (sym c.write.ensures.same.plan) stands.1) c.look.ensures.refused)
-    (call_written (FindsClosing old.bank old.plan s) old mid new c.settle.ensures.same c.in-Ok.ensures.sure c.in-Ok.ensures.mended entry (with_record mid.bank mid.plan mid.marks rec) (finds_there old mid c.settle.ensures.same (λ (b : Tables) (plan : Plan). FindsClosing b plan s) H (add entry) found) c.in-Ok-write.ensures.written c.in-Ok-write.ensures.sure)
+    (call_written (FindsClosing old.bank old.plan s) old mid new c.settle.ensures.same c.in-Ok.ensures.sure c.in-Ok.ensures.mended entry (with_record mid.marks rec) (finds_there old mid c.settle.ensures.same (λ (b : Tables) (plan : Plan). FindsClosing b plan s) H (add entry) found) c.in-Ok-write.ensures.written c.in-Ok-write.ensures.sure)
 
 pub returns-in-Err-write-clause-call : goal.returns-in-Err-write-clause-call
 returns-in-Err-write-clause-call g c =

@@ -95,11 +95,11 @@ returns-in-Ok-write-clause-call g c =
     let new = c.write.new.self in
     let rec : Record = record { entry = entry; tree = Some c.tree.result.now } in
     let at : place mid.plan H s ≡ Some (Pending (problem_of a.problem).step) = found.0.pending in
-    let stands = stands_written mid.plan mid.marks new.marks entry (with_record mid.bank mid.plan mid.marks rec) s (Pending (problem_of a.problem).step) at c.in-Ok-write.ensures.written in
+    let stands = stands_written mid.plan mid.marks new.marks entry (with_record mid.marks rec) s (Pending (problem_of a.problem).step) at c.in-Ok-write.ensures.written in
     subst (λ (o : Option Refusal). Calls (FindsCommit old.bank old.plan a) old new o)
     (looked new.bank new.plan (history new.marks) s stands.0 c.look.result (subst (λ (p : Plan). place p (history new.marks) s ≡ Some stands.0) (sym c.write.ensures.same.plan) stands.1)
     (subst (λ (p : Given). IfErr c.look.result (λ (refusal : Refusal). refusal_of new.bank new.plan (history new.marks) (Look p.session) ≡ Some refusal)) c.problem.ensures c.look.ensures.refused))
-    (call_written (FindsCommit old.bank old.plan a) old mid new c.settle.ensures.same c.in-Ok.ensures.sure c.in-Ok.ensures.mended entry (with_record mid.bank mid.plan mid.marks rec) (finds_there old mid c.settle.ensures.same (λ (b : Tables) (plan : Plan). FindsCommit b plan a) H (add entry) found) c.in-Ok-write.ensures.written c.in-Ok-write.ensures.sure)
+    (call_written (FindsCommit old.bank old.plan a) old mid new c.settle.ensures.same c.in-Ok.ensures.sure c.in-Ok.ensures.mended entry (with_record mid.marks rec) (finds_there old mid c.settle.ensures.same (λ (b : Tables) (plan : Plan). FindsCommit b plan a) H (add entry) found) c.in-Ok-write.ensures.written c.in-Ok-write.ensures.sure)
 
 pub returns-in-Ok-write-clause-at : goal.returns-in-Ok-write-clause-at
 returns-in-Ok-write-clause-at g c =
