@@ -275,7 +275,8 @@ impl<D: Disk> Journal<D> {
             ++ 1 ∷ frame_of frame.now) }
         ensures images { OnOk result (IsTrue (tells_of self.old)
             → AllImages (λ file. contents file
-            ≡ Some (second (payloads_of self.old ++ frame.now ∷ []))) (latest (accounts_of self.new))) }
+            ≡ Some (second (payloads_of self.old ++ frame.now ∷ [])))
+            (latest (accounts_of self.new))) }
         // At each moment of the call a crash leaves the payloads from before it, or those with the new one.
         ensures moments { IsTrue (tells_of self.old)
             → AtEachMoment (accounts_of self.old) (accounts_of self.new)

@@ -238,7 +238,8 @@ pub fn take_history<'a, D: Disk>(
         ≡ Some (counted_in (D.content walk.old.disk)) }
     ensures bank { IfOk result (λ found. found.0.bank ≡ bank.now) }
     ensures plan { IfOk result (λ found. found.0.plan ≡ spec.now) }
-    ensures taken { IfOk result (λ found. AreTaken bank.now spec.now walk.old.record_version walk.old.at
+    ensures taken { IfOk result
+        (λ found. AreTaken bank.now spec.now walk.old.record_version walk.old.at
         (D.tells walk.old.disk) (D.content walk.old.disk) walk.new.given walk.new.at
         found.0.entries) }
     ensures marks { IfOk result
