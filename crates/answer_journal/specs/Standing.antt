@@ -121,8 +121,8 @@ pub record HasSomeDoubt (accounts : List Account) : Type 0 where
   pub version : ℕ
   pub doubt : HasDoubt (header version) accounts
 
--- a journal or its opening was interrupted: one record is in doubt, or the header was being written,
--- or the gate that moves the journal was being opened
+-- a journal or its opening was interrupted: one record is in doubt, or the header was being
+-- written, or the gate that moves the journal was being opened
 abbrev pub IsInterrupted : List Account → Type 0
 IsInterrupted accounts =
     HasSomeDoubt accounts ⊎ (IsBeingMade accounts ⊎ IsBeingSwitched accounts)

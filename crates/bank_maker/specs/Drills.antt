@@ -23,7 +23,8 @@ plan_of_drill number sessions = plan_text number sessions (items number)
 
 -- the requests of the script, which draws on after the items
 abbrev pub requests_of_drill : ℕ → ℕ → List Request
-requests_of_drill number sessions = requests_from (state_after number draws_of_items) (acts sessions)
+requests_of_drill number sessions =
+    requests_from (state_after number draws_of_items) (acts sessions)
 
 -- the script
 abbrev pub script_of_drill : ℕ → ℕ → List ℕ

@@ -9,8 +9,8 @@ use Rattle.bank_maker.specs.Items.{items}
 use Rattle.bank_maker.specs.Plans.{plan}
 use Rattle.bank_maker.specs.Drills.{tables_of_drill, plan_of_drill}
 
--- this plan has the stated numbers and sets, it is valid for the drill's bank, so that its base form meets it, and the plan
--- text is a text of it
+-- this plan has the stated numbers and sets, it is valid for the drill's bank, so that its base
+-- form meets it, and the plan text is a text of it
 pub record IsPlanOfDrill (number sessions : ℕ) (p : Plan) : Type 0 where
   pub means : plan_said p ≡ plan number sessions (items number)
   pub valid : IsPlanFor (tables_of_drill number) p

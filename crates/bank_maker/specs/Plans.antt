@@ -38,10 +38,11 @@ abbrev pub eight_bytes : ℕ → List ℕ
 eight_bytes number = to_be_bytes w64 number
 
 abbrev pub key_of : ℕ → List ℕ
-key_of number = ((eight_bytes number ++ eight_bytes number) ++ eight_bytes number) ++ eight_bytes number
+key_of number =
+    ((eight_bytes number ++ eight_bytes number) ++ eight_bytes number) ++ eight_bytes number
 
--- a test of twenty items; the key is the number as eight bytes, four times; the base form is the items
--- from 30 to 49, and the quantity may exceed theirs by 50
+-- a test of twenty items; the key is the number as eight bytes, four times; the base form is the
+-- items from 30 to 49, and the quantity may exceed theirs by 50
 abbrev pub plan : ℕ → ℕ → List DrawnItem → SaidPlan
 plan number sessions xs =
     record {

@@ -34,14 +34,16 @@ group_acts sessions first = map (λ session. Begins session) (group sessions fir
 
 -- groups of ten, in order
 unfoldable pub acts : ℕ → List Act
-acts sessions = flat_map (λ g. group_acts sessions (10 * g)) (range_with_len 0 ((sessions + 9) / 10))
+acts sessions =
+    flat_map (λ g. group_acts sessions (10 * g)) (range_with_len 0 ((sessions + 9) / 10))
 
 -- the line of an answer, with its line feed
 abbrev pub answer_text : ℕ → ℕ → ℕ → List ℕ
-answer_text session step response = codes "answer " ++ (decimal session ++ (codes " " ++ (decimal step ++ (codes " " ++ (decimal response ++ codes "\n")))))
+answer_text session step response = codes "answer " ++ (decimal session
+    ++ (codes " " ++ (decimal step ++ (codes " " ++ (decimal response ++ codes "\n")))))
 
--- what is asked at an act: session s has the booking s + 1, and an answer takes the next draw for its
--- response
+-- what is asked at an act: session s has the booking s + 1, and an answer takes the next draw for
+-- its response
 abbrev pub request_at : ℕ → Act → Request
 request_at state (Begins s) = Begin (s + 1)
 request_at state (Answers s k) = Answer s k (upper_bits (next_state state) % 2)
@@ -55,7 +57,8 @@ state_behind state _ = state
 -- the requests of acts, in order
 unfoldable pub requests_from : ℕ → List Act → List Request
 requests_from state [] = []
-requests_from state (act ∷ acts) = request_at state act ∷ requests_from (state_behind state act) acts
+requests_from state (act ∷ acts) =
+    request_at state act ∷ requests_from (state_behind state act) acts
 
 unfoldable pub script_text : ℕ → List Act → List ℕ
 script_text state ts = text_of_requests (requests_from state ts)

@@ -26,8 +26,8 @@ pub record IsShape (s : Shape) : Type 0 where
   pub responses_low : 2 ≤ s.responses
   pub responses : s.responses ≤ 5
 
--- the names of the columns of a quantity (`q0`), of the information at a grid point (`i0`), and of the log-likelihood of a
--- response at a grid point (`l0_0`)
+-- the names of the columns of a quantity (`q0`), of the information at a grid point (`i0`), and of
+-- the log-likelihood of a response at a grid point (`l0_0`)
 abbrev pub quantity_name : ℕ → List ℕ
 quantity_name k = (113 ∷ []) ++ decimal k
 

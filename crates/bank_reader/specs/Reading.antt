@@ -27,7 +27,8 @@ signeds_at k from count fields = each_below count (λ i. signed_at k (from + i) 
 
 -- the first column that isn't empty, of `count` columns side by side, as a fault
 abbrev pub not_empty_at : ℕ → ℕ → ℕ → List (List ℕ) → Option ReadFault
-not_empty_at k from count fields = first_below count (λ i. fault_where (nat_lt 0 (length (field fields (from + i)))) (Field k (from + i)))
+not_empty_at k from count fields = first_below count (λ i.
+    fault_where (nat_lt 0 (length (field fields (from + i)))) (Field k (from + i)))
 
 -- the item in a record: columns in their order, from left to right
 unfoldable pub item_at : Shape → ℕ → List (List ℕ) → Result Item ReadFault
@@ -40,8 +41,15 @@ item_at s k fields =
         quantities ← numbers_at k 3 s.quantities fields
         info ← numbers_at k (3 + s.quantities) s.grid fields
         loglik ← signeds_at k (first_loglik s) (min categories s.responses * s.grid) fields
-        unless (not_empty_at k (first_loglik s + min categories s.responses * s.grid) ((s.responses - min categories s.responses) * s.grid) fields)
-            (Ok (record { stimulus = stimulus; categories = categories; quantities = quantities; info = info; loglik = loglik }))))
+        unless (not_empty_at k (first_loglik s + min categories s.responses * s.grid)
+            ((s.responses - min categories s.responses) * s.grid) fields)
+            (Ok (record {
+              stimulus = stimulus;
+              categories = categories;
+              quantities = quantities;
+              info = info;
+              loglik = loglik;
+            }))))
 
 -- the items of the records after the header
 unfoldable pub items_at : Shape → List (List (List ℕ)) → Result (List Item) ReadFault
@@ -72,7 +80,8 @@ unfoldable pub leading_points : List (List ℕ) → ℕ → ℕ → ℕ
 leading_points cols from most = lead most (λ k. is_named cols (from + k) (point_name k))
 
 unfoldable pub leading_loglik : List (List ℕ) → ℕ → ℕ → ℕ
-leading_loglik cols from grid = lead (5 * grid) (λ k. is_named cols (from + k) (loglik_name (k / grid) (k % grid)))
+leading_loglik cols from grid =
+    lead (5 * grid) (λ k. is_named cols (from + k) (loglik_name (k / grid) (k % grid)))
 
 -- columns are taken from left to right as long as a header may have them
 unfoldable pub header_of : List (List ℕ) → Result Shape ReadFault

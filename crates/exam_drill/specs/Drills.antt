@@ -39,5 +39,6 @@ pub record IsUndone (number sessions : ℕ) (fault : DrillFault) : Type 0 where
 
 -- why a drill has no summary: the journal's limit is met, or memory ran out
 abbrev pub IsDrillFault : ℕ → ℕ → DrillFault → Type 0
-IsDrillFault number sessions (JournalFull size most) = IsUndone number sessions (JournalFull size most)
+IsDrillFault number sessions (JournalFull size most) =
+    IsUndone number sessions (JournalFull size most)
 IsDrillFault number sessions Memory = ⊤

@@ -26,18 +26,22 @@ fault_of plan (Refused why.Memory) = Some Memory
 fault_of plan reply = None
 
 -- the request is done, with some reply
-pub record IsDoneBy (b : Tables) (plan : Plan) (H : List Entry) (request : Request) (G : List Entry) : Type 0 where
+pub record IsDoneBy (b : Tables) (plan : Plan) (H : List Entry) (request : Request)
+    (G : List Entry) : Type 0 where
   pub reply : Reply
   pub does : Does b plan H request G reply
 
 -- the requests are done one after another, from the history H to G
-pub data LeadsTo (b : Tables) (plan : Plan) (H : List Entry) : List Request → List Entry → Type 0 where
+pub data LeadsTo (b : Tables) (plan : Plan) (H : List Entry) : List Request → List Entry
+    → Type 0 where
   none : LeadsTo b plan H [] H
-  one_more : (done : List Request) (G : List Entry) (request : Request) (K : List Entry) → LeadsTo b plan H done G
+  one_more : (done : List Request) (G : List Entry) (request : Request) (K : List Entry)
+      → LeadsTo b plan H done G
       → IsDoneBy b plan G request K → LeadsTo b plan H (done ++ request ∷ []) K
 
 -- the journal would have this length with the next record of the request, which is above its limit
-pub record IsTooLong (b : Tables) (plan : Plan) (H : List Entry) (request : Request) (size : ℕ) : Type 0 where
+pub record IsTooLong (b : Tables) (plan : Plan) (H : List Entry) (request : Request)
+    (size : ℕ) : Type 0 where
   pub G : List Entry
   pub cut_off : IsCutOff b plan H request G
   pub last : Record
@@ -50,11 +54,13 @@ pub record IsTooLong (b : Tables) (plan : Plan) (H : List Entry) (request : Requ
 
 -- why a request was not done: the limit of the journal, or lack of memory
 abbrev pub IsCutShort : Tables → Plan → List Entry → Request → DrillFault → Type 0
-IsCutShort b plan H request (JournalFull size most) = IsTooLong b plan H request size × (most ≡ plan.journal)
+IsCutShort b plan H request (JournalFull size most) =
+    IsTooLong b plan H request size × (most ≡ plan.journal)
 IsCutShort b plan H request Memory = ⊤
 
 -- the first requests were done, and the next one was not
-pub record IsStopped (b : Tables) (plan : Plan) (H : List Entry) (requests : List Request) (fault : DrillFault) : Type 0 where
+pub record IsStopped (b : Tables) (plan : Plan) (H : List Entry) (requests : List Request)
+    (fault : DrillFault) : Type 0 where
   pub done : List Request
   pub request : Request
   pub rest : List Request
@@ -64,12 +70,14 @@ pub record IsStopped (b : Tables) (plan : Plan) (H : List Entry) (requests : Lis
   pub cut_short : IsCutShort b plan G request fault
 
 -- the requests lead from the empty history to one with this summary
-pub record IsSummaryOf (b : Tables) (plan : Plan) (requests : List Request) (s : Summary) : Type 0 where
+pub record IsSummaryOf (b : Tables) (plan : Plan) (requests : List Request)
+    (s : Summary) : Type 0 where
   pub H : List Entry
   pub leads : LeadsTo b plan [] requests H
   pub is : s ≡ summary plan H
 
 -- or they were not all done
 abbrev pub IsExamFault : Tables → Plan → List Request → DrillFault → Type 0
-IsExamFault b plan requests (JournalFull size most) = IsStopped b plan [] requests (JournalFull size most)
+IsExamFault b plan requests (JournalFull size most) =
+    IsStopped b plan [] requests (JournalFull size most)
 IsExamFault b plan requests Memory = ⊤

@@ -1,4 +1,5 @@
-// Laws of the model of a disk.
+//! Laws of the model of a disk.
+
 ghost use Rattle.exam_edge.specs.Laws.{CleanWhereNoSyncFailed, PlainWhereNoSyncFailed};
 
 /// Where no sync fails, nothing is ever suspect: a disk in memory is one of the model that knows no suspect places, in which

@@ -24,4 +24,5 @@ IsGoodMark b plan base H mark = ⊤
 -- each mark of S at one of the places is good after the history of the marks before it
 abbrev pub AreGoodAt : Tables → Plan → List ℕ → List Mark → List ℕ → Type 0
 AreGoodAt b plan base S places =
-    All (λ p. IfSome (slice_get S p) (λ mark. IsGoodMark b plan base (history (take p S)) mark)) places
+    All (λ p. IfSome (slice_get S p) (λ mark. IsGoodMark b plan base (history (take p S)) mark))
+    places

@@ -16,7 +16,14 @@ pub record HallKnown : Type 0 where
 
 -- a pass, by the marks that it has seen
 abbrev pub marked : Known NotedMark → Known Mark
-marked p = record { turn = p.turn; number = p.number; splits = p.splits; seen = marks_of p.seen; mine = p.mine; fronts = p.fronts }
+marked p = record {
+  turn = p.turn;
+  number = p.number;
+  splits = p.splits;
+  seen = marks_of p.seen;
+  mine = p.mine;
+  fronts = p.fronts;
+}
 
 -- an office was opened with the hall's bank, plan and base form
 pub record IsOfficeOf (office : OpenedWith) (h : HallKnown) : Type 0 where
@@ -31,7 +38,8 @@ pub record HasOpening (seen : List NotedMark) (h : HallKnown) : Type 0 where
   pub noted : Contains seen (record { mark = Opened size; office = office })
   pub is_of : IsOfficeOf office h
 
--- the pass is of the hall's lock, and has seen its office opened with the hall's bank, plan and base form
+-- the pass is of the hall's lock, and has seen its office opened with the hall's bank, plan and
+-- base form
 pub record IsOf (p : Known NotedMark) (h : HallKnown) : Type 0 where
   pub lock : p.turn ≡ h.lock
   pub opening : HasOpening p.seen h

@@ -33,31 +33,38 @@ abbrev pub EndsSession : Request → Place → Type 0
 EndsSession (request.Close session) at = (step : ℕ) → at ≡ Pending step → ⊥
 EndsSession q at = ⊤
 
--- the request's first entry was added where it was not there yet; T are the marks that the turn added, S all of them
-pub record IsLed (plan : Plan) (q : Request) (S T : List Mark) (session : ℕ) (at : Place) (fresh : Bool) : Type 0 where
+-- the request's first entry was added where it was not there yet; T are the marks that the turn
+-- added, S all of them
+pub record IsLed (plan : Plan) (q : Request) (S T : List Mark) (session : ℕ) (at : Place)
+    (fresh : Bool) : Type 0 where
   pub is_at : IsAt plan q S T session at fresh
   pub one : AtMostOne (IsFirst q) (owns T)
   pub ends : EndsSession q at
 
--- the first entry of a request was added, or its answer was there; or it was refused; or the entry could not be added
+-- the first entry of a request was added, or its answer was there; or it was refused; or the entry
+-- could not be added
 abbrev pub Leads : Tables → Plan → Request → List Mark → List Mark → Reply → Type 0
 Leads b plan q S T (reply.At session at fresh) = IsLed plan q S T session at fresh
 Leads b plan q S T (reply.Exposure exposure) = IsExposed b plan q S T exposure
-Leads b plan q S T (reply.Refused r) = IsRefusedBy b plan q S T r ⊎ (Fails b plan (IsFirst q) S T r × LacksFirst b plan S q (owns T))
+Leads b plan q S T (reply.Refused r) =
+    IsRefusedBy b plan q S T r ⊎ (Fails b plan (IsFirst q) S T r × LacksFirst b plan S q (owns T))
 
 -- the reply is not that a session waits for an item
 abbrev pub IsNoWait : Reply → Type 0
 IsNoWait (reply.At session at fresh) = (step : ℕ) → at ≡ Pending step → ⊥
 IsNoWait answer = ⊤
 
--- the request is done, or its session waits for an item, with this problem; a search of it may begin with the vector
+-- the request is done, or its session waits for an item, with this problem; a search of it may
+-- begin with the vector
 abbrev pub IsBegun : Tables → Plan → Request → List Mark → List Mark → FirstAnswer → Type 0
 IsBegun b plan q S T (Done answer) = Leads b plan q S T answer × IsNoWait answer
-IsBegun b plan q S T (Waits fresh P warm) = IsLed plan q S T P.session (Pending P.step) fresh × IsAsked b plan (history S) P
+IsBegun b plan q S T (Waits fresh P warm) =
+    IsLed plan q S T P.session (Pending P.step) fresh × IsAsked b plan (history S) P
     × IfSome warm (FitsPlan b plan)
 
 -- a turn on one office adds marks to it; its history is a legal run afterwards
-pub record GoesOn (before after : List NotedMark) (makes : OpenedWith → List Mark → List Mark → Type 0) : Type 0 where
+pub record GoesOn (before after : List NotedMark) (makes : OpenedWith → List Mark → List Mark
+    → Type 0) : Type 0 where
   pub office : OpenedWith
   pub from : before ≡ noted office (marks_of before)
   pub to : after ≡ noted office (marks_of after)
@@ -68,4 +75,5 @@ pub record GoesOn (before after : List NotedMark) (makes : OpenedWith → List M
 
 -- the first turn of a request
 abbrev pub BeginsRequest : Request → List NotedMark → List NotedMark → FirstAnswer → Type 0
-BeginsRequest q before after begun = GoesOn before after (λ office S T. IsBegun office.bank office.plan q S T begun)
+BeginsRequest q before after begun =
+    GoesOn before after (λ office S T. IsBegun office.bank office.plan q S T begun)

@@ -75,7 +75,8 @@ abbrev pub IsServedFor : List Entry → Request → ℕ → Type 0
 IsServedFor H (Close session) s = ⊥
 IsServedFor H q s = IsSessionOf H q s × IsAnswered H q × IsTrue (is_started H s)
 
--- E has the entries of the request: its first one, then a setting aside, then a serving; or a part of them
+-- E has the entries of the request: its first one, then a setting aside, then a serving; or a part
+-- of them
 pub record IsPartOf (H : List Entry) (q : Request) (E : List Entry) : Type 0 where
   pub first : List Entry
   pub aside : List Entry
@@ -86,24 +87,29 @@ pub record IsPartOf (H : List Entry) (q : Request) (E : List Entry) : Type 0 whe
   pub one_serving : AtMostOne (λ e. (s : ℕ) × IsServedFor H q s × IsServing s e) serving
 
 -- ---- what an unfinished request lacks
--- the last mark is a fault: its entry may be in doubt, and a call resolves that before it tests the history
+-- the last mark is a fault: its entry may be in doubt, and a call resolves that before it tests the
+-- history
 abbrev pub IsAfterFault : List Mark → Type 0
 IsAfterFault S = (e : Entry) × EndsInFault S e
 
--- nothing was added, and the first entry of the request may follow, or the history was not tested; or counts were asked for
+-- nothing was added, and the first entry of the request may follow, or the history was not tested;
+-- or counts were asked for
 abbrev pub LacksFirst : Tables → Plan → List Mark → Request → List Entry → Type 0
 LacksFirst b plan S (Look session) E = ⊥
 LacksFirst b plan S Exposure E = E ≡ []
-LacksFirst b plan S q E = (E ≡ []) × (IsAfterFault S ⊎ ((e : Entry) × IsFirst q e × Legal b plan (history S) e))
+LacksFirst b plan S q E =
+    (E ≡ []) × (IsAfterFault S ⊎ ((e : Entry) × IsFirst q e × Legal b plan (history S) e))
 
--- the session waited for an item after the marks F, and still waits for it after S, or the history was not tested
+-- the session waited for an item after the marks F, and still waits for it after S, or the history
+-- was not tested
 pub record OwesItem (plan : Plan) (F S : List Mark) (session : ℕ) : Type 0 where
   pub step : ℕ
   pub waited : place plan (history F) session ≡ Some (Pending step)
   pub waits : IsAfterFault S ⊎ (place plan (history S) session ≡ Some (Pending step))
 
 -- the session of the request is owed an item, and E has no serving of it
-pub record LacksServing (plan : Plan) (F S : List Mark) (q : Request) (E : List Entry) : Type 0 where
+pub record LacksServing (plan : Plan) (F S : List Mark) (q : Request)
+    (E : List Entry) : Type 0 where
   pub session : ℕ
   pub is_served : IsServedFor (history F) q session
   pub owes : OwesItem plan F S session
@@ -125,7 +131,8 @@ abbrev pub IsWanted : List Entry → Request → Entry → Type 0
 IsWanted H q e = IsFirst q e ⊎ ((s : ℕ) × IsServedFor H q s × IsCommitted s e)
 
 -- ---- other callers
--- the marks S after their beginning F have, at a place that isn't one of the call's own entries, an entry that passes P
+-- the marks S after their beginning F have, at a place that isn't one of the call's own entries, an
+-- entry that passes P
 pub record HasOther (P : Entry → Type 0) (F S : List Mark) (own : List ℕ) : Type 0 where
   pub at : ℕ
   pub mark : Mark
@@ -142,7 +149,8 @@ MovedOn s F S own = HasOther (IsServing s) F S own × HasOther (IsAnswer s) F S 
 
 -- ---- why a request is not done
 -- the first test of the request that fails on the history; nothing was added
-pub record IsRefusedBy (b : Tables) (plan : Plan) (q : Request) (S T : List Mark) (r : Refusal) : Type 0 where
+pub record IsRefusedBy (b : Tables) (plan : Plan) (q : Request) (S T : List Mark)
+    (r : Refusal) : Type 0 where
   pub test : refusal_of b plan (history S) q ≡ Some r
   pub none : owns T ≡ []
   pub no_fault : NoFault T
@@ -152,8 +160,8 @@ module _ (b : Tables) (plan : Plan) (comes_next : Entry → Type 0) where
   abbrev pub IsFull : List Mark → ℕ → Type 0
   IsFull S size = (e : Entry) × comes_next e × IsTooLong b plan S e size
 
-  -- the last mark, which this call added, is a fault: of the next entry, which may follow, or of the entry that was in doubt
-  -- before it
+  -- the last mark, which this call added, is a fault: of the next entry, which may follow, or of
+  -- the entry that was in doubt before it
   pub record EndsInDoubt (S T : List Mark) : Type 0 where
     pub front : List Mark
     pub before : List Mark

@@ -45,18 +45,22 @@ pub record IsGoodFor (base : List ℕ) (made : Assembly) : Type 0 where
 pub record IsCommittable (seen : List NotedMark) (made : Assembly) : Type 0 where
   pub one : NotedMark
   pub there : Contains seen one
-  pub may : MayBeCommitted one.office.bank one.office.plan one.office.base (history (marks_of seen)) made
+  pub may : MayBeCommitted one.office.bank one.office.plan one.office.base
+      (history (marks_of seen)) made
   pub good : IsGoodFor one.office.base made
 
--- the session of the problem is at this place. At most its item was served; if it waits for an item, then that of another step
+-- the session of the problem is at this place. At most its item was served; if it waits for an
+-- item, then that of another step
 pub record IsPlaced (plan : Plan) (P : Problem) (S T : List Mark) (at : Place) : Type 0 where
   pub stands : place plan (history S) P.session ≡ Some at
   pub one : AtMostOne (IsServing P.session) (owns T)
   pub no_fault : NoFault T
   pub other : (step : ℕ) → at ≡ Pending step → (step ≢ P.step) × (owns T ≡ [])
 
--- the session still waits for the item of that step, now with eligibility set aside or not, as it was not before
-pub record IsAgain (b : Tables) (plan : Plan) (P : Problem) (S T : List Mark) (next : Problem) : Type 0 where
+-- the session still waits for the item of that step, now with eligibility set aside or not, as it
+-- was not before
+pub record IsAgain (b : Tables) (plan : Plan) (P : Problem) (S T : List Mark)
+    (next : Problem) : Type 0 where
   pub asked : IsAsked b plan (history S) next
   pub session : next.session ≡ P.session
   pub step : next.step ≡ P.step
@@ -81,7 +85,8 @@ Commits made before after round =
     × EndsGood office.bank office.plan office.base S T)
 
 -- one assembly with its commit, in at most one turn
-pub record Rounds (h : HallKnown) (P : Problem) (old new : Known Mark) (round : Round) : Type 0 where
+pub record Rounds (h : HallKnown) (P : Problem) (old new : Known Mark)
+    (round : Round) : Type 0 where
   pub places : List ℕ
   pub fronts : List ℕ
   pub went : Went old new fronts places
@@ -91,7 +96,8 @@ pub record Rounds (h : HallKnown) (P : Problem) (old new : Known Mark) (round : 
   pub good : AreGoodAt h.bank h.plan h.base new.seen places
 
 -- the session is at this place; at most eligibility was set aside, and then an item served
-pub record IsServedAt (plan : Plan) (session : ℕ) (F S T : List Mark) (places : List ℕ) (at : Place) : Type 0 where
+pub record IsServedAt (plan : Plan) (session : ℕ) (F S T : List Mark) (places : List ℕ)
+    (at : Place) : Type 0 where
   pub stands : place plan (history S) session ≡ Some at
   pub aside : List Entry
   pub serving : List Entry
@@ -101,13 +107,17 @@ pub record IsServedAt (plan : Plan) (session : ℕ) (F S T : List Mark) (places 
   pub moved : (step : ℕ) → at ≡ Pending step → MovedOn session F S places
   pub no_fault : NoFault T
 
-abbrev pub Serves : Tables → Plan → ℕ → List Mark → List Mark → List Mark → List ℕ → Result Place Refusal → Type 0
+abbrev pub Serves : Tables → Plan → ℕ → List Mark → List Mark → List Mark → List ℕ
+    → Result Place Refusal → Type 0
 Serves b plan session F S T places (Ok at) = IsServedAt plan session F S T places at
-Serves b plan session F S T places (Err r) = Fails b plan (IsCommitted session) S T r × AtMostOne (IsAside session) (owns T)
+Serves b plan session F S T places (Err r) =
+    Fails b plan (IsCommitted session) S T r × AtMostOne (IsAside session) (owns T)
     × OwesItem plan F S session
 
--- at most two assemblies with their commits, the first for a problem of the history that the pass had seen
-pub record Assembles (h : HallKnown) (session : ℕ) (old new : Known Mark) (result : Result Place Refusal) : Type 0 where
+-- at most two assemblies with their commits, the first for a problem of the history that the pass
+-- had seen
+pub record Assembles (h : HallKnown) (session : ℕ) (old new : Known Mark)
+    (result : Result Place Refusal) : Type 0 where
   pub places : List ℕ
   pub fronts : List ℕ
   pub went : Went old new fronts places

@@ -29,9 +29,10 @@ abbrev pub HasClosed : Request → List Entry → Type 0
 HasClosed (request.Close session) E = Contains E (Closed session)
 HasClosed q E = ⊤
 
--- the session of the request is at this place after the marks S, of which T are those that this call added; `fresh` is true
--- exactly where the call started the session
-pub record IsAt (plan : Plan) (q : Request) (S T : List Mark) (session : ℕ) (at : Place) (fresh : Bool) : Type 0 where
+-- the session of the request is at this place after the marks S, of which T are those that this
+-- call added; `fresh` is true exactly where the call started the session
+pub record IsAt (plan : Plan) (q : Request) (S T : List Mark) (session : ℕ) (at : Place)
+    (fresh : Bool) : Type 0 where
   pub session_is : IsSessionOf (history S) q session
   pub stands : place plan (history S) session ≡ Some at
   pub answered : IsAnswered (history S) q
@@ -40,23 +41,28 @@ pub record IsAt (plan : Plan) (q : Request) (S T : List Mark) (session : ℕ) (a
   pub no_fault : NoFault T
 
 -- the counts are those of the history; nothing was added
-pub record IsExposed (b : Tables) (plan : Plan) (q : Request) (S T : List Mark) (exposure : Exposure) : Type 0 where
+pub record IsExposed (b : Tables) (plan : Plan) (q : Request) (S T : List Mark)
+    (exposure : Exposure) : Type 0 where
   pub asked : q ≡ request.Exposure
   pub is_exposure : IsExposureOf b plan (history S) exposure
   pub none : owns T ≡ []
   pub no_fault : NoFault T
 
--- what the reply tells: F is what the pass had seen after the call's first turn, S what it has seen now, T the marks that the
--- call added, `later` the places of those after the first turn. A session still waits for an item only where others moved it on
-abbrev pub Tells : Tables → Plan → Request → List Mark → List Mark → List Mark → List ℕ → Reply → Type 0
+-- what the reply tells: F is what the pass had seen after the call's first turn, S what it has seen
+-- now, T the marks that the call added, `later` the places of those after the first turn. A session
+-- still waits for an item only where others moved it on
+abbrev pub Tells : Tables → Plan → Request → List Mark → List Mark → List Mark → List ℕ → Reply
+    → Type 0
 Tells b plan q F S T later (reply.At session at fresh) =
     IsAt plan q S T session at fresh × ((step : ℕ) → at ≡ Pending step → MovedOn session F S later)
 Tells b plan q F S T later (reply.Exposure exposure) = IsExposed b plan q S T exposure
 Tells b plan q F S T later (reply.Refused r) =
-    IsRefusedBy b plan q S T r ⊎ (Fails b plan (IsWanted (history S) q) S T r × IsUnfinished b plan F S q (owns T))
+    IsRefusedBy b plan q S T r ⊎ (Fails b plan (IsWanted (history S) q) S T r
+    × IsUnfinished b plan F S q (owns T))
 
--- the call made one turn, after which its pass was `mid`, and at most two more; `early` and `later` are the places of the
--- marks that it added, whose servings are good. The whole history is a legal run
+-- the call made one turn, after which its pass was `mid`, and at most two more; `early` and `later`
+-- are the places of the marks that it added, whose servings are good. The whole history is a legal
+-- run
 pub record Sees (h : HallKnown) (old new : Known Mark) (q : Request) (answer : Reply) : Type 0 where
   pub mid : Known Mark
   pub early : List ℕ

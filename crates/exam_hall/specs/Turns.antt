@@ -49,14 +49,17 @@ IsPlacedReply plan H answer = ⊤
 -- the problem of the session of the reply, where it waits for an item, and a vector for its search
 abbrev pub IsBegunAt : Tables → Plan → List Entry → Reply → FirstAnswer → Type 0
 IsBegunAt b plan H answer (Done same) = (same ≡ answer) × IsNoWait answer
-IsBegunAt b plan H (reply.At session at fresh) (Waits started P warm) = (P.session ≡ session) × (started ≡ fresh) × IsAsked b plan H P
+IsBegunAt b plan H (reply.At session at fresh) (Waits started P warm) =
+    (P.session ≡ session) × (started ≡ fresh) × IsAsked b plan H P
     × IfSome warm (FitsPlan b plan)
 IsBegunAt b plan H answer (Waits started P warm) = ⊥
 
--- where a session is after a commit for the problem P: at this place, or it still waits for the item of that step
+-- where a session is after a commit for the problem P: at this place, or it still waits for the
+-- item of that step
 abbrev pub IsRoundAt : Tables → Plan → List Entry → Problem → Place → Round → Type 0
 IsRoundAt b plan H P at (Placed same) = (same ≡ at) × (at ≡ Pending P.step → ⊥)
-IsRoundAt b plan H P at (Again next) = IsAsked b plan H next × (next.session ≡ P.session) × (next.step ≡ P.step)
+IsRoundAt b plan H P at (Again next) =
+    IsAsked b plan H next × (next.session ≡ P.session) × (next.step ≡ P.step)
 IsRoundAt b plan H P at (Failed r) = ⊥
 
 -- what was assembled for the problem was committed, where the session still waited for it
@@ -66,7 +69,8 @@ pub record Ended {D : Type 0} (P : Problem) (old new : Running D) (round : Round
   pub good : EndsGood old.bank old.plan old.base new.marks adds.added
 
 -- what the first turn of a request does to a pass
-pub record HasBegun (h : HallKnown) (old new : Known Mark) (q : Request) (begun : FirstAnswer) : Type 0 where
+pub record HasBegun (h : HallKnown) (old new : Known Mark) (q : Request)
+    (begun : FirstAnswer) : Type 0 where
   pub places : List ℕ
   pub went : Went old new (length new.seen ∷ []) places
   pub legal : LegalRun h.bank h.plan (history new.seen)

@@ -17,8 +17,9 @@ abbrev pub GrowsTo : ℕ → List ℕ → ℕ → Type 0
 GrowsTo n [] m = m ≡ n
 GrowsTo n (k ∷ ks) m = (n ≤ k) × GrowsTo k ks m
 
--- the pass took turns: what it had seen begins what it has seen now; `fronts` has the length after each turn, the last of all
--- that it has seen now, `ps` the places of what these turns added, each once and in order, after all that it had seen before
+-- the pass took turns: what it had seen begins what it has seen now; `fronts` has the length after
+-- each turn, the last of all that it has seen now, `ps` the places of what these turns added, each
+-- once and in order, after all that it had seen before
 pub record Went {E : Type 0} (old new : Known E) (fronts ps : List ℕ) : Type 0 where
   pub turn : new.turn ≡ old.turn
   pub number : new.number ≡ old.number

@@ -62,8 +62,8 @@ impl<'h, 'a, D: Disk, G: Gate> Handler for Caller<'h, 'a, D, G> {
     ghost use Rattle.exam_hall.specs.Known.{marked};
     ghost use Rattle.exam_hall.specs.Sees.{Sees};
 
-    ghost does = { λ old request reply new. Sees old.hall (marked old.pass) (marked new.pass) request reply
-        × (new.hall ≡ old.hall) };
+    ghost does = { λ old request reply new.
+        Sees old.hall (marked old.pass) (marked new.pass) request reply × (new.hall ≡ old.hall) };
 
     ghost idles = { λ old new. new ≡ old };
 

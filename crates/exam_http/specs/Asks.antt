@@ -26,10 +26,12 @@ up_to most (Some n) = if nat_le n most then Some n else None
 
 -- the number that the last member of this name is: written in digits alone, and at most so much
 abbrev pub number_member : Data → List ℕ → ℕ → Result ℕ MessageFault
-number_member d name most = or_fault (up_to most (option_and_then as_u64 (option_and_then as_number (get name d)))) BadBody
+number_member d name most =
+    or_fault (up_to most (option_and_then as_u64 (option_and_then as_number (get name d)))) BadBody
 
 unfoldable pub begin_of : Data → Result Request MessageFault
-begin_of d = number_member d (codes "booking") 18446744073709551615 >>= λ booking. Ok (request.Begin booking)
+begin_of d =
+    number_member d (codes "booking") 18446744073709551615 >>= λ booking. Ok (request.Begin booking)
 
 unfoldable pub answer_of : ℕ → Data → Result Request MessageFault
 answer_of session d =
@@ -37,8 +39,10 @@ answer_of session d =
     number_member d (codes "response") 255 >>= λ response. Ok (request.Answer session step response)
 
 -- what is asked by the value of a body
-abbrev pub IsParsedBy : (Data → Result Request MessageFault) → List ℕ → Result Request MessageFault → Type 0
-IsParsedBy f body asked = (value : Option Data) × IsJson body value × (asked ≡ (or_fault value BadJson >>= f))
+abbrev pub IsParsedBy : (Data → Result Request MessageFault) → List ℕ → Result Request MessageFault
+    → Type 0
+IsParsedBy f body asked =
+    (value : Option Data) × IsJson body value × (asked ≡ (or_fault value BadJson >>= f))
 
 -- what a body asks on a route
 abbrev pub AsksOn : Route → List ℕ → Result Request MessageFault → Type 0
@@ -52,11 +56,13 @@ AsksOn Exposure body asked = asked ≡ Ok request.Exposure
 abbrev pub AsksBy : Option Route → List ℕ → List ℕ → Result Request MessageFault → Type 0
 AsksBy None method body asked = asked ≡ Err NoRoute
 AsksBy (Some r) method body asked =
-    ((method ≢ method_of r) × (asked ≡ Err NoMethod)) ⊎ ((method ≡ method_of r) × AsksOn r body asked)
+    ((method ≢ method_of r) × (asked ≡ Err NoMethod)) ⊎ ((method ≡ method_of r)
+    × AsksOn r body asked)
 
 -- what a message asks, or why it asks nothing
 abbrev pub Asks : Message → Result Request MessageFault → Type 0
-Asks m asked = (route : Option Route) × Names m.path.items route × AsksBy route m.method m.body.items asked
+Asks m asked =
+    (route : Option Route) × Names m.path.items route × AsksBy route m.method m.body.items asked
 
 -- a value that was read, as data
 abbrev pub view_of : Option Value → Option Data

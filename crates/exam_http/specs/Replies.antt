@@ -24,7 +24,8 @@ abbrev pub whole_number : ℕ → Data
 whole_number n = number (unsigned n)
 
 abbrev pub state_body : ℕ → List ℕ → Data
-state_body session word = object (member (codes "session") (whole_number session) (member (codes "state") (string word) no_members))
+state_body session word = object (member (codes "session") (whole_number session)
+    (member (codes "state") (string word) no_members))
 
 abbrev pub place_body : ℕ → Place → Data
 place_body session (place.Pending step) =
@@ -58,7 +59,8 @@ error_body name = object (member (codes "error") (string name) no_members)
 
 -- an error of this name with a value
 abbrev pub error_body_with : List ℕ → Data → Data
-error_body_with name value = object (member (codes "error") (string name) (member (codes "value") value no_members))
+error_body_with name value =
+    object (member (codes "error") (string name) (member (codes "value") value no_members))
 
 -- the word for the end of a session
 abbrev pub end_word : Place → List ℕ
@@ -131,7 +133,8 @@ reply_text reply close = response (reply_status reply) (compact_text (reply_body
 
 -- the response to a message that asks nothing
 abbrev pub message_fault_text : MessageFault → Bool → List ℕ
-message_fault_text fault close = response (fault_status fault) (compact_text (error_body (fault_name fault))) close
+message_fault_text fault close =
+    response (fault_status fault) (compact_text (error_body (fault_name fault))) close
 
 -- the response to bytes that begin with no message: nothing where they end within one
 abbrev pub wire_fault_text : WireFault → List ℕ

@@ -25,11 +25,14 @@ Refuses fault text (Over (BadInput found)) = (found ≡ fault) × (text ≡ wire
 Refuses fault text (Over Link) = Begins text (wire_fault_text fault)
 Refuses fault text (Over Memory) = text ≡ []
 
--- `does old request reply new` is what a request does to the handler, and `idles old new` what idle time does
+-- `does old request reply new` is what a request does to the handler, and `idles old new` what idle
+-- time does
 module _ {H : Type 0} (does : H → Request → Reply → H → Type 0) where
-  -- what is asked is done, and the text is the response of its reply; a message that asks nothing changes nothing
+  -- what is asked is done, and the text is the response of its reply; a message that asks nothing
+  -- changes nothing
   abbrev pub Gets : Result Request MessageFault → Bool → H → List ℕ → H → Type 0
-  Gets (Ok request) close old text new = (reply : Reply) × does old request reply new × (text ≡ reply_text reply close)
+  Gets (Ok request) close old text new =
+      (reply : Reply) × does old request reply new × (text ≡ reply_text reply close)
   Gets (Err fault) close old text new = (new ≡ old) × (text ≡ message_fault_text fault close)
 
   -- the text is the response to a message
@@ -38,7 +41,8 @@ module _ {H : Type 0} (does : H → Request → Reply → H → Type 0) where
     pub asks : Asks m asked
     pub gets : Gets asked m.close old text new
 
-  -- the text is a beginning of the response to the message that the bytes begin with, whose time wasn't idle yet
+  -- the text is a beginning of the response to the message that the bytes begin with, whose time
+  -- wasn't idle yet
   pub record IsBegun (old : H) (bytes text : List ℕ) (new : H) : Type 0 where
     pub message : Message
     pub left : List ℕ
@@ -47,18 +51,20 @@ module _ {H : Type 0} (does : H → Request → Reply → H → Type 0) where
     pub response : IsResponse old message whole new
     pub begins : Begins text whole
 
-  -- no response to the message or the fault that the bytes begin with is written whole: nothing is done and nothing written;
-  -- or the message is answered; or the bytes have a fault
+  -- no response to the message or the fault that the bytes begin with is written whole: nothing is
+  -- done and nothing written; or the message is answered; or the bytes have a fault
   abbrev pub IsCutOff : H → List ℕ → List ℕ → H → Type 0
   IsCutOff old bytes text new =
       ((new ≡ old) × (text ≡ []))
       ⊎ (IsBegun old bytes text new
-      ⊎ ((new ≡ old) × (fault : WireFault) × IsFault bytes fault × Begins text (wire_fault_text fault)))
+      ⊎ ((new ≡ old) × (fault : WireFault) × IsFault bytes fault
+      × Begins text (wire_fault_text fault)))
 
   -- nothing is done and nothing written, or the text is a beginning of the response to a message
   abbrev pub IsPartOfResponse : H → Message → List ℕ → H → Type 0
   IsPartOfResponse old m text new =
-      ((new ≡ old) × (text ≡ [])) ⊎ ((whole : List ℕ) × Begins text whole × IsResponse old m whole new)
+      ((new ≡ old) × (text ≡ [])) ⊎ ((whole : List ℕ) × Begins text whole
+      × IsResponse old m whole new)
 
   module _ (idles : H → H → Type 0) where
     -- the text is the response to a message, and idle time followed it
@@ -68,13 +74,15 @@ module _ {H : Type 0} (does : H → Request → Reply → H → Type 0) where
       pub idle : idles answered new
 
     -- the same of the message that the bytes begin with
-    pub record IsAnswered (close : Bool) (old : H) (bytes text left : List ℕ) (new : H) : Type 0 where
+    pub record IsAnswered (close : Bool) (old : H) (bytes text left : List ℕ)
+        (new : H) : Type 0 where
       pub message : Message
       pub reads : IsMessage bytes message left
       pub closes : message.close ≡ close
       pub answer : IsAnswer old message text new
 
-    -- the responses to the messages that the bytes begin with, none of which asks to close, and what is left after them
+    -- the responses to the messages that the bytes begin with, none of which asks to close, and
+    -- what is left after them
     pub data Serves (start : H) (bytes : List ℕ) : List ℕ → List ℕ → H → Type 0 where
       begun : Serves start bytes [] bytes start
       one_more : (texts rest text left : List ℕ) (old new : H) → Serves start bytes texts rest old
@@ -83,8 +91,10 @@ module _ {H : Type 0} (does : H → Request → Reply → H → Type 0) where
     -- how a connection ends, and its last text
     abbrev pub Ends : H → List ℕ → List ℕ → H → Ended → Type 0
     Ends old bytes text new Done =
-        ((bytes ≡ []) × (text ≡ []) × (new ≡ old)) ⊎ ((left : List ℕ) × IsAnswered true old bytes text left new)
-    Ends old bytes text new (BadInput fault) = IsFault bytes fault × (text ≡ wire_fault_text fault) × (new ≡ old)
+        ((bytes ≡ []) × (text ≡ []) × (new ≡ old)) ⊎ ((left : List ℕ)
+        × IsAnswered true old bytes text left new)
+    Ends old bytes text new (BadInput fault) =
+        IsFault bytes fault × (text ≡ wire_fault_text fault) × (new ≡ old)
     Ends old bytes text new Link = IsCutOff old bytes text new
     Ends old bytes text new Memory = (text ≡ []) × IsCutOff old bytes text new
 
@@ -98,11 +108,12 @@ module _ {H : Type 0} (does : H → Request → Reply → H → Type 0) where
       pub ends : Ends state rest last final ended
       pub whole : text ≡ texts ++ last
 
-    -- requests that were done and idle times that passed, one after another, lead from a handler to another. It is what is
-    -- known of a handler where the link does not tell its bytes
+    -- requests that were done and idle times that passed, one after another, lead from a handler to
+    -- another. It is what is known of a handler where the link does not tell its bytes
     pub data LeadsTo (start : H) : H → Type 0 where
       unchanged : LeadsTo start start
-      then_asked : (request : Request) (reply : Reply) (old new : H) → LeadsTo start old → does old request reply new
+      then_asked : (request : Request) (reply : Reply) (old new : H) → LeadsTo start old
+          → does old request reply new
           → LeadsTo start new
       then_idle : (old new : H) → LeadsTo start old → idles old new → LeadsTo start new
 

@@ -8,7 +8,8 @@ use Rattle.exam_http.specs.declared.route.Route.{Route}
 use Rattle.exam_http.specs.declared.route.Route.TheVariants.{Sessions, Session, Answers, Close, Exposure}
 
 abbrev pub entry : List ℕ → List ℕ → List (ℕ × ℕ) → RouteKind → List ℕ × RouteOf RouteKind
-entry pattern text names value = (pattern, record { pattern = pattern; text = text; names = names; value = value })
+entry pattern text names value =
+    (pattern, record { pattern = pattern; text = text; names = names; value = value })
 
 abbrev pub id_name : List (ℕ × ℕ)
 id_name = (11, 13) ∷ []
@@ -17,8 +18,10 @@ id_name = (11, 13) ∷ []
 abbrev pub table : RowsOf (RouteOf RouteKind)
 table =
     entry (codes "/exposure") (codes "/exposure") [] kind.Exposure
-    ∷ entry (codes "/sessions/" ++ 256 ∷ codes "/answers") (codes "/sessions/{id}/answers") id_name kind.Answers
-    ∷ entry (codes "/sessions/" ++ 256 ∷ codes "/close") (codes "/sessions/{id}/close") id_name kind.Close
+    ∷ entry (codes "/sessions/" ++ 256 ∷ codes "/answers")
+    (codes "/sessions/{id}/answers") id_name kind.Answers
+    ∷ entry (codes "/sessions/" ++ 256 ∷ codes "/close")
+    (codes "/sessions/{id}/close") id_name kind.Close
     ∷ entry (codes "/sessions/" ++ 256 ∷ []) (codes "/sessions/{id}") id_name kind.Session
     ∷ entry (codes "/sessions") (codes "/sessions") [] kind.Sessions
     ∷ []

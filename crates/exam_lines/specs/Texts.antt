@@ -25,7 +25,8 @@ summary_text s = sessions_part s ++ forms_part s ++ codes "\n"
 -- how many records were written, and the length of the journal now
 unfoldable pub migrated_text : ℕ → ℕ → List ℕ
 migrated_text records length =
-    codes "migrated " ++ (decimal records ++ (codes " records length " ++ (decimal length ++ codes "\n")))
+    codes "migrated " ++ (decimal records ++ (codes " records length "
+    ++ (decimal length ++ codes "\n")))
 
 -- ---- exposure by bands
 -- how many finished sessions visited a band

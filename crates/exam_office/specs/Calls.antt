@@ -30,11 +30,13 @@ pub data Finding : Type 0 where
 
 -- a file that a crash may leave during a call: it represents the history before, or that with the
 -- entry in doubt, or either of them with the entry that the call finds to be added there
-pub record IsLeft (b : Tables) (plan : Plan) (finds : List Entry → Finding → Type 0) (H : List Entry) (doubt : Option Entry)
+pub record IsLeft (b : Tables) (plan : Plan) (finds : List Entry → Finding
+    → Type 0) (H : List Entry) (doubt : Option Entry)
     (file : List ℕ) : Type 0 where
   pub so_far : List Entry
   pub is_one_of : IsOneOf H doubt so_far
-  pub stands : Stands b plan so_far file ⊎ ((entry : Entry) × finds so_far (add entry) × Stands b plan (so_far ++ entry ∷ []) file)
+  pub stands : Stands b plan so_far file ⊎ ((entry : Entry) × finds so_far (add entry)
+      × Stands b plan (so_far ++ entry ∷ []) file)
 
 abbrev pub refused_with : {A : Type 0} → Result A Refusal → Option Refusal
 refused_with (Ok x) = None
@@ -46,7 +48,8 @@ pub record IsAt {D : Type 0} (new : Running D) (marks : List Mark) : Type 0 wher
   pub sure : new.doubt ≡ None
 
 -- the journal would have this length with a record of the entry that can be spelled and may follow
-pub record IsTooLong (b : Tables) (plan : Plan) (marks : List Mark) (entry : Entry) (size : ℕ) : Type 0 where
+pub record IsTooLong (b : Tables) (plan : Plan) (marks : List Mark) (entry : Entry)
+    (size : ℕ) : Type 0 where
   pub last : Record
   pub is_entry : last.entry ≡ entry
   pub spells : IsRecord last
@@ -57,26 +60,36 @@ pub record IsTooLong (b : Tables) (plan : Plan) (marks : List Mark) (entry : Ent
 -- why the entry that was to be added after these marks was not
 abbrev pub IsHalted : {D : Type 0} → Running D → Running D → List Mark → Entry → Refusal → Type 0
 IsHalted old new marks entry Memory = IsAt new marks
-IsHalted old new marks entry (JournalFull size) = IsAt new marks × IsTooLong old.bank old.plan marks entry size
+IsHalted old new marks entry (JournalFull size) =
+    IsAt new marks × IsTooLong old.bank old.plan marks entry size
 IsHalted old new marks entry Disk = IsFaulted old new marks entry
 IsHalted old new marks entry refusal = ⊥
 
--- a call resolves the entry in doubt; then it tests the history that it finds, and adds no entry, or one
-pub data Calls {D : Type 0} (finds : List Entry → Finding → Type 0) (old new : Running D) : Option Refusal → Type 0 where
+-- a call resolves the entry in doubt; then it tests the history that it finds, and adds no entry,
+-- or one
+pub data Calls {D : Type 0} (finds : List Entry → Finding
+    → Type 0) (old new : Running D) : Option Refusal → Type 0 where
   unmended : (refusal : Refusal) → IsUnmended old new refusal → Calls finds old new (Some refusal)
-  refused : (marks : List Mark) (refusal : Refusal) → IsMended old.marks old.doubt marks → finds (history marks) (refuse refusal)
+  refused : (marks : List Mark) (refusal : Refusal) → IsMended old.marks old.doubt marks
+      → finds (history marks) (refuse refusal)
       → IsAt new marks → Calls finds old new (Some refusal)
-  found : (marks : List Mark) → IsMended old.marks old.doubt marks → finds (history marks) nothing → IsAt new marks
+  found : (marks : List Mark) → IsMended old.marks old.doubt marks → finds (history marks) nothing
+      → IsAt new marks
       → Calls finds old new None
-  written : (marks : List Mark) (entry : Entry) (size : ℕ) → IsMended old.marks old.doubt marks → finds (history marks) (add entry)
+  written : (marks : List Mark) (entry : Entry) (size : ℕ) → IsMended old.marks old.doubt marks
+      → finds (history marks) (add entry)
       → IsAt new (marks ++ Own entry size ∷ []) → Calls finds old new None
-  unwritten : (marks : List Mark) (entry : Entry) (refusal : Refusal) → IsMended old.marks old.doubt marks
-      → finds (history marks) (add entry) → IsHalted old new marks entry refusal → Calls finds old new (Some refusal)
+  unwritten : (marks : List Mark) (entry : Entry) (refusal : Refusal)
+      → IsMended old.marks old.doubt marks
+      → finds (history marks) (add entry) → IsHalted old new marks entry refusal
+      → Calls finds old new (Some refusal)
 
 -- the tests of an answer: it is refused; it is recorded; or it is to be added
 abbrev pub FindsAnswer : Tables → Plan → ℕ → ℕ → ℕ → List Entry → Finding → Type 0
-FindsAnswer b plan session step response H (refuse refusal) = refusal_of b plan H (Answer session step response) ≡ Some refusal
-FindsAnswer b plan session step response H nothing = (refusal_of b plan H (Answer session step response) ≡ None)
+FindsAnswer b plan session step response H (refuse refusal) =
+    refusal_of b plan H (Answer session step response) ≡ Some refusal
+FindsAnswer b plan session step response H nothing =
+    (refusal_of b plan H (Answer session step response) ≡ None)
     × (recorded H session step ≡ Some response)
 FindsAnswer b plan session step response H (add entry) =
     (refusal_of b plan H (Answer session step response) ≡ None) × (recorded H session step ≡ None)
@@ -93,28 +106,35 @@ abbrev pub FindsStart : Tables → Plan → ℕ → List Entry → Finding → T
 FindsStart b plan booking H (refuse refusal) = refusal_of b plan H (Begin booking) ≡ Some refusal
 FindsStart b plan booking H nothing = (session : ℕ) × (holder H booking ≡ Some session)
 FindsStart b plan booking H (add entry) =
-    (refusal_of b plan H (Begin booking) ≡ None) × (holder H booking ≡ None) × IsStartFor booking entry × Legal b plan H entry
+    (refusal_of b plan H (Begin booking) ≡ None) × (holder H booking ≡ None)
+    × IsStartFor booking entry × Legal b plan H entry
 
 -- those of a closing: it is refused; or it is to be added
 abbrev pub FindsClosing : Tables → Plan → ℕ → List Entry → Finding → Type 0
 FindsClosing b plan session H (refuse refusal) = refusal_of b plan H (Close session) ≡ Some refusal
 FindsClosing b plan session H nothing = ⊥
-FindsClosing b plan session H (add entry) = (refusal_of b plan H (Close session) ≡ None) × (entry ≡ Closed session) × Legal b plan H entry
+FindsClosing b plan session H (add entry) =
+    (refusal_of b plan H (Close session) ≡ None) × (entry ≡ Closed session) × Legal b plan H entry
 
 -- the answer is recorded, or is to be added
 abbrev pub IsAnswerFound : Tables → Plan → List Entry → ℕ → ℕ → ℕ → Bool → Type 0
-IsAnswerFound b plan H session step response true = FindsAnswer b plan session step response H nothing
-IsAnswerFound b plan H session step response false = FindsAnswer b plan session step response H (add (Answered session step response))
+IsAnswerFound b plan H session step response true =
+    FindsAnswer b plan session step response H nothing
+IsAnswerFound b plan H session step response false =
+    FindsAnswer b plan session step response H (add (Answered session step response))
 
 -- the booking has this session, or an entry is to be added that starts it
 abbrev pub IsStartFound : Tables → Plan → List Entry → ℕ → ℕ → Option Entry → Type 0
-IsStartFound b plan H booking session None = FindsStart b plan booking H nothing × (holder H booking ≡ Some session)
+IsStartFound b plan H booking session None =
+    FindsStart b plan booking H nothing × (holder H booking ≡ Some session)
 IsStartFound b plan H booking session (Some entry) = FindsStart b plan booking H (add entry)
     × (holder (H ++ entry ∷ []) booking ≡ Some session)
 
--- whether a call started a session for a booking: then its last mark is that start, and else it added no entry of its own
+-- whether a call started a session for a booking: then its last mark is that start, and else it
+-- added no entry of its own
 abbrev pub IsFreshly : {D : Type 0} → Running D → Running D → ℕ → Bool → Type 0
 IsFreshly old new booking true =
-    (marks : List Mark) × (entry : Entry) × (size : ℕ) × IsMended old.marks old.doubt marks × (new.marks ≡ marks ++ Own entry size ∷ [])
+    (marks : List Mark) × (entry : Entry) × (size : ℕ) × IsMended old.marks old.doubt marks
+    × (new.marks ≡ marks ++ Own entry size ∷ [])
     × IsStartFor booking entry
 IsFreshly old new booking false = IsMended old.marks old.doubt new.marks

@@ -16,16 +16,20 @@ pub record AreRecordsOf (b : Tables) (plan : Plan) (H : List Entry) (R : List Re
   pub backed : Backed b plan R
   pub entries : entries_of R ≡ H
 
--- the payload of a record by its version. The first keeps of a start the eligible set of the band where each session begins,
--- and of a setting aside neither the step nor the band; these follow from the entries before. The second keeps all
+-- the payload of a record by its version. The first keeps of a start the eligible set of the band
+-- where each session begins, and of a setting aside neither the step nor the band; these follow
+-- from the entries before. The second keeps all
 abbrev pub payload_in : Tables → Plan → (version : ℕ) → Record → List ℕ
-payload_in b plan version r = if version == 1 then old_payload_of (first_band b plan) r else payload_of r
+payload_in b plan version r =
+    if version == 1 then old_payload_of (first_band b plan) r else payload_of r
 
 -- payloads of these records, by their version
 abbrev pub counted_of : Tables → Plan → (version : ℕ) → List Record → Counted
-counted_of b plan version R = record { version = version; payloads = map (payload_in b plan version) R }
+counted_of b plan version R =
+    record { version = version; payloads = map (payload_in b plan version) R }
 
--- a file represents a history: its payloads that count are those of records of that history, by the version of its records
+-- a file represents a history: its payloads that count are those of records of that history, by the
+-- version of its records
 pub record Stands (b : Tables) (plan : Plan) (H : List Entry) (file : List ℕ) : Type 0 where
   pub records : List Record
   pub are : AreRecordsOf b plan H records

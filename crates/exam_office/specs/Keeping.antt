@@ -19,14 +19,16 @@ use Rattle.exam_office.specs.Moments.{AreMoments}
 use Rattle.exam_office.specs.Running.{HandedDisk}
 
 -- nothing is in doubt: the journal holds records of the history
-pub record IsSure {D : Type 0} (b : Tables) (plan : Plan) (H : List Entry) (journal : JournalState D) : Type 0 where
+pub record IsSure {D : Type 0} (b : Tables) (plan : Plan) (H : List Entry)
+    (journal : JournalState D) : Type 0 where
   pub records : List Record
   pub are : AreRecordsOf b plan H records
   pub ready : IsReady journal
   pub holds : IsTrue (tells_of journal) → payloads_of journal ≡ map payload_of records
 
 -- a record of the entry is in doubt after them, and its fault is the last mark
-pub record IsUnsure {D : Type 0} (b : Tables) (plan : Plan) (marks : List Mark) (entry : Entry) (room : ℕ)
+pub record IsUnsure {D : Type 0} (b : Tables) (plan : Plan) (marks : List Mark) (entry : Entry)
+    (room : ℕ)
     (journal : JournalState D) : Type 0 where
   pub records : List Record
   pub are : AreRecordsOf b plan (history marks) records
@@ -39,12 +41,14 @@ pub record IsUnsure {D : Type 0} (b : Tables) (plan : Plan) (marks : List Mark) 
   pub before : List Mark
   pub fault : marks ≡ before ++ Fault entry ∷ []
 
-abbrev pub IsBacked : {D : Type 0} → Tables → Plan → List Mark → ℕ → JournalState D → Option Entry → Type 0
+abbrev pub IsBacked : {D : Type 0} → Tables → Plan → List Mark → ℕ → JournalState D → Option Entry
+    → Type 0
 IsBacked b plan marks room journal None = IsSure b plan (history marks) journal
 IsBacked b plan marks room journal (Some entry) = IsUnsure b plan marks entry room journal
 
 -- what its type keeps, with the disk as it was handed in
-pub record IsKept {D : Type 0} (b : Tables) (plan : Plan) (base : List ℕ) (book : Ledger) (journal : JournalState D) (marks : List Mark)
+pub record IsKept {D : Type 0} (b : Tables) (plan : Plan) (base : List ℕ) (book : Ledger)
+    (journal : JournalState D) (marks : List Mark)
     (doubt : Option Entry) (opened : HandedDisk) : Type 0 where
   pub bank : book.bank ≡ b
   pub plan_is : book.plan ≡ plan

@@ -39,16 +39,21 @@ abbrev pub HasRoom : List (Option Multipliers) → Option NewVector → Type 0
 HasRoom each new = IfSome new (λ (n : NewVector). n.session < length each)
 
 -- the vectors after a record are those before it, and what it gives
-abbrev pub AreVectorsAfter : Tables → Plan → List (Option Multipliers) → Record → List (Option Multipliers) → Type 0
-AreVectorsAfter b plan before r after = (R : List Record) → AreVectorsOf b plan R before → AreVectorsOf b plan (R ++ r ∷ []) after
+abbrev pub AreVectorsAfter : Tables → Plan → List (Option Multipliers) → Record
+    → List (Option Multipliers) → Type 0
+AreVectorsAfter b plan before r after =
+    (R : List Record) → AreVectorsOf b plan R before → AreVectorsOf b plan (R ++ r ∷ []) after
 
 -- the same of each record that gives this one
-abbrev pub AreVectorsWith : List (Option Multipliers) → Option NewVector → List (Option Multipliers) → Type 0
-AreVectorsWith before new after = (b : Tables) (plan : Plan) (r : Record) → new ≡ new_vector b plan r → AreVectorsAfter b plan before r after
+abbrev pub AreVectorsWith : List (Option Multipliers) → Option NewVector → List (Option Multipliers)
+    → Type 0
+AreVectorsWith before new after = (b : Tables) (plan : Plan) (r : Record)
+    → new ≡ new_vector b plan r → AreVectorsAfter b plan before r after
 
--- what an office keeps between its calls: for each session the vector of the records of its history, which the journal holds; and
--- what the record in doubt makes the vector of its session
-pub record AreKeptVectors {D : Type 0} (b : Tables) (plan : Plan) (H : List Entry) (journal : JournalState D) (doubt : Option Entry)
+-- what an office keeps between its calls: for each session the vector of the records of its
+-- history, which the journal holds; and what the record in doubt makes the vector of its session
+pub record AreKeptVectors {D : Type 0} (b : Tables) (plan : Plan) (H : List Entry)
+    (journal : JournalState D) (doubt : Option Entry)
     (each : List (Option Multipliers)) (new : Option NewVector) : Type 0 where
   pub records : List Record
   pub are : AreRecordsOf b plan H records
@@ -66,16 +71,19 @@ AreOf b plan R (Some vectors) = AreVectorsOf b plan R vectors.each.items × (vec
 
 -- the same vectors with what a record gives
 abbrev pub AreWith : Tables → Plan → Option Vectors → Record → Option Vectors → Type 0
-AreWith b plan before r after = (R : List Record) → AreOf b plan R before → AreOf b plan (R ++ r ∷ []) after
+AreWith b plan before r after =
+    (R : List Record) → AreOf b plan R before → AreOf b plan (R ++ r ∷ []) after
 
 -- a payload is taken, and what its record gives
-pub record IsTakenWith (b : Tables) (plan : Plan) (version : ℕ) (H : List Entry) (payload : List ℕ) (entry : Entry)
+pub record IsTakenWith (b : Tables) (plan : Plan) (version : ℕ) (H : List Entry) (payload : List ℕ)
+    (entry : Entry)
     (before after : Option Vectors) : Type 0 where
   pub taken : IsTaken b plan version H payload entry
   pub vectors_are : AreWith b plan before taken.last after
 
 -- so many payloads of a file are taken, and what their records give
-pub record AreTakenWith (b : Tables) (plan : Plan) (version start : ℕ) (tells : Bool) (file : List ℕ) (given at : ℕ)
+pub record AreTakenWith (b : Tables) (plan : Plan) (version start : ℕ) (tells : Bool)
+    (file : List ℕ) (given at : ℕ)
     (H : List Entry) (vectors : Option Vectors) : Type 0 where
   pub taken : AreTaken b plan version start tells file given at H
   pub vectors_are : AreOf b plan taken.records vectors

@@ -32,36 +32,47 @@ use Rattle.exam_office.specs.Running.{Running}
 
 -- a file represents at most one history, and that is a legal run
 abbrev pub OneHistory : Type 0
-OneHistory = (b : Tables) (plan : Plan) (H G : List Entry) (file : List ℕ) → Stands b plan H file → Stands b plan G file → H ≡ G
+OneHistory = (b : Tables) (plan : Plan) (H G : List Entry) (file : List ℕ) → Stands b plan H file
+    → Stands b plan G file → H ≡ G
 
 abbrev pub StandsForLegalRun : Type 0
-StandsForLegalRun = (b : Tables) (plan : Plan) (H : List Entry) (file : List ℕ) → Stands b plan H file → LegalRun b plan H
+StandsForLegalRun = (b : Tables) (plan : Plan) (H : List Entry) (file : List ℕ)
+    → Stands b plan H file → LegalRun b plan H
 
--- a file within the limit that represents a history by records of the second version is refused only if memory runs out, or
--- by a fault of the disk
+-- a file within the limit that represents a history by records of the second version is refused
+-- only if memory runs out, or by a fault of the disk
 abbrev pub StandingIsOpened : Type 0
-StandingIsOpened = (b : Tables) (plan : Plan) (H : List Entry) (file : List ℕ) (fault : OpenFault) (stands : Stands b plan H file)
-    → stands.version ≡ 2 → length file ≤ plan.journal → IsOpenAnswer b plan file fault → (fault ≡ Disk) ⊎ (fault ≡ Memory)
+StandingIsOpened = (b : Tables) (plan : Plan) (H : List Entry) (file : List ℕ) (fault : OpenFault)
+    (stands : Stands b plan H file)
+    → stands.version ≡ 2 → length file ≤ plan.journal → IsOpenAnswer b plan file fault
+    → (fault ≡ Disk) ⊎ (fault ≡ Memory)
 
--- of a file of either version within the limit that represents a history, the history is read, unless memory runs out or the
--- disk fails
+-- of a file of either version within the limit that represents a history, the history is read,
+-- unless memory runs out or the disk fails
 abbrev pub StandingIsRead : Type 0
-StandingIsRead = (b : Tables) (plan : Plan) (H : List Entry) (file : List ℕ) (fault : OpenFault) → Stands b plan H file
-    → length file ≤ plan.journal → IsReadAnswer b plan file fault → (fault ≡ Disk) ⊎ (fault ≡ Memory)
+StandingIsRead = (b : Tables) (plan : Plan) (H : List Entry) (file : List ℕ) (fault : OpenFault)
+    → Stands b plan H file
+    → length file ≤ plan.journal → IsReadAnswer b plan file fault → (fault ≡ Disk)
+    ⊎ (fault ≡ Memory)
 
--- at each moment since the disk was handed in, each file that a crash may leave represents the history of the office's marks
--- at some moment, or that with the one entry in doubt then
+-- at each moment since the disk was handed in, each file that a crash may leave represents the
+-- history of the office's marks at some moment, or that with the one entry in doubt then
 abbrev pub EachMomentStands : Type 0
-EachMomentStands = (b : Tables) (plan : Plan) (before : List Account) (marks : List Mark) (now : List Account)
+EachMomentStands =
+    (b : Tables) (plan : Plan) (before : List Account) (marks : List Mark) (now : List Account)
     → AreMoments b plan before marks now → AtEachMoment before now (IsLeftOnTheWay b plan marks)
 
--- what was assembled within the plan's budget for a session that waits for its item may be committed
+-- what was assembled within the plan's budget for a session that waits for its item may be
+-- committed
 abbrev pub MayBeCommittedNow : Type 0
-MayBeCommittedNow = (b : Tables) (plan : Plan) (base : List ℕ) (H : List Entry) (session : ℕ) (a : Assembly)
+MayBeCommittedNow =
+    (b : Tables) (plan : Plan) (base : List ℕ) (H : List Entry) (session : ℕ) (a : Assembly)
     → IsProblemOf b plan H session (problem_of a.problem).step (problem_of a.problem)
-    → a.budget ≡ plan.budget → IsOfStart (problem_of a.problem) base a.outcome → MayBeCommitted b plan base H a
+    → a.budget ≡ plan.budget → IsOfStart (problem_of a.problem) base a.outcome
+    → MayBeCommitted b plan base H a
 
--- a reply of a request that wasn't stopped: where its session is, which doesn't wait for an item; the counts; or out of memory
+-- a reply of a request that wasn't stopped: where its session is, which doesn't wait for an item;
+-- the counts; or out of memory
 abbrev pub IsMemory : Refusal → Type 0
 IsMemory OutOfMemory = ⊤
 IsMemory refusal = ⊥
@@ -71,17 +82,22 @@ IsAnswered (At session place fresh) = IsSettled place
 IsAnswered (Refused refusal) = IsMemory refusal
 IsAnswered answer = ⊤
 
--- a request that isn't refused is answered, unless the disk counts a fault or the next record is above the journal's limit
+-- a request that isn't refused is answered, unless the disk counts a fault or the next record is
+-- above the journal's limit
 abbrev pub AskedIsAnswered : Type 0 → Type 0
-AskedIsAnswered D = (old new : Running D) (request : Request) (answer : Reply) (asked : IsAsked old request answer new)
+AskedIsAnswered D = (old new : Running D) (request : Request) (answer : Reply)
+    (asked : IsAsked old request answer new)
     → refusal_of old.bank old.plan asked.from request ≡ None
     → (Rose (faults_of old.journal) (faults_of new.journal) → ⊥)
     → ((size : ℕ) → IsTooLongWith old.bank old.plan (history new.marks)
     (IsNextOf old.bank old.plan asked.from request (history new.marks)) new size → ⊥)
     → IsAnswered answer
 
--- a file within the limit that represents a history is not migrated only if memory runs out, by a fault of the disk, or because
--- the file would be too long once its records of the history are moved
+-- a file within the limit that represents a history is not migrated only if memory runs out, by a
+-- fault of the disk, or because the file would be too long once its records of the history are
+-- moved
 abbrev pub MigrateIsComplete : Type 0
-MigrateIsComplete = (b : Tables) (plan : Plan) (H : List Entry) (file : List ℕ) (fault : MigrateFault) → Stands b plan H file
-    → length file ≤ plan.journal → IsMigrateAnswer b plan file fault → IsRefusedMove b plan H file fault
+MigrateIsComplete = (b : Tables) (plan : Plan) (H : List Entry) (file : List ℕ)
+    (fault : MigrateFault) → Stands b plan H file
+    → length file ≤ plan.journal → IsMigrateAnswer b plan file fault
+    → IsRefusedMove b plan H file fault

@@ -31,11 +31,12 @@ abbrev pub is_fault : Mark → Bool
 is_fault (Fault entry) = true
 is_fault mark = false
 
--- the marks of an office: the entries found, the opening, and then entries of its own, faults, and entries that were
--- adopted, each of these directly after its fault
+-- the marks of an office: the entries found, the opening, and then entries of its own, faults, and
+-- entries that were adopted, each of these directly after its fault
 pub data AreMarks : List Mark → Type 0 where
   opened : (H : List Entry) (size : ℕ) → AreMarks (map Old H ++ Opened size ∷ [])
-  own : (M : List Mark) (entry : Entry) (size : ℕ) → AreMarks M → AreMarks (M ++ Own entry size ∷ [])
+  own : (M : List Mark) (entry : Entry) (size : ℕ) → AreMarks M
+      → AreMarks (M ++ Own entry size ∷ [])
   fault : (M : List Mark) (entry : Entry) → AreMarks M → AreMarks (M ++ Fault entry ∷ [])
   adopted : (M : List Mark) (entry : Entry) (size : ℕ) → AreMarks (M ++ Fault entry ∷ [])
       → AreMarks ((M ++ Fault entry ∷ []) ++ Adopted entry size ∷ [])

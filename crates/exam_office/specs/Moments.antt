@@ -11,26 +11,33 @@ use Rattle.exam_office.specs.Marks.{history, AreMarks}
 use Rattle.exam_office.specs.Noting.{IsDoubtOf}
 use Rattle.exam_office.specs.Writing.{IsMending, IsWriting}
 
--- an entry is in hand, with these marks before and after: it is written, or the disk fails; or it was in doubt, and is then
--- kept, or dropped, or the disk fails again
+-- an entry is in hand, with these marks before and after: it is written, or the disk fails; or it
+-- was in doubt, and is then kept, or dropped, or the disk fails again
 pub data IsInHand (entry : Entry) : List Mark → List Mark → Type 0 where
   written : (M : List Mark) (size : ℕ) → IsInHand entry M (M ++ Own entry size ∷ [])
   failed : (M : List Mark) → IsInHand entry M (M ++ Fault entry ∷ [])
-  kept : (M : List Mark) (size : ℕ) → IsInHand entry (M ++ Fault entry ∷ []) ((M ++ Fault entry ∷ []) ++ Adopted entry size ∷ [])
+  kept : (M : List Mark) (size : ℕ) → IsInHand entry (M ++ Fault entry ∷ [])
+      ((M ++ Fault entry ∷ []) ++ Adopted entry size ∷ [])
   dropped : (M : List Mark) → IsInHand entry (M ++ Fault entry ∷ []) (M ++ Fault entry ∷ [])
 
--- the moments of a disk, from the last of those before it was handed in, while an office noted these marks. First the office
--- was opened, and each file that a crash may leave represents the history that was found. Then one entry after another was
--- in hand, and meanwhile each such file represents the history of the marks so far, or that with the entry
-pub data AreMoments (b : Tables) (plan : Plan) (before : List Account) : List Mark → List Account → Type 0 where
-  opening : (H : List Entry) (size : ℕ) (now : List Account) → AtEachMoment before now (Stands b plan H)
+-- the moments of a disk, from the last of those before it was handed in, while an office noted
+-- these marks. First the office was opened, and each file that a crash may leave represents the
+-- history that was found. Then one entry after another was in hand, and meanwhile each such file
+-- represents the history of the marks so far, or that with the entry
+pub data AreMoments (b : Tables) (plan : Plan) (before : List Account) : List Mark → List Account
+    → Type 0 where
+  opening : (H : List Entry) (size : ℕ) (now : List Account)
+      → AtEachMoment before now (Stands b plan H)
       → AreMoments b plan before (map Old H ++ Opened size ∷ []) now
-  one_more : (entry : Entry) (M N : List Mark) (now later : List Account) → AreMoments b plan before M now → IsInHand entry M N
-      → AtEachMoment now later (IsWriting b plan (history M) entry) → AreMoments b plan before N later
+  one_more : (entry : Entry) (M N : List Mark) (now later : List Account)
+      → AreMoments b plan before M now → IsInHand entry M N
+      → AtEachMoment now later (IsWriting b plan (history M) entry)
+      → AreMoments b plan before N later
 
--- a crash may leave the file at some moment of an office with these marks: it represents the history of the office's marks at
--- that moment, or that with the one entry in doubt then
-pub record IsLeftOnTheWay (b : Tables) (plan : Plan) (marks : List Mark) (file : List ℕ) : Type 0 where
+-- a crash may leave the file at some moment of an office with these marks: it represents the
+-- history of the office's marks at that moment, or that with the one entry in doubt then
+pub record IsLeftOnTheWay (b : Tables) (plan : Plan) (marks : List Mark)
+    (file : List ℕ) : Type 0 where
   pub before : List Mark
   pub since : List Mark
   pub is : marks ≡ before ++ since

@@ -8,8 +8,8 @@ use Rattle.exam_office.specs.declared.mark.Mark.{Mark}
 use Rattle.exam_office.specs.declared.mark.Mark.TheVariants.{Fault}
 use Rattle.exam_office.specs.Running.{HandedDisk, Running}
 
--- what no call of an office changes: the bank, the plan and the base form; whether its disk reports its content, which
--- object it is, and the disk as it was handed in
+-- what no call of an office changes: the bank, the plan and the base form; whether its disk reports
+-- its content, which object it is, and the disk as it was handed in
 pub record OpenedWith : Type 0 where
   pub bank : Tables
   pub plan : Plan

@@ -32,16 +32,18 @@ abbrev pub record_in : (version : ℕ) → List ℕ → Result Record RecordFaul
 record_in version payload = if version == 1 then old_record_of payload else record_of payload
 
 -- the payload spells a record of this entry, which may follow the history
-pub record IsTaken (b : Tables) (plan : Plan) (version : ℕ) (H : List Entry) (payload : List ℕ) (entry : Entry) : Type 0 where
+pub record IsTaken (b : Tables) (plan : Plan) (version : ℕ) (H : List Entry) (payload : List ℕ)
+    (entry : Entry) : Type 0 where
   pub last : Record
   pub is_entry : last.entry ≡ entry
   pub spells : IsRecord last
   pub spelling : payload_in b plan version last ≡ payload
   pub may : MayFollow b plan H last.entry last.tree
 
--- the payload is read by its version, and what the first version leaves out is added after the history: this is the record
--- then
-pub record IsReadAs (b : Tables) (plan : Plan) (version : ℕ) (H : List Entry) (payload : List ℕ) (last : Record) : Type 0 where
+-- the payload is read by its version, and what the first version leaves out is added after the
+-- history: this is the record then
+pub record IsReadAs (b : Tables) (plan : Plan) (version : ℕ) (H : List Entry) (payload : List ℕ)
+    (last : Record) : Type 0 where
   pub read : Record
   pub reads : record_in version payload ≡ Ok read
   pub lifted : version ≡ 1 → IsLifted b plan H read.entry last.entry
@@ -51,8 +53,8 @@ pub record IsReadAs (b : Tables) (plan : Plan) (version : ℕ) (H : List Entry) 
   pub spelling : payload_in b plan version last ≡ payload
 
 -- the payload spells a record that may not follow; the first reason
-pub record IsRefusedFor (b : Tables) (plan : Plan) (version : ℕ) (H : List Entry) (at : ℕ) (payload : List ℕ) (fault : OpenFault)
-    : Type 0 where
+pub record IsRefusedFor (b : Tables) (plan : Plan) (version : ℕ) (H : List Entry) (at : ℕ)
+    (payload : List ℕ) (fault : OpenFault) : Type 0 where
   pub last : Record
   pub reads : IsReadAs b plan version H payload last
   pub reason : Illegal
@@ -60,28 +62,34 @@ pub record IsRefusedFor (b : Tables) (plan : Plan) (version : ℕ) (H : List Ent
   pub is : fault ≡ fault_of at reason
 
 -- the record may not follow; the first reason, or out of memory
-pub record IsUnlawful (b : Tables) (plan : Plan) (H : List Entry) (at : ℕ) (last : Record) (fault : OpenFault) : Type 0 where
+pub record IsUnlawful (b : Tables) (plan : Plan) (H : List Entry) (at : ℕ) (last : Record)
+    (fault : OpenFault) : Type 0 where
   pub reason : Illegal
   pub illegal : IsIllegal b plan H last.entry last.tree reason
   pub is : fault ≡ fault_of at reason
 
 abbrev pub IsNotFollowing : Tables → Plan → List Entry → ℕ → Record → OpenFault → Type 0
 IsNotFollowing b plan H at last (BadTree place) = IsUnlawful b plan H at last (BadTree place)
-IsNotFollowing b plan H at last (NotLegal place reason) = IsUnlawful b plan H at last (NotLegal place reason)
+IsNotFollowing b plan H at last (NotLegal place reason) =
+    IsUnlawful b plan H at last (NotLegal place reason)
 IsNotFollowing b plan H at last Memory = Unit {0}
 IsNotFollowing b plan H at last fault = ⊥
 
 abbrev pub IsNotTaken : Tables → Plan → (version : ℕ) → List Entry → ℕ → List ℕ → OpenFault → Type 0
-IsNotTaken b plan version H at payload (BadRecord place fault) = (place ≡ at) × (record_in version payload ≡ Err fault)
-IsNotTaken b plan version H at payload (BadTree place) = IsRefusedFor b plan version H at payload (BadTree place)
-IsNotTaken b plan version H at payload (NotLegal place reason) = IsRefusedFor b plan version H at payload (NotLegal place reason)
+IsNotTaken b plan version H at payload (BadRecord place fault) =
+    (place ≡ at) × (record_in version payload ≡ Err fault)
+IsNotTaken b plan version H at payload (BadTree place) =
+    IsRefusedFor b plan version H at payload (BadTree place)
+IsNotTaken b plan version H at payload (NotLegal place reason) =
+    IsRefusedFor b plan version H at payload (NotLegal place reason)
 IsNotTaken b plan version H at payload Memory = Unit {0}
 IsNotTaken b plan version H at payload fault = ⊥
 
--- so many payloads of a file spell the records of a history by their version, and this is the place after them; the first is
--- after the gate at `start`. Of a disk that reports nothing only the history is known
-pub record AreTaken (b : Tables) (plan : Plan) (version start : ℕ) (tells : Bool) (file : List ℕ) (given at : ℕ) (H : List Entry)
-    : Type 0 where
+-- so many payloads of a file spell the records of a history by their version, and this is the place
+-- after them; the first is after the gate at `start`. Of a disk that reports nothing only the
+-- history is known
+pub record AreTaken (b : Tables) (plan : Plan) (version start : ℕ) (tells : Bool) (file : List ℕ)
+    (given at : ℕ) (H : List Entry) : Type 0 where
   pub records : List Record
   pub are : AreRecordsOf b plan H records
   pub bytes : IsTrue tells → map (payload_in b plan version) records ≡ first_payloads given file
@@ -94,8 +102,10 @@ journal_fault OfVersion = Version
 journal_fault OfMemory = Memory
 journal_fault fault = Journal fault
 
--- the payloads of a file spell the records of a history, and one after them isn't taken; its place is the one after them
-pub record IsRefusedFile (b : Tables) (plan : Plan) (file : List ℕ) (fault : OpenFault) : Type 0 where
+-- the payloads of a file spell the records of a history, and one after them isn't taken; its place
+-- is the one after them
+pub record IsRefusedFile (b : Tables) (plan : Plan) (file : List ℕ)
+    (fault : OpenFault) : Type 0 where
   pub H : List Entry
   pub records : List Record
   pub are : AreRecordsOf b plan H records
@@ -106,10 +116,11 @@ pub record IsRefusedFile (b : Tables) (plan : Plan) (file : List ℕ) (fault : O
     version = version;
     payloads = map (payload_in b plan version) records ++ first ∷ rest;
   })
-  pub refused : IsNotTaken b plan version H (end_of (first_gate file) (map (payload_in b plan version) records)) first fault
+  pub refused : IsNotTaken b plan version H (end_of (first_gate file)
+      (map (payload_in b plan version) records)) first fault
 
--- what reading the history of a file may answer, of either version: out of memory, a fault of the disk, the first thing that
--- is wrong with its frames, or the first record that is refused
+-- what reading the history of a file may answer, of either version: out of memory, a fault of the
+-- disk, the first thing that is wrong with its frames, or the first record that is refused
 abbrev pub IsReadAnswer : Tables → Plan → List ℕ → OpenFault → Type 0
 IsReadAnswer b plan file Disk = Unit {0}
 IsReadAnswer b plan file Memory = Unit {0}
@@ -123,12 +134,13 @@ pub record IsOfFirstVersion (plan : Plan) (file : List ℕ) : Type 0 where
   pub first : (counted_in file).version ≡ 1
 
 -- records of the second version are refused
-pub record IsRefusedAsSecond (b : Tables) (plan : Plan) (file : List ℕ) (fault : OpenFault) : Type 0 where
+pub record IsRefusedAsSecond (b : Tables) (plan : Plan) (file : List ℕ)
+    (fault : OpenFault) : Type 0 where
   pub second : (counted_in file).version ≡ 2
   pub refused : IsRefusedFile b plan file fault
 
--- what opening a file may answer: the same of a file whose records are of the second version; a file with records of the first
--- is refused for its version, unless its frames are wrong
+-- what opening a file may answer: the same of a file whose records are of the second version; a
+-- file with records of the first is refused for its version, unless its frames are wrong
 abbrev pub IsOpenAnswer : Tables → Plan → List ℕ → OpenFault → Type 0
 IsOpenAnswer b plan file Disk = Unit {0}
 IsOpenAnswer b plan file Memory = Unit {0}

@@ -25,7 +25,8 @@ use Rattle.exam_office.specs.Running.{Running}
 
 -- whether a side is one of the plan's, or one of the cap
 abbrev pub is_side : Tables → Plan → ℕ → Bool
-is_side b plan side = nat_lt side (2 * length plan.rows + 2 * stimuli_of b) || (side == cap_side || side == cap_side + 1)
+is_side b plan side = nat_lt side (2 * length plan.rows + 2 * stimuli_of b)
+    || (side == cap_side || side == cap_side + 1)
 
 abbrev pub names_sides : Tables → Plan → Multipliers → Bool
 names_sides b plan v = list_all (λ pair. is_side b plan pair.0) v
@@ -59,7 +60,8 @@ abbrev pub warm_of : Tables → Plan → List Record → ℕ → Option Multipli
 warm_of b plan R s = option_and_then (vector_of b plan) (last_serving R s)
 
 -- a record of the entry in doubt may follow these, and the journal may hold it after them
-pub record IsInDoubtAfter {D : Type 0} (b : Tables) (plan : Plan) (H : List Entry) (journal : JournalState D) (R : List Record)
+pub record IsInDoubtAfter {D : Type 0} (b : Tables) (plan : Plan) (H : List Entry)
+    (journal : JournalState D) (R : List Record)
     (entry : Entry) (last : Record) : Type 0 where
   pub is_entry : last.entry ≡ entry
   pub spells : IsRecord last
@@ -67,24 +69,30 @@ pub record IsInDoubtAfter {D : Type 0} (b : Tables) (plan : Plan) (H : List Entr
   pub doubtful : IsDoubtful (map payload_of R) (payload_of last) journal
 
 -- the journal holds these records; with an entry in doubt, perhaps one of it after them
-abbrev pub Holds : {D : Type 0} → Tables → Plan → List Entry → JournalState D → List Record → Option Entry → Option Record → Type 0
-Holds b plan H journal R None None = IsTrue (tells_of journal) → payloads_of journal ≡ map payload_of R
+abbrev pub Holds : {D : Type 0} → Tables → Plan → List Entry → JournalState D → List Record
+    → Option Entry → Option Record → Type 0
+Holds b plan H journal R None None =
+    IsTrue (tells_of journal) → payloads_of journal ≡ map payload_of R
 Holds b plan H journal R None (Some last) = ⊥
 Holds b plan H journal R (Some entry) None = ⊥
 Holds b plan H journal R (Some entry) (Some last) = IsInDoubtAfter b plan H journal R entry last
 
 -- the vector of a session by the records of an office's history, which its journal holds
-pub record IsWarm {D : Type 0} (office : Running D) (session : ℕ) (found : Option Multipliers) : Type 0 where
+pub record IsWarm {D : Type 0} (office : Running D) (session : ℕ)
+    (found : Option Multipliers) : Type 0 where
   pub records : List Record
   pub are : AreRecordsOf office.bank office.plan (history office.marks) records
   pub last : Option Record
-  pub holds : Holds office.bank office.plan (history office.marks) office.journal records office.doubt last
+  pub holds : Holds office.bank office.plan (history office.marks) office.journal records
+      office.doubt last
   pub is : found ≡ warm_of office.bank office.plan records session
 
 -- why the call is refused: the session is not started, or there is no memory
 abbrev pub IsColdBy : {D : Type 0} → Running D → ℕ → Refusal → Type 0
-IsColdBy office session Memory = refusal_of office.bank office.plan (history office.marks) (Look session) ≡ None
-IsColdBy office session refusal = refusal_of office.bank office.plan (history office.marks) (Look session) ≡ Some refusal
+IsColdBy office session Memory =
+    refusal_of office.bank office.plan (history office.marks) (Look session) ≡ None
+IsColdBy office session refusal =
+    refusal_of office.bank office.plan (history office.marks) (Look session) ≡ Some refusal
 
 -- a search of any problem of the bank and the plan may begin with the vector
 abbrev pub FitsPlan : Tables → Plan → Multipliers → Type 0

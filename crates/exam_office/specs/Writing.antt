@@ -23,7 +23,8 @@ pub data IsOneOf (H : List Entry) : Option Entry → List Entry → Type 0 where
   with_doubt : (entry : Entry) → IsOneOf H (Some entry) (H ++ entry ∷ [])
 
 -- a file that a crash may leave while the entry in doubt is kept or dropped
-pub record IsMending (b : Tables) (plan : Plan) (H : List Entry) (doubt : Option Entry) (file : List ℕ) : Type 0 where
+pub record IsMending (b : Tables) (plan : Plan) (H : List Entry) (doubt : Option Entry)
+    (file : List ℕ) : Type 0 where
   pub so_far : List Entry
   pub is_one_of : IsOneOf H doubt so_far
   pub stands : Stands b plan so_far file
@@ -51,23 +52,27 @@ abbrev pub with_record : List Mark → Record → ℕ
 with_record marks rec = reach marks + 5 + length (payload_of rec)
 
 -- the disk failed, and has counted that: this entry is in doubt, and the last mark is its fault
-pub record IsFaulted {D : Type 0} (old new : Running D) (marks : List Mark) (entry : Entry) : Type 0 where
+pub record IsFaulted {D : Type 0} (old new : Running D) (marks : List Mark)
+    (entry : Entry) : Type 0 where
   pub mark : new.marks ≡ marks ++ Fault entry ∷ []
   pub doubt : new.doubt ≡ Some entry
   pub rose : Rose (faults_of old.journal) (faults_of new.journal)
 
--- why the entry in doubt was not resolved: there was no room for a mark, and nothing was done; or a fault
--- of the disk. Only a list of 2^64 - 1 marks has no room
+-- why the entry in doubt was not resolved: there was no room for a mark, and nothing was done; or a
+-- fault of the disk. Only a list of 2^64 - 1 marks has no room
 abbrev pub IsUnmended : {D : Type 0} → Running D → Running D → Refusal → Type 0
-IsUnmended old new Memory = (new ≡ old) × (entry : Entry) × (old.doubt ≡ Some entry) × (length old.marks + 1 ≡ 2 ^ 64)
-IsUnmended old new Disk = (entry : Entry) × (old.doubt ≡ Some entry) × IsFaulted old new old.marks entry
+IsUnmended old new Memory =
+    (new ≡ old) × (entry : Entry) × (old.doubt ≡ Some entry) × (length old.marks + 1 ≡ 2 ^ 64)
+IsUnmended old new Disk =
+    (entry : Entry) × (old.doubt ≡ Some entry) × IsFaulted old new old.marks entry
 IsUnmended old new refusal = ⊥
 
--- why a record was not written: out of memory; no room in the journal for a record that can be spelled;
--- or a fault of the disk. Before the first two nothing is done
+-- why a record was not written: out of memory; no room in the journal for a record that can be
+-- spelled; or a fault of the disk. Before the first two nothing is done
 abbrev pub IsUnwritten : {D : Type 0} → Running D → Running D → Record → Refusal → Type 0
 IsUnwritten old new rec Memory = new ≡ old
-IsUnwritten old new rec (JournalFull size) = (new ≡ old) × (size ≡ with_record old.marks rec) × (old.plan.journal < size)
+IsUnwritten old new rec (JournalFull size) =
+    (new ≡ old) × (size ≡ with_record old.marks rec) × (old.plan.journal < size)
     × IsRecord rec
 IsUnwritten old new rec Disk = IsFaulted old new old.marks rec.entry
 IsUnwritten old new rec refusal = ⊥

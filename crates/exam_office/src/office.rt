@@ -38,7 +38,15 @@ impl<'a, D: Disk> Model for Office<'a, D> {
 
     ghost Value = { Running D };
 
-    ghost view = { λ o. record { bank = o.bank.now; plan = o.spec.now; base = o.base; marks = o.marks; doubt = o.doubt; journal = o.journal; opened = handed D.content D.accounts D.faults o.opened.value } };
+    ghost view = { λ o. record {
+      bank = o.bank.now;
+      plan = o.spec.now;
+      base = o.base;
+      marks = o.marks;
+      doubt = o.doubt;
+      journal = o.journal;
+      opened = handed D.content D.accounts D.faults o.opened.value;
+    } };
 
     ghost invariant = { λ o. IsKept o.bank.now o.spec.now o.base o.book o.journal o.marks o.doubt
         (handed D.content D.accounts D.faults o.opened.value)

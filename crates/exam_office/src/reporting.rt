@@ -26,8 +26,8 @@ use exposure_counters::Counters;
 use history_model::{Counts, Exposure, Refusal, Summary};
 use std::alloc::Global;
 
-#[tactic(auto, using(crate::proofs::Reported::row_more, crate::proofs::Reported::rows_end))]
 /// The counts of each item, in order.
+#[tactic(auto, using(crate::proofs::Reported::row_more, crate::proofs::Reported::rows_end))]
 fn rows_of(alloc: Global, counters: &Counters) -> Result<List<Counts>, Memory>
     ensures { IfOk result (λ rows. rows ≡ counters.now.counts) }
 {
@@ -50,9 +50,9 @@ impl<'a, D: Disk> Office<'a, D> {
         self.book.problem(session)
     }
 
-    #[tactic(auto, using(crate::proofs::Reported::exposed))]
     /// The number of finished sessions, and the exposure counts of each item of the bank. Fails
     /// only where it is out of memory.
+    #[tactic(auto, using(crate::proofs::Reported::exposed))]
     pub fn exposure(&self, alloc: Global) -> Result<Exposure, Refusal>
         ensures exposure { IfOk result (λ exposure. IsExposureOf self.now.bank self.now.plan
             (history self.now.marks) exposure) }

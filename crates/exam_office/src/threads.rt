@@ -1,4 +1,5 @@
-// What may move to another thread, and what threads may share.
+//! What may move to another thread, and what threads may share.
+
 use crate::{Mark, Office};
 use exam_edge::Disk;
 use turn_lock::{Pass, Turn};

@@ -17,8 +17,10 @@ use Rattle.branch_bound.specs.declared.outcome.Outcome.TheVariants.{Found}
 use Rattle.branch_bound.specs.Assemblies.{IsAssembly, IsShown, IsUndecided, IsNoWorseThan, IsTrueOutcome}
 use Rattle.exam_program.specs.Texts.{form_text}
 
--- the whole problem was assembled within the base budget, with the plan's base, if there is one, as the hint
-pub record IsWholeAssembly (b : Tables) (plan : Plan) (P : Problem) (T : ProofTree) (outcome : Outcome) : Type 0 where
+-- the whole problem was assembled within the base budget, with the plan's base, if there is one, as
+-- the hint
+pub record IsWholeAssembly (b : Tables) (plan : Plan) (P : Problem) (T : ProofTree)
+    (outcome : Outcome) : Type 0 where
   pub whole : IsWhole b plan P
   pub well_made : IsWellMade P
   pub assembly : IsAssembly P (option_map has plan.base) plan.base_budget T outcome
@@ -29,9 +31,11 @@ pub record IsPrintable (P : Problem) (T : ProofTree) : Type 0 where
   pub is_tree : IsTree T
   pub pruned : IsPruned P T
 
--- that assembly found this form: no exchange of one item betters it, it is no worse than the plan's base, and the tree shows
--- its mark: proved, it is best over all sets of items, else the tree spends the base budget
-pub record FindsForm (b : Tables) (plan : Plan) (P : Problem) (form : List ℕ) (proved : Bool) (T : ProofTree) : Type 0 where
+-- that assembly found this form: no exchange of one item betters it, it is no worse than the plan's
+-- base, and the tree shows its mark: proved, it is best over all sets of items, else the tree
+-- spends the base budget
+pub record FindsForm (b : Tables) (plan : Plan) (P : Problem) (form : List ℕ) (proved : Bool)
+    (T : ProofTree) : Type 0 where
   pub whole : IsWhole b plan P
   pub firm : Firm P (has form)
   pub shown : IsShown P T plan.base_budget (Found form proved)
@@ -63,7 +67,9 @@ pub record ShowsNoBase (b : Tables) (plan : Plan) (T : ProofTree) : Type 0 where
   pub undecided : IsUndecided problem None T plan.base_budget
   pub printable : IsPrintable problem T
 
--- the base form is the plan's, or, where it has none, one that the assembly of the whole problem finds
+-- the base form is the plan's, or, where it has none, one that the assembly of the whole problem
+-- finds
 pub data IsBaseForm (b : Tables) (plan : Plan) : List ℕ → Type 0 where
   of_plan : (form : List ℕ) → plan.base ≡ Some form → IsBaseForm b plan form
-  assembled : (P : Problem) (form : List ℕ) (proved : Bool) (T : ProofTree) → plan.base ≡ None → FindsForm b plan P form proved T → IsBaseForm b plan form
+  assembled : (P : Problem) (form : List ℕ) (proved : Bool) (T : ProofTree) → plan.base ≡ None
+      → FindsForm b plan P form proved T → IsBaseForm b plan form

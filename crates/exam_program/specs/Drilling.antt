@@ -7,7 +7,8 @@ use Rattle.exam_program.specs.declared.halt.Halt.TheVariants.{JournalFull, Sink,
 
 -- the cause why a drill has no summary: the journal's limit, or memory
 abbrev pub HaltsAtDrill : ℕ → ℕ → Halt → Type 0
-HaltsAtDrill number sessions (JournalFull size most) = IsDrillFault number sessions (drill.JournalFull size most)
+HaltsAtDrill number sessions (JournalFull size most) =
+    IsDrillFault number sessions (drill.JournalFull size most)
 HaltsAtDrill number sessions Memory = Unit {0}
 HaltsAtDrill number sessions halt = ⊥
 

@@ -47,16 +47,21 @@ HaltsAtPlan b there text halt = ⊥
 
 -- there are files of these names, and they describe this bank and this plan, which is valid for the
 -- bank
-pub record Reads (named : List ℕ → Bool) (content : List ℕ → List ℕ) (bank plan : List ℕ) (b : Tables) (p : Numbers) : Type 0 where
+pub record Reads (named : List ℕ → Bool) (content : List ℕ
+    → List ℕ) (bank plan : List ℕ) (b : Tables) (p : Numbers) : Type 0 where
   pub has_bank : IsTrue (named bank)
   pub has_plan : IsTrue (named plan)
   pub says_bank : bank_of (content bank) ≡ Ok b
   pub says_plan : IsPlanIn b (content plan) p
 
--- the text of the bank is there and refused, or that of the plan after the bank is read, unless the files failed or memory ran out
+-- the text of the bank is there and refused, or that of the plan after the bank is read, unless the
+-- files failed or memory ran out
 abbrev pub HaltsAtExam : (List ℕ → Bool) → (List ℕ → List ℕ) → List ℕ → List ℕ → Halt → Type 0
-HaltsAtExam named content bank plan (Bank fault) = IsTrue (named bank) × (bank_of (content bank) ≡ Err fault)
-HaltsAtExam named content bank plan (Plan fault) = (b : Tables) × IsTrue (named bank) × IsTrue (named plan) × (bank_of (content bank) ≡ Ok b) × IsOfText fault × IsReadFault b (content plan) fault
+HaltsAtExam named content bank plan (Bank fault) =
+    IsTrue (named bank) × (bank_of (content bank) ≡ Err fault)
+HaltsAtExam named content bank plan (Plan fault) = (b : Tables) × IsTrue (named bank)
+    × IsTrue (named plan) × (bank_of (content bank) ≡ Ok b) × IsOfText fault
+    × IsReadFault b (content plan) fault
 HaltsAtExam named content bank plan Files = Unit {0}
 HaltsAtExam named content bank plan Memory = Unit {0}
 HaltsAtExam named content bank plan halt = ⊥
@@ -73,11 +78,12 @@ HaltsAtScript there text Files = Unit {0}
 HaltsAtScript there text Memory = Unit {0}
 HaltsAtScript there text halt = ⊥
 
--- the whole problem has no form, or none was found within the base budget, with the text that has the tree, unless memory
--- ran out
+-- the whole problem has no form, or none was found within the base budget, with the text that has
+-- the tree, unless memory ran out
 abbrev pub HaltsAtBase : Tables → Numbers → Halt → Type 0
 HaltsAtBase b plan (NoForm text) = (T : ProofTree) × ShowsNoForm b plan T × (text.items ≡ no_form T)
-HaltsAtBase b plan (NoBaseForm text) = (T : ProofTree) × ShowsNoBase b plan T × (text.items ≡ no_base_form plan.base_budget T)
+HaltsAtBase b plan (NoBaseForm text) =
+    (T : ProofTree) × ShowsNoBase b plan T × (text.items ≡ no_base_form plan.base_budget T)
 HaltsAtBase b plan Memory = Unit {0}
 HaltsAtBase b plan halt = ⊥
 

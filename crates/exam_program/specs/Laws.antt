@@ -45,14 +45,16 @@ OneTreeOfText = (T U : ProofTree) → IsTree T → IsTree U → tree_text T ≡ 
 
 -- ---- a plan text describes one plan
 abbrev pub OnePlanOfText : Type 0
-OnePlanOfText = (b : Tables) (text : List ℕ) (p q : Plan) → IsPlanIn b text p → IsPlanIn b text q → p ≡ q
+OnePlanOfText =
+    (b : Tables) (text : List ℕ) (p q : Plan) → IsPlanIn b text p → IsPlanIn b text q → p ≡ q
 
 -- ---- completeness: where the texts are accepted and no fault of the files was counted
 
 -- check does its work, or memory ran out
 abbrev pub CheckIsComplete : Type 0
 CheckIsComplete =
-    (words : List (List ℕ)) (o : Outside) (bank plan : List ℕ) (b : Tables) (p : Plan) (status : ℕ) (text : List ℕ)
+    (words : List (List ℕ)) (o : Outside) (bank plan : List ℕ) (b : Tables) (p : Plan) (status : ℕ)
+    (text : List ℕ)
     → command_of words ≡ Some (Check bank plan)
     → Reads o.named o.content bank plan b p
     → (Rose o.files_before o.files_after → ⊥)
@@ -62,7 +64,8 @@ CheckIsComplete =
 -- and so does assemble, where the plan has a base
 abbrev pub AssembleIsComplete : Type 0
 AssembleIsComplete =
-    (words : List (List ℕ)) (o : Outside) (bank plan base : List ℕ) (b : Tables) (p : Plan) (status : ℕ) (text : List ℕ)
+    (words : List (List ℕ)) (o : Outside) (bank plan base : List ℕ) (b : Tables) (p : Plan)
+    (status : ℕ) (text : List ℕ)
     → command_of words ≡ Some (Assemble bank plan)
     → Reads o.named o.content bank plan b p
     → p.base ≡ Some base
@@ -70,8 +73,8 @@ AssembleIsComplete =
     → Outcome words o status text
     → (status ≡ 0) ⊎ (status ≡ 10)
 
--- the next request of a replay meets a limit of the plan: that of the sessions, or, with an entry of
--- the request after the file that is left, that of the journal
+-- the next request of a replay meets a limit of the plan: that of the sessions, or, with an entry
+-- of the request after the file that is left, that of the journal
 pub data MeetsLimit (words : List (List ℕ)) (o : Outside) : Type 0 where
   of_sessions : (b : Tables) (p : Plan) (script : List Request) (base : List ℕ) (H G : List Entry)
       (request : Request) (rest : List Request) (replies : List Reply) (count : ℕ)
@@ -84,13 +87,14 @@ pub data MeetsLimit (words : List (List ℕ)) (o : Outside) : Type 0 where
       → IsUnderWay b p base o.disk script H G (request ∷ rest) replies
       → IsFullAt b p G request K now size → IsLeftAt b p o.disk K now → MeetsLimit words o
 
--- and so does replay, where the plan has a base, the script is one, the file represents a history by
--- records of the second version within the journal's limit, no limit of the plan is met and no fault of
--- the disk was counted. A file that represents a history and is no unmoved journal of the first version
--- does so by records of the second
+-- and so does replay, where the plan has a base, the script is one, the file represents a history
+-- by records of the second version within the journal's limit, no limit of the plan is met and no
+-- fault of the disk was counted. A file that represents a history and is no unmoved journal of the
+-- first version does so by records of the second
 abbrev pub ReplayIsComplete : Type 0
 ReplayIsComplete =
-    (words : List (List ℕ)) (o : Outside) (bank plan name base : List ℕ) (b : Tables) (p : Plan) (script : List Request) (H : List Entry) (status : ℕ) (text : List ℕ)
+    (words : List (List ℕ)) (o : Outside) (bank plan name base : List ℕ) (b : Tables) (p : Plan)
+    (script : List Request) (H : List Entry) (status : ℕ) (text : List ℕ)
     → command_of words ≡ Some (Replay bank plan name)
     → Reads o.named o.content bank plan b p
     → p.base ≡ Some base
@@ -105,11 +109,12 @@ ReplayIsComplete =
     → (status ≡ 0) ⊎ (status ≡ 10)
 
 -- serve, where the plan has a base, the file represents a history by records of the second version
--- within the journal's limit and no fault of the disk was counted, serves connections, or memory ran
--- out: if none was served, it ends with 10
+-- within the journal's limit and no fault of the disk was counted, serves connections, or memory
+-- ran out: if none was served, it ends with 10
 abbrev pub ServeIsComplete : Type 0
 ServeIsComplete =
-    (words : List (List ℕ)) (o : Outside) (bank plan base : List ℕ) (b : Tables) (p : Plan) (H : List Entry) (status : ℕ) (text : List ℕ)
+    (words : List (List ℕ)) (o : Outside) (bank plan base : List ℕ) (b : Tables) (p : Plan)
+    (H : List Entry) (status : ℕ) (text : List ℕ)
     → command_of words ≡ Some (Serve bank plan)
     → Reads o.named o.content bank plan b p
     → p.base ≡ Some base
@@ -125,7 +130,8 @@ ServeIsComplete =
 -- either version, and no fault of the disk was counted
 abbrev pub AuditIsComplete : Type 0
 AuditIsComplete =
-    (words : List (List ℕ)) (o : Outside) (bank plan : List ℕ) (b : Tables) (p : Plan) (H : List Entry) (status : ℕ) (text : List ℕ)
+    (words : List (List ℕ)) (o : Outside) (bank plan : List ℕ) (b : Tables) (p : Plan)
+    (H : List Entry) (status : ℕ) (text : List ℕ)
     → command_of words ≡ Some (Audit bank plan)
     → Reads o.named o.content bank plan b p
     → IsTrue o.disk.told
@@ -139,7 +145,8 @@ AuditIsComplete =
 -- and so does migrate, where besides the file is within the limit once it is moved
 abbrev pub MigrateIsComplete : Type 0
 MigrateIsComplete =
-    (words : List (List ℕ)) (o : Outside) (bank plan : List ℕ) (b : Tables) (p : Plan) (H : List Entry) (status : ℕ) (text : List ℕ)
+    (words : List (List ℕ)) (o : Outside) (bank plan : List ℕ) (b : Tables) (p : Plan)
+    (H : List Entry) (status : ℕ) (text : List ℕ)
     → command_of words ≡ Some (Migrate bank plan)
     → Reads o.named o.content bank plan b p
     → IsTrue o.disk.told
@@ -155,7 +162,8 @@ MigrateIsComplete =
 -- the items shown in each complete session meet the plan
 abbrev pub CompleteSessionsMeet : Type 0
 CompleteSessionsMeet =
-    (b : Tables) (plan : Plan) (base : List ℕ) (disk : DiskSeen) (script : List Request) (H G : List Entry) (rest : List Request) (replies : List Reply) (s : ℕ)
+    (b : Tables) (plan : Plan) (base : List ℕ) (disk : DiskSeen) (script : List Request)
+    (H G : List Entry) (rest : List Request) (replies : List Reply) (s : ℕ)
     → 0 < plan.length
     → IsUnderWay b plan base disk script H G rest replies
     → place plan G s ≡ Some Complete
@@ -164,7 +172,8 @@ CompleteSessionsMeet =
 -- and so do those that a server leaves
 abbrev pub CompleteServedSessionsMeet : Type 0
 CompleteServedSessionsMeet =
-    (b : Tables) (plan : Plan) (base : List ℕ) (disk : DiskSeen) (opened closed : List NotedMark) (H : List Entry) (s : ℕ)
+    (b : Tables) (plan : Plan) (base : List ℕ) (disk : DiskSeen) (opened closed : List NotedMark)
+    (H : List Entry) (s : ℕ)
     → 0 < plan.length
     → IsExamined b plan base disk opened closed H
     → place plan H s ≡ Some Complete

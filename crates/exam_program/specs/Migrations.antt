@@ -16,9 +16,9 @@ use Rattle.exam_program.specs.declared.halt.Halt.{Halt}
 use Rattle.exam_program.specs.declared.halt.Halt.TheVariants as halt
 use Rattle.exam_program.specs.Outside.{DiskSeen, IsUntouched, WasSettled}
 
--- a file that represented a history keeps it. If the disk was settled, the file that is left represents
--- that history, and so does each file that a crash may leave, now or at a moment since. If it was not,
--- each of these represents it too, or a crash might have left it before
+-- a file that represented a history keeps it. If the disk was settled, the file that is left
+-- represents that history, and so does each file that a crash may leave, now or at a moment since.
+-- If it was not, each of these represents it too, or a crash might have left it before
 pub record KeepsHistory (b : Tables) (plan : Plan) (disk : DiskSeen) : Type 0 where
   pub left : IsTrue disk.told → WasSettled disk → (H : List Entry) → Stands b plan H disk.found
       → Stands b plan H disk.left
@@ -30,9 +30,10 @@ pub record KeepsHistory (b : Tables) (plan : Plan) (disk : DiskSeen) : Type 0 wh
       → AtEachMoment disk.moments_before disk.moments (IsImageOrStands b plan H disk.images_before)
 
 -- a migration was done: the file represented a history, and represents it by records of the second
--- version now, within the journal's limit. A crash leaves nothing but this file, if nothing was suspect
--- before, or if the gate that moves the journal was being opened
-pub record IsMigrationDone (b : Tables) (plan : Plan) (disk : DiskSeen) (done : Moved) : Type 0 where
+-- version now, within the journal's limit. A crash leaves nothing but this file, if nothing was
+-- suspect before, or if the gate that moves the journal was being opened
+pub record IsMigrationDone (b : Tables) (plan : Plan) (disk : DiskSeen)
+    (done : Moved) : Type 0 where
   pub migrated : IsTrue disk.told → IsMigrated b plan disk.found disk.left disk.moments done
   pub stands : IsTrue disk.told → (H : List Entry) → Stands b plan H disk.found
       → StandsMoved b plan H disk.left
@@ -43,8 +44,8 @@ pub record IsMigrationDone (b : Tables) (plan : Plan) (disk : DiskSeen) (done : 
       → IsSettled disk.left disk.moments
   pub keeps : KeepsHistory b plan disk
 
--- a migration ended early: the file keeps its history; it is as it was found, unless it represented a
--- history by records of the first version
+-- a migration ended early: the file keeps its history; it is as it was found, unless it represented
+-- a history by records of the first version
 pub record IsMigrationCutOff (b : Tables) (plan : Plan) (disk : DiskSeen) : Type 0 where
   pub keeps : KeepsHistory b plan disk
   pub unwritten : IsTrue disk.told → IsOldFile b plan disk.found
@@ -56,8 +57,8 @@ abbrev pub IsStillUnmoved : DiskSeen → Type 0
 IsStillUnmoved disk = IsTrue disk.told → (counted_in disk.found).version ≡ 1
     → IsUnmoved (counted_in disk.found).payloads disk.left
 
--- the file is of the first version, and of this length once it is moved, above the journal's limit; it
--- is as it was found
+-- the file is of the first version, and of this length once it is moved, above the journal's limit;
+-- it is as it was found
 pub record IsMigrationFull (b : Tables) (plan : Plan) (disk : DiskSeen) (size : ℕ) : Type 0 where
   pub long : IsTrue disk.told → IsTooLongMoved b plan disk.found size
   pub untouched : IsUntouched disk

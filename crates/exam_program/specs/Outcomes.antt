@@ -60,11 +60,13 @@ pub record IsOver (words : List (List ℕ)) (bank plan : List ℕ) : Type 0 wher
   pub asked : command_of words ≡ Some command
   pub names : files_of command ≡ Some (bank, plan)
 
--- a command that assembles the whole problem has read what comes before: its bank and plan and, for a replay, its script
+-- a command that assembles the whole problem has read what comes before: its bank and plan and, for
+-- a replay, its script
 abbrev pub IsReady : (List ℕ → Bool) → (List ℕ → List ℕ) → Command → Tables → Plan → Type 0
 IsReady named content (Check bank plan) b p = ⊥
 IsReady named content (Assemble bank plan) b p = Reads named content bank plan b p
-IsReady named content (Replay bank plan name) b p = Reads named content bank plan b p × IsTrue (named name) × ((script : List Request) × IsScriptIn (content name) script)
+IsReady named content (Replay bank plan name) b p = Reads named content bank plan b p
+    × IsTrue (named name) × ((script : List Request) × IsScriptIn (content name) script)
 IsReady named content (Serve bank plan) b p = Reads named content bank plan b p
 IsReady named content (Audit bank plan) b p = ⊥
 IsReady named content (Drill number sessions) b p = ⊥
@@ -87,7 +89,8 @@ pub record IsAuditOf (words : List (List ℕ)) (o : Outside) (b : Tables) (p : P
   pub reads : Reads o.named o.content bank plan b p
 
 -- the words ask for a migration, and its files are read
-pub record IsMigrationOf (words : List (List ℕ)) (o : Outside) (b : Tables) (p : Plan) : Type 0 where
+pub record IsMigrationOf (words : List (List ℕ)) (o : Outside) (b : Tables)
+    (p : Plan) : Type 0 where
   pub bank : List ℕ
   pub plan : List ℕ
   pub asked : command_of words ≡ Some (Migrate bank plan)
@@ -95,7 +98,8 @@ pub record IsMigrationOf (words : List (List ℕ)) (o : Outside) (b : Tables) (p
 
 -- the status and what is printed, for words and what is outside; each rule has its conditions. If
 -- the disk reports its content, the rules of two statuses other than 7, 9, 10 and 12 never both
--- apply, except where forms that are both best lead to other histories; where 12 applies, 11 may too
+-- apply, except where forms that are both best lead to other histories; where 12 applies, 11 may
+-- too
 pub data Outcome (words : List (List ℕ)) (o : Outside) : ℕ → List ℕ → Type 0 where
   -- the words are not in the table
   faulty_words : command_of words ≡ None → IsUntouched o.disk → Outcome words o 2 usage
@@ -242,14 +246,15 @@ pub record PrintsPart (words : List (List ℕ)) (o : Outside) (told : Bool)
 
 -- status 8 is that of a sink that failed
 abbrev pub Ends : List (List ℕ) → Outside → Bool → List ℕ → List ℕ → ℕ → Type 0
-Ends words o told old new status = (Prints words o told old new status) ⊎ ((status ≡ 8) × PrintsPart words o told old new)
+Ends words o told old new status =
+    (Prints words o told old new status) ⊎ ((status ≡ 8) × PrintsPart words o told old new)
 
 -- ---- what is left of the journal, whatever the status
--- the file is left as it was found; or the disk failed while the journal was opened, and a settled file
--- kept its history; or the first requests of the script were done, and the file that is left, and each that a
--- crash may leave, represents the history that they lead to, or that with the first entries of the
--- next; or a server's journal was opened, and memory ran out before any connection was accepted; or a
--- migration was done; or one ended early, and the file keeps its history
+-- the file is left as it was found; or the disk failed while the journal was opened, and a settled
+-- file kept its history; or the first requests of the script were done, and the file that is left,
+-- and each that a crash may leave, represents the history that they lead to, or that with the first
+-- entries of the next; or a server's journal was opened, and memory ran out before any connection
+-- was accepted; or a migration was done; or one ended early, and the file keeps its history
 pub data LeavesJournal (words : List (List ℕ)) (o : Outside) : Type 0 where
   as_found : IsUntouched o.disk → LeavesJournal words o
   at_opening : (b : Tables) (p : Plan) (script : List Request) (base : List ℕ)
@@ -277,17 +282,24 @@ pub record PrintsBefore (words : List (List ℕ)) (o : Outside) (told : Bool) (o
 
 -- so for a text that may find no memory
 abbrev pub PrintsBeforeText : List (List ℕ) → Outside → Bool → List ℕ → List ℕ → ℕ → List ℕ → Type 0
-PrintsBeforeText words o told old new status last = PrintsBefore words o told old new status last × PrintsBefore words o told old new 10 no_memory
+PrintsBeforeText words o told old new status last =
+    PrintsBefore words o told old new status last × PrintsBefore words o told old new 10 no_memory
 
 abbrev pub Halts : List (List ℕ) → Outside → Bool → List ℕ → List ℕ → Halt → Type 0
-Halts words o told old new (halt.Bank fault) = PrintsBeforeText words o told old new 3 (bank_text fault)
-Halts words o told old new (halt.Plan fault) = PrintsBeforeText words o told old new 4 (plan_text fault)
-Halts words o told old new (halt.Script fault) = PrintsBeforeText words o told old new 5 (script_text fault)
+Halts words o told old new (halt.Bank fault) =
+    PrintsBeforeText words o told old new 3 (bank_text fault)
+Halts words o told old new (halt.Plan fault) =
+    PrintsBeforeText words o told old new 4 (plan_text fault)
+Halts words o told old new (halt.Script fault) =
+    PrintsBeforeText words o told old new 5 (script_text fault)
 Halts words o told old new (halt.NoForm text) = PrintsBefore words o told old new 11 text.items
 Halts words o told old new (halt.NoBaseForm text) = PrintsBefore words o told old new 12 text.items
-Halts words o told old new (halt.Journal fault) = PrintsBeforeText words o told old new 6 (journal_text fault)
-Halts words o told old new (halt.Sessions count most) = PrintsBeforeText words o told old new 13 (sessions_limit count most)
-Halts words o told old new (halt.JournalFull size most) = PrintsBeforeText words o told old new 13 (journal_limit size most)
+Halts words o told old new (halt.Journal fault) =
+    PrintsBeforeText words o told old new 6 (journal_text fault)
+Halts words o told old new (halt.Sessions count most) =
+    PrintsBeforeText words o told old new 13 (sessions_limit count most)
+Halts words o told old new (halt.JournalFull size most) =
+    PrintsBeforeText words o told old new 13 (journal_limit size most)
 Halts words o told old new halt.Files = PrintsBefore words o told old new 7 files_failed
 Halts words o told old new halt.Disk = PrintsBefore words o told old new 9 disk_failed
 Halts words o told old new halt.Memory = PrintsBefore words o told old new 10 no_memory

@@ -27,10 +27,17 @@ pub record Outside : Type 0 where
 
 abbrev pub outside : (List ℕ → Bool) → (List ℕ → List ℕ) → ℕ → ℕ → DiskSeen → Outside
 outside named content before after disk =
-    record { named = named; content = content; files_before = before; files_after = after; disk = disk }
+    record {
+      named = named;
+      content = content;
+      files_before = before;
+      files_after = after;
+      disk = disk;
+    }
 
 -- a disk, from what it reports, as it was before and as it is after
-abbrev pub disk_seen : {D : Type 0} → (D → Bool) → (D → List ℕ) → (D → List Account) → (D → ℕ) → D → D → DiskSeen
+abbrev pub disk_seen : {D : Type 0} → (D → Bool) → (D → List ℕ) → (D → List Account) → (D → ℕ) → D
+    → D → DiskSeen
 disk_seen tells content accounts faults old new = record {
   told = tells old;
   before = faults old;

@@ -40,7 +40,8 @@ halt_of plan reply = None
 pub data AreDone (b : Tables) (plan : Plan) (H : List Entry) : List Request → List Entry
     → List Reply → Type 0 where
   none : AreDone b plan H [] H []
-  one_more : (done : List Request) (G : List Entry) (replies : List Reply) (request : Request) (K : List Entry) (reply : Reply)
+  one_more : (done : List Request) (G : List Entry) (replies : List Reply) (request : Request)
+      (K : List Entry) (reply : Reply)
       → AreDone b plan H done G replies → Does b plan G request K reply → halt_of plan reply ≡ None
       → AreDone b plan H (done ++ request ∷ []) K (replies ++ reply ∷ [])
 
@@ -65,8 +66,8 @@ pub record IsGoingOn (b : Tables) (plan : Plan) (base : List ℕ) (script : List
   pub good : AreGood b plan base H G
   pub each : IsTrue told → AllImages (IsFileOf b plan base G rest) images
 
--- a history on the way of a script from H: its first requests are done, and then the first entries of
--- the next one: none of them, some, or all
+-- a history on the way of a script from H: its first requests are done, and then the first entries
+-- of the next one: none of them, some, or all
 pub record IsReached (b : Tables) (plan : Plan) (base : List ℕ) (script : List Request)
     (H K : List Entry) : Type 0 where
   pub done : List Request
@@ -82,9 +83,9 @@ pub record IsReached (b : Tables) (plan : Plan) (base : List ℕ) (script : List
 abbrev pub IsFileOnTheWay : Tables → Plan → List ℕ → List Request → List Entry → List ℕ → Type 0
 IsFileOnTheWay b plan base script H file = StandsForOne b plan (IsReached b plan base script H) file
 
--- a replay over a disk: the file that was found represents H by records of the second version, and the
--- one that is left has what the requests added. If the disk was settled, then at each moment of the run each file that a crash may
--- leave represents a history on the way of the script
+-- a replay over a disk: the file that was found represents H by records of the second version, and
+-- the one that is left has what the requests added. If the disk was settled, then at each moment of
+-- the run each file that a crash may leave represents a history on the way of the script
 pub record IsUnderWay (b : Tables) (plan : Plan) (base : List ℕ) (disk : DiskSeen)
     (script : List Request) (H G : List Entry)
     (rest : List Request) (replies : List Reply) : Type 0 where
@@ -102,8 +103,8 @@ pub record IsLeftAt (b : Tables) (plan : Plan) (disk : DiskSeen) (K : List Entry
   pub stands : IsTrue disk.told → Stands b plan K disk.left
   pub length_is : IsTrue disk.told → now ≡ length disk.left
 
--- the next request was cut off at the history K: with a record that may follow, of the request's next
--- entry, the journal, of this length now, would be above its limit
+-- the next request was cut off at the history K: with a record that may follow, of the request's
+-- next entry, the journal, of this length now, would be above its limit
 pub record IsFullAt (b : Tables) (plan : Plan) (G : List Entry) (request : Request) (K : List Entry)
     (now size : ℕ) : Type 0 where
   pub cut_off : IsCutOff b plan G request K
@@ -121,8 +122,8 @@ IsOfFile open_fault.Disk = ⊥
 IsOfFile open_fault.Memory = ⊥
 IsOfFile fault = ⊤
 
--- the file represents no history of the bank and the plan, or is too long, or it is of the first version
--- and was not moved; it is as it was found
+-- the file represents no history of the bank and the plan, or is too long, or it is of the first
+-- version and was not moved; it is as it was found
 pub record IsJournalRefused (b : Tables) (plan : Plan) (disk : DiskSeen)
     (fault : OpenFault) : Type 0 where
   pub of_file : IsOfFile fault
@@ -137,9 +138,9 @@ pub record IsReadingRefused (b : Tables) (plan : Plan) (disk : DiskSeen)
   pub untouched : IsUntouched disk
 
 -- ---- a disk that failed while the journal was opened
--- its count of faults rose; and if it was settled, and its file represented a history, the file that
--- is left represents that history, and so does each file that a crash may leave, now or at a moment
--- since
+-- its count of faults rose; and if it was settled, and its file represented a history, the file
+-- that is left represents that history, and so does each file that a crash may leave, now or at a
+-- moment since
 pub record IsOpeningFailed (b : Tables) (plan : Plan) (disk : DiskSeen) : Type 0 where
   pub rose : Rose disk.before disk.after
   pub left : IsTrue disk.told → WasSettled disk → (H : List Entry) → Stands b plan H disk.found

@@ -18,7 +18,8 @@ use Rattle.exam_program.specs.Writing.{IsWritten, WritesPart}
 -- a text was written with its status; or, where the sink failed, a part of it, and the status is 8
 abbrev pub IsLastWritten : Bool → List ℕ → List ℕ → ℕ → List ℕ → ℕ → Type 0
 IsLastWritten told old new status text result =
-    ((result ≡ status) × IsWritten told old new text) ⊎ ((result ≡ 8) × WritesPart told old new text)
+    ((result ≡ status) × IsWritten told old new text) ⊎ ((result ≡ 8)
+    × WritesPart told old new text)
 
 -- so for a text and a status that these rules allow
 pub record EndsWith (Allowed : ℕ → List ℕ → Type 0) (told : Bool) (old new : List ℕ)
@@ -28,12 +29,14 @@ pub record EndsWith (Allowed : ℕ → List ℕ → Type 0) (told : Bool) (old n
   pub is_allowed : Allowed status text
   pub written : IsLastWritten told old new status text result
 
--- how a run ends. No connection was served: an outcome of the command, and the doors are as they were.
--- Or connections were served, by an office with these marks at first and at the close: what is
--- printed, and what is left of the journal, is of the same marks
+-- how a run ends. No connection was served: an outcome of the command, and the doors are as they
+-- were. Or connections were served, by an office with these marks at first and at the close: what
+-- is printed, and what is left of the journal, is of the same marks
 pub data RunEnds (Serves : List NotedMark → List NotedMark → Bool → Type 0) (Unused : Type 0)
-    (words : List (List ℕ)) (o : Outside) (told : Bool) (old new : List ℕ) (result : ℕ) : Type 0 where
-  idle : Unused → Ends words o told old new result → RunEnds Serves Unused words o told old new result
+    (words : List (List ℕ)) (o : Outside) (told : Bool) (old new : List ℕ)
+    (result : ℕ) : Type 0 where
+  idle : Unused → Ends words o told old new result → RunEnds Serves Unused words o told old new
+      result
   busy : (work : WorkSeen) → Serves work.opened work.closed work.failed
       → EndsWith (IsServedBy words o work) told old new result
       → RunEnds Serves Unused words o told old new result
@@ -46,10 +49,12 @@ pub data RunLeaves (Serves : List NotedMark → List NotedMark → Bool → Type
       → (b : Tables) (plan : Plan) (base : List ℕ) (H : List Entry) → IsServeOf words o b plan base
       → IsExamined b plan base o.disk work.opened work.closed H → RunLeaves Serves Unused words o
 
--- what is printed in the end, by how the work at the doors ended: the numbers of the history, or that
--- memory for them ran out; that a door failed; or that memory ran out before any link was accepted
+-- what is printed in the end, by how the work at the doors ended: the numbers of the history, or
+-- that memory for them ran out; that a door failed; or that memory ran out before any link was
+-- accepted
 abbrev pub IsLastOf : End → Summary → ℕ → List ℕ → Type 0
-IsLastOf Done s status text = ((status ≡ 0) × (text ≡ summary_text s)) ⊎ ((status ≡ 10) × (text ≡ no_memory))
+IsLastOf Done s status text =
+    ((status ≡ 0) × (text ≡ summary_text s)) ⊎ ((status ≡ 10) × (text ≡ no_memory))
 IsLastOf DoorFailed s status text = (status ≡ 14) × (text ≡ door_failed)
 IsLastOf Memory s status text = (status ≡ 10) × (text ≡ no_memory)
 

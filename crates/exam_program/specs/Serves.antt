@@ -36,7 +36,11 @@ pub record IsOpenedOn (office : OpenedWith) (b : Tables) (plan : Plan) (base : L
   pub plan_is : office.plan ≡ plan
   pub base_is : office.base ≡ base
   pub told : office.tells ≡ disk.told
-  pub handed : office.disk ≡ record { content = disk.found; accounts = disk.moments_before; faults = disk.before }
+  pub handed : office.disk ≡ record {
+    content = disk.found;
+    accounts = disk.moments_before;
+    faults = disk.before;
+  }
 
 -- the marks of an office that was opened with a history, each with what the office was opened with
 pub record AreOpening (office : OpenedWith) (found : List Entry) (opened : List NotedMark)
@@ -45,12 +49,12 @@ pub record AreOpening (office : OpenedWith) (found : List Entry) (opened : List 
   pub is : opened ≡ noted office (map Old found ++ Opened size ∷ [])
 
 -- the file that was found is within the journal's limit and represents a history by records of the
--- second version, with which an office was opened. The office's marks at the close have the history H, a legal run that begins with
--- the one that was found; they keep the rules of marks, and have no more faults than the disk counted.
--- The file that is left, and each that a crash may leave, represents H, or H with the one entry in
--- doubt; with none in doubt its length is that of the last mark that has one. If the disk was settled,
--- then at each moment of the run each file that a crash may leave represents the history of the marks
--- so far, or that with the one entry in hand
+-- second version, with which an office was opened. The office's marks at the close have the history
+-- H, a legal run that begins with the one that was found; they keep the rules of marks, and have no
+-- more faults than the disk counted. The file that is left, and each that a crash may leave,
+-- represents H, or H with the one entry in doubt; with none in doubt its length is that of the last
+-- mark that has one. If the disk was settled, then at each moment of the run each file that a crash
+-- may leave represents the history of the marks so far, or that with the one entry in hand
 pub record IsExamined (b : Tables) (plan : Plan) (base : List ℕ) (disk : DiskSeen)
     (opened closed : List NotedMark) (H : List Entry) : Type 0 where
   pub office : OpenedWith
@@ -74,8 +78,8 @@ pub record IsExamined (b : Tables) (plan : Plan) (base : List ℕ) (disk : DiskS
   pub moments : IsTrue disk.told → WasSettled disk
       → AreMoments b plan disk.moments_before (marks_of closed) disk.moments
 
--- the work at the doors: the marks of the office when the journal was opened, and at the close, each
--- with what the office was opened with; and whether a door failed
+-- the work at the doors: the marks of the office when the journal was opened, and at the close,
+-- each with what the office was opened with; and whether a door failed
 pub record WorkSeen : Type 0 where
   pub opened : List NotedMark
   pub closed : List NotedMark

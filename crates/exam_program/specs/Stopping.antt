@@ -71,7 +71,8 @@ pub data IsStopped {D : Type 0} (b : Tables) (plan : Plan) (base : List ℕ) (re
   at_journal : (size : ℕ)
       → IsFullAt b plan (history old.marks) request (history new.marks) (reach new.marks) size
       → new.doubt ≡ None
-      → IsWritten told was now [] → IsStopped b plan base request old new told was now (halt.JournalFull size plan.journal)
+      → IsWritten told was now [] → IsStopped b plan base request old new told was now
+      (halt.JournalFull size plan.journal)
   at_disk : Rose (faults_of old.journal) (faults_of new.journal) → IsWritten told was now []
       → IsStopped b plan base request old new told was now halt.Disk
   at_memory : IsWritten told was now []
@@ -88,10 +89,13 @@ pub data Stops (b : Tables) (plan : Plan) (Way : List Entry → List Request →
     (Failed : Type 0) (told : Bool) (was now : List ℕ) : Halt → Type 0 where
   by_sessions : (G : List Entry) (request : Request) (rest : List Request) (replies : List Reply)
       (count : ℕ) → Way G (request ∷ rest) replies
-      → refusal_of b plan G request ≡ Some (SessionsFull count) → IsWritten told was now (lines_of replies)
+      → refusal_of b plan G request ≡ Some (SessionsFull count)
+      → IsWritten told was now (lines_of replies)
       → Stops b plan Way Left Failed told was now (halt.Sessions count plan.sessions)
-  by_journal : (G : List Entry) (request : Request) (rest : List Request) (replies : List Reply) (K : List Entry) (reached size : ℕ)
-      → Way G (request ∷ rest) replies → IsFullAt b plan G request K reached size → Left K reached → IsWritten told was now (lines_of replies)
+  by_journal : (G : List Entry) (request : Request) (rest : List Request) (replies : List Reply)
+      (K : List Entry) (reached size : ℕ)
+      → Way G (request ∷ rest) replies → IsFullAt b plan G request K reached size → Left K reached
+      → IsWritten told was now (lines_of replies)
       → Stops b plan Way Left Failed told was now (halt.JournalFull size plan.journal)
   by_disk : (G : List Entry) (rest : List Request) (replies : List Reply) → Way G rest replies
       → Failed → IsWritten told was now (lines_of replies)
@@ -129,12 +133,14 @@ pub record IsOfficeAt {D : Type 0} (new : Running D) (K : List Entry) (reached :
 
 abbrev pub IsServed : {D : Type 0} → Tables → Plan → List ℕ → List Request → Running D → Running D
     → Bool → List ℕ → List ℕ → Type 0
-IsServed b plan base script old new told was now = Finishes (GoesOn b plan base script old new) told was now
+IsServed b plan base script old new told was now =
+    Finishes (GoesOn b plan base script old new) told was now
 
 abbrev pub IsUnserved : {D : Type 0} → Tables → Plan → List ℕ → List Request → Running D → Running D
     → Bool → List ℕ → List ℕ → Halt → Type 0
 IsUnserved b plan base script old new told was now why =
-    Stops b plan (GoesOn b plan base script old new) (IsOfficeAt new) (Rose (faults_of old.journal) (faults_of new.journal)) told was now why
+    Stops b plan (GoesOn b plan base script old new) (IsOfficeAt new)
+    (Rose (faults_of old.journal) (faults_of new.journal)) told was now why
 
 -- ---- a replay over a disk
 pub record IsReplayed (b : Tables) (plan : Plan) (base : List ℕ) (disk : DiskSeen)
@@ -148,4 +154,5 @@ abbrev pub Halted : Tables → Plan → List ℕ → DiskSeen → List Request �
     → Type 0
 Halted b plan base disk script told was now why =
     (IsUnopened b plan disk why × IsWritten told was now [])
-    ⊎ Stops b plan (IsReplayed b plan base disk script) (IsLeftAt b plan disk) (Rose disk.before disk.after) told was now why
+    ⊎ Stops b plan (IsReplayed b plan base disk script) (IsLeftAt b plan disk)
+    (Rose disk.before disk.after) told was now why

@@ -28,7 +28,8 @@ disk_failed = codes "disk failed\n"
 unfoldable pub door_failed : List ℕ
 door_failed = codes "door failed\n"
 
--- what is wrong with the journal's file, its version among that, with the place of the record's gate
+-- what is wrong with the journal's file, its version among that, with the place of the record's
+-- gate
 unfoldable pub journal_text : OpenFault → List ℕ
 journal_text (Journal (TooLong size)) = codes "journal: too long " ++ (decimal size ++ codes "\n")
 journal_text (Journal Header) = codes "journal: header\n"
@@ -46,11 +47,13 @@ journal_text Memory = no_memory
 
 -- the number of sessions is the plan's limit
 unfoldable pub sessions_limit : ℕ → ℕ → List ℕ
-sessions_limit count most = codes "limit sessions " ++ (decimal count ++ (codes " of " ++ (decimal most ++ codes "\n")))
+sessions_limit count most =
+    codes "limit sessions " ++ (decimal count ++ (codes " of " ++ (decimal most ++ codes "\n")))
 
 -- the length that the journal would have is above the plan's limit
 unfoldable pub journal_limit : ℕ → ℕ → List ℕ
-journal_limit size most = codes "limit journal " ++ (decimal size ++ (codes " of " ++ (decimal most ++ codes "\n")))
+journal_limit size most =
+    codes "limit journal " ++ (decimal size ++ (codes " of " ++ (decimal most ++ codes "\n")))
 
 -- a tree as it is printed: its bytes in lower-case hexadecimal, and the end of the line
 unfoldable pub tree_text : ProofTree → List ℕ
@@ -62,12 +65,15 @@ no_form T = codes "no form " ++ tree_text T
 
 -- no form of the whole problem was found within the base budget: the tree spends it
 unfoldable pub no_base_form : ℕ → ProofTree → List ℕ
-no_base_form budget T = codes "no base form in " ++ (decimal budget ++ (codes " nodes " ++ tree_text T))
+no_base_form budget T =
+    codes "no base form in " ++ (decimal budget ++ (codes " nodes " ++ tree_text T))
 
 -- what was understood of a bank
 unfoldable pub bank_line : Tables → List ℕ
 bank_line b =
-    codes "bank items " ++ (decimal (size b) ++ (codes " grid " ++ (decimal b.grid ++ (codes " quantities " ++ (decimal b.quantities ++ (codes " stimuli " ++ (decimal (stimuli_of b) ++ codes "\n")))))))
+    codes "bank items " ++ (decimal (size b) ++ (codes " grid "
+    ++ (decimal b.grid ++ (codes " quantities " ++ (decimal b.quantities
+    ++ (codes " stimuli " ++ (decimal (stimuli_of b) ++ codes "\n")))))))
 
 -- the items of X below n, ascending, a space before each
 abbrev pub items_text : ℕ → Set → List ℕ
@@ -81,12 +87,15 @@ mark_text false = codes "unproved"
 
 -- the line of a form's objective, with its mark and the number of the tree's nodes
 unfoldable pub objective_line : ℕ → Bool → ℕ → List ℕ
-objective_line value proved nodes = codes "objective " ++ (decimal value ++ (codes " " ++ (mark_text proved ++ (codes " nodes " ++ (decimal nodes ++ codes "\n")))))
+objective_line value proved nodes = codes "objective " ++ (decimal value
+    ++ (codes " " ++ (mark_text proved ++ (codes " nodes " ++ (decimal nodes ++ codes "\n")))))
 
 -- a form that was found: its items, its objective, and the tree
 unfoldable pub form_text : Problem → List ℕ → Bool → ProofTree → List ℕ
 form_text P form proved T =
-    codes "form" ++ (items_text (size P.bank) (has form) ++ (codes "\n" ++ (objective_line (objective P (has form)) proved (length T.nodes) ++ (codes "tree " ++ tree_text T))))
+    codes "form" ++ (items_text (size P.bank) (has form)
+    ++ (codes "\n" ++ (objective_line (objective P (has form)) proved (length T.nodes)
+    ++ (codes "tree " ++ tree_text T))))
 
 -- the lines of each band of a plan that has more than one; of one band none
 abbrev pub bands_part : Plan → List Exposure → List ℕ

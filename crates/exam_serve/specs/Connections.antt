@@ -10,19 +10,23 @@ use Rattle.exam_http.specs.Serving.{IsServed, LeadsTo}
 use Rattle.exam_hall.specs.Known.{CallerKnown, marked}
 use Rattle.exam_hall.specs.Sees.{Sees}
 
--- what a request does to a caller: the reply is right for what its pass has seen then, and its hall is the same
+-- what a request does to a caller: the reply is right for what its pass has seen then, and its hall
+-- is the same
 abbrev pub Asks : CallerKnown → Request → Reply → CallerKnown → Type 0
-Asks old request reply new = Sees old.hall (marked old.pass) (marked new.pass) request reply × (new.hall ≡ old.hall)
+Asks old request reply new =
+    Sees old.hall (marked old.pass) (marked new.pass) request reply × (new.hall ≡ old.hall)
 
 -- idle time does nothing to a caller
 abbrev pub Idles : CallerKnown → CallerKnown → Type 0
 Idles old new = new ≡ old
 
 module _ {K : Type 0} (tells : K → Bool) (left written : K → List ℕ) (faults identity : K → ℕ) where
-  -- a link that a caller served: requests led from the caller before to the caller after; if the link reports its bytes, they
-  -- are those of the messages read, and what was written is the responses of their replies, in order. A connection ended by
-  -- the link only where the link's count of faults rose
-  pub record IsConnection (old : CallerKnown) (link : K) (new : CallerKnown) (back : K) : Type 0 where
+  -- a link that a caller served: requests led from the caller before to the caller after; if the
+  -- link reports its bytes, they are those of the messages read, and what was written is the
+  -- responses of their replies, in order. A connection ended by the link only where the link's
+  -- count of faults rose
+  pub record IsConnection (old : CallerKnown) (link : K) (new : CallerKnown)
+      (back : K) : Type 0 where
     pub ended : Ended
     pub leads : LeadsTo Asks Idles old new
     pub served : IsTrue (tells link) → (text : List ℕ) × (written back ≡ written link ++ text)

@@ -11,10 +11,13 @@ use Rattle.exam_office.specs.Noting.{NotedMark}
 use Rattle.exam_hall.specs.Known.{HallKnown, CallerKnown, HasOpening}
 use Rattle.exam_serve.specs.Connections.{IsConnection}
 
--- each door is the same object, reports its links exactly if it did before, has counted no fewer faults, and has no link out
-abbrev pub AreLent : {D : Type 0} → (D → Bool) → (D → ℕ) → (D → ℕ) → (D → Bool) → List D → List D → Type 0
+-- each door is the same object, reports its links exactly if it did before, has counted no fewer
+-- faults, and has no link out
+abbrev pub AreLent : {D : Type 0} → (D → Bool) → (D → ℕ) → (D → ℕ) → (D → Bool) → List D → List D
+    → Type 0
 AreLent tells identity faults is_out doors back =
-    AllZip (λ door after. IsLent tells identity faults door after × (is_out after ≡ false)) doors back
+    AllZip (λ door after. IsLent tells identity faults door after
+    × (is_out after ≡ false)) doors back
 
 -- a door's count of faults rose
 pub record HasFailedDoor {D : Type 0} (faults : D → ℕ) (doors back : List D) : Type 0 where
@@ -51,22 +54,27 @@ module _ {D K : Type 0} where
     pub token : station.token ≡ record { hall = hall; pass = new_pass hall.lock number opened }
     pub home : is_out station.door ≡ false
 
-module _ {D K : Type 0} (tells : D → Bool) (coming returned : D → List K) (is_out : D → Bool) (faults identity : D → ℕ)
+module _ {D K : Type 0} (tells : D → Bool) (coming returned : D → List K) (is_out : D
+    → Bool) (faults identity : D → ℕ)
     (link_tells : K → Bool) (left written : K → List ℕ) (link_faults link_identity : K → ℕ) where
-  -- a station before and after its work. It began with a new pass of the hall. Each link that its door gave was served, in
-  -- order, on this one pass, and then went back to the door. It ended where the door failed, or gave no more
-  pub record IsWorked (hall : HallKnown) (opened : List NotedMark) (before after : Station D CallerKnown K) : Type 0 where
+  -- a station before and after its work. It began with a new pass of the hall. Each link that its
+  -- door gave was served, in order, on this one pass, and then went back to the door. It ended
+  -- where the door failed, or gave no more
+  pub record IsWorked (hall : HallKnown) (opened : List NotedMark)
+      (before after : Station D CallerKnown K) : Type 0 where
     pub made : IsNewStation is_out hall opened before
     pub serves : Serves tells coming returned is_out faults identity
         (IsConnection link_tells left written link_faults link_identity) before after
     pub ends : Ends tells coming faults before after
     pub same_hall : after.token.hall ≡ hall
 
-  -- the work of a hall, whose office had the marks `opened` at first and has the marks `closed` in the end; the hall has the
-  -- bank, the plan and the base form of that office. There was one station for each door, in order. The marks that a pass saw
-  -- are a beginning of those in the end, which begin with those at first; no mark is the own of two passes. It failed exactly
-  -- if a door failed
-  pub record AreServed (opened closed : List NotedMark) (doors back : List D) (failed : Bool) : Type 0 where
+  -- the work of a hall, whose office had the marks `opened` at first and has the marks `closed` in
+  -- the end; the hall has the bank, the plan and the base form of that office. There was one
+  -- station for each door, in order. The marks that a pass saw are a beginning of those in the end,
+  -- which begin with those at first; no mark is the own of two passes. It failed exactly if a door
+  -- failed
+  pub record AreServed (opened closed : List NotedMark) (doors back : List D)
+      (failed : Bool) : Type 0 where
     pub hall : HallKnown
     pub is_of : HasOpening opened hall
     pub before : List (Station D CallerKnown K)

@@ -16,11 +16,14 @@ abbrev pub notes_of : {A : Type 0} → Running A → List NotedMark
 notes_of office = noted (opened_with office) office.marks
 
 module _ {A D K : Type 0} (tells : D → Bool) (coming returned : D → List K) (is_out : D → Bool)
-    (faults identity : D → ℕ) (link_tells : K → Bool) (left written : K → List ℕ) (link_faults link_identity : K → ℕ) where
+    (faults identity : D → ℕ) (link_tells : K → Bool) (left written : K
+    → List ℕ) (link_faults link_identity : K → ℕ) where
   -- the office and the doors after the work, by how it ended. Out of memory, no link was accepted
   abbrev pub IsResult : Running A → List D → Running A → List D → End → Type 0
-  IsResult office doors closed back Done = AreServed tells coming returned is_out faults identity link_tells left written
+  IsResult office doors closed back Done =
+      AreServed tells coming returned is_out faults identity link_tells left written
       link_faults link_identity (notes_of office) (notes_of closed) doors back false
-  IsResult office doors closed back DoorFailed = AreServed tells coming returned is_out faults identity link_tells left written
+  IsResult office doors closed back DoorFailed =
+      AreServed tells coming returned is_out faults identity link_tells left written
       link_faults link_identity (notes_of office) (notes_of closed) doors back true
   IsResult office doors closed back Memory = (closed ≡ office) × (back ≡ doors)

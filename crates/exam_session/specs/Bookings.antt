@@ -12,7 +12,8 @@ booking_of bookings session = slice_index_or bookings session 0
 -- the session of a booking, if one of the order has it
 abbrev pub session_with : List ℕ → List ℕ → ℕ → Option ℕ
 session_with bookings [] booking = None
-session_with bookings (session ∷ rest) booking = if booking_of bookings session == booking then Some session else session_with bookings rest booking
+session_with bookings (session ∷ rest) booking = if booking_of bookings session
+    == booking then Some session else session_with bookings rest booking
 
 -- the booking at a place of the order
 abbrev pub booking_at : List ℕ → List ℕ → ℕ → ℕ
@@ -20,7 +21,8 @@ booking_at bookings order place = booking_of bookings (slice_index_or order plac
 
 -- the bookings rise along the order, so none is there twice
 abbrev pub IsRising : List ℕ → List ℕ → Type 0
-IsRising bookings order = (i j : ℕ) → i < j → j < length order → booking_at bookings order i < booking_at bookings order j
+IsRising bookings order =
+    (i j : ℕ) → i < j → j < length order → booking_at bookings order i < booking_at bookings order j
 
 -- the bookings before the place are lower, and those from it on are not
 pub record IsPlaceFor (bookings order : List ℕ) (booking place : ℕ) : Type 0 where

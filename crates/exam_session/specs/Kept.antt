@@ -24,13 +24,15 @@ pub record AreCounts (b : Tables) (plan : Plan) (H : List Entry) (tally : Tally)
 
 -- the exposure counts of the bank's items in a band, and the number of finished sessions that
 -- visited it
-pub record AreBandCounts (b : Tables) (plan : Plan) (H : List Entry) (band : ℕ) (tally : Tally) : Type 0 where
+pub record AreBandCounts (b : Tables) (plan : Plan) (H : List Entry) (band : ℕ)
+    (tally : Tally) : Type 0 where
   pub number : length tally.counts ≡ size b
   pub each : (i : ℕ) → i < size b → counts_at tally i ≡ band_counts b plan H band i
   pub finished : tally.finished ≡ visited b plan H band
 
 -- those of each band of the plan
-pub record AreCountsByBand (b : Tables) (plan : Plan) (H : List Entry) (tallies : List Tally) : Type 0 where
+pub record AreCountsByBand (b : Tables) (plan : Plan) (H : List Entry)
+    (tallies : List Tally) : Type 0 where
   pub number : length tallies ≡ bands_of plan
   pub each : (band : ℕ) (tally : Tally) → slice_get tallies band ≡ Some tally
       → AreBandCounts b plan H band tally

@@ -71,7 +71,8 @@ HasRoomFor (Answered session step response) kept =
     vec_len kept.responses < vec_capacity kept.responses
 HasRoomFor entry kept = Unit {0}
 
--- the item shown last waits for the response; the response is one of it, and the sums have room for it
+-- the item shown last waits for the response; the response is one of it, and the sums have room for
+-- it
 pub record TakesResponse (b : Tables) (response : ℕ) (kept : KeptSeat) : Type 0 where
   pub item : ℕ
   pub waits : slice_get kept.shown.items (length kept.responses.items) ≡ Some item
@@ -119,14 +120,17 @@ pub record AreKept (plan : Plan) (H : List Entry) (seats : List KeptSeat) : Type
 
 -- the sums of each seat are those of the plan's prior and the seat's answers
 abbrev pub HaveSums : Tables → Plan → List KeptSeat → Type 0
-HaveSums b plan seats = (s : ℕ) (kept : KeptSeat) → slice_get seats s ≡ Some kept → HasSums b plan kept
+HaveSums b plan seats =
+    (s : ℕ) (kept : KeptSeat) → slice_get seats s ≡ Some kept → HasSums b plan kept
 
 -- the seat of each session of the entries, with room for a test of the plan, and its sums
-pub record AreKeptWithSums (b : Tables) (plan : Plan) (H : List Entry) (seats : List KeptSeat) : Type 0 where
+pub record AreKeptWithSums (b : Tables) (plan : Plan) (H : List Entry)
+    (seats : List KeptSeat) : Type 0 where
   pub kept : AreKept plan H seats
   pub sums : HaveSums b plan seats
 
--- the session of the entry has a seat, with room for what the entry adds; an answer is one of the item that waits
+-- the session of the entry has a seat, with room for what the entry adds; an answer is one of the
+-- item that waits
 pub record IsSeated (b : Tables) (seats : List KeptSeat) (entry : Entry) : Type 0 where
   pub kept : KeptSeat
   pub there : slice_get seats (session_of entry) ≡ Some kept
@@ -144,7 +148,8 @@ started_seat seat eligible without =
     }
 
 -- the new seats are the old ones and the spare one, which starts with these sets
-pub record StartsSeat (old : List KeptSeat) (eligible : Bands) (without : Option Without) (new : List KeptSeat) (spare : KeptSeat) : Type 0 where
+pub record StartsSeat (old : List KeptSeat) (eligible : Bands) (without : Option Without)
+    (new : List KeptSeat) (spare : KeptSeat) : Type 0 where
   pub seat : KeptSeat
   pub is : new ≡ old ++ seat ∷ []
   pub starts : seat_kept seat ≡ started_seat (seat_kept spare) eligible without

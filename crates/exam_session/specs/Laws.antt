@@ -25,6 +25,7 @@ MayIsLifted = (b : Tables) (plan : Plan) (H : List Entry) (entry : Entry) (tree 
 
 -- and to nothing else
 abbrev pub LiftedIsOne : Type 0
-LiftedIsOne = (b : Tables) (plan : Plan) (H : List Entry) (entry new : Entry) (tree : Option ProofTree)
+LiftedIsOne =
+    (b : Tables) (plan : Plan) (H : List Entry) (entry new : Entry) (tree : Option ProofTree)
     → IsInRange entry → IsInRange new → MayFollow b plan H entry tree
     → IsLifted b plan H (old_entry (first_band b plan) entry) new → new ≡ entry

@@ -7,13 +7,23 @@ use Rattle.history_model.specs.Summaries.{serves_proved, serves_unproved, nodes_
 use Rattle.exam_session.specs.declared.totals.Totals.{Totals}
 
 abbrev pub totals_of : List Entry → Totals
-totals_of H = record { proved = count_by serves_proved H; unproved = count_by serves_unproved H; aside = count_by sets_aside H; nodes = sum_by nodes_of H }
+totals_of H = record {
+  proved = count_by serves_proved H;
+  unproved = count_by serves_unproved H;
+  aside = count_by sets_aside H;
+  nodes = sum_by nodes_of H;
+}
 
 -- the totals with an entry more
 abbrev pub totals_with : Totals → Entry → Totals
-totals_with totals (SetAside session step band cause nodes) = record totals { aside = totals.aside + 1; nodes = totals.nodes + nodes }
+totals_with totals (SetAside session step band cause nodes) =
+    record totals { aside = totals.aside + 1; nodes = totals.nodes + nodes }
 totals_with totals (Served session step item form proved nodes) =
-    record totals { proved = totals.proved + (if proved then 1 else 0); unproved = totals.unproved + (if proved then 0 else 1); nodes = totals.nodes + nodes }
+    record totals {
+      proved = totals.proved + (if proved then 1 else 0);
+      unproved = totals.unproved + (if proved then 0 else 1);
+      nodes = totals.nodes + nodes;
+    }
 totals_with totals entry = totals
 
 -- each number has room for an entry more

@@ -27,7 +27,8 @@ pub record AreVisits (b : Tables) (plan : Plan) (seat : Seat) (found : BandVisit
   pub there : (band : ℕ) → band < 8 → get_or found.there band false ≡ visits b plan seat band
 
 -- the tally after one session more, with the items shown in the band, and those open there
-pub record IsCountedIn (b : Tables) (plan : Plan) (band : ℕ) (seat : Seat) (old new : Tally) : Type 0 where
+pub record IsCountedIn (b : Tables) (plan : Plan) (band : ℕ) (seat : Seat)
+    (old new : Tally) : Type 0 where
   pub shown : ℕ → Bool
   pub eligible : ℕ → Bool
   pub items : length new.counts ≡ length old.counts
@@ -38,17 +39,20 @@ pub record IsCountedIn (b : Tables) (plan : Plan) (band : ℕ) (seat : Seat) (ol
       → eligible i ≡ (is_available_in seat band i && not (is_withheld seat i))
 
 -- a session is counted in a band that it visited, and in no other
-pub record IsCountedOrNot (b : Tables) (plan : Plan) (band : ℕ) (seat : Seat) (old new : Tally) : Type 0 where
+pub record IsCountedOrNot (b : Tables) (plan : Plan) (band : ℕ) (seat : Seat)
+    (old new : Tally) : Type 0 where
   pub there : IsTrue (visits b plan seat band) → IsCountedIn b plan band seat old new
   pub away : IsFalse (visits b plan seat band) → new ≡ old
 
-pub record IsCountedByBand (b : Tables) (plan : Plan) (seat : Seat) (old new : List Tally) : Type 0 where
+pub record IsCountedByBand (b : Tables) (plan : Plan) (seat : Seat)
+    (old new : List Tally) : Type 0 where
   pub number : length new ≡ length old
   pub each : (band : ℕ) (was is : Tally) → slice_get old band ≡ Some was
       → slice_get new band ≡ Some is → IsCountedOrNot b plan band seat was is
 
 -- the session can be counted: its items are of the bank, and each tally has room for a session more
-pub record IsCountable (b : Tables) (plan : Plan) (seat : Seat) (tallies : List Tally) : Type 0 where
+pub record IsCountable (b : Tables) (plan : Plan) (seat : Seat)
+    (tallies : List Tally) : Type 0 where
   pub bands : length tallies ≡ bands_of plan
   pub few : bands_of plan ≤ 8
   pub shown : (band i : ℕ) → IsTrue (is_shown_in b plan seat band i) → i < size b
@@ -59,7 +63,8 @@ pub record IsCountable (b : Tables) (plan : Plan) (seat : Seat) (tallies : List 
       → IsTrue (visits b plan seat band) → tally.finished < 65536
 
 -- so in one band
-pub record IsCountableIn (b : Tables) (plan : Plan) (band : ℕ) (seat : Seat) (found : BandVisits) (tally : Tally) : Type 0 where
+pub record IsCountableIn (b : Tables) (plan : Plan) (band : ℕ) (seat : Seat) (found : BandVisits)
+    (tally : Tally) : Type 0 where
   pub low : band < 8
   pub visits_are : AreVisits b plan seat found
   pub shown : (i : ℕ) → IsTrue (is_shown_in b plan seat band i) → i < size b

@@ -11,8 +11,10 @@ use Rattle.history_model.specs.Reasons.{IsPendingPlace}
 
 -- there is no such session; or it is at another place
 abbrev pub IsNotPending : Plan → List Entry → ℕ → ℕ → Illegal → Type 0
-IsNotPending plan H session step (NoSession count) = (place plan H session ≡ None) × (count ≡ sessions H)
-IsNotPending plan H session step (NotPending at) = (place plan H session ≡ Some at) × (at ≢ Pending step)
+IsNotPending plan H session step (NoSession count) =
+    (place plan H session ≡ None) × (count ≡ sessions H)
+IsNotPending plan H session step (NotPending at) =
+    (place plan H session ≡ Some at) × (at ≢ Pending step)
 IsNotPending plan H session step reason = ⊥
 
 -- there is no such session; or it waits for no item

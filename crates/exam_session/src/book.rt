@@ -70,10 +70,20 @@ impl<'a> Model for Book<'a> {
 
     ghost Value = { Ledger };
 
-    ghost view = { λ b. record { bank = b.bank.now; plan = b.spec.now; entries = b.entries; room = b.room } };
+    ghost view = { λ b. record {
+      bank = b.bank.now;
+      plan = b.spec.now;
+      entries = b.entries;
+      room = b.room;
+    } };
 
     ghost invariant = { λ b.
-        IsExamination (record { bank = b.bank.now; plan = b.spec.now; entries = b.entries; room = b.room })
+        IsExamination (record {
+          bank = b.bank.now;
+          plan = b.spec.now;
+          entries = b.entries;
+          room = b.room;
+        })
         × AreKeptWithSums b.bank.now b.spec.now b.entries b.seats.items
         × AreBookings b.entries b.bookings.each.items b.bookings.order.items
         × AreCounts b.bank.now b.spec.now b.entries b.counters
@@ -173,8 +183,8 @@ impl<'a> Book<'a> {
         }
     }
 
-    #[tactic(auto, using(crate::proofs::BookLaws::placed, crate::proofs::BookLaws::not_placed))]
     /// The place of a session; none where there is no such session.
+    #[tactic(auto, using(crate::proofs::BookLaws::placed, crate::proofs::BookLaws::not_placed))]
     pub fn place(&self, session: u32) -> Option<Place>
         ensures place { result ≡ place self.now.plan self.now.entries session }
         // the item that waits for its answer is one of the bank

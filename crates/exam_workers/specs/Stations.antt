@@ -3,22 +3,27 @@ use Rattle.std.specs.Prelude.{◌≡◌, ℕ, ◌+◌, ◌-◌, ◌^◌, ◌<◌
 use Rattle.exam_edge.specs.Faults.{Rose}
 use Rattle.exam_workers.specs.declared.Station.{Station}
 
--- `given` are links as the door gave them, `back` the same links as they went back, in order: each was served once, on the
--- token that the one before it had left
-abbrev pub ServesLinks : {K T : Type 0} → (T → K → T → K → Type 0) → T → List K → List K → T → Type 0
+-- `given` are links as the door gave them, `back` the same links as they went back, in order: each
+-- was served once, on the token that the one before it had left
+abbrev pub ServesLinks : {K T : Type 0} → (T → K → T → K → Type 0) → T → List K → List K → T
+    → Type 0
 ServesLinks serves t [] [] u = t ≡ u
-ServesLinks {K} {T} serves t (k ∷ given) (l ∷ back) u = (v : T) × serves t k v l × ServesLinks serves v given back u
+ServesLinks {K} {T} serves t (k ∷ given) (l ∷ back) u =
+    (v : T) × serves t k v l × ServesLinks serves v given back u
 ServesLinks serves t [] (l ∷ back) u = ⊥
 ServesLinks serves t (k ∷ given) [] u = ⊥
 
 module _ {D K T : Type 0} (tells : D → Bool) (coming : D → List K) (faults : D → ℕ) where
   -- the door failed, or it gives no more links
   abbrev pub Ends : Station D T K → Station D T K → Type 0
-  Ends old new = MatchBool new.failed (Rose (faults old.door) (faults new.door)) (IsTrue (tells old.door) → coming new.door ≡ [])
+  Ends old new = MatchBool new.failed (Rose (faults old.door) (faults new.door))
+      (IsTrue (tells old.door) → coming new.door ≡ [])
 
-module _ {D K T : Type 0} (tells : D → Bool) (coming returned : D → List K) (is_out : D → Bool) (faults identity : D → ℕ)
+module _ {D K T : Type 0} (tells : D → Bool) (coming returned : D → List K) (is_out : D
+    → Bool) (faults identity : D → ℕ)
     (serves : T → K → T → K → Type 0) where
-  -- the link k, which was out, was served on the station's token, went back to the door as it was then, and was counted
+  -- the link k, which was out, was served on the station's token, went back to the door as it was
+  -- then, and was counted
   pub record ServesLink (old : Station D T K) (k : K) (new : Station D T K) : Type 0 where
     pub back : K
     pub served : serves old.token k new.token back
@@ -45,4 +50,6 @@ module _ {D K T : Type 0} (tells : D → Bool) (coming returned : D → List K) 
   -- each station was worked at until its door failed or gave no more
   abbrev pub EachServes : List (Station D T K) → List (Station D T K) → Type 0
   EachServes old new = (k : ℕ) (s : Station D T K) → k < length old
-      → let a = slice_index_or old k s in let b = slice_index_or new k s in Serves a b × Ends tells coming faults a b
+      → let a = slice_index_or old k s in
+      let b = slice_index_or new k s in
+      Serves a b × Ends tells coming faults a b

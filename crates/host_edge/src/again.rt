@@ -1,4 +1,5 @@
-// System calls that are made again while a signal interrupts them.
+//! System calls that are made again while a signal interrupts them.
+
 ghost use Rattle.std.specs.Prelude.{◌≢◌, ◌≤◌, length, IfOk, IfErr};
 ghost use Rattle.std.specs.IoError.{error_kind};
 

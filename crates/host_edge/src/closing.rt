@@ -1,4 +1,5 @@
-// A flag that the objects of the host share.
+//! A flag that the objects of the host share.
+
 use std::alloc::{AllocError, Global};
 use std::sync::Arc;
 use std::sync::atomic::{AtomicBool, Ordering};

@@ -1,4 +1,5 @@
-// How often an object of the host failed, and why.
+//! How often an object of the host failed, and why.
+
 ghost use Rattle.std.specs.Prelude.{◌≡◌, ◌≤◌, Ok, Err, Some, None, is_ok, false, IsErr, IfOk, IfErr, OnErr};
 ghost use Rattle.exam_edge.specs.Faults.{Rose};
 ghost use Rattle.host_edge.specs.FaultCount.{count_of, cause_of, IsCounted};

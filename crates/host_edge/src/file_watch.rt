@@ -1,4 +1,5 @@
-// Whether an open file is still the one at its path, and as this program left it.
+//! Whether an open file is still the one at its path, and as this program left it.
+
 ghost use Rattle.std.specs.Prelude.{◌≡◌, ◌≢◌, ◌↔◌, max, Some, None, IsOk, IsSome, IfSome, OnOk, option_map};
 ghost use Rattle.host_edge.specs.FileWatch.{length_of, loss_of, IsSameFile};
 ghost use Rattle.host_edge.specs.declared.file_watch.Loss.TheVariants as loss;

@@ -1,4 +1,5 @@
-// What standard error has been told of the journal's disk.
+//! What standard error has been told of the journal's disk.
+
 ghost use Rattle.std.specs.Prelude.{◌≡◌, ◌≢◌, ◌↔◌, ◌⊎◌, false, IsTrue};
 ghost use Rattle.host_edge.specs.declared.health.Health.TheVariants as health;
 

@@ -1,4 +1,5 @@
-// A door of the host.
+//! A door of the host.
+
 ghost use Rattle.std.specs.Prelude.{◌≡◌, ◌≢◌, ◌≤◌, ◌-◌, [], All, vec_len, Ok, Some, None, true, false, is_ok, is_some, option_map, IsErr, IsNone, IfOk, OnErr};
 ghost use Rattle.exam_edge.specs.Faults.{Rose};
 ghost use Rattle.host_edge.specs.FaultCount.{count_of, cause_of, IsCounted};

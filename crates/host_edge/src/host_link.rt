@@ -1,4 +1,5 @@
-// A connection of the host.
+//! A connection of the host.
+
 ghost use Rattle.std.specs.Prelude.{◌≡◌, ◌≤◌, ◌<◌, [], Ok, None, true, false, is_ok, is_some, length, IsErr, IfOk, OnErr};
 ghost use Rattle.exam_edge.specs.Faults.{Rose};
 ghost use Rattle.host_edge.specs.FaultCount.{count_of, cause_of, IsCounted};

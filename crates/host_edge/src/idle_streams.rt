@@ -1,4 +1,5 @@
-// The connections of one door that no worker serves.
+//! The connections of one door that no worker serves.
+
 use crate::again::{Accepted, PAUSE, accept_once};
 use crate::closing::{Closing, is_closing};
 use crate::trouble::Trouble;

@@ -1,4 +1,5 @@
-// Lines on standard error.
+//! Lines on standard error.
+
 use std::fmt::Display;
 
 /// Writes a line on the journal to standard error. Nothing can be done where that fails.

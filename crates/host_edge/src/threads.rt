@@ -1,4 +1,5 @@
-// Which objects may move to another thread.
+//! Which objects may move to another thread.
+
 use crate::{Closing, HostDisk, HostDoor, HostFiles, HostLink, HostSink};
 
 fn may_move<T: Send>() {}

@@ -1,4 +1,5 @@
-// Errors of a listener that pass.
+//! Errors of a listener that pass.
+
 use std::io;
 use std::io::ErrorKind;
 

@@ -10,7 +10,8 @@ use Rattle.history_model.specs.Requests.{IsExposureOf}
 use Rattle.history_model.specs.Summaries.{summary}
 use Rattle.exam_office.specs.Files.{Stands}
 
--- the number of finished sessions that visited a band, and the counts there of each item of the bank
+-- the number of finished sessions that visited a band, and the counts there of each item of the
+-- bank
 pub record IsBandExposureOf (b : Tables) (plan : Plan) (H : List Entry) (band : ℕ)
     (exposure : Exposure) : Type 0 where
   pub visited_is : exposure.finished ≡ visited b plan H band

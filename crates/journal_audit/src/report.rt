@@ -13,8 +13,8 @@ use exposure_counters::Counters;
 use history_model::{Counts, Exposure, Summary};
 use std::alloc::Global;
 
-#[tactic(auto, using(exam_office::proofs::Reported::row_more, exam_office::proofs::Reported::rows_end))]
 /// The counts of each item, in order.
+#[tactic(auto, using(exam_office::proofs::Reported::row_more, exam_office::proofs::Reported::rows_end))]
 fn rows_of(alloc: Global, counters: &Counters) -> Result<List<Counts>, Memory>
     ensures { IfOk result (λ rows. rows ≡ counters.now.counts) }
 {
@@ -36,8 +36,8 @@ fn exposure_at(alloc: Global, counters: &Counters) -> Result<Exposure, Memory>
     })
 }
 
-#[tactic(auto, using(exam_office::proofs::Reported::exposed))]
 /// The number of finished sessions, and the exposure counts of each item of the bank.
+#[tactic(auto, using(exam_office::proofs::Reported::exposed))]
 fn exposure_of(alloc: Global, book: &Book) -> Result<Exposure, Memory>
     ensures { IfOk result
         (IsExposureOf book.now.bank book.now.plan book.now.entries) }
@@ -45,8 +45,8 @@ fn exposure_of(alloc: Global, book: &Book) -> Result<Exposure, Memory>
     exposure_at(alloc, book.counters())
 }
 
-#[tactic(auto, using(crate::proofs::BandReports::exposed_in_band))]
 /// The number of finished sessions that visited a band, and the exposure counts there of each item of the bank.
+#[tactic(auto, using(crate::proofs::BandReports::exposed_in_band))]
 fn band_exposure_of(alloc: Global, book: &Book, band: u8) -> Result<Exposure, Memory>
     requires { band < bands_of book.now.plan }
     ensures { IfOk result

@@ -1,4 +1,5 @@
-// The host's objects on files of a temporary folder and on a socket of the loopback address.
+//! The host's objects on files of a temporary folder and on a socket of the loopback address.
+
 ghost use Rattle.std.specs.Prelude.{◌≡◌, false};
 ghost use Rattle.host_edge.specs.HostDoor.{out_of};
 

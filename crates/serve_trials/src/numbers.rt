@@ -1,4 +1,5 @@
-// A list of numbers under the lock.
+//! A list of numbers under the lock.
+
 ghost use Rattle.std.specs.Prelude.{◌≡◌};
 
 use turn_lock::{Kept, Move as TurnMove};

@@ -1,4 +1,5 @@
-// Passes of one lock in threads.
+//! Passes of one lock in threads.
+
 ghost use Rattle.std.specs.Prelude.{◌≡◌, ◌+◌, ◌<◌, [], IsTrue, IfSome, All, length};
 ghost use Rattle.turn_lock.specs.Passes.{new_pass};
 ghost use Rattle.serve_trials.specs.Own.{AppendsOwn, HasBoth, HasRun, IsReady};

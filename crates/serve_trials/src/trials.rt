@@ -1,4 +1,5 @@
-// The lists that passes in threads leave.
+//! The lists that passes in threads leave.
+
 use crate::equal::is_equal;
 use crate::threads::{many_threads, two_threads};
 use std::process::Abort;

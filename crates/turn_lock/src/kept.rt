@@ -1,4 +1,5 @@
-// What is under the lock, and what is done to it in one turn.
+//! What is under the lock, and what is done to it in one turn.
+
 ghost use Rattle.std.specs.Prelude.{◌≡◌, ℕ, List, length, ◌++◌};
 ghost use Rattle.turn_lock.specs.Histories.{Grows};
 

@@ -1,5 +1,6 @@
-// The table of the lock, its rule, and the kinds of step. Word 0 is the next ticket, word 1 the ticket that is served,
-// word 2 the length of the history; slot 0 has the value.
+//! The table of the lock, its rule, and the kinds of step. Word 0 is the next ticket, word 1 the ticket that is served,
+//! word 2 the length of the history; slot 0 has the value.
+
 ghost use Rattle.std.specs.Prelude.{◌≡◌, ℕ, Some};
 ghost use Rattle.turn_lock.specs.Rule.{Holds};
 ghost use Rattle.turn_lock.specs.Seats.{first_view, split_view, new_view, joined_view, spent_view};

@@ -1,4 +1,5 @@
-// What a caller has of a lock.
+//! What a caller has of a lock.
+
 ghost use Rattle.std.specs.Prelude.{◌≡◌, [], ℕ};
 ghost use Rattle.turn_lock.specs.Passes.{Known};
 ghost use Rattle.turn_lock.specs.Seats.{known_of, IsIdle};

@@ -1,4 +1,5 @@
-// The parts of a turn, each a function over the lock's table and one seat.
+//! The parts of a turn, each a function over the lock's table and one seat.
+
 ghost use Rattle.std.specs.Prelude.{◌≡◌, ◌<◌, ℕ, ◌+◌, ◌%◌, ◌^◌, List, [], ◌∷◌, ◌++◌, length, Some, None, true, false, MatchBool};
 ghost use Rattle.turn_lock.specs.Histories.{ArePlacesIn, StartsWith};
 ghost use Rattle.turn_lock.specs.Seats.{IsSeatOf, IsLockTable, IsIdle, Waits, Carries, raised_view, ended_view};

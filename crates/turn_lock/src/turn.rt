@@ -1,4 +1,5 @@
-// The lock.
+//! The lock.
+
 ghost use Rattle.std.specs.Prelude.{◌≡◌, ◌<◌, ◌+◌, List, IfOk, IfErr};
 ghost use Rattle.turn_lock.specs.Histories.{StartsWith};
 ghost use Rattle.turn_lock.specs.Passes.{LockId, TakesTurn, TakesIn, new_pass};

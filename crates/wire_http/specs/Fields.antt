@@ -1,4 +1,5 @@
--- What the fields of a head mean: each is a pair of its name and its value, with no white space around the value.
+-- What the fields of a head mean: each is a pair of its name and its value, with no white space
+-- around the value.
 use Rattle.std.specs.Prelude.{ℕ, ◌&&◌, ◌||◌, not, Bool, List, ◌==◌, nat_lt, nat_le, map, length, [], ◌∷◌, codes, bytes_eq, Result, Ok, Err, if◌then◌else◌}
 use Rattle.std.specs.List.{filter, list_any, list_all}
 use Rattle.std.specs.Char.{is_ascii_digit}
@@ -31,14 +32,17 @@ is_length text = list_all is_ascii_digit text && (nat_lt 0 (length text) && nat_
 
 -- the number that a length writes, 0 if it is empty: at most 4,096
 abbrev pub size_of : List ℕ → Result ℕ WireFault
-size_of text = if nat_lt 4096 (digits_value 10 text) then Err BodyTooLong else Ok (digits_value 10 text)
+size_of text =
+    if nat_lt 4096 (digits_value 10 text) then Err BodyTooLong else Ok (digits_value 10 text)
 
 -- no value, or one, which is a length
 abbrev pub are_lengths : List (List ℕ) → Bool
-are_lengths lengths = (length lengths == 0) || ((length lengths == 1) && is_length (first_of lengths))
+are_lengths lengths =
+    (length lengths == 0) || ((length lengths == 1) && is_length (first_of lengths))
 
--- how many bytes of body a head announces, or the first of its faults: a second length, or one that is ill-formed, is
--- BadHead; a transfer encoding, or a POST with no length, is NoLength; a length above 4,096 is BodyTooLong
+-- how many bytes of body a head announces, or the first of its faults: a second length, or one that
+-- is ill-formed, is BadHead; a transfer encoding, or a POST with no length, is NoLength; a length
+-- above 4,096 is BodyTooLong
 unfoldable pub body_length : List ℕ → List (List ℕ × List ℕ) → Result ℕ WireFault
 body_length method fields =
     let lengths = values_of (codes "content-length") fields in
@@ -48,7 +52,9 @@ body_length method fields =
     unless (fault_where (encoded || lacks_length) NoLength) (
     size_of (first_of lengths)))
 
--- the message asks to close the connection: it has version 1.0, or is a HEAD, or has a field that asks for it
+-- the message asks to close the connection: it has version 1.0, or is a HEAD, or has a field that
+-- asks for it
 abbrev pub asks_to_close : ℕ → List ℕ → List (List ℕ × List ℕ) → Bool
 asks_to_close minor method fields =
-    (minor == 0) || (bytes_eq method (codes "HEAD") || list_any (is_named_with (codes "connection") (codes "close")) fields)
+    (minor == 0) || (bytes_eq method (codes "HEAD") || list_any
+    (is_named_with (codes "connection") (codes "close")) fields)

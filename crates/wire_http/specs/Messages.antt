@@ -31,15 +31,18 @@ pub record IsMessage (bytes : List ℕ) (m : Message) (next : List ℕ) : Type 0
 
 -- the bytes begin with a head whose fields have this fault
 abbrev pub HasHeadFault : List ℕ → WireFault → Type 0
-HasHeadFault bytes f = (h : RequestHead) × (rest : List ℕ) × IsHead bytes h rest × (body_length h ≡ Err f)
+HasHeadFault bytes f =
+    (h : RequestHead) × (rest : List ℕ) × IsHead bytes h rest × (body_length h ≡ Err f)
 
 -- with a front of at most 8,192 bytes no head of at most 64 fields begins
 abbrev pub HasNoHead : List ℕ → Type 0
-HasNoHead bytes = (front : List ℕ) × (rest : List ℕ) × (bytes ≡ front ++ rest) × (length front ≤ 8192) × BeginsNoHead front
+HasNoHead bytes = (front : List ℕ) × (rest : List ℕ) × (bytes ≡ front ++ rest)
+    × (length front ≤ 8192) × BeginsNoHead front
 
 -- the first 8,192 bytes have no head, and are a part of one
 abbrev pub HasLongHead : List ℕ → Type 0
-HasLongHead bytes = (front : List ℕ) × (rest : List ℕ) × (bytes ≡ front ++ rest) × (length front ≡ 8192) × IsPartOfHead front
+HasLongHead bytes = (front : List ℕ) × (rest : List ℕ) × (bytes ≡ front ++ rest)
+    × (length front ≡ 8192) × IsPartOfHead front
 
 -- there are bytes, fewer than 8,192, and they end within a head
 pub record EndsInHead (bytes : List ℕ) : Type 0 where
@@ -49,7 +52,8 @@ pub record EndsInHead (bytes : List ℕ) : Type 0 where
 
 -- the bytes end within a body
 abbrev pub EndsInBody : List ℕ → Type 0
-EndsInBody bytes = (h : RequestHead) × (n : ℕ) × (rest : List ℕ) × Announces bytes h n rest × (length rest < n)
+EndsInBody bytes =
+    (h : RequestHead) × (n : ℕ) × (rest : List ℕ) × Announces bytes h n rest × (length rest < n)
 
 -- why the bytes begin with no message
 abbrev pub IsFault : List ℕ → WireFault → Type 0
@@ -64,7 +68,8 @@ IsFault bytes Memory = ⊥
 -- the bytes begin with these messages, one after another, and the rest follows them
 pub data Messages (bytes : List ℕ) : List Message → List ℕ → Type 0 where
   none_yet : Messages bytes [] bytes
-  one_more : (ms : List Message) (rest : List ℕ) (m : Message) (next : List ℕ) → Messages bytes ms rest → IsMessage rest m next
+  one_more : (ms : List Message) (rest : List ℕ) (m : Message) (next : List ℕ)
+      → Messages bytes ms rest → IsMessage rest m next
       → Messages bytes (ms ++ m ∷ []) next
 
 -- a fault whatever the bytes are: the link failed, or memory ran out
@@ -78,7 +83,7 @@ pub record IsSame (m k : Message) : Type 0 where
   pub body : m.body.items ≡ k.body.items
   pub close : m.close ≡ k.close
 
--- no head of at most 64 fields begins with the bytes, and yet they are a part of a head: one of more fields, or one whose
--- target is no text
+-- no head of at most 64 fields begins with the bytes, and yet they are a part of a head: one of
+-- more fields, or one whose target is no text
 abbrev pub IsUndecided : List ℕ → Type 0
 IsUndecided bytes = HasNoHead bytes × (HasLongHead bytes ⊎ EndsInHead bytes)

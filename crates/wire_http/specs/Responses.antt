@@ -26,4 +26,5 @@ fields_text size close = type_text ++ decimal size ++ line_end ++ close_text clo
 
 -- the response of a status with this body; `close` is whether the connection ends after it
 unfoldable pub response : ℕ → List ℕ → Bool → List ℕ
-response status body close = status_line status ++ fields_text (length body) close ++ line_end ++ body
+response status body close =
+    status_line status ++ fields_text (length body) close ++ line_end ++ body
