@@ -110,6 +110,15 @@ class PutAside(WithJournal):
                 self.assertEqual(stat.S_IMODE(os.stat(name).st_mode), 0o600)
                 name = f"{first}.{number + 1}"
 
+    def test_a_move_that_ended_is_kept(self):
+        """More records follow its mark than are before the gate: its gate was damaged."""
+        data = behind(b"\x08", b"\4one", b"\4two", b"\4three")
+        self.put(self.front + data)
+        name = f"{self.journal}.cut-{self.gate}"
+        told = self.found.format(4, len(data)) + LINE.format(self.journal, f"they are kept in {name} and cut")
+        self.assertEqual(self.replay(), (0, "", told))
+        self.assertEqual((self.bytes_of(self.journal), self.bytes_of(name)), (self.front, data))
+
     def test_the_page_of_the_operator_joins_the_two(self):
         self.put(self.front + self.whole[len(self.front):])
         self.replay()
@@ -173,6 +182,21 @@ class Moved(WithJournal):
                 self.assertEqual((self.bytes_of(self.journal), self.copies()), (self.moved, []))
                 self.assertEqual(self.run_program("migrate"), (0, self.said.replace(" 17 ", " 0 "), ""))
                 self.assertEqual(self.bytes_of(self.journal), self.moved)
+
+    def test_no_file_is_made(self):
+        status, said, errors = self.run_program("migrate")
+        self.assertEqual((status, said, os.path.exists(self.journal)), (9, "disk failed\n", False))
+        self.assertIn("No such file", errors)
+
+    def test_what_was_added_to_a_moved_journal_is_kept(self):
+        """The one byte that moved it is damaged, and it is migrated again."""
+        self.put(self.moved)
+        self.assertEqual(self.replay("begin 73")[0], 0)
+        left = self.bytes_of(self.journal)
+        gate = len(self.old) - 1
+        self.put(left[:gate] + b"\0" + left[gate + 1:])
+        self.assertEqual(self.run_program("migrate")[:2], (0, self.said))
+        self.assertEqual([self.bytes_of(self.path(name)) for name in self.copies()], [left[gate + 1:]])
 
     def test_whole_records_behind_the_gate_are_kept(self):
         data = behind(b"\4one", b"\4two")

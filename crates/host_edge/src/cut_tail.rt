@@ -1,4 +1,5 @@
-// What follows the closed gate at which a journal ends. It is about to be cut.
+//! What follows the closed gate at which a journal ends. It is about to be cut.
+
 ghost use Rattle.std.specs.Prelude.{◌≤◌, IfSome};
 
 use crate::again::read_at_again;
@@ -18,6 +19,9 @@ const OPEN: u8 = 1;
 // The first byte of a payload that is kept for a move to another version of the format.
 const MOVED: u8 = 8;
 
+// The length of a header in bytes: the first gate is there.
+const HEADER: u64 = 8;
+
 // How many names are tried for a copy.
 const MOST_NAMES: u32 = 1000;
 
@@ -32,15 +36,22 @@ struct WholeRecord {
     is_open: bool,
 }
 
-/// What follows a closed gate.
+/// What follows a closed gate and is to be kept.
 #[derive(Clone, Copy)]
 pub struct Tail {
     /// How many whole records, if the gate before the first of them were open.
     pub records: u64,
     /// How many bytes.
     pub bytes: u64,
-    /// Whether the first of the records is of a move that did not end.
-    pub is_of_move: bool,
+}
+
+// The whole records that follow a gate.
+#[derive(Clone, Copy)]
+struct Following {
+    // How many they are, if that gate were open.
+    records: u64,
+    // Whether the first of them is the mark of a move.
+    is_of_move: bool,
 }
 
 // The length of a payload by its four bytes, big-endian; nothing where no payload has that length.
@@ -86,28 +97,59 @@ fn record_at(file: &File, at: u64) -> io::Result<Option<WholeRecord>> {
     }))
 }
 
-/// What follows the closed gate at a place of the file.
-pub fn tail_of(file: &File, gate: u64) -> io::Result<Tail> {
+// The whole records that follow the gate at a place.
+fn records_after(file: &File, gate: u64) -> io::Result<Following> {
     let mut at = gate.saturating_add(1);
-    let mut tail = Tail {
+    let mut found = Following {
         records: 0,
-        bytes: file.metadata()?.len().saturating_sub(at),
         is_of_move: false,
     };
     for counted in 0..u64::MAX {
         let Some(record) = record_at(file, at)? else {
             break;
         };
-        tail.records = counted + 1;
+        found.records = counted + 1;
         if counted == 0 {
-            tail.is_of_move = record.kind == MOVED;
+            found.is_of_move = record.kind == MOVED;
         }
         if !record.is_open {
             break;
         }
         at = record.gate.saturating_add(1);
     }
-    Ok(tail)
+    Ok(found)
+}
+
+// How many whole records are before the gate at a place, from the first gate on.
+fn records_before(file: &File, gate: u64) -> io::Result<u64> {
+    let mut at = HEADER + 1;
+    for counted in 0..u64::MAX {
+        if at > gate {
+            return Ok(counted);
+        }
+        let Some(record) = record_at(file, at)? else {
+            return Ok(counted);
+        };
+        at = record.gate.saturating_add(1);
+    }
+    Ok(u64::MAX)
+}
+
+/// What follows the closed gate at a place of the file, where it is to be kept: two or more whole records. A move that did
+/// not end is not kept: its mark is followed by no more records than are before the gate, and it repeats them.
+pub fn tail_of(file: &File, gate: u64) -> io::Result<Option<Tail>> {
+    let Following {
+        records,
+        is_of_move,
+    } = records_after(file, gate)?;
+    if records < 2 || is_of_move && records - 1 <= records_before(file, gate)? {
+        return Ok(None);
+    }
+    let length = file.metadata()?.len();
+    Ok(Some(Tail {
+        records,
+        bytes: length.saturating_sub(gate.saturating_add(1)),
+    }))
 }
 
 // Makes a file for the bytes behind the gate at a place, which its owner alone may use, and gives its path. A name that is

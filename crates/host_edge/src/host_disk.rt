@@ -1,4 +1,5 @@
-// The journal's file of the host, as a disk.
+//! The journal's file of the host, as a disk.
+
 ghost use Rattle.std.specs.Prelude.{◌≡◌, ◌≤◌, [], Ok, None, false, is_ok, length, IsErr, IfOk, IfErr, OnErr, Some};
 ghost use Rattle.exam_edge.specs.Faults.{Rose};
 ghost use Rattle.exam_edge.specs.ImageLaws.{is_its_image};
@@ -8,7 +9,7 @@ ghost use Rattle.host_edge.specs.HostDisk.{faults_of};
 use crate::closing::Closing;
 use crate::fault_count::FaultCount;
 use crate::health::Health;
-use crate::journal_file::JournalFile;
+use crate::journal_file::{Access, JournalFile};
 use exam_edge::{Disk, Failed};
 use std::io;
 
@@ -34,7 +35,7 @@ impl HostDisk {
         ensures count { count_of (faults_of result) ≡ 0 }
         ensures cause { cause_of (faults_of result) ≡ None }
     {
-        HostDisk::over(JournalFile::of(rt, path, false), None)
+        HostDisk::over(JournalFile::of(rt, path, Access::WriteOrMake), None)
     }
 
     /// The same of a server, which ends by the flag where its journal is lost.
@@ -42,7 +43,10 @@ impl HostDisk {
         ensures count { count_of (faults_of result) ≡ 0 }
         ensures cause { cause_of (faults_of result) ≡ None }
     {
-        HostDisk::over(JournalFile::of(rt, path, false), Some(closing))
+        HostDisk::over(
+            JournalFile::of(rt, path, Access::WriteOrMake),
+            Some(closing),
+        )
     }
 
     /// The file of this path, to be read alone. Each call fails if there is none, or a folder in its
@@ -51,7 +55,15 @@ impl HostDisk {
         ensures count { count_of (faults_of result) ≡ 0 }
         ensures cause { cause_of (faults_of result) ≡ None }
     {
-        HostDisk::over(JournalFile::of(rt, path, true), None)
+        HostDisk::over(JournalFile::of(rt, path, Access::Read), None)
+    }
+
+    /// The file of this path, to be read and written. Each call fails if there is none; no call has failed yet.
+    pub fn to_change(rt: HostRuntime, path: String) -> HostDisk
+        ensures count { count_of (faults_of result) ≡ 0 }
+        ensures cause { cause_of (faults_of result) ≡ None }
+    {
+        HostDisk::over(JournalFile::of(rt, path, Access::Write), None)
     }
 
     fn over(file: JournalFile, closing: Option<Closing>) -> HostDisk
@@ -98,7 +110,8 @@ impl HostDisk {
     // The answer of a call of which the file gave this: the same, or a fault that is told and counted.
     fn answer<T: Drop>(&mut self, given: io::Result<T>) -> Result<T, Failed>
         ensures done { IfOk given (λ x. result ≡ Ok x) }
-        ensures failed { IfErr given (λ e. IsErr result × (cause_of (faults_of self.new) ≡ Some e)) }
+        ensures failed { IfErr given
+            (λ e. IsErr result × (cause_of (faults_of self.new) ≡ Some e)) }
         ensures counted { IsCounted (is_ok result) (faults_of self.old) (faults_of self.new) }
         ensures grows { count_of (faults_of self.old) ≤ count_of (faults_of self.new) }
         ensures rose { OnErr result

@@ -1,4 +1,5 @@
-// The journal's file, and what is done with it.
+//! The journal's file, and what is done with it.
+
 ghost use Rattle.std.specs.Prelude.{◌≤◌, length, IfOk};
 
 use crate::again::read_at_again;
@@ -11,14 +12,24 @@ use std::io::ErrorKind;
 use std::os::unix::fs::{FileExt, MetadataExt, OpenOptionsExt};
 use std::{fs, io};
 
+/// What is done with the file of a journal.
+#[derive(Clone, Copy, Debug, PartialEq, Eq)]
+pub enum Access {
+    /// It is only read.
+    Read,
+    /// It is read and written, if it is there.
+    Write,
+    /// It is read and written, and made if there is none.
+    WriteOrMake,
+}
+
 /// A file by its path, which is opened at its first use. It is opened once, and locked as long as it is open. Before each
 /// change it is compared with what is at its path, and once it is lost every call fails from that cause.
 #[derive(Drop)]
 pub struct JournalFile {
     rt: HostRuntime,
     path: String,
-    /// Whether the file is only read. Else it is written too, and made if there is none.
-    is_only_read: bool,
+    access: Access,
     file: Option<File>,
     watch: FileWatch,
 }
@@ -89,9 +100,18 @@ fn tell_rights(rt: &HostRuntime, path: &str, file: &File) -> io::Result<()> {
     Ok(())
 }
 
-// Opens and locks the file of this path to be read and written, and makes it if there is none, for its owner alone. Its
-// folder is synced, so that a file that was made is found after a crash.
+// Opens and locks the file of this path to be read and written.
 fn file_to_write(rt: &HostRuntime, path: &str) -> io::Result<File> {
+    let file = OpenOptions::new().read(true).write(true).open(rt, path)?;
+    lock(&file)?;
+    tell_rights(rt, path, &file)?;
+    sync_folders(rt, path)?;
+    Ok(file)
+}
+
+// The same, and makes the file if there is none, for its owner alone. Its folder is synced, so that a file that was made is
+// found after a crash.
+fn file_to_make(rt: &HostRuntime, path: &str) -> io::Result<File> {
     let file = OpenOptions::new()
         .read(true)
         .write(true)
@@ -123,24 +143,25 @@ fn file_to_read(rt: &HostRuntime, path: &str) -> io::Result<File> {
 fn opened<'f>(
     rt: &HostRuntime,
     path: &str,
-    is_only_read: bool,
+    access: Access,
     file: &'f mut Option<File>,
 ) -> io::Result<&'f File> {
-    let kept = match file.take() {
-        Some(kept) => kept,
-        None if is_only_read => file_to_read(rt, path)?,
-        None => file_to_write(rt, path)?,
+    let kept = match (file.take(), access) {
+        (Some(kept), _) => kept,
+        (None, Access::Read) => file_to_read(rt, path)?,
+        (None, Access::Write) => file_to_write(rt, path)?,
+        (None, Access::WriteOrMake) => file_to_make(rt, path)?,
     };
     Ok(file.insert(kept))
 }
 
 impl JournalFile {
     /// The file of this path, which is not opened yet.
-    pub fn of(rt: HostRuntime, path: String, is_only_read: bool) -> JournalFile {
+    pub fn of(rt: HostRuntime, path: String, access: Access) -> JournalFile {
         JournalFile {
             rt,
             path,
-            is_only_read,
+            access,
             file: None,
             watch: FileWatch::new(),
         }
@@ -160,7 +181,7 @@ impl JournalFile {
     pub fn len(&mut self) -> io::Result<u64> {
         self.watch.test()?;
         let path = self.path.as_str();
-        let file = opened(&self.rt, path, self.is_only_read, &mut self.file)?;
+        let file = opened(&self.rt, path, self.access, &mut self.file)?;
         let length = file.metadata()?.len();
         self.watch.has(Some(length));
         Ok(length)
@@ -172,14 +193,14 @@ impl JournalFile {
     {
         self.watch.test()?;
         let path = self.path.as_str();
-        let file = opened(&self.rt, path, self.is_only_read, &mut self.file)?;
+        let file = opened(&self.rt, path, self.access, &mut self.file)?;
         read_at_again(file, at, buffer)
     }
 
     /// Writes bytes at a place, if the file is not lost.
     pub fn write(&mut self, at: u64, bytes: &[u8]) -> io::Result<()> {
         let path = self.path.as_str();
-        let file = opened(&self.rt, path, self.is_only_read, &mut self.file)?;
+        let file = opened(&self.rt, path, self.access, &mut self.file)?;
         self.watch.look(&self.rt, path, file)?;
         let given = file.write_all_at(bytes, at);
         match given {
@@ -192,7 +213,7 @@ impl JournalFile {
     /// Cuts the file to a length, if it is not lost.
     pub fn cut(&mut self, length: u64) -> io::Result<()> {
         let path = self.path.as_str();
-        let file = opened(&self.rt, path, self.is_only_read, &mut self.file)?;
+        let file = opened(&self.rt, path, self.access, &mut self.file)?;
         self.watch.look(&self.rt, path, file)?;
         let given = file.set_len(length);
         match given {
@@ -206,30 +227,27 @@ impl JournalFile {
     pub fn sync(&mut self) -> io::Result<()> {
         self.watch.test()?;
         let path = self.path.as_str();
-        let file = opened(&self.rt, path, self.is_only_read, &mut self.file)?;
+        let file = opened(&self.rt, path, self.access, &mut self.file)?;
         file.sync_all()
     }
 
     /// Tells of what follows the closed gate at this place and is about to be cut, where two or more whole records are there.
     /// Unless the file is only read, it keeps those bytes in a file of their own. Records of a move to another version that did
-    /// not end are not told and not kept, since what they repeat is before the gate.
+    /// not end are not told and not kept, since they repeat those before the gate. More records than those are of a move that
+    /// ended, whose gate was damaged since: they are told and kept.
     pub fn put_aside(&mut self, gate: u64) -> io::Result<()> {
         self.watch.test()?;
         let path = self.path.as_str();
-        let file = opened(&self.rt, path, self.is_only_read, &mut self.file)?;
-        let Tail {
-            records,
-            bytes,
-            is_of_move,
-        } = tail_of(file, gate)?;
-        if records < 2 || is_of_move {
+        let file = opened(&self.rt, path, self.access, &mut self.file)?;
+        let Some(tail) = tail_of(file, gate)? else {
             return Ok(());
-        }
+        };
+        let Tail { records, bytes } = tail;
         let found = format_args!(
             "{records} whole records, {bytes} bytes, are behind the closed gate at {gate}"
         );
         tell(&self.rt, path, found);
-        if self.is_only_read {
+        if self.access == Access::Read {
             return Ok(());
         }
         let kept = keep_tail(&self.rt, path, file, gate)?;

@@ -66,6 +66,11 @@ fn ask_for_audit(words: &[String]) -> bool {
     words.first().is_some_and(|word| word.as_str() == "audit")
 }
 
+/// Whether the words ask to move a journal.
+fn ask_for_move(words: &[String]) -> bool {
+    words.first().is_some_and(|word| word.as_str() == "migrate")
+}
+
 /// Whether the words ask for the version of the program, and nothing else.
 fn ask_for_version(words: &[String]) -> bool {
     words.len() == 1 && words[0].as_str() == "version"
@@ -79,7 +84,7 @@ fn print_version(rt: &HostRuntime) -> ExitCode {
     }
 }
 
-/// The journal's file. An audit only reads it, and a server that loses it ends by the flag.
+/// The journal's file. An audit only reads it, a server that loses it ends by the flag, and a move makes none.
 fn disk_of(
     rt: &HostRuntime,
     words: &[String],
@@ -89,6 +94,8 @@ fn disk_of(
     let path = settings.journal.clone()?;
     if ask_for_audit(words) {
         Ok(HostDisk::to_read(rt.clone()?, path))
+    } else if ask_for_move(words) {
+        Ok(HostDisk::to_change(rt.clone()?, path))
     } else if ask_for_connections(words) {
         Ok(HostDisk::to_serve(rt.clone()?, path, closing.share()?))
     } else {
