@@ -1,16 +1,16 @@
 #!/usr/bin/env python3
-"""Times the draw of the items that are eligible for a session: one band beside eight. See draw.md.
+"""Times the draw of the items that are eligible for a session: alone, and in a start with one band beside eight. See draw.md.
 
-usage: draw.py PROGRAM [--begins N] [--rounds N] [--folder FOLDER]
+usage: draw.py PROGRAM DRAWS [--begins N] [--rounds N] [--folder FOLDER]
 
-PROGRAM is the built program of crates/shadowd; the journal is written in FOLDER, which is best one in memory (/dev/shm without it).
+PROGRAM is the built program of crates/shadowd, DRAWS that of crates/draw_bench; the journal is written in FOLDER, which is best one in memory
+(/dev/shm without it).
 """
 import argparse
 import os
 import subprocess
 import sys
 import tempfile
-import time
 
 ITEMS, GRID = 512, 11
 BANDS = {1: "", 8: "bands 1 2 3 4 5 6 7\n"}
@@ -33,18 +33,25 @@ def plan_text(bands):
 
 
 def seconds(program, folder, bands, begins):
-    """The time of so many starts over a new journal; it ends where one of them was not served."""
+    """The processor seconds of so many starts over a new journal; it ends where one of them was not served."""
     journal = os.path.join(folder, "journal")
     words = [program, "replay", *(os.path.join(folder, name) for name in ("bank", f"plan{bands}", "script"))]
-    begun = time.perf_counter()
-    done = subprocess.run(words, env=dict(os.environ, SHADOWD_JOURNAL=journal), stdout=subprocess.PIPE, check=False)
-    took = time.perf_counter() - begun
-    lines = done.stdout.decode().splitlines()
+    with tempfile.TemporaryFile() as out:
+        child = subprocess.Popen(words, env=dict(os.environ, SHADOWD_JOURNAL=journal), stdout=out)
+        _, status, used = os.wait4(child.pid, 0)
+        out.seek(0)
+        lines = out.read().decode().splitlines()
     served = [line for line in lines if " step 0 item " in line]
-    if done.returncode != 0 or len(served) != begins or len(lines) != begins:
-        sys.exit(f"status {done.returncode}, {len(served)} of {begins} sessions served: {lines[-1:]}")
+    if os.waitstatus_to_exitcode(status) != 0 or len(served) != begins or len(lines) != begins:
+        sys.exit(f"status {os.waitstatus_to_exitcode(status)}, {len(served)} of {begins} sessions served: {lines[-1:]}")
     os.remove(journal)
-    return took
+    return used.ru_utime + used.ru_stime
+
+
+def draw_alone(draws, sessions, rounds):
+    """The least time of the draw for a session of 512 items in eight bands, in microseconds, by the program's own clock."""
+    said = subprocess.run([draws, str(sessions), str(rounds)], stdout=subprocess.PIPE, check=True).stdout.decode()
+    return min(int(line.rsplit(" ", 1)[1]) for line in said.splitlines()) / sessions / 1e3
 
 
 def least(program, folder, begins, rounds):
@@ -59,10 +66,13 @@ def least(program, folder, begins, rounds):
 def main():
     words = argparse.ArgumentParser(description="Times the draw of one band beside eight.")
     words.add_argument("program")
+    words.add_argument("draws")
     words.add_argument("--begins", type=int, default=4000)
     words.add_argument("--rounds", type=int, default=9)
     words.add_argument("--folder", default="/dev/shm" if os.path.isdir("/dev/shm") else None)
     asked = words.parse_args()
+    alone = draw_alone(os.path.abspath(asked.draws), 100, 200)
+    print(f"the draw of {ITEMS} items in eight bands, the least of 200 rounds of 100 sessions: {alone:.1f} microseconds a session")
     with tempfile.TemporaryDirectory(dir=asked.folder) as folder:
         texts = {"bank": bank_text(), "script": "".join(f"begin {n}\n" for n in range(asked.begins))}
         texts.update({f"plan{bands}": plan_text(bands) for bands in BANDS})
