@@ -1,11 +1,11 @@
 -- Sets of items in numbers: each bit is an item, and the 64 bytes and the 8 words of a set
 -- determine each other.
-use Rattle.std.proofs.Common.{◌≡◌, ℕ, zero, suc, ◌+◌, ◌-◌, ◌*◌, ◌/◌, ◌%◌, ◌^◌, ◌<◌, ◌≤◌, ◌==◌, ◌&&◌, ◌||◌, cond, ltb, Bool, true, false, List, [], ◌∷◌, ◌++◌, length, get_or, take, drop, refl, sym, ap, ◌∙◌, arith, inl, inr, length-append, add-one}
+use Rattle.std.proofs.Common.{◌≡◌, ℕ, zero, suc, ◌+◌, ◌-◌, ◌*◌, ◌/◌, ◌%◌, ◌^◌, ◌<◌, ◌≤◌, ◌==◌, ◌&&◌, ◌||◌, ◌⊎◌, cond, ltb, Bool, true, false, List, [], ◌∷◌, ◌++◌, length, get_or, take, drop, refl, sym, ap, subst, ◌∙◌, arith, inl, inr, length-append, add-one}
 use Rattle.std.specs.Int.{bit_at}
-use Rattle.std.proofs.lemmas.Bool.{cases_eq, cases_lt, cases_Bool, lt-ltb, le-ltb}
-use Rattle.std.proofs.lemmas.Bool.Decides.{eqb_tells}
-use Rattle.std.proofs.lemmas.Nat.Bits.{bit_at-lt, bit_at_cat_low, bit_at_cat_high, same_from_bits_below}
-use Rattle.std.proofs.lemmas.List.{get_or_append_left, get_or_at, get_or-drop, get_or-take, length-take-le, length-drop}
+use Rattle.std.proofs.lemmas.Bool.{cases_eq, cases_lt, cases_Bool, lt-ltb, le-ltb, eq-eqb, ne_eqb}
+use Rattle.std.proofs.Math.Bool.{or-true, or-false}
+use Rattle.std.proofs.lemmas.Nat.Bits.{bit_at-lt, bit_at-zero, bit_at_cat_low, bit_at_cat_high, same_from_bits_below}
+use Rattle.std.proofs.lemmas.List.{get_or_append_left, get_or_at, get_or-drop, get_or-take, get_or-append_right, length-take-le, length-drop}
 use Rattle.std.proofs.lemmas.Grind.{same_number_lists}
 use Rattle.std.proofs.Math.Nat.{pow-suc}
 use Rattle.bank_tables.specs.Items.{Set, has, AreWords}
@@ -165,6 +165,39 @@ one_bit (suc (suc (suc (suc (suc (suc zero)))))) lt = (refl, omega arith)
 one_bit (suc (suc (suc (suc (suc (suc (suc zero))))))) lt = (refl, omega arith)
 one_bit (suc (suc (suc (suc (suc (suc (suc (suc n)))))))) lt = absurd (omega arith)
 
+-- a list of eight numbers, by place
+pub eight_at : (f : ℕ → ℕ) (a b c d e g h i : ℕ) → a ≡ f 0 → b ≡ f 1 → c ≡ f 2 → d ≡ f 3 → e ≡ f 4 → g ≡ f 5 → h ≡ f 6 → i ≡ f 7 → (k : ℕ) → k < 8
+    → get_or (a ∷ b ∷ c ∷ d ∷ e ∷ g ∷ h ∷ i ∷ []) k 0 ≡ f k
+eight_at f a b c d e g h i p0 p1 p2 p3 p4 p5 p6 p7 zero lt = p0
+eight_at f a b c d e g h i p0 p1 p2 p3 p4 p5 p6 p7 (suc zero) lt = p1
+eight_at f a b c d e g h i p0 p1 p2 p3 p4 p5 p6 p7 (suc (suc zero)) lt = p2
+eight_at f a b c d e g h i p0 p1 p2 p3 p4 p5 p6 p7 (suc (suc (suc zero))) lt = p3
+eight_at f a b c d e g h i p0 p1 p2 p3 p4 p5 p6 p7 (suc (suc (suc (suc zero)))) lt = p4
+eight_at f a b c d e g h i p0 p1 p2 p3 p4 p5 p6 p7 (suc (suc (suc (suc (suc zero))))) lt = p5
+eight_at f a b c d e g h i p0 p1 p2 p3 p4 p5 p6 p7 (suc (suc (suc (suc (suc (suc zero)))))) lt = p6
+eight_at f a b c d e g h i p0 p1 p2 p3 p4 p5 p6 p7 (suc (suc (suc (suc (suc (suc (suc zero))))))) lt = p7
+eight_at f a b c d e g h i p0 p1 p2 p3 p4 p5 p6 p7 (suc (suc (suc (suc (suc (suc (suc (suc k)))))))) lt = absurd (omega arith)
+
+-- eight bytes more
+pub eight_more : (word : ℕ) (X : Set) (bytes : List ℕ) → length bytes ≡ 8 → ((k : ℕ) → k < 8 → get_or bytes k 0 ≡ number_of 8 X (64 * word + 8 * k))
+    → numbers_of (8 * (word + 1)) 8 X ≡ numbers_of (8 * word) 8 X ++ bytes
+eight_more word X bytes eight each =
+    same_number_lists (numbers_of (8 * (word + 1)) 8 X) (numbers_of (8 * word) 8 X ++ bytes) (omega (arith, eight, more_len, len, length-append (numbers_of (8 * word) 8 X) bytes)) (λ k lt.
+    let within : k < 8 * (word + 1) = omega (arith, more_len) in
+    elim (cases_lt k (8 * word)) [
+      | inl low ↦ numbers_at (8 * (word + 1)) 8 X k within ∙ sym (get_or_append_left (numbers_of (8 * word) 8 X) bytes 0 k (omega (arith, len)) ∙ numbers_at (8 * word) 8 X k low)
+      | inr high ↦
+          let place : 64 * word + 8 * (k - 8 * word) ≡ 8 * k = omega arith in
+          numbers_at (8 * (word + 1)) 8 X k within
+          ∙ sym (get_or-append_right (numbers_of (8 * word) 8 X) bytes (8 * word) k 0 len high ∙ (each (k - 8 * word) (omega arith) ∙ ap (number_of 8 X) place))
+    ])
+  where
+    len : length (numbers_of (8 * word) 8 X) ≡ 8 * word
+    len = numbers_len (8 * word) 8 X
+
+    more_len : length (numbers_of (8 * (word + 1)) 8 X) ≡ 8 * (word + 1)
+    more_len = numbers_len (8 * (word + 1)) 8 X
+
 pub bit_fits : (n : ℕ) (X : Set) (first bits : ℕ) → n < 8 → bits ≡ number_of n X first → bits + 1 * 2 ^ n % 2 ^ 8 < 2 ^ 8
 bit_fits n X first bits lt so_far =
     let one = one_bit n lt in
@@ -183,28 +216,57 @@ no_bit_more n X first bits so_far is = rw (number_more n X first, is) (omega ari
 abbrev pub bit_is_set : List ℕ → ℕ → Set
 bit_is_set bytes at i = bit_at (get_or bytes (at + i / 8) 0) (i % 8) == 1
 
-pub none_below : (X : Set) (i : ℕ) → (ltb i 0 && X i) ≡ false
-none_below X i = rw (le-ltb i 0 (omega arith)) refl
+-- Y is X with those of so many items, from one on, whose bits are set
+pub record HasBits (X : Set) (first bits n : ℕ) (Y : Set) : Type 0 where
+  pub eight : (j : ℕ) → j < n → Y (first + j) ≡ (X (first + j) || (bit_at bits j == 1))
+  pub others : (i : ℕ) → (i < first) ⊎ (first + n ≤ i) → Y i ≡ X i
 
-below_next : (i n : ℕ) → (i ≡ n → ⊥) → ltb i (n + 1) ≡ ltb i n
-below_next i n other = elim (cases_lt i n) [
-  | inl lt ↦ let less : i < n + 1 = omega arith in rw (lt-ltb i n lt, lt-ltb i (n + 1) less) refl
-  | inr le ↦ let past : n + 1 ≤ i = omega (arith, other) in rw (le-ltb i n le, le-ltb i (n + 1) past) refl
-]
+pub no_bits_yet : (X : Set) (first bits : ℕ) → HasBits X first bits 0 X
+no_bits_yet X first bits = record { eight = λ j lt. absurd (omega arith); others = λ i out. refl }
 
--- the items below n + 1 are those below n, with n if its bit is set
-pub item_more : (X Y : Set) (n : ℕ) → ((i : ℕ) → Y i ≡ (ltb i n && X i)) → X n ≡ true → (i : ℕ) → ((i == n) || Y i) ≡ (ltb i (n + 1) && X i)
-item_more X Y n so_far is i =
-    elim (eqb_tells i n) [
-      | inl (e, same) ↦ (let here : ltb n (n + 1) ≡ true = lt-ltb n (n + 1) (omega arith) in rw (e, same, here, is) refl)
-      | inr (e, other) ↦ rw (e, below_next i n other, so_far i) refl
-    ]
+-- the next bit is set, and its item was put in
+pub bit_set : (X Y Z : Set) (first bits n : ℕ) → HasBits X first bits n Y → ((i : ℕ) → Z i ≡ ((i == first + n) || Y i)) → bit_at bits n ≡ 1 → HasBits X first bits (n + 1) Z
+bit_set X Y Z first bits n so_far with_it is = record {
+  eight = λ j lt. elim (cases_eq j n) [
+    | inl same ↦ rw (same, with_it (first + n), eq-eqb (first + n) (first + n) refl, is) (sym (or-true (X (first + n))))
+    | inr other ↦ (let apart : (first + j == first + n) ≡ false = ne_eqb (first + j) (first + n) (λ e. other (omega arith)) in rw (with_it (first + j), apart) (so_far.eight j (omega (arith, other))))
+  ];
+  others = λ i out.
+      let apart : (i == first + n) ≡ false = ne_eqb i (first + n) (λ e. elim out [ inl low ↦ absurd (omega arith) | inr high ↦ absurd (omega arith) ]) in
+      rw (with_it i, apart) (so_far.others i (elim out [ inl low ↦ inl low | inr high ↦ inr (omega arith) ]));
+}
 
-pub no_item_more : (X Y : Set) (n : ℕ) → ((i : ℕ) → Y i ≡ (ltb i n && X i)) → X n ≡ false → (i : ℕ) → Y i ≡ (ltb i (n + 1) && X i)
-no_item_more X Y n so_far is i =
-    elim (eqb_tells i n) [
-      | inl (e, same) ↦ (let past : ltb n n ≡ false = le-ltb n n (omega arith) in let here : ltb n (n + 1) ≡ true = lt-ltb n (n + 1) (omega arith) in rw (so_far i, same, past, here, is) refl)
-      | inr (e, other) ↦ rw (so_far i, below_next i n other) refl
+pub bit_not_set : (X Y : Set) (first bits n : ℕ) → HasBits X first bits n Y → (bit_at bits n ≡ 1 → ⊥) → HasBits X first bits (n + 1) Y
+bit_not_set X Y first bits n so_far not_one = record {
+  eight = λ j lt. elim (cases_eq j n) [
+    | inl same ↦ rw (same, ne_eqb (bit_at bits n) 1 not_one, or-false (X (first + n))) (so_far.others (first + n) (inr (omega arith)))
+    | inr other ↦ so_far.eight j (omega (arith, other))
+  ];
+  others = λ i out. so_far.others i (elim out [ inl low ↦ inl low | inr high ↦ inr (omega arith) ]);
+}
+
+-- a byte that is 0 has no item
+pub none_set : (X : Set) (first bits : ℕ) → bits ≡ 0 → HasBits X first bits 8 X
+none_set X first bits is = record {
+  eight = λ j lt. rw (is, bit_at-zero j) (sym (or-false (X (first + j))));
+  others = λ i out. refl;
+}
+
+-- the items of a byte more
+pub byte_more : (bytes : List ℕ) (at n : ℕ) (Y Z : Set) → ((i : ℕ) → Y i ≡ (ltb i (8 * n) && bit_is_set bytes at i)) → HasBits Y (8 * n) (get_or bytes (at + n) 0) 8 Z → (i : ℕ) → Z i ≡ (ltb i (8 * (n + 1)) && bit_is_set bytes at i)
+byte_more bytes at n Y Z so_far more i =
+    elim (cases_lt i (8 * n)) [
+      | inl low ↦ (let next : ltb i (8 * (n + 1)) ≡ true = lt-ltb i (8 * (n + 1)) (omega arith) in rw (more.others i (inl low), so_far i, lt-ltb i (8 * n) low, next) refl)
+      | inr le ↦ elim (cases_lt i (8 * n + 8)) [
+        | inl within ↦
+            let again : 8 * n + (i - 8 * n) ≡ i = omega arith in
+            let byte : i / 8 ≡ n = omega arith in
+            let place : i % 8 ≡ i - 8 * n = omega arith in
+            let next : ltb i (8 * (n + 1)) ≡ true = lt-ltb i (8 * (n + 1)) (omega arith) in
+            let here : Z i ≡ (Y i || (bit_at (get_or bytes (at + n) 0) (i - 8 * n) == 1)) = subst (λ (k : ℕ). Z k ≡ (Y k || (bit_at (get_or bytes (at + n) 0) (i - 8 * n) == 1))) again (more.eight (i - 8 * n) (omega arith)) in
+            rw (here, so_far i, le-ltb i (8 * n) le, next, byte, place) refl
+        | inr past ↦ (let next : ltb i (8 * (n + 1)) ≡ false = le-ltb i (8 * (n + 1)) (omega arith) in rw (more.others i (inr past), so_far i, le-ltb i (8 * n) le, next) refl)
+      ]
     ]
 
 -- the set whose items are those of the bits

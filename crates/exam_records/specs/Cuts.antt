@@ -8,4 +8,6 @@ use Rattle.exam_records.specs.declared.fault.RecordFault.TheVariants.{Short, Tre
 -- the bytes end at place k of a record whose entry ends at a place: before that place the fault is
 -- Short, and from it on it is the tree's own Short, or Unfinished at the cut
 abbrev pub IsCutOff : {A : Type 0} → ℕ → ℕ → Result A RecordFault → Type 0
-IsCutOff end k read = (k < end → read ≡ Err Short) × (end ≤ k → (fault : TreeFault) × (read ≡ Err (Tree fault)) × ((fault ≡ tree_fault.Short) ⊎ (fault ≡ tree_fault.Unfinished (k - end))))
+IsCutOff end k read = (k < end → read ≡ Err Short) × (end ≤ k → (fault : TreeFault)
+    × (read ≡ Err (Tree fault)) × ((fault ≡ tree_fault.Short)
+    ⊎ (fault ≡ tree_fault.Unfinished (k - end))))

@@ -28,7 +28,8 @@ of_tree (Err fault) = Err (Tree fault)
 
 -- a set of items in 64 bytes
 unfoldable pub set_at : List ℕ → ℕ → Result (List ℕ) RecordFault
-set_at bytes at = if nat_lt (length bytes) (at + 64) then Err Short else Ok (words_of (items_at bytes at))
+set_at bytes at =
+    if nat_lt (length bytes) (at + 64) then Err Short else Ok (words_of (items_at bytes at))
 
 -- a byte that is 1 or 0
 unfoldable pub flag_at : List ℕ → ℕ → Result Bool RecordFault
@@ -68,7 +69,8 @@ cause_of false = NoForm
 unfoldable pub tree_at : ℕ → List ℕ → ℕ → Result (ProofTree × ℕ) RecordFault
 tree_at nodes bytes at = do
   found ← of_tree (read (drop at bytes))
-  unless (fault_where (not (nodes == length found.0.nodes)) (Field (at - 2))) (Ok (found.0, at + found.1))
+  unless (fault_where (not (nodes == length found.0.nodes)) (Field (at - 2)))
+      (Ok (found.0, at + found.1))
 
 -- ---- each kind of record after its first byte, and the place after it
 
@@ -103,7 +105,8 @@ shared_of_kind kind bytes =
     (if kind == 5 then closed bytes else Err (Kind 0)))
 
 -- the record of a payload, by what follows each kind: nothing may follow it
-unfoldable pub record_by : (ℕ → List ℕ → Result (Record × ℕ) RecordFault) → List ℕ → Result Record RecordFault
+unfoldable pub record_by : (ℕ → List ℕ → Result (Record × ℕ) RecordFault) → List ℕ
+    → Result Record RecordFault
 record_by record_of_kind payload = do
   kind ← field (byte_at payload 0)
   found ← record_of_kind kind payload
@@ -129,7 +132,13 @@ set_aside bytes = do
   spent ← flag_at bytes 8
   nodes ← field (number_at w16 bytes 9)
   found ← tree_at nodes bytes 11
-  Ok (record { entry = SetAside session step band (cause_of spent) nodes; tree = Some found.0 }, found.1)
+  Ok (
+    record {
+      entry = SetAside session step band (cause_of spent) nodes;
+      tree = Some found.0;
+    },
+    found.1,
+  )
 
 -- what follows the kind of a record
 unfoldable pub record_of_kind : ℕ → List ℕ → Result (Record × ℕ) RecordFault

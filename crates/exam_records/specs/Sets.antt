@@ -4,7 +4,8 @@ use Rattle.std.specs.Int.{bit_at}
 use Rattle.bank_tables.specs.Items.{Set}
 use Rattle.bank_tables.specs.Sums.{sum_in}
 
--- so many items of the set, from one on, in one number: the sum of 2 ^ j over those j for which item first + j is in it
+-- so many items of the set, from one on, in one number: the sum of 2 ^ j over those j for which
+-- item first + j is in it
 unfoldable pub number_of : ℕ → Set → ℕ → ℕ
 number_of bits X first = sum_in bits (λ j. X (first + j)) (λ j. 2 ^ j)
 

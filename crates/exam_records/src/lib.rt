@@ -19,4 +19,6 @@ pub use proof_tree::Memory;
 pub use reading::{decode, decode_old};
 pub use record::Record;
 pub use spellable::{are_sets, is_in_range};
-pub use writing::{encode, encode_old, encode_old_parts, encode_parts};
+pub use writing::{
+    encode, encode_old, encode_old_parts, encode_parts, growth, push_old_record, push_record,
+};

@@ -1,10 +1,11 @@
 //! Writing a record.
 
-ghost use Rattle.std.specs.Prelude.{◌≡◌, ◌≤◌, ◌<◌, ◌∷◌, ◌++◌, [], length, OnOk, IfOk};
+ghost use Rattle.std.specs.Prelude.{◌≡◌, ℕ, ◌+◌, ◌≤◌, ◌<◌, ◌∷◌, ◌++◌, [], length, Option, OnOk, IfOk};
 ghost use Rattle.std.specs.Int.{w16, w32, w64, to_be_bytes};
 ghost use Rattle.std.specs.Option.{option_copied};
+ghost use Rattle.certificate_model.specs.ProofTrees.{ProofTree};
 ghost use Rattle.exam_records.specs.Shape.{GoesWith, HasBands, IsRecord};
-ghost use Rattle.exam_records.specs.Spelling.{cause_byte, served_bytes, answered_bytes, tree_bytes, sets_bytes, entry_bytes, payload_of, old_entry_bytes, old_payload_of};
+ghost use Rattle.exam_records.specs.Spelling.{cause_byte, served_bytes, answered_bytes, tree_bytes, sets_bytes, entry_bytes, payload_of, old_entry_bytes, old_payload_of, more_bytes};
 
 use crate::record::Record;
 use crate::sets::{push_set, set_in};
@@ -199,11 +200,35 @@ fn push_tree(alloc: Global, out: &mut Vec<u8>, tree: Option<&Tree>) -> Result<()
     Ok(())
 }
 
-/// The spelling of the record of an entry and its tree in the second version of the journal, at most 86,600 bytes. The
-/// conditions are that there is a tree exactly where the entry is SetAside or Served, that the entry's number of nodes is the
-/// tree's, that a start has 1 to 8 bands that count and no items in the others, and no list, and that the band of a setting
-/// aside is below 8. Fails only where it is out of memory.
+/// Writes the spelling of the record of an entry and its tree in the second version of the journal, at most 86,600 bytes,
+/// after what was written before. The conditions are that there is a tree exactly where the entry is SetAside or Served, that
+/// the entry's number of nodes is the tree's, that a start has 1 to 8 bands that count and no items in the others, and no
+/// list, and that the band of a setting aside is below 8. Fails only where it is out of memory, and then it isn't known what
+/// of the spelling was written.
 #[tactic(auto, unfolding(crate::specs::Spelling::payload_of))]
+pub fn push_record(
+    alloc: Global,
+    out: &mut Vec<u8>,
+    entry: &Entry,
+    tree: Option<&Tree>,
+) -> Result<(), Memory>
+    requires tree { GoesWith entry.now (option_copied tree) }
+    requires bands { HasBands entry.now }
+    ensures spelling { OnOk result (out.new.items ≡ out.old.items
+        ++ payload_of (record { entry = entry.now; tree = option_copied tree.entry })) }
+    // The entry and its tree are a record.
+    ensures is_record { IsRecord (record { entry = entry.now; tree = option_copied tree.entry }) }
+    ensures some { 0 < length
+        (payload_of (record { entry = entry.now; tree = option_copied tree.entry })) }
+    ensures few { length (payload_of
+        (record { entry = entry.now; tree = option_copied tree.entry })) ≤ 86600 }
+{
+    is_record(entry, tree);
+    push_entry(out, entry)?;
+    push_tree(alloc, out, tree)
+}
+
+/// The spelling that `push_record` writes, under the same conditions. Fails only where it is out of memory.
 pub fn encode_parts(alloc: Global, entry: &Entry, tree: Option<&Tree>) -> Result<Vec<u8>, Memory>
     requires tree { GoesWith entry.now (option_copied tree) }
     requires bands { HasBands entry.now }
@@ -214,10 +239,8 @@ pub fn encode_parts(alloc: Global, entry: &Entry, tree: Option<&Tree>) -> Result
     ensures some { IfOk result (λ bytes. 0 < length bytes.items) }
     ensures few { IfOk result (λ bytes. length bytes.items ≤ 86600) }
 {
-    is_record(entry, tree);
     let mut out = Vec::new(alloc);
-    push_entry(&mut out, entry)?;
-    push_tree(alloc, &mut out, tree)?;
+    push_record(alloc, &mut out, entry, tree)?;
     Ok(out)
 }
 
@@ -233,11 +256,37 @@ pub fn encode(alloc: Global, rec: &Record) -> Result<Vec<u8>, Memory>
     encode_parts(alloc, &rec.entry, rec.tree.as_ref())
 }
 
-/// The spelling of the record of an entry and its tree in the first version of the journal, at most 86,600 bytes. Of a
-/// start it keeps the set of one band, `first`, which is to be the band where each session begins; of a setting aside it
-/// keeps neither the step nor the band. The conditions are that there is such a band, that there is a tree exactly where the
-/// entry is SetAside or Served, and that the entry's number of nodes is the tree's. Fails only where it is out of memory.
+/// Writes the spelling of the record of an entry and its tree in the first version of the journal, at most 86,600 bytes,
+/// after what was written before. Of a start it keeps the set of one band, `first`, which is to be the band where each session
+/// begins; of a setting aside it keeps neither the step nor the band. The conditions are that there is such a band, that there
+/// is a tree exactly where the entry is SetAside or Served, and that the entry's number of nodes is the tree's. Fails only
+/// where it is out of memory, and then it isn't known what of the spelling was written.
 #[tactic(auto, unfolding(crate::specs::Spelling::old_payload_of))]
+pub fn push_old_record(
+    alloc: Global,
+    out: &mut Vec<u8>,
+    first: u8,
+    entry: &Entry,
+    tree: Option<&Tree>,
+) -> Result<(), Memory>
+    requires first { first < 8 }
+    requires tree { GoesWith entry.now (option_copied tree) }
+    ensures spelling { OnOk result (out.new.items ≡ out.old.items ++ old_payload_of first
+        (record { entry = entry.now; tree = option_copied tree.entry })) }
+    // The entry and its tree are a record, if the entry has at most eight bands.
+    ensures is_record { HasBands entry.now
+        → IsRecord (record { entry = entry.now; tree = option_copied tree.entry }) }
+    ensures some { 0 < length
+        (old_payload_of first (record { entry = entry.now; tree = option_copied tree.entry })) }
+    ensures few { length (old_payload_of first
+        (record { entry = entry.now; tree = option_copied tree.entry })) ≤ 86600 }
+{
+    is_record(entry, tree);
+    push_old_entry(out, first, entry)?;
+    push_tree(alloc, out, tree)
+}
+
+/// The spelling that `push_old_record` writes, under the same conditions. Fails only where it is out of memory.
 pub fn encode_old_parts(
     alloc: Global,
     first: u8,
@@ -254,10 +303,8 @@ pub fn encode_old_parts(
     ensures some { IfOk result (λ bytes. 0 < length bytes.items) }
     ensures few { IfOk result (λ bytes. length bytes.items ≤ 86600) }
 {
-    is_record(entry, tree);
     let mut out = Vec::new(alloc);
-    push_old_entry(&mut out, first, entry)?;
-    push_tree(alloc, &mut out, tree)?;
+    push_old_record(alloc, &mut out, first, entry, tree)?;
     Ok(out)
 }
 
@@ -271,4 +318,22 @@ pub fn encode_old(alloc: Global, first: u8, rec: &Record) -> Result<Vec<u8>, Mem
     ensures few { IfOk result (λ bytes. length bytes.items ≤ 86600) }
 {
     encode_old_parts(alloc, first, &rec.entry, rec.tree.as_ref())
+}
+
+/// By how many bytes the spelling of a record of the entry is longer in the second version than in the first: 1 and 64 for
+/// each band but one that counts, for a start; 3 for a setting aside; else none. The condition is that of `push_record` on
+/// bands. So the length of a record in the second version is known from its payload in the first.
+pub fn growth(entry: &Entry) -> u64
+    requires { HasBands entry.now }
+    ensures more { result ≡ more_bytes entry.now }
+    ensures longer { (first : ℕ) (tree : Option ProofTree)
+        → length (payload_of (record { entry = entry.now; tree = tree }))
+        ≡ length (old_payload_of first (record { entry = entry.now; tree = tree })) + result }
+    ensures few { result ≤ 449 }
+{
+    match entry {
+        Entry::Started { eligible, .. } => 64 * u64::from(eligible.count) - 63,
+        Entry::SetAside { .. } => 3,
+        Entry::Served { .. } | Entry::Answered { .. } | Entry::Closed { .. } => 0,
+    }
 }
