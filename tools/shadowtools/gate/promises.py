@@ -8,7 +8,8 @@ and the clauses that say it. Checked is that
 - each function that a row names is a public call of that crate;
 - each name in a row's last cell is that of a clause of one of these functions, a word of their contracts, or a word of the
   definitions that these contracts reach;
-- each public call of each library has a row.
+- each public call of each library has a row;
+- no sentence has more than 40 words, in a paragraph, a line of a list or a cell; the column of clauses isn't counted.
 Crates of tests (`.._trials`, `trial_cases`) and programs promise nothing to other crates, and have no section.
 """
 import os
@@ -22,6 +23,7 @@ from shadowtools.places import TOP
 CRATES = os.path.join(TOP, "crates")
 PAGE = os.path.join(TOP, "docs", "PROMISES.md")
 NAME = r"[A-Za-z_][A-Za-z0-9_]*"
+MOST_WORDS = 40
 
 
 def text_of(path):
@@ -131,9 +133,45 @@ def rows_of_page():
             crate = heading.group(1)
         elif re.match(r"## ", line):
             crate = None
-        cells = [it.strip() for it in re.split(r"(?<!\\)\|", line)[1:-1]] if line.startswith("|") else []
+        cells = cells_of(line) if line.startswith("|") else []
         if crate and len(cells) == 3 and cells[0] != "Promise" and not re.fullmatch(r"-+", cells[0].strip()):
             yield number, crate, re.findall(r"`([^`]+)`", cells[1]), re.findall(r"`([^`]+)`", cells[2])
+
+
+def cells_of(line):
+    """The cells of a line of a table."""
+    return [it.strip() for it in re.split(r"(?<!\\)\|", line)[1:-1]]
+
+
+def passages_of(text):
+    """Each paragraph, line of a list, heading and cell of a page, with the number of its first line; a row's column of clauses is left out."""
+    lines, first = [], 0
+    for number, line in enumerate([*text.splitlines(), ""], 1):
+        starts = re.match(r"(?:[-*]|\d+\.)\s+", line)
+        if lines and (starts or not line.strip() or line[0] in "|#"):
+            yield first, " ".join(lines)
+            lines = []
+        if line.startswith("|"):
+            yield from ((number, cell) for cell in cells_of(line)[:-1])
+        elif line.startswith("#"):
+            yield number, line.strip("# ")
+        elif line.strip():
+            first = first if lines else number
+            lines.append(line[starts.end():] if starts else line.strip())
+
+
+def sentences_of(text):
+    """The sentences of a page, each with the number of the line where its passage begins. A code span is one word, and of a link its text counts."""
+    for number, passage in passages_of(text):
+        plain = re.sub(r"\]\([^)]*\)", "]", re.sub(r"`[^`]*`", "code", passage))
+        for sentence in re.split(r"(?<=[.!?])[)\"*_]*\s+", plain):
+            yield number, sentence.split()
+
+
+def long_sentences(text):
+    """A fault for each sentence of a page that has too many words."""
+    return [f"line {number}: a sentence of {len(words)} words, more than {MOST_WORDS}: {' '.join(words[:6])} .."
+            for number, words in sentences_of(text) if len(words) > MOST_WORDS]
 
 
 def main(words):
@@ -144,7 +182,8 @@ def main(words):
             for name in calls[crate]:
                 print(f"  {name}: {', '.join(calls[crate][name][0]) or '-'}")
         return 0
-    library, passed, faults, with_row = Library(), 0, [], {it: set() for it in calls}
+    library, passed, with_row = Library(), 0, {it: set() for it in calls}
+    faults = long_sentences(text_of(PAGE))
     for number, crate, functions, clauses in rows_of_page():
         if crate not in calls:
             faults.append(f"line {number}: there is no library `{crate}`")
