@@ -1,0 +1,6 @@
+pub mod World
+pub mod Messages
+pub mod Replicas
+pub mod Following
+pub mod Shipping
+pub mod Memory
