@@ -70,10 +70,12 @@ class Moving(unittest.TestCase):
     """A journal with one record and a byte behind its closed gate is migrated: a mark and a record are written at its end."""
     SYNC, CUT = "1 fsync(4</d/j>) = 0", "1 ftruncate(4</d/j>, 15) = 0"
     GATES = ['1 pwrite64(4</d/j>, "\\x01", 1, 8) = 1', '1 pwrite64(4</d/j>, "\\x00", 1, 14) = 1']
-    MARK = '1 pwrite64(4</d/j>, "\\x00\\x00\\x00\\x01\\x08\\x01", 6, 15) = 6'
-    RECORD = '1 pwrite64(4</d/j>, "\\x00\\x00\\x00\\x01\\x05\\x00", 6, 21) = 6'
+    MARK = '1 pwrite64(4</d/j>, "\\x00\\x00\\x00\\x01\\x08", 5, 15) = 5'
+    RECORD = '1 pwrite64(4</d/j>, "\\x01\\x00\\x00\\x00\\x01\\x05", 6, 20) = 6'
+    IN_TWO = ['1 pwrite64(4</d/j>, "\\x01", 1, 20) = 1', '1 pwrite64(4</d/j>, "\\x00\\x00\\x00\\x01\\x05", 5, 21) = 5']
+    LAST = '1 pwrite64(4</d/j>, "\\x00", 1, 26) = 1'
     OPENED = '1 pwrite64(4</d/j>, "\\x01", 1, 14) = 1'
-    WHOLE = [SYNC, *GATES, SYNC, CUT, SYNC, MARK, RECORD, SYNC, OPENED, SYNC]
+    WHOLE = [SYNC, *GATES, SYNC, CUT, SYNC, MARK, RECORD, LAST, SYNC, OPENED, SYNC]
     LINE = '1 write(1</dev/null>, "\\x6d", 1) = 1'
 
     def moved(self, lines):
@@ -85,7 +87,7 @@ class Moving(unittest.TestCase):
     def test_the_order_of_a_migration(self):
         self.assertEqual(self.wrong([*self.WHOLE, self.LINE]), [])
         moved = self.moved(self.WHOLE)
-        self.assertEqual((moved.data, moved.letters), (FILE[:14] + bytes.fromhex("01 00000001 08 01 00000001 05 00"), "SRRSCSWWSGS"))
+        self.assertEqual((moved.data, moved.letters), (FILE[:14] + bytes.fromhex("01 00000001 08 01 00000001 05 00"), "SRRSCSWWWSGS"))
 
     def test_each_sync_that_is_missing(self):
         for at, line in enumerate(self.WHOLE):
@@ -94,9 +96,11 @@ class Moving(unittest.TestCase):
                     self.assertNotEqual(self.wrong([*self.WHOLE[:at], *self.WHOLE[at + 1:], self.LINE]), [])
 
     def test_another_order(self):
-        sync, mark, record, opened, line = self.SYNC, self.MARK, self.RECORD, self.OPENED, self.LINE
-        for lines in ([opened, sync, mark, record, sync], [mark, record, opened, sync], [mark, record, opened, sync, sync],
-                      [mark, record, sync, opened, line, sync], [mark, record, sync], [sync, opened, sync]):
+        sync, opened, line = self.SYNC, self.OPENED, self.LINE
+        new = [self.MARK, self.RECORD, self.LAST]
+        for lines in ([opened, sync, *new, sync], [*new, opened, sync], [*new, opened, sync, sync],
+                      [*new, sync, opened, line, sync], [*new, sync], [sync, opened, sync],
+                      [self.MARK, *self.IN_TWO, self.LAST, sync, opened, sync]):
             with self.subTest(lines=lines):
                 self.assertNotEqual(self.wrong(self.WHOLE[:6] + lines), [])
 

@@ -5,10 +5,10 @@ use Rattle.std.specs.List.{AllByRecursion}
 use Rattle.std.proofs.lemmas.Bool.{cases_Bool}
 use Rattle.std.proofs.lemmas.List.{append-nil, take_at, get_or_at}
 use Rattle.exam_edge.specs.Images.{Account, AllImages, AtEachMoment, Grows, IsClean, IsSettled, IsWithin, dropped, latest, overwritten, rewritten, settled, written}
-use Rattle.exam_edge.specs.ImageLaws.{dropped_within, goes_on, grows_to, image_of_dropped, image_within, joined, rewritten_clean, started, torn, within_refl, within_trans, within_written, written_within}
-use Rattle.answer_journal.specs.Frames.{IsPayload, frame_of, frames, front, payloads, shadowj1}
-use Rattle.answer_journal.specs.FrameLaws.{fits-push, payloads-front}
-use Rattle.answer_journal.specs.Moving.{IsMoving, IsUnmoved, IsWritten}
+use Rattle.exam_edge.specs.ImageLaws.{dropped_within, goes_on, grows_to, image_of_dropped, image_within, rewritten_clean, started, torn, within_refl, within_trans, within_written, written_within}
+use Rattle.answer_journal.specs.Frames.{IsPayload, frames, front, payloads, shadowj1}
+use Rattle.answer_journal.specs.FrameLaws.{payloads-front}
+use Rattle.answer_journal.specs.Moving.{IsMoving, IsMovingWith, IsUnmoved, IsWritten}
 use Rattle.answer_journal.specs.Payload.{end_of}
 use Rattle.answer_journal.specs.Reading.{IsRead}
 use Rattle.answer_journal.specs.Standing.{IsAsLeft, IsAtRest, IsBeingWritten, Unopened, moved_records, payload_list}
@@ -16,7 +16,7 @@ use Rattle.answer_journal.specs.Versions.{after_mark, counted_from, mark}
 use Rattle.answer_journal.specs.Walk.{HasRecord}
 use Rattle.answer_journal.proofs.Crash.{torn_behind, written_end}
 use Rattle.answer_journal.proofs.Ends.{frames-append}
-use Rattle.answer_journal.proofs.Lasting.{length-frame_of}
+use Rattle.answer_journal.proofs.Switching.{fits-append}
 use Rattle.answer_journal.proofs.Syncing.{changed_dropped, latest_dropped}
 use Rattle.answer_journal.proofs.VersionLaws.{contents_first, contents_short, short_none}
 use Rattle.answer_journal.proofs.Walking.{has_next, next_fits}
@@ -143,17 +143,11 @@ module _ (content : List ℕ) (a0 : List Account) (gate : ℕ) (rest : IsAtRest 
       }
 
 -- ---- records are written after it
-moved-push : (qs : List (List ℕ)) (p : List ℕ) → moved_records qs ++ 1 ∷ (to_be_bytes w32 (length p) ++ p) ≡ moved_records (qs ++ p ∷ [])
-moved-push qs p =
-    let one = 1 ∷ (to_be_bytes w32 (length p) ++ p) in
-    append_assoc (to_be_bytes w32 (length mark)) (mark ++ frames qs) one
-    ∙ ap (λ (l : List ℕ). to_be_bytes w32 (length mark) ++ l) (append_assoc mark (frames qs) one)
-    ∙ ap (λ (l : List ℕ). to_be_bytes w32 (length mark) ++ (mark ++ (frames qs ++ 1 ∷ l))) (sym (append-nil (to_be_bytes w32 (length p) ++ p)))
-    ∙ ap (λ (l : List ℕ). to_be_bytes w32 (length mark) ++ (mark ++ l)) (sym (frames-append qs (p ∷ [])))
-
--- a frame without the gate at its end
-pub frame_head : (p : List ℕ) → take (length (frame_of p) - 1) (frame_of p) ≡ to_be_bytes w32 (length p) ++ p
-frame_head p = take_at (to_be_bytes w32 (length p) ++ p) (0 ∷ []) (length (frame_of p) - 1) (omega (arith, length-frame_of p, length-append (to_be_bytes w32 (length p)) p))
+moved-append : (qs more : List (List ℕ)) → moved_records qs ++ frames more ≡ moved_records (qs ++ more)
+moved-append qs more =
+    append_assoc (to_be_bytes w32 (length mark)) (mark ++ frames qs) (frames more)
+    ∙ ap (λ (l : List ℕ). to_be_bytes w32 (length mark) ++ l) (append_assoc mark (frames qs) (frames more))
+    ∙ ap (λ (l : List ℕ). to_be_bytes w32 (length mark) ++ (mark ++ l)) (sym (frames-append qs more))
 
 module _ (ps qs : List (List ℕ)) (content : List ℕ) (a0 : List Account) (gate end : ℕ) (m : IsMoving ps qs content a0 gate end) where
   moving_place : gate + 1 ≡ length (front shadowj1 ps) + 1
@@ -179,46 +173,34 @@ module _ (ps qs : List (List ℕ)) (content : List ℕ) (a0 : List Account) (gat
   pub moving_clean : IsClean (latest a0)
   moving_clean p = m.within.clean p tt
 
-  -- the open gate, and then the frame after it
-  module _ (a1 : List Account) (g : Grows (written end 1 (latest a0)) a0 a1) where
-    pub gate_moments : AtEachMoment a0 a1 (IsUnmoved ps)
-    gate_moments = moving_moments 1 a1 (changed_dropped (written end 1 (latest a0)) a0 a1 g)
+  -- bytes are written at the end
+  module _ (k : ℕ) (a1 : List Account) (g : Grows (written end k (latest a0)) a0 a1) where
+    pub piece_moments : AtEachMoment a0 a1 (IsUnmoved ps)
+    piece_moments = moving_moments k a1 (changed_dropped (written end k (latest a0)) a0 a1 g)
 
-    with_gate : IsWithin (latest a1) (bound ps m.byte m.closed (gate + 1) moving_place (m.n + end + 1))
-    with_gate = still_within ps m.byte m.closed (gate + 1) moving_place m.n a0 m.within end 1 ends_after a1 g
+    pub piece_left : IsAsLeft a1
+    piece_left = moving_left k a1 (changed_dropped (written end k (latest a0)) a0 a1 g)
 
-    pub frame_moments : (k : ℕ) (a2 : List Account) → Grows (written (end + 1) k (latest a1)) a1 a2 → AtEachMoment a0 a2 (IsUnmoved ps)
-    frame_moments k a2 h =
-        joined (IsUnmoved ps) a0 a1 a2 gate_moments
-        (unmoved_moments ps m.byte m.closed (gate + 1) moving_place (m.n + end + 1) a1 with_gate (end + 1) k (omega (arith, ends_after)) m.fits m.unmoved a2 (changed_dropped (written (end + 1) k (latest a1)) a1 a2 h))
-
-    pub gate_size : (c1 : List ℕ) → c1 ≡ overwritten content end (1 ∷ []) → end + 1 ≡ length c1
-    gate_size c1 is = omega (arith, m.end_is, ap length (is ∙ written_end content (1 ∷ []) end m.end_is), length-append content (1 ∷ []))
-
-    pub record_written : (p bytes c1 c2 : List ℕ) (a2 : List Account) → IsPayload p → bytes ≡ to_be_bytes w32 (length p) ++ p → c1 ≡ overwritten content end (1 ∷ []) → c2 ≡ overwritten c1 (end + 1) bytes
-        → Grows (written (end + 1) (length bytes) (latest a1)) a1 a2 → IsMoving ps (qs ++ p ∷ []) c2 a2 gate (end + 5 + length p)
-    record_written p bytes c1 c2 a2 one bytes_is first_is second_is h =
-        let frame = to_be_bytes w32 (length p) ++ p in
-        let whole : c2 ≡ front shadowj1 ps ++ m.byte ∷ moved_records (qs ++ p ∷ []) =
-        second_is ∙ written_end c1 bytes (end + 1) (gate_size c1 first_is)
-        ∙ ap (λ (l : List ℕ). c1 ++ l) bytes_is
-        ∙ ap (λ (l : List ℕ). l ++ frame) (first_is ∙ written_end content (1 ∷ []) end m.end_is)
-        ∙ append_assoc content (1 ∷ []) frame
-        ∙ ap (λ (l : List ℕ). l ++ 1 ∷ frame) m.is
-        ∙ append_assoc (front shadowj1 ps) (m.byte ∷ moved_records qs) (1 ∷ frame)
-        ∙ ap (λ (l : List ℕ). front shadowj1 ps ++ m.byte ∷ l) (moved-push qs p) in
-        record {
-          fits = m.fits;
-          unmoved = m.unmoved;
-          more_fit = fits-push qs p m.more_fit one;
-          byte = m.byte;
-          closed = m.closed;
-          gate_is = m.gate_is;
-          end_is = omega (arith, moving_size, m.gate_is, ap length whole, length-append (front shadowj1 ps) (m.byte ∷ moved_records (qs ++ p ∷ [])), ap length (moved-push qs p), length-append (moved_records qs) (1 ∷ frame), length-append (to_be_bytes w32 (length p)) p);
-          is = whole;
-          n = m.n + end + 1 + (end + 1) + length bytes;
-          within = still_within ps m.byte m.closed (gate + 1) moving_place (m.n + end + 1) a1 with_gate (end + 1) (length bytes) (omega (arith, ends_after)) a2 h;
-        }
+  -- the frames of more records
+  pub records_written : (more : List (List ℕ)) (c1 : List ℕ) (a1 : List Account) → AllByRecursion IsPayload more → c1 ≡ overwritten content end (frames more)
+      → Grows (written end (length (frames more)) (latest a0)) a0 a1 → IsMoving ps (qs ++ more) c1 a1 gate (end + length (frames more))
+  records_written more c1 a1 fit is g =
+      let longer : c1 ≡ content ++ frames more = is ∙ written_end content (frames more) end m.end_is in
+      record {
+        fits = m.fits;
+        unmoved = m.unmoved;
+        more_fit = fits-append qs more m.more_fit fit;
+        byte = m.byte;
+        closed = m.closed;
+        gate_is = m.gate_is;
+        end_is = omega (arith, m.end_is, ap length longer, length-append content (frames more));
+        is = longer
+            ∙ ap (λ (l : List ℕ). l ++ frames more) m.is
+            ∙ append_assoc (front shadowj1 ps) (m.byte ∷ moved_records qs) (frames more)
+            ∙ ap (λ (l : List ℕ). front shadowj1 ps ++ m.byte ∷ l) (moved-append qs more);
+        n = m.n + end + length (frames more);
+        within = still_within ps m.byte m.closed (gate + 1) moving_place m.n a0 m.within end (length (frames more)) ends_after a1 g;
+      }
 
   -- the closed gate at the end
   pub closed_is : (c1 : List ℕ) → c1 ≡ overwritten content end (0 ∷ []) → c1 ≡ content ++ 0 ∷ []
@@ -255,3 +237,80 @@ module _ (ps qs : List (List ℕ)) (content : List ℕ) (a0 : List Account) (gat
 
     pub old_fits : at + 5 + length (get_or ps k []) ≤ gate
     old_fits = next_fits shadowj1 content ps gate is_read k at place_is lt
+
+-- ---- records wait to be written
+no_frames : (qs : List (List ℕ)) → frames qs ≡ [] → qs ≡ []
+no_frames [] e = refl
+no_frames (q ∷ qs) e = absurd (cc)
+
+none_long : (l : List ℕ) → length l ≡ 0 → l ≡ []
+none_long [] e = refl
+none_long (x ∷ l) e = absurd (omega (arith, e))
+
+frames-one : (p : List ℕ) → 1 ∷ (to_be_bytes w32 (length p) ++ p) ≡ frames (p ∷ [])
+frames-one p = ap (λ (l : List ℕ). 1 ∷ l) (sym (append-nil (to_be_bytes w32 (length p) ++ p)))
+
+-- none waits
+pub none_waits : (ps qs : List (List ℕ)) (content : List ℕ) (accounts : List Account) (gate end : ℕ) → IsMoving ps qs content accounts gate end → IsMovingWith ps qs content [] accounts gate end
+none_waits ps qs content accounts gate end m = record {
+  here = qs;
+  later = [];
+  all = sym (append-nil qs);
+  moving = subst (λ (n : ℕ). IsMoving ps qs content accounts gate n) m.end_is m;
+  later_fit = tt;
+  waiting_is = refl;
+  end_is = omega (arith, m.end_is);
+}
+
+module _ (ps qs : List (List ℕ)) (content waiting : List ℕ) (a0 : List Account) (gate end : ℕ) (m : IsMovingWith ps qs content waiting a0 gate end) where
+  pub waiting_place : end - length waiting ≡ length content
+  waiting_place = omega (arith, m.end_is)
+
+  pub waiting_size : end ≡ gate + 1 + length (moved_records qs)
+  waiting_size =
+      omega (arith, m.end_is, moving_size ps m.here content a0 gate (length content) m.moving, ap length m.waiting_is, ap (λ (l : List (List ℕ)). length (moved_records l)) m.all, ap length (moved-append m.here m.later), length-append (moved_records m.here) (frames m.later))
+
+  -- nothing is written yet
+  pub waiting_start : AtEachMoment a0 a0 (IsUnmoved ps)
+  waiting_start = moving_start ps m.here content a0 gate (length content) m.moving
+
+  pub waiting_left : IsAsLeft a0
+  waiting_left = inl (moving_clean ps m.here content a0 gate (length content) m.moving)
+
+  -- they are written, or a part of them
+  module _ (at : ℕ) (a1 : List Account) (g : Grows (written at (length waiting) (latest a0)) a0 a1) (at_is : at ≡ end - length waiting) where
+    at_the_end : Grows (written (length content) (length waiting) (latest a0)) a0 a1
+    at_the_end = subst (λ (n : ℕ). Grows (written n (length waiting) (latest a0)) a0 a1) (at_is ∙ waiting_place) g
+
+    pub batch_moments : AtEachMoment a0 a1 (IsUnmoved ps)
+    batch_moments = piece_moments ps m.here content a0 gate (length content) m.moving (length waiting) a1 at_the_end
+
+    pub batch_left : IsAsLeft a1
+    batch_left = piece_left ps m.here content a0 gate (length content) m.moving (length waiting) a1 at_the_end
+
+    pub batch_written : (c1 : List ℕ) → c1 ≡ overwritten content at waiting → IsMoving ps qs c1 a1 gate end
+    batch_written c1 is =
+        let there : c1 ≡ overwritten content (length content) (frames m.later) = is ∙ ap (λ (n : ℕ). overwritten content n waiting) (at_is ∙ waiting_place) ∙ ap (overwritten content (length content)) m.waiting_is in
+        let grows : Grows (written (length content) (length (frames m.later)) (latest a0)) a0 a1 = subst (λ (l : List ℕ). Grows (written (length content) (length l) (latest a0)) a0 a1) m.waiting_is at_the_end in
+        let whole = records_written ps m.here content a0 gate (length content) m.moving m.later c1 a1 m.later_fit there grows in
+        let size : length content + length (frames m.later) ≡ end = omega (arith, m.end_is, ap length m.waiting_is) in
+        subst (λ (n : ℕ). IsMoving ps qs c1 a1 gate n) size (subst (λ (l : List (List ℕ)). IsMoving ps l c1 a1 gate (length content + length (frames m.later))) (sym m.all) whole)
+
+  pub nothing_waits : length waiting ≡ 0 → IsMoving ps qs content a0 gate end
+  nothing_waits none =
+      let none_later : m.later ≡ [] = no_frames m.later (sym m.waiting_is ∙ none_long waiting none) in
+      let all : m.here ≡ qs = sym (m.all ∙ ap (λ (l : List (List ℕ)). m.here ++ l) none_later ∙ append-nil m.here) in
+      let size : length content ≡ end = omega (arith, m.end_is, none) in
+      subst (λ (n : ℕ). IsMoving ps qs content a0 gate n) size (subst (λ (l : List (List ℕ)). IsMoving ps l content a0 gate (length content)) all m.moving)
+
+  -- one more waits
+  pub one_more : (p w1 : List ℕ) (e1 : ℕ) → IsPayload p → w1 ≡ waiting ++ 1 ∷ (to_be_bytes w32 (length p) ++ p) → e1 ≡ end + 5 + length p → IsMovingWith ps (qs ++ p ∷ []) content w1 a0 gate e1
+  one_more p w1 e1 one is size = record {
+    here = m.here;
+    later = m.later ++ p ∷ [];
+    all = ap (λ (l : List (List ℕ)). l ++ p ∷ []) m.all ∙ append_assoc m.here m.later (p ∷ []);
+    moving = m.moving;
+    later_fit = fits-append m.later (p ∷ []) m.later_fit (one, tt);
+    waiting_is = is ∙ ap (λ (l : List ℕ). waiting ++ l) (frames-one p) ∙ ap (λ (l : List ℕ). l ++ frames (p ∷ [])) m.waiting_is ∙ sym (frames-append m.later (p ∷ []));
+    end_is = omega (arith, size, m.end_is, ap length is, length-append waiting (1 ∷ (to_be_bytes w32 (length p) ++ p)), length-append (to_be_bytes w32 (length p)) p);
+  }

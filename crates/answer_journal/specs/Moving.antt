@@ -4,17 +4,18 @@ use Rattle.std.specs.Prelude.{◌≡◌, ◌≢◌, ◌⊎◌, ℕ, ◌+◌, ◌
 use Rattle.std.specs.Prelude.{List, [], ◌∷◌, ◌++◌, length, Some, None}
 use Rattle.std.specs.List.{AllByRecursion}
 use Rattle.exam_edge.specs.Images.{Account, IsImage, IsSettled, IsWithin, latest, settled, written}
-use Rattle.answer_journal.specs.Frames.{IsPayload, shadowj1, front}
+use Rattle.answer_journal.specs.Frames.{IsPayload, shadowj1, frames, front}
 use Rattle.answer_journal.specs.Standing.{moved_records}
 use Rattle.answer_journal.specs.Versions.{Counted, second, after_mark, contents}
 
--- the disk of a journal that is moved, the limit of its length, the place of its closed gate, and
--- the file's length
+-- the disk of a journal that is moved, the limit of its length, the place of its closed gate, the
+-- bytes that wait to be written at the end of the file, and the file's length once they are
 pub record MovingState (D : Type 0) : Type 0 where
   pub disk : D
   pub limit : ℕ
   pub gate : ℕ
   pub end : ℕ
+  pub waiting : List ℕ
 
 -- the file has the header of the first version, frames of these payloads, none of them a mark, a
 -- closed gate, the mark, and frames of these records of the second version so far; up to that gate
@@ -33,7 +34,20 @@ pub record IsMoving (ps qs : List (List ℕ)) (content : List ℕ) (accounts : L
   pub within : IsWithin (latest accounts)
       (written (gate + 1) n (settled (front shadowj1 ps ++ byte ∷ [])))
 
--- the same with the closed gate at the end, all of it on the disk
+-- of these records of the second version the file has the first ones, and the frames of the later
+-- ones wait to be written at its end; then it has this length
+pub record IsMovingWith (ps qs : List (List ℕ)) (content waiting : List ℕ)
+    (accounts : List Account) (gate end : ℕ) : Type 0 where
+  pub here : List (List ℕ)
+  pub later : List (List ℕ)
+  pub all : qs ≡ here ++ later
+  pub moving : IsMoving ps here content accounts gate (length content)
+  pub later_fit : AllByRecursion IsPayload later
+  pub waiting_is : waiting ≡ frames later
+  pub end_is : end ≡ length content + length waiting
+
+-- a file that is moved, none of its records waiting, with the closed gate at the end, all of it on
+-- the disk
 pub record IsWritten (ps qs : List (List ℕ)) (content : List ℕ) (accounts : List Account)
     (gate : ℕ) : Type 0 where
   pub fits : AllByRecursion IsPayload ps
@@ -45,11 +59,12 @@ pub record IsWritten (ps qs : List (List ℕ)) (content : List ℕ) (accounts : 
   pub is : content ≡ front shadowj1 ps ++ byte ∷ (moved_records qs ++ 0 ∷ [])
   pub settled : IsSettled content accounts
 
--- a limit, and the places of a closed gate and of the end of a file, that a journal may have
-pub record ArePlaces (limit gate end : ℕ) : Type 0 where
+-- a limit, the places of a closed gate and of the end of a file, and bytes that wait to be written
+-- there, that a journal may have: the mark was written
+pub record ArePlaces (limit gate end : ℕ) (waiting : List ℕ) : Type 0 where
   pub limited : limit ≤ 536870912
   pub after_header : 8 ≤ gate
-  pub marked : gate + 6 ≤ end
+  pub marked : gate + 6 + length waiting ≤ end
   pub few : end ≤ 536870918
 
 -- payloads of records of the first version

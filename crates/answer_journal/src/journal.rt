@@ -1,4 +1,5 @@
-// A journal over a disk.
+//! A journal over a disk.
+
 ghost use Rattle.std.specs.Prelude.{◌≡◌, ◌≢◌, ◌≤◌, ◌<◌, ◌+◌, ◌-◌, ◌↔◌, ◌⊎◌, ◌==◌, List, ℕ, [], ◌∷◌, ◌++◌, length, take, get_or, slice_index, map, max, Some, None, IsTrue, is_some, unwrap_or, IfOk, IfErr, OnOk, OnErr};
 ghost use Rattle.std.specs.Option.{ForSome};
 ghost use Rattle.exam_edge.specs.Faults.{Rose};
@@ -37,8 +38,7 @@ pub enum Adopted {
 pub enum AppendFault {
     /// The journal would have this length in bytes, above its limit. Nothing was written.
     Full(u64),
-    /// A call of the disk failed, and the disk has counted that. Of a journal the record is in doubt; a move has only `stop`
-    /// left.
+    /// A call of the disk failed, and the disk has counted that. The record is in doubt.
     Disk,
 }
 
@@ -98,9 +98,9 @@ impl<D: Disk> Journal<D> {
     ghost use Rattle.answer_journal.specs.Journal.{limit_of, doubt_of, payloads_of, version_of, start_of};
     ghost use Rattle.answer_journal.specs.Journal.{AreLengths, IsReady, IsDoubtful};
 
-    /// Tests the frames of a file, to walk over its payloads one after another. It syncs first, and writes nothing. The
-    /// disk is as a reboot or a journal left it: a record may be in doubt, or the gate that moves the journal. It takes no memory. The limit of the journal's
-    /// length is in bytes, at most 536,870,912. A refusal gives the disk back.
+    /// Tests the frames of a file, to walk over its payloads one after another. It syncs first, and writes nothing. The disk is
+    /// as a reboot or a journal left it: a record may be in doubt, or the gate that moves the journal. It takes no memory. The
+    /// limit of the journal's length is in bytes, at most 536,870,912. A refusal gives the disk back.
     pub fn walk(disk: D, limit: u64) -> Result<Walk<D>, (D, OpenFault)>
         requires limit { limit ≤ 536870912 }
         requires left { IsTrue (D.tells disk) → IsAsLeft (D.accounts disk) }
@@ -176,10 +176,10 @@ impl<D: Disk> Journal<D> {
         }
     }
 
-    /// Opens a file, and gives its payloads with the places of their gates: first a walk over all of them, then its
-    /// `finish`. It makes a file of at most nine bytes an empty journal. In any other file it writes the gate of the mark, the
-    /// last open gate and the first closed one again as they read, and cuts what follows the closed one. The limit of the journal's length is in
-    /// bytes, at most 536,870,912. A refusal gives the disk back.
+    /// Opens a file, and gives its payloads with the places of their gates: first a walk over all of them, then its `finish`. It
+    /// makes a file of at most nine bytes an empty journal. In any other file it writes the gate of the mark, the last open gate
+    /// and the first closed one again as they read, and cuts what follows the closed one. The limit of the journal's length is
+    /// in bytes, at most 536,870,912. A refusal gives the disk back.
     pub fn open(
         alloc: Global,
         disk: D,
@@ -403,8 +403,8 @@ impl<D: Disk> Journal<D> {
     }
 
     /// Reads the payload after the gate at a place, which is one of the gates from the first that counts to the closed one.
-    /// `None` exactly at the closed gate; at any other place the answer means nothing. No record may be in doubt. The file is not changed. Only of a disk that does not
-    /// report its content the record may not be there any more: then there is none.
+    /// `None` exactly at the closed gate; at any other place the answer means nothing. No record may be in doubt. The file is
+    /// not changed. Only of a disk that does not report its content the record may not be there any more: then there is none.
     pub fn read_frame(&mut self, alloc: Global, at: u64) -> Result<Option<Vec<u8>>, WalkFault>
         requires ready { IsReady self.old }
         requires gate { at < length_of self.old }

@@ -1,4 +1,5 @@
-// How a file is opened: what is read first, and what is written then.
+//! How a file is opened: what is read first, and what is written then.
+
 ghost use Rattle.std.specs.Prelude.{◌≡◌, ◌≢◌, ◌≤◌, ◌<◌, ◌+◌, ◌-◌, ◌^◌, ◌⊎◌, length, Some, None};
 ghost use Rattle.std.specs.Prelude.{◌++◌, IsTrue, IfOk, IfErr, OnOk, OnErr};
 ghost use Rattle.exam_edge.specs.Faults.{Rose};

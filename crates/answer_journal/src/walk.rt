@@ -1,11 +1,12 @@
-// A file that is walked over to be opened, one payload in memory at a time.
+//! A file that is walked over to be opened, one payload in memory at a time.
+
 ghost use Rattle.std.specs.Prelude.{◌≡◌, ◌≢◌, ◌≤◌, ◌<◌, ◌+◌, ◌^◌, ◌⊎◌, List, ℕ, [], ◌∷◌, ◌++◌, length, map, take, drop, Some, None, IsTrue, IfOk, IfErr, OnOk, OnErr};
 ghost use Rattle.std.specs.Option.{ForSome};
 ghost use Rattle.exam_edge.specs.Faults.{Rose};
 ghost use Rattle.exam_edge.specs.Lent.{IsLent, FailsOnly};
 ghost use Rattle.exam_edge.specs.Images.{AllImages, AtEachMoment, IsImage, IsSettled, latest};
 ghost use Rattle.answer_journal.specs.Frames.{IsPayload};
-ghost use Rattle.answer_journal.specs.Moving.{IsImageOrUnmoved, IsMoving, IsUnmoved};
+ghost use Rattle.answer_journal.specs.Moving.{IsImageOrUnmoved, IsMovingWith, IsUnmoved};
 ghost use Rattle.answer_journal.specs.Versions.{contents, counted_in, second};
 ghost use Rattle.answer_journal.specs.OpenFault.{IsOfDevice};
 ghost use Rattle.answer_journal.specs.Opening.{PutsTailAside, tail_gates};
@@ -463,15 +464,16 @@ impl<D: Disk> Walk<D> {
     /// puts aside and cuts what follows the first closed gate. Then it writes the mark after that gate, which stays closed.
     /// There has to be room for the mark and a gate. If a call of the disk fails, the disk has counted that and comes back.
     /// The file may then be changed in part.
-    pub fn start_move(self) -> Result<Moving<D>, (D, OpenFault)>
+    pub fn start_move(self, alloc: Global) -> Result<Moving<D>, (D, OpenFault)>
         requires version { self.record_version ≡ 1 }
         requires room { self.size + 6 ≤ self.limit }
         requires all { IsTrue (D.tells self.disk)
             → first_payloads self.given (D.content self.disk)
             ≡ (counted_in (D.content self.disk)).payloads }
         ensures moving { IfOk result (λ moving. IsTrue (D.tells self.disk)
-            → IsMoving (counted_in (D.content self.disk)).payloads [] (D.content moving.disk)
-            (D.accounts moving.disk) moving.gate moving.end) }
+            → IsMovingWith (counted_in (D.content self.disk)).payloads [] (D.content moving.disk)
+            moving.waiting (D.accounts moving.disk) moving.gate moving.end) }
+        ensures waiting { IfOk result (λ moving. moving.waiting ≡ []) }
         ensures places { IfOk result
             (λ moving. (moving.gate + 1 ≡ self.size) × (moving.end ≡ self.size + 5)) }
         ensures limit { IfOk result (λ moving. moving.limit ≡ self.limit) }
@@ -535,6 +537,7 @@ impl<D: Disk> Walk<D> {
                 limit,
                 gate: extent.end,
                 end: extent.end + 6,
+                waiting: Vec::new(alloc),
             }),
             Err(_) => Err((disk, OpenFault::Disk)),
         }

@@ -13,7 +13,7 @@ use Rattle.answer_journal.specs.declared.open_fault.OpenFault.{OpenFault as Jour
 use Rattle.answer_journal.specs.declared.open_fault.OpenFault.TheVariants.{TooLong, Header as NoHeader, Length as BadSize, Cut, Version as OfVersion, Disk as OfDevice, Memory as NoMemory}
 use Rattle.answer_journal.specs.Frames.{FileHeader, Scan, Whole, BadLength, CutOff, begins, scan}
 use Rattle.answer_journal.specs.OpenFault.{IsWalkAnswer, first_fault, frames_fault, scan_fault}
-use Rattle.answer_journal.specs.Moving.{GivesEither, IsImageOrUnmoved, IsMoving, IsUnmoved}
+use Rattle.answer_journal.specs.Moving.{GivesEither, IsImageOrUnmoved, IsMovingWith, IsUnmoved}
 use Rattle.answer_journal.specs.Opening.{PutsTailAside}
 use Rattle.answer_journal.specs.Versions.{Counted, contents, counted_in, header, second, version_of}
 use Rattle.exam_office.specs.declared.fault.OpenFault.{OpenFault}
@@ -57,14 +57,14 @@ module _ (b : Tables) (plan : Plan) (file : List ℕ) (old : IsOldFile b plan fi
 
   -- ---- the second pass, over another book
   module _ (b1 : Tables) (plan1 : Plan) (bank : b1 ≡ b) (same : plan1 ≡ plan) where
-    pub started_move : (content : List ℕ) (accounts : List Account) (gate end : ℕ) (entries : List Entry) → entries ≡ [] → IsMoving (counted_in file).payloads [] content accounts gate end → IsMovedUpTo b1 plan1 old.records [] content accounts gate end entries 8
-    started_move content accounts gate end entries none m =
-        moved_by b b1 plan plan1 bank same old.records [] content accounts gate end entries 8 (record {
+    pub started_move : (content waiting : List ℕ) (accounts : List Account) (gate end : ℕ) (entries : List Entry) → entries ≡ [] → IsMovingWith (counted_in file).payloads [] content waiting accounts gate end → IsMovedUpTo b1 plan1 old.records [] content waiting accounts gate end entries 8
+    started_move content waiting accounts gate end entries none m =
+        moved_by b b1 plan plan1 bank same old.records [] content waiting accounts gate end entries 8 (record {
           H = old.H;
           are = old.are;
           rest = old.records;
           all = refl;
-          moving = subst (λ (ps : List (List ℕ)). IsMoving ps [] content accounts gate end) listed m;
+          moving = subst (λ (ps : List (List ℕ)). IsMovingWith ps [] content waiting accounts gate end) listed m;
           entries_are = none;
           place = refl;
         })

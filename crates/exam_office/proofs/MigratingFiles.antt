@@ -12,7 +12,7 @@ use Rattle.history_model.specs.Judging.{Record}
 use Rattle.exam_records.specs.Spelling.{payload_of}
 use Rattle.answer_journal.specs.Frames.{shadowj1, frames, front}
 use Rattle.answer_journal.specs.FrameLaws.{payloads-front}
-use Rattle.answer_journal.specs.Moving.{GivesEither, IsImageOrUnmoved, IsMoving, IsUnmoved, first}
+use Rattle.answer_journal.specs.Moving.{GivesEither, IsImageOrUnmoved, IsMovingWith, IsUnmoved, first}
 use Rattle.answer_journal.specs.Standing.{moved_records}
 use Rattle.answer_journal.specs.Versions.{mark, contents, counted, counted_from, second, version_of}
 use Rattle.exam_office.specs.Files.{payload_in, AreRecordsOf, Stands}
@@ -75,15 +75,15 @@ pub images_read : (content : List ℕ) (old new : List Account) → AllImages (�
 images_read content old new all moments = λ file i. all file (at_end (IsImage (latest old)) old new moments file i)
 
 -- ---- what counts in a journal that is moved
-pub moving_unmoved : (ps qs : List (List ℕ)) (content : List ℕ) (accounts : List Account) (gate end : ℕ) → IsMoving ps qs content accounts gate end → IsUnmoved ps content
+pub moving_unmoved : (ps qs : List (List ℕ)) (content waiting : List ℕ) (accounts : List Account) (gate end : ℕ) → IsMovingWith ps qs content waiting accounts gate end → IsUnmoved ps content
 unfolding contents version_of
-moving_unmoved ps qs content accounts gate end m = inl (ap contents m.is ∙ holds)
+moving_unmoved ps qs content waiting accounts gate end m = inl (ap contents m.moving.is ∙ holds)
   where
-    long : nat_le (length (front shadowj1 ps ++ m.byte ∷ moved_records qs)) 9 ≡ false
-    long = lt-leb (length (front shadowj1 ps ++ m.byte ∷ moved_records qs)) 9 (omega (arith, length-append (front shadowj1 ps) (m.byte ∷ moved_records qs), length-append shadowj1.bytes (frames ps), shadowj1.eight, length-append (to_be_bytes w32 (length mark)) (mark ++ frames qs), length-append mark (frames qs)))
+    long : nat_le (length (front shadowj1 ps ++ m.moving.byte ∷ moved_records m.here)) 9 ≡ false
+    long = lt-leb (length (front shadowj1 ps ++ m.moving.byte ∷ moved_records m.here)) 9 (omega (arith, length-append (front shadowj1 ps) (m.moving.byte ∷ moved_records m.here), length-append shadowj1.bytes (frames ps), shadowj1.eight, length-append (to_be_bytes w32 (length mark)) (mark ++ frames m.here), length-append mark (frames m.here)))
 
-    holds : contents (front shadowj1 ps ++ m.byte ∷ moved_records qs) ≡ Some (first ps)
-    holds = rw long (ap (option_map (counted 1)) (payloads-front shadowj1 ps m.byte (moved_records qs) m.fits m.closed) ∙ ap (λ (o : Option (List (List ℕ))). Some (counted_from ps o)) m.unmoved)
+    holds : contents (front shadowj1 ps ++ m.moving.byte ∷ moved_records m.here) ≡ Some (first ps)
+    holds = rw long (ap (option_map (counted 1)) (payloads-front shadowj1 ps m.moving.byte (moved_records m.here) m.moving.fits m.moving.closed) ∙ ap (λ (o : Option (List (List ℕ))). Some (counted_from ps o)) m.moving.unmoved)
 
 -- one step after another of a journal that is moved
 pub moving_on : (ps : List (List ℕ)) (old mid new : List Account) → AtEachMoment old mid (IsImageOrUnmoved (latest old) ps) → AtEachMoment mid new (IsImageOrUnmoved (latest mid) ps) → AtEachMoment old new (IsImageOrUnmoved (latest old) ps)
@@ -98,12 +98,13 @@ moving_still ps old = started (IsImageOrUnmoved (latest old) ps) old (λ file i.
 pub only_unmoved : (ps : List (List ℕ)) (old new : List Account) → AtEachMoment old new (IsUnmoved ps) → AtEachMoment old new (IsImageOrUnmoved (latest old) ps)
 only_unmoved ps old new moments = weaker (IsUnmoved ps) (IsImageOrUnmoved (latest old) ps) (λ file unmoved. inr unmoved) old new moments
 
-pub moving_same : (ps qs : List (List ℕ)) (c0 c1 : List ℕ) (a0 a1 : List Account) (g0 g1 e0 e1 : ℕ) → c1 ≡ c0 → a1 ≡ a0 → g1 ≡ g0 → e1 ≡ e0 → IsMoving ps qs c0 a0 g0 e0 → IsMoving ps qs c1 a1 g1 e1
-moving_same ps qs c0 c1 a0 a1 g0 g1 e0 e1 c a g e m =
-    subst (λ (x : List ℕ). IsMoving ps qs x a1 g1 e1) (sym c)
-    (subst (λ (x : List Account). IsMoving ps qs c0 x g1 e1) (sym a)
-    (subst (λ (x : ℕ). IsMoving ps qs c0 a0 x e1) (sym g)
-    (subst (λ (x : ℕ). IsMoving ps qs c0 a0 g0 x) (sym e) m)))
+pub moving_same : (ps qs : List (List ℕ)) (c0 c1 w0 w1 : List ℕ) (a0 a1 : List Account) (g0 g1 e0 e1 : ℕ) → c1 ≡ c0 → w1 ≡ w0 → a1 ≡ a0 → g1 ≡ g0 → e1 ≡ e0 → IsMovingWith ps qs c0 w0 a0 g0 e0 → IsMovingWith ps qs c1 w1 a1 g1 e1
+moving_same ps qs c0 c1 w0 w1 a0 a1 g0 g1 e0 e1 c w a g e m =
+    subst (λ (x : List ℕ). IsMovingWith ps qs x w1 a1 g1 e1) (sym c)
+    (subst (λ (x : List ℕ). IsMovingWith ps qs c0 x a1 g1 e1) (sym w)
+    (subst (λ (x : List Account). IsMovingWith ps qs c0 w0 x g1 e1) (sym a)
+    (subst (λ (x : ℕ). IsMovingWith ps qs c0 w0 a0 x e1) (sym g)
+    (subst (λ (x : ℕ). IsMovingWith ps qs c0 w0 a0 g0 x) (sym e) m))))
 
 -- ---- faults
 pub device_fault : (fault : OpenFault) (e : MigrateFault) → e ≡ migrate_fault fault → (fault ≡ OfDisk) ⊎ (fault ≡ OfMemory) → (e ≡ Disk) ⊎ (e ≡ Memory)

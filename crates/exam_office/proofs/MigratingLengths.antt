@@ -8,7 +8,7 @@ use Rattle.exam_edge.specs.Images.{Account}
 use Rattle.history_model.specs.Judging.{Record}
 use Rattle.exam_records.specs.Spelling.{payload_of}
 use Rattle.answer_journal.specs.Frames.{shadowj1, frames, front}
-use Rattle.answer_journal.specs.Moving.{IsMoving}
+use Rattle.answer_journal.specs.Moving.{IsMovingWith}
 use Rattle.answer_journal.specs.Payload.{end_of}
 use Rattle.answer_journal.specs.Standing.{moved_records}
 use Rattle.answer_journal.specs.Versions.{mark}
@@ -44,15 +44,18 @@ module _ (b : Tables) (plan : Plan) where
       let qs = map payload_of R in
       omega (arith, length-append (front shadowj1 (ps ++ mark ∷ qs)) (0 ∷ []), front_length (ps ++ mark ∷ qs), frames_length ps (mark ∷ qs), frames_one mark qs)
 
-module _ (ps qs : List (List ℕ)) (content : List ℕ) (accounts : List Account) (gate end : ℕ) (m : IsMoving ps qs content accounts gate end) where
+module _ (ps qs : List (List ℕ)) (content waiting : List ℕ) (accounts : List Account) (gate end : ℕ) (m : IsMovingWith ps qs content waiting accounts gate end) where
   pub gate_at : gate ≡ 8 + length (frames ps)
-  gate_at = m.gate_is ∙ front_length ps
+  gate_at = m.moving.gate_is ∙ front_length ps
 
   pub gate_ends : gate ≡ end_of 8 ps
   gate_ends = omega (arith, gate_at, end_is_after 8 ps)
 
+  here_at : length content ≡ 14 + length (frames ps) + length (frames m.here)
+  here_at = omega (arith, ap length m.moving.is, length-append (front shadowj1 ps) (m.moving.byte ∷ moved_records m.here), front_length ps, length-append (to_be_bytes w32 (length mark)) (mark ++ frames m.here), length-append mark (frames m.here))
+
   pub end_at : end ≡ 14 + length (frames ps) + length (frames qs)
-  end_at = omega (arith, m.end_is, ap length m.is, length-append (front shadowj1 ps) (m.byte ∷ moved_records qs), front_length ps, length-append (to_be_bytes w32 (length mark)) (mark ++ frames qs), length-append mark (frames qs))
+  end_at = omega (arith, m.end_is, here_at, ap length m.waiting_is, ap (λ (l : List (List ℕ)). length (frames l)) m.all, frames_length m.here m.later)
 
 -- ---- the place of a record
 at_place : (a : ℕ) (ps : List (List ℕ)) (p : List ℕ) (qs : List (List ℕ)) → end_of a ps < end_of a (ps ++ p ∷ qs)

@@ -12,7 +12,7 @@ use Rattle.history_model.proofs.RunParts.{each_may_follow}
 use Rattle.exam_records.specs.Shape.{IsRecord}
 use Rattle.exam_records.specs.Spelling.{payload_of}
 use Rattle.answer_journal.specs.Frames.{frames}
-use Rattle.answer_journal.specs.Moving.{IsMoving}
+use Rattle.answer_journal.specs.Moving.{IsMovingWith}
 use Rattle.answer_journal.specs.Payload.{end_of}
 use Rattle.answer_journal.specs.Walk.{IsJust}
 use Rattle.exam_office.specs.Files.{payload_in, AreRecordsOf}
@@ -50,9 +50,9 @@ pub record IsNextMoved (b : Tables) (plan : Plan) (R done : List Record) (entrie
   pub may : MayFollow b plan entries next.entry next.tree
   pub payloads : map (payload_in b plan 1) R ≡ map (payload_in b plan 1) done ++ payload_in b plan 1 next ∷ map (payload_in b plan 1) after
 
-module _ (b : Tables) (plan : Plan) (R done : List Record) (content : List ℕ) (accounts : List Account) (gate end : ℕ) (entries : List Entry) (at : ℕ) (m : IsMovedUpTo b plan R done content accounts gate end entries at) where
+module _ (b : Tables) (plan : Plan) (R done : List Record) (content waiting : List ℕ) (accounts : List Account) (gate end : ℕ) (entries : List Entry) (at : ℕ) (m : IsMovedUpTo b plan R done content waiting accounts gate end entries at) where
   ends : gate ≡ end_of 8 (map (payload_in b plan 1) R)
-  ends = gate_ends (map (payload_in b plan 1) R) (map payload_of done) content accounts gate end m.moving
+  ends = gate_ends (map (payload_in b plan 1) R) (map payload_of done) content waiting accounts gate end m.moving
 
   is_next : (r : Record) (rest : List Record) → R ≡ done ++ r ∷ rest → IsNextMoved b plan R done entries
   is_next r rest is =
@@ -98,7 +98,7 @@ module _ (b : Tables) (plan : Plan) (R done : List Record) (content : List ℕ) 
         let all : map payload_of R ≡ map payload_of done ++ payload_of n.next ∷ map payload_of n.after = ap (map payload_of) n.is ∙ map-append payload_of done (n.next ∷ n.after) in
         omega (
           arith,
-          end_at (map (payload_in b plan 1) R) (map payload_of done) content accounts gate end m.moving,
+          end_at (map (payload_in b plan 1) R) (map payload_of done) content waiting accounts gate end m.moving,
           moved_size b plan R,
           ap (λ (qs : List (List ℕ)). length (frames qs)) all,
           frames_length (map payload_of done) (payload_of n.next ∷ map payload_of n.after),
@@ -123,15 +123,15 @@ module _ (b : Tables) (plan : Plan) (R done : List Record) (content : List ℕ) 
       second_next = taken.second_is ∙ ap payload_of same_next
 
       -- the record is moved
-      pub moved_more : (content1 : List ℕ) (accounts1 : List Account) (gate1 end1 next : ℕ) → next ≡ at + 5 + length (payload_in b plan 1 n.next)
-          → IsMoving (map (payload_in b plan 1) R) (map payload_of done ++ second ∷ []) content1 accounts1 gate1 end1
-          → IsMovedUpTo b plan R (done ++ n.next ∷ []) content1 accounts1 gate1 end1 now next
-      moved_more content1 accounts1 gate1 end1 next next_is moving = record {
+      pub moved_more : (content1 waiting1 : List ℕ) (accounts1 : List Account) (gate1 end1 next : ℕ) → next ≡ at + 5 + length (payload_in b plan 1 n.next)
+          → IsMovingWith (map (payload_in b plan 1) R) (map payload_of done ++ second ∷ []) content1 waiting1 accounts1 gate1 end1
+          → IsMovedUpTo b plan R (done ++ n.next ∷ []) content1 waiting1 accounts1 gate1 end1 now next
+      moved_more content1 waiting1 accounts1 gate1 end1 next next_is moving = record {
         H = m.H;
         are = m.are;
         rest = n.after;
         all = n.is ∙ sym (append_assoc done (n.next ∷ []) n.after);
-        moving = subst (λ (qs : List (List ℕ)). IsMoving (map (payload_in b plan 1) R) qs content1 accounts1 gate1 end1)
+        moving = subst (λ (qs : List (List ℕ)). IsMovingWith (map (payload_in b plan 1) R) qs content1 waiting1 accounts1 gate1 end1)
             (ap (λ (p : List ℕ). map payload_of done ++ p ∷ []) second_next ∙ sym (map-append payload_of done (n.next ∷ []))) moving;
         entries_are = taken.entries
             ∙ (ap (λ (G : List Entry). G ++ taken.last.entry ∷ []) m.entries_are
@@ -162,10 +162,10 @@ module _ (before after : List (List ℕ)) (p : List ℕ) where
 
 -- ---- the same of a book with the same bank and plan
 module _ (b c : Tables) (plan plan1 : Plan) (bank : c ≡ b) (same : plan1 ≡ plan) where
-  pub moved_by : (R done : List Record) (content : List ℕ) (accounts : List Account) (gate end : ℕ) (entries : List Entry) (at : ℕ) → IsMovedUpTo b plan R done content accounts gate end entries at → IsMovedUpTo c plan1 R done content accounts gate end entries at
-  moved_by R done content accounts gate end entries at m =
-      subst (λ (x : Tables). IsMovedUpTo x plan1 R done content accounts gate end entries at) (sym bank)
-      (subst (λ (x : Plan). IsMovedUpTo b x R done content accounts gate end entries at) (sym same) m)
+  pub moved_by : (R done : List Record) (content waiting : List ℕ) (accounts : List Account) (gate end : ℕ) (entries : List Entry) (at : ℕ) → IsMovedUpTo b plan R done content waiting accounts gate end entries at → IsMovedUpTo c plan1 R done content waiting accounts gate end entries at
+  moved_by R done content waiting accounts gate end entries at m =
+      subst (λ (x : Tables). IsMovedUpTo x plan1 R done content waiting accounts gate end entries at) (sym bank)
+      (subst (λ (x : Plan). IsMovedUpTo b x R done content waiting accounts gate end entries at) (sym same) m)
 
   pub old_by : (R : List Record) → map (payload_in c plan1 1) R ≡ map (payload_in b plan 1) R
   old_by R = ap (λ (x : Tables). map (payload_in x plan1 1) R) bank ∙ ap (λ (x : Plan). map (payload_in b x 1) R) same

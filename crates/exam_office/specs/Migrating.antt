@@ -8,7 +8,7 @@ use Rattle.history_model.specs.Judging.{Record, MayFollow, entries_of}
 use Rattle.exam_records.specs.Shape.{IsRecord}
 use Rattle.exam_records.specs.Spelling.{payload_of}
 use Rattle.answer_journal.specs.Frames.{shadowj1, frames, front}
-use Rattle.answer_journal.specs.Moving.{IsMoving}
+use Rattle.answer_journal.specs.Moving.{IsMovingWith}
 use Rattle.answer_journal.specs.Payload.{end_of}
 use Rattle.answer_journal.specs.Opening.{tail_gates}
 use Rattle.answer_journal.specs.Versions.{mark, contents, counted_in}
@@ -32,13 +32,15 @@ pub record StandsMoved (b : Tables) (plan : Plan) (H : List Entry) (file : List 
   pub stands : Stands b plan H file
   pub second : stands.version ≡ 2
 
--- the file of these records of the first version once it is moved: they are followed by the mark, the same records by the second
--- version, and a closed gate
+-- the file of these records of the first version once it is moved: they are followed by the mark,
+-- the same records by the second version, and a closed gate
 abbrev pub moved_file : Tables → Plan → List Record → List ℕ
-moved_file b plan R = front shadowj1 (map (payload_in b plan 1) R ++ mark ∷ map payload_of R) ++ 0 ∷ []
+moved_file b plan R =
+    front shadowj1 (map (payload_in b plan 1) R ++ mark ∷ map payload_of R) ++ 0 ∷ []
 
 -- a file of the first version was moved, and a crash leaves nothing else
-pub record IsMoved (b : Tables) (plan : Plan) (before after : List ℕ) (accounts : List Account) (done : Moved) : Type 0 where
+pub record IsMoved (b : Tables) (plan : Plan) (before after : List ℕ) (accounts : List Account)
+    (done : Moved) : Type 0 where
   pub old : IsOldFile b plan before
   pub is : after ≡ moved_file b plan old.records
   pub settled : IsSettled after accounts
@@ -51,12 +53,15 @@ pub record IsLeft (b : Tables) (plan : Plan) (before after : List ℕ) (done : M
   pub same : after ≡ before
   pub none : done.records ≡ 0
 
--- what a migration did to a file, with the number of records that it wrote, and the length of the file now
+-- what a migration did to a file, with the number of records that it wrote, and the length of the
+-- file now
 abbrev pub IsMigrated : Tables → Plan → (before after : List ℕ) → List Account → Moved → Type 0
 IsMigrated b plan before after accounts done =
-    (IsMoved b plan before after accounts done ⊎ IsLeft b plan before after done) × (done.length ≡ length after)
+    (IsMoved b plan before after accounts done ⊎ IsLeft b plan before after done)
+    × (done.length ≡ length after)
 
--- a file of the first version would have this length once it is moved, above the limit of the journal
+-- a file of the first version would have this length once it is moved, above the limit of the
+-- journal
 pub record IsTooLongMoved (b : Tables) (plan : Plan) (file : List ℕ) (size : ℕ) : Type 0 where
   pub old : IsOldFile b plan file
   pub size_is : size ≡ length (moved_file b plan old.records)
@@ -68,18 +73,20 @@ IsFaultOf b plan file OfDisk = ⊥
 IsFaultOf b plan file OfMemory = ⊥
 IsFaultOf b plan file fault = IsReadAnswer b plan file fault
 
--- why a migration was not done: something is wrong with the file, it would be too long, the disk failed, or memory ran out
+-- why a migration was not done: something is wrong with the file, it would be too long, the disk
+-- failed, or memory ran out
 abbrev pub IsMigrateAnswer : Tables → Plan → List ℕ → MigrateFault → Type 0
 IsMigrateAnswer b plan file (Open fault) = IsFaultOf b plan file fault
 IsMigrateAnswer b plan file (Full size) = IsTooLongMoved b plan file size
 IsMigrateAnswer b plan file Disk = Unit {0}
 IsMigrateAnswer b plan file Memory = Unit {0}
 
--- why a file that represents a history was not migrated: the disk failed, memory ran out, or the file is of the first version and
--- would be too long
+-- why a file that represents a history was not migrated: the disk failed, memory ran out, or the
+-- file is of the first version and would be too long
 abbrev pub IsRefusedMove : Tables → Plan → List Entry → List ℕ → MigrateFault → Type 0
 IsRefusedMove b plan H file (Open fault) = ⊥
-IsRefusedMove b plan H file (Full size) = (long : IsTooLongMoved b plan file size) × (long.old.H ≡ H)
+IsRefusedMove b plan H file (Full size) =
+    (long : IsTooLongMoved b plan file size) × (long.old.H ≡ H)
 IsRefusedMove b plan H file Disk = Unit {0}
 IsRefusedMove b plan H file Memory = Unit {0}
 
@@ -104,14 +111,16 @@ IsOpenOfFile e = (fault : OpenFault) → e ≡ Open fault → migrate_fault faul
 abbrev pub IsImageOrStands : Tables → Plan → List Entry → Account → List ℕ → Type 0
 IsImageOrStands b plan H before file = IsImage before file ⊎ Stands b plan H file
 
--- the gates whose tails a migration puts aside: the first closed one, where anything follows it in a file of the first version
+-- the gates whose tails a migration puts aside: the first closed one, where anything follows it in
+-- a file of the first version
 abbrev pub moved_tail : List ℕ → List ℕ
 moved_tail file = if (counted_in file).version == 1 then tail_gates file else []
 
 -- ---- record by record
--- a payload of the first version spells a record that may follow a history; these are the entries with it, and its payload by
--- the second version
-pub record IsTakenOver (b : Tables) (plan : Plan) (H : List Entry) (payload : List ℕ) (now : List Entry)
+-- a payload of the first version spells a record that may follow a history; these are the entries
+-- with it, and its payload by the second version
+pub record IsTakenOver (b : Tables) (plan : Plan) (H : List Entry) (payload : List ℕ)
+    (now : List Entry)
     (second : List ℕ) : Type 0 where
   pub last : Record
   pub spells : IsRecord last
@@ -120,20 +129,25 @@ pub record IsTakenOver (b : Tables) (plan : Plan) (H : List Entry) (payload : Li
   pub entries : now ≡ H ++ last.entry ∷ []
   pub second_is : second ≡ payload_of last
 
--- so many payloads of a file are taken, and by the second version the frames of their records have so many bytes
-pub record AreMeasured (b : Tables) (plan : Plan) (start : ℕ) (tells : Bool) (file : List ℕ) (given at : ℕ)
+-- so many payloads of a file are taken, and by the second version the frames of their records have
+-- so many bytes
+pub record AreMeasured (b : Tables) (plan : Plan) (start : ℕ) (tells : Bool) (file : List ℕ)
+    (given at : ℕ)
     (H : List Entry) (total : ℕ) : Type 0 where
   pub taken : AreTaken b plan 1 start tells file given at H
   pub total_is : total ≡ length (frames (map payload_of taken.records))
 
--- of the records of a journal that is moved the first ones were written by the second version; these are their entries, and the
--- next record of the first version is after the gate at this place
-pub record IsMovedUpTo (b : Tables) (plan : Plan) (R done : List Record) (content : List ℕ) (accounts : List Account)
+-- of the records of a journal that is moved the first ones were added by the second version, and
+-- the last of them may wait to be written; these are their entries, and the next record of the
+-- first version is after the gate at this place
+pub record IsMovedUpTo (b : Tables) (plan : Plan) (R done : List Record)
+    (content waiting : List ℕ) (accounts : List Account)
     (gate end : ℕ) (entries : List Entry) (at : ℕ) : Type 0 where
   pub H : List Entry
   pub are : AreRecordsOf b plan H R
   pub rest : List Record
   pub all : R ≡ done ++ rest
-  pub moving : IsMoving (map (payload_in b plan 1) R) (map payload_of done) content accounts gate end
+  pub moving : IsMovingWith (map (payload_in b plan 1) R) (map payload_of done) content waiting
+      accounts gate end
   pub entries_are : entries ≡ entries_of done
   pub place : at ≡ end_of 8 (map (payload_in b plan 1) done)

@@ -9,7 +9,7 @@ ghost use Rattle.form_model.specs.Validity.{IsPlanFor};
 ghost use Rattle.history_model.specs.declared.entry.Entry.{Entry};
 ghost use Rattle.history_model.specs.Judging.{Record};
 ghost use Rattle.answer_journal.specs.Frames.{IsPayload};
-ghost use Rattle.answer_journal.specs.Moving.{IsImageOrUnmoved, IsMoving, IsUnmoved};
+ghost use Rattle.answer_journal.specs.Moving.{IsImageOrUnmoved, IsMovingWith, IsUnmoved};
 ghost use Rattle.answer_journal.specs.Payload.{end_of};
 ghost use Rattle.answer_journal.specs.Opening.{PutsTailAside, tail_gates};
 ghost use Rattle.answer_journal.specs.Standing.{IsAsLeft, IsBeingSwitched};
@@ -23,12 +23,10 @@ ghost use Rattle.exam_office.specs.Migrating.{AreMeasured, IsImageOrStands, IsLe
 
 use crate::fault::OpenFault;
 use crate::taking::{follow, journal_fault, read_record, take_history};
-use answer_journal::{
-    AppendFault, Frame, Journal, Moving, OpenFault as JournalFault, Walk, WalkFault,
-};
+use answer_journal::{Journal, MoveFault, Moving, OpenFault as JournalFault, Walk, WalkFault};
 use bank_tables::Bank;
 use constraint_model::Spec;
-use exam_edge::{Disk, Memory};
+use exam_edge::Disk;
 use exam_records::{RecordFault, encode};
 use exam_session::Book;
 use std::alloc::Global;
@@ -203,16 +201,18 @@ fn moved_length<D: Disk>(
 fn read_old<D: Disk>(alloc: Global, moving: &mut Moving<D>, at: u64) -> Result<Vec<u8>, OpenFault>
     requires before { at ≤ moving.old.gate }
     requires moving { IsTrue (D.tells moving.old.disk) → (ps qs : List (List ℕ))
-        × IsMoving ps qs (D.content moving.old.disk) (D.accounts moving.old.disk)
-        moving.old.gate moving.old.end }
+        × IsMovingWith ps qs (D.content moving.old.disk) moving.old.waiting
+        (D.accounts moving.old.disk) moving.old.gate moving.old.end }
     ensures payload { IfOk result (λ payload. IsTrue (D.tells moving.old.disk)
-        → (before after qs : List (List ℕ)) (p : List ℕ) → IsMoving (before ++ p ∷ after) qs
-        (D.content moving.old.disk) (D.accounts moving.old.disk) moving.old.gate moving.old.end
+        → (before after qs : List (List ℕ)) (p : List ℕ) → IsMovingWith (before ++ p ∷ after) qs
+        (D.content moving.old.disk) moving.old.waiting (D.accounts moving.old.disk)
+        moving.old.gate moving.old.end
         → at ≡ end_of 8 before → payload.items ≡ p) }
     ensures within { IfOk result (λ payload. at + 5 + length payload.items ≤ moving.old.gate) }
     ensures why { IfErr result (λ e. IsTrue (D.tells moving.old.disk)
-        → (before after qs : List (List ℕ)) (p : List ℕ) → IsMoving (before ++ p ∷ after) qs
-        (D.content moving.old.disk) (D.accounts moving.old.disk) moving.old.gate moving.old.end
+        → (before after qs : List (List ℕ)) (p : List ℕ) → IsMovingWith (before ++ p ∷ after) qs
+        (D.content moving.old.disk) moving.old.waiting (D.accounts moving.old.disk)
+        moving.old.gate moving.old.end
         → at ≡ end_of 8 before → (e ≡ OfDisk) ⊎ (e ≡ OfMemory)) }
     ensures cause { IfErr result (λ e. e ≡ OfDisk
         → Rose (D.faults moving.old.disk) (D.faults moving.new.disk)) }
@@ -222,6 +222,7 @@ fn read_old<D: Disk>(alloc: Global, moving: &mut Moving<D>, at: u64) -> Result<V
         → D.accounts moving.new.disk ≡ D.accounts moving.old.disk }
     ensures places { (moving.new.gate ≡ moving.old.gate) × (moving.new.end ≡ moving.old.end)
         × (moving.new.limit ≡ moving.old.limit) }
+    ensures waiting { moving.new.waiting ≡ moving.old.waiting }
     ensures aside { IsTrue (D.tells moving.old.disk)
         → D.aside moving.new.disk ≡ D.aside moving.old.disk }
     ensures frame { IsLent D.tells D.identity D.faults moving.old.disk moving.new.disk }
@@ -234,34 +235,20 @@ fn read_old<D: Disk>(alloc: Global, moving: &mut Moving<D>, at: u64) -> Result<V
     }
 }
 
-/// The frame of a payload.
-fn frame_of(alloc: Global, payload: &[u8]) -> Result<Frame, Memory>
-    requires { IsPayload payload.now }
-    ensures { IfOk result (λ frame. frame ≡ payload.now) }
-{
-    let mut bytes = Frame::room(alloc)?;
-    bytes.extend_from_slice(payload)?;
-    Frame::of(bytes)
-}
-
-/// Writes a payload of the second version after those so far.
-fn add_record<D: Disk>(
-    alloc: Global,
-    moving: &mut Moving<D>,
-    payload: &[u8],
-) -> Result<(), MigrateFault>
+/// Adds a payload of the second version to those so far.
+fn add_record<D: Disk>(moving: &mut Moving<D>, payload: &[u8]) -> Result<(), MigrateFault>
     requires fits { IsPayload payload.now }
     requires moving { IsTrue (D.tells moving.old.disk) → (ps qs : List (List ℕ))
-        × IsMoving ps qs (D.content moving.old.disk) (D.accounts moving.old.disk)
-        moving.old.gate moving.old.end }
+        × IsMovingWith ps qs (D.content moving.old.disk) moving.old.waiting
+        (D.accounts moving.old.disk) moving.old.gate moving.old.end }
     ensures added { OnOk result (IsTrue (D.tells moving.old.disk) → (ps qs : List (List ℕ))
-        → IsMoving ps qs (D.content moving.old.disk) (D.accounts moving.old.disk)
-        moving.old.gate moving.old.end
-        → IsMoving ps (qs ++ payload.now ∷ []) (D.content moving.new.disk)
-        (D.accounts moving.new.disk) moving.new.gate moving.new.end) }
+        → IsMovingWith ps qs (D.content moving.old.disk) moving.old.waiting
+        (D.accounts moving.old.disk) moving.old.gate moving.old.end
+        → IsMovingWith ps (qs ++ payload.now ∷ []) (D.content moving.new.disk)
+        moving.new.waiting (D.accounts moving.new.disk) moving.new.gate moving.new.end) }
     ensures moments { IsTrue (D.tells moving.old.disk) → (ps qs : List (List ℕ))
-        → IsMoving ps qs (D.content moving.old.disk) (D.accounts moving.old.disk)
-        moving.old.gate moving.old.end
+        → IsMovingWith ps qs (D.content moving.old.disk) moving.old.waiting
+        (D.accounts moving.old.disk) moving.old.gate moving.old.end
         → AtEachMoment (D.accounts moving.old.disk) (D.accounts moving.new.disk)
         (IsImageOrUnmoved (latest (D.accounts moving.old.disk)) ps) }
     // Unless the disk failed, nothing was written.
@@ -278,18 +265,15 @@ fn add_record<D: Disk>(
         → D.aside moving.new.disk ≡ D.aside moving.old.disk }
     ensures frame { IsLent D.tells D.identity D.faults moving.old.disk moving.new.disk }
 {
-    let frame = match frame_of(alloc, payload) {
-        Ok(frame) => frame,
-        Err(_) => return Err(MigrateFault::Memory),
-    };
-    match moving.add(&frame) {
+    match moving.add(payload) {
         Ok(()) => Ok(()),
-        Err(AppendFault::Full(size)) => Err(MigrateFault::Full(size)),
-        Err(AppendFault::Disk) => Err(MigrateFault::Disk),
+        Err(MoveFault::Full(size)) => Err(MigrateFault::Full(size)),
+        Err(MoveFault::Disk) => Err(MigrateFault::Disk),
+        Err(MoveFault::Memory) => Err(MigrateFault::Memory),
     }
 }
 
-/// Writes the record after a gate of the old records by the second version, and takes it into the
+/// Adds the record after a gate of the old records by the second version, and takes it into the
 /// book. It gives the place of the next gate.
 fn move_record<D: Disk>(
     alloc: Global,
@@ -301,20 +285,22 @@ fn move_record<D: Disk>(
     requires before { at < moving.old.gate }
     requires so_far { IsTrue (D.tells moving.old.disk) → (R done : List Record)
         × IsMovedUpTo book.old.bank book.old.plan R done (D.content moving.old.disk)
-        (D.accounts moving.old.disk) moving.old.gate moving.old.end book.old.entries at }
+        moving.old.waiting (D.accounts moving.old.disk) moving.old.gate moving.old.end
+        book.old.entries at }
     ensures bank { book.new.bank ≡ book.old.bank }
     ensures plan { book.new.plan ≡ book.old.plan }
     ensures moved { IfOk result (λ next. IsTrue (D.tells moving.old.disk)
         → (R done : List Record) → IsMovedUpTo book.old.bank book.old.plan R done
-        (D.content moving.old.disk) (D.accounts moving.old.disk) moving.old.gate moving.old.end
-        book.old.entries at
+        (D.content moving.old.disk) moving.old.waiting (D.accounts moving.old.disk)
+        moving.old.gate moving.old.end book.old.entries at
         → (r : Record) × IsMovedUpTo book.old.bank book.old.plan R (done ++ r ∷ [])
-        (D.content moving.new.disk) (D.accounts moving.new.disk) moving.new.gate moving.new.end
-        book.new.entries next) }
+        (D.content moving.new.disk) moving.new.waiting (D.accounts moving.new.disk)
+        moving.new.gate moving.new.end book.new.entries next) }
     ensures next { IfOk result (λ next. (at < next) × (next ≤ moving.old.gate)) }
     ensures moments { IsTrue (D.tells moving.old.disk) → (R done : List Record)
         → IsMovedUpTo book.old.bank book.old.plan R done (D.content moving.old.disk)
-        (D.accounts moving.old.disk) moving.old.gate moving.old.end book.old.entries at
+        moving.old.waiting (D.accounts moving.old.disk) moving.old.gate moving.old.end
+        book.old.entries at
         → AtEachMoment (D.accounts moving.old.disk) (D.accounts moving.new.disk)
         (IsImageOrUnmoved (latest (D.accounts moving.old.disk))
         (map (payload_in book.old.bank book.old.plan 1) R)) }
@@ -323,8 +309,8 @@ fn move_record<D: Disk>(
         → D.content moving.new.disk ≡ D.content moving.old.disk) }
     ensures why { IfErr result (λ e. IsTrue (D.tells moving.old.disk)
         → (R done : List Record) → IsMovedUpTo book.old.bank book.old.plan R done
-        (D.content moving.old.disk) (D.accounts moving.old.disk) moving.old.gate moving.old.end
-        book.old.entries at
+        (D.content moving.old.disk) moving.old.waiting (D.accounts moving.old.disk)
+        moving.old.gate moving.old.end book.old.entries at
         → length (moved_file book.old.bank book.old.plan R) ≤ moving.old.limit
         → (e ≡ NoDisk) ⊎ (e ≡ NoMemory)) }
     ensures cause { IfErr result (λ e. e ≡ NoDisk
@@ -344,14 +330,14 @@ fn move_record<D: Disk>(
         Ok(second) => second,
         Err(fault) => return Err(migrate_fault(fault)),
     };
-    match add_record(alloc, moving, &second) {
+    match add_record(moving, &second) {
         Ok(()) => Ok(at + 5 + payload.len() as u64),
         Err(fault) => Err(fault),
     }
 }
 
-/// Writes each of the old records, up to the closed gate at this place, by the second version, with
-/// one in memory. The book is empty.
+/// Adds each of the old records, up to the closed gate at this place, by the second version, with
+/// one in memory beside those that wait to be written. The book is empty.
 fn move_records<D: Disk>(
     alloc: Global,
     gate: u64,
@@ -362,27 +348,33 @@ fn move_records<D: Disk>(
     requires few { gate ≤ 536870912 }
     requires start { IsTrue (D.tells moving.old.disk) → (R : List Record)
         × IsMovedUpTo book.old.bank book.old.plan R [] (D.content moving.old.disk)
-        (D.accounts moving.old.disk) moving.old.gate moving.old.end book.old.entries 8 }
+        moving.old.waiting (D.accounts moving.old.disk) moving.old.gate moving.old.end
+        book.old.entries 8 }
     ensures moved { OnOk result (IsTrue (D.tells moving.old.disk) → (R : List Record)
         → IsMovedUpTo book.old.bank book.old.plan R [] (D.content moving.old.disk)
-        (D.accounts moving.old.disk) moving.old.gate moving.old.end book.old.entries 8
+        moving.old.waiting (D.accounts moving.old.disk) moving.old.gate moving.old.end
+        book.old.entries 8
         → (at : ℕ) × IsMovedUpTo book.old.bank book.old.plan R R (D.content moving.new.disk)
-        (D.accounts moving.new.disk) moving.new.gate moving.new.end book.new.entries at) }
+        moving.new.waiting (D.accounts moving.new.disk) moving.new.gate moving.new.end
+        book.new.entries at) }
     ensures moments { IsTrue (D.tells moving.old.disk) → (R : List Record)
         → IsMovedUpTo book.old.bank book.old.plan R [] (D.content moving.old.disk)
-        (D.accounts moving.old.disk) moving.old.gate moving.old.end book.old.entries 8
+        moving.old.waiting (D.accounts moving.old.disk) moving.old.gate moving.old.end
+        book.old.entries 8
         → AtEachMoment (D.accounts moving.old.disk) (D.accounts moving.new.disk)
         (IsImageOrUnmoved (latest (D.accounts moving.old.disk))
         (map (payload_in book.old.bank book.old.plan 1) R)) }
     ensures kept { IfErr result (λ e. e ≢ NoDisk → IsTrue (D.tells moving.old.disk)
         → (R : List Record)
         → IsMovedUpTo book.old.bank book.old.plan R [] (D.content moving.old.disk)
-        (D.accounts moving.old.disk) moving.old.gate moving.old.end book.old.entries 8
+        moving.old.waiting (D.accounts moving.old.disk) moving.old.gate moving.old.end
+        book.old.entries 8
         → IsUnmoved (map (payload_in book.old.bank book.old.plan 1) R)
         (D.content moving.new.disk)) }
     ensures why { IfErr result (λ e. IsTrue (D.tells moving.old.disk) → (R : List Record)
         → IsMovedUpTo book.old.bank book.old.plan R [] (D.content moving.old.disk)
-        (D.accounts moving.old.disk) moving.old.gate moving.old.end book.old.entries 8
+        moving.old.waiting (D.accounts moving.old.disk) moving.old.gate moving.old.end
+        book.old.entries 8
         → length (moved_file book.old.bank book.old.plan R) ≤ moving.old.limit
         → (e ≡ NoDisk) ⊎ (e ≡ NoMemory)) }
     ensures cause { IfErr result (λ e. e ≡ NoDisk
@@ -458,7 +450,7 @@ fn move_judged<D: Disk>(
         Err(_) => return Err((walk.stop(), MigrateFault::Memory)),
     };
     let length = walk.length();
-    let mut moving = match walk.start_move() {
+    let mut moving = match walk.start_move(alloc) {
         Ok(moving) => moving,
         Err((disk, fault)) => return Err((disk, migrate_fault(journal_fault(fault)))),
     };
@@ -606,8 +598,9 @@ fn leave<D: Disk>(
 /// included; cuts what follows the first closed gate, after that was put aside; and writes after
 /// that gate a mark and each record by the second version. These count once all of them are on the
 /// disk and the gate is opened, which is one byte. A journal with records of the second version,
-/// or a file of at most nine bytes, is judged and left as it is. One record is in memory at a
-/// time, beside a book. The disk is as a reboot or a journal left it, and comes back.
+/// or a file of at most nine bytes, is judged and left as it is. One old record is in memory at a
+/// time, and fewer than 65,536 bytes of new ones that wait to be written, beside a book. The disk
+/// is as a reboot or a journal left it, and comes back.
 pub fn migrate<D: Disk>(
     alloc: Global,
     bank: &Bank,

@@ -41,7 +41,7 @@ fn half_moved<R: Abort>(rt: &R, alloc: Global, bank: &Bank, spec: &Spec) -> Loss
 {
     let file = joined(rt, alloc, OLD_SERVED);
     let device = joined(rt, alloc, OLD_SERVED);
-    let fails = [30u64].to_vec(alloc).expect(rt, "numbers");
+    let fails = [27u64].to_vec(alloc).expect(rt, "numbers");
     match migrate(alloc, bank, spec, LossyDisk::of(alloc, file, device, fails)) {
         Ok(_) => panic!(rt; "moved"),
         Err((disk, fault)) => {

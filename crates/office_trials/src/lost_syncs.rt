@@ -197,8 +197,8 @@ fn what_is_acknowledged_after_a_lost_sync_is_on_the_device(rt: HostRuntime) {
     }
 }
 
-/// A journal of the first version is refused by seven calls, moved by 31 and opened by 24. The last sync
-/// of moving is call 37: where it fails, the office is opened at once, since the file reads moved. The
+/// A journal of the first version is refused by seven calls, moved by 28 and opened by 24. The last sync
+/// of moving is call 34: where it fails, the office is opened at once, since the file reads moved. The
 /// first call that fails is one of moving or of opening then.
 #[test]
 fn what_is_acknowledged_after_a_migration_is_on_the_device(rt: HostRuntime) {
@@ -209,7 +209,7 @@ fn what_is_acknowledged_after_a_migration_is_on_the_device(rt: HostRuntime) {
         fails: &[],
         dies: false,
     };
-    for first in 7..62u64 {
+    for first in 7..59u64 {
         loses_nothing_from(&rt, rt.alloc(), &losing, first);
     }
 }

@@ -12,7 +12,8 @@ calls on the journal's file it asks that
   - each record is written, synced, opened by its gate and synced again, and nothing else is done in between
   - no line is printed while something is not synced
   - opening writes the last open gate and the closed one again as they read, syncs, cuts, and syncs
-  - a migration opens the journal so; then it writes at the end alone, syncs, opens the closed gate, and syncs
+  - a migration opens the journal so; then it writes the mark, the records at once, and the last gate, each at the end, syncs, opens
+    the closed gate, and syncs
   - a migration of a moved journal writes the gate before the mark again as it reads, and syncs; it changes nothing
   - opening a moved journal writes that gate again, too
   - the writes together are what the file holds in the end: none was missed
@@ -161,9 +162,10 @@ def tests_of_opening(opened, gates, name="opening renews the gates, syncs, cuts 
 
 
 def tests_of_moving(moved, gates, records):
-    """Each demand on the migration of a journal of so many records."""
-    is_whole = re.fullmatch("S?R+SCSW{%d,}SGS" % records, moved.letters) and moved.renewed == gates
-    return [("a migration opens, writes at the end, syncs, opens the gate and syncs",
+    """Each demand on the migration of a journal of so many records, which have few bytes."""
+    writes = 3 if records else 2
+    is_whole = re.fullmatch("S?R+SCSW{%d}SGS" % writes, moved.letters) and moved.renewed == gates
+    return [("a migration opens, writes the records at once at the end, syncs, opens the gate and syncs",
              [] if is_whole and not moved.faults else [f"{moved.letters}, renewed {moved.renewed}, not {gates}", *moved.faults])]
 
 

@@ -35,7 +35,7 @@ returns-in-Err-move_records-clause-moments_err g c = λ told H s.
     let a0 = g.D.Disk.accounts c.args.walk.disk in
     let a1 = g.D.Disk.accounts moving.disk in
     let old = (c.requires.old told).0 in
-    let start = started_move b plan file old b1 plan1 c.in-Ok.ensures.bank c.in-Ok.ensures.plan (g.D.Disk.content moving.disk) a1 moving.gate moving.end c.in-Ok.book.entries c.in-Ok.ensures.entries (c.in-Ok-start_move.ensures.moving told) in
+    let start = started_move b plan file old b1 plan1 c.in-Ok.ensures.bank c.in-Ok.ensures.plan (g.D.Disk.content moving.disk) moving.waiting a1 moving.gate moving.end c.in-Ok.book.entries c.in-Ok.ensures.entries (c.in-Ok-start_move.ensures.moving told) in
     subst (λ (d : g.row.D.Denot). AtEachMoment a0 (g.D.Disk.accounts d) (IsImageOrStands b plan H (latest a0))) (sym c.stop-in-Err-move_records.ensures.disk)
     (moments_before b plan file old H s a0 (g.D.Disk.accounts c.move_records.new.moving.disk)
     (moments_on b plan file old b1 plan1 c.in-Ok.ensures.bank c.in-Ok.ensures.plan a0 a1 (g.D.Disk.accounts c.move_records.new.moving.disk) (c.in-Ok-start_move.ensures.moments told)
@@ -50,7 +50,7 @@ returns-in-Err-move_records-clause-why g c = λ told.
     let file = g.D.Disk.content c.args.walk.disk in
     let moving = c.in-Ok-start_move.moving in
     let old = (c.requires.old told).0 in
-    let start = started_move b plan file old b1 plan1 c.in-Ok.ensures.bank c.in-Ok.ensures.plan (g.D.Disk.content moving.disk) (g.D.Disk.accounts moving.disk) moving.gate moving.end c.in-Ok.book.entries c.in-Ok.ensures.entries (c.in-Ok-start_move.ensures.moving told) in
+    let start = started_move b plan file old b1 plan1 c.in-Ok.ensures.bank c.in-Ok.ensures.plan (g.D.Disk.content moving.disk) moving.waiting (g.D.Disk.accounts moving.disk) moving.gate moving.end c.in-Ok.book.entries c.in-Ok.ensures.entries (c.in-Ok-start_move.ensures.moving told) in
     c.in-Err-move_records.ensures.why (c.in-Ok-start_move.ensures.frame.tells ∙ told) old.records start
     (short_by b b1 plan plan1 c.in-Ok.ensures.bank c.in-Ok.ensures.plan old.records c.args.walk.limit moving.limit c.in-Ok-start_move.ensures.limit (c.requires.old told).1)
 
@@ -63,7 +63,7 @@ returns-in-Err-move_records-clause-kept g c = λ other told.
     let file = g.D.Disk.content c.args.walk.disk in
     let moving = c.in-Ok-start_move.moving in
     let old = (c.requires.old told).0 in
-    let start = started_move b plan file old b1 plan1 c.in-Ok.ensures.bank c.in-Ok.ensures.plan (g.D.Disk.content moving.disk) (g.D.Disk.accounts moving.disk) moving.gate moving.end c.in-Ok.book.entries c.in-Ok.ensures.entries (c.in-Ok-start_move.ensures.moving told) in
+    let start = started_move b plan file old b1 plan1 c.in-Ok.ensures.bank c.in-Ok.ensures.plan (g.D.Disk.content moving.disk) moving.waiting (g.D.Disk.accounts moving.disk) moving.gate moving.end c.in-Ok.book.entries c.in-Ok.ensures.entries (c.in-Ok-start_move.ensures.moving told) in
     subst (λ (d : g.row.D.Denot). IsUnmoved (counted_in file).payloads (g.D.Disk.content d)) (sym c.stop-in-Err-move_records.ensures.disk)
     (subst (λ (ps : List (List ℕ)). IsUnmoved ps (g.D.Disk.content c.move_records.new.moving.disk)) (listed_by b plan file old b1 plan1 c.in-Ok.ensures.bank c.in-Ok.ensures.plan)
     (c.in-Err-move_records.ensures.kept other (c.in-Ok-start_move.ensures.frame.tells ∙ told) old.records start))
@@ -79,7 +79,7 @@ switch-requires g c = λ here.
     let moving = c.in-Ok-start_move.moving in
     let told = sym (c.move_records.ensures.frame.tells ∙ c.in-Ok-start_move.ensures.frame.tells) ∙ here in
     let old = (c.requires.old told).0 in
-    let start = started_move b plan file old b1 plan1 c.in-Ok.ensures.bank c.in-Ok.ensures.plan (g.D.Disk.content moving.disk) (g.D.Disk.accounts moving.disk) moving.gate moving.end c.in-Ok.book.entries c.in-Ok.ensures.entries (c.in-Ok-start_move.ensures.moving told) in
+    let start = started_move b plan file old b1 plan1 c.in-Ok.ensures.bank c.in-Ok.ensures.plan (g.D.Disk.content moving.disk) moving.waiting (g.D.Disk.accounts moving.disk) moving.gate moving.end c.in-Ok.book.entries c.in-Ok.ensures.entries (c.in-Ok-start_move.ensures.moving told) in
     let all = c.in-Ok-move_records.ensures.moved (c.in-Ok-start_move.ensures.frame.tells ∙ told) old.records start in
     (map (payload_in b1 plan1 1) old.records, map payload_of old.records, all.1.moving)
 
@@ -95,9 +95,9 @@ returns-in-Ok-switch-clause-moved g c = λ told.
     let told1 = c.in-Ok-start_move.ensures.frame.tells ∙ told in
     let told2 = c.move_records.ensures.frame.tells ∙ told1 in
     let old = (c.requires.old told).0 in
-    let start = started_move b plan file old b1 plan1 c.in-Ok.ensures.bank c.in-Ok.ensures.plan (g.D.Disk.content moving.disk) (g.D.Disk.accounts moving.disk) moving.gate moving.end c.in-Ok.book.entries c.in-Ok.ensures.entries (c.in-Ok-start_move.ensures.moving told) in
+    let start = started_move b plan file old b1 plan1 c.in-Ok.ensures.bank c.in-Ok.ensures.plan (g.D.Disk.content moving.disk) moving.waiting (g.D.Disk.accounts moving.disk) moving.gate moving.end c.in-Ok.book.entries c.in-Ok.ensures.entries (c.in-Ok-start_move.ensures.moving told) in
     let some = c.in-Ok-move_records.ensures.moved told1 old.records start in
-    let all = moved_by b1 b plan1 plan (sym c.in-Ok.ensures.bank) (sym c.in-Ok.ensures.plan) old.records old.records (g.D.Disk.content new.disk) (g.D.Disk.accounts new.disk) new.gate new.end c.move_records.new.book.entries some.0 some.1 in
+    let all = moved_by b1 b plan1 plan (sym c.in-Ok.ensures.bank) (sym c.in-Ok.ensures.plan) old.records old.records (g.D.Disk.content new.disk) new.waiting (g.D.Disk.accounts new.disk) new.gate new.end c.move_records.new.book.entries some.0 some.1 in
     record {
       old = old;
       is = c.in-Ok-switch.ensures.content told2 (map (payload_in b plan 1) old.records) (map payload_of old.records) all.moving;
@@ -116,7 +116,7 @@ returns-in-Ok-switch-clause-stands g c = λ told H s.
     let told1 = c.in-Ok-start_move.ensures.frame.tells ∙ told in
     let told2 = c.move_records.ensures.frame.tells ∙ told1 in
     let old = (c.requires.old told).0 in
-    let start = started_move b plan file old b1 plan1 c.in-Ok.ensures.bank c.in-Ok.ensures.plan (g.D.Disk.content moving.disk) (g.D.Disk.accounts moving.disk) moving.gate moving.end c.in-Ok.book.entries c.in-Ok.ensures.entries (c.in-Ok-start_move.ensures.moving told) in
+    let start = started_move b plan file old b1 plan1 c.in-Ok.ensures.bank c.in-Ok.ensures.plan (g.D.Disk.content moving.disk) moving.waiting (g.D.Disk.accounts moving.disk) moving.gate moving.end c.in-Ok.book.entries c.in-Ok.ensures.entries (c.in-Ok-start_move.ensures.moving told) in
     let all = c.in-Ok-move_records.ensures.moved told1 old.records start in
     moved_stands b plan H old.records (old_records b plan file old H s) (g.D.Disk.content c.in-Ok-switch.disk)
     (c.in-Ok-switch.ensures.moved told2 (map (payload_in b1 plan1 1) old.records) (map payload_of old.records) all.1.moving)
@@ -133,9 +133,9 @@ returns-in-Ok-switch-clause-limit g c = λ told.
     let told1 = c.in-Ok-start_move.ensures.frame.tells ∙ told in
     let told2 = c.move_records.ensures.frame.tells ∙ told1 in
     let old = (c.requires.old told).0 in
-    let start = started_move b plan file old b1 plan1 c.in-Ok.ensures.bank c.in-Ok.ensures.plan (g.D.Disk.content moving.disk) (g.D.Disk.accounts moving.disk) moving.gate moving.end c.in-Ok.book.entries c.in-Ok.ensures.entries (c.in-Ok-start_move.ensures.moving told) in
+    let start = started_move b plan file old b1 plan1 c.in-Ok.ensures.bank c.in-Ok.ensures.plan (g.D.Disk.content moving.disk) moving.waiting (g.D.Disk.accounts moving.disk) moving.gate moving.end c.in-Ok.book.entries c.in-Ok.ensures.entries (c.in-Ok-start_move.ensures.moving told) in
     let some = c.in-Ok-move_records.ensures.moved told1 old.records start in
-    let all = moved_by b1 b plan1 plan (sym c.in-Ok.ensures.bank) (sym c.in-Ok.ensures.plan) old.records old.records (g.D.Disk.content new.disk) (g.D.Disk.accounts new.disk) new.gate new.end c.move_records.new.book.entries some.0 some.1 in
+    let all = moved_by b1 b plan1 plan (sym c.in-Ok.ensures.bank) (sym c.in-Ok.ensures.plan) old.records old.records (g.D.Disk.content new.disk) new.waiting (g.D.Disk.accounts new.disk) new.gate new.end c.move_records.new.book.entries some.0 some.1 in
     subst (λ (f : List ℕ). length f ≤ c.args.walk.limit) (sym (c.in-Ok-switch.ensures.content told2 (map (payload_in b plan 1) old.records) (map payload_of old.records) all.moving)) (c.requires.old told).1
 
 pub returns-in-Ok-switch-clause-moments : goal.returns-in-Ok-switch-clause-moments
@@ -153,9 +153,9 @@ returns-in-Ok-switch-clause-moments g c = λ told H s.
     let told1 = c.in-Ok-start_move.ensures.frame.tells ∙ told in
     let told2 = c.move_records.ensures.frame.tells ∙ told1 in
     let old = (c.requires.old told).0 in
-    let start = started_move b plan file old b1 plan1 c.in-Ok.ensures.bank c.in-Ok.ensures.plan (g.D.Disk.content moving.disk) a1 moving.gate moving.end c.in-Ok.book.entries c.in-Ok.ensures.entries (c.in-Ok-start_move.ensures.moving told) in
+    let start = started_move b plan file old b1 plan1 c.in-Ok.ensures.bank c.in-Ok.ensures.plan (g.D.Disk.content moving.disk) moving.waiting a1 moving.gate moving.end c.in-Ok.book.entries c.in-Ok.ensures.entries (c.in-Ok-start_move.ensures.moving told) in
     let some = c.in-Ok-move_records.ensures.moved told1 old.records start in
-    let all = moved_by b1 b plan1 plan (sym c.in-Ok.ensures.bank) (sym c.in-Ok.ensures.plan) old.records old.records (g.D.Disk.content new.disk) a2 new.gate new.end c.move_records.new.book.entries some.0 some.1 in
+    let all = moved_by b1 b plan1 plan (sym c.in-Ok.ensures.bank) (sym c.in-Ok.ensures.plan) old.records old.records (g.D.Disk.content new.disk) new.waiting a2 new.gate new.end c.move_records.new.book.entries some.0 some.1 in
     moments_switched b plan file old H s a0 a2 (g.D.Disk.accounts c.in-Ok-switch.disk)
     (moments_on b plan file old b1 plan1 c.in-Ok.ensures.bank c.in-Ok.ensures.plan a0 a1 a2 (c.in-Ok-start_move.ensures.moments told) (c.move_records.ensures.moments told1 old.records start))
     (c.in-Ok-switch.ensures.moments told2 (map (payload_in b plan 1) old.records) (map payload_of old.records) all.moving)
@@ -176,9 +176,9 @@ returns-clause-moments_err g c = λ told H s.
     let told1 = c.in-Ok-start_move.ensures.frame.tells ∙ told in
     let told2 = c.move_records.ensures.frame.tells ∙ told1 in
     let old = (c.requires.old told).0 in
-    let start = started_move b plan file old b1 plan1 c.in-Ok.ensures.bank c.in-Ok.ensures.plan (g.D.Disk.content moving.disk) a1 moving.gate moving.end c.in-Ok.book.entries c.in-Ok.ensures.entries (c.in-Ok-start_move.ensures.moving told) in
+    let start = started_move b plan file old b1 plan1 c.in-Ok.ensures.bank c.in-Ok.ensures.plan (g.D.Disk.content moving.disk) moving.waiting a1 moving.gate moving.end c.in-Ok.book.entries c.in-Ok.ensures.entries (c.in-Ok-start_move.ensures.moving told) in
     let some = c.in-Ok-move_records.ensures.moved told1 old.records start in
-    let all = moved_by b1 b plan1 plan (sym c.in-Ok.ensures.bank) (sym c.in-Ok.ensures.plan) old.records old.records (g.D.Disk.content new.disk) a2 new.gate new.end c.move_records.new.book.entries some.0 some.1 in
+    let all = moved_by b1 b plan1 plan (sym c.in-Ok.ensures.bank) (sym c.in-Ok.ensures.plan) old.records old.records (g.D.Disk.content new.disk) new.waiting a2 new.gate new.end c.move_records.new.book.entries some.0 some.1 in
     moments_switched b plan file old H s a0 a2 (g.D.Disk.accounts c.in-Err-switch.disk)
     (moments_on b plan file old b1 plan1 c.in-Ok.ensures.bank c.in-Ok.ensures.plan a0 a1 a2 (c.in-Ok-start_move.ensures.moments told) (c.move_records.ensures.moments told1 old.records start))
     (c.in-Err-switch.ensures.moments_err told2 (map (payload_in b plan 1) old.records) (map payload_of old.records) all.moving)

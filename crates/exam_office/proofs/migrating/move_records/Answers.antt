@@ -32,7 +32,7 @@ move_record-requires-clause-so_far g c = λ here.
     let so = i.moved told start.0 start.1 in (
       start.0,
       so.0,
-      moved_by c.args.book.now.bank c.records.book.bank c.args.book.now.plan c.records.book.plan i.bank i.plan_is start.0 so.0 (g.D.Disk.content now.disk) (g.D.Disk.accounts now.disk) now.gate now.end c.records.book.entries c.records.at so.1,
+      moved_by c.args.book.now.bank c.records.book.bank c.args.book.now.plan c.records.book.plan i.bank i.plan_is start.0 so.0 (g.D.Disk.content now.disk) now.waiting (g.D.Disk.accounts now.disk) now.gate now.end c.records.book.entries c.records.at so.1,
     )
 
 pub records-preserved : goal.records-preserved
@@ -52,16 +52,16 @@ records-preserved g c =
       moved = λ told R start.
           let so = i.moved told R start in
           let next = c.in-Ok.ensures.moved (i.frame.tells ∙ told) R so.0
-          (moved_by b b1 plan plan1 i.bank i.plan_is R so.0 (g.D.Disk.content now.disk) (g.D.Disk.accounts now.disk) now.gate now.end c.records.book.entries c.records.at so.1) in (
+          (moved_by b b1 plan plan1 i.bank i.plan_is R so.0 (g.D.Disk.content now.disk) now.waiting (g.D.Disk.accounts now.disk) now.gate now.end c.records.book.entries c.records.at so.1) in (
             so.0 ++ next.0 ∷ [],
-            moved_by b1 b plan1 plan (sym i.bank) (sym i.plan_is) R (so.0 ++ next.0 ∷ []) (g.D.Disk.content new.disk) (g.D.Disk.accounts new.disk) new.gate new.end c.move_record.new.book.entries c.in-Ok.next next.1,
+            moved_by b1 b plan1 plan (sym i.bank) (sym i.plan_is) R (so.0 ++ next.0 ∷ []) (g.D.Disk.content new.disk) new.waiting (g.D.Disk.accounts new.disk) new.gate new.end c.move_record.new.book.entries c.in-Ok.next next.1,
           );
       moments = λ told R start.
           let so = i.moved told R start in
           moving_on (map (payload_in b plan 1) R) (g.D.Disk.accounts c.args.moving.now.disk) (g.D.Disk.accounts now.disk) (g.D.Disk.accounts new.disk) (i.moments told R start)
           (subst (λ (ps : List (List ℕ)). AtEachMoment (g.D.Disk.accounts now.disk) (g.D.Disk.accounts new.disk) (IsImageOrUnmoved (latest (g.D.Disk.accounts now.disk)) ps)) (old_by b b1 plan plan1 i.bank i.plan_is R)
           (c.move_record.ensures.moments (i.frame.tells ∙ told) R so.0
-          (moved_by b b1 plan plan1 i.bank i.plan_is R so.0 (g.D.Disk.content now.disk) (g.D.Disk.accounts now.disk) now.gate now.end c.records.book.entries c.records.at so.1)));
+          (moved_by b b1 plan plan1 i.bank i.plan_is R so.0 (g.D.Disk.content now.disk) now.waiting (g.D.Disk.accounts now.disk) now.gate now.end c.records.book.entries c.records.at so.1)));
       aside = λ told. c.move_record.ensures.aside (i.frame.tells ∙ told) ∙ i.aside told;
       frame = record {
         grows = omega (arith, i.frame.grows, c.move_record.ensures.frame.grows);
@@ -84,7 +84,7 @@ returns-in-Err-clause-moments g c = λ told R start.
     moving_on (map (payload_in b plan 1) R) (g.D.Disk.accounts c.args.moving.now.disk) (g.D.Disk.accounts now.disk) (g.D.Disk.accounts new.disk) (i.moments told R start)
     (subst (λ (ps : List (List ℕ)). AtEachMoment (g.D.Disk.accounts now.disk) (g.D.Disk.accounts new.disk) (IsImageOrUnmoved (latest (g.D.Disk.accounts now.disk)) ps)) (old_by b b1 plan plan1 i.bank i.plan_is R)
     (c.move_record.ensures.moments (i.frame.tells ∙ told) R so.0
-    (moved_by b b1 plan plan1 i.bank i.plan_is R so.0 (g.D.Disk.content now.disk) (g.D.Disk.accounts now.disk) now.gate now.end c.records.book.entries c.records.at so.1)))
+    (moved_by b b1 plan plan1 i.bank i.plan_is R so.0 (g.D.Disk.content now.disk) now.waiting (g.D.Disk.accounts now.disk) now.gate now.end c.records.book.entries c.records.at so.1)))
 
 pub returns-in-Err-clause-kept : goal.returns-in-Err-clause-kept
 returns-in-Err-clause-kept g c = λ other told R start.
@@ -93,7 +93,7 @@ returns-in-Err-clause-kept g c = λ other told R start.
     let now = c.records.moving in
     let so = i.moved told R start in
     subst (IsUnmoved ps) (sym (c.in-Err.ensures.kept other (i.frame.tells ∙ told)))
-    (moving_unmoved ps (map payload_of so.0) (g.D.Disk.content now.disk) (g.D.Disk.accounts now.disk) now.gate now.end so.1.moving)
+    (moving_unmoved ps (map payload_of so.0) (g.D.Disk.content now.disk) now.waiting (g.D.Disk.accounts now.disk) now.gate now.end so.1.moving)
 
 pub returns-in-Err-clause-why : goal.returns-in-Err-clause-why
 returns-in-Err-clause-why g c = λ told R start short.
@@ -105,7 +105,7 @@ returns-in-Err-clause-why g c = λ told R start short.
     let now = c.records.moving in
     let so = i.moved told R start in
     c.in-Err.ensures.why (i.frame.tells ∙ told) R so.0
-    (moved_by b b1 plan plan1 i.bank i.plan_is R so.0 (g.D.Disk.content now.disk) (g.D.Disk.accounts now.disk) now.gate now.end c.records.book.entries c.records.at so.1)
+    (moved_by b b1 plan plan1 i.bank i.plan_is R so.0 (g.D.Disk.content now.disk) now.waiting (g.D.Disk.accounts now.disk) now.gate now.end c.records.book.entries c.records.at so.1)
     (short_by b b1 plan plan1 i.bank i.plan_is R c.args.moving.now.limit now.limit i.limit short)
 
 -- all are moved
@@ -118,5 +118,5 @@ returns-clause-moved g c = λ told R start.
     let so = i.moved told R start in
     let content = g.D.Disk.content now.disk in
     let accounts = g.D.Disk.accounts now.disk in
-    let all = all_moved b plan R so.0 content accounts now.gate now.end c.records.book.entries c.records.at so.1 (omega (arith, c.records-test.false, i.gate_is, c.requires.gate)) in
-    (c.records.at, subst (λ (done : List Record). IsMovedUpTo b plan R done content accounts now.gate now.end c.records.book.entries c.records.at) (sym all) so.1)
+    let all = all_moved b plan R so.0 content now.waiting accounts now.gate now.end c.records.book.entries c.records.at so.1 (omega (arith, c.records-test.false, i.gate_is, c.requires.gate)) in
+    (c.records.at, subst (λ (done : List Record). IsMovedUpTo b plan R done content now.waiting accounts now.gate now.end c.records.book.entries c.records.at) (sym all) so.1)

@@ -18,10 +18,10 @@ invariant-records g l =
       gate_is : l.moving.gate ≡ old.gate;
       limit : l.moving.limit ≡ old.limit;
       moved : IsTrue (g.D.Disk.tells old.disk) → (R : List Record)
-          → IsMovedUpTo b plan R [] (g.D.Disk.content old.disk) (g.D.Disk.accounts old.disk) old.gate old.end l.fn.book.entries 8
-          → (done : List Record) × IsMovedUpTo b plan R done (g.D.Disk.content l.moving.disk) (g.D.Disk.accounts l.moving.disk) l.moving.gate l.moving.end l.book.entries l.at;
+          → IsMovedUpTo b plan R [] (g.D.Disk.content old.disk) old.waiting (g.D.Disk.accounts old.disk) old.gate old.end l.fn.book.entries 8
+          → (done : List Record) × IsMovedUpTo b plan R done (g.D.Disk.content l.moving.disk) l.moving.waiting (g.D.Disk.accounts l.moving.disk) l.moving.gate l.moving.end l.book.entries l.at;
       moments : IsTrue (g.D.Disk.tells old.disk) → (R : List Record)
-          → IsMovedUpTo b plan R [] (g.D.Disk.content old.disk) (g.D.Disk.accounts old.disk) old.gate old.end l.fn.book.entries 8
+          → IsMovedUpTo b plan R [] (g.D.Disk.content old.disk) old.waiting (g.D.Disk.accounts old.disk) old.gate old.end l.fn.book.entries 8
           → AtEachMoment (g.D.Disk.accounts old.disk) (g.D.Disk.accounts l.moving.disk) (IsImageOrUnmoved (latest (g.D.Disk.accounts old.disk)) (map (payload_in b plan 1) R));
       aside : IsTrue (g.D.Disk.tells old.disk) → g.D.Disk.aside l.moving.disk ≡ g.D.Disk.aside old.disk;
       frame : IsLent g.D.Disk.tells g.D.Disk.identity g.D.Disk.faults old.disk l.moving.disk;

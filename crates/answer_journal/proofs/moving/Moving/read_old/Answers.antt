@@ -7,4 +7,4 @@ pub returns-clause-payload : goal.returns-clause-payload
 returns-clause-payload g c =
     rw (← c.self.view_is)
     (weaker_ok _ _ c.read_before.result c.read_before.ensures.payload
-    (λ found gives told ps qs k m lt place. gives told (get_or ps k []) (old_record ps qs _ _ _ _ m k c.args.at lt place) (old_fits ps qs _ _ _ _ m k c.args.at lt place)))
+    (λ found gives told ps qs k m lt place. gives told (get_or ps k []) (old_record ps m.here _ _ _ _ m.moving k c.args.at lt place) (old_fits ps m.here _ _ _ _ m.moving k c.args.at lt place)))

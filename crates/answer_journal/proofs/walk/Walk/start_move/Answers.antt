@@ -1,8 +1,9 @@
 use Rattle.std.proofs.Common.{◌+◌, [], List, ℕ, sym, ◌∙◌, subst}
 use Rattle.exam_edge.specs.Images.{AtEachMoment}
-use Rattle.answer_journal.specs.Moving.{IsMoving, IsUnmoved}
+use Rattle.answer_journal.specs.Moving.{IsMoving, IsMovingWith, IsUnmoved}
 use Rattle.answer_journal.specs.Versions.{counted_in}
 use Rattle.answer_journal.proofs.Finishing.{list_first, only_unmoved, rest_first, then_unmoved, unmoved_first, unmoved_itself, unmoved_moments}
+use Rattle.answer_journal.proofs.MovingMoments.{none_waits}
 use Rattle.answer_journal.proofs.SwitchMoments.{not_err}
 use Rattle.answer_journal.proofs.Walking.{not_yet, ends_at_last}
 use Rattle.answer_journal.proofs.walk.Walk.start_move.Goals as goal
@@ -74,8 +75,12 @@ returns-in-Ok-clause-moving g c =
     let rest = not_err _ done c.finish_file.ensures.rest told in
     let keeps = not_err _ done c.finish_file.ensures.keeps told in
     let list = list_first (g.D.Disk.tells w.disk) (g.D.Disk.content w.disk) (g.D.Disk.accounts w.disk) w.extent x told one (g.D.Disk.content new) (g.D.Disk.accounts new) (w.extent.end + 1) rest keeps in
-    subst (λ (ps : List (List ℕ)). IsMoving ps [] (g.D.Disk.content c.write_mark.new.disk) (g.D.Disk.accounts c.write_mark.new.disk) w.extent.end (w.extent.end + 6)) list
-    (c.in-Ok.ensures.moving (c.finish_file.ensures.frame.tells ∙ told)))
+    let marked = c.write_mark.new.disk in
+    let ps = (counted_in (g.D.Disk.content w.disk)).payloads in
+    let moving = subst (λ (l : List (List ℕ)). IsMoving l [] (g.D.Disk.content marked) (g.D.Disk.accounts marked) w.extent.end (w.extent.end + 6)) list
+    (c.in-Ok.ensures.moving (c.finish_file.ensures.frame.tells ∙ told)) in
+    subst (λ (l : List ℕ). IsMovingWith ps [] (g.D.Disk.content marked) l (g.D.Disk.accounts marked) w.extent.end (w.extent.end + 6)) (sym c.new.ensures.items)
+    (none_waits ps [] (g.D.Disk.content marked) (g.D.Disk.accounts marked) w.extent.end (w.extent.end + 6) moving))
 
 pub returns-in-Ok-clause-moments : goal.returns-in-Ok-clause-moments
 returns-in-Ok-clause-moments g c =
