@@ -7,7 +7,7 @@ ghost use Rattle.exam_edge.specs.Lent.{IsLent};
 ghost use Rattle.exam_edge.specs.Images.{AllImages, AtEachMoment, IsClean, IsImage, IsSettled, latest};
 ghost use Rattle.form_model.specs.Validity.{IsPlanFor};
 ghost use Rattle.history_model.specs.declared.entry.Entry.{Entry};
-ghost use Rattle.history_model.specs.Judging.{Record};
+ghost use Rattle.history_model.specs.Judging.{Record, MayFollow};
 ghost use Rattle.answer_journal.specs.Frames.{IsPayload};
 ghost use Rattle.answer_journal.specs.Moving.{IsImageOrUnmoved, IsMovingWith, IsUnmoved};
 ghost use Rattle.answer_journal.specs.Payload.{end_of};
@@ -15,6 +15,7 @@ ghost use Rattle.answer_journal.specs.Opening.{PutsTailAside, tail_gates};
 ghost use Rattle.answer_journal.specs.Standing.{IsAsLeft, IsBeingSwitched};
 ghost use Rattle.answer_journal.specs.Versions.{contents, counted_in};
 ghost use Rattle.answer_journal.specs.Walk.{first_gate, first_payloads};
+ghost use Rattle.exam_records.specs.Shape.{IsRecord};
 ghost use Rattle.exam_office.specs.declared.fault.OpenFault.TheVariants.{Disk as OfDisk, Memory as OfMemory};
 ghost use Rattle.exam_office.specs.declared.migrating.MigrateFault.TheVariants.{Disk as NoDisk, Memory as NoMemory};
 ghost use Rattle.exam_office.specs.Files.{payload_in, Stands};
@@ -27,7 +28,7 @@ use answer_journal::{Journal, MoveFault, Moving, OpenFault as JournalFault, Walk
 use bank_tables::Bank;
 use constraint_model::Spec;
 use exam_edge::Disk;
-use exam_records::{RecordFault, encode};
+use exam_records::{Record, RecordFault, encode, growth};
 use exam_session::Book;
 use std::alloc::Global;
 
@@ -64,6 +65,49 @@ fn migrate_fault(fault: OpenFault) -> MigrateFault
     }
 }
 
+/// Takes the record of a payload of the first version into the book, where it may follow.
+fn take_old(alloc: Global, at: u64, payload: &[u8], book: &mut Book) -> Result<Record, OpenFault>
+    ensures bank { book.new.bank ≡ book.old.bank }
+    ensures plan { book.new.plan ≡ book.old.plan }
+    ensures spells { IfOk result IsRecord }
+    ensures spelling { IfOk result
+        (λ rec. payload_in book.old.bank book.old.plan 1 rec ≡ payload.now) }
+    ensures may { IfOk result
+        (λ rec. MayFollow book.old.bank book.old.plan book.old.entries rec.entry rec.tree) }
+    ensures entries { IfOk result
+        (λ rec. book.new.entries ≡ book.old.entries ++ rec.entry ∷ []) }
+    ensures refused { IfErr result
+        (IsNotTaken book.old.bank book.old.plan 1 book.old.entries at payload.now) }
+{
+    let rec = match read_record(alloc, 1, payload, book) {
+        Ok(rec) => rec,
+        Err(RecordFault::Memory) => return Err(OpenFault::Memory),
+        Err(fault) => return Err(OpenFault::BadRecord(at, fault)),
+    };
+    match follow(alloc, at, &rec, book) {
+        Ok(()) => Ok(rec),
+        Err(fault) => Err(fault),
+    }
+}
+
+/// Takes the record of a payload of the first version into the book, where it may follow, and gives
+/// the length of its payload by the second version.
+fn take_length(alloc: Global, at: u64, payload: &[u8], book: &mut Book) -> Result<u64, OpenFault>
+    ensures bank { book.new.bank ≡ book.old.bank }
+    ensures plan { book.new.plan ≡ book.old.plan }
+    ensures taken { IfOk result (λ size. (second : List ℕ) × (length second ≡ size)
+        × IsTakenOver book.old.bank book.old.plan book.old.entries payload.now book.new.entries
+        second) }
+    ensures few { IfOk result (λ size. size ≤ length payload.now + 449) }
+    ensures refused { IfErr result
+        (IsNotTaken book.old.bank book.old.plan 1 book.old.entries at payload.now) }
+{
+    match take_old(alloc, at, payload, book) {
+        Ok(rec) => Ok(payload.len() as u64 + growth(&rec.entry)),
+        Err(fault) => Err(fault),
+    }
+}
+
 /// Takes the record of a payload of the first version into the book, where it may follow, and gives
 /// its payload by the second version.
 fn take_over(alloc: Global, at: u64, payload: &[u8], book: &mut Book) -> Result<Vec<u8>, OpenFault>
@@ -76,15 +120,10 @@ fn take_over(alloc: Global, at: u64, payload: &[u8], book: &mut Book) -> Result<
     ensures refused { IfErr result
         (IsNotTaken book.old.bank book.old.plan 1 book.old.entries at payload.now) }
 {
-    let rec = match read_record(alloc, 1, payload, book) {
+    let rec = match take_old(alloc, at, payload, book) {
         Ok(rec) => rec,
-        Err(RecordFault::Memory) => return Err(OpenFault::Memory),
-        Err(fault) => return Err(OpenFault::BadRecord(at, fault)),
-    };
-    match follow(alloc, at, &rec, book) {
-        Ok(()) => {}
         Err(fault) => return Err(fault),
-    }
+    };
     match encode(alloc, &rec) {
         Ok(second) => Ok(second),
         Err(_) => Err(OpenFault::Memory),
@@ -136,8 +175,8 @@ fn measure_records<D: Disk>(
     let mut total = 0;
     'records: loop {
         match walk.next(alloc, &mut payload) {
-            Ok(Some(at)) => match take_over(alloc, at, &payload, book) {
-                Ok(second) => total += 5 + second.len() as u64,
+            Ok(Some(at)) => match take_length(alloc, at, &payload, book) {
+                Ok(size) => total += 5 + size,
                 Err(fault) => return Err(fault),
             },
             Ok(None) => return Ok(total),
@@ -510,6 +549,8 @@ fn move_old<D: Disk>(
         ⊎ ((D.content e.0 ≡ D.content walk.disk) × (D.accounts e.0 ≡ D.accounts walk.disk))) }
     ensures kept { IfErr result (λ e. e.1 ≢ NoDisk → IsTrue (D.tells walk.disk)
         → IsUnmoved (counted_in (D.content walk.disk)).payloads (D.content e.0)) }
+    ensures aside_kept { IfErr result (λ e. IsOfContent e.1 → IsTrue (D.tells walk.disk)
+        → D.aside e.0 ≡ D.aside walk.disk) }
     ensures aside { IfOk result (λ done. IsTrue (D.tells walk.disk)
         → D.aside done.1 ≡ D.aside walk.disk ++ tail_gates (D.content walk.disk)) }
     ensures aside_err { IfErr result (λ e. IsTrue (D.tells walk.disk)
@@ -668,6 +709,9 @@ pub fn migrate<D: Disk>(
     ensures switched { IfOk result (λ done. IsTrue (D.tells disk)
         → IsBeingSwitched (D.accounts disk)
         → IsSettled (D.content done.1) (D.accounts done.1)) }
+    // A refusal for the content of the file puts nothing aside.
+    ensures aside_kept { IfErr result (λ e. IsOfContent e.1 → IsTrue (D.tells disk)
+        → D.aside e.0 ≡ D.aside disk) }
     // What is cut was put aside before, and nothing else was.
     ensures aside { IfOk result (λ done. IsTrue (D.tells disk) → D.aside done.1
         ≡ D.aside disk ++ moved_tail (D.content disk)) }

@@ -87,6 +87,9 @@ impl<'a, D: Disk> Office<'a, D> {
         ensures unwritten { IfErr result (λ e. e.1 ≢ OfDisk → IsTrue (D.tells disk)
             → AtEachMoment (D.accounts disk) (D.accounts e.0)
             (IsImage (latest (D.accounts disk)))) }
+        // No other refusal puts anything aside.
+        ensures aside_kept { IfErr result (λ e. e.1 ≢ OfDisk → IsTrue (D.tells disk)
+            → D.aside e.0 ≡ D.aside disk) }
         // What is cut was put aside before, and nothing else was.
         ensures tail_aside { IfOk result (λ office. IsTrue (D.tells disk)
             → aside_of office.journal ≡ D.aside disk ++ tail_gates (D.content disk)) }

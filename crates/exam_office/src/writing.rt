@@ -17,7 +17,7 @@ use crate::mark::{Mark, room_for_mark};
 use crate::office::Office;
 use answer_journal::{Adopted, AppendFault, Frame};
 use exam_edge::{Disk, Memory};
-use exam_records::encode_parts;
+use exam_records::push_record;
 use history_model::laws::may_is_legal;
 use history_model::{Entry, Refusal};
 use proof_tree::Tree;
@@ -30,13 +30,12 @@ impl<'a, D: Disk> Office<'a, D> {
             (option_copied tree) }
         ensures frame { IfOk result (λ frame. frame
             ≡ payload_of (record { entry = entry.now; tree = option_copied tree.entry })) }
-        ensures is_record { IsRecord
-            (record { entry = entry.now; tree = option_copied tree.entry }) }
+        ensures is_record { OnOk result
+            (IsRecord (record { entry = entry.now; tree = option_copied tree.entry })) }
     {
         let _ = self.book.entries();
-        let payload = encode_parts(alloc, entry, tree)?;
         let mut bytes = Frame::room(alloc)?;
-        bytes.extend_from_slice(&payload)?;
+        push_record(alloc, &mut bytes, entry, tree)?;
         let frame = Frame::of(bytes)?;
         Ok(frame)
     }

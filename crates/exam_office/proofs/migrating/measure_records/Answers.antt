@@ -41,24 +41,25 @@ records-preserved g c =
     let p = c.next.new.buffer.items in
     let at = c.in-Ok-Some.at in
     let is = c.in-Ok-Some.field-0-is in
-    let now = c.take_over.new.book.entries in
-    let second = c.in-Ok.second.items in
+    let now = c.take_length.new.book.entries in
+    let found = c.in-Ok.ensures.taken in
+    let second : List ℕ = found.0 in
     let first = c.args.walk.now.at in
     let one : IsTakenOver book.bank book.plan H p now second =
     subst (λ (q : List ℕ). IsTakenOver book.bank book.plan H q now second) c.deref.ensures.value
-    (subst (λ (q : Plan). IsTakenOver book.bank q H c.deref.result.now now second) i.plan (subst (λ (b : Tables). IsTakenOver b c.records.book.plan H c.deref.result.now now second) i.bank c.in-Ok.ensures.taken)) in
+    (subst (λ (q : Plan). IsTakenOver book.bank q H c.deref.result.now now second) i.plan (subst (λ (b : Tables). IsTakenOver b c.records.book.plan H c.deref.result.now now second) i.bank found.2)) in
     let place : new.at ≡ old.at + 5 + length p = c.in-Ok-Some.ensures.at at is ∙ ap (λ (k : ℕ). k + 5 + length p) (c.in-Ok-Some.ensures.place at is) in
     let fits = c.in-Ok-Some.ensures.fits at is in
     let longer : length now ≡ length H + 1 = one_entry book.bank book.plan H p now second one in
     record {
-      bank = c.take_over.ensures.bank ∙ i.bank;
-      plan = c.take_over.ensures.plan ∙ i.plan;
+      bank = c.take_length.ensures.bank ∙ i.bank;
+      plan = c.take_length.ensures.plan ∙ i.plan;
       measured =
-          subst (λ (n : ℕ). AreMeasured book.bank book.plan first t0 c0 new.given new.at now n) (omega (arith, c.len.ensures, c.in-Ok.second.ok))
+          subst (λ (n : ℕ). AreMeasured book.bank book.plan first t0 c0 new.given new.at now n) (omega (arith, found.1))
           (measured_more book.bank book.plan first t0 c0 H old.given old.at c.records.total i.measured p new.given new.at place
           (λ told. subst (λ (f : List ℕ). first_payloads new.given f ≡ first_payloads old.given f ++ p ∷ []) (i.content told) (c.in-Ok-Some.ensures.payload at is (i.frame.tells ∙ told)))
           now second one);
-      few = omega (arith, i.few, c.in-Ok.ensures.few, longer, c.len.ensures);
+      few = omega (arith, i.few, c.in-Ok.ensures.few, longer, place, ap length c.deref.ensures.value);
       places = omega (arith, i.places, place, fits.some, longer);
       limit = c.next.ensures.limit ∙ i.limit;
       size = c.next.ensures.size ∙ i.size;

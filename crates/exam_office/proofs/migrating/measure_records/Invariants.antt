@@ -1,4 +1,4 @@
-use Rattle.std.proofs.Common.{◌≡◌, ◌-◌, ◌*◌, ◌≤◌, length, IsTrue}
+use Rattle.std.proofs.Common.{◌≡◌, ◌+◌, ◌-◌, ◌*◌, ◌≤◌, length, IsTrue}
 use Rattle.exam_edge.specs.Lent.{IsLent}
 use Rattle.exam_office.specs.Migrating.{AreMeasured}
 use Rattle.exam_office.proofs.migrating.measure_records.Given as goal
@@ -8,7 +8,7 @@ invariant-records g l = record {
   bank : l.book.bank ≡ l.fn.book.bank;
   plan : l.book.plan ≡ l.fn.book.plan;
   measured : AreMeasured l.fn.book.bank l.fn.book.plan l.fn.walk.at (g.D.Disk.tells l.fn.walk.disk) (g.D.Disk.content l.fn.walk.disk) l.walk.given l.walk.at l.book.entries l.total;
-  few : l.total ≤ 86605 * length l.book.entries;
+  few : l.total ≤ l.walk.at + 449 * length l.book.entries;
   places : 6 * length l.book.entries ≤ l.walk.at;
   limit : l.walk.limit ≡ l.fn.walk.limit;
   size : l.walk.size ≡ l.fn.walk.size;

@@ -17,6 +17,9 @@ returns-in-Err-clause-why g c = λ told.
     walk_refused c.args.bank.now c.args.spec.now file c.in-Err.fault c.migrate_fault.result (c.migrate_fault.ensures ∙ ap migrate_fault c.journal_fault.ensures)
     (subst (λ (limit : ℕ). IsWalkAnswer limit file c.in-Err.fault) c.journal.ensures (c.in-Err.ensures.why told))
 
+pub returns-in-Err-clause-aside_kept : goal.returns-in-Err-clause-aside_kept
+returns-in-Err-clause-aside_kept g c = λ of_content told. c.in-Err.ensures.aside_err told
+
 -- it is of the first version
 pub returns-then-record_version-eq1-clause-stands : goal.returns-then-record_version-eq1-clause-stands
 returns-then-record_version-eq1-clause-stands g c =
@@ -63,6 +66,11 @@ returns-then-record_version-eq1-clause-moments_err g c =
     if_err c.move_old.result c.move_old.ensures.moments_err
     (λ e so told H s. after_reading b plan H (g.D.Disk.accounts c.args.disk) (g.D.Disk.accounts c.in-Ok.walk.disk) (g.D.Disk.accounts e.0) (c.in-Ok.ensures.moments told)
     (so (c.in-Ok.ensures.frame.tells ∙ told) H (subst (Stands b plan H) (sym (c.in-Ok.ensures.untouched told)) s)))
+
+pub returns-then-record_version-eq1-clause-aside_kept : goal.returns-then-record_version-eq1-clause-aside_kept
+returns-then-record_version-eq1-clause-aside_kept g c =
+    if_err c.move_old.result c.move_old.ensures.aside_kept
+    (λ e so of_content told. so of_content (c.in-Ok.ensures.frame.tells ∙ told) ∙ c.in-Ok.ensures.aside told)
 
 pub returns-then-record_version-eq1-clause-switched : goal.returns-then-record_version-eq1-clause-switched
 returns-then-record_version-eq1-clause-switched g c =
@@ -141,6 +149,11 @@ returns-else-record_version-eq1-clause-unwritten_err g c =
       so.0 (c.in-Ok.ensures.frame.tells ∙ told) ∙ c.in-Ok.ensures.untouched told,
       images_on (g.D.Disk.accounts c.args.disk) (g.D.Disk.accounts c.in-Ok.walk.disk) (g.D.Disk.accounts e.0) (c.in-Ok.ensures.moments told) (so.1 (c.in-Ok.ensures.frame.tells ∙ told)),
     ))
+
+pub returns-else-record_version-eq1-clause-aside_kept : goal.returns-else-record_version-eq1-clause-aside_kept
+returns-else-record_version-eq1-clause-aside_kept g c =
+    if_err c.leave.result c.leave.ensures.aside_err
+    (λ e so of_content told. so (c.in-Ok.ensures.frame.tells ∙ told) ∙ c.in-Ok.ensures.aside told)
 
 pub returns-else-record_version-eq1-clause-switched : goal.returns-else-record_version-eq1-clause-switched
 returns-else-record_version-eq1-clause-switched g c =

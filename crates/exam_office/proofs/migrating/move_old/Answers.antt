@@ -26,6 +26,10 @@ returns-in-Err-clause-kept g c = λ other told.
     subst (IsUnmoved (counted_in file).payloads) (sym (ap (λ (d : g.row.D.Denot). g.D.Disk.content d) c.stop.ensures ∙ c.moved_length.ensures.content told))
     (first_unmoved file (c.requires.gives told) (c.requires.first told))
 
+pub returns-in-Err-clause-aside_kept : goal.returns-in-Err-clause-aside_kept
+returns-in-Err-clause-aside_kept g c = λ of_content told.
+    ap (λ (d : g.row.D.Denot). g.D.Disk.aside d) c.stop.ensures ∙ c.moved_length.ensures.aside told
+
 pub returns-in-Err-clause-aside_err : goal.returns-in-Err-clause-aside_err
 returns-in-Err-clause-aside_err g c = λ told.
     puts_nothing (g.D.Disk.content c.args.walk.disk) (g.D.Disk.content c.stop.result) (g.D.Disk.accounts c.args.walk.disk) (g.D.Disk.accounts c.stop.result) (g.D.Disk.aside c.args.walk.disk) (g.D.Disk.aside c.stop.result)

@@ -1,9 +1,10 @@
-use Rattle.std.proofs.Common.{◌≡◌, ◌∙◌, ◌++◌, ℕ, List, [], ◌∷◌, length, drop, refl, sym, ap, subst}
+use Rattle.std.proofs.Common.{◌≡◌, ◌∙◌, ◌++◌, ℕ, List, [], ◌∷◌, length, drop, refl, sym, ap, subst, arith}
 use Rattle.std.specs.Option.{option_copied}
 use Rattle.bank_tables.specs.Tables.{Tables}
 use Rattle.form_model.specs.Plan.{Plan}
 use Rattle.form_model.specs.Validity.{IsPlanFor}
 use Rattle.history_model.specs.Judging.{Record}
+use Rattle.answer_journal.specs.Frames.{IsPayload}
 use Rattle.exam_records.specs.Spelling.{payload_of}
 use Rattle.exam_office.specs.Marks.{history}
 use Rattle.exam_office.specs.Running.{Running}
@@ -15,13 +16,18 @@ drop_front : (room payload : List ℕ) → drop (length room) (room ++ payload) 
 drop_front [] payload = refl
 drop_front (x ∷ room) payload = drop_front room payload
 
-pub encode_parts-requires-clause-tree : goal.encode_parts-requires-clause-tree
-encode_parts-requires-clause-tree g c =
+-- what was written after the four bytes of the room
+after_room : (room payload bytes : List ℕ) → length room ≡ 4 → bytes ≡ room ++ payload → drop 4 bytes ≡ payload
+after_room room payload bytes four whole =
+    ap (λ (p : List ℕ). drop 4 p) whole ∙ subst (λ (n : ℕ). drop n (room ++ payload) ≡ payload) four (drop_front room payload)
+
+pub push_record-requires-clause-tree : goal.push_record-requires-clause-tree
+push_record-requires-clause-tree g c =
     let now = c.args.self.now in
     goes_with now.bank now.plan (history now.marks) c.args.entry.now (option_copied c.args.tree) c.requires
 
-pub encode_parts-requires-clause-bands : goal.encode_parts-requires-clause-bands
-encode_parts-requires-clause-bands g c =
+pub push_record-requires-clause-bands : goal.push_record-requires-clause-bands
+push_record-requires-clause-bands g c =
     let o = c.self.inside in
     let now = c.args.self.now in
     let kept = c.self.invariant.0 in
@@ -29,13 +35,13 @@ encode_parts-requires-clause-bands g c =
     let fits_now : IsPlanFor now.bank now.plan = subst (λ (r : Running g.row.D.Denot). IsPlanFor r.bank r.plan) c.self.view_is fits in
     has_bands now.bank now.plan (history now.marks) fits_now c.args.entry.now (option_copied c.args.tree) c.requires
 
+pub of-requires : goal.of-requires
+of-requires g c =
+    let rec : Record = record { entry = c.args.entry.now; tree = option_copied c.args.tree } in
+    let is = after_room c.in_ok-bytes.bytes.items (payload_of rec) c.push_record.new.out.items c.in_ok-bytes.ensures c.in_ok-push_record.ensures.spelling in
+    subst IsPayload (sym is) (record { some = c.push_record.ensures.some; few = omega (arith, c.push_record.ensures.few) })
+
 pub returns-clause-frame : goal.returns-clause-frame
 returns-clause-frame g c =
     let rec : Record = record { entry = c.args.entry.now; tree = option_copied c.args.tree } in
-    let bytes = c.in_ok-payload.payload.items in
-    let here : bytes ≡ payload_of rec = c.in_ok-payload.ensures.spelling in
-    let room = c.in_ok-bytes.bytes.items in
-    let four : length room ≡ 4 = c.in_ok-bytes.ensures in
-    let put : drop 4 (room ++ bytes) ≡ bytes = subst (λ (n : ℕ). drop n (room ++ bytes) ≡ bytes) four (drop_front room bytes) in
-    let whole : c.extend_from_slice.new.self.items ≡ room ++ bytes = c.in_ok-extend_from_slice.ensures.items ∙ ap (λ (p : List ℕ). room ++ p) c.deref.ensures.value in
-    c.in_ok-frame.ensures ∙ (ap (λ (p : List ℕ). drop 4 p) whole ∙ (put ∙ here))
+    c.in_ok-frame.ensures ∙ after_room c.in_ok-bytes.bytes.items (payload_of rec) c.push_record.new.out.items c.in_ok-bytes.ensures c.in_ok-push_record.ensures.spelling

@@ -41,6 +41,9 @@ returns-in-Err-clause-untouched g c = λ other told. c.in-Err.ensures.untouched_
 pub returns-in-Err-clause-unwritten : goal.returns-in-Err-clause-unwritten
 returns-in-Err-clause-unwritten g c = λ other told. c.in-Err.ensures.moments_err told
 
+pub returns-in-Err-clause-aside_kept : goal.returns-in-Err-clause-aside_kept
+returns-in-Err-clause-aside_kept g c = λ other told. c.in-Err.ensures.aside_err told
+
 pub returns-in-Err-clause-frame_err : goal.returns-in-Err-clause-frame_err
 returns-in-Err-clause-frame_err g c = c.in-Err.ensures.frame_err
 
@@ -73,6 +76,10 @@ pub returns-then-record_version-eq1-clause-unwritten : goal.returns-then-record_
 returns-then-record_version-eq1-clause-unwritten g c = λ other told.
     let a0 = g.D.Disk.accounts c.args.disk in
     subst (λ (d : g.row.D.Denot). AtEachMoment a0 (g.D.Disk.accounts d) (IsImage (latest a0))) (sym c.stop.ensures) (c.in-Ok.ensures.moments told)
+
+pub returns-then-record_version-eq1-clause-aside_kept : goal.returns-then-record_version-eq1-clause-aside_kept
+returns-then-record_version-eq1-clause-aside_kept g c = λ other told.
+    subst (λ (d : g.row.D.Denot). g.D.Disk.aside d ≡ g.D.Disk.aside c.args.disk) (sym c.stop.ensures) (c.in-Ok.ensures.aside told)
 
 pub returns-then-record_version-eq1-clause-tail_aside_err : goal.returns-then-record_version-eq1-clause-tail_aside_err
 returns-then-record_version-eq1-clause-tail_aside_err g c = λ told.
@@ -127,6 +134,11 @@ returns-in-Err-take_all-clause-unwritten g c = λ other told.
     let a0 = g.D.Disk.accounts c.args.disk in
     subst (λ (d : g.row.D.Denot). AtEachMoment a0 (g.D.Disk.accounts d) (IsImage (latest a0))) (sym c.stop-in-Err-take_all.ensures)
     (subst (λ (a : List Account). AtEachMoment a0 a (IsImage (latest a0))) (sym (c.take_all.ensures.accounts (c.in-Ok.ensures.frame.tells ∙ told))) (c.in-Ok.ensures.moments told))
+
+pub returns-in-Err-take_all-clause-aside_kept : goal.returns-in-Err-take_all-clause-aside_kept
+returns-in-Err-take_all-clause-aside_kept g c = λ other told.
+    subst (λ (d : g.row.D.Denot). g.D.Disk.aside d ≡ g.D.Disk.aside c.args.disk) (sym c.stop-in-Err-take_all.ensures)
+    (c.take_all.ensures.aside (c.in-Ok.ensures.frame.tells ∙ told) ∙ c.in-Ok.ensures.aside told)
 
 pub returns-in-Err-take_all-clause-frame_err : goal.returns-in-Err-take_all-clause-frame_err
 returns-in-Err-take_all-clause-frame_err g c =
@@ -192,6 +204,10 @@ returns-in-Err-finish-clause-untouched g c = λ other told.
 
 pub returns-in-Err-finish-clause-unwritten : goal.returns-in-Err-finish-clause-unwritten
 returns-in-Err-finish-clause-unwritten g c = λ other told.
+    absurd (other (c.journal_fault-in-Err-finish.ensures ∙ ap journal_fault (c.in-Err-finish.ensures.why (c.take_all.ensures.frame.tells ∙ (c.in-Ok.ensures.frame.tells ∙ told)))))
+
+pub returns-in-Err-finish-clause-aside_kept : goal.returns-in-Err-finish-clause-aside_kept
+returns-in-Err-finish-clause-aside_kept g c = λ other told.
     absurd (other (c.journal_fault-in-Err-finish.ensures ∙ ap journal_fault (c.in-Err-finish.ensures.why (c.take_all.ensures.frame.tells ∙ (c.in-Ok.ensures.frame.tells ∙ told)))))
 
 pub returns-in-Err-finish-clause-frame_err : goal.returns-in-Err-finish-clause-frame_err

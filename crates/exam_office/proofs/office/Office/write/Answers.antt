@@ -35,19 +35,19 @@ pub returns-in-Ok-append-clause-moments : goal.returns-in-Ok-append-clause-momen
 returns-in-Ok-append-clause-moments g c =
     let o = c.self.inside in
     let r : Record = record { entry = c.args.entry.now; tree = option_copied c.args.tree } in
-    moments_of o.bank.now o.spec.now o.base o.book o.journal o.marks o.doubt (handed g.D.Disk.content g.D.Disk.accounts g.D.Disk.faults o.opened.value) c.self.invariant.0 c.args.self.now c.self.view_is c.requires.sure r c.requires.may (accounts_of c.append.new.self) c.in-Ok.frame c.in-Ok.ensures.frame c.frame_of.ensures.is_record c.append.ensures.moments
+    moments_of o.bank.now o.spec.now o.base o.book o.journal o.marks o.doubt (handed g.D.Disk.content g.D.Disk.accounts g.D.Disk.faults o.opened.value) c.self.invariant.0 c.args.self.now c.self.view_is c.requires.sure r c.requires.may (accounts_of c.append.new.self) c.in-Ok.frame c.in-Ok.ensures.frame c.in-Ok.ensures.is_record c.append.ensures.moments
 
 pub returns-in-Err-Full-clause-moments : goal.returns-in-Err-Full-clause-moments
 returns-in-Err-Full-clause-moments g c =
     let o = c.self.inside in
     let r : Record = record { entry = c.args.entry.now; tree = option_copied c.args.tree } in
-    moments_of o.bank.now o.spec.now o.base o.book o.journal o.marks o.doubt (handed g.D.Disk.content g.D.Disk.accounts g.D.Disk.faults o.opened.value) c.self.invariant.0 c.args.self.now c.self.view_is c.requires.sure r c.requires.may (accounts_of c.append.new.self) c.in-Ok.frame c.in-Ok.ensures.frame c.frame_of.ensures.is_record c.append.ensures.moments
+    moments_of o.bank.now o.spec.now o.base o.book o.journal o.marks o.doubt (handed g.D.Disk.content g.D.Disk.accounts g.D.Disk.faults o.opened.value) c.self.invariant.0 c.args.self.now c.self.view_is c.requires.sure r c.requires.may (accounts_of c.append.new.self) c.in-Ok.frame c.in-Ok.ensures.frame c.in-Ok.ensures.is_record c.append.ensures.moments
 
 pub returns-clause-moments : goal.returns-clause-moments
 returns-clause-moments g c =
     let o = c.self.inside in
     let r : Record = record { entry = c.args.entry.now; tree = option_copied c.args.tree } in
-    moments_of o.bank.now o.spec.now o.base o.book o.journal o.marks o.doubt (handed g.D.Disk.content g.D.Disk.accounts g.D.Disk.faults o.opened.value) c.self.invariant.0 c.args.self.now c.self.view_is c.requires.sure r c.requires.may (accounts_of c.append.new.self) c.in-Ok.frame c.in-Ok.ensures.frame c.frame_of.ensures.is_record c.append.ensures.moments
+    moments_of o.bank.now o.spec.now o.base o.book o.journal o.marks o.doubt (handed g.D.Disk.content g.D.Disk.accounts g.D.Disk.faults o.opened.value) c.self.invariant.0 c.args.self.now c.self.view_is c.requires.sure r c.requires.may (accounts_of c.append.new.self) c.in-Ok.frame c.in-Ok.ensures.frame c.in-Ok.ensures.is_record c.append.ensures.moments
 
 pub invariant_of-self-in-Ok-append : goal.invariant_of-self-in-Ok-append
 invariant_of-self-in-Ok-append g c =
@@ -56,11 +56,11 @@ invariant_of-self-in-Ok-append g c =
     let noted : c.push.new.self ≡ o.marks ++ Own r.entry c.append.new.self.size ∷ [] =
     c.push.ensures ∙ ap (λ (n : ℕ). o.marks ++ Own r.entry n ∷ []) c.length-size.ensures.length in (
       subst (λ (ms : List Mark). IsKept o.bank.now o.spec.now o.base c.apply.new.self c.append.new.self ms o.doubt (handed g.D.Disk.content g.D.Disk.accounts g.D.Disk.faults o.opened.value)) (sym noted)
-          (kept_written o.bank.now o.spec.now o.base o.book o.journal o.marks o.doubt (handed g.D.Disk.content g.D.Disk.accounts g.D.Disk.faults o.opened.value) c.self.invariant.0 c.args.self.now c.self.view_is c.requires.sure r c.requires.may c.apply.new.self c.append.new.self c.in-Ok.frame c.in-Ok.ensures.frame c.frame_of.ensures.is_record
+          (kept_written o.bank.now o.spec.now o.base o.book o.journal o.marks o.doubt (handed g.D.Disk.content g.D.Disk.accounts g.D.Disk.faults o.opened.value) c.self.invariant.0 c.args.self.now c.self.view_is c.requires.sure r c.requires.may c.apply.new.self c.append.new.self c.in-Ok.frame c.in-Ok.ensures.frame c.in-Ok.ensures.is_record
           (c.apply.ensures.bank ∙ c.reserve.ensures.bank) (c.apply.ensures.plan ∙ c.reserve.ensures.plan) (c.apply.ensures.entries ∙ ap (λ (H : List Entry). H ++ r.entry ∷ []) c.reserve.ensures.entries)
           c.in-Ok-append.ensures.ready c.append.ensures.limit c.append.ensures.frame.grows c.append.ensures.frame.tells c.in-Ok-append.ensures.added c.append.ensures.moments),
       subst (λ (ms : List Mark). AreKeptVectors o.bank.now o.spec.now (history ms) c.append.new.self o.doubt c.keep.new.self.each.items c.keep.new.self.doubt) (sym noted)
-          (written_vectors o.bank.now o.spec.now o.base o.book o.journal o.marks o.doubt (handed g.D.Disk.content g.D.Disk.accounts g.D.Disk.faults o.opened.value) c.self.invariant.0 c.args.self.now c.self.view_is c.requires.sure r c.requires.may o.vectors.each.items c.prepare.new.self.each.items o.vectors.doubt c.prepare.new.self.doubt c.prepare.ensures.same c.prepare.ensures.doubt c.self.invariant.1 c.append.new.self c.in-Ok.frame c.in-Ok.ensures.frame c.frame_of.ensures.is_record c.append.ensures.frame.tells c.in-Ok-prepare.new c.in-Ok-prepare.ensures.new
+          (written_vectors o.bank.now o.spec.now o.base o.book o.journal o.marks o.doubt (handed g.D.Disk.content g.D.Disk.accounts g.D.Disk.faults o.opened.value) c.self.invariant.0 c.args.self.now c.self.view_is c.requires.sure r c.requires.may o.vectors.each.items c.prepare.new.self.each.items o.vectors.doubt c.prepare.new.self.doubt c.prepare.ensures.same c.prepare.ensures.doubt c.self.invariant.1 c.append.new.self c.in-Ok.frame c.in-Ok.ensures.frame c.in-Ok.ensures.is_record c.append.ensures.frame.tells c.in-Ok-prepare.new c.in-Ok-prepare.ensures.new
           c.keep.new.self.each.items c.keep.new.self.doubt c.in-Ok-append.ensures.added c.keep.ensures.each c.keep.ensures.doubt),
     )
 
@@ -72,7 +72,7 @@ returns-in-Ok-append-clause-images g c =
     c.push.ensures ∙ ap (λ (n : ℕ). o.marks ++ Own r.entry n ∷ []) c.length-size.ensures.length in
     images_written o.bank.now o.spec.now o.base o.book o.journal o.marks o.doubt (handed g.D.Disk.content g.D.Disk.accounts g.D.Disk.faults o.opened.value) c.self.invariant.0 c.args.self.now c.self.view_is c.requires.sure r c.requires.may c.append.new.self c.push.new.self c.apply.new.self
     (subst (λ (ms : List Mark). IsKept o.bank.now o.spec.now o.base c.apply.new.self c.append.new.self ms o.doubt (handed g.D.Disk.content g.D.Disk.accounts g.D.Disk.faults o.opened.value)) (sym noted)
-    (kept_written o.bank.now o.spec.now o.base o.book o.journal o.marks o.doubt (handed g.D.Disk.content g.D.Disk.accounts g.D.Disk.faults o.opened.value) c.self.invariant.0 c.args.self.now c.self.view_is c.requires.sure r c.requires.may c.apply.new.self c.append.new.self c.in-Ok.frame c.in-Ok.ensures.frame c.frame_of.ensures.is_record
+    (kept_written o.bank.now o.spec.now o.base o.book o.journal o.marks o.doubt (handed g.D.Disk.content g.D.Disk.accounts g.D.Disk.faults o.opened.value) c.self.invariant.0 c.args.self.now c.self.view_is c.requires.sure r c.requires.may c.apply.new.self c.append.new.self c.in-Ok.frame c.in-Ok.ensures.frame c.in-Ok.ensures.is_record
     (c.apply.ensures.bank ∙ c.reserve.ensures.bank) (c.apply.ensures.plan ∙ c.reserve.ensures.plan) (c.apply.ensures.entries ∙ ap (λ (H : List Entry). H ++ r.entry ∷ []) c.reserve.ensures.entries)
     c.in-Ok-append.ensures.ready c.append.ensures.limit c.append.ensures.frame.grows c.append.ensures.frame.tells c.in-Ok-append.ensures.added c.append.ensures.moments)) c.append.ensures.frame.tells
 
@@ -83,11 +83,11 @@ invariant_of-self-in-Err-Disk g c =
     let noted : c.push-in-Err-Disk.new.self ≡ o.marks ++ Fault r.entry ∷ [] =
     c.push-in-Err-Disk.ensures in (
       subst (λ (ms : List Mark). IsKept o.bank.now o.spec.now o.base c.reserve.new.self c.append.new.self ms (Some r.entry) (handed g.D.Disk.content g.D.Disk.accounts g.D.Disk.faults o.opened.value)) (sym noted)
-          (kept_faulted o.bank.now o.spec.now o.base o.book o.journal o.marks o.doubt (handed g.D.Disk.content g.D.Disk.accounts g.D.Disk.faults o.opened.value) c.self.invariant.0 c.args.self.now c.self.view_is c.requires.sure r c.requires.may c.reserve.new.self c.append.new.self c.in-Ok.frame c.in-Ok.ensures.frame c.frame_of.ensures.is_record
+          (kept_faulted o.bank.now o.spec.now o.base o.book o.journal o.marks o.doubt (handed g.D.Disk.content g.D.Disk.accounts g.D.Disk.faults o.opened.value) c.self.invariant.0 c.args.self.now c.self.view_is c.requires.sure r c.requires.may c.reserve.new.self c.append.new.self c.in-Ok.frame c.in-Ok.ensures.frame c.in-Ok.ensures.is_record
           c.reserve.ensures.bank c.reserve.ensures.plan c.reserve.ensures.entries (some_room c.reserve.new.self.room o.book.room c.in-Ok-reserve.ensures.room)
           (rw c.in-Err-Disk.field-0-is at c.in-Err-Disk.ensures.doubt) c.in-Err-Disk.ensures.length_err c.append.ensures.limit (rw c.in-Err-Disk.field-0-is at c.in-Err-Disk.ensures.cause) c.append.ensures.frame.grows c.append.ensures.frame.tells c.append.ensures.moments),
       subst (λ (ms : List Mark). AreKeptVectors o.bank.now o.spec.now (history ms) c.append.new.self (Some r.entry) c.hold.new.self.each.items c.hold.new.self.doubt) (sym noted)
-          (faulted_vectors o.bank.now o.spec.now o.base o.book o.journal o.marks o.doubt (handed g.D.Disk.content g.D.Disk.accounts g.D.Disk.faults o.opened.value) c.self.invariant.0 c.args.self.now c.self.view_is c.requires.sure r c.requires.may o.vectors.each.items c.prepare.new.self.each.items o.vectors.doubt c.prepare.new.self.doubt c.prepare.ensures.same c.prepare.ensures.doubt c.self.invariant.1 c.append.new.self c.in-Ok.frame c.in-Ok.ensures.frame c.frame_of.ensures.is_record c.append.ensures.frame.tells c.in-Ok-prepare.new c.in-Ok-prepare.ensures.new
+          (faulted_vectors o.bank.now o.spec.now o.base o.book o.journal o.marks o.doubt (handed g.D.Disk.content g.D.Disk.accounts g.D.Disk.faults o.opened.value) c.self.invariant.0 c.args.self.now c.self.view_is c.requires.sure r c.requires.may o.vectors.each.items c.prepare.new.self.each.items o.vectors.doubt c.prepare.new.self.doubt c.prepare.ensures.same c.prepare.ensures.doubt c.self.invariant.1 c.append.new.self c.in-Ok.frame c.in-Ok.ensures.frame c.in-Ok.ensures.is_record c.append.ensures.frame.tells c.in-Ok-prepare.new c.in-Ok-prepare.ensures.new
           c.hold.new.self.each.items c.hold.new.self.doubt (rw c.in-Err-Disk.field-0-is at c.in-Err-Disk.ensures.doubt) c.in-Ok-prepare.ensures.room c.hold.ensures.each c.hold.ensures.doubt),
     )
 
