@@ -1,5 +1,5 @@
 -- What an audit finds.
-use Rattle.std.specs.Prelude.{◌≡◌, ℕ, ◌<◌, List, length, slice_get, Some}
+use Rattle.std.specs.Prelude.{◌≡◌, ◌⊎◌, ℕ, ◌<◌, List, ◌++◌, length, slice_get, Some}
 use Rattle.bank_tables.specs.Tables.{Tables, size}
 use Rattle.form_model.specs.Plan.{Plan, bands_of}
 use Rattle.history_model.specs.declared.entry.Entry.{Entry}
@@ -8,6 +8,7 @@ use Rattle.history_model.specs.declared.summary.Summary.{Summary}
 use Rattle.history_model.specs.Counts.{band_counts, visited}
 use Rattle.history_model.specs.Requests.{IsExposureOf}
 use Rattle.history_model.specs.Summaries.{summary}
+use Rattle.answer_journal.specs.Opening.{tail_gates}
 use Rattle.exam_office.specs.Files.{Stands}
 
 -- the number of finished sessions that visited a band, and the counts there of each item of the
@@ -34,3 +35,8 @@ pub record IsAudit (b : Tables) (plan : Plan) (file : List ℕ) (total : Summary
   pub total_is : total ≡ summary plan history
   pub exposed : IsExposureOf b plan history exposure
   pub exposed_by_band : AreBandExposuresOf b plan history bands
+
+-- of a file nothing was put aside, or what opening it would cut was, once
+abbrev pub PutsAsideOrNot : List ℕ → (aside aside_now : List ℕ) → Type 0
+PutsAsideOrNot file aside aside_now =
+    (aside_now ≡ aside) ⊎ (aside_now ≡ aside ++ tail_gates file)

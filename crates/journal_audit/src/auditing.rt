@@ -1,16 +1,17 @@
 //! The audit of a journal.
 
-ghost use Rattle.std.specs.Prelude.{◌≡◌, ◌≤◌, Some, IsTrue, IfOk, IfErr};
+ghost use Rattle.std.specs.Prelude.{◌≡◌, ◌≤◌, ◌++◌, Some, IsTrue, IfOk, IfErr, OnOk, OnErr};
 ghost use Rattle.form_model.specs.Validity.{IsPlanFor};
 ghost use Rattle.exam_edge.specs.Faults.{Rose};
 ghost use Rattle.exam_edge.specs.Lent.{IsLent};
 ghost use Rattle.exam_edge.specs.Images.{AtEachMoment, IsImage, IsSettled, latest};
+ghost use Rattle.answer_journal.specs.Opening.{tail_gates};
 ghost use Rattle.answer_journal.specs.Standing.{IsAsLeft};
 ghost use Rattle.answer_journal.specs.Versions.{contents, counted_in};
 ghost use Rattle.answer_journal.specs.Walk.{first_gate};
 ghost use Rattle.exam_office.specs.Opening.{IsReadAnswer};
 ghost use Rattle.exam_office.specs.declared.fault.OpenFault.TheVariants.{Disk as OfDisk};
-ghost use Rattle.journal_audit.specs.Audit.{IsAudit};
+ghost use Rattle.journal_audit.specs.Audit.{IsAudit, PutsAsideOrNot};
 
 use crate::report::report_of;
 use answer_journal::{Journal, Walk};
@@ -47,6 +48,11 @@ fn audit_walk<D: Disk>(
         → D.content walk.new.disk ≡ D.content walk.old.disk }
     ensures accounts { IsTrue (D.tells walk.old.disk)
         → D.accounts walk.new.disk ≡ D.accounts walk.old.disk }
+    ensures aside { OnOk result (IsTrue (D.tells walk.old.disk) → D.aside walk.new.disk
+        ≡ D.aside walk.old.disk ++ tail_gates (D.content walk.old.disk)) }
+    ensures aside_err { OnErr result (IsTrue (D.tells walk.old.disk)
+        → PutsAsideOrNot (D.content walk.old.disk) (D.aside walk.old.disk)
+        (D.aside walk.new.disk)) }
     ensures frame { IsLent D.tells D.identity D.faults walk.old.disk walk.new.disk }
 {
     if walk.put_tail_aside().is_err() {
@@ -85,6 +91,10 @@ fn audit_into<D: Disk>(
         (IsImage (latest (D.accounts disk))) }
     ensures settled { IsTrue (D.tells disk) → IsSettled (D.content disk) (D.accounts disk)
         → AtEachMoment (D.accounts disk) (D.accounts result) (λ file. file ≡ D.content disk) }
+    ensures aside { OnOk answer.new (IsTrue (D.tells disk)
+        → D.aside result ≡ D.aside disk ++ tail_gates (D.content disk)) }
+    ensures aside_err { OnErr answer.new (IsTrue (D.tells disk)
+        → PutsAsideOrNot (D.content disk) (D.aside disk) (D.aside result)) }
     ensures frame { IsLent D.tells D.identity D.faults disk result }
 {
     let mut walk = match Journal::walk(disk, spec.journal()) {
@@ -131,6 +141,11 @@ pub fn audit<D: Disk>(
         → IsSettled (D.content disk.old) (D.accounts disk.old)
         → AtEachMoment (D.accounts disk.old) (D.accounts disk.new)
         (λ file. file ≡ D.content disk.old) }
+    // What opening would cut was put aside once. If there is no answer it may not have been; nothing else ever is.
+    ensures aside { OnOk result (IsTrue (D.tells disk.old)
+        → D.aside disk.new ≡ D.aside disk.old ++ tail_gates (D.content disk.old)) }
+    ensures aside_err { OnErr result (IsTrue (D.tells disk.old)
+        → PutsAsideOrNot (D.content disk.old) (D.aside disk.old) (D.aside disk.new)) }
     ensures grows { D.faults disk.old ≤ D.faults disk.new }
     ensures tells { D.tells disk.new ≡ D.tells disk.old }
 {
@@ -159,6 +174,10 @@ pub fn audit_disk<D: Disk>(
     ensures moments { IsTrue (D.tells disk)
         → AtEachMoment (D.accounts disk) (D.accounts result.0)
         (IsImage (latest (D.accounts disk))) }
+    ensures aside { OnOk result.1 (IsTrue (D.tells disk)
+        → D.aside result.0 ≡ D.aside disk ++ tail_gates (D.content disk)) }
+    ensures aside_err { OnErr result.1 (IsTrue (D.tells disk)
+        → PutsAsideOrNot (D.content disk) (D.aside disk) (D.aside result.0)) }
     ensures frame { IsLent D.tells D.identity D.faults disk result.0 }
 {
     let mut answer = Err(OpenFault::Memory);

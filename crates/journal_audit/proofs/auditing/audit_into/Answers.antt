@@ -48,5 +48,14 @@ returns-clause-moments g c = search rules
 pub returns-clause-settled : goal.returns-clause-settled
 returns-clause-settled g c = search rules
 
+pub returns-in-Err-clause-aside_err : goal.returns-in-Err-clause-aside_err
+returns-in-Err-clause-aside_err g c = search rules
+
+pub returns-clause-aside : goal.returns-clause-aside
+returns-clause-aside g c = search rules
+
+pub returns-clause-aside_err : goal.returns-clause-aside_err
+returns-clause-aside_err g c = search rules
+
 pub returns-clause-frame : goal.returns-clause-frame
 returns-clause-frame g c = search rules
