@@ -11,9 +11,8 @@ use anyhow::{Result, bail};
 use command::Command;
 use draws::{counters, eligible};
 use exposure_counters::Counters;
-use std::env;
-use std::io;
 use std::time::{Duration, Instant};
+use std::{env, io};
 
 /// How many items are eligible, summed over so many sessions and their bands.
 fn eligible_in_all(counters: &Counters, sessions: u32) -> u64 {
