@@ -5,3 +5,5 @@ pub mod Rules
 pub mod Taking
 pub mod Sending
 pub mod Payloads
+pub mod EventLaws
+pub mod ReadingLaws

@@ -1,8 +1,8 @@
 -- A message at the front of what is kept is one at the front of the whole.
-use Rattle.std.proofs.Common.{◌≡◌, ℕ, ◌+◌, ◌-◌, ◌<◌, ◌≤◌, List, [], ◌∷◌, ◌++◌, length, take, drop, get_or, refl, sym, ap, ◌∙◌, subst, arith, length-append, length-drop}
+use Rattle.std.proofs.Common.{◌≡◌, ℕ, ◌+◌, ◌-◌, ◌<◌, ◌≤◌, List, ◌++◌, length, take, drop, get_or, refl, sym, ap, ◌∙◌, subst, arith, length-append, length-drop}
 use Rattle.std.specs.Prelude.{slice_range}
 use Rattle.std.proofs.lemmas.List.{get_or_append_left, take-append-le, drop-append-le, length-take-le}
-use Rattle.exam_follower.specs.Messages.{kind_in, number_in, size_in, offer_of, IsPayload, IsOffer, IsHave}
+use Rattle.exam_follower.specs.Messages.{kind_in, number_in, size_in, offer_of, IsOffer, IsHave}
 
 number_more : (xs ys : List ℕ) → 9 ≤ length xs → number_in (xs ++ ys) ≡ number_in xs
 number_more xs ys h =

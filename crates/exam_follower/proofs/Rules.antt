@@ -1,5 +1,5 @@
 -- What is so by the rule at one moment of a link is so by the rule at its start, which is the same.
-use Rattle.std.proofs.Common.{◌≡◌, ◌⊎◌, ⊎_elim, inl, inr, ℕ, ◌<◌, List, refl, sym, ◌∙◌, subst}
+use Rattle.std.proofs.Common.{⊎_elim, inl, inr, ℕ, ◌<◌, List, refl, ◌∙◌, subst}
 use Rattle.exam_follower.specs.declared.followed.Followed.{Followed}
 use Rattle.exam_follower.specs.declared.followed.Followed.TheVariants.{Done, Link, Peer, Offer, Full, Disk, Memory}
 use Rattle.exam_follower.specs.declared.followed.Turn.{Turn}
@@ -8,7 +8,7 @@ use Rattle.exam_follower.specs.declared.replica.TakeFault.{TakeFault}
 use Rattle.exam_follower.specs.declared.replica.TakeFault.TheVariants as take
 use Rattle.exam_follower.specs.World.{Numbered, Delivers, appended, ignored}
 use Rattle.exam_follower.specs.Replicas.{Held, IsSameRule, Takes, IsDue, Fails}
-use Rattle.exam_follower.specs.Following.{Moves, Halts, Steps, Ends, EndsWith}
+use Rattle.exam_follower.specs.Following.{Moves, Halts, Ends, EndsWith}
 
 pub same_rule : (m : List (List ℕ) → List ℕ → Type 0) (s : List (List ℕ) → ℕ) (l : ℕ) → IsSameRule m m s s l l
 same_rule m s l =

@@ -1,5 +1,5 @@
 -- One message more of a shipper.
-use Rattle.std.proofs.Common.{◌≡◌, inr, ℕ, List, ◌++◌, length, refl, sym, subst}
+use Rattle.std.proofs.Common.{◌≡◌, inr, ℕ, List, [], ◌∷◌, ◌++◌, length, refl, sym, subst}
 use Rattle.exam_follower.specs.declared.followed.Followed.{Followed}
 use Rattle.exam_follower.specs.declared.followed.Followed.TheVariants.{Done, Link, Peer, Offer, Full, Disk, Memory}
 use Rattle.exam_follower.specs.declared.followed.Turn.{Turn}
@@ -31,13 +31,13 @@ module _ (may : List (List ℕ) → List ℕ → Type 0) (size : List (List ℕ)
   offer_turn old bytes text left new o next (Over Disk) is e w a = record { offer = o; next = next; is_offer = is; moves = w; answers = a }
   offer_turn old bytes text left new o next (Over Memory) is e w a = inr (record { offer = o; next = next; is_offer = is; moves = w; answers = a })
 
-  pub serves_more : (start : Held) (bytes text left next : List ℕ) (old new : Held) (o : Numbered (List ℕ)) (more : List ℕ) → Serves may size limit start bytes text left old
+  pub serves_more : (start : Held) (bytes : List ℕ) (offers : List (Numbered (List ℕ))) (text left next : List ℕ) (old new : Held) (o : Numbered (List ℕ)) (more : List ℕ) → Serves may size limit start bytes offers text left old
       → IsOffer left o next → Takes may old o new → more ≡ have_text (length new.records)
-      → Serves may size limit start bytes (text ++ more) next new
-  serves_more start bytes text left next old new o more serves offer taken is =
-      subst (λ (t : List ℕ). Serves may size limit start bytes (text ++ t) next new) (sym is) (and_then text left next old new o serves offer taken)
+      → Serves may size limit start bytes (offers ++ o ∷ []) (text ++ more) next new
+  serves_more start bytes offers text left next old new o more serves offer taken is =
+      subst (λ (t : List ℕ). Serves may size limit start bytes (offers ++ o ∷ []) (text ++ t) next new) (sym is) (and_then offers text left next old new o serves offer taken)
 
-  pub ends_so : (start held : Held) (bytes texts left last : List ℕ) (final : Held) (followed : Followed) → Serves may size limit start bytes texts left held
+  pub ends_so : (start held : Held) (bytes : List ℕ) (offers : List (Numbered (List ℕ))) (texts left last : List ℕ) (final : Held) (followed : Followed) → Serves may size limit start bytes offers texts left held
       → EndsWith may size limit held left last final followed → EndsSo may size limit start bytes (texts ++ last) final followed
-  ends_so start held bytes texts left last final followed serves ends =
-      record { held = held; left = left; haves = texts; last = last; serves = serves; ends = ends; whole = refl }
+  ends_so start held bytes offers texts left last final followed serves ends =
+      record { offers = offers; held = held; left = left; haves = texts; last = last; serves = serves; ends = ends; whole = refl }

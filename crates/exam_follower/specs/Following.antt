@@ -1,5 +1,5 @@
 -- What a follower does with the bytes of a link.
-use Rattle.std.specs.Prelude.{◌≡◌, ◌⊎◌, ℕ, List, [], ◌++◌, length}
+use Rattle.std.specs.Prelude.{◌≡◌, ◌⊎◌, ℕ, List, [], ◌∷◌, ◌++◌, length}
 use Rattle.exam_follower.specs.declared.followed.Followed.{Followed}
 use Rattle.exam_follower.specs.declared.followed.Followed.TheVariants.{Done, Link, Peer, Offer, Full, Disk, Memory}
 use Rattle.exam_follower.specs.declared.followed.Turn.{Turn}
@@ -56,13 +56,16 @@ module _ (may : List (List ℕ) → List ℕ → Type 0) (size : List (List ℕ)
   abbrev pub IsMoved : Held → Held → Followed → Type 0
   IsMoved start final followed = (held : Held) × Goes start held × Halts held final followed
 
-  -- offers at the front of the bytes were taken, in their order: the haves after them, the bytes that
-  -- are left, and the replica. Only the first can find a record in doubt
-  pub data Serves (start : Held) (bytes : List ℕ) : List ℕ → List ℕ → Held → Type 0 where
-    begun : Serves start bytes [] bytes start
-    and_then : (text left next : List ℕ) (old new : Held) (offer : Numbered (List ℕ))
-        → Serves start bytes text left old → IsOffer left offer next → Takes may old offer new
-        → Serves start bytes (text ++ have_text (length new.records)) next new
+  -- these offers at the front of the bytes were taken, in their order: the haves after them, the
+  -- bytes that are left, and the replica. Only the first can find a record in doubt
+  pub data Serves (start : Held) (bytes : List ℕ) : List (Numbered (List ℕ)) → List ℕ → List ℕ
+      → Held → Type 0 where
+    begun : Serves start bytes [] [] bytes start
+    and_then : (offers : List (Numbered (List ℕ))) (text left next : List ℕ) (old new : Held)
+        (offer : Numbered (List ℕ)) → Serves start bytes offers text left old
+        → IsOffer left offer next → Takes may old offer new
+        → Serves start bytes (offers ++ offer ∷ []) (text ++ have_text (length new.records)) next
+        new
 
   -- what became of the offer at the front of the bytes
   pub record Ends (old : Held) (bytes text : List ℕ) (new : Held) (turn : Turn) : Type 0 where
@@ -97,11 +100,12 @@ module _ (may : List (List ℕ) → List ℕ → Type 0) (size : List (List ℕ)
   -- all messages of a link: offers that were taken, in their order, and its end
   pub record EndsSo (start : Held) (bytes text : List ℕ) (final : Held)
       (followed : Followed) : Type 0 where
+    pub offers : List (Numbered (List ℕ))
     pub held : Held
     pub left : List ℕ
     pub haves : List ℕ
     pub last : List ℕ
-    pub serves : Serves start bytes haves left held
+    pub serves : Serves start bytes offers haves left held
     pub ends : EndsWith held left last final followed
     pub whole : text ≡ haves ++ last
 

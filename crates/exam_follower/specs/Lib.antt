@@ -4,3 +4,4 @@ pub mod Replicas
 pub mod Following
 pub mod Shipping
 pub mod Memory
+pub mod Events

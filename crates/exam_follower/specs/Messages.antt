@@ -1,7 +1,7 @@
 -- The messages of a link between a leader that ships and its follower, in bytes. Numbers are
 -- big-endian. An offer is 01, the number of a record in 64 bits, the length of its payload in 32
--- bits, 1 to 131,072, and the payload. A have is 02 and a count of records in 64 bits. The end is 03.
--- The shipper sends offers and the end, and the follower sends haves.
+-- bits, 1 to 131,072, and the payload. A have is 02 and a count of records in 64 bits. The end is
+-- 03. The shipper sends offers and the end, and the follower sends haves.
 use Rattle.std.specs.Prelude.{◌≡◌, ◌≢◌, ◌⊎◌, ℕ, ◌+◌, ◌<◌, ◌≤◌, ⊤}
 use Rattle.std.specs.Prelude.{List, [], ◌∷◌, ◌++◌, length, drop, get_or, slice_range}
 use Rattle.std.specs.Int.{to_be_bytes, from_be_bytes, w32, w64}

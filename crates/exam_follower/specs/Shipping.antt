@@ -23,8 +23,8 @@ module _ (records : List (List ℕ)) where
   Sends number text (Over Memory) = text ≡ []
   Sends number text (Over other) = ⊥
 
-  -- so many haves of records at the front of the bytes: the offers of these records, in the order of
-  -- the haves, and the bytes that are left
+  -- so many haves of records at the front of the bytes: the offers of these records, in the order
+  -- of the haves, and the bytes that are left
   pub data Ships (bytes : List ℕ) : ℕ → List ℕ → List ℕ → Type 0 where
     begun : Ships bytes 0 [] bytes
     and_then : (haves : ℕ) (text left next : List ℕ) (number : ℕ) (payload : List ℕ)

@@ -1,4 +1,4 @@
-use Rattle.std.proofs.Common.{◌++◌, [], IsTrue, arith, refl, sym, ◌∙◌, append-nil}
+use Rattle.std.proofs.Common.{◌++◌, [], ◌∷◌, IsTrue, arith, refl, sym, ◌∙◌, append-nil}
 use Rattle.exam_follower.specs.Following.{begun, stays, one_more}
 use Rattle.exam_follower.proofs.Pieces.{joined}
 use Rattle.exam_follower.proofs.Rules.{same_rule, same_still, takes_then, halts_then, ends_with_then}
@@ -9,7 +9,7 @@ pub messages-init : goal.messages-init
 messages-init g c = record {
   rule = same_rule _ _ _;
   goes = stays;
-  served = λ tells. ([], sym (append-nil _), begun);
+  served = λ tells. ([], [], sym (append-nil _), begun);
   faults = omega arith;
   frame = record { grows = omega arith; tells = refl; identity = refl };
 }
@@ -27,10 +27,11 @@ messages-preserved g c =
           let told : IsTrue (g.K.Link.tells c.messages.link) = rw frame.tells tells in
           let before = c.messages.invariant.served tells in
           let now = c.in-GoesOn.ensures.turns told in (
-            before.0 ++ now.0,
-            joined _ _ _ before.0 now.0 before.1 now.1,
+            before.0 ++ now.2.0 ∷ [],
+            before.1 ++ now.0,
+            joined _ _ _ before.1 now.0 before.2 now.1,
             serves_more (g.F.Replica.may_follow c.args.replica.now) (g.F.Replica.size c.args.replica.now) (g.F.Replica.limit c.args.replica.now)
-                _ _ before.0 _ _ _ _ now.2.0 now.0 before.2 now.2.1 (takes_then _ _ _ _ _ _ rule _ now.2.0 _ now.2.2) now.2.3,
+                _ _ before.0 before.1 _ _ _ _ now.2.0 now.0 before.3 now.2.1 (takes_then _ _ _ _ _ _ rule _ now.2.0 _ now.2.2) now.2.3,
           );
       faults = let a = c.messages.invariant.faults in let b = c.in-GoesOn.ensures.grows in omega (arith, a, b);
       frame = record {
@@ -53,10 +54,10 @@ returns-in-Over-clause-followed g c told =
     let told1 : IsTrue (g.K.Link.tells c.messages.link) = rw frame.tells told in
     let before = c.messages.invariant.served told in
     let now = c.in-Over.ensures.turns told1 in (
-      before.0 ++ now.0,
-      joined _ _ _ before.0 now.0 before.1 now.1,
+      before.1 ++ now.0,
+      joined _ _ _ before.1 now.0 before.2 now.1,
       ends_so (g.F.Replica.may_follow c.args.replica.now) (g.F.Replica.size c.args.replica.now) (g.F.Replica.limit c.args.replica.now)
-          _ _ _ before.0 _ now.0 _ c.in-Over.followed before.2
+          _ _ _ before.0 before.1 _ now.0 _ c.in-Over.followed before.3
           (ends_with_then _ _ _ _ _ _ c.messages.invariant.rule _ _ now.0 _ c.in-Over.followed now.2),
     )
 

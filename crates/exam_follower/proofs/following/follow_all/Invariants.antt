@@ -3,6 +3,7 @@ use Rattle.exam_edge.specs.Lent.{IsLent}
 use Rattle.exam_follower.specs.Messages.{bytes_of}
 use Rattle.exam_follower.specs.Replicas.{IsSameRule}
 use Rattle.exam_follower.specs.Following.{Goes, Serves}
+use Rattle.exam_follower.specs.World.{Numbered}
 use Rattle.exam_follower.proofs.following.follow_all.Given as goal
 
 abbrev pub invariant-messages : goal.invariant-messages
@@ -12,10 +13,10 @@ invariant-messages g l = record {
       (g.F.Replica.limit l.fn.replica) (g.F.Replica.limit l.replica);
   goes : Goes (g.F.Replica.may_follow l.fn.replica) (g.F.Replica.size l.fn.replica) (g.F.Replica.limit l.fn.replica)
       (g.F.Replica.held l.fn.replica) (g.F.Replica.held l.replica);
-  served : IsTrue (g.K.Link.tells l.fn.link) → (texts : List ℕ)
+  served : IsTrue (g.K.Link.tells l.fn.link) → (offers : List (Numbered (List ℕ))) × (texts : List ℕ)
       × (g.K.Link.written l.link ≡ g.K.Link.written l.fn.link ++ texts)
       × Serves (g.F.Replica.may_follow l.fn.replica) (g.F.Replica.size l.fn.replica) (g.F.Replica.limit l.fn.replica)
-      (g.F.Replica.held l.fn.replica) (bytes_of l.fn.kept ++ g.K.Link.left l.fn.link) texts
+      (g.F.Replica.held l.fn.replica) (bytes_of l.fn.kept ++ g.K.Link.left l.fn.link) offers texts
       (bytes_of l.kept ++ g.K.Link.left l.link) (g.F.Replica.held l.replica);
   faults : g.F.Replica.faults l.fn.replica ≤ g.F.Replica.faults l.replica;
   frame : IsLent g.K.Link.tells g.K.Link.identity g.K.Link.faults l.fn.link l.link;

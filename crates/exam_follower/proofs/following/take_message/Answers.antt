@@ -1,4 +1,4 @@
-use Rattle.std.proofs.Common.{◌≡◌, ◌++◌, List, ℕ, IsTrue, sym, ap, ◌∙◌, subst}
+use Rattle.std.proofs.Common.{◌++◌, List, ℕ, IsTrue, sym, ap, ◌∙◌, subst}
 use Rattle.exam_follower.specs.declared.offer.ShipperMessage.{ShipperMessage}
 use Rattle.exam_follower.specs.Messages.{bytes_of, offer_of, IsPayload, IsFitting, IsNext, IsOffer}
 use Rattle.exam_follower.proofs.Taking.{offer_step, offer_turn}

@@ -1,4 +1,4 @@
-use Rattle.std.proofs.Common.{◌≡◌, ◌++◌, IsTrue, List, ℕ, ap, sym, ◌∙◌, arith}
+use Rattle.std.proofs.Common.{◌≡◌, ◌++◌, IsTrue, ap, sym, ◌∙◌, arith}
 use Rattle.exam_follower.specs.Messages.{bytes_of, kind_in, number_in, size_in}
 use Rattle.exam_follower.proofs.MessageLaws.{offer_here}
 use Rattle.exam_follower.proofs.offer.next_offer.Goals as goal

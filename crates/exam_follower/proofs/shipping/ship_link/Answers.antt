@@ -1,4 +1,4 @@
-use Rattle.std.proofs.Common.{◌≡◌, ◌++◌, [], List, ℕ, IsTrue, inr, arith, refl, sym, ap, ◌∙◌, subst, append-nil}
+use Rattle.std.proofs.Common.{◌++◌, [], List, ℕ, IsTrue, inr, arith, refl, sym, ◌∙◌, subst, append-nil}
 use Rattle.exam_follower.specs.Messages.{bytes_of}
 use Rattle.exam_follower.specs.Shipping.{Ships, begun}
 use Rattle.exam_follower.proofs.Pieces.{joined}

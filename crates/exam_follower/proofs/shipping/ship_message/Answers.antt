@@ -1,4 +1,4 @@
-use Rattle.std.proofs.Common.{◌≡◌, ◌++◌, List, ℕ, IsTrue, inl, sym, ap, ◌∙◌}
+use Rattle.std.proofs.Common.{◌++◌, List, ℕ, IsTrue, inl, sym, ap, ◌∙◌}
 use Rattle.exam_follower.specs.Messages.{bytes_of}
 use Rattle.exam_follower.proofs.Sending.{none_of_one, sent_turn}
 use Rattle.exam_follower.proofs.shipping.ship_message.Goals as goal

@@ -1,4 +1,4 @@
-use Rattle.std.proofs.Common.{◌≡◌, ◌≢◌, ℕ, ◌+◌, List, [], ◌∷◌, ◌++◌, length, get_or, refl, sym, ◌∙◌, arith, length-append}
+use Rattle.std.proofs.Common.{◌≡◌, ◌≢◌, [], ◌∷◌, length, get_or, refl, arith, length-append}
 use Rattle.exam_follower.specs.Memory.{payloads_of}
 use Rattle.exam_follower.specs.Messages.{offer_of}
 use Rattle.exam_follower.specs.Replicas.{as_they_are}
