@@ -219,7 +219,7 @@ module _ {D : Type 0} (old new : Running D) (same : IsSameOffice old new) (frame
 
 -- a request that only looks
 module _ {D : Type 0} (now : Running D) where
-  abbrev still : Adds now now
+  abbrev pub still : Adds now now
   still = record {
     same = record { bank = refl; plan = refl; base = refl; opened = refl };
     frame = record { grows = omega arith; tells = refl; identity = refl };

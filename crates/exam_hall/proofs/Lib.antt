@@ -8,3 +8,4 @@ pub mod Commits
 pub mod Served
 pub mod Seen
 pub mod Turning
+pub mod Looks

@@ -71,6 +71,12 @@ module _ (h : HallKnown) (old new : Known NotedMark) (before : List NotedMark) (
   pub made_here : makes h.bank h.plan h.base (marks_of new.seen) (taken (marks_of new.seen) here)
   made_here = subst (λ T. makes h.bank h.plan h.base (marks_of new.seen) T) added_here (on_hall (λ b p s. makes b p s (marks_of new.seen) g.added) g.made)
 
+  -- a turn that added nothing has no places
+  pub no_places : taken (marks_of new.seen) here ≡ [] → here ≡ []
+  no_places none =
+      let n : length turned.grows.0 ≡ 0 = ap length (sym (taken_once (marked old) (marked new) (marks_of before) turned) ∙ none) in
+      ap (λ k. places (length (marks_of before)) k) n
+
   -- the places of what the turn added are the last ones
   pub last_places : places (length (marks_of new.seen) - length (taken (marks_of new.seen) here)) (length (taken (marks_of new.seen) here)) ≡ here
   last_places =

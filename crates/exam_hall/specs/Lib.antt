@@ -7,3 +7,4 @@ pub mod Leading
 pub mod Rounds
 pub mod Lasting
 pub mod Turns
+pub mod Probes

@@ -11,7 +11,7 @@ ghost use Rattle.history_model.specs.declared.entry.Entry.{Entry};
 ghost use Rattle.history_model.specs.Legality.{LegalRun};
 ghost use Rattle.history_model.specs.SessionProblems.{IsProblemOf};
 ghost use Rattle.exam_office.specs.Commits.{MayBeCommitted};
-ghost use Rattle.exam_handler.specs.Handling.{IsReply};
+ghost use Rattle.exam_handler.specs.Handling.{IsProbeRefusal, IsReply};
 ghost use Rattle.exam_office.specs.Marks.{history};
 ghost use Rattle.exam_office.specs.Noting.{noted, marks_of, opened_with};
 ghost use Rattle.exam_office.specs.Serving.{IsAssembledFor};
@@ -19,15 +19,18 @@ ghost use Rattle.exam_office.specs.Warm.{FitsPlan};
 ghost use Rattle.exam_hall.specs.Leading.{IsAsked};
 ghost use Rattle.exam_hall.specs.Known.{IsOf, IsOfficeOf, marked};
 ghost use Rattle.exam_hall.specs.Rounds.{IsGoodFor, Rounds, Assembles};
+ghost use Rattle.exam_hall.specs.Probes.{Probes, Watches};
 ghost use Rattle.exam_hall.specs.Sees.{Sees};
 ghost use Rattle.exam_hall.specs.Turns.{HasBegun};
 
 use crate::asking::{First, FirstAnswer};
 use crate::committing::{Commit, Round};
+use crate::probing::{Probe, Watch};
 use bank_tables::{Bank, ItemSet};
 use branch_bound::{Assembled, assemble_from};
 use constraint_model::{Problem, Spec};
 use exam_edge::{Disk, Gate, Memory, Point};
+use exam_handler::Health;
 use exam_office::{Office, Place, Refusal, Reply, Request};
 use proof_tree::Vector;
 use std::alloc::Global;
@@ -167,6 +170,27 @@ impl<'a, D: Disk> Hall<'a, D> {
                 }
             }
         }
+    }
+
+    /// Answers how the examination is, in one turn, after the entry in doubt is resolved. It waits
+    /// for its turn. Refused where the disk failed again, or where there is no room for a mark.
+    pub fn probe<R: Wait>(&self, rt: &R, pass: &mut Pass<Office<'a, D>>) -> Result<Health, Refusal>
+        requires of { IsOf pass.old self.now }
+        ensures probes { Probes self.now (marked pass.old) (marked pass.new) result }
+        ensures of { IsOf pass.new self.now }
+        ensures refusal { IfErr result IsProbeRefusal }
+    {
+        self.turn.turn(rt, pass, &mut Probe)
+    }
+
+    /// How the examination is, without the entry in doubt, if there is one. It takes one turn,
+    /// which adds nothing, and no memory. It waits for its turn.
+    pub fn health<R: Wait>(&self, rt: &R, pass: &mut Pass<Office<'a, D>>) -> Health
+        requires of { IsOf pass.old self.now }
+        ensures watches { Watches self.now (marked pass.old) (marked pass.new) result }
+        ensures of { IsOf pass.new self.now }
+    {
+        self.turn.turn(rt, pass, &mut Watch)
     }
 
     /// The first turn of a request.

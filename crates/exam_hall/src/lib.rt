@@ -9,6 +9,7 @@ mod asking;
 mod caller;
 mod committing;
 mod hall;
+mod probing;
 
 pub use crate::asking::FirstAnswer;
 pub use crate::caller::Caller;

@@ -32,3 +32,9 @@ abbrev pub IsReply : Reply → Type 0
 IsReply (At session place fresh) = ⊤
 IsReply (Exposure counts) = ⊤
 IsReply (Refused refusal) = IsRefusal refusal
+
+-- why the health of an examination was not found: the disk failed, or memory ran out
+abbrev pub IsProbeRefusal : Refusal → Type 0
+IsProbeRefusal Disk = ⊤
+IsProbeRefusal Memory = ⊤
+IsProbeRefusal refusal = ⊥

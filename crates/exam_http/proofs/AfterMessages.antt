@@ -1,8 +1,10 @@
 -- What is after one message, and the loop over messages.
-use Rattle.std.proofs.Common.{◌≡◌, ℕ, ◌+◌, ◌≤◌, Bool, List, ◌++◌, length, take, drop, refl, sym, ap, subst, ◌∙◌, inl, inr, append_assoc}
+use Rattle.std.proofs.Common.{◌≡◌, ℕ, ◌+◌, ◌≤◌, Bool, List, ◌++◌, Option, length, take, drop, refl, sym, ap, subst, ◌∙◌, inl, inr, append_assoc}
 use Rattle.std.specs.Prelude.{Result, Ok, Err, OnErr}
 use Rattle.std.proofs.Math.Seq.{take-append-add}
 use Rattle.std.proofs.lemmas.List.{take-append-drop, length-take-le}
+use Rattle.exam_handler.specs.declared.health.Health.{Health}
+use Rattle.history_model.specs.declared.refusal.Refusal.{Refusal}
 use Rattle.history_model.specs.declared.request.Request.{Request}
 use Rattle.history_model.specs.declared.request.Reply.{Reply}
 use Rattle.wire_http.specs.declared.message.Message.{Message}
@@ -11,14 +13,22 @@ use Rattle.wire_http.specs.Messages.{IsMessage, IsFault}
 use Rattle.exam_http.specs.declared.ended.Ended.TheVariants.{Done, BadInput, Link, Memory}
 use Rattle.exam_http.specs.declared.ended.AfterMessage.{AfterMessage}
 use Rattle.exam_http.specs.declared.ended.AfterMessage.TheVariants.{Answered, Over}
-use Rattle.exam_http.specs.Replies.{wire_fault_text}
+use Rattle.history_model.specs.declared.request.Reply.TheVariants.{Refused}
+use Rattle.exam_http.specs.Replies.{reply_text, health_text, IsHealthText, wire_fault_text}
+use Rattle.exam_http.specs.declared.asked.Asked.{Asked}
+use Rattle.exam_http.specs.declared.asked.Asked.TheVariants as ask
 use Rattle.exam_http.specs.declared.message_fault.MessageFault.{MessageFault}
 use Rattle.exam_http.specs.Serving as serving
-use Rattle.exam_http.specs.Serving.{IsCutOff, IsAfter, Becomes, IsPartOfResponse, Refuses, Gets, IsResponse, LeadsTo, unchanged, then_asked}
+use Rattle.exam_http.specs.Serving.{IsCutOff, IsAfter, Becomes, IsPartOfResponse, Refuses, Gets, IsResponse, LeadsTo, unchanged, then_asked, then_probed}
 
 pub on_err : {T E : Type 0} (r : Result T E) (P : Type 0) → P → OnErr r P
 on_err (Ok x) P p = tt
 on_err (Err e) P p = p
+
+-- a look at the health has a response
+pub some_text : (found : Result Health Refusal) (close : Bool) → (text : List ℕ) × IsHealthText found close text
+some_text (Ok h) close = (health_text 0 h close, (0, refl))
+some_text (Err why) close = (reply_text (Refused why) close, refl)
 
 -- one piece more of a text
 pub piece_more : (text : List ℕ) (d k : ℕ) → d ≤ length text → take d text ++ take k (drop d text) ≡ take (d + k) text
@@ -27,9 +37,25 @@ piece_more text d k le =
     ∙ ap (λ (x : List ℕ). take (length (take d text) + k) x) (take-append-drop d text)
     ∙ ap (λ n. take (n + k) text) (length-take-le d text le)
 
-module _ {H : Type 0} (does : H → Request → Reply → H → Type 0) (idles : H → H → Type 0) where
+module _ {H : Type 0} (does : H → Request → Reply → H → Type 0)
+    (probes : H → Result Health Refusal → H → Type 0) (idles : H → H → Type 0) where
+  pub nothing_leads : (start : H) → LeadsTo does probes idles start start
+  nothing_leads start = unchanged
+
+  pub leads_through : (start middle new : H) → LeadsTo does probes idles start middle → LeadsTo does probes idles middle new
+      → LeadsTo does probes idles start new
+  leads_through start middle _ before serving.unchanged = before
+  leads_through start middle _ before (serving.then_asked request reply old new after asked) =
+      then_asked request reply old new (leads_through start middle old before after) asked
+  leads_through start middle _ before (serving.then_probed found old new after probed) =
+      then_probed found old new (leads_through start middle old before after) probed
+  leads_through start middle _ before (serving.then_idle old new after idle) =
+      serving.then_idle old new (leads_through start middle old before after) idle
+
+module _ {H : Type 0} (token : Option (List ℕ)) (does : H → Request → Reply → H → Type 0)
+    (probes : H → Result Health Refusal → H → Type 0) (idles : H → H → Type 0) where
   pub refused_after : (bytes text left : List ℕ) (old : H) (fault : WireFault) (after : AfterMessage) → IsFault bytes fault
-      → Refuses fault text after → IsAfter does idles old bytes text left old after
+      → Refuses fault text after → IsAfter token does probes idles old bytes text left old after
   refused_after bytes text left old fault Answered f r = absurd r
   refused_after bytes text left old fault (Over Done) f r = absurd r
   refused_after bytes text left old fault (Over (BadInput found)) f r =
@@ -38,13 +64,13 @@ module _ {H : Type 0} (does : H → Request → Reply → H → Type 0) (idles :
   refused_after bytes text left old fault (Over Memory) f r = (r, inl (refl, r))
 
   part_cut : (bytes text left : List ℕ) (old new : H) (m : Message) → IsMessage bytes m left
-      → IsPartOfResponse does old m text new → IsCutOff does old bytes text new
+      → IsPartOfResponse token does probes old m text new → IsCutOff token does probes old bytes text new
   part_cut bytes text left old new m reads (inl x) = inl x
   part_cut bytes text left old new m reads (inr x) =
       inr (inl (record { message = m; left = left; reads = reads; whole = x.0; response = x.2; begins = x.1 }))
 
   pub answered_after : (bytes text left : List ℕ) (old new : H) (m : Message) (after : AfterMessage) → IsMessage bytes m left
-      → Becomes does idles old m text new after → IsAfter does idles old bytes text left new after
+      → Becomes token does probes idles old m text new after → IsAfter token does probes idles old bytes text left new after
   answered_after bytes text left old new m Answered reads b = record { message = m; reads = reads; closes = b.0; answer = b.1 }
   answered_after bytes text left old new m (Over Done) reads b =
       inr (left, record { message = m; reads = reads; closes = b.0; answer = b.1 })
@@ -53,25 +79,15 @@ module _ {H : Type 0} (does : H → Request → Reply → H → Type 0) (idles :
   answered_after bytes text left old new m (Over Memory) reads b = (b.0, part_cut bytes text left old new m reads b.1)
 
   -- what a message asked leads to the handler after it
-  gets_leads : (asked : Result Request MessageFault) (close : Bool) (old : H) (text : List ℕ) (new : H)
-      → Gets does asked close old text new → LeadsTo does idles old new
-  gets_leads (Ok request) close old text new g = then_asked request g.0 old new unchanged g.1
-  gets_leads (Err fault) close old text new g = subst (λ h. LeadsTo does idles old h) (sym g.0) unchanged
+  gets_leads : (asked : Result Asked MessageFault) (close : Bool) (old : H) (text : List ℕ) (new : H)
+      → Gets token does probes asked close old text new → LeadsTo does probes idles old new
+  gets_leads (Ok (ask.Request request)) close old text new g = then_asked request g.0 old new unchanged g.1
+  gets_leads (Ok ask.Health) close old text new g = then_probed g.0 old new unchanged g.1
+  gets_leads (Err fault) close old text new g = subst (λ h. LeadsTo does probes idles old h) (sym g.0) unchanged
 
-  pub nothing_leads : (start : H) → LeadsTo does idles start start
-  nothing_leads start = unchanged
-
-  pub response_leads : (old : H) (m : Message) (text : List ℕ) (new : H) → IsResponse does old m text new
-      → LeadsTo does idles old new
+  pub response_leads : (old : H) (m : Message) (text : List ℕ) (new : H) → IsResponse token does probes old m text new
+      → LeadsTo does probes idles old new
   response_leads old m text new r = gets_leads r.asked m.close old text new r.gets
-
-  pub leads_through : (start middle new : H) → LeadsTo does idles start middle → LeadsTo does idles middle new
-      → LeadsTo does idles start new
-  leads_through start middle _ before serving.unchanged = before
-  leads_through start middle _ before (serving.then_asked request reply old new after asked) =
-      then_asked request reply old new (leads_through start middle old before after) asked
-  leads_through start middle _ before (serving.then_idle old new after idle) =
-      serving.then_idle old new (leads_through start middle old before after) idle
 
 -- what was written by two calls
 pub joined : (first middle last texts text : List ℕ) → middle ≡ first ++ texts → last ≡ middle ++ text

@@ -3,3 +3,4 @@ pub mod Names
 pub mod RoutePaths
 pub mod ServingLaws
 pub mod AfterMessages
+pub mod TokenLaws

@@ -18,10 +18,10 @@ use Rattle.exam_text.proofs.Numerals.{own}
 use Rattle.exam_http.specs.declared.route.RouteKind.{RouteKind}
 use Rattle.exam_http.specs.declared.route.RouteKind.TheVariants as kind
 use Rattle.exam_http.specs.declared.route.Route.{Route}
-use Rattle.exam_http.specs.declared.route.Route.TheVariants.{Sessions, Session, Answers, Close, Exposure}
+use Rattle.exam_http.specs.declared.route.Route.TheVariants.{Sessions, Session, Answers, Close, Exposure, Health}
 use Rattle.exam_http.specs.Paths.{IsRoute, path_of, Names}
 use Rattle.exam_http.specs.Table.{table, kind_of}
-use Rattle.exam_http.proofs.RoutePaths.{NoSlash, by_number, answers, close, sessions, exposure}
+use Rattle.exam_http.proofs.RoutePaths.{NoSlash, by_number, answers, close, sessions, exposure, health}
 
 -- ---- a front and a back that are taken off
 
@@ -113,6 +113,7 @@ leads (Session s) h = leads_session (decimal s) (some s h) (digits s h)
 leads (Answers s) h = leads_answers (decimal s) (some s h) (digits s h)
 leads (Close s) h = leads_close (decimal s) (some s h) (digits s h)
 leads Exposure h = exposure
+leads Health h = health
 
 -- ---- the path of a route is a text
 
@@ -127,6 +128,7 @@ is_ascii_path (Answers s) h = IsAscii-append (codes "/sessions/" ++ decimal s) (
 is_ascii_path (Close s) h = IsAscii-append (codes "/sessions/" ++ decimal s) (codes "/close")
     (IsAscii-append (codes "/sessions/") (decimal s) (search rules) (ascii_number s h)) (search rules)
 is_ascii_path Exposure h = search rules
+is_ascii_path Health h = search rules
 
 pub is_path : (r : Route) → IsRoute r → IsUtf8 (path_of r)
 is_path r h = IsUtf8-from_ascii (path_of r) (is_ascii_path r h)

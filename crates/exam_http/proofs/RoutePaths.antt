@@ -219,3 +219,7 @@ sessions = refl
 pub exposure : option_map (λ r. r.value) (first table (codes "/exposure")) ≡ Some kind.Exposure
 unfolding matchit_on_literals
 exposure = refl
+
+pub health : option_map (λ r. r.value) (first table (codes "/health")) ≡ Some kind.Health
+unfolding matchit_on_literals
+health = refl

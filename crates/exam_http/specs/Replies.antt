@@ -1,5 +1,5 @@
 -- The statuses, bodies and texts of responses.
-use Rattle.std.specs.Prelude.{ℕ, Bool, true, List, [], map, codes, if◌then◌else◌}
+use Rattle.std.specs.Prelude.{◌≡◌, ℕ, Bool, true, List, [], map, codes, Result, Ok, Err, if◌then◌else◌}
 use Rattle.serde_json.specs.Data.{Data, boolean, number, unsigned, string, array, object, no_items, item, no_members, member}
 use Rattle.serde_json.specs.View.{items_of}
 use Rattle.serde_json.specs.Written.{compact_text}
@@ -12,10 +12,11 @@ use Rattle.history_model.specs.declared.refusal.Refusal.TheVariants as refusal
 use Rattle.history_model.specs.declared.request.Reply.{Reply}
 use Rattle.history_model.specs.declared.request.Reply.TheVariants.{At, Exposure, Refused}
 use Rattle.history_model.specs.Words.{refusal_word}
+use Rattle.exam_handler.specs.declared.health.Health.{Health}
 use Rattle.wire_http.specs.declared.message.WireFault.{WireFault}
 use Rattle.wire_http.specs.declared.message.WireFault.TheVariants as wire
 use Rattle.exam_http.specs.declared.message_fault.MessageFault.{MessageFault}
-use Rattle.exam_http.specs.declared.message_fault.MessageFault.TheVariants.{NoRoute, NoMethod, BadJson, BadBody}
+use Rattle.exam_http.specs.declared.message_fault.MessageFault.TheVariants.{NoRoute, NoMethod, BadJson, BadBody, Unauthorized}
 use Rattle.wire_http.specs.Responses.{response}
 
 -- ---- bodies: members are in the byte order of their names
@@ -52,6 +53,16 @@ exposure_body e =
     object (
     member (codes "finished") (whole_number e.finished) (
     member (codes "rows") (array (items_of (map counts_body e.rows))) no_members))
+
+-- how the examination is: how many workers are busy, its entries, its open sessions, and the bytes
+-- by which the journal may still grow
+abbrev pub health_body : ℕ → Health → Data
+health_body busy h =
+    object (
+    member (codes "busy") (whole_number busy) (
+    member (codes "entries") (whole_number h.entries) (
+    member (codes "open") (whole_number h.open) (
+    member (codes "room") (whole_number h.room) no_members))))
 
 -- an error of this name
 abbrev pub error_body : List ℕ → Data
@@ -99,6 +110,7 @@ fault_name NoRoute = codes "no-route"
 fault_name NoMethod = codes "no-method"
 fault_name BadJson = codes "bad-json"
 fault_name BadBody = codes "bad-body"
+fault_name Unauthorized = codes "unauthorized"
 
 -- ---- statuses
 
@@ -124,12 +136,23 @@ fault_status NoRoute = 404
 fault_status NoMethod = 405
 fault_status BadJson = 400
 fault_status BadBody = 422
+fault_status Unauthorized = 401
 
 -- ---- texts
 
 -- the response of a reply
 abbrev pub reply_text : Reply → Bool → List ℕ
 reply_text reply close = response (reply_status reply) (compact_text (reply_body reply)) close
+
+-- the response of an examination's health, with so many busy workers
+abbrev pub health_text : ℕ → Health → Bool → List ℕ
+health_text busy h close = response 200 (compact_text (health_body busy h)) close
+
+-- the response of a look at the health, with some number of busy workers; why there is no health
+-- is told as a request's refusal is
+abbrev pub IsHealthText : Result Health Refusal → Bool → List ℕ → Type 0
+IsHealthText (Ok h) close text = (busy : ℕ) × (text ≡ health_text busy h close)
+IsHealthText (Err why) close text = text ≡ reply_text (Refused why) close
 
 -- the response to a message that asks nothing
 abbrev pub message_fault_text : MessageFault → Bool → List ℕ

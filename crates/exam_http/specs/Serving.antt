@@ -1,17 +1,21 @@
 -- What a connection gets.
-use Rattle.std.specs.Prelude.{◌≡◌, ℕ, ◌⊎◌, Bool, true, false, List, [], ◌++◌, Result, Ok, Err}
+use Rattle.std.specs.Prelude.{◌≡◌, ℕ, ◌⊎◌, Bool, true, false, List, [], ◌++◌, Option, Result, Ok, Err}
+use Rattle.history_model.specs.declared.refusal.Refusal.{Refusal}
 use Rattle.history_model.specs.declared.request.Request.{Request}
 use Rattle.history_model.specs.declared.request.Reply.{Reply}
+use Rattle.exam_handler.specs.declared.health.Health.{Health}
 use Rattle.wire_http.specs.declared.message.Message.{Message}
 use Rattle.wire_http.specs.declared.message.WireFault.{WireFault}
 use Rattle.wire_http.specs.Messages.{IsMessage, IsFault}
+use Rattle.exam_http.specs.declared.asked.Asked.{Asked}
+use Rattle.exam_http.specs.declared.asked.Asked.TheVariants as ask
 use Rattle.exam_http.specs.declared.ended.Ended.{Ended}
 use Rattle.exam_http.specs.declared.ended.Ended.TheVariants.{Done, BadInput, Link, Memory}
 use Rattle.exam_http.specs.declared.ended.AfterMessage.{AfterMessage}
 use Rattle.exam_http.specs.declared.ended.AfterMessage.TheVariants.{Answered, Over}
 use Rattle.exam_http.specs.declared.message_fault.MessageFault.{MessageFault}
 use Rattle.exam_http.specs.Asks.{Asks}
-use Rattle.exam_http.specs.Replies.{reply_text, message_fault_text, wire_fault_text}
+use Rattle.exam_http.specs.Replies.{reply_text, IsHealthText, message_fault_text, wire_fault_text}
 
 -- the text is a beginning of the whole
 abbrev pub Begins : List ℕ → List ℕ → Type 0
@@ -25,20 +29,24 @@ Refuses fault text (Over (BadInput found)) = (found ≡ fault) × (text ≡ wire
 Refuses fault text (Over Link) = Begins text (wire_fault_text fault)
 Refuses fault text (Over Memory) = text ≡ []
 
--- `does old request reply new` is what a request does to the handler, and `idles old new` what idle
--- time does
-module _ {H : Type 0} (does : H → Request → Reply → H → Type 0) where
+-- `token` is what messages have to bear, if there is one. `does old request reply new` is what a
+-- request does to the handler, `probes old found new` what a look at the health does, and `idles old
+-- new` what idle time does
+module _ {H : Type 0} (token : Option (List ℕ)) (does : H → Request → Reply → H → Type 0)
+    (probes : H → Result Health Refusal → H → Type 0) where
   -- what is asked is done, and the text is the response of its reply; a message that asks nothing
   -- changes nothing
-  abbrev pub Gets : Result Request MessageFault → Bool → H → List ℕ → H → Type 0
-  Gets (Ok request) close old text new =
+  abbrev pub Gets : Result Asked MessageFault → Bool → H → List ℕ → H → Type 0
+  Gets (Ok (ask.Request request)) close old text new =
       (reply : Reply) × does old request reply new × (text ≡ reply_text reply close)
+  Gets (Ok ask.Health) close old text new =
+      (found : Result Health Refusal) × probes old found new × IsHealthText found close text
   Gets (Err fault) close old text new = (new ≡ old) × (text ≡ message_fault_text fault close)
 
   -- the text is the response to a message
   pub record IsResponse (old : H) (m : Message) (text : List ℕ) (new : H) : Type 0 where
-    pub asked : Result Request MessageFault
-    pub asks : Asks m asked
+    pub asked : Result Asked MessageFault
+    pub asks : Asks token m asked
     pub gets : Gets asked m.close old text new
 
   -- the text is a beginning of the response to the message that the bytes begin with, whose time
@@ -108,15 +116,6 @@ module _ {H : Type 0} (does : H → Request → Reply → H → Type 0) where
       pub ends : Ends state rest last final ended
       pub whole : text ≡ texts ++ last
 
-    -- requests that were done and idle times that passed, one after another, lead from a handler to
-    -- another. It is what is known of a handler where the link does not tell its bytes
-    pub data LeadsTo (start : H) : H → Type 0 where
-      unchanged : LeadsTo start start
-      then_asked : (request : Request) (reply : Reply) (old new : H) → LeadsTo start old
-          → does old request reply new
-          → LeadsTo start new
-      then_idle : (old new : H) → LeadsTo start old → idles old new → LeadsTo start new
-
     -- ---- one message of the loop
 
     -- what became of the message that the bytes begin with
@@ -131,3 +130,19 @@ module _ {H : Type 0} (does : H → Request → Reply → H → Type 0) where
     Becomes old m text new (Over (BadInput fault)) = ⊥
     Becomes old m text new (Over Link) = IsPartOfResponse old m text new
     Becomes old m text new (Over Memory) = (text ≡ []) × IsPartOfResponse old m text new
+
+-- `does`, `probes` and `idles` are those of a handler, as above
+module _ {H : Type 0} (does : H → Request → Reply → H → Type 0)
+    (probes : H → Result Health Refusal → H → Type 0) (idles : H → H → Type 0) where
+  -- requests that were done, looks at the health and idle times that passed, one after another, lead
+  -- from a handler to another. It is what is known of a handler where the link does not tell its
+  -- bytes
+  pub data LeadsTo (start : H) : H → Type 0 where
+    unchanged : LeadsTo start start
+    then_asked : (request : Request) (reply : Reply) (old new : H) → LeadsTo start old
+        → does old request reply new
+        → LeadsTo start new
+    then_probed : (found : Result Health Refusal) (old new : H) → LeadsTo start old
+        → probes old found new
+        → LeadsTo start new
+    then_idle : (old new : H) → LeadsTo start old → idles old new → LeadsTo start new

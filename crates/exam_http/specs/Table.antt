@@ -5,7 +5,7 @@ use Rattle.matchit.specs.Router.{RouteOf}
 use Rattle.exam_http.specs.declared.route.RouteKind.{RouteKind}
 use Rattle.exam_http.specs.declared.route.RouteKind.TheVariants as kind
 use Rattle.exam_http.specs.declared.route.Route.{Route}
-use Rattle.exam_http.specs.declared.route.Route.TheVariants.{Sessions, Session, Answers, Close, Exposure}
+use Rattle.exam_http.specs.declared.route.Route.TheVariants.{Sessions, Session, Answers, Close, Exposure, Health}
 
 abbrev pub entry : List ℕ → List ℕ → List (ℕ × ℕ) → RouteKind → List ℕ × RouteOf RouteKind
 entry pattern text names value =
@@ -18,6 +18,7 @@ id_name = (11, 13) ∷ []
 abbrev pub table : RowsOf (RouteOf RouteKind)
 table =
     entry (codes "/exposure") (codes "/exposure") [] kind.Exposure
+    ∷ entry (codes "/health") (codes "/health") [] kind.Health
     ∷ entry (codes "/sessions/" ++ 256 ∷ codes "/answers")
     (codes "/sessions/{id}/answers") id_name kind.Answers
     ∷ entry (codes "/sessions/" ++ 256 ∷ codes "/close")
@@ -33,3 +34,4 @@ kind_of (Session s) = kind.Session
 kind_of (Answers s) = kind.Answers
 kind_of (Close s) = kind.Close
 kind_of Exposure = kind.Exposure
+kind_of Health = kind.Health

@@ -3,8 +3,9 @@ ghost use Rattle.std.specs.Prelude.{◌≡◌, IfOk, map};
 ghost use Rattle.serde_json.specs.Data.{string};
 ghost use Rattle.serde_json.specs.View.{view};
 ghost use Rattle.history_model.specs.declared.place.Place.TheVariants as place;
-ghost use Rattle.exam_http.specs.Replies.{whole_number, error_body, error_body_with, state_body, place_body, counts_body, exposure_body, end_word, refusal_body, reply_body};
+ghost use Rattle.exam_http.specs.Replies.{whole_number, error_body, error_body_with, state_body, place_body, counts_body, exposure_body, health_body, end_word, refusal_body, reply_body};
 
+use exam_handler::Health;
 use history_model::{Counts, Exposure, Place, Refusal, Reply, refusal_word};
 use serde_json::{Value, json};
 use std::alloc::{AllocError, Global};
@@ -92,6 +93,18 @@ fn exposure_value(alloc: Global, exposure: &Exposure) -> Result<Value, AllocErro
 {
     let rows = Value::Array(rows_of(alloc, exposure.rows.as_slice())?);
     json!(in alloc; {"finished": exposure.finished, "rows": rows})
+}
+
+/// The body of an examination's health, with so many busy workers.
+pub(crate) fn health_value(alloc: Global, busy: u32, health: &Health) -> Result<Value, AllocError>
+    ensures { IfOk result (λ v. view v ≡ health_body busy health.now) }
+{
+    json!(in alloc; {
+        "busy": busy,
+        "entries": health.entries,
+        "open": health.open,
+        "room": health.room
+    })
 }
 
 fn end_word(place: Place) -> &'static str

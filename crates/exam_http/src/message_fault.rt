@@ -11,4 +11,6 @@ pub enum MessageFault {
     BadJson,
     /// A number of the body is missing, isn't written in digits alone, or is out of range.
     BadBody,
+    /// The server has a token, and the message does not bear it.
+    Unauthorized,
 }

@@ -15,6 +15,7 @@ pub enum Route {
     Answers(u32),
     Close(u32),
     Exposure,
+    Health,
 }
 
 /// A route without its session's number: what the router finds.
@@ -25,9 +26,10 @@ pub enum RouteKind {
     Answers,
     Close,
     Exposure,
+    Health,
 }
 
-/// Adds the five routes to a router that has none.
+/// Adds the six routes to a router that has none.
 fn add_routes(router: &mut Router<RouteKind>) -> Result<(), InsertError>
     requires { router.old ≡ [] }
     ensures { OnOk result (router.new ≡ table) }
@@ -37,10 +39,11 @@ fn add_routes(router: &mut Router<RouteKind>) -> Result<(), InsertError>
     router.insert("/sessions/{id}/answers", RouteKind::Answers)?;
     router.insert("/sessions/{id}/close", RouteKind::Close)?;
     router.insert("/exposure", RouteKind::Exposure)?;
+    router.insert("/health", RouteKind::Health)?;
     Ok(())
 }
 
-/// The router of the five routes.
+/// The router of the six routes.
 pub(crate) fn router(alloc: Global) -> Result<Router<RouteKind>, InsertError>
     ensures { IfOk result (λ router. router ≡ table) }
 {
@@ -108,6 +111,13 @@ fn route_of_kind(kind: RouteKind, path: &[u8]) -> Option<Route>
                 None
             }
         }
+        RouteKind::Health => {
+            if path == b"/health".as_slice() {
+                Some(Route::Health)
+            } else {
+                None
+            }
+        }
     }
 }
 
@@ -131,6 +141,6 @@ pub(crate) fn method_of(route: Route) -> &'static [u8]
 {
     match route {
         Route::Sessions | Route::Answers(_) | Route::Close(_) => b"POST",
-        Route::Session(_) | Route::Exposure => b"GET",
+        Route::Session(_) | Route::Exposure | Route::Health => b"GET",
     }
 }

@@ -1,20 +1,22 @@
 //! One connection.
 ghost use Rattle.std.specs.Prelude.{◌≡◌, ◌≢◌, ◌++◌, ◌⊎◌, List, ℕ, IsTrue, IfOk, OnErr, OnOk};
+ghost use Rattle.std.specs.Option.{option_copied};
 ghost use Rattle.exam_edge.specs.Faults.{Rose};
 ghost use Rattle.exam_edge.specs.Lent.{IsLent, FailsOnly};
 ghost use Rattle.wire_http.specs.Messages.{bytes_of};
 ghost use Rattle.exam_http.specs.Serving.{Begins, IsResponse, Becomes, Refuses, IsAfter, IsServed, LeadsTo};
 ghost use Rattle.exam_http.specs.Table.{table};
 
-use crate::asking::request_of;
+use crate::asking::asked_of;
 use crate::ended::AfterMessage;
-use crate::route::{RouteKind, router};
-use crate::texts::{message_fault_text, reply_text, wire_fault_text};
-use crate::{Ended, Handler};
+use crate::route::router;
+use crate::terms::Terms;
+use crate::texts::{found_text, message_fault_text, reply_text, wire_fault_text};
+use crate::{Asked, Ended, Handler};
 use exam_edge::{Failed, Link};
-use matchit::Router;
 use std::alloc::{AllocError, Global};
 use std::sync::Wait;
+use std::sync::atomic::{AtomicU32, Ordering};
 use wire_http::{Kept, Message, WireFault, read_request};
 
 // Writes a whole text.
@@ -41,24 +43,29 @@ fn write_all<K: Link>(link: &mut K, text: &[u8]) -> Result<(), Failed>
 fn respond<R: Wait + Sync, H: Handler>(
     rt: &R,
     alloc: Global,
-    router: &Router<RouteKind>,
+    terms: &Terms,
     handler: &mut H,
     message: &Message,
 ) -> Result<Vec<u8>, AllocError>
-    requires { router.now ≡ table }
+    requires { terms.now.router ≡ table }
     ensures response { IfOk result (λ text.
-        IsResponse H.does handler.old message.now text.items handler.new) }
+        IsResponse (option_copied terms.now.token) H.does H.probes handler.old message.now text.items handler.new) }
     ensures memory { OnErr result ((handler.new ≡ handler.old)
-        ⊎ ((text : List ℕ) × IsResponse H.does handler.old message.now text handler.new)) }
+        ⊎ ((text : List ℕ) × IsResponse (option_copied terms.now.token) H.does H.probes handler.old message.now text handler.new)) }
 {
-    let asked = match request_of(alloc, router, message) {
+    let asked = match asked_of(alloc, terms, message) {
         Ok(asked) => asked,
         Err(e) => return Err(e),
     };
     match asked {
-        Ok(request) => {
+        Ok(Asked::Request(request)) => {
             let reply = handler.handle(rt, alloc, &request);
             reply_text(alloc, &reply, message.close)
+        }
+        Ok(Asked::Health) => {
+            let found = handler.probe(rt);
+            let busy = terms.busy.load(Ordering::SeqCst);
+            found_text(alloc, busy, found, message.close)
         }
         Err(fault) => message_fault_text(alloc, fault, message.close),
     }
@@ -68,22 +75,22 @@ fn respond<R: Wait + Sync, H: Handler>(
 fn answer<R: Wait + Sync, H: Handler, K: Link>(
     rt: &R,
     alloc: Global,
-    router: &Router<RouteKind>,
+    terms: &Terms,
     handler: &mut H,
     link: &mut K,
     message: &Message,
 ) -> AfterMessage
-    requires { router.now ≡ table }
-    ensures leads { LeadsTo H.does H.idles handler.old handler.new }
+    requires { terms.now.router ≡ table }
+    ensures leads { LeadsTo H.does H.probes H.idles handler.old handler.new }
     ensures becomes { IsTrue (K.tells link.old) → (text : List ℕ)
         × (K.written link.new ≡ K.written link.old ++ text)
-        × Becomes H.does H.idles handler.old message.now text handler.new result }
+        × Becomes (option_copied terms.now.token) H.does H.probes H.idles handler.old message.now text handler.new result }
     ensures left { IsTrue (K.tells link.old) → K.left link.new ≡ K.left link.old }
     ensures failed { result ≡ AfterMessage.Over Ended.Link
         → Rose (K.faults link.old) (K.faults link.new) }
     ensures frame { IsLent K.tells K.identity K.faults link.old link.new }
 {
-    match respond(rt, alloc, router, handler, message) {
+    match respond(rt, alloc, terms, handler, message) {
         Err(_) => AfterMessage::Over(Ended::Memory),
         Ok(text) => match write_all(link, &text) {
             Err(Failed) => AfterMessage::Over(Ended::Link),
@@ -123,23 +130,23 @@ fn refuse<K: Link>(alloc: Global, link: &mut K, fault: WireFault) -> AfterMessag
 fn serve_message<R: Wait + Sync, H: Handler, K: Link>(
     rt: &R,
     alloc: Global,
-    router: &Router<RouteKind>,
+    terms: &Terms,
     handler: &mut H,
     link: &mut K,
     kept: &mut Kept,
 ) -> AfterMessage
-    requires { router.now ≡ table }
-    ensures leads { LeadsTo H.does H.idles handler.old handler.new }
+    requires { terms.now.router ≡ table }
+    ensures leads { LeadsTo H.does H.probes H.idles handler.old handler.new }
     ensures after { IsTrue (K.tells link.old) → (text : List ℕ)
         × (K.written link.new ≡ K.written link.old ++ text)
-        × IsAfter H.does H.idles handler.old (bytes_of kept.old ++ K.left link.old) text
+        × IsAfter (option_copied terms.now.token) H.does H.probes H.idles handler.old (bytes_of kept.old ++ K.left link.old) text
         (bytes_of kept.new ++ K.left link.new) handler.new result }
     ensures failed { result ≡ AfterMessage.Over Ended.Link
         → Rose (K.faults link.old) (K.faults link.new) }
     ensures frame { IsLent K.tells K.identity K.faults link.old link.new }
 {
     match read_request(alloc, link, kept) {
-        Ok(Some(message)) => answer(rt, alloc, router, handler, link, &message),
+        Ok(Some(message)) => answer(rt, alloc, terms, handler, link, &message),
         Ok(None) => AfterMessage::Over(Ended::Done),
         Err(WireFault::Link) => AfterMessage::Over(Ended::Link),
         Err(WireFault::Memory) => AfterMessage::Over(Ended::Memory),
@@ -151,22 +158,22 @@ fn serve_message<R: Wait + Sync, H: Handler, K: Link>(
 fn serve_all<R: Wait + Sync, H: Handler, K: Link>(
     rt: &R,
     alloc: Global,
-    router: &Router<RouteKind>,
+    terms: &Terms,
     handler: &mut H,
     link: &mut K,
     kept: &mut Kept,
 ) -> Ended
-    requires { router.now ≡ table }
-    ensures leads { LeadsTo H.does H.idles handler.old handler.new }
+    requires { terms.now.router ≡ table }
+    ensures leads { LeadsTo H.does H.probes H.idles handler.old handler.new }
     ensures served { IsTrue (K.tells link.old) → (text : List ℕ)
         × (K.written link.new ≡ K.written link.old ++ text)
-        × IsServed H.does H.idles handler.old (bytes_of kept.old ++ K.left link.old) text
+        × IsServed (option_copied terms.now.token) H.does H.probes H.idles handler.old (bytes_of kept.old ++ K.left link.old) text
         handler.new result }
     ensures failed { result ≡ Ended.Link → Rose (K.faults link.old) (K.faults link.new) }
     ensures frame { IsLent K.tells K.identity K.faults link.old link.new }
 {
     'messages: for _ in rt.forever() {
-        match serve_message(rt, alloc, router, handler, link, kept) {
+        match serve_message(rt, alloc, terms, handler, link, kept) {
             AfterMessage::Answered => {}
             AfterMessage::Over(ended) => return ended,
         }
@@ -175,18 +182,23 @@ fn serve_all<R: Wait + Sync, H: Handler, K: Link>(
 }
 
 /// Serves one connection to its end: what each message asks is done, and its response written, in order; then the response
-/// of a fault, if there is one. If the link fails or memory runs out, the last response may be cut off. Whatever the link
-/// tells of its bytes, nothing but requests and idle time changes the handler.
+/// of a fault, if there is one. If the link fails or memory runs out, the last response may be cut off. Where there is a
+/// token, a message that does not bear it is refused, and does nothing, but for a look at the health. `busy` is how many
+/// workers serve a connection now. Whatever the link tells of its bytes, nothing but requests, looks at the health and idle
+/// time changes the handler.
 pub fn serve_connection<R: Wait + Sync, H: Handler, K: Link>(
     rt: &R,
     alloc: Global,
     handler: &mut H,
     link: &mut K,
+    token: Option<&[u8]>,
+    busy: &AtomicU32,
 ) -> Ended
-    ensures leads { LeadsTo H.does H.idles handler.old handler.new }
+    ensures leads { LeadsTo H.does H.probes H.idles handler.old handler.new }
     ensures served { IsTrue (K.tells link.old) → (text : List ℕ)
         × (K.written link.new ≡ K.written link.old ++ text)
-        × IsServed H.does H.idles handler.old (K.left link.old) text handler.new result }
+        × IsServed (option_copied token.entry) H.does H.probes H.idles handler.old
+        (K.left link.old) text handler.new result }
     ensures failed { result ≡ Ended.Link → Rose (K.faults link.old) (K.faults link.new) }
     ensures frame { IsLent K.tells K.identity K.faults link.old link.new }
 {
@@ -194,6 +206,11 @@ pub fn serve_connection<R: Wait + Sync, H: Handler, K: Link>(
         Ok(router) => router,
         Err(_) => return Ended::Memory,
     };
+    let terms = Terms {
+        router,
+        token,
+        busy,
+    };
     let mut kept = Kept::new(alloc);
-    serve_all(rt, alloc, &router, handler, link, &mut kept)
+    serve_all(rt, alloc, &terms, handler, link, &mut kept)
 }

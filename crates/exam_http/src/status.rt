@@ -44,6 +44,7 @@ pub(crate) fn fault_status(fault: MessageFault) -> u16
         MessageFault::NoMethod => 405,
         MessageFault::BadJson => 400,
         MessageFault::BadBody => 422,
+        MessageFault::Unauthorized => 401,
     }
 }
 
@@ -56,5 +57,6 @@ pub(crate) fn fault_name(fault: MessageFault) -> &'static str
         MessageFault::NoMethod => "no-method",
         MessageFault::BadJson => "bad-json",
         MessageFault::BadBody => "bad-body",
+        MessageFault::Unauthorized => "unauthorized",
     }
 }

@@ -4,12 +4,13 @@ ghost use Rattle.http.specs.StatusCode.{IsStatusCode};
 ghost use Rattle.serde_json.specs.View.{view};
 ghost use Rattle.serde_json.specs.Written.{compact_text, has_float};
 ghost use Rattle.wire_http.specs.Responses.{response};
-ghost use Rattle.exam_http.specs.Replies.{error_body, reply_text, message_fault_text, wire_fault_text};
+ghost use Rattle.exam_http.specs.Replies.{error_body, reply_text, health_text, IsHealthText, message_fault_text, wire_fault_text};
 
 use crate::MessageFault;
-use crate::body::{error_value, reply_value};
+use crate::body::{error_value, health_value, reply_value};
 use crate::status::{fault_name, fault_status, reply_status};
-use history_model::Reply;
+use exam_handler::Health;
+use history_model::{Refusal, Reply};
 use serde_json::Value;
 use std::alloc::{AllocError, Global};
 use wire_http::{WireFault, response_text};
@@ -32,6 +33,33 @@ pub(crate) fn reply_text(alloc: Global, reply: &Reply, close: bool) -> Result<Ve
 {
     let value = reply_value(alloc, reply)?;
     text_of(alloc, reply_status(reply), &value, close)
+}
+
+fn health_text(
+    alloc: Global,
+    busy: u32,
+    health: &Health,
+    close: bool,
+) -> Result<Vec<u8>, AllocError>
+    ensures { IfOk result (λ text. text.items ≡ health_text busy health.now close) }
+{
+    let value = health_value(alloc, busy, health)?;
+    text_of(alloc, 200, &value, close)
+}
+
+/// The response of a look at the health, with so many busy workers.
+pub(crate) fn found_text(
+    alloc: Global,
+    busy: u32,
+    found: Result<Health, Refusal>,
+    close: bool,
+) -> Result<Vec<u8>, AllocError>
+    ensures { IfOk result (λ text. IsHealthText found close text.items) }
+{
+    match found {
+        Ok(health) => health_text(alloc, busy, &health, close),
+        Err(refusal) => reply_text(alloc, &Reply::Refused(refusal), close),
+    }
 }
 
 fn error_text(alloc: Global, status: u16, name: &str, close: bool) -> Result<Vec<u8>, AllocError>

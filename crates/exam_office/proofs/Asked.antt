@@ -26,7 +26,7 @@ use Rattle.history_model.specs.Requests.{Begins, RecordsAnswer, Leads, by_begin,
 use Rattle.answer_journal.specs.Journal.{tells_of, accounts_of, faults_of, identity_of}
 use Rattle.exam_office.specs.Asking.{IsStoppedBy, AreGood, no_more, one_more, IsDurable, StandsForOne, Steps, IsBegunBy, not_begun, begun, IsOnTheWay, IsSettled, IsSettledReply, Becomes, done, halted, IsAsked, IsAskedSurely, reply_of}
 use Rattle.exam_office.specs.Calls.{refused_with}
-use Rattle.exam_office.specs.Files.{Stands}
+use Rattle.exam_office.specs.Files.{StandsSecond}
 use Rattle.exam_handler.specs.Handling.{IsRefusal, IsReply}
 use Rattle.exam_office.specs.Marks.{history}
 use Rattle.exam_office.specs.Running.{Running}
@@ -314,7 +314,7 @@ module _ {D : Type 0} (old mid : Running D) (same : IsSameOffice old mid) (frame
   }
 
   -- it is resolved
-  pub durable_mended : mid.doubt ≡ None → (IsTrue (tells_of old.journal) → AllImages (Stands old.bank old.plan (history mid.marks)) (latest (accounts_of mid.journal))) → IsDurable mid.bank mid.plan mid
+  pub durable_mended : mid.doubt ≡ None → (IsTrue (tells_of old.journal) → AllImages (StandsSecond old.bank old.plan (history mid.marks)) (latest (accounts_of mid.journal))) → IsDurable mid.bank mid.plan mid
   durable_mended sure images = durable_on old mid same (record { sure = sure; images = λ told. images (subst IsTrue frame.tells told) })
 
   becomes_on : mid.doubt ≡ None → (asked : Request) (new : Running D) (answer : Reply) → Becomes old.bank old.plan (history mid.marks) asked mid new answer → Becomes old.bank old.plan (history mid.marks) asked old new answer

@@ -22,7 +22,7 @@ use Rattle.answer_journal.specs.Journal.{tells_of, accounts_of, faults_of, ident
 use Rattle.exam_office.specs.declared.mark.Mark.{Mark}
 use Rattle.exam_office.specs.Asking.{IsStoppedBy, IsGood, no_more, one_more, IsDurable, Steps, IsBegunBy, not_begun, begun}
 use Rattle.exam_office.specs.Calls.{Finding, refuse, nothing, add, refused_with, Calls, IsLeft, FindsAnswer, FindsStart, FindsClosing, IsFreshly}
-use Rattle.exam_office.specs.Files.{Stands}
+use Rattle.exam_office.specs.Files.{StandsSecond}
 use Rattle.exam_office.specs.Marks.{history}
 use Rattle.exam_office.specs.Running.{Running}
 use Rattle.exam_office.specs.Writing.{IsSameOffice}
@@ -49,7 +49,7 @@ module _ {D : Type 0} (request : Request) (finds : List Entry → Finding → Ty
     (frame : IsLent tells_of identity_of faults_of old.journal new.journal)
     (moments : IsTrue (tells_of old.journal) → AtEachMoment (accounts_of old.journal) (accounts_of new.journal) (IsLeft old.bank old.plan finds (history old.marks) old.doubt)) where
   abbrev Lasts : Type 0
-  Lasts = IsTrue (tells_of old.journal) → AllImages (Stands old.bank old.plan (history new.marks)) (latest (accounts_of new.journal))
+  Lasts = IsTrue (tells_of old.journal) → AllImages (StandsSecond old.bank old.plan (history new.marks)) (latest (accounts_of new.journal))
 
   by_surely : (o : Option Refusal) → (o ≡ None → Lasts) → CallsSurely finds old new o → IsFirst request Done old new o
   by_surely o lasts (is_found says grown sure) =
@@ -90,7 +90,7 @@ module _ {D : Type 0} (s step response : ℕ) (old new : Running D) (durable : I
       subst (λ (x : Entry). Leads old.bank old.plan H (Answer s step response) s false (H ++ x ∷ [])) (sym says.2)
       (by_answer s step response (H ++ Answered s step response ∷ []) (RecordsAnswer.is_new says.1 (subst (λ (x : Entry). Legal old.bank old.plan H x) says.2 says.3)))
 
-  pub answer_first : (result : Result Place Refusal) → OnOk result (IsTrue (tells_of old.journal) → AllImages (Stands old.bank old.plan (history new.marks)) (latest (accounts_of new.journal)))
+  pub answer_first : (result : Result Place Refusal) → OnOk result (IsTrue (tells_of old.journal) → AllImages (StandsSecond old.bank old.plan (history new.marks)) (latest (accounts_of new.journal)))
       → Calls (FindsAnswer old.bank old.plan s step response) old new (refused_with result) → IsFirst (Answer s step response) (DoneLeading old.bank old.plan (history old.marks) (Answer s step response) s false) old new (refused_with result)
   answer_first result lasts calls =
       first_so (Answer s step response) (FindsAnswer old.bank old.plan s step response) (DoneLeading old.bank old.plan (history old.marks) (Answer s step response) s false) old new durable
@@ -100,7 +100,7 @@ module _ {D : Type 0} (s step response : ℕ) (old new : Running D) (durable : I
       (λ e says. subst (λ (x : Entry). IsGood old.bank old.plan old.base (history old.marks) x) (sym says.2) tt)
       (λ says grown. (says.0, by_answer s step response (history old.marks) (RecordsAnswer.is_there says.1)))
       (λ e says grown. (says.0, led_answer e says))
-      frame moments (refused_with result) (on_ok result (IsTrue (tells_of old.journal) → AllImages (Stands old.bank old.plan (history new.marks)) (latest (accounts_of new.journal))) lasts) calls
+      frame moments (refused_with result) (on_ok result (IsTrue (tells_of old.journal) → AllImages (StandsSecond old.bank old.plan (history new.marks)) (latest (accounts_of new.journal))) lasts) calls
 
   pub answer_steps : IsSameOffice old new → Steps (IsBegunBy old.bank old.plan old.base (history old.marks) (Answer s step response)) old new
   answer_steps same =
@@ -125,7 +125,7 @@ module _ {D : Type 0} (s : ℕ) (old new : Running D) (durable : IsDurable old.b
       let H = history old.marks in
       subst (λ (x : Entry). IsNextOf old.bank old.plan H (Close s) H x) (sym says.1) (closing s refl (subst (λ (x : Entry). Legal old.bank old.plan H x) says.1 says.2))
 
-  pub closing_first : (result : Result Place Refusal) → OnOk result (IsTrue (tells_of old.journal) → AllImages (Stands old.bank old.plan (history new.marks)) (latest (accounts_of new.journal)))
+  pub closing_first : (result : Result Place Refusal) → OnOk result (IsTrue (tells_of old.journal) → AllImages (StandsSecond old.bank old.plan (history new.marks)) (latest (accounts_of new.journal)))
       → Calls (FindsClosing old.bank old.plan s) old new (refused_with result) → IsFirst (Close s) (DoneClosing old.bank old.plan (history old.marks) s) old new (refused_with result)
   closing_first result lasts calls =
       let H = history old.marks in
@@ -136,7 +136,7 @@ module _ {D : Type 0} (s : ℕ) (old new : Running D) (durable : IsDurable old.b
       (λ e says. subst (λ (x : Entry). IsGood old.bank old.plan old.base (history old.marks) x) (sym says.1) tt)
       (λ says grown. absurd says)
       (λ e says grown. (says.0, subst (λ (x : Entry). Legal old.bank old.plan H x) says.1 says.2, ap (λ (x : Entry). H ++ x ∷ []) says.1))
-      frame moments (refused_with result) (on_ok result (IsTrue (tells_of old.journal) → AllImages (Stands old.bank old.plan (history new.marks)) (latest (accounts_of new.journal))) lasts) calls
+      frame moments (refused_with result) (on_ok result (IsTrue (tells_of old.journal) → AllImages (StandsSecond old.bank old.plan (history new.marks)) (latest (accounts_of new.journal))) lasts) calls
 
   pub closing_steps : IsSameOffice old new → Steps (IsBegunBy old.bank old.plan old.base (history old.marks) (Close s)) old new
   closing_steps same =
@@ -247,7 +247,7 @@ module _ {D : Type 0} (booking : ℕ) (old new : Running D) (durable : IsDurable
         let number : n.0 ≡ session = cc in
         (says.0, subst (λ (k : ℕ). Leads old.bank old.plan H (Begin booking) k true (H ++ e ∷ [])) number n.1)
 
-    pub start_first : (fresh : Bool) → IsFreshly old new booking fresh → (IsTrue (tells_of old.journal) → AllImages (Stands old.bank old.plan (history new.marks)) (latest (accounts_of new.journal)))
+    pub start_first : (fresh : Bool) → IsFreshly old new booking fresh → (IsTrue (tells_of old.journal) → AllImages (StandsSecond old.bank old.plan (history new.marks)) (latest (accounts_of new.journal)))
         → Calls (FindsStart old.bank old.plan booking) old new None → IsFirst (Begin booking) (DoneLeading old.bank old.plan (history old.marks) (Begin booking) session fresh) old new None
     start_first fresh freshly lasts calls =
         first_so (Begin booking) (FindsStart old.bank old.plan booking) (DoneLeading old.bank old.plan (history old.marks) (Begin booking) session fresh) old new durable

@@ -12,6 +12,7 @@ pub mod MomentsLaws
 pub mod FileLaws
 pub mod Written
 pub mod Settled
+pub mod Probed
 pub mod Called
 pub mod TakingLaws
 pub mod Answered
@@ -36,3 +37,6 @@ pub mod MigratingPassing
 pub mod MigratingEnds
 pub mod MigratingLaws
 pub mod MigratingSwitch
+pub mod PayloadLaws
+pub mod ReadingLaws
+pub mod AppendingLaws

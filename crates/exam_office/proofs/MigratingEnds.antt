@@ -19,10 +19,11 @@ use Rattle.answer_journal.specs.Versions.{Counted, contents, counted_in, header,
 use Rattle.exam_office.specs.declared.fault.OpenFault.{OpenFault}
 use Rattle.exam_office.specs.declared.fault.OpenFault.TheVariants.{Journal, Version, BadRecord, BadTree, Illegal, Disk as OfDisk, Memory as OfMemory}
 use Rattle.exam_office.specs.declared.migrating.MigrateFault.{MigrateFault}
-use Rattle.exam_office.specs.Files.{payload_in, AreRecordsOf, Stands}
-use Rattle.exam_office.specs.Migrating.{IsImageOrStands, IsLeft, IsMigrateAnswer, IsMovedUpTo, IsOldFile, StandsMoved, migrate_fault}
+use Rattle.exam_office.specs.Files.{payload_in, AreRecordsOf, Stands, StandsSecond}
+use Rattle.exam_office.specs.Migrating.{IsImageOrStands, IsLeft, IsMigrateAnswer, IsMovedUpTo, IsOldFile, migrate_fault}
 use Rattle.exam_office.specs.declared.migrating.Moved.{Moved}
 use Rattle.exam_office.specs.Opening.{IsReadAnswer, journal_fault}
+use Rattle.exam_office.proofs.Opened.{version_is, stands_second}
 use Rattle.exam_office.proofs.FileLaws.{one_history}
 use Rattle.exam_office.proofs.MigratingFiles.{either_stands, image_or_stands, moving_on, stands_after, while_read}
 use Rattle.exam_office.proofs.MigratingPassing.{counted_first}
@@ -109,13 +110,6 @@ read_moments b plan H old new is = while_read b plan H (latest old) old new (sam
 pub puts_nothing : (before now : List ℕ) (old new : List Account) (aside aside_now : List ℕ) → now ≡ before → new ≡ old → aside_now ≡ aside → PutsTailAside before now old new aside aside_now
 puts_nothing before now old new aside aside_now content accounts same = inl (record { content = content; moments = same_moments old new accounts }, same)
 
--- the version of the records of a file that represents a history
-pub version_is : (b : Tables) (plan : Plan) (H : List Entry) (file : List ℕ) (s : Stands b plan H file) → s.version ≡ (counted_in file).version
-version_is b plan H file s = sym (ap (λ (o : Option Counted). (unwrap_or o (second [])).version) s.holds)
-
-pub stands_moved : (b : Tables) (plan : Plan) (H : List Entry) (file : List ℕ) → (counted_in file).version ≡ 2 → Stands b plan H file → StandsMoved b plan H file
-stands_moved b plan H file two s = record { stands = s; second = version_is b plan H file s ∙ two }
-
 -- ---- a file that is no journal
 scan_not : (s : Scan) → scan_fault s ≡ Some OfVersion → ⊥
 scan_not (Whole ps) e = absurd (cc)
@@ -190,7 +184,7 @@ first_counts file version = by (contents file) refl
     by (Some c) some = first_unmoved file (some ∙ ap Some (sym (ap (λ (o : Option Counted). unwrap_or o (second [])) some))) version
 
 -- a file that was left represents what it represented, by the second version
-pub left_stands : (b : Tables) (plan : Plan) (H : List Entry) (file before after : List ℕ) (done : Moved) → IsLeft b plan before after done → before ≡ file → Stands b plan H file → StandsMoved b plan H after
+pub left_stands : (b : Tables) (plan : Plan) (H : List Entry) (file before after : List ℕ) (done : Moved) → IsLeft b plan before after done → before ≡ file → Stands b plan H file → StandsSecond b plan H after
 left_stands b plan H file before after done left is s =
     let two : (counted_in before).version ≡ 2 = sym (version_is b plan left.H before left.stands.stands) ∙ left.stands.second in
-    subst (StandsMoved b plan H) (sym left.same) (stands_moved b plan H before two (subst (Stands b plan H) (sym is) s))
+    subst (StandsSecond b plan H) (sym left.same) (stands_second b plan H before two (subst (Stands b plan H) (sym is) s))

@@ -15,12 +15,12 @@ use Rattle.answer_journal.specs.FrameLaws.{payloads-front}
 use Rattle.answer_journal.specs.Moving.{GivesEither, IsImageOrUnmoved, IsMovingWith, IsUnmoved, first}
 use Rattle.answer_journal.specs.Standing.{moved_records}
 use Rattle.answer_journal.specs.Versions.{mark, contents, counted, counted_from, second, version_of}
-use Rattle.exam_office.specs.Files.{payload_in, AreRecordsOf, Stands}
+use Rattle.exam_office.specs.Files.{payload_in, AreRecordsOf, Stands, StandsSecond}
 use Rattle.exam_office.specs.declared.fault.OpenFault.{OpenFault}
 use Rattle.exam_office.specs.declared.fault.OpenFault.TheVariants.{Disk as OfDisk, Memory as OfMemory}
 use Rattle.exam_office.specs.declared.migrating.MigrateFault.{MigrateFault}
 use Rattle.exam_office.specs.declared.migrating.MigrateFault.TheVariants.{Disk, Memory}
-use Rattle.exam_office.specs.Migrating.{IsImageOrStands, StandsMoved, migrate_fault}
+use Rattle.exam_office.specs.Migrating.{IsImageOrStands, migrate_fault}
 
 module _ (b : Tables) (plan : Plan) (H : List Entry) (R : List Record) (are : AreRecordsOf b plan H R) where
   no_records : (Q : List Record) → map (payload_in b plan 1) Q ≡ [] → map payload_of Q ≡ []
@@ -33,7 +33,7 @@ module _ (b : Tables) (plan : Plan) (H : List Entry) (R : List Record) (are : Ar
   unmoved_stands file (inr none) = record { records = R; are = are; version = 2; holds = none.1 ∙ ap (λ (ps : List (List ℕ)). Some (second ps)) (sym (no_records R none.0)) }
 
   -- the new records count
-  pub moved_stands : (file : List ℕ) → contents file ≡ Some (second (map payload_of R)) → StandsMoved b plan H file
+  pub moved_stands : (file : List ℕ) → contents file ≡ Some (second (map payload_of R)) → StandsSecond b plan H file
   moved_stands file holds = record { stands = record { records = R; are = are; version = 2; holds = holds }; second = refl }
 
   pub either_stands : (file : List ℕ) → GivesEither (map (payload_in b plan 1) R) (map payload_of R) file → Stands b plan H file

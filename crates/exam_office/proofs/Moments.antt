@@ -14,7 +14,7 @@ use Rattle.answer_journal.proofs.VersionLaws.{counted_goes_on, one_version}
 use Rattle.exam_records.specs.Shape.{IsRecord}
 use Rattle.exam_records.specs.Spelling.{payload_of}
 use Rattle.exam_office.specs.declared.mark.Mark.{Mark}
-use Rattle.exam_office.specs.Files.{AreRecordsOf, Stands}
+use Rattle.exam_office.specs.Files.{AreRecordsOf, StandsSecond}
 use Rattle.exam_office.specs.Marks.{history}
 use Rattle.exam_office.specs.Keeping.{IsSure, IsUnsure, IsBacked}
 use Rattle.exam_office.specs.Writing.{IsOneOf, as_before, with_doubt, IsMending, IsWriting}
@@ -22,12 +22,12 @@ use Rattle.exam_office.proofs.Records.{stands_so, stands_more, writes}
 
 -- ---- what a crash may leave of a journal, in payloads that count
 module _ {D : Type 0} (j : JournalState D) where
-  ready_images : IsReady j → IsTrue (tells_of j) → AllImages (λ file. contents file ≡ Some (second (payloads_of j))) (latest (accounts_of j))
+  pub ready_images : IsReady j → IsTrue (tells_of j) → AllImages (λ file. contents file ≡ Some (second (payloads_of j))) (latest (accounts_of j))
   ready_images ready told file i =
       let h = header j.version in
       one_version j.version (payload_list h (content_of j)) (payloads_of j) file (ready.counts told).counts (images_give h (content_of j) (accounts_of j) (length_of j) (ready.rest told) file i)
 
-  in_doubt_images : (ps : List (List ℕ)) (payload : List ℕ) → IsDoubtful ps payload j → IsTrue (tells_of j) → AllImages (HoldsOrOneMore ps payload) (latest (accounts_of j))
+  pub in_doubt_images : (ps : List (List ℕ)) (payload : List ℕ) → IsDoubtful ps payload j → IsTrue (tells_of j) → AllImages (HoldsOrOneMore ps payload) (latest (accounts_of j))
   in_doubt_images ps payload d told file i =
       let is = d.is told in
       let v = j.version in
@@ -39,7 +39,7 @@ module _ {D : Type 0} (j : JournalState D) where
 -- ---- in histories
 module _ {D : Type 0} (b : Tables) (plan : Plan) (j : JournalState D) where
   -- nothing is in doubt: each file that a crash may leave represents the history
-  pub sure_images : (H : List Entry) → IsSure b plan H j → IsTrue (tells_of j) → AllImages (Stands b plan H) (latest (accounts_of j))
+  pub sure_images : (H : List Entry) → IsSure b plan H j → IsTrue (tells_of j) → AllImages (StandsSecond b plan H) (latest (accounts_of j))
   sure_images H s told file i = stands_so b plan H s.records s.are file (ready_images j s.ready told file i ∙ ap (λ (ps : List (List ℕ)). Some (second ps)) (s.holds told))
 
   mending_so : (M : List Mark) (entry : Entry) (room : ℕ) (u : IsUnsure b plan M entry room j) (file : List ℕ) → HoldsOrOneMore (map payload_of u.records) (payload_of u.last) file → IsMending b plan (history M) (Some entry) file
@@ -48,7 +48,7 @@ module _ {D : Type 0} (b : Tables) (plan : Plan) (j : JournalState D) where
     | inr after ↦ record {
       so_far = history M ++ entry ∷ [];
       is_one_of = with_doubt entry;
-      stands = subst (λ (last : Entry). Stands b plan (history M ++ last ∷ []) file) u.is_entry (stands_more b plan (history M) u.records u.are u.last u.spells u.may file after);
+      stands = subst (λ (last : Entry). StandsSecond b plan (history M ++ last ∷ []) file) u.is_entry (stands_more b plan (history M) u.records u.are u.last u.spells u.may file after);
     }
   ]
 

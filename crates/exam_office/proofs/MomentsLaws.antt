@@ -8,7 +8,7 @@ use Rattle.form_model.specs.Plan.{Plan}
 use Rattle.history_model.specs.declared.entry.Entry.{Entry}
 use Rattle.exam_office.specs.declared.mark.Mark.{Mark}
 use Rattle.exam_office.specs.declared.mark.Mark.TheVariants.{Old, Opened, Own, Adopted, Fault}
-use Rattle.exam_office.specs.Files.{Stands}
+use Rattle.exam_office.specs.Files.{StandsSecond}
 use Rattle.exam_office.specs.Laws.{EachMomentStands}
 use Rattle.exam_office.specs.Marks.{history, AreMarks, opened, own, fault, adopted}
 use Rattle.exam_office.specs.Moments.{IsInHand, written, failed, kept, dropped, AreMoments, opening, one_more, IsLeftOnTheWay}
@@ -32,7 +32,7 @@ added entry M N (kept K size) = (Adopted entry size ∷ [], refl)
 added entry M N (dropped K) = ([], sym (append-nil (K ++ Fault entry ∷ [])))
 
 module _ (b : Tables) (plan : Plan) where
-  sure_at : (M more : List Mark) (H : List Entry) (file : List ℕ) → AreMarks M → history M ≡ H → Stands b plan H file → IsLeftOnTheWay b plan (M ++ more) file
+  sure_at : (M more : List Mark) (H : List Entry) (file : List ℕ) → AreMarks M → history M ≡ H → StandsSecond b plan H file → IsLeftOnTheWay b plan (M ++ more) file
   sure_at M more H file are is s = record {
     before = M;
     since = more;
@@ -40,7 +40,7 @@ module _ (b : Tables) (plan : Plan) where
     are_marks = are;
     doubt = None;
     doubt_is = tt;
-    stands = record { so_far = history M; is_one_of = as_before None; stands = subst (λ (G : List Entry). Stands b plan G file) (sym is) s };
+    stands = record { so_far = history M; is_one_of = as_before None; stands = subst (λ (G : List Entry). StandsSecond b plan G file) (sym is) s };
   }
 
   doubt_at : (entry : Entry) (K more : List Mark) (H : List Entry) (file : List ℕ) → AreMarks (K ++ Fault entry ∷ []) → history (K ++ Fault entry ∷ []) ≡ H → IsWriting b plan H entry file
@@ -94,7 +94,7 @@ module _ (b : Tables) (plan : Plan) where
     each_moment : (marks : List Mark) (now : List Account) → AreMoments b plan before marks now → AtEachMoment before now (IsLeftOnTheWay b plan marks)
     each_moment marks now (opening H size last at) =
         let M = map Old H ++ Opened size ∷ [] in
-        weaker (Stands b plan H) (IsLeftOnTheWay b plan M)
+        weaker (StandsSecond b plan H) (IsLeftOnTheWay b plan M)
         (λ file s. whole M file (sure_at M [] H file (opened H size) (history-opened H size) s)) before last at
     each_moment marks now (one_more entry M N mid later so_far hand at) =
         let more = added entry M N hand in

@@ -25,7 +25,7 @@ use Rattle.exam_office.specs.declared.mark.Mark.{Mark}
 use Rattle.exam_office.specs.declared.mark.Mark.TheVariants.{Old, Opened}
 use Rattle.exam_office.specs.declared.fault.OpenFault.{OpenFault}
 use Rattle.exam_office.specs.declared.fault.OpenFault.TheVariants.{Journal as OfJournal, Version, BadRecord, BadTree, Illegal, Disk, Memory}
-use Rattle.exam_office.specs.Files.{payload_in, counted_of, AreRecordsOf, Stands}
+use Rattle.exam_office.specs.Files.{payload_in, counted_of, AreRecordsOf, Stands, StandsSecond}
 use Rattle.exam_office.specs.Marks.{entry_of, history, reach, is_fault, AreMarks, opened}
 use Rattle.exam_office.specs.Keeping.{IsSure, IsKept}
 use Rattle.exam_office.specs.Moments.{AreMoments, opening}
@@ -160,7 +160,7 @@ module _ (marks : List Mark) (H : List Entry) (size : ℕ) (is : marks ≡ map O
   pub kept_open : {D : Type 0} (b : Tables) (plan : Plan) (base : List ℕ) (was : HandedDisk) (book : Ledger) (j : JournalState D) (file : List ℕ) (start given at : ℕ) → AreTaken b plan 2 start (tells_of j) file given at H
       → book.bank ≡ b → book.plan ≡ plan → book.entries ≡ H → IsReady j → limit_of j ≡ plan.journal → length_of j ≡ size
       → (IsTrue (tells_of j) → payloads_of j ≡ first_payloads given file) → was.faults ≤ faults_of j → Meets b plan (has base)
-      → (IsTrue (tells_of j) → IsSettled was.content was.accounts → AtEachMoment was.accounts (accounts_of j) (Stands b plan H))
+      → (IsTrue (tells_of j) → IsSettled was.content was.accounts → AtEachMoment was.accounts (accounts_of j) (StandsSecond b plan H))
       → IsKept b plan base book j marks None was
   kept_open b plan base was book j file start given at taken bank plan_is entries ready limit size_is keeps grows base_is stands = record {
     bank = bank;
@@ -208,6 +208,28 @@ pub stands_while_opened : (b : Tables) (plan : Plan) (H : List Entry) (content b
 stands_while_opened b plan H content between a0 a1 a2 s reading same finishing =
     joined (Stands b plan H) a0 a1 a2 (stands_while_read b plan H content a0 a1 s reading)
     (weaker (λ (file : List ℕ). contents file ≡ contents between) (Stands b plan H) (λ file e. stands_too b plan H content file s (e ∙ ap contents same)) a1 a2
+    (finishing (λ file i. at_end (λ f. f ≡ content) a0 a1 reading file i ∙ sym same)))
+
+-- the version of the records of a file that represents a history
+pub version_is : (b : Tables) (plan : Plan) (H : List Entry) (file : List ℕ) (s : Stands b plan H file) → s.version ≡ (counted_in file).version
+version_is b plan H file s = sym (ap (λ (o : Option Counted). (unwrap_or o (second [])).version) s.holds)
+
+pub stands_second : (b : Tables) (plan : Plan) (H : List Entry) (file : List ℕ) → (counted_in file).version ≡ 2 → Stands b plan H file → StandsSecond b plan H file
+stands_second b plan H file two s = record { stands = s; second = version_is b plan H file s ∙ two }
+
+-- a file with the same contents represents the same history by the same version
+pub second_too : (b : Tables) (plan : Plan) (H : List Entry) (one other : List ℕ) → StandsSecond b plan H one → contents other ≡ contents one → StandsSecond b plan H other
+second_too b plan H one other s e = record {
+  stands = record { records = s.stands.records; are = s.stands.are; version = s.stands.version; holds = e ∙ s.stands.holds };
+  second = s.second;
+}
+
+-- while it is read and finished, it has the same contents
+pub second_while_opened : (b : Tables) (plan : Plan) (H : List Entry) (content between : List ℕ) (a0 a1 a2 : List Account) → StandsSecond b plan H content → AtEachMoment a0 a1 (λ file. file ≡ content) → between ≡ content → (AllImages (λ file. file ≡ between) (latest a1) → AtEachMoment a1 a2 (λ file. contents file ≡ contents between)) → AtEachMoment a0 a2 (StandsSecond b plan H)
+second_while_opened b plan H content between a0 a1 a2 s reading same finishing =
+    joined (StandsSecond b plan H) a0 a1 a2
+    (weaker (λ (file : List ℕ). file ≡ content) (StandsSecond b plan H) (λ file e. subst (StandsSecond b plan H) (sym e) s) a0 a1 reading)
+    (weaker (λ (file : List ℕ). contents file ≡ contents between) (StandsSecond b plan H) (λ file e. second_too b plan H content file s (e ∙ ap contents same)) a1 a2
     (finishing (λ file i. at_end (λ f. f ≡ content) a0 a1 reading file i ∙ sym same)))
 
 -- a file was only read, and then finished in part: its tail was put aside first

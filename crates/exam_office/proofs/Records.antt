@@ -11,7 +11,7 @@ use Rattle.history_model.specs.Judging.{MayFollow, Record, entries_of, Backed, m
 use Rattle.exam_records.specs.Shape.{GoesWith, IsRecord}
 use Rattle.exam_records.specs.Spelling.{payload_of}
 use Rattle.answer_journal.specs.Versions.{contents, second, HoldsOrOneMore}
-use Rattle.exam_office.specs.Files.{counted_of, AreRecordsOf, Stands}
+use Rattle.exam_office.specs.Files.{counted_of, AreRecordsOf, Stands, StandsSecond}
 use Rattle.exam_office.specs.Writing.{IsWriting}
 
 -- a record that may follow has a tree if its entry needs one, with as many nodes as its entry has
@@ -42,15 +42,18 @@ module _ (b : Tables) (plan : Plan) (H : List Entry) (R : List Record) (are : Ar
   pub stands_by : (version : ℕ) (file : List ℕ) → contents file ≡ Some (counted_of b plan version R) → Stands b plan H file
   stands_by version file holds = record { records = R; are = are; version = version; holds = holds }
 
-  pub stands_so : (file : List ℕ) → contents file ≡ Some (second (map payload_of R)) → Stands b plan H file
-  stands_so file holds = stands_by 2 file holds
+  pub stands_so : (file : List ℕ) → contents file ≡ Some (second (map payload_of R)) → StandsSecond b plan H file
+  stands_so file holds = record { stands = record { records = R; are = are; version = 2; holds = holds }; second = refl }
 
-  pub stands_more : (r : Record) → IsRecord r → MayFollow b plan H r.entry r.tree → (file : List ℕ) → contents file ≡ Some (second (map payload_of R ++ payload_of r ∷ [])) → Stands b plan (H ++ r.entry ∷ []) file
+  pub stands_more : (r : Record) → IsRecord r → MayFollow b plan H r.entry r.tree → (file : List ℕ) → contents file ≡ Some (second (map payload_of R ++ payload_of r ∷ [])) → StandsSecond b plan (H ++ r.entry ∷ []) file
   stands_more r spells may file holds = record {
-    records = R ++ r ∷ [];
-    are = are_more r spells may;
-    version = 2;
-    holds = holds ∙ ap (λ (ps : List (List ℕ)). Some (second ps)) (sym (map-append payload_of R (r ∷ [])));
+    stands = record {
+      records = R ++ r ∷ [];
+      are = are_more r spells may;
+      version = 2;
+      holds = holds ∙ ap (λ (ps : List (List ℕ)). Some (second ps)) (sym (map-append payload_of R (r ∷ [])));
+    };
+    second = refl;
   }
 
   pub writes : (r : Record) → IsRecord r → MayFollow b plan H r.entry r.tree → (file : List ℕ) → HoldsOrOneMore (map payload_of R) (payload_of r) file → IsWriting b plan H r.entry file

@@ -13,7 +13,7 @@ use Rattle.answer_journal.specs.Versions.{HoldsOrOneMore}
 use Rattle.exam_office.specs.declared.mark.Mark.{Mark}
 use Rattle.exam_office.specs.declared.mark.Mark.TheVariants.{Adopted, Fault}
 use Rattle.exam_records.specs.Spelling.{payload_of}
-use Rattle.exam_office.specs.Files.{Stands}
+use Rattle.exam_office.specs.Files.{StandsSecond}
 use Rattle.exam_office.specs.Marks.{history}
 use Rattle.exam_office.specs.Running.{HandedDisk, Running}
 use Rattle.exam_office.specs.Keeping.{IsUnsure, IsKept}
@@ -34,9 +34,9 @@ module _ {D : Type 0} (b : Tables) (plan : Plan) (base : List ℕ) (book : Ledge
   seen : (later : List Account) → AtEachMoment (accounts_of j) later (IsMending b plan (history M) doubt) → AtEachMoment (accounts_of now.journal) later (IsMending now.bank now.plan (history now.marks) now.doubt)
   seen later moments = subst (λ (o : Running D). AtEachMoment (accounts_of o.journal) later (IsMending o.bank o.plan (history o.marks) o.doubt)) view moments
 
-  pub images_settled : (j1 : JournalState D) (M1 : List Mark) (book1 : Ledger) → IsKept b plan base book1 j1 M1 None was → tells_of j1 ≡ tells_of j → IsTrue (tells_of now.journal) → AllImages (Stands now.bank now.plan (history M1)) (latest (accounts_of j1))
+  pub images_settled : (j1 : JournalState D) (M1 : List Mark) (book1 : Ledger) → IsKept b plan base book1 j1 M1 None was → tells_of j1 ≡ tells_of j → IsTrue (tells_of now.journal) → AllImages (StandsSecond now.bank now.plan (history M1)) (latest (accounts_of j1))
   images_settled j1 M1 book1 kept1 tells told =
-      subst (λ (o : Running D). AllImages (Stands o.bank o.plan (history M1)) (latest (accounts_of j1))) view
+      subst (λ (o : Running D). AllImages (StandsSecond o.bank o.plan (history M1)) (latest (accounts_of j1))) view
       (sure_images b plan j1 (history M1) kept1.backed (subst IsTrue (sym tells) (told_here told)))
 
   -- ---- nothing is in doubt
@@ -47,9 +47,9 @@ module _ {D : Type 0} (b : Tables) (plan : Plan) (base : List ℕ) (book : Ledge
     pub mended_none : IsMended now.marks now.doubt now.marks
     mended_none = subst (λ (o : Running D). IsMended o.marks o.doubt o.marks) view (subst (λ (d : Option Entry). IsMended M d M) (sym none) sure)
 
-    pub images_none : IsTrue (tells_of now.journal) → AllImages (Stands now.bank now.plan (history now.marks)) (latest (accounts_of now.journal))
+    pub images_none : IsTrue (tells_of now.journal) → AllImages (StandsSecond now.bank now.plan (history now.marks)) (latest (accounts_of now.journal))
     images_none told =
-        subst (λ (o : Running D). AllImages (Stands o.bank o.plan (history o.marks)) (latest (accounts_of o.journal))) view (sure_images b plan j (history M) kept_none.backed (told_here told))
+        subst (λ (o : Running D). AllImages (StandsSecond o.bank o.plan (history o.marks)) (latest (accounts_of o.journal))) view (sure_images b plan j (history M) kept_none.backed (told_here told))
 
     pub moments_none : IsTrue (tells_of now.journal) → AtEachMoment (accounts_of now.journal) (accounts_of now.journal) (IsMending now.bank now.plan (history now.marks) now.doubt)
     moments_none told =

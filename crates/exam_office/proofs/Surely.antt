@@ -14,7 +14,7 @@ use Rattle.exam_office.specs.declared.mark.Mark.{Mark}
 use Rattle.exam_office.specs.Asking.{IsStoppedBy, IsDurable, StandsForOne, Steps}
 use Rattle.exam_office.specs.Calls.{Finding, refuse, nothing, add, IsHalted, IsLeft, Calls, unmended, refused, found, written, unwritten}
 use Rattle.exam_records.specs.Spelling.{payload_of}
-use Rattle.exam_office.specs.Files.{Stands}
+use Rattle.exam_office.specs.Files.{StandsSecond}
 use Rattle.exam_office.specs.Marks.{history, reach}
 use Rattle.exam_office.specs.Running.{Running}
 use Rattle.exam_office.specs.Writing.{IsOneOf, as_before, with_doubt, IsMended, sure, dropped, kept, IsSameOffice, IsUnmended}
@@ -120,11 +120,11 @@ module _ {D : Type 0} (finds : List Entry → Finding → Type 0) (old new : Run
         let H = history old.marks in
         let is : left.so_far ≡ H = one_of_none H left.so_far old.doubt left.is_one_of no_doubt in
         elim left.stands [
-          | inl before ↦ record { so_far = H; is_one = here; stands = subst (λ (G : List Entry). Stands old.bank old.plan G file) is before }
+          | inl before ↦ record { so_far = H; is_one = here; stands = subst (λ (G : List Entry). StandsSecond old.bank old.plan G file) is before }
           | inr after ↦ record {
             so_far = H ++ after.0 ∷ [];
             is_one = next after.0 (subst (λ (G : List Entry). finds G (add after.0)) is after.1);
-            stands = subst (λ (G : List Entry). Stands old.bank old.plan (G ++ after.0 ∷ []) file) is after.2;
+            stands = subst (λ (G : List Entry). StandsSecond old.bank old.plan (G ++ after.0 ∷ []) file) is after.2;
           }
         ]
 
@@ -143,11 +143,11 @@ module _ {D : Type 0} (finds : List Entry → Finding → Type 0) (old new : Run
         let H = history old.marks in
         let left = at_end (IsLeft old.bank old.plan finds H old.doubt) (accounts_of old.journal) (accounts_of new.journal) (moments (subst IsTrue frame.tells told)) file i in
         let is : left.so_far ≡ H = one_of_none H left.so_far old.doubt left.is_one_of no_doubt in
-        let stands : Stands old.bank old.plan H file = elim left.stands [
-          | inl before ↦ subst (λ (G : List Entry). Stands old.bank old.plan G file) is before
+        let stands : StandsSecond old.bank old.plan H file = elim left.stands [
+          | inl before ↦ subst (λ (G : List Entry). StandsSecond old.bank old.plan G file) is before
           | inr after ↦ absurd (never after.0 (subst (λ (G : List Entry). finds G (add after.0)) is after.1))
         ] in
-        subst (λ (G : List Entry). Stands old.bank old.plan G file) (sym grown) stands;
+        subst (λ (G : List Entry). StandsSecond old.bank old.plan G file) (sym grown) stands;
   }
 
 -- ---- steps after steps

@@ -22,7 +22,7 @@ use Rattle.answer_journal.specs.Journal.{tells_of, accounts_of, faults_of, ident
 use Rattle.exam_office.specs.Asking.{IsGood, IsDurable, Steps}
 use Rattle.exam_office.specs.Calls.{Finding, refuse, add, refused_with, Calls, IsLeft}
 use Rattle.exam_office.specs.Commits.{IsOfStart, IsEntryFor, MayBeCommitted, FindsCommit}
-use Rattle.exam_office.specs.Files.{Stands}
+use Rattle.exam_office.specs.Files.{StandsSecond}
 use Rattle.exam_office.specs.Marks.{history}
 use Rattle.exam_office.specs.Running.{Running}
 use Rattle.exam_office.specs.Serving.{IsAssembledFor, IsTry, IsTriedAlong, untried, with_try, IsTried, tried, stopped}
@@ -85,7 +85,7 @@ module _ {D : Type 0} (session : ℕ) (old new : Running D) (a : Assembly) (for 
   not_stale (SessionsFull count) says = says
 
   tried_so : (result : Result Place Refusal) → CallsSurely (FindsCommit old.bank old.plan a) old new (refused_with result)
-      → OnOk result (IsTrue (tells_of old.journal) → AllImages (Stands old.bank old.plan (history new.marks)) (latest (accounts_of new.journal)))
+      → OnOk result (IsTrue (tells_of old.journal) → AllImages (StandsSecond old.bank old.plan (history new.marks)) (latest (accounts_of new.journal)))
       → IsLent tells_of identity_of faults_of old.journal new.journal → IsTried old.bank old.plan old.base session old new (refused_with result)
   tried_so (Ok at) (is_found says grown sure) images frame = absurd says
   tried_so (Ok at) (is_written e says grown sure) images frame =
@@ -97,7 +97,7 @@ module _ {D : Type 0} (session : ℕ) (old new : Running D) (a : Assembly) (for 
       (stopped_weaker old.bank old.plan (history old.marks) (λ e. FindsCommit old.bank old.plan a (history old.marks) (add e)) (IsTry old.bank old.plan (history old.marks) session) (λ e says. (good_try e says).0) old old new (omega arith) (λ e. e) r why)
 
   pub tried_once : (result : Result Place Refusal) → IsDurable old.bank old.plan old → Calls (FindsCommit old.bank old.plan a) old new (refused_with result)
-      → OnOk result (IsTrue (tells_of old.journal) → AllImages (Stands old.bank old.plan (history new.marks)) (latest (accounts_of new.journal)))
+      → OnOk result (IsTrue (tells_of old.journal) → AllImages (StandsSecond old.bank old.plan (history new.marks)) (latest (accounts_of new.journal)))
       → IsLent tells_of identity_of faults_of old.journal new.journal → IsTried old.bank old.plan old.base session old new (refused_with result)
   tried_once result durable calls images frame = tried_so result (surely (FindsCommit old.bank old.plan a) old new durable.sure (refused_with result) calls) images frame
 

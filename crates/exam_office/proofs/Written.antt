@@ -13,7 +13,7 @@ use Rattle.exam_records.specs.Shape.{IsRecord}
 use Rattle.exam_records.specs.Spelling.{payload_of}
 use Rattle.exam_office.specs.declared.mark.Mark.{Mark}
 use Rattle.exam_office.specs.declared.mark.Mark.TheVariants.{Own, Fault}
-use Rattle.exam_office.specs.Files.{Stands}
+use Rattle.exam_office.specs.Files.{StandsSecond}
 use Rattle.exam_office.specs.Marks.{history}
 use Rattle.exam_office.specs.Running.{HandedDisk, Running}
 use Rattle.exam_office.specs.Keeping.{IsBacked, IsKept}
@@ -87,10 +87,10 @@ module _ {D : Type 0} (b : Tables) (plan : Plan) (base : List ℕ) (book : Ledge
       (kept_own b plan base was book book1 j j1 M kept_sure r spells may_here bank plan_is entries ready limit grows tells (λ told. added told ∙ ap (λ (p : List ℕ). payloads_of j ++ p ∷ []) is)
       (in_hand (accounts_of j1) payload is spells moments))
 
-  pub images_written : (j1 : JournalState D) (M1 : List Mark) (book1 : Ledger) → IsKept b plan base book1 j1 M1 doubt was → tells_of j1 ≡ tells_of j → IsTrue (tells_of now.journal) → AllImages (Stands now.bank now.plan (history M1)) (latest (accounts_of j1))
+  pub images_written : (j1 : JournalState D) (M1 : List Mark) (book1 : Ledger) → IsKept b plan base book1 j1 M1 doubt was → tells_of j1 ≡ tells_of j → IsTrue (tells_of now.journal) → AllImages (StandsSecond now.bank now.plan (history M1)) (latest (accounts_of j1))
   images_written j1 M1 book1 kept1 tells told =
       let k : IsKept b plan base book1 j1 M1 None was = subst (λ (d : Option Entry). IsKept b plan base book1 j1 M1 d was) none kept1 in
-      subst (λ (o : Running D). AllImages (Stands o.bank o.plan (history M1)) (latest (accounts_of j1))) view
+      subst (λ (o : Running D). AllImages (StandsSecond o.bank o.plan (history M1)) (latest (accounts_of j1))) view
       (sure_images b plan j1 (history M1) k.backed (subst IsTrue (sym tells) (told_here told)))
 
   -- the disk failed

@@ -27,7 +27,7 @@ use Rattle.history_model.specs.SessionProblems.{IsProblemOf}
 use Rattle.exam_records.specs.Shape.{IsRecord}
 use Rattle.exam_records.specs.Spelling.{payload_of}
 use Rattle.answer_journal.specs.Journal.{tells_of, accounts_of, faults_of, identity_of}
-use Rattle.exam_office.specs.Files.{Stands}
+use Rattle.exam_office.specs.Files.{StandsSecond}
 use Rattle.exam_handler.specs.Handling.{IsRefusal}
 use Rattle.exam_office.specs.Marks.{history, reach}
 use Rattle.exam_office.specs.Running.{Running}
@@ -107,18 +107,19 @@ pub data AreGood (b : Tables) (plan : Plan) (base : List ℕ) (H : List Entry) :
       → AreGood b plan base H (G ++ entry ∷ [])
 
 -- ---- what a crash leaves
--- nothing is in doubt, and each file that a crash may leave now represents the history
+-- nothing is in doubt, and each file that a crash may leave now represents the history, by records
+-- of the second version
 pub record IsDurable {D : Type 0} (b : Tables) (plan : Plan) (office : Running D) : Type 0 where
   pub sure : office.doubt ≡ None
-  pub images : IsTrue (tells_of office.journal) → AllImages (Stands b plan (history office.marks))
-      (latest (accounts_of office.journal))
+  pub images : IsTrue (tells_of office.journal)
+      → AllImages (StandsSecond b plan (history office.marks)) (latest (accounts_of office.journal))
 
 -- the file represents one of these histories
 pub record StandsForOne (b : Tables) (plan : Plan) (histories : List Entry
     → Type 0) (file : List ℕ) : Type 0 where
   pub so_far : List Entry
   pub is_one : histories so_far
-  pub stands : Stands b plan so_far file
+  pub stands : StandsSecond b plan so_far file
 
 -- the office is the same; its disk is the same object with no fewer faults; at each moment each
 -- file that a crash may leave represents one of these histories

@@ -15,7 +15,7 @@ use Rattle.exam_office.specs.declared.mark.Mark.TheVariants.{Own}
 use Rattle.history_model.specs.declared.refusal.Refusal.{Refusal}
 use Rattle.history_model.specs.declared.refusal.Refusal.TheVariants.{JournalFull, Disk, Memory}
 use Rattle.history_model.specs.declared.request.Request.TheVariants.{Begin, Answer, Close}
-use Rattle.exam_office.specs.Files.{Stands}
+use Rattle.exam_office.specs.Files.{StandsSecond}
 use Rattle.exam_office.specs.Marks.{reach, history}
 use Rattle.history_model.specs.Refusals.{recorded, refusal_of}
 use Rattle.exam_office.specs.Running.{Running}
@@ -35,8 +35,8 @@ pub record IsLeft (b : Tables) (plan : Plan) (finds : List Entry → Finding
     (file : List ℕ) : Type 0 where
   pub so_far : List Entry
   pub is_one_of : IsOneOf H doubt so_far
-  pub stands : Stands b plan so_far file ⊎ ((entry : Entry) × finds so_far (add entry)
-      × Stands b plan (so_far ++ entry ∷ []) file)
+  pub stands : StandsSecond b plan so_far file ⊎ ((entry : Entry) × finds so_far (add entry)
+      × StandsSecond b plan (so_far ++ entry ∷ []) file)
 
 abbrev pub refused_with : {A : Type 0} → Result A Refusal → Option Refusal
 refused_with (Ok x) = None

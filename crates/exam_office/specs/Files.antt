@@ -35,3 +35,9 @@ pub record Stands (b : Tables) (plan : Plan) (H : List Entry) (file : List ℕ) 
   pub are : AreRecordsOf b plan H records
   pub version : ℕ
   pub holds : contents file ≡ Some (counted_of b plan version records)
+
+-- a file represents a history by records of the second version, the only ones that an office
+-- writes
+pub record StandsSecond (b : Tables) (plan : Plan) (H : List Entry) (file : List ℕ) : Type 0 where
+  pub stands : Stands b plan H file
+  pub second : stands.version ≡ 2

@@ -14,3 +14,6 @@ pub mod Serving
 pub mod Noting
 pub mod Warm
 pub mod KeptVectors
+pub mod Health
+pub mod Payloads
+pub mod Appending

@@ -17,7 +17,7 @@ use Rattle.exam_office.specs.declared.fault.OpenFault.TheVariants.{Disk as OfDis
 use Rattle.exam_office.specs.declared.migrating.Moved.{Moved}
 use Rattle.exam_office.specs.declared.migrating.MigrateFault.{MigrateFault}
 use Rattle.exam_office.specs.declared.migrating.MigrateFault.TheVariants.{Open, Full, Disk, Memory}
-use Rattle.exam_office.specs.Files.{payload_in, counted_of, AreRecordsOf, Stands}
+use Rattle.exam_office.specs.Files.{payload_in, counted_of, AreRecordsOf, Stands, StandsSecond}
 use Rattle.exam_office.specs.Opening.{AreTaken, IsReadAnswer}
 
 -- a file represents a history by records of the first version: a journal that was not moved
@@ -26,11 +26,6 @@ pub record IsOldFile (b : Tables) (plan : Plan) (file : List ℕ) : Type 0 where
   pub records : List Record
   pub are : AreRecordsOf b plan H records
   pub holds : contents file ≡ Some (counted_of b plan 1 records)
-
--- a file represents a history by records of the second version
-pub record StandsMoved (b : Tables) (plan : Plan) (H : List Entry) (file : List ℕ) : Type 0 where
-  pub stands : Stands b plan H file
-  pub second : stands.version ≡ 2
 
 -- the file of these records of the first version once it is moved: they are followed by the mark,
 -- the same records by the second version, and a closed gate
@@ -49,7 +44,7 @@ pub record IsMoved (b : Tables) (plan : Plan) (before after : List ℕ) (account
 -- a file had its records by the second version already, and is as it was
 pub record IsLeft (b : Tables) (plan : Plan) (before after : List ℕ) (done : Moved) : Type 0 where
   pub H : List Entry
-  pub stands : StandsMoved b plan H before
+  pub stands : StandsSecond b plan H before
   pub same : after ≡ before
   pub none : done.records ≡ 0
 

@@ -6,7 +6,7 @@ use Rattle.form_model.specs.Plan.{Plan}
 use Rattle.history_model.specs.declared.entry.Entry.{Entry}
 use Rattle.exam_office.specs.declared.mark.Mark.{Mark}
 use Rattle.exam_office.specs.declared.mark.Mark.TheVariants.{Old, Opened, Own, Adopted, Fault}
-use Rattle.exam_office.specs.Files.{Stands}
+use Rattle.exam_office.specs.Files.{StandsSecond}
 use Rattle.exam_office.specs.Marks.{history, AreMarks}
 use Rattle.exam_office.specs.Noting.{IsDoubtOf}
 use Rattle.exam_office.specs.Writing.{IsMending, IsWriting}
@@ -27,7 +27,7 @@ pub data IsInHand (entry : Entry) : List Mark → List Mark → Type 0 where
 pub data AreMoments (b : Tables) (plan : Plan) (before : List Account) : List Mark → List Account
     → Type 0 where
   opening : (H : List Entry) (size : ℕ) (now : List Account)
-      → AtEachMoment before now (Stands b plan H)
+      → AtEachMoment before now (StandsSecond b plan H)
       → AreMoments b plan before (map Old H ++ Opened size ∷ []) now
   one_more : (entry : Entry) (M N : List Mark) (now later : List Account)
       → AreMoments b plan before M now → IsInHand entry M N

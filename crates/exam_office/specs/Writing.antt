@@ -12,7 +12,7 @@ use Rattle.exam_office.specs.declared.mark.Mark.{Mark}
 use Rattle.exam_office.specs.declared.mark.Mark.TheVariants.{Own, Adopted, Fault}
 use Rattle.history_model.specs.declared.refusal.Refusal.{Refusal}
 use Rattle.history_model.specs.declared.refusal.Refusal.TheVariants.{JournalFull, Disk, Memory}
-use Rattle.exam_office.specs.Files.{Stands}
+use Rattle.exam_office.specs.Files.{StandsSecond}
 use Rattle.exam_office.specs.Marks.{reach, history}
 use Rattle.exam_office.specs.Running.{Running}
 
@@ -22,17 +22,19 @@ pub data IsOneOf (H : List Entry) : Option Entry → List Entry → Type 0 where
   as_before : (doubt : Option Entry) → IsOneOf H doubt H
   with_doubt : (entry : Entry) → IsOneOf H (Some entry) (H ++ entry ∷ [])
 
--- a file that a crash may leave while the entry in doubt is kept or dropped
+-- a file that a crash may leave while the entry in doubt is kept or dropped; each of its records is
+-- of the second version
 pub record IsMending (b : Tables) (plan : Plan) (H : List Entry) (doubt : Option Entry)
     (file : List ℕ) : Type 0 where
   pub so_far : List Entry
   pub is_one_of : IsOneOf H doubt so_far
-  pub stands : Stands b plan so_far file
+  pub stands : StandsSecond b plan so_far file
 
 -- a file that a crash may leave while an entry is written: it represents the history before, or
 -- that with the entry
 abbrev pub IsWriting : Tables → Plan → List Entry → Entry → List ℕ → Type 0
-IsWriting b plan H entry file = Stands b plan H file ⊎ Stands b plan (H ++ entry ∷ []) file
+IsWriting b plan H entry file =
+    StandsSecond b plan H file ⊎ StandsSecond b plan (H ++ entry ∷ []) file
 
 -- the marks once the entry in doubt is kept or dropped
 pub data IsMended (marks : List Mark) : Option Entry → List Mark → Type 0 where

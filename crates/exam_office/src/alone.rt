@@ -6,8 +6,8 @@ ghost use Rattle.exam_handler.specs.Handling.{IsReply};
 
 use crate::office::Office;
 use exam_edge::Disk;
-use exam_handler::Handler;
-use history_model::{Reply, Request};
+use exam_handler::{Handler, Health};
+use history_model::{Refusal, Reply, Request};
 use std::alloc::Global;
 use std::sync::Wait;
 
@@ -35,8 +35,11 @@ impl<'a, D: Disk> Alone<'a, D> {
 impl<'a, D: Disk> Handler for Alone<'a, D> {
     ghost use Rattle.std.specs.Prelude.{◌≡◌, refl};
     ghost use Rattle.exam_office.specs.Asking.{IsAsked};
+    ghost use Rattle.exam_office.specs.Health.{IsProbed};
 
     ghost does = { λ old request reply new. IsAsked old.office request reply new.office };
+
+    ghost probes = { λ old result new. IsProbed old.office result new.office };
 
     ghost idles = { λ old new. new ≡ old };
 
@@ -44,5 +47,9 @@ impl<'a, D: Disk> Handler for Alone<'a, D> {
 
     fn handle<R: Wait + Sync>(&mut self, _rt: &R, alloc: Global, request: &Request) -> Reply {
         self.ask(alloc, request)
+    }
+
+    fn probe<R: Wait + Sync>(&mut self, _rt: &R) -> Result<Health, Refusal> {
+        self.office.probe()
     }
 }

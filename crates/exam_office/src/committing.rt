@@ -15,7 +15,7 @@ ghost use Rattle.history_model.specs.Judging.{MayFollow};
 ghost use Rattle.history_model.specs.declared.place.Place.TheVariants.{Pending};
 ghost use Rattle.history_model.specs.Places.{place};
 ghost use Rattle.answer_journal.specs.Journal.{tells_of, accounts_of, faults_of, identity_of};
-ghost use Rattle.exam_office.specs.Files.{Stands};
+ghost use Rattle.exam_office.specs.Files.{StandsSecond};
 ghost use Rattle.exam_office.specs.Marks.{history};
 ghost use Rattle.exam_office.specs.Writing.{IsSameOffice};
 ghost use Rattle.exam_office.specs.Calls.{refuse, add, Calls, IsLeft, refused_with};
@@ -137,7 +137,7 @@ impl<'a, D: Disk> Office<'a, D> {
         ensures at { IfOk result (λ at. place self.new.plan
             (history self.new.marks) assembled.now.problem.session ≡ Some at) }
         ensures images { OnOk result (IsTrue (tells_of self.old.journal)
-            → AllImages (Stands self.old.bank self.old.plan (history self.new.marks))
+            → AllImages (StandsSecond self.old.bank self.old.plan (history self.new.marks))
             (latest (accounts_of self.new.journal))) }
         ensures moments { IsTrue (tells_of self.old.journal)
             → AtEachMoment (accounts_of self.old.journal) (accounts_of self.new.journal)

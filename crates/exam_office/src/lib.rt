@@ -7,9 +7,11 @@
 
 mod alone;
 mod answering;
+mod appending;
 mod asking;
 mod begun;
 mod committing;
+mod cursor;
 mod fault;
 mod handed_in;
 pub mod laws;
@@ -18,6 +20,8 @@ mod migrating;
 mod noted;
 mod office;
 mod opening;
+mod probing;
+mod reading_back;
 mod reporting;
 mod serving;
 mod starting;
@@ -29,8 +33,10 @@ mod warming;
 mod writing;
 
 pub use alone::Alone;
+pub use appending::Taken;
 pub use begun::Begun;
-pub use exam_handler::Handler;
+pub use cursor::Cursor;
+pub use exam_handler::{Handler, Health};
 pub use fault::OpenFault;
 pub use history_model::{Entry, Exposure, Place, Refusal, Reply, Request, Summary};
 pub use mark::Mark;

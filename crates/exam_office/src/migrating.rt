@@ -18,9 +18,9 @@ ghost use Rattle.answer_journal.specs.Walk.{first_gate, first_payloads};
 ghost use Rattle.exam_records.specs.Shape.{IsRecord};
 ghost use Rattle.exam_office.specs.declared.fault.OpenFault.TheVariants.{Disk as OfDisk, Memory as OfMemory};
 ghost use Rattle.exam_office.specs.declared.migrating.MigrateFault.TheVariants.{Disk as NoDisk, Memory as NoMemory};
-ghost use Rattle.exam_office.specs.Files.{payload_in, Stands};
+ghost use Rattle.exam_office.specs.Files.{payload_in, Stands, StandsSecond};
 ghost use Rattle.exam_office.specs.Opening.{IsNotTaken, IsReadAnswer};
-ghost use Rattle.exam_office.specs.Migrating.{AreMeasured, IsImageOrStands, IsLeft, IsMigrateAnswer, IsMigrated, IsMoved, IsMovedUpTo, IsOfContent, IsOldFile, IsOpenOfFile, IsTakenOver, StandsMoved, moved_file, moved_tail};
+ghost use Rattle.exam_office.specs.Migrating.{AreMeasured, IsImageOrStands, IsLeft, IsMigrateAnswer, IsMigrated, IsMoved, IsMovedUpTo, IsOfContent, IsOldFile, IsOpenOfFile, IsTakenOver, moved_file, moved_tail};
 
 use crate::fault::OpenFault;
 use crate::taking::{follow, journal_fault, read_record, take_history};
@@ -454,7 +454,7 @@ fn move_judged<D: Disk>(
         (D.accounts done.1) done.0) }
     ensures stands { IfOk result (λ done. IsTrue (D.tells walk.disk) → (H : List Entry)
         → Stands bank.now spec.now H (D.content walk.disk)
-        → StandsMoved bank.now spec.now H (D.content done.1)) }
+        → StandsSecond bank.now spec.now H (D.content done.1)) }
     ensures length { IfOk result (λ done. IsTrue (D.tells walk.disk)
         → done.0.length ≡ length (D.content done.1)) }
     ensures limit { IfOk result (λ done. IsTrue (D.tells walk.disk)
@@ -527,7 +527,7 @@ fn move_old<D: Disk>(
         (D.accounts done.1) done.0) }
     ensures stands { IfOk result (λ done. IsTrue (D.tells walk.disk) → (H : List Entry)
         → Stands bank.now spec.now H (D.content walk.disk)
-        → StandsMoved bank.now spec.now H (D.content done.1)) }
+        → StandsSecond bank.now spec.now H (D.content done.1)) }
     ensures length { IfOk result (λ done. IsTrue (D.tells walk.disk)
         → done.0.length ≡ length (D.content done.1)) }
     ensures limit { IfOk result (λ done. IsTrue (D.tells walk.disk)
@@ -657,7 +657,7 @@ pub fn migrate<D: Disk>(
         (D.accounts done.1) done.0) }
     ensures stands { IfOk result (λ done. IsTrue (D.tells disk) → (H : List Entry)
         → Stands bank.now spec.now H (D.content disk)
-        → StandsMoved bank.now spec.now H (D.content done.1)) }
+        → StandsSecond bank.now spec.now H (D.content done.1)) }
     ensures limit { IfOk result (λ done. IsTrue (D.tells disk)
         → length (D.content done.1) ≤ spec.now.journal) }
     // Where nothing was suspect before, a crash leaves nothing but the file.

@@ -16,7 +16,7 @@ ghost use Rattle.answer_journal.specs.Versions.{counted_in};
 ghost use Rattle.answer_journal.specs.Journal.{disk_of, tells_of, accounts_of, aside_of, faults_of, identity_of};
 ghost use Rattle.answer_journal.specs.Opening.{PutsTailAside, tail_gates};
 ghost use Rattle.exam_office.specs.Writing.{IsMending};
-ghost use Rattle.exam_office.specs.Files.{Stands};
+ghost use Rattle.exam_office.specs.Files.{Stands, StandsSecond};
 ghost use Rattle.exam_office.specs.Marks.{history, reach};
 ghost use Rattle.exam_office.specs.Running.{handed};
 ghost use Rattle.exam_office.specs.Opening.{IsOpenAnswer};
@@ -66,12 +66,12 @@ impl<'a, D: Disk> Office<'a, D> {
         ensures short { IfOk result (λ office. IsTrue (D.tells disk)
             → length (D.content disk) ≤ spec.now.journal) }
         ensures images { IfOk result (λ office. IsTrue (D.tells disk)
-            → AllImages (Stands bank.now spec.now (history office.marks))
+            → AllImages (StandsSecond bank.now spec.now (history office.marks))
             (latest (accounts_of office.journal))) }
         ensures settled { IfOk result (λ office. IsTrue (D.tells disk)
             → IsSettled (D.content disk) (D.accounts disk)
             → AtEachMoment (D.accounts disk) (accounts_of office.journal)
-            (Stands bank.now spec.now (history office.marks))) }
+            (StandsSecond bank.now spec.now (history office.marks))) }
         ensures settled_err { IfErr result (λ e. IsTrue (D.tells disk)
             → IsSettled (D.content disk) (D.accounts disk) → (H : List Entry)
             → Stands bank.now spec.now H (D.content disk)

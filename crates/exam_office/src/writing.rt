@@ -1,16 +1,18 @@
 //! How an office writes.
 
-ghost use Rattle.std.specs.Prelude.{◌≡◌, ◌+◌, ◌<◌, ◌≤◌, [], ◌∷◌, ◌++◌, length, None, IsTrue, IfOk, IfErr, OnOk};
+ghost use Rattle.std.specs.Prelude.{◌≡◌, ◌+◌, ◌<◌, ◌≤◌, ℕ, List, [], ◌∷◌, ◌++◌, length, None, IsTrue, IfOk, IfErr, OnOk, OnErr};
 ghost use Rattle.std.specs.Option.{option_copied};
 ghost use Rattle.exam_edge.specs.Lent.{IsLent};
 ghost use Rattle.exam_edge.specs.Images.{AllImages, AtEachMoment, latest};
 ghost use Rattle.history_model.specs.Judging.{MayFollow};
 ghost use Rattle.exam_records.specs.Shape.{IsRecord};
 ghost use Rattle.exam_records.specs.Spelling.{payload_of};
-ghost use Rattle.answer_journal.specs.Journal.{tells_of, accounts_of, faults_of, identity_of};
+ghost use Rattle.answer_journal.specs.Journal.{tells_of, accounts_of, faults_of, identity_of, payloads_of, IsDoubtful};
+ghost use Rattle.answer_journal.specs.Versions.{HoldsOrOneMore};
 ghost use Rattle.exam_office.specs.declared.mark.Mark.TheVariants.{Own};
-ghost use Rattle.exam_office.specs.Files.{Stands};
+ghost use Rattle.exam_office.specs.Files.{StandsSecond};
 ghost use Rattle.exam_office.specs.Marks.{history};
+ghost use Rattle.exam_office.specs.Payloads.{IsResolved};
 ghost use Rattle.exam_office.specs.Writing.{IsMending, IsWriting, IsMended, IsSameOffice, IsUnmended, IsUnwritten, with_record};
 
 use crate::mark::{Mark, room_for_mark};
@@ -41,17 +43,28 @@ impl<'a, D: Disk> Office<'a, D> {
     }
 
     /// Resolves the entry in doubt, if there is one: keeps it exactly where the disk has it.
-    pub(crate) fn settle(&mut self) -> Result<(), Refusal>
+    pub fn settle(&mut self) -> Result<(), Refusal>
         ensures same { IsSameOffice self.old self.new }
         ensures sure { OnOk result (self.new.doubt ≡ None) }
         ensures mended { OnOk result (IsMended self.old.marks self.old.doubt self.new.marks) }
         ensures refused { IfErr result (IsUnmended self.old self.new) }
         ensures images { OnOk result (IsTrue (tells_of self.old.journal)
-            → AllImages (Stands self.old.bank self.old.plan (history self.new.marks))
+            → AllImages (StandsSecond self.old.bank self.old.plan (history self.new.marks))
             (latest (accounts_of self.new.journal))) }
         ensures moments { IsTrue (tells_of self.old.journal)
             → AtEachMoment (accounts_of self.old.journal) (accounts_of self.new.journal)
             (IsMending self.old.bank self.old.plan (history self.old.marks) self.old.doubt) }
+        // By the payloads of the journal.
+        ensures resolved { OnOk result ((ps : List (List ℕ)) (payload : List ℕ)
+            → IsDoubtful ps payload self.old.journal
+            → IsResolved self.old.marks ps payload self.new.journal self.new.marks) }
+        ensures still { OnErr result ((ps : List (List ℕ)) (payload : List ℕ)
+            → IsDoubtful ps payload self.old.journal → IsDoubtful ps payload self.new.journal) }
+        ensures left { IsTrue (tells_of self.old.journal)
+            → (ps : List (List ℕ)) (payload : List ℕ) → IsDoubtful ps payload self.old.journal
+            → AtEachMoment (accounts_of self.old.journal) (accounts_of self.new.journal)
+            (HoldsOrOneMore ps payload) }
+        ensures unchanged { self.old.doubt ≡ None → self.new ≡ self.old }
         ensures frame { IsLent tells_of identity_of faults_of self.old.journal self.new.journal }
     {
         let Some(entry) = &self.doubt else {
@@ -101,11 +114,26 @@ impl<'a, D: Disk> Office<'a, D> {
         ensures refused { IfErr result (IsUnwritten self.old self.new
             (record { entry = entry.now; tree = option_copied tree.entry })) }
         ensures images { OnOk result (IsTrue (tells_of self.old.journal)
-            → AllImages (Stands self.old.bank self.old.plan (history self.new.marks))
+            → AllImages (StandsSecond self.old.bank self.old.plan (history self.new.marks))
             (latest (accounts_of self.new.journal))) }
         ensures moments { IsTrue (tells_of self.old.journal)
             → AtEachMoment (accounts_of self.old.journal) (accounts_of self.new.journal)
             (IsWriting self.old.bank self.old.plan (history self.old.marks) entry.now) }
+        // By the payloads of the journal.
+        ensures payloads { OnOk result (IsTrue (tells_of self.old.journal)
+            → payloads_of self.new.journal ≡ payloads_of self.old.journal
+            ++ payload_of (record { entry = entry.now; tree = option_copied tree.entry }) ∷ []) }
+        ensures spells { OnOk result
+            (IsRecord (record { entry = entry.now; tree = option_copied tree.entry })) }
+        ensures doubtful { IfErr result (λ e. e ≡ Refusal.Disk
+            → IsDoubtful (payloads_of self.old.journal)
+            (payload_of (record { entry = entry.now; tree = option_copied tree.entry }))
+            self.new.journal
+            × IsRecord (record { entry = entry.now; tree = option_copied tree.entry })) }
+        ensures left { IsTrue (tells_of self.old.journal)
+            → AtEachMoment (accounts_of self.old.journal) (accounts_of self.new.journal)
+            (HoldsOrOneMore (payloads_of self.old.journal)
+            (payload_of (record { entry = entry.now; tree = option_copied tree.entry }))) }
         ensures frame { IsLent tells_of identity_of faults_of self.old.journal self.new.journal }
     {
         let _ = &self.journal;

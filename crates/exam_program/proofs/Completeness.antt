@@ -13,8 +13,8 @@ use Rattle.certificate_model.specs.ProofTrees.{ProofTree}
 use Rattle.history_model.specs.declared.entry.Entry.{Entry}
 use Rattle.history_model.specs.declared.request.Request.{Request}
 use Rattle.exam_office.specs.declared.fault.OpenFault.{OpenFault}
-use Rattle.exam_office.specs.Files.{Stands}
-use Rattle.exam_office.specs.Migrating.{IsTooLongMoved, StandsMoved}
+use Rattle.exam_office.specs.Files.{Stands, StandsSecond}
+use Rattle.exam_office.specs.Migrating.{IsTooLongMoved}
 use Rattle.exam_office.proofs.FileLaws.{standing_is_opened, standing_is_read}
 use Rattle.replay_cli.specs.declared.script_fault.ScriptFault.{ScriptFault}
 use Rattle.replay_cli.specs.declared.script_fault.ScriptFault.TheVariants as script_fault
@@ -101,7 +101,7 @@ no_script_fault text script script_fault.TooLong is of_script halts = omega (ari
 no_script_fault text script (script_fault.Line n) is of_script halts = no_fault text script n is.says halts.1
 
 -- a file that represents a history by records of the second version is not refused
-no_journal_fault : (b : Tables) (p : Plan) (o : Outside) (f : OpenFault) (H : List Entry) → StandsMoved b p H o.disk.found → length o.disk.found ≤ p.journal → IsTrue o.disk.told → IsJournalRefused b p o.disk f → ⊥
+no_journal_fault : (b : Tables) (p : Plan) (o : Outside) (f : OpenFault) (H : List Entry) → StandsSecond b p H o.disk.found → length o.disk.found ≤ p.journal → IsTrue o.disk.told → IsJournalRefused b p o.disk f → ⊥
 no_journal_fault b p o f H moved short told is = elim (standing_is_opened b p H o.disk.found f moved.stands moved.second short (is.answer told)) [
   | inl e ↦ subst (λ (g : OpenFault). IsOfFile g) e is.of_file
   | inr e ↦ subst (λ (g : OpenFault). IsOfFile g) e is.of_file
@@ -312,7 +312,7 @@ assemble_is_complete words o bank plan base b p status text e reads with_base qu
 -- a journal of the files that are read is not refused
 module _ (o : Outside) (bank plan : List ℕ) (b : Tables) (p : Plan) (H : List Entry) (reads : Reads o.named o.content bank plan b p)
     (told : IsTrue o.disk.told) (short : length o.disk.found ≤ p.journal) where
-  not_refused : StandsMoved b p H o.disk.found → (c : Tables) (q : Plan) (f : OpenFault) → Reads o.named o.content bank plan c q → IsJournalRefused c q o.disk f → ⊥
+  not_refused : StandsSecond b p H o.disk.found → (c : Tables) (q : Plan) (f : OpenFault) → Reads o.named o.content bank plan c q → IsJournalRefused c q o.disk f → ⊥
   not_refused stands c q f there refusal =
       let same = plan_same o.named o.content bank plan b c p q reads there in
       let refused : IsJournalRefused b p o.disk f =

@@ -12,8 +12,8 @@ use Rattle.history_model.specs.declared.request.Request.{Request}
 use Rattle.history_model.specs.Legality.{LegalRun}
 use Rattle.exam_office.specs.declared.fault.OpenFault.{OpenFault}
 use Rattle.exam_office.specs.declared.fault.OpenFault.TheVariants as fault
-use Rattle.exam_office.specs.Files.{counted_of, Stands}
-use Rattle.exam_office.specs.Migrating.{IsImageOrStands, StandsMoved}
+use Rattle.exam_office.specs.Files.{counted_of, Stands, StandsSecond}
+use Rattle.exam_office.specs.Migrating.{IsImageOrStands}
 use Rattle.exam_office.specs.Marks.{history, reach}
 use Rattle.exam_office.specs.Opening.{IsOpenAnswer}
 use Rattle.exam_office.specs.Running.{Running}
@@ -78,14 +78,14 @@ no_sink (fault.Illegal at f) e = cc
 
 -- ---- a journal that was opened
 -- the records of the second version of a file that represents a history
-pub moved_so : (b : Tables) (plan : Plan) (H : List Entry) (file : List ℕ) → Stands b plan H file → (counted_in file).version ≡ 2 → StandsMoved b plan H file
+pub moved_so : (b : Tables) (plan : Plan) (H : List Entry) (file : List ℕ) → Stands b plan H file → (counted_in file).version ≡ 2 → StandsSecond b plan H file
 moved_so b plan H file stands is =
     let counts : counted_of b plan stands.version stands.records ≡ counted_in file = ap (λ (o : Option Counted). unwrap_or o (second [])) (sym stands.holds) in
     record { stands = stands; second = ap (λ (c : Counted). c.version) counts ∙ is }
 
 -- a file with nothing in doubt
-sure_of : (b : Tables) (plan : Plan) (H : List Entry) (doubt : Option Entry) (file : List ℕ) → doubt ≡ None → IsMending b plan H doubt file → Stands b plan H file
-sure_of b plan H doubt file e m = subst (λ (G : List Entry). Stands b plan G file) (here doubt e m.so_far m.is_one_of) m.stands
+sure_of : (b : Tables) (plan : Plan) (H : List Entry) (doubt : Option Entry) (file : List ℕ) → doubt ≡ None → IsMending b plan H doubt file → StandsSecond b plan H file
+sure_of b plan H doubt file e m = subst (λ (G : List Entry). StandsSecond b plan G file) (here doubt e m.so_far m.is_one_of) m.stands
   where
     here : (doubt : Option Entry) → doubt ≡ None → (G : List Entry) → IsOneOf H doubt G → G ≡ H
     here doubt e _ (as_before _) = refl
@@ -94,12 +94,12 @@ sure_of b plan H doubt file e m = subst (λ (G : List Entry). Stands b plan G fi
 -- what is known of an office's disk when it is handed back
 pub record IsHandedBack {D : Type 0} (b : Tables) (plan : Plan) (disk : DiskSeen) (old new : Running D) : Type 0 where
   pub legal : LegalRun b plan (history old.marks)
-  pub found : IsTrue disk.told → StandsMoved b plan (history old.marks) disk.found
+  pub found : IsTrue disk.told → StandsSecond b plan (history old.marks) disk.found
   pub told : tells_of old.journal ≡ disk.told
   pub images : latest (accounts_of new.journal) ≡ disk.images
   pub moments : accounts_of new.journal ≡ disk.moments
   pub opening : IsTrue disk.told → WasSettled disk
-      → AtEachMoment disk.moments_before (accounts_of old.journal) (Stands b plan (history old.marks))
+      → AtEachMoment disk.moments_before (accounts_of old.journal) (StandsSecond b plan (history old.marks))
   pub left : IsTrue disk.told → IsImage disk.images disk.left
   pub content : IsTrue disk.told → IsMending b plan (history new.marks) new.doubt disk.left
   pub length_is : IsTrue disk.told → new.doubt ≡ None → length disk.left ≡ reach new.marks
@@ -121,7 +121,7 @@ module _ {D : Type 0} (b : Tables) (plan : Plan) (base : List ℕ) (disk : DiskS
           going_on = going_on;
           moments = λ t settled.
               joined on_the_way disk.moments_before (accounts_of old.journal) disk.moments
-              (weaker (Stands b plan (history old.marks)) on_the_way (λ file stands. record { so_far = history old.marks; is_one = reached_first; stands = stands })
+              (weaker (StandsSecond b plan (history old.marks)) on_the_way (λ file stands. record { so_far = history old.marks; is_one = reached_first; stands = stands })
               disk.moments_before (accounts_of old.journal) (back.opening t settled))
               (subst (λ (m : List Account). AtEachMoment (accounts_of old.journal) m on_the_way) back.moments (going.moments (back.told ∙ t)));
         };
@@ -141,7 +141,7 @@ module _ {D : Type 0} (b : Tables) (plan : Plan) (base : List ℕ) (disk : DiskS
 
   left_so : (K : List Entry) (reached : ℕ) → IsOfficeAt new K reached → IsLeftAt b plan disk K reached
   left_so K reached at = record {
-    stands = λ t. subst (λ (G : List Entry). Stands b plan G disk.left) at.history_is (sure_of b plan (history new.marks) new.doubt disk.left at.sure (back.content t));
+    stands = λ t. subst (λ (G : List Entry). StandsSecond b plan G disk.left) at.history_is (sure_of b plan (history new.marks) new.doubt disk.left at.sure (back.content t));
     length_is = λ t. sym (back.length_is t at.sure ∙ at.reach_is);
   }
 

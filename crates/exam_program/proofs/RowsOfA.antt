@@ -46,8 +46,7 @@ use Rattle.proof_tree.specs.Shape.{IsTree}
 use Rattle.proof_tree.proofs.TreeLaws.{is_tree}
 use Rattle.replay_cli.specs.Replies.{place_line, line_of, lines_of}
 use Rattle.exam_office.specs.Asking.{IsGood, AreGood, no_more, one_more as good_more}
-use Rattle.exam_office.specs.Files.{Stands}
-use Rattle.exam_office.specs.Migrating.{StandsMoved}
+use Rattle.exam_office.specs.Files.{Stands, StandsSecond}
 use Rattle.exam_office.proofs.FileLaws.{one_history}
 use Rattle.exam_program.specs.Outside.{DiskSeen}
 use Rattle.exam_program.specs.Replays.{AreDone, none, one_more, IsFileOf, IsFileOnTheWay, IsUnderWay, IsOpeningFailed}
@@ -379,10 +378,14 @@ short_holds file short = let e : nat_le (length file) 9 ≡ true = le-leb (lengt
 file_stands : Stands bank_a plan_a answered_2 file_a
 file_stands = record { records = records_a; are = record { spell = spelled_a; backed = backed_a; entries = entries_a }; version = 2; holds = holds_a }
 
+file_moved : StandsSecond bank_a plan_a answered_2 file_a
+unfolding file_stands
+file_moved = record { stands = file_stands; second = refl }
+
 empty_stands : Stands bank_a plan_a [] []
 empty_stands = record { records = []; are = record { spell = tt; backed = empty; entries = refl }; version = 2; holds = short_holds [] (omega arith) }
 
-empty_moved : StandsMoved bank_a plan_a [] []
+empty_moved : StandsSecond bank_a plan_a [] []
 unfolding empty_stands
 empty_moved = record { stands = empty_stands; second = refl }
 
@@ -426,21 +429,21 @@ disk_a : DiskSeen
 disk_a = record { told = true; before = 0; after = 0; found = []; left = file_a; images_before = settled []; images = settled file_a; moments_before = settled [] ∷ []; moments = settled [] ∷ settled file_a ∷ [] }
 
 is_file_a : IsFileOf bank_a plan_a base_a answered_2 [] file_a
-is_file_a = record { so_far = answered_2; is_one = refl; stands = file_stands }
+is_file_a = record { so_far = answered_2; is_one = refl; stands = file_moved }
 
 -- before the first request, and after the last
 on_the_way_first : IsFileOnTheWay bank_a plan_a base_a script_a [] []
 on_the_way_first = record {
   so_far = [];
   is_one = record { done = []; rest = script_a; G = []; replies = []; whole = refl; are_done = none; good = no_more; begins = not_yet bank_a plan_a base_a [] script_a };
-  stands = empty_stands;
+  stands = empty_moved;
 }
 
 on_the_way_last : IsFileOnTheWay bank_a plan_a base_a script_a [] file_a
 on_the_way_last = record {
   so_far = answered_2;
   is_one = record { done = script_a; rest = []; G = answered_2; replies = replies_a; whole = sym (append-nil script_a); are_done = done_a; good = good_a; begins = refl };
-  stands = file_stands;
+  stands = file_moved;
 }
 
 replayed_a : IsUnderWay bank_a plan_a base_a disk_a script_a [] answered_2 [] replies_a

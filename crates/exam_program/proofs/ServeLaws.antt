@@ -14,11 +14,11 @@ use Rattle.history_model.specs.declared.summary.Summary.{Summary}
 use Rattle.history_model.specs.Legality.{LegalRun}
 use Rattle.history_model.specs.Summaries.{summary}
 use Rattle.answer_journal.specs.Journal.{tells_of}
+use Rattle.exam_office.specs.Files.{StandsSecond}
 use Rattle.exam_office.specs.declared.fault.OpenFault.{OpenFault}
 use Rattle.exam_office.specs.declared.fault.OpenFault.TheVariants as fault
 use Rattle.exam_office.specs.declared.mark.Mark.{Mark}
 use Rattle.exam_office.specs.declared.mark.Mark.TheVariants.{Old, Opened}
-use Rattle.exam_office.specs.Migrating.{StandsMoved}
 use Rattle.exam_office.specs.Marks.{entry_of, history, reach, AreMarks, AreCounted}
 use Rattle.exam_office.specs.Moments.{AreMoments}
 use Rattle.exam_office.specs.Noting.{OpenedWith, NotedMark, noted, marks_of, opened_with, IsDoubtOf}
@@ -61,7 +61,7 @@ pub record IsClosed {D : Type 0} (b : Tables) (p : Plan) (base : List ℕ) (disk
   pub base_is : old.base ≡ base
   pub told : tells_of old.journal ≡ disk.told
   pub handed : old.opened ≡ record { content = disk.found; accounts = disk.moments_before; faults = disk.before }
-  pub found : IsTrue disk.told → StandsMoved b p (history old.marks) disk.found
+  pub found : IsTrue disk.told → StandsSecond b p (history old.marks) disk.found
   pub short : IsTrue disk.told → length disk.found ≤ p.journal
   pub marks : old.marks ≡ map Old (history old.marks) ++ Opened (reach old.marks) ∷ []
   pub same : opened_with new ≡ opened_with old
@@ -177,7 +177,7 @@ last_part words o told old new result status text outcome (inr cut) = inr (
   },
 )
 
-module _ {A D K : Type 0} (tells : D → Bool) (coming returned : D → List K) (is_out : D → Bool)
+module _ {A D K : Type 0} (token : Option (List ℕ)) (tells : D → Bool) (coming returned : D → List K) (is_out : D → Bool)
     (faults identity : D → ℕ) (link_tells : K → Bool) (left written : K → List ℕ) (link_faults link_identity : K → ℕ)
     (words : List (List ℕ)) (o : Outside) (told : Bool) (was now : List ℕ) (result : ℕ) (b : Tables) (p : Plan) (base : List ℕ)
     (is : IsServeOf words o b p base) (old new : Running A)
@@ -185,7 +185,7 @@ module _ {A D K : Type 0} (tells : D → Bool) (coming returned : D → List K) 
     (numbers_of : Summary) (are : numbers_of ≡ summary p (history new.marks)) (doors back : List D) (Unused : Type 0) where
   abbrev pub Served : List NotedMark → List NotedMark → Bool → Type 0
   Served opened closed cut =
-      AreServed tells coming returned is_out faults identity link_tells left written link_faults link_identity opened closed doors back cut
+      AreServed token tells coming returned is_out faults identity link_tells left written link_faults link_identity opened closed doors back cut
 
   abbrev work_of : Bool → WorkSeen
   work_of cut = record { opened = notes_of old; closed = notes_of new; failed = cut }
@@ -209,7 +209,7 @@ module _ {A D K : Type 0} (tells : D → Bool) (coming returned : D → List K) 
       (subst (λ (t : List ℕ). IsLast p (history new.marks) true 14 t) (sym e.1) a_door)
 
   pub ends_serving : (end : End)
-      → IsResult tells coming returned is_out faults identity link_tells left written link_faults link_identity old doors new back end
+      → IsResult token tells coming returned is_out faults identity link_tells left written link_faults link_identity old doors new back end
       → (end ≡ Memory → new ≡ old) → (end ≡ Memory → Unused) → EndsWith (IsEnding end numbers_of) told was now result
       → RunEnds Served Unused words o told was now result
   ends_serving Done served none unused ends = busy (work_of false) served record {

@@ -13,8 +13,8 @@ use Rattle.history_model.specs.declared.request.Request.{Request}
 use Rattle.history_model.specs.Entries.{seat_of}
 use Rattle.history_model.specs.Places.{place}
 use Rattle.history_model.specs.Refusals.{refusal_of}
-use Rattle.exam_office.specs.Files.{Stands}
-use Rattle.exam_office.specs.Migrating.{IsTooLongMoved, StandsMoved}
+use Rattle.exam_office.specs.Files.{Stands, StandsSecond}
+use Rattle.exam_office.specs.Migrating.{IsTooLongMoved}
 use Rattle.exam_office.specs.Noting.{NotedMark}
 use Rattle.form_model.specs.Plan.{Plan}
 use Rattle.certificate_model.specs.ProofTrees.{ProofTree}
@@ -100,7 +100,7 @@ ReplayIsComplete =
     → p.base ≡ Some base
     → IsScriptIn (o.content name) script
     → IsTrue o.disk.told
-    → StandsMoved b p H o.disk.found
+    → StandsSecond b p H o.disk.found
     → length o.disk.found ≤ p.journal
     → (MeetsLimit words o → ⊥)
     → (Rose o.files_before o.files_after → ⊥)
@@ -119,7 +119,7 @@ ServeIsComplete =
     → Reads o.named o.content bank plan b p
     → p.base ≡ Some base
     → IsTrue o.disk.told
-    → StandsMoved b p H o.disk.found
+    → StandsSecond b p H o.disk.found
     → length o.disk.found ≤ p.journal
     → (Rose o.files_before o.files_after → ⊥)
     → (Rose o.disk.before o.disk.after → ⊥)

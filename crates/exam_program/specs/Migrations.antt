@@ -10,8 +10,8 @@ use Rattle.history_model.specs.declared.entry.Entry.{Entry}
 use Rattle.exam_office.specs.declared.migrating.Moved.{Moved}
 use Rattle.exam_office.specs.declared.migrating.MigrateFault.{MigrateFault}
 use Rattle.exam_office.specs.declared.migrating.MigrateFault.TheVariants as fault
-use Rattle.exam_office.specs.Files.{Stands}
-use Rattle.exam_office.specs.Migrating.{IsImageOrStands, IsMigrated, IsOldFile, IsTooLongMoved, StandsMoved}
+use Rattle.exam_office.specs.Files.{Stands, StandsSecond}
+use Rattle.exam_office.specs.Migrating.{IsImageOrStands, IsMigrated, IsOldFile, IsTooLongMoved}
 use Rattle.exam_program.specs.declared.halt.Halt.{Halt}
 use Rattle.exam_program.specs.declared.halt.Halt.TheVariants as halt
 use Rattle.exam_program.specs.Outside.{DiskSeen, IsUntouched, WasSettled}
@@ -36,7 +36,7 @@ pub record IsMigrationDone (b : Tables) (plan : Plan) (disk : DiskSeen)
     (done : Moved) : Type 0 where
   pub migrated : IsTrue disk.told → IsMigrated b plan disk.found disk.left disk.moments done
   pub stands : IsTrue disk.told → (H : List Entry) → Stands b plan H disk.found
-      → StandsMoved b plan H disk.left
+      → StandsSecond b plan H disk.left
   pub short : IsTrue disk.told → length disk.left ≤ plan.journal
   pub images : IsTrue disk.told → IsClean disk.images_before
       → AllImages (λ file. file ≡ disk.left) disk.images

@@ -17,8 +17,7 @@ use Rattle.history_model.specs.Requests.{Does}
 use Rattle.exam_office.specs.declared.fault.OpenFault.{OpenFault}
 use Rattle.exam_office.specs.declared.fault.OpenFault.TheVariants as open_fault
 use Rattle.exam_office.specs.Asking.{AreGood, IsBegunBy, StandsForOne}
-use Rattle.exam_office.specs.Files.{Stands}
-use Rattle.exam_office.specs.Migrating.{StandsMoved}
+use Rattle.exam_office.specs.Files.{Stands, StandsSecond}
 use Rattle.exam_office.specs.Opening.{IsOpenAnswer, IsReadAnswer}
 use Rattle.exam_records.specs.Shape.{IsRecord}
 use Rattle.exam_records.specs.Spelling.{payload_of}
@@ -90,17 +89,17 @@ pub record IsUnderWay (b : Tables) (plan : Plan) (base : List ℕ) (disk : DiskS
     (script : List Request) (H G : List Entry)
     (rest : List Request) (replies : List Reply) : Type 0 where
   pub legal : LegalRun b plan H
-  pub found : IsTrue disk.told → StandsMoved b plan H disk.found
+  pub found : IsTrue disk.told → StandsSecond b plan H disk.found
   pub left : IsTrue disk.told → IsFileOf b plan base G rest disk.left
   pub going_on : IsGoingOn b plan base script disk.told disk.images H G rest replies
   pub moments : IsTrue disk.told → WasSettled disk
       → AtEachMoment disk.moments_before disk.moments (IsFileOnTheWay b plan base script H)
 
 -- ---- the limit of the journal
--- the file represents this history, and has this length
+-- the file represents this history by records of the second version, and has this length
 pub record IsLeftAt (b : Tables) (plan : Plan) (disk : DiskSeen) (K : List Entry)
     (now : ℕ) : Type 0 where
-  pub stands : IsTrue disk.told → Stands b plan K disk.left
+  pub stands : IsTrue disk.told → StandsSecond b plan K disk.left
   pub length_is : IsTrue disk.told → now ≡ length disk.left
 
 -- the next request was cut off at the history K: with a record that may follow, of the request's

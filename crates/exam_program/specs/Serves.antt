@@ -5,8 +5,8 @@ use Rattle.exam_edge.specs.Images.{AllImages}
 use Rattle.form_model.specs.Plan.{Plan}
 use Rattle.history_model.specs.declared.entry.Entry.{Entry}
 use Rattle.history_model.specs.Legality.{LegalRun}
+use Rattle.exam_office.specs.Files.{StandsSecond}
 use Rattle.exam_office.specs.declared.mark.Mark.TheVariants.{Old, Opened}
-use Rattle.exam_office.specs.Migrating.{StandsMoved}
 use Rattle.exam_office.specs.Marks.{history, reach, AreMarks, AreCounted}
 use Rattle.exam_office.specs.Moments.{AreMoments}
 use Rattle.exam_office.specs.Noting.{OpenedWith, NotedMark, noted, marks_of, IsDoubtOf}
@@ -60,7 +60,7 @@ pub record IsExamined (b : Tables) (plan : Plan) (base : List ℕ) (disk : DiskS
   pub office : OpenedWith
   pub is_of : IsOpenedOn office b plan base disk
   pub found : List Entry
-  pub stands : IsTrue disk.told → StandsMoved b plan found disk.found
+  pub stands : IsTrue disk.told → StandsSecond b plan found disk.found
   pub short : IsTrue disk.told → length disk.found ≤ plan.journal
   pub opening : AreOpening office found opened
   pub same_office : closed ≡ noted office (marks_of closed)

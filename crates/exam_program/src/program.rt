@@ -1,7 +1,7 @@
 //! The program as one call, and the same call of the commands that wait for nobody.
 
 ghost use Rattle.std.specs.Prelude.{◌≡◌, ℕ, ◌≤◌, ◌⊎◌, All, List, false, map, None, Some, OnOk, IfErr, IsTrue, string_bytes, vec_len};
-ghost use Rattle.std.specs.Option.{option_map};
+ghost use Rattle.std.specs.Option.{option_copied, option_map};
 ghost use Rattle.exam_edge.specs.Faults.{Rose};
 ghost use Rattle.exam_edge.specs.Lent.{IsLent};
 ghost use Rattle.answer_journal.specs.Standing.{IsAsLeft};
@@ -22,6 +22,7 @@ use crate::work::{assemble, check, replay_script};
 use crate::world::{Finish, Tools, World};
 use command_line::{Command, command_of};
 use exam_edge::{Disk, Door, Files, Gate, Sink};
+use exam_handler::Observer;
 use std::alloc::Global;
 use std::sync::Wait;
 use std::thread::Threads;
@@ -192,6 +193,16 @@ pub fn run_alone<F: Files, O: Sink, D: Disk>(
     }
 }
 
+/// The bytes of a token, if there is one.
+fn bytes_of(token: &Option<Vec<u8>>) -> Option<&[u8]>
+    ensures { option_copied result ≡ option_map (λ t. t.items) token.now }
+{
+    match token {
+        Some(token) => Some(token.as_slice()),
+        None => None,
+    }
+}
+
 /// Does what the words ask for, and gives the status to end with, the disk and the doors.
 #[tactic(auto, using(crate::proofs::RunLaws::none_served))]
 fn left_of<R, F, O, D, L, G>(
@@ -203,6 +214,7 @@ fn left_of<R, F, O, D, L, G>(
     disk: D,
     doors: Vec<L>,
     gate: &G,
+    token: Option<&[u8]>,
 ) -> Left<D, L>
 where
     R: Threads + Wait + Sync,
@@ -210,13 +222,13 @@ where
     O: Sink,
     D: Disk + Send,
     L: Door + Send,
-    G: Gate + Sync,
+    G: Gate + Observer + Sync,
     requires few { vec_len doors ≤ 65535 }
     requires home { All (λ door. L.is_out door ≡ false) doors.items }
     requires left { IsTrue (D.tells disk) → IsAsLeft (D.accounts disk) }
     ensures answers { IsTrue (F.tells files.old)
-        → RunEnds (λ opened closed failed. AreServed L.tells L.coming L.returned L.is_out L.faults
-        L.identity L.Link.tells L.Link.left L.Link.written L.Link.faults L.Link.identity
+        → RunEnds (λ opened closed failed. AreServed (option_copied token.entry)
+        L.tells L.coming L.returned L.is_out L.faults L.identity L.Link.tells L.Link.left L.Link.written L.Link.faults L.Link.identity
         opened closed doors.items result.doors.items failed) (result.doors ≡ doors)
         (map (λ w. string_bytes w) words.now)
         (outside (F.has files.old) (F.content files.old) (F.faults files.old) (F.faults files.new)
@@ -244,7 +256,7 @@ where
 {
     match command_of(alloc, words) {
         Ok(Some(Command::Serve { bank, plan })) => serve(
-            rt, alloc, files, out, disk, doors, gate, bank, plan,
+            rt, alloc, files, out, disk, doors, gate, token, bank, plan,
         ),
         Ok(command) => {
             let (disk, status) = status_of(alloc, command, files, out, disk);
@@ -263,7 +275,10 @@ where
 }
 
 /// Does what the words ask for, which are those after the program's name. At most 65,535 doors are given, and no link of
-/// theirs is out. Only a server uses the doors and the gate; it may wait, and ends where each door ends.
+/// theirs is out. Only a server uses the doors, the gate and the token; it may wait, and ends where each door ends. Where
+/// there is a token, a message that does not bear it does nothing, but for a look at the health.
+/// The gate is the observer, too: a server tells it how the examination is once the journal was
+/// opened, after each response, and at the end.
 /// The journal's disk is as a reboot or a journal left it.
 /// It gives the status to end with: 0 the work was done, 2 the words are not in the table,
 /// 3, 4 and 5 the bank, the plan or the script is refused, 6 the journal represents no history of the bank and the plan, or, in
@@ -276,7 +291,7 @@ pub fn run<
     O: Sink,
     D: Disk + Send,
     L: Door + Send,
-    G: Gate + Sync,
+    G: Gate + Observer + Sync,
 >(rt: &R, alloc: Global, words: &[String], world: World<F, O, D, L, G>) -> Finish<F, O, D, L>
     requires few { vec_len world.doors ≤ 65535 }
     requires home { All (λ door. L.is_out door ≡ false) world.doors.items }
@@ -285,8 +300,8 @@ pub fn run<
     // reports its content too: that this is written. If the disk reports its content too: what the journal holds, and what a
     // crash may leave of it. Of a door that reports its links: that each was served, and what was written to it.
     ensures answers { IsTrue (F.tells world.files)
-        → RunEnds (λ opened closed failed. AreServed L.tells L.coming L.returned L.is_out L.faults
-        L.identity L.Link.tells L.Link.left L.Link.written L.Link.faults L.Link.identity
+        → RunEnds (λ opened closed failed. AreServed (option_map (λ t. t.items) world.token)
+        L.tells L.coming L.returned L.is_out L.faults L.identity L.Link.tells L.Link.left L.Link.written L.Link.faults L.Link.identity
         opened closed world.doors.items result.doors.items failed) (result.doors ≡ world.doors)
         (map (λ w. string_bytes w) words.now)
         (outside (F.has world.files) (F.content world.files) (F.faults world.files)
@@ -295,8 +310,8 @@ pub fn run<
         (O.tells world.out) (O.written world.out) (O.written result.out) result.status }
     // What is left of the journal, whatever the status.
     ensures journal { IsTrue (F.tells world.files)
-        → RunLeaves (λ opened closed failed. AreServed L.tells L.coming L.returned L.is_out L.faults
-        L.identity L.Link.tells L.Link.left L.Link.written L.Link.faults L.Link.identity
+        → RunLeaves (λ opened closed failed. AreServed (option_map (λ t. t.items) world.token)
+        L.tells L.coming L.returned L.is_out L.faults L.identity L.Link.tells L.Link.left L.Link.written L.Link.faults L.Link.identity
         opened closed world.doors.items result.doors.items failed) (result.doors ≡ world.doors)
         (map (λ w. string_bytes w) words.now)
         (outside (F.has world.files) (F.content world.files) (F.faults world.files)
@@ -332,8 +347,12 @@ pub fn run<
         disk,
         doors,
         gate,
+        token,
     } = world;
-    let left = left_of(rt, alloc, words, &mut files, &mut out, disk, doors, &gate);
+    let token = bytes_of(&token);
+    let left = left_of(
+        rt, alloc, words, &mut files, &mut out, disk, doors, &gate, token,
+    );
     let Left {
         disk,
         doors,

@@ -1,6 +1,7 @@
 //! The command `serve`: connections over the journal.
 
 ghost use Rattle.std.specs.Prelude.{◌≡◌, ℕ, ◌≤◌, ◌⊎◌, List, All, Some, None, false, IsTrue, IfErr, IfOk, OnErr, length, vec_len};
+ghost use Rattle.std.specs.Option.{option_copied};
 ghost use Rattle.bank_tables.specs.Items.{has};
 ghost use Rattle.exam_edge.specs.Faults.{Rose};
 ghost use Rattle.exam_edge.specs.Lent.{FailsOnly, IsLent};
@@ -23,6 +24,7 @@ use crate::report::{print, print_text, report};
 use bank_tables::{Bank, ItemSet};
 use constraint_model::Spec;
 use exam_edge::{Disk, Door, Failed, Files, Gate, Sink};
+use exam_handler::Observer;
 use exam_lines::summary_line;
 use exam_office::Office;
 use exam_serve::{End, Served, serve_doors};
@@ -113,8 +115,9 @@ fn end_over<O: Sink, D: Disk>(
     }
 }
 
-/// Opens the journal on a disk, serves the connections of the doors over it, and prints how that
-/// ended. The base form, which meets the plan, is the hint of each assembly.
+/// Opens the journal on a disk, serves the connections of the doors over it, for messages that bear
+/// the token if there is one, and prints how that ended. The observer is told how the examination is
+/// before and after that. The base form, which meets the plan, is the hint of each assembly.
 fn serve_over<'a, R, O, D, L, G>(
     rt: &R,
     alloc: Global,
@@ -125,13 +128,14 @@ fn serve_over<'a, R, O, D, L, G>(
     disk: D,
     doors: Vec<L>,
     gate: &G,
+    token: Option<&[u8]>,
 ) -> Left<D, L>
 where
     R: Threads + Wait + Sync,
     O: Sink,
     D: Disk + Send,
     L: Door + Send,
-    G: Gate + Sync,
+    G: Gate + Observer + Sync,
     requires plan { IsPlanFor bank.now spec.now }
     requires base { Meets bank.now spec.now (has base.now) }
     requires few { vec_len doors ≤ 65535 }
@@ -140,8 +144,8 @@ where
     ensures answers { (words : List (List ℕ)) (o : Outside)
         → IsServeOf words o bank.now spec.now base.now
         → o.disk ≡ disk_seen D.tells D.content D.accounts D.faults disk result.disk
-        → RunEnds (λ opened closed failed. AreServed L.tells L.coming L.returned L.is_out L.faults
-        L.identity L.Link.tells L.Link.left L.Link.written L.Link.faults L.Link.identity
+        → RunEnds (λ opened closed failed. AreServed (option_copied token.entry)
+        L.tells L.coming L.returned L.is_out L.faults L.identity L.Link.tells L.Link.left L.Link.written L.Link.faults L.Link.identity
         opened closed doors.items result.doors.items failed) (result.doors ≡ doors)
         words o (O.tells out.old) (O.written out.old) (O.written out.new) result.status }
     ensures door { result.status ≡ 14 → HasFailedDoor L.faults doors.items result.doors.items }
@@ -165,7 +169,9 @@ where
             };
         }
     };
-    let Served { office, doors, end } = serve_doors(rt, alloc, office, gate, doors);
+    gate.see(&office.health());
+    let Served { office, doors, end } = serve_doors(rt, alloc, office, gate, token, doors);
+    gate.see(&office.health());
     // What the type of an office keeps of its marks.
     office.keeps();
     let summary = office.summary();
@@ -178,8 +184,8 @@ where
     }
 }
 
-/// Serves the connections of the doors over the journal on a disk, and prints how that ended. It
-/// gives the disk and the doors back.
+/// Serves the connections of the doors over the journal on a disk, for messages that bear the token
+/// if there is one, and prints how that ended. It gives the disk and the doors back.
 pub(crate) fn serve<R, F, O, D, L, G>(
     rt: &R,
     alloc: Global,
@@ -188,6 +194,7 @@ pub(crate) fn serve<R, F, O, D, L, G>(
     disk: D,
     doors: Vec<L>,
     gate: &G,
+    token: Option<&[u8]>,
     bank: &str,
     plan: &str,
 ) -> Left<D, L>
@@ -197,14 +204,14 @@ where
     O: Sink,
     D: Disk + Send,
     L: Door + Send,
-    G: Gate + Sync,
+    G: Gate + Observer + Sync,
     requires few { vec_len doors ≤ 65535 }
     requires home { All (λ d. L.is_out d ≡ false) doors.items }
     requires left { IsTrue (D.tells disk) → IsAsLeft (D.accounts disk) }
     ensures answers { IsTrue (F.tells files.old) → (words : List (List ℕ))
         → command_of words ≡ Some (Serve bank.now plan.now)
-        → RunEnds (λ opened closed failed. AreServed L.tells L.coming L.returned L.is_out L.faults
-        L.identity L.Link.tells L.Link.left L.Link.written L.Link.faults L.Link.identity
+        → RunEnds (λ opened closed failed. AreServed (option_copied token.entry)
+        L.tells L.coming L.returned L.is_out L.faults L.identity L.Link.tells L.Link.left L.Link.written L.Link.faults L.Link.identity
         opened closed doors.items result.doors.items failed) (result.doors ≡ doors)
         words (outside (F.has files.old) (F.content files.old) (F.faults files.old)
         (F.faults files.new)
@@ -247,6 +254,6 @@ where
         }
     };
     serve_over(
-        rt, alloc, &exam.bank, &exam.spec, &base, out, disk, doors, gate,
+        rt, alloc, &exam.bank, &exam.spec, &base, out, disk, doors, gate, token,
     )
 }

@@ -8,7 +8,8 @@ pub struct Tools<F, O, D> {
     pub disk: D,
 }
 
-/// The outside: files, sink and disk, the doors that connections come from, and the gate that may hold a caller.
+/// The outside: files, sink and disk, the doors that connections come from, the gate that may hold a caller and observes
+/// the examination, and the token that messages have to bear, if there is one.
 #[derive(Drop)]
 pub struct World<F, O, D, L, G> {
     pub files: F,
@@ -16,6 +17,7 @@ pub struct World<F, O, D, L, G> {
     pub disk: D,
     pub doors: Vec<L>,
     pub gate: G,
+    pub token: Option<Vec<u8>>,
 }
 
 /// The outside as the program leaves it, with the status to end with.

@@ -1,5 +1,5 @@
 -- A caller stays with its hall.
-use Rattle.std.proofs.Common.{◌≡◌, ℕ, suc, Bool, List, [], ◌∷◌, length, refl, sym, ap, ◌∙◌, arith}
+use Rattle.std.proofs.Common.{◌≡◌, inl, inr, Option, ℕ, suc, Bool, List, [], ◌∷◌, length, refl, sym, ap, ◌∙◌, arith}
 use Rattle.std.specs.List.{All, AllZip}
 use Rattle.std.proofs.lemmas.List.Elements.{All-head, All-tail}
 use Rattle.exam_workers.specs.declared.Station.{Station}
@@ -8,29 +8,32 @@ use Rattle.exam_office.specs.Noting.{NotedMark}
 use Rattle.exam_http.specs.Serving as serving
 use Rattle.exam_http.specs.Serving.{LeadsTo}
 use Rattle.exam_hall.specs.Known.{HallKnown, CallerKnown}
-use Rattle.exam_serve.specs.Connections.{Asks, Idles, IsConnection}
+use Rattle.exam_hall.specs.Probes.{Idles}
+use Rattle.exam_serve.specs.Connections.{Asks, Probes, IsConnection}
 use Rattle.exam_serve.specs.Doors.{IsNewStation, IsWorked}
 
-leads_same : (start new : CallerKnown) → LeadsTo Asks Idles start new → new.hall ≡ start.hall
+leads_same : (start new : CallerKnown) → LeadsTo Asks Probes Idles start new → new.hall ≡ start.hall
 leads_same start _ serving.unchanged = refl
 leads_same start _ (serving.then_asked request reply old new before asked) = asked.1 ∙ leads_same start old before
-leads_same start _ (serving.then_idle old new before same) = ap (λ (c : CallerKnown). c.hall) same ∙ leads_same start old before
+leads_same start _ (serving.then_probed found old new before probed) = probed.1 ∙ leads_same start old before
+leads_same start _ (serving.then_idle old new before (inl same)) = ap (λ (c : CallerKnown). c.hall) same ∙ leads_same start old before
+leads_same start _ (serving.then_idle old new before (inr went)) = went.0 ∙ leads_same start old before
 
-module _ {K : Type 0} (tells : K → Bool) (left written : K → List ℕ) (faults identity : K → ℕ) where
+module _ {K : Type 0} (token : Option (List ℕ)) (tells : K → Bool) (left written : K → List ℕ) (faults identity : K → ℕ) where
   links_same : (t : CallerKnown) (given back : List K) (u : CallerKnown)
-      → ServesLinks (IsConnection tells left written faults identity) t given back u → u.hall ≡ t.hall
+      → ServesLinks (IsConnection token tells left written faults identity) t given back u → u.hall ≡ t.hall
   links_same t [] [] u h = ap (λ (c : CallerKnown). c.hall) (sym h)
   links_same t [] (l ∷ back) u h = absurd h
   links_same t (k ∷ given) [] u h = absurd h
   links_same t (k ∷ given) (l ∷ back) u h = links_same h.0 given back u h.2 ∙ leads_same t h.0 h.1.leads
 
-module _ {D K : Type 0} (tells : D → Bool) (coming returned : D → List K) (is_out : D → Bool) (faults identity : D → ℕ)
-    (link_tells : K → Bool) (left written : K → List ℕ) (link_faults link_identity : K → ℕ) (hall : HallKnown) (opened : List NotedMark) where
+module _ {D K : Type 0} (token : Option (List ℕ)) (tells : D → Bool) (coming returned : D → List K) (is_out : D → Bool)
+    (faults identity : D → ℕ) (link_tells : K → Bool) (left written : K → List ℕ) (link_faults link_identity : K → ℕ) (hall : HallKnown) (opened : List NotedMark) where
   abbrev Links : CallerKnown → K → CallerKnown → K → Type 0
-  Links = IsConnection link_tells left written link_faults link_identity
+  Links = IsConnection token link_tells left written link_faults link_identity
 
   abbrev Worked : Station D CallerKnown K → Station D CallerKnown K → Type 0
-  Worked = IsWorked tells coming returned is_out faults identity link_tells left written link_faults link_identity hall opened
+  Worked = IsWorked token tells coming returned is_out faults identity link_tells left written link_faults link_identity hall opened
 
   -- new stations that were worked at
   pub worked_all : (old new : List (Station D CallerKnown K)) → All (IsNewStation is_out hall opened) old → length new ≡ length old
@@ -45,7 +48,7 @@ module _ {D K : Type 0} (tells : D → Bool) (coming returned : D → List K) (i
           made = first;
           serves = works.0;
           ends = works.1;
-          same_hall = links_same link_tells left written link_faults link_identity a.token works.0.given works.0.back b.token works.0.served
+          same_hall = links_same token link_tells left written link_faults link_identity a.token works.0.given works.0.back b.token works.0.served
               ∙ ap (λ (c : CallerKnown). c.hall) first.token;
         },
         worked_all old new (All-tail (IsNewStation is_out hall opened) a old made) (omega arith) (λ k s lt. h (suc k) s (omega arith)),

@@ -1,5 +1,5 @@
 -- What the work leaves of the doors.
-use Rattle.std.proofs.Common.{◌≡◌, ℕ, suc, Bool, true, false, ◌||◌, List, [], ◌∷◌, map, All, subst, sym, refl, ◌∙◌, arith}
+use Rattle.std.proofs.Common.{◌≡◌, Option, ℕ, suc, Bool, true, false, ◌||◌, List, [], ◌∷◌, map, All, subst, sym, refl, ◌∙◌, arith}
 use Rattle.std.proofs.lemmas.Bool.{false≢true}
 use Rattle.std.specs.Prelude.{IsTrue, MatchBool}
 use Rattle.std.specs.List.{AllZip, list_any}
@@ -30,13 +30,13 @@ rest_false true b e = absurd (no e)
     no e = cc
 rest_false false b e = e
 
-module _ {D K : Type 0} (tells : D → Bool) (coming returned : D → List K) (is_out : D → Bool) (faults identity : D → ℕ)
-    (link_tells : K → Bool) (left written : K → List ℕ) (link_faults link_identity : K → ℕ) where
+module _ {D K : Type 0} (token : Option (List ℕ)) (tells : D → Bool) (coming returned : D → List K) (is_out : D → Bool)
+    (faults identity : D → ℕ) (link_tells : K → Bool) (left written : K → List ℕ) (link_faults link_identity : K → ℕ) where
   abbrev Worked : HallKnown → List NotedMark → Station D CallerKnown K → Station D CallerKnown K → Type 0
-  Worked = IsWorked tells coming returned is_out faults identity link_tells left written link_faults link_identity
+  Worked = IsWorked token tells coming returned is_out faults identity link_tells left written link_faults link_identity
 
   abbrev Served : List NotedMark → List NotedMark → List D → List D → Bool → Type 0
-  Served = AreServed tells coming returned is_out faults identity link_tells left written link_faults link_identity
+  Served = AreServed token tells coming returned is_out faults identity link_tells left written link_faults link_identity
 
   abbrev Lent : D → D → Type 0
   Lent door after = IsLent tells identity faults door after × (is_out after ≡ false)

@@ -1,5 +1,5 @@
 -- The work as a whole.
-use Rattle.std.proofs.Common.{◌≡◌, ℕ, Bool, true, false, List, [], ◌∷◌, ◌++◌, map, length, take, drop, refl, sym, ap, ◌∙◌, subst}
+use Rattle.std.proofs.Common.{◌≡◌, Option, ℕ, Bool, true, false, List, [], ◌∷◌, ◌++◌, map, length, take, drop, refl, sym, ap, ◌∙◌, subst}
 use Rattle.std.specs.List.{AllZip, list_any}
 use Rattle.std.proofs.lemmas.List.{append-nil, reverse-reverse}
 use Rattle.std.proofs.lemmas.List.Elements.{All-weaker}
@@ -32,15 +32,15 @@ lent_whole count old new e f =
     ap (λ n. take count (new ++ drop n old)) f ∙ ap (λ l. take count (new ++ l)) (drop_all old) ∙ ap (take count) (append-nil new)
     ∙ ap (λ n. take n new) (e ∙ sym f) ∙ take_all new
 
-module _ {D K : Type 0} (tells : D → Bool) (coming returned : D → List K) (is_out : D → Bool) (faults identity : D → ℕ)
-    (link_tells : K → Bool) (left written : K → List ℕ) (link_faults link_identity : K → ℕ) where
+module _ {D K : Type 0} (token : Option (List ℕ)) (tells : D → Bool) (coming returned : D → List K) (is_out : D → Bool)
+    (faults identity : D → ℕ) (link_tells : K → Bool) (left written : K → List ℕ) (link_faults link_identity : K → ℕ) where
   abbrev Served : List NotedMark → List NotedMark → List D → List D → Bool → Type 0
-  Served = AreServed tells coming returned is_out faults identity link_tells left written link_faults link_identity
+  Served = AreServed token tells coming returned is_out faults identity link_tells left written link_faults link_identity
 
   -- what was served up to the last join
   pub served_joined : (hall : HallKnown) (opened : List NotedMark) → HasOpening opened hall → (pass : Known NotedMark) (doors back : List D) (failed : Bool)
       (old new : List (Station D CallerKnown K)) → map door_of old ≡ reverse doors → back ≡ map door_of (reverse new)
-      → AllZip (IsWorked tells coming returned is_out faults identity link_tells left written link_faults link_identity hall opened) old new
+      → AllZip (IsWorked token tells coming returned is_out faults identity link_tells left written link_faults link_identity hall opened) old new
       → AreJoined pass (reverse new) → failed ≡ list_any has_failed (reverse new) → StartsWith pass.seen opened
       → Served opened pass.seen doors back failed
   served_joined hall opened is_of pass doors back failed old new d b worked joined f grows = record {
@@ -78,7 +78,7 @@ module _ {D K : Type 0} (tells : D → Bool) (coming returned : D → List K) (i
   -- the same as the result by how the work ended
   result_at : {A : Type 0} (office closed : Running A) (doors back : List D) (failed : Bool)
       → Served (notes_of office) (notes_of closed) doors back failed
-      → IsResult tells coming returned is_out faults identity link_tells left written link_faults link_identity
+      → IsResult token tells coming returned is_out faults identity link_tells left written link_faults link_identity
       office doors closed back (end_of failed)
   result_at office closed doors back true s = s
   result_at office closed doors back false s = s
@@ -86,10 +86,10 @@ module _ {D K : Type 0} (tells : D → Bool) (coming returned : D → List K) (i
   pub result_of : {A : Type 0} (office closed : Running A) (doors back : List D) (failed : Bool) (end : End)
       (pass : Known NotedMark) (first : List NotedMark) → end ≡ end_of failed → first ≡ notes_of office
       → StartsWith (notes_of closed) pass.seen → Served first pass.seen doors back failed
-      → IsResult tells coming returned is_out faults identity link_tells left written link_faults link_identity
+      → IsResult token tells coming returned is_out faults identity link_tells left written link_faults link_identity
       office doors closed back end
   result_of office closed doors back failed end pass first e f more s =
-      subst (λ x. IsResult tells coming returned is_out faults identity link_tells left written link_faults link_identity
+      subst (λ x. IsResult token tells coming returned is_out faults identity link_tells left written link_faults link_identity
       office doors closed back x) (sym e)
       (result_at office closed doors back failed
       (subst (λ l. Served l (notes_of closed) doors back failed) f

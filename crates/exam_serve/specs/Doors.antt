@@ -1,5 +1,5 @@
 -- What becomes of doors whose links are served on passes of one hall.
-use Rattle.std.specs.Prelude.{◌≡◌, ℕ, Bool, false, List, [], map, slice_get, Some, IsTrue}
+use Rattle.std.specs.Prelude.{◌≡◌, ℕ, Bool, false, List, [], map, slice_get, Option, Some, IsTrue}
 use Rattle.std.specs.List.{All, AllZip, AllPairs, list_any}
 use Rattle.exam_edge.specs.Faults.{Rose}
 use Rattle.exam_edge.specs.Lent.{IsLent}
@@ -54,17 +54,17 @@ module _ {D K : Type 0} where
     pub token : station.token ≡ record { hall = hall; pass = new_pass hall.lock number opened }
     pub home : is_out station.door ≡ false
 
-module _ {D K : Type 0} (tells : D → Bool) (coming returned : D → List K) (is_out : D
-    → Bool) (faults identity : D → ℕ)
+module _ {D K : Type 0} (token : Option (List ℕ)) (tells : D → Bool) (coming returned : D → List K)
+    (is_out : D → Bool) (faults identity : D → ℕ)
     (link_tells : K → Bool) (left written : K → List ℕ) (link_faults link_identity : K → ℕ) where
-  -- a station before and after its work. It began with a new pass of the hall. Each link that its
+  -- a station before and after its work, of a server with this token or none. It began with a new pass of the hall. Each link that its
   -- door gave was served, in order, on this one pass, and then went back to the door. It ended
   -- where the door failed, or gave no more
   pub record IsWorked (hall : HallKnown) (opened : List NotedMark)
       (before after : Station D CallerKnown K) : Type 0 where
     pub made : IsNewStation is_out hall opened before
     pub serves : Serves tells coming returned is_out faults identity
-        (IsConnection link_tells left written link_faults link_identity) before after
+        (IsConnection token link_tells left written link_faults link_identity) before after
     pub ends : Ends tells coming faults before after
     pub same_hall : after.token.hall ≡ hall
 

@@ -1,5 +1,5 @@
 -- What the work leaves of the office and the doors.
-use Rattle.std.specs.Prelude.{◌≡◌, ℕ, Bool, true, false, List}
+use Rattle.std.specs.Prelude.{◌≡◌, ℕ, Bool, true, false, List, Option}
 use Rattle.exam_office.specs.Noting.{NotedMark, noted, opened_with}
 use Rattle.exam_office.specs.Running.{Running}
 use Rattle.exam_serve.specs.declared.serve.End.{End}
@@ -15,15 +15,16 @@ end_of false = Done
 abbrev pub notes_of : {A : Type 0} → Running A → List NotedMark
 notes_of office = noted (opened_with office) office.marks
 
-module _ {A D K : Type 0} (tells : D → Bool) (coming returned : D → List K) (is_out : D → Bool)
+module _ {A D K : Type 0} (token : Option (List ℕ)) (tells : D → Bool)
+    (coming returned : D → List K) (is_out : D → Bool)
     (faults identity : D → ℕ) (link_tells : K → Bool) (left written : K
     → List ℕ) (link_faults link_identity : K → ℕ) where
   -- the office and the doors after the work, by how it ended. Out of memory, no link was accepted
   abbrev pub IsResult : Running A → List D → Running A → List D → End → Type 0
   IsResult office doors closed back Done =
-      AreServed tells coming returned is_out faults identity link_tells left written
+      AreServed token tells coming returned is_out faults identity link_tells left written
       link_faults link_identity (notes_of office) (notes_of closed) doors back false
   IsResult office doors closed back DoorFailed =
-      AreServed tells coming returned is_out faults identity link_tells left written
+      AreServed token tells coming returned is_out faults identity link_tells left written
       link_faults link_identity (notes_of office) (notes_of closed) doors back true
   IsResult office doors closed back Memory = (closed ≡ office) × (back ≡ doors)

@@ -2,6 +2,7 @@
 
 ghost use Rattle.std.specs.Prelude.{◌≡◌, ◌≤◌, ℕ, [], List, true, false, vec_len, vec_capacity};
 ghost use Rattle.std.specs.List.{All};
+ghost use Rattle.std.specs.Option.{option_copied};
 ghost use Rattle.exam_hall.specs.Known.{IsOf};
 ghost use Rattle.turn_lock.specs.Histories.{StartsWith};
 ghost use Rattle.exam_serve.specs.declared.serve.End.TheVariants as end;
@@ -13,10 +14,12 @@ use crate::connections::Connections;
 use crate::stations::{clear_stations, make_stations};
 use exam_edge::{Disk, Door, Gate};
 use exam_hall::{Caller, Hall};
+use exam_handler::Observer;
 use exam_office::Office;
 use exam_workers::{Station, run_workers};
 use std::alloc::Global;
 use std::sync::Wait;
+use std::sync::atomic::AtomicU32;
 use std::thread::Threads;
 use turn_lock::Pass;
 
@@ -48,12 +51,13 @@ fn end_of(failed: bool) -> End
     if failed { End::DoorFailed } else { End::Done }
 }
 
-/// Serves the links of the doors at a hall. There is room for a station for each door.
+/// Serves the links of the doors at a hall, for messages that bear the token if there is one. There is room for a station for each door.
 fn serve_at<'h, 'a, R, D, L, G>(
     rt: &R,
     alloc: Global,
     hall: &'h Hall<'a, D>,
     gate: &'h G,
+    token: Option<&'h [u8]>,
     pass: &mut Pass<Office<'a, D>>,
     doors: &mut Vec<L>,
     stations: Vec<Station<L, Caller<'h, 'a, D, G>>>,
@@ -62,28 +66,36 @@ where
     R: Threads + Wait + Sync,
     D: Disk + Send,
     L: Door + Send,
-    G: Gate + Sync,
+    G: Gate + Observer + Sync,
     requires of { IsOf pass.old hall.now }
     requires new { (pass.old.number ≡ 0) × (pass.old.splits ≡ 0) }
     requires few { vec_len doors.old ≤ 65535 }
     requires home { All (λ d. L.is_out d ≡ false) doors.old.items }
     requires empty { stations.items ≡ [] }
     requires room { vec_len doors.old ≤ vec_capacity stations }
-    ensures served { AreServed L.tells L.coming L.returned L.is_out L.faults L.identity
+    ensures served { AreServed (option_copied token.entry)
+        L.tells L.coming L.returned L.is_out L.faults L.identity
         L.Link.tells L.Link.left L.Link.written L.Link.faults L.Link.identity
         pass.old.seen pass.new.seen doors.old.items doors.new.items result }
     ensures of { IsOf pass.new hall.now }
 {
     let mut stations = stations;
     make_stations(hall, gate, pass, doors, &mut stations);
-    run_workers(rt, alloc, &mut stations, &Connections { hall, gate });
+    let connections = Connections {
+        hall,
+        gate,
+        token,
+        busy: AtomicU32::new(0),
+    };
+    run_workers(rt, alloc, &mut stations, &connections);
     let failed = clear_stations(hall, pass, doors, &mut stations);
     stations.destroy_empty();
     failed
 }
 
 /// Serves the connections of each door over one office, which all doors share, the doors in threads of their own, until
-/// each door gives no more links or fails. At most 65,535 doors, with no link out. Where no thread can be made, the caller
+/// each door gives no more links or fails. Where there is a token, a message that does not bear it does nothing, but for a
+/// look at the health. At most 65,535 doors, with no link out. Where no thread can be made, the caller
 /// does that work itself. The office comes back with one list of marks, which begins with those that it had: of each door,
 /// the links that it gave were served in order on one pass, by the bank, the plan and the base form of the office, and came
 /// back to it; what a pass saw is a beginning of that list, and no mark is the own of two passes. It may wait, and ends only
@@ -93,20 +105,22 @@ pub fn serve_doors<'a, R, D, L, G>(
     alloc: Global,
     office: Office<'a, D>,
     gate: &G,
+    token: Option<&[u8]>,
     doors: Vec<L>,
 ) -> Served<'a, D, L>
 where
     R: Threads + Wait + Sync,
     D: Disk + Send,
     L: Door + Send,
-    G: Gate + Sync,
+    G: Gate + Observer + Sync,
     requires few { vec_len doors ≤ 65535 }
     requires home { All (λ d. L.is_out d ≡ false) doors.items }
     // What no call changes: the bank, the plan and the base form, which disk it is, and how that was handed in.
     ensures same { opened_with result.office ≡ opened_with office.entry }
     // The office's marks at the close begin with those that it had at first.
     ensures begins { StartsWith result.office.marks office.entry.marks }
-    ensures result { IsResult L.tells L.coming L.returned L.is_out L.faults L.identity
+    ensures result { IsResult (option_copied token.entry)
+        L.tells L.coming L.returned L.is_out L.faults L.identity
         L.Link.tells L.Link.left L.Link.written L.Link.faults L.Link.identity
         office.entry doors.items result.office result.doors.items result.end }
     // However it ended: each door is the same object, with no fewer faults, and no link of it is out.
@@ -141,7 +155,9 @@ where
             };
         }
     };
-    let failed = serve_at(rt, alloc, &hall, gate, &mut pass, &mut doors, stations);
+    let failed = serve_at(
+        rt, alloc, &hall, gate, token, &mut pass, &mut doors, stations,
+    );
     let office = hall.close(rt, pass);
     Served {
         office,

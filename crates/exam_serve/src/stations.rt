@@ -11,12 +11,13 @@ ghost use Rattle.exam_serve.specs.Joining.{AreJoined};
 
 use exam_edge::{Disk, Door, Gate};
 use exam_hall::{Caller, Hall};
+use exam_handler::Observer;
 use exam_office::Office;
 use exam_workers::Station;
 use turn_lock::Pass;
 
 /// Makes a station of a door, with a pass of its own.
-fn station_at<'h, 'a, D: Disk, G: Gate, L: Door>(
+fn station_at<'h, 'a, D: Disk, G: Gate + Observer, L: Door>(
     hall: &'h Hall<'a, D>,
     gate: &'h G,
     pass: &mut Pass<Office<'a, D>>,
@@ -39,7 +40,7 @@ fn station_at<'h, 'a, D: Disk, G: Gate, L: Door>(
 }
 
 /// Makes a station of each door, the last door first. There is room for them.
-pub(crate) fn make_stations<'h, 'a, D: Disk, G: Gate, L: Door>(
+pub(crate) fn make_stations<'h, 'a, D: Disk, G: Gate + Observer, L: Door>(
     hall: &'h Hall<'a, D>,
     gate: &'h G,
     pass: &mut Pass<Office<'a, D>>,
@@ -67,7 +68,7 @@ pub(crate) fn make_stations<'h, 'a, D: Disk, G: Gate, L: Door>(
 }
 
 /// Joins the pass of a station, and takes its door back. Answers whether the door failed.
-fn clear_station<'h, 'a, D: Disk, G: Gate, L: Door>(
+fn clear_station<'h, 'a, D: Disk, G: Gate + Observer, L: Door>(
     hall: &'h Hall<'a, D>,
     pass: &mut Pass<Office<'a, D>>,
     doors: &mut Vec<L>,
@@ -96,7 +97,7 @@ fn clear_station<'h, 'a, D: Disk, G: Gate, L: Door>(
 
 /// Joins the passes of the stations, the last station first, and takes their doors back. There is room for them.
 /// Answers whether a door failed.
-pub(crate) fn clear_stations<'h, 'a, D: Disk, G: Gate, L: Door>(
+pub(crate) fn clear_stations<'h, 'a, D: Disk, G: Gate + Observer, L: Door>(
     hall: &'h Hall<'a, D>,
     pass: &mut Pass<Office<'a, D>>,
     doors: &mut Vec<L>,

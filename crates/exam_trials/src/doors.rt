@@ -88,6 +88,7 @@ fn serves<R: Abort + AllocGlobal + Threads + Wait + Sync>(
         disk,
         doors,
         gate: OpenGate,
+        token: None,
     };
     let finish = run(rt, alloc, &words, world);
     assert!(rt; finish.out.bytes().starts_with(front.as_bytes()));

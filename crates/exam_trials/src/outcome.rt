@@ -142,6 +142,7 @@ pub fn outcome<R: Abort + AllocGlobal + Threads + Wait + Sync>(
         disk,
         doors,
         gate: OpenGate,
+        token: None,
     };
     let finish = run(rt, alloc, &words, world);
     ran_of(rt, alloc, finish.status, &finish.out, &finish.disk)

@@ -20,13 +20,13 @@ pub trait Service<K: Link> {
     type Token: Send;
 
     /// What it does: of the token and the link before, and of both after.
-    ghost serves: { Self.Token → K → Self.Token → K → Type 0 };
+    ghost serves: { Self → Self.Token → K → Self.Token → K → Type 0 };
 
     /// Serves one link to its end. That threads may share `rt` is a clause too: a method of an impl doesn't know it by the
     /// bound.
     fn serve<R: Wait + Sync>(&self, rt: &R, alloc: Global, token: &mut Self::Token, link: &mut K)
         requires { IsSync R.row }
-        ensures { serves token.old link.old token.new link.new };
+        ensures { serves self.now token.old link.old token.new link.new };
 }
 
 /// A door with the token that its links are served on.
@@ -50,8 +50,8 @@ fn serve_next<L: Door, S: Service<L::Link>, R: Wait + Sync>(
     service: &S,
 ) -> bool
     requires home { L.is_out station.old.door ≡ false }
-    ensures serves { Serves L.tells L.coming L.returned L.is_out L.faults L.identity S.serves
-        station.old station.new }
+    ensures serves { Serves L.tells L.coming L.returned L.is_out L.faults L.identity
+        (S.serves service.now) station.old station.new }
     ensures ends { MatchBool result
         (Ends L.tells L.coming L.faults station.old station.new) (Unit {0}) }
 {
@@ -81,8 +81,8 @@ fn serve_link<L: Door, S: Service<L::Link>, R: Wait + Sync>(
     link: L::Link,
 )
     requires out { L.is_out station.old.door ≡ true }
-    ensures served { ServesLink L.tells L.coming L.returned L.is_out L.faults L.identity S.serves
-        station.old link station.new }
+    ensures served { ServesLink L.tells L.coming L.returned L.is_out L.faults L.identity
+        (S.serves service.now) station.old link station.new }
 {
     let mut link = link;
     let links = station.links;
@@ -99,8 +99,8 @@ fn work<L: Door, S: Service<L::Link>, R: Wait + Sync>(
     service: &S,
 )
     requires home { L.is_out station.old.door ≡ false }
-    ensures serves { Serves L.tells L.coming L.returned L.is_out L.faults L.identity S.serves
-        station.old station.new }
+    ensures serves { Serves L.tells L.coming L.returned L.is_out L.faults L.identity
+        (S.serves service.now) station.old station.new }
     ensures ends { Ends L.tells L.coming L.faults station.old station.new }
 {
     let _links = station.links;
@@ -123,8 +123,8 @@ pub fn run_workers<L: Door + Send, S: Service<L::Link> + Sync, R: Threads + Wait
 )
     requires home { All (λ s. L.is_out s.door ≡ false) stations.old }
     ensures length { length stations.new ≡ length stations.old }
-    ensures each { EachServes L.tells L.coming L.returned L.is_out L.faults L.identity S.serves
-        stations.old stations.new }
+    ensures each { EachServes L.tells L.coming L.returned L.is_out L.faults L.identity
+        (S.serves service.now) stations.old stations.new }
 {
     let count = stations.len();
     if count == 0 {
@@ -136,8 +136,8 @@ pub fn run_workers<L: Door + Send, S: Service<L::Link> + Sync, R: Threads + Wait
         count,
         &|_: usize, station: &mut Station<L, S::Token>|
             requires { L.is_out station.now.door ≡ false }
-            ensures { Serves L.tells L.coming L.returned L.is_out L.faults L.identity S.serves
-                station.entry.now station.exit.now
+            ensures { Serves L.tells L.coming L.returned L.is_out L.faults L.identity
+                (S.serves service.entry.now) station.entry.now station.exit.now
                 × Ends L.tells L.coming L.faults station.entry.now station.exit.now }
         { work(rt, alloc, station, service) },
     );

@@ -40,6 +40,8 @@ mod openings;
 #[cfg(test)]
 mod outcome;
 #[cfg(test)]
+mod probes;
+#[cfg(test)]
 mod refusals;
 #[cfg(test)]
 mod rewriting;

@@ -10,7 +10,7 @@ use crate::serving::{serve, serve_again, serve_late};
 use bank_tables::{Bank, List};
 use constraint_model::Spec;
 use exam_edge::{Disk, MemoryDisk};
-use exam_office::{Begun, Office, OpenFault, Place, Refusal, Summary};
+use exam_office::{Begun, Health, Office, OpenFault, Place, Refusal, Summary};
 use form_model::{Draft, Rate};
 use history_model::Counts;
 use std::alloc::Global;
@@ -53,6 +53,8 @@ pub(crate) enum Call {
     Warm(u32),
     /// The exposure counts of an item; none if there is no such item.
     Exposure(usize),
+    /// How the examination is, once the entry in doubt is resolved.
+    Probe,
 }
 
 /// What a call gives.
@@ -67,6 +69,7 @@ pub(crate) enum Reply {
     Cold,
     /// None where there is no such item.
     Exposed(Option<Counts>),
+    Found(Health),
     /// No call gives this. It is expected where `JournalFull` has this length at least.
     Full(u64),
     /// No call gives this. It is expected where the reply is not tested.
@@ -204,6 +207,13 @@ fn exposure_of<D: Disk>(alloc: Global, office: &Office<D>, item: usize) -> Reply
     }
 }
 
+fn probe<D: Disk>(office: &mut Office<D>) -> Reply {
+    match office.probe() {
+        Ok(health) => Reply::Found(health),
+        Err(refusal) => Reply::Refused(refusal),
+    }
+}
+
 /// What a call gives that has the place of a session.
 fn place_by<R: Abort, D: Disk>(
     rt: &R,
@@ -232,6 +242,7 @@ pub(crate) fn ask<R: Abort, D: Disk>(
         Call::Begin(booking) => begin(alloc, office, booking),
         Call::Warm(session) => vector_of(alloc, office, session),
         Call::Exposure(item) => exposure_of(alloc, office, item),
+        Call::Probe => probe(office),
         _ => at(place_by(rt, alloc, office, call)),
     }
 }

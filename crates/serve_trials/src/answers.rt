@@ -69,8 +69,8 @@ fn answers_in(
     }
 }
 
-// A disk with an empty file, of which these calls fail.
-fn disk_of(alloc: Global, fails: &[u64]) -> Result<MemoryDisk, Fail>
+/// A disk with an empty file, of which these calls fail.
+pub(crate) fn disk_of(alloc: Global, fails: &[u64]) -> Result<MemoryDisk, Fail>
     ensures { IfOk result (λ disk. IsAsLeft (accounts_of disk)) }
 {
     let fails = fails.to_vec(alloc)?;

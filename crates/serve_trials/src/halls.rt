@@ -1,6 +1,8 @@
 //! A hall on bank A, and what its callers are answered.
 
 ghost use Rattle.std.specs.Prelude.{◌≡◌, IfOk};
+ghost use Rattle.answer_journal.specs.Standing.{IsAsLeft};
+ghost use Rattle.exam_edge.specs.MemoryDisk.{accounts_of};
 ghost use Rattle.form_model.specs.Validity.{IsPlanFor};
 ghost use Rattle.exam_hall.specs.Known.{IsOf};
 
@@ -10,7 +12,7 @@ use bank_tables::Bank;
 use constraint_model::Spec;
 use exam_edge::{Gate, MemoryDisk};
 use exam_hall::{Caller, Hall};
-use exam_handler::Handler;
+use exam_handler::{Handler, Observer};
 use exam_office::{Office, Request};
 use std::alloc::Global;
 use std::sync::Wait;
@@ -37,14 +39,28 @@ pub(crate) fn hall_on<'a>(alloc: Global, bank: &'a Bank, spec: &'a Spec) -> Resu
     requires { IsPlanFor bank.now spec.now }
     ensures { IfOk result (λ r. IsOf r.1 r.0 × (r.1.number ≡ 0) × (r.1.splits ≡ 0)) }
 {
-    match opened(alloc, bank, spec, empty_disk(alloc)) {
+    hall_on_disk(alloc, bank, spec, empty_disk(alloc))
+}
+
+/// The same over this disk.
+pub(crate) fn hall_on_disk<'a>(
+    alloc: Global,
+    bank: &'a Bank,
+    spec: &'a Spec,
+    disk: MemoryDisk,
+) -> Result<Opened<'a>, Fail>
+    requires plan { IsPlanFor bank.now spec.now }
+    requires left { IsAsLeft (accounts_of disk) }
+    ensures { IfOk result (λ r. IsOf r.1 r.0 × (r.1.number ≡ 0) × (r.1.splits ≡ 0)) }
+{
+    match opened(alloc, bank, spec, disk) {
         Ok(office) => hall_over(alloc, office),
         Err(fail) => Err(fail),
     }
 }
 
 /// The replies to requests, one after another, and the pass that they were asked with.
-pub(crate) fn ask_all<'a, G: Gate, R: Wait + Sync>(
+pub(crate) fn ask_all<'a, G: Gate + Observer, R: Wait + Sync>(
     rt: &R,
     alloc: Global,
     hall: &Hall<'a, MemoryDisk>,

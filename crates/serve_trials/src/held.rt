@@ -12,7 +12,7 @@ use bank_tables::Bank;
 use constraint_model::Spec;
 use exam_edge::{Gate, MemoryDisk, Point};
 use exam_hall::{Caller, Hall};
-use exam_handler::Handler;
+use exam_handler::{Handler, Health, Observer};
 use exam_office::{Office, Request};
 use std::alloc::Global;
 use std::sync::Wait;
@@ -74,6 +74,10 @@ impl Gate for Hold {
             self.wait_for(&self.is_free);
         }
     }
+}
+
+impl Observer for Hold {
+    fn see(&self, _health: &Health) {}
 }
 
 // The first caller begins a session, and is held.

@@ -15,6 +15,8 @@ mod equal;
 #[cfg(test)]
 mod exchanges;
 #[cfg(test)]
+mod hall_probes;
+#[cfg(test)]
 mod hall_requests;
 #[cfg(test)]
 mod halls;
@@ -43,7 +45,11 @@ mod responses;
 #[cfg(test)]
 mod rows;
 #[cfg(test)]
+mod tally;
+#[cfg(test)]
 mod threads;
+#[cfg(test)]
+mod tokens;
 #[cfg(test)]
 mod trials;
 #[cfg(test)]

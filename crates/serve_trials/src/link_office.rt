@@ -1,9 +1,12 @@
 //! What a client gets from an office of one thread on bank A.
 
+ghost use Rattle.answer_journal.specs.Standing.{IsAsLeft};
+ghost use Rattle.exam_edge.specs.MemoryDisk.{accounts_of};
 ghost use Rattle.form_model.specs.Validity.{IsPlanFor};
 
+use crate::answers::disk_of;
 use crate::equal::is_equal;
-use crate::office::{EVEN, empty_disk, opened, planned};
+use crate::office::{EVEN, empty_disk, planned};
 use crate::pieces::Pieces;
 use bank_tables::Bank;
 use constraint_model::Spec;
@@ -15,43 +18,66 @@ use std::alloc::Global;
 use std::process::Abort;
 use std::str;
 use std::sync::Wait;
+use std::sync::atomic::AtomicU32;
 use std::test::Fail;
 
-// Serves one connection by this office.
+// Serves one connection by this office, for a server with this token or none. One worker is busy.
 fn serve_in<R: Wait + Sync, K: Link>(
     rt: &R,
     alloc: Global,
     office: Office<MemoryDisk>,
+    token: Option<&[u8]>,
     link: &mut K,
 ) -> Ended {
     let mut alone = Alone { office };
-    let ended = serve_connection(rt, alloc, &mut alone, link);
+    let busy = AtomicU32::new(1);
+    let ended = serve_connection(rt, alloc, &mut alone, link, token, &busy);
     let Alone { office } = alone;
     let _disk = office.into_disk();
     ended
 }
 
-// The same by an office over an empty disk.
+// The same by an office over this disk, or none where it is not opened.
 fn serve_over<R: Wait + Sync, K: Link>(
     rt: &R,
     alloc: Global,
     bank: &Bank,
     spec: &Spec,
+    disk: MemoryDisk,
+    token: Option<&[u8]>,
     link: &mut K,
-) -> Result<Ended, Fail>
-    requires { IsPlanFor bank.now spec.now }
+) -> Option<Ended>
+    requires plan { IsPlanFor bank.now spec.now }
+    requires left { IsAsLeft (accounts_of disk) }
 {
-    match opened(alloc, bank, spec, empty_disk(alloc)) {
-        Ok(office) => Ok(serve_in(rt, alloc, office, link)),
-        Err(fail) => Err(fail),
+    let base = spec.base()?;
+    match Office::open(alloc, bank, spec, base, disk) {
+        Ok(office) => Some(serve_in(rt, alloc, office, token, link)),
+        Err(_) => None,
     }
 }
 
 // The same on bank A.
-fn serve<R: Wait + Sync, K: Link>(rt: &R, alloc: Global, link: &mut K) -> Result<Ended, Fail> {
+fn serve_on<R: Wait + Sync, K: Link>(
+    rt: &R,
+    alloc: Global,
+    disk: MemoryDisk,
+    token: Option<&[u8]>,
+    link: &mut K,
+) -> Result<Option<Ended>, Fail>
+    requires { IsAsLeft (accounts_of disk) }
+{
     match planned(alloc, &EVEN) {
-        Ok((bank, spec)) => serve_over(rt, alloc, &bank, &spec, link),
+        Ok((bank, spec)) => Ok(serve_over(rt, alloc, &bank, &spec, disk, token, link)),
         Err(fail) => Err(fail),
+    }
+}
+
+// The same over an empty disk, with no token.
+fn serve<R: Wait + Sync, K: Link>(rt: &R, alloc: Global, link: &mut K) -> Result<Ended, Fail> {
+    match serve_on(rt, alloc, empty_disk(alloc), None, link)? {
+        Some(ended) => Ok(ended),
+        None => Err(Fail::from("not opened")),
     }
 }
 
@@ -109,6 +135,23 @@ pub(crate) fn serve_bytes<R: Wait + Sync>(
     match serve_cut(rt, alloc, &mut link, cutting) {
         Ok(ended) => Ok(Heard { link, ended }),
         Err(fail) => Err(fail),
+    }
+}
+
+/// What a client gets who sends these bytes to a server with this token or none. These calls of the
+/// disk fail. None where the office is not opened then.
+pub(crate) fn serve_with<R: Wait + Sync>(
+    rt: &R,
+    alloc: Global,
+    sent: &str,
+    token: Option<&[u8]>,
+    fails: &[u64],
+) -> Result<Option<Heard>, Fail> {
+    let mut link = link_of(alloc, sent.as_bytes(), &[])?;
+    let disk = disk_of(alloc, fails)?;
+    match serve_on(rt, alloc, disk, token, &mut link)? {
+        Some(ended) => Ok(Some(Heard { link, ended })),
+        None => Ok(None),
     }
 }
 

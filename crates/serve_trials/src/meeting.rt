@@ -1,6 +1,7 @@
 //! A gate at which two callers meet.
 
 use exam_edge::{Gate, Point};
+use exam_handler::{Health, Observer};
 use std::sync::atomic::{AtomicU32, Ordering};
 use std::thread;
 
@@ -42,4 +43,8 @@ impl Gate for Meeting {
         }
         self.given_up.fetch_add(1, Ordering::SeqCst);
     }
+}
+
+impl Observer for Meeting {
+    fn see(&self, _health: &Health) {}
 }

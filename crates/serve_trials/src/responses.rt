@@ -28,6 +28,23 @@ pub(crate) const NO_METHOD: &str = "HTTP/1.1 405 Method Not Allowed\r\n\
     Content-Type: application/json\r\nContent-Length: 21\r\n\r\n\
     {\"error\":\"no-method\"}";
 
+/// The message does not bear the token.
+pub(crate) const UNAUTHORIZED: &str = "HTTP/1.1 401 Unauthorized\r\n\
+    WWW-Authenticate: Bearer\r\n\
+    Content-Type: application/json\r\nContent-Length: 24\r\n\r\n\
+    {\"error\":\"unauthorized\"}";
+
+/// One worker serves this connection, and the journal is a header of eight bytes and a gate: its
+/// limit leaves 67,108,864 - 9 bytes.
+pub(crate) const HEALTHY: &str = "HTTP/1.1 200 OK\r\n\
+    Content-Type: application/json\r\nContent-Length: 47\r\n\r\n\
+    {\"busy\":1,\"entries\":0,\"open\":0,\"room\":67108855}";
+
+/// A call of the disk failed.
+pub(crate) const DISK: &str = "HTTP/1.1 503 Service Unavailable\r\n\
+    Content-Type: application/json\r\nContent-Length: 16\r\n\r\n\
+    {\"error\":\"disk\"}";
+
 /// The item has two responses.
 pub(crate) const BAD_RESPONSE: &str = "HTTP/1.1 422 Unprocessable Entity\r\n\
     Content-Type: application/json\r\nContent-Length: 34\r\n\r\n\

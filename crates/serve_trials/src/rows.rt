@@ -4,8 +4,10 @@ use crate::equal::is_equal;
 use crate::exchanges::START;
 use crate::meeting::Meeting;
 use crate::responses::{CREATED, SECOND_CREATED};
+use crate::tally::Tally;
 use crate::work::{Worked, serve_bank_a, two_doors};
 use exam_edge::{Gate, MemoryDoor, OpenGate};
+use exam_handler::Observer;
 use exam_office::Summary;
 use exam_serve::End;
 use host_edge::HostDoor;
@@ -96,7 +98,7 @@ fn with_no_doors_nothing_is_done(rt: HostRuntime) -> Result<(), Fail> {
 }
 
 // Two doors with one connection each are answered.
-fn serves_two<R: Abort + Threads + Wait + Sync, G: Gate + Sync>(
+fn serves_two<R: Abort + Threads + Wait + Sync, G: Gate + Observer + Sync>(
     rt: &R,
     alloc: Global,
     gate: &G,
@@ -118,6 +120,17 @@ fn two_doors_are_served_at_once(rt: HostRuntime) -> Result<(), Fail> {
     let meeting = Meeting::new();
     serves_two(&rt, rt.alloc(), &meeting)?;
     is_equal(&rt, &meeting.given_up(), &0);
+    Ok(())
+}
+
+// The observer sees the examination after each of the two responses. Whoever looks last sees the
+// entries of both sessions: each was started, and was served an item.
+#[test]
+fn the_observer_sees_each_response(rt: HostRuntime) -> Result<(), Fail> {
+    let tally = Tally::new();
+    serves_two(&rt, rt.alloc(), &tally)?;
+    is_equal(&rt, &tally.seen(), &2);
+    assert!(rt; tally.of_two() >= 1);
     Ok(())
 }
 

@@ -11,6 +11,7 @@ use crate::office::{EVEN, empty_disk, opened, planned, restarted};
 use bank_tables::Bank;
 use constraint_model::Spec;
 use exam_edge::{Door, Gate, MemoryDisk, MemoryDoor, MemoryLink};
+use exam_handler::Observer;
 use exam_office::{Alone, Office, Reply, Request, Summary};
 use exam_serve::{End, Served, serve_doors};
 use std::alloc::Global;
@@ -115,7 +116,7 @@ fn worked_by<'a, L: Door + Drop>(
     }
 }
 
-fn serve_over<'a, L: Door + Send + Drop, G: Gate + Sync, R: Threads + Wait + Sync>(
+fn serve_over<'a, L: Door + Send + Drop, G: Gate + Observer + Sync, R: Threads + Wait + Sync>(
     rt: &R,
     alloc: Global,
     bank: &'a Bank,
@@ -132,19 +133,18 @@ fn serve_over<'a, L: Door + Send + Drop, G: Gate + Sync, R: Threads + Wait + Syn
             alloc,
             bank,
             spec,
-            serve_doors(rt, alloc, office, gate, doors),
+            serve_doors(rt, alloc, office, gate, None, doors),
         ),
         Err(fail) => Err(fail),
     }
 }
 
 /// What comes of the work on bank A with these doors.
-pub(crate) fn serve_bank_a<L: Door + Send + Drop, G: Gate + Sync, R: Threads + Wait + Sync>(
-    rt: &R,
-    alloc: Global,
-    doors: Vec<L>,
-    gate: &G,
-) -> Result<Worked<L>, Fail>
+pub(crate) fn serve_bank_a<
+    L: Door + Send + Drop,
+    G: Gate + Observer + Sync,
+    R: Threads + Wait + Sync,
+>(rt: &R, alloc: Global, doors: Vec<L>, gate: &G) -> Result<Worked<L>, Fail>
     requires few { vec_len doors ≤ 65535 }
     requires home { All (λ d. L.is_out d ≡ false) doors.items }
 {

@@ -17,7 +17,7 @@ struct Count;
 impl<K: Link> Service<K> for Count {
     type Token = u64;
 
-    ghost serves = { λ t k u l. u ≡ (t + 1) % 2 ^ 64 };
+    ghost serves = { λ _ t k u l. u ≡ (t + 1) % 2 ^ 64 };
 
     fn serve<R: Wait + Sync>(&self, _rt: &R, _alloc: Global, token: &mut u64, _link: &mut K) {
         *token = token.wrapping_add(1);

@@ -1,7 +1,8 @@
 //! The program `shadowd`: it hands the host's files, standard output, the journal's file and, to
-//! serve, the doors of a listener to `run`, and ends with its status. Standard error has a line on
-//! the address and the journal before connections are served, a line on each object of the host of
-//! which a call failed, and why, and a line on a journal that is to be migrated first.
+//! serve, the doors of a listener to `run`, and ends with its status. Standard error has lines on
+//! the journal and the address before connections are served, lines on how far a server is, a line
+//! on each object of the host of which a call failed, and why, and a line on a journal that is to be
+//! migrated first.
 #![tactic(auto)]
 
 ghost use Rattle.std.specs.Prelude.{◌≡◌, ◌≤◌, All, false, vec_len, IfOk};
@@ -9,19 +10,23 @@ ghost use Rattle.std.specs.Process.{exit_status};
 ghost use Rattle.host_edge.specs.HostDoor.{out_of};
 
 mod settings;
+mod watch;
 
 use answer_journal::Journal;
 use command_line::VERSION;
-use exam_edge::OpenGate;
 use exam_program::{Finish, World, run};
 use host_edge::{Closing, HostDisk, HostDoor, HostFiles, HostSink};
-use settings::Settings;
+use settings::{Settings, SettingsFault};
 use std::alloc::AllocError;
 use std::io::ErrorKind;
 use std::net::TcpListener;
 use std::process::ExitCode;
 use std::time::Duration;
 use std::{env, io};
+use watch::Watch;
+
+/// The status of a server whose token no message can bear.
+const NO_TOKEN: u8 = 2;
 
 /// The status of a program that is out of memory.
 const NO_MEMORY: u8 = 10;
@@ -36,7 +41,7 @@ const NO_JOURNAL: u8 = 6;
 const LONGEST: u64 = 536_870_912;
 
 /// The outside of the host.
-type HostWorld = World<HostFiles, HostSink, HostDisk, HostDoor, OpenGate>;
+type HostWorld = World<HostFiles, HostSink, HostDisk, HostDoor, Watch>;
 
 /// The outside as the program leaves it.
 type HostFinish = Finish<HostFiles, HostSink, HostDisk, HostDoor>;
@@ -103,25 +108,49 @@ fn disk_of(
     }
 }
 
-/// Writes a line to standard error: where the program listens, or why it can't.
-fn announce(rt: &HostRuntime, settings: &Settings, listener: &io::Result<TcpListener>) {
-    let (listen, journal) = (settings.listen.as_str(), settings.journal.as_str());
-    let _ = match listener {
-        Ok(listener) => match listener.local_addr() {
-            Ok(address) => eprintln!(rt; "shadowd: listening on {address}, journal {journal}"),
-            Err(_) => eprintln!(rt; "shadowd: listening on {listen}, journal {journal}"),
-        },
-        Err(cause) => eprintln!(rt; "shadowd: cannot listen on {listen}: {cause}"),
-    };
+/// Where a listener listens.
+fn address_of(
+    rt: &HostRuntime,
+    settings: &Settings,
+    listener: &TcpListener,
+) -> Result<String, AllocError> {
+    match listener.local_addr() {
+        Ok(address) => format!(in rt.alloc(); "{address}"),
+        Err(_) => settings.listen.clone(),
+    }
 }
 
-/// The doors of the workers, if the words ask for connections. They share one listener, and have
-/// none if the address can't be had. Each ends by the flag.
+/// The listener, if the words ask for connections, and where it listens. If the address can't be
+/// had, there is neither, and a line on standard error says why.
+fn listener_of(
+    rt: &HostRuntime,
+    words: &[String],
+    settings: &Settings,
+) -> Result<(Option<TcpListener>, Option<String>), AllocError> {
+    if !ask_for_connections(words) {
+        return Ok((None, None));
+    }
+    let listen = settings.listen.as_str();
+    match TcpListener::bind(rt, listen) {
+        Ok(listener) => {
+            let address = address_of(rt, settings, &listener)?;
+            Ok((Some(listener), Some(address)))
+        }
+        Err(cause) => {
+            let _ = eprintln!(rt; "shadowd: cannot listen on {listen}: {cause}");
+            Ok((None, None))
+        }
+    }
+}
+
+/// The doors of the workers, if the words ask for connections. They share the listener, if there is
+/// one. Each ends by the flag.
 fn doors_of(
     rt: &HostRuntime,
     words: &[String],
     settings: &Settings,
     closing: &Closing,
+    listener: Option<&TcpListener>,
 ) -> Result<Vec<HostDoor>, AllocError>
     ensures few { IfOk result (λ doors. vec_len doors ≤ 255) }
     ensures home { IfOk result (λ doors. All (λ d. out_of d ≡ false) doors.items) }
@@ -129,13 +158,10 @@ fn doors_of(
     if !ask_for_connections(words) {
         return Ok(Vec::new(rt.alloc()));
     }
-    let listener = TcpListener::bind(rt, settings.listen.as_str());
-    announce(rt, settings, &listener);
-    let listener = listener.ok();
     HostDoor::several(
         *rt,
         rt.alloc(),
-        listener.as_ref(),
+        listener,
         settings.workers,
         Duration::from_secs(settings.idle),
         settings.connections,
@@ -143,13 +169,15 @@ fn doors_of(
     )
 }
 
-/// The outside that the program is run on. Its gate holds nobody.
+/// The outside that the program is run on. Its gate watches, and holds nobody. It takes the token
+/// out of the settings.
 fn world_of(
     rt: &HostRuntime,
     words: &[String],
-    settings: &Settings,
+    settings: &mut Settings,
     closing: &Closing,
     doors: Vec<HostDoor>,
+    watch: Watch,
 ) -> Result<HostWorld, AllocError>
     ensures { IfOk result (λ world. world.doors ≡ doors) }
 {
@@ -158,21 +186,24 @@ fn world_of(
         out: HostSink::of(rt.stdout()),
         disk: disk_of(rt, words, settings, closing)?,
         doors,
-        gate: OpenGate,
+        gate: watch,
+        token: settings.token.take(),
     })
 }
 
-/// The settings, the words, and the outside that the program is run on.
-fn begin(rt: &HostRuntime) -> io::Result<(Settings, Vec<String>, HostWorld)>
+/// The settings, the words, the outside that the program is run on, and its watch.
+fn begin(rt: &HostRuntime) -> Result<(Settings, Vec<String>, HostWorld, Watch), SettingsFault>
     ensures few { IfOk result (λ begun. vec_len begun.2.doors ≤ 255) }
     ensures home { IfOk result (λ begun. All (λ d. out_of d ≡ false) begun.2.doors.items) }
 {
-    let words = words_of(rt)?;
-    let settings = Settings::of(rt, ask_for_connections(&words))?;
+    let words = words_of(rt).map_err(|_| SettingsFault::Memory)?;
+    let mut settings = Settings::of(rt, ask_for_connections(&words))?;
     let closing = Closing::new(rt.alloc())?;
-    let doors = doors_of(rt, &words, &settings, &closing)?;
-    let world = world_of(rt, &words, &settings, &closing, doors)?;
-    Ok((settings, words, world))
+    let (listener, address) = listener_of(rt, &words, &settings)?;
+    let doors = doors_of(rt, &words, &settings, &closing, listener.as_ref())?;
+    let watch = Watch::new(rt, settings.journal.clone()?, address)?;
+    let world = world_of(rt, &words, &mut settings, &closing, doors, watch.share()?)?;
+    Ok((settings, words, world, watch))
 }
 
 /// Writes a line to standard error for each object of the host of which a call failed, and one for
@@ -235,14 +266,30 @@ fn exit_code(finish: HostFinish) -> ExitCode
     ExitCode::from(status)
 }
 
+/// Writes a line to standard error where the token is the fault, but never the token, and gives the
+/// status to end with. Nothing was done.
+fn end_before(rt: &HostRuntime, fault: SettingsFault) -> ExitCode {
+    match fault {
+        SettingsFault::Token => {
+            let _ = eprintln!(rt;
+                "shadowd: SHADOWD_TOKEN is no token: it has 1 to 1,024 bytes, each from 33 to 126"
+            );
+            ExitCode::from(NO_TOKEN)
+        }
+        SettingsFault::Memory => ExitCode::from(NO_MEMORY),
+    }
+}
+
 fn main(rt: HostRuntime) -> ExitCode {
-    let Ok((settings, words, world)) = begin(&rt) else {
-        return ExitCode::from(NO_MEMORY);
+    let (settings, words, world, watch) = match begin(&rt) {
+        Ok(begun) => begun,
+        Err(fault) => return end_before(&rt, fault),
     };
     if ask_for_version(&words) {
         return print_version(&rt);
     }
     let mut finish = run(&rt, rt.alloc(), &words, world);
+    watch.tell_end();
     explain(&rt, &settings, &finish);
     explain_version(&rt, &words, &settings, &mut finish);
     exit_code(finish)

@@ -1,6 +1,6 @@
 //! What the environment sets.
 
-ghost use Rattle.std.specs.Prelude.{◌≤◌, IfOk, IfSome};
+ghost use Rattle.std.specs.Prelude.{◌≡◌, ◌≤◌, IfOk, IfSome};
 
 use std::alloc::AllocError;
 use std::env;
@@ -19,6 +19,27 @@ pub struct Settings {
     pub idle: u64,
     /// How many connections each worker serves before the program ends, if it is to end.
     pub connections: Option<u64>,
+    /// What each message to a server has to bear, if anything: 1 to 1,024 bytes, each from 33 to 126.
+    pub token: Option<Vec<u8>>,
+}
+
+/// Why there are no settings.
+#[derive(Clone, Copy, Debug, PartialEq, Eq)]
+pub enum SettingsFault {
+    /// A token that no message can bear.
+    Token,
+    /// Out of memory.
+    Memory,
+}
+
+impl From<AllocError> for SettingsFault {
+    ghost use Rattle.shadowd.specs.declared.settings.SettingsFault.TheVariants.{Memory};
+
+    ghost from_gives = { λ _ e. e ≡ Memory };
+
+    fn from(_e: AllocError) -> SettingsFault {
+        SettingsFault::Memory
+    }
 }
 
 // The value of a variable, else this. A value that isn't UTF-8 counts as empty: it names no file
@@ -100,17 +121,36 @@ fn connections_of(rt: &HostRuntime, tells: bool) -> Result<Option<u64>, AllocErr
     Ok(found)
 }
 
+// Whether a message can bear a token: a field carries each of its bytes, and it is not too long.
+fn is_fit(token: &str) -> bool {
+    token.len() <= 1024 && token.as_bytes().iter().all(|b| 33 <= *b && *b <= 126)
+}
+
+// The token of SHADOWD_TOKEN. There is none where it is not set, or empty. No other value counts as
+// not set: a server is not to run without the token that was asked for.
+fn token_of(rt: &HostRuntime) -> Result<Option<Vec<u8>>, SettingsFault> {
+    match env::var(rt, "SHADOWD_TOKEN") {
+        Ok(token) if token.is_empty() => Ok(None),
+        Ok(token) if is_fit(token.as_str()) => Ok(Some(token.into_bytes())),
+        Ok(_) => Err(SettingsFault::Token),
+        Err(VarError::NotPresent) => Ok(None),
+        Err(VarError::NotUnicode) => Err(SettingsFault::Token),
+        Err(VarError::OutOfMemory) => Err(SettingsFault::Memory),
+    }
+}
+
 impl Settings {
     /// The values of SHADOWD_JOURNAL, SHADOWD_LISTEN, SHADOWD_WORKERS, SHADOWD_IDLE and
-    /// SHADOWD_CONNECTIONS, or what stands for them. If `tells`, a number that counts as not set has
-    /// a line on standard error.
-    pub fn of(rt: &HostRuntime, tells: bool) -> Result<Settings, AllocError> {
+    /// SHADOWD_CONNECTIONS, or what stands for them. To serve, a number that counts as not set has a
+    /// line on standard error, and there is the token of SHADOWD_TOKEN.
+    pub fn of(rt: &HostRuntime, serves: bool) -> Result<Settings, SettingsFault> {
         Ok(Settings {
             journal: value_or(rt, "SHADOWD_JOURNAL", "shadowd.journal")?,
             listen: value_or(rt, "SHADOWD_LISTEN", "127.0.0.1:4710")?,
-            workers: number_or(rt, "SHADOWD_WORKERS", &WORKERS, tells)? as u8,
-            idle: number_or(rt, "SHADOWD_IDLE", &IDLE, tells)?,
-            connections: connections_of(rt, tells)?,
+            workers: number_or(rt, "SHADOWD_WORKERS", &WORKERS, serves)? as u8,
+            idle: number_or(rt, "SHADOWD_IDLE", &IDLE, serves)?,
+            connections: connections_of(rt, serves)?,
+            token: if serves { token_of(rt)? } else { None },
         })
     }
 }

@@ -14,7 +14,7 @@ use Rattle.httparse.proofs.GrammarLemmas.{ReadsRequest-append}
 use Rattle.wire_http.specs.declared.message.WireFault.{WireFault}
 use Rattle.wire_http.specs.declared.message.WireFault.TheVariants.{BadHead, NoLength, BodyTooLong, Cut, Link}
 use Rattle.wire_http.specs.declared.head.Head.{Head}
-use Rattle.wire_http.specs.Heads.{IsHead, IsOfHead, StartsWithHead, BeginsNoHead, IsPartOfHead, body_length, path_of, asks_to_close}
+use Rattle.wire_http.specs.Heads.{IsHead, IsOfHead, StartsWithHead, BeginsNoHead, IsPartOfHead, body_length, path_of, authorization, asks_to_close}
 use Rattle.wire_http.specs.Messages.{IsFault, HasNoHead, HasLongHead, EndsInBody, IsFree, IsMessage}
 
 -- a head of a front is one of the whole
@@ -29,6 +29,7 @@ head_longer bytes more head h x =
       fields = x.fields;
       method = x.method;
       path = x.path;
+      authorization = x.authorization;
       body = x.body;
       close = x.close;
     }
@@ -142,9 +143,9 @@ body_fault whole h len n f head e fits (inr cut) =
 pub message_is : (whole kept left next : List ℕ) (h : RequestHead) (len n : ℕ) (m : Message) → IsHead whole h (drop len whole)
     → body_length h ≡ Ok n
     → kept ++ left ≡ whole → len + n ≤ length kept → next ≡ drop (len + n) kept
-    → m.method ≡ h.method → m.path.items ≡ path_of h.target → m.body.items ≡ slice_range kept len (len + n) → m.close ≡ asks_to_close h
+    → m.method ≡ h.method → m.path.items ≡ path_of h.target → m.authorization.items ≡ authorization h → m.body.items ≡ slice_range kept len (len + n) → m.close ≡ asks_to_close h
     → IsMessage whole m (next ++ left)
-message_is whole kept left next h len n m head e joined fits behind method path body close =
+message_is whole kept left next h len n m head e joined fits behind method path bears body close =
     let k = length-drop len kept in
     let size : len + n - len ≡ n = omega arith in
     let rest : drop len whole ≡ drop len kept ++ left = ap (drop len) (sym joined) ∙ drop-append-le len kept left (omega (arith, fits)) in
@@ -159,6 +160,7 @@ message_is whole kept left next h len n m head e joined fits behind method path 
       enough = omega (arith, l, r, enough);
       method = method;
       path = path;
+      authorization = bears;
       body = body ∙ ap (λ k. take k (drop len kept)) size ∙ sym (ap (take n) rest ∙ take-append-le n (drop len kept) left enough);
       close = close;
       follows = ap (λ (x : List ℕ). x ++ left) (behind ∙ sym (drop-drop n len kept))

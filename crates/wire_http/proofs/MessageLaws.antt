@@ -8,7 +8,7 @@ use Rattle.httparse.proofs.GrammarLemmas.{request_unique, print_request-append}
 use Rattle.wire_http.specs.declared.message.WireFault.{WireFault}
 use Rattle.wire_http.specs.declared.message.WireFault.TheVariants.{BadHead, HeadTooLong, NoLength, BodyTooLong, Cut, Link, Memory}
 use Rattle.wire_http.specs.declared.message.Message.{Message}
-use Rattle.wire_http.specs.Heads.{IsHead, BeginsNoHead, body_length, path_of, asks_to_close}
+use Rattle.wire_http.specs.Heads.{IsHead, BeginsNoHead, body_length, path_of, authorization, asks_to_close}
 use Rattle.wire_http.specs.Messages.{IsMessage, IsFault, HasHeadFault, HasNoHead, HasLongHead, EndsInHead, EndsInBody, IsSame, IsUndecided}
 
 pub one_head : (bytes : List ℕ) (h k : RequestHead) (r q : List ℕ) → IsHead bytes h r → IsHead bytes k q → (h ≡ k) × (r ≡ q)
@@ -77,6 +77,7 @@ one_message bytes m k next after x y =
       record {
         method = x.method ∙ ap (λ (h : RequestHead). h.method) same.0 ∙ sym y.method;
         path = x.path ∙ ap (λ (h : RequestHead). path_of h.target) same.0 ∙ sym y.path;
+        authorization = x.authorization ∙ ap authorization same.0 ∙ sym y.authorization;
         body = x.body ∙ ap (λ n. take n x.rest) size ∙ ap (take y.length_of_body) same.1 ∙ sym y.body;
         close = x.close ∙ ap asks_to_close same.0 ∙ sym y.close;
       },

@@ -26,6 +26,14 @@ abbrev pub first_of : List (List ℕ) → List ℕ
 first_of [] = []
 first_of (value ∷ values) = value
 
+-- the only one of some values, empty if there is none or there are several
+abbrev pub only_of : List (List ℕ) → List ℕ
+only_of values = if length values == 1 then first_of values else []
+
+-- the value of the only field Authorization, empty if there is none or there are several
+abbrev pub authorization : List (List ℕ × List ℕ) → List ℕ
+authorization fields = only_of (values_of (codes "authorization") fields)
+
 -- one to nine digits
 abbrev pub is_length : List ℕ → Bool
 is_length text = list_all is_ascii_digit text && (nat_lt 0 (length text) && nat_le (length text) 9)

@@ -39,6 +39,10 @@ body_length h = fields.body_length h.method (map name_and_value h.fields)
 abbrev pub asks_to_close : RequestHead → Bool
 asks_to_close h = fields.asks_to_close h.minor h.method (map name_and_value h.fields)
 
+-- the value of its only field Authorization, empty if it has none or several
+abbrev pub authorization : RequestHead → List ℕ
+authorization h = fields.authorization (map name_and_value h.fields)
+
 -- the bytes begin with the head h, and this is what is kept of it
 pub record IsOfHead (bytes : List ℕ) (head : Head) (h : RequestHead) : Type 0 where
   pub reads : ReadsRequest bytes h (drop head.len bytes)
@@ -46,6 +50,7 @@ pub record IsOfHead (bytes : List ℕ) (head : Head) (h : RequestHead) : Type 0 
   pub fields : length h.fields ≤ 64
   pub method : head.method ≡ h.method
   pub path : head.path.items ≡ path_of h.target
+  pub authorization : head.authorization.items ≡ authorization h
   pub body : head.body_length ≡ body_length h
   pub close : head.close ≡ asks_to_close h
 

@@ -5,7 +5,7 @@ use Rattle.wire_http.specs.declared.message.WireFault.{WireFault}
 use Rattle.wire_http.specs.declared.message.WireFault.TheVariants.{BadHead, HeadTooLong, NoLength, BodyTooLong, Cut, Link, Memory}
 use Rattle.wire_http.specs.declared.message.Message.{Message}
 use Rattle.wire_http.specs.declared.kept.Kept.{Kept}
-use Rattle.wire_http.specs.Heads.{IsHead, BeginsNoHead, IsPartOfHead, path_of, body_length, asks_to_close}
+use Rattle.wire_http.specs.Heads.{IsHead, BeginsNoHead, IsPartOfHead, path_of, authorization, body_length, asks_to_close}
 
 -- the bytes that were read beyond a message
 abbrev pub bytes_of : Kept → List ℕ
@@ -25,6 +25,7 @@ pub record IsMessage (bytes : List ℕ) (m : Message) (next : List ℕ) : Type 0
   pub enough : length_of_body ≤ length rest
   pub method : m.method ≡ head.method
   pub path : m.path.items ≡ path_of head.target
+  pub authorization : m.authorization.items ≡ authorization head
   pub body : m.body.items ≡ take length_of_body rest
   pub close : m.close ≡ asks_to_close head
   pub follows : next ≡ drop length_of_body rest
@@ -80,6 +81,7 @@ IsFree f = (f ≡ Link) ⊎ (f ≡ Memory)
 pub record IsSame (m k : Message) : Type 0 where
   pub method : m.method ≡ k.method
   pub path : m.path.items ≡ k.path.items
+  pub authorization : m.authorization.items ≡ k.authorization.items
   pub body : m.body.items ≡ k.body.items
   pub close : m.close ≡ k.close
 

@@ -117,6 +117,16 @@ pub(crate) fn body_length(
     size_of(length)
 }
 
+/// The value of the only field Authorization, empty if there is none or there are several. The fields are places in the
+/// bytes.
+pub(crate) fn authorization_of<'b>(bytes: &'b [u8], fields: &[HeaderSpan]) -> &'b [u8]
+    requires { All (IsHeaderWithin (length bytes.now)) fields.now }
+    ensures { result.now ≡ spec.authorization (map (header_bytes bytes.now) fields.now) }
+{
+    let (count, first) = count_and_first(bytes, fields, b"authorization");
+    if count == 1 { first } else { &bytes[..0] }
+}
+
 /// Whether the connection is to be closed after a message of this version, method and fields. The fields are places in the
 /// bytes.
 pub(crate) fn asks_to_close(bytes: &[u8], minor: u8, method: &[u8], fields: &[HeaderSpan]) -> bool

@@ -5,7 +5,7 @@ ghost use Rattle.wire_http.specs.Fields as fields;
 ghost use Rattle.wire_http.specs.Heads.{Finds, path_of};
 
 use crate::WireFault;
-use crate::fields::{asks_to_close, body_length};
+use crate::fields::{asks_to_close, authorization_of, body_length};
 use http::Method;
 use httparse::Status;
 use httparse::spans::{EMPTY_HEADER_SPAN, HeaderSpan, RequestSpans, parse_request};
@@ -18,6 +18,8 @@ pub struct Head {
     pub len: usize,
     pub method: Method,
     pub path: Vec<u8>,
+    /// The value of its only field Authorization, empty if it has none or several.
+    pub authorization: Vec<u8>,
     /// The length of its body in bytes, or the fault of its fields.
     pub body_length: Result<usize, WireFault>,
     /// Whether it asks to close the connection.
@@ -64,6 +66,8 @@ fn head_of(
     ensures method { IfOk result (λ head. head.method ≡ span_bytes bytes.now spans.method) }
     ensures path { IfOk result (λ head. head.path.items
         ≡ path_of (span_bytes bytes.now spans.path)) }
+    ensures authorization { IfOk result (λ head. head.authorization.items
+        ≡ fields.authorization (map (header_bytes bytes.now) found.now)) }
     ensures body { IfOk result (λ head. head.body_length
         ≡ fields.body_length (span_bytes bytes.now spans.method)
         (map (header_bytes bytes.now) found.now)) }
@@ -77,12 +81,14 @@ fn head_of(
         Err(_) => return Err(AllocError),
     };
     let path = path_of(spans.path.of(bytes)).to_vec(alloc)?;
+    let authorization = authorization_of(bytes, found).to_vec(alloc)?;
     let body_length = body_length(bytes, name, found);
     let close = asks_to_close(bytes, spans.version, name, found);
     Ok(Head {
         len: spans.len,
         method,
         path,
+        authorization,
         body_length,
         close,
     })

@@ -91,6 +91,7 @@ fn message_of<K: Link>(
         len,
         method,
         path,
+        authorization,
         body_length,
         close,
     } = head;
@@ -100,6 +101,7 @@ fn message_of<K: Link>(
     Ok(Message {
         method,
         path,
+        authorization,
         body,
         close,
     })

@@ -1,7 +1,7 @@
 //! The text of a response.
 ghost use Rattle.std.specs.Prelude.{◌≡◌, ◌++◌, IfOk, OnOk};
 ghost use Rattle.http.specs.StatusCode.{IsStatusCode};
-ghost use Rattle.wire_http.specs.Responses.{phrase_of, status_line, type_text, fields_text, close_text, response};
+ghost use Rattle.wire_http.specs.Responses.{phrase_of, status_line, challenge_text, type_text, fields_text, close_text, response};
 
 use exam_edge::Memory;
 use exam_text::push_number;
@@ -27,6 +27,15 @@ fn push_status_line(alloc: Global, out: &mut Vec<u8>, status: u16) -> Result<(),
     out.push(b' ')?;
     out.extend_from_slice(phrase_of(status).as_bytes())?;
     out.extend_from_slice(b"\r\n")?;
+    Ok(())
+}
+
+fn push_challenge(out: &mut Vec<u8>, status: u16) -> Result<(), AllocError>
+    ensures { OnOk result (out.new.items ≡ out.old.items ++ challenge_text status) }
+{
+    if status == 401 {
+        out.extend_from_slice(b"WWW-Authenticate: Bearer\r\n")?;
+    }
     Ok(())
 }
 
@@ -58,7 +67,7 @@ fn push_fields(alloc: Global, out: &mut Vec<u8>, size: usize, close: bool) -> Re
 }
 
 /// The response of this status, which has three digits, and this body, which is JSON. `close` adds the field by which the
-/// client learns that the connection ends after it.
+/// client learns that the connection ends after it. With status 401 a field has how a client may ask: by a bearer's token.
 #[tactic(auto, unfolding(crate::specs::Responses::response))]
 pub fn response_text(
     alloc: Global,
@@ -71,6 +80,7 @@ pub fn response_text(
 {
     let mut out = Vec::new(alloc);
     push_status_line(alloc, &mut out, status)?;
+    push_challenge(&mut out, status)?;
     push_fields(alloc, &mut out, body.len(), close)?;
     out.extend_from_slice(b"\r\n")?;
     out.extend_from_slice(body)?;

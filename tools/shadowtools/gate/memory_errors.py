@@ -76,8 +76,8 @@ PLACES = [
             (call, "*answer = Err(journal_fault(fault));", "*answer = audit_walk(alloc, bank, spec, &mut walk);"))
       for name, call in (("audit", "let _ = audit_into(alloc, bank, spec, &mut *disk, &mut answer);"),
                          ("audit_disk", "let disk = audit_into(alloc, bank, spec, disk, &mut answer);"))],
-    Place("shadowd/src/main.rt", "main", ("let Ok((settings, words, world)) = begin(&rt) else {", "return ExitCode::from(NO_MEMORY);"),
-          "each call of `begin` fails for memory alone"),
+    Place("shadowd/src/main.rt", "begin", ("let words = words_of(rt).map_err(|_| SettingsFault::Memory)?;",),
+          "`words_of` fails for memory alone"),
 ]
 
 Ground = collections.namedtuple("Ground", "kind start end pattern", defaults=((),))

@@ -1,11 +1,29 @@
-use Rattle.std.proofs.Common.{◌∙◌, refl}
+use Rattle.std.proofs.Common.{◌∙◌, refl, sym, subst}
+use Rattle.bank_tables.specs.Tables.{Tables}
+use Rattle.exam_edge.specs.Images.{AllImages, latest}
+use Rattle.form_model.specs.Plan.{Plan}
+use Rattle.answer_journal.specs.Journal.{accounts_of}
 use Rattle.answer_journal.specs.StandingLaws.{settled_left}
+use Rattle.exam_office.specs.Files.{StandsSecond}
+use Rattle.exam_office.specs.Marks.{history}
 use Rattle.exam_drill.proofs.DrillLaws.{begins_empty, summed, unsummed}
 use Rattle.exam_drill.proofs.drill.examine.Goals as goal
 
 -- a file in memory that was just made
 pub open-requires-clause-left : goal.open-requires-clause-left
 open-requires-clause-left c = λ told. settled_left _ _ c.of-disk.ensures.accounts
+
+-- an office that was just opened
+pub ask_all-done-requires : goal.ask_all-done-requires
+ask_all-done-requires c =
+    let opened = c.in-Ok.ensures in
+    let office = c.in-Ok.office in
+    record {
+      sure = opened.sure;
+      images = λ told.
+          subst (λ (p : Plan). AllImages (StandsSecond office.bank p (history office.marks)) (latest (accounts_of office.journal))) (sym opened.plan)
+          (subst (λ (b : Tables). AllImages (StandsSecond b c.args.spec.now (history office.marks)) (latest (accounts_of office.journal))) (sym opened.bank) (opened.images refl));
+    }
 
 pub returns-clause-err : goal.returns-clause-err
 returns-clause-err c =

@@ -1,4 +1,5 @@
 use Rattle.std.proofs.Common.{[], inl, inr, refl, sym, subst, append-nil}
+use Rattle.std.specs.Option.{option_copied}
 use Rattle.exam_http.specs.Serving.{LeadsTo, unchanged, then_idle}
 use Rattle.exam_http.proofs.AfterMessages.{response_leads}
 use Rattle.exam_http.proofs.serve.answer.Goals as goal
@@ -19,22 +20,22 @@ returns-in-Err-clause-becomes g c tells = (
 pub returns-in-Err-clause-leads : goal.returns-in-Err-clause-leads
 returns-in-Err-clause-leads g c =
     elim c.in-Err.ensures.memory [
-      | inl same ↦ subst (λ h. LeadsTo g.H.Handler.does g.H.Handler.idles c.args.handler.now h) (sym same) unchanged
-      | inr asked ↦ response_leads g.H.Handler.does g.H.Handler.idles c.args.handler.now c.args.message.now asked.0 c.respond.new.handler asked.1
+      | inl same ↦ subst (λ h. LeadsTo g.H.Handler.does g.H.Handler.probes g.H.Handler.idles c.args.handler.now h) (sym same) unchanged
+      | inr asked ↦ response_leads (option_copied c.args.terms.now.token) g.H.Handler.does g.H.Handler.probes g.H.Handler.idles c.args.handler.now c.args.message.now asked.0 c.respond.new.handler asked.1
     ]
 
 pub returns-in-Err-write_all-clause-leads : goal.returns-in-Err-write_all-clause-leads
 returns-in-Err-write_all-clause-leads g c =
-    response_leads g.H.Handler.does g.H.Handler.idles c.args.handler.now c.args.message.now c.in-Ok.text.items c.respond.new.handler c.in-Ok.ensures.response
+    response_leads (option_copied c.args.terms.now.token) g.H.Handler.does g.H.Handler.probes g.H.Handler.idles c.args.handler.now c.args.message.now c.in-Ok.text.items c.respond.new.handler c.in-Ok.ensures.response
 
 pub returns-then-message-clause-leads : goal.returns-then-message-clause-leads
 returns-then-message-clause-leads g c =
     then_idle c.respond.new.handler c.idle.new.self
-    (response_leads g.H.Handler.does g.H.Handler.idles c.args.handler.now c.args.message.now c.in-Ok.text.items c.respond.new.handler c.in-Ok.ensures.response)
+    (response_leads (option_copied c.args.terms.now.token) g.H.Handler.does g.H.Handler.probes g.H.Handler.idles c.args.handler.now c.args.message.now c.in-Ok.text.items c.respond.new.handler c.in-Ok.ensures.response)
     c.idle.ensures
 
 pub returns-clause-leads : goal.returns-clause-leads
 returns-clause-leads g c =
     then_idle c.respond.new.handler c.idle.new.self
-    (response_leads g.H.Handler.does g.H.Handler.idles c.args.handler.now c.args.message.now c.in-Ok.text.items c.respond.new.handler c.in-Ok.ensures.response)
+    (response_leads (option_copied c.args.terms.now.token) g.H.Handler.does g.H.Handler.probes g.H.Handler.idles c.args.handler.now c.args.message.now c.in-Ok.text.items c.respond.new.handler c.in-Ok.ensures.response)
     c.idle.ensures

@@ -15,7 +15,7 @@ messages-preserved g c =
     let frame = c.messages.invariant.frame in
     let last = c.in-Answered.ensures.frame in
     record {
-      leads = leads_through g.H.Handler.does g.H.Handler.idles _ _ _ c.messages.invariant.leads c.in-Answered.ensures.leads;
+      leads = leads_through g.H.Handler.does g.H.Handler.probes g.H.Handler.idles _ _ _ c.messages.invariant.leads c.in-Answered.ensures.leads;
       served = λ tells.
           let told : IsTrue (g.K.Link.tells c.messages.link) = rw frame.tells tells in
           let before = c.messages.invariant.served tells in
@@ -30,4 +30,4 @@ messages-preserved g c =
 
 pub returns-in-Over-clause-leads : goal.returns-in-Over-clause-leads
 returns-in-Over-clause-leads g c =
-    leads_through g.H.Handler.does g.H.Handler.idles _ _ _ c.messages.invariant.leads c.serve_message.ensures.leads
+    leads_through g.H.Handler.does g.H.Handler.probes g.H.Handler.idles _ _ _ c.messages.invariant.leads c.serve_message.ensures.leads

@@ -1,4 +1,5 @@
 use Rattle.std.proofs.Common.{◌++◌, ℕ, List, IsTrue, ap, subst, sym, ◌∙◌}
+use Rattle.std.specs.Option.{option_copied}
 use Rattle.wire_http.specs.Messages.{bytes_of, IsMessage}
 use Rattle.exam_http.proofs.AfterMessages.{answered_after}
 use Rattle.exam_http.proofs.serve.serve_message.Goals as goal
@@ -14,6 +15,6 @@ returns-in-Ok-Some-clause-after g c tells =
     subst (λ (left : List ℕ). IsMessage whole c.in-Ok-Some.message (kept ++ left)) (sym (c.answer.ensures.left told)) (message tells) in (
       becomes.0,
       becomes.1 ∙ ap (λ (x : List ℕ). x ++ becomes.0) (c.in-Ok-Some.ensures.written tells),
-      answered_after g.H.Handler.does g.H.Handler.idles whole becomes.0 _ c.args.handler.now c.answer.new.handler
+      answered_after (option_copied c.args.terms.now.token) g.H.Handler.does g.H.Handler.probes g.H.Handler.idles whole becomes.0 _ c.args.handler.now c.answer.new.handler
           c.in-Ok-Some.message c.answer.result reads becomes.2,
     )

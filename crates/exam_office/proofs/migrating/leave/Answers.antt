@@ -1,7 +1,8 @@
 use Rattle.std.proofs.Common.{ℕ, List, ◌∙◌, refl, sym, ap, subst}
 use Rattle.exam_edge.specs.Images.{Account, IsSettled}
 use Rattle.answer_journal.specs.Standing.{IsBeingSwitched}
-use Rattle.exam_office.proofs.MigratingEnds.{not_err, read_refused, same_moments, stands_moved}
+use Rattle.exam_office.proofs.MigratingEnds.{not_err, read_refused, same_moments}
+use Rattle.exam_office.proofs.Opened.{stands_second}
 use Rattle.exam_office.proofs.migrating.leave.Goals as goal
 
 -- a record is refused
@@ -21,7 +22,7 @@ returns-in-Ok-len-clause-left g c = λ told.
     let told2 = c.settle_mark.ensures.frame.tells ∙ told1 in
     record {
       H = c.in-Ok.field-0.0.entries;
-      stands = stands_moved c.args.bank.now c.args.spec.now c.in-Ok.field-0.0.entries file (c.requires.second told) (c.in-Ok.ensures.stands told);
+      stands = stands_second c.args.bank.now c.args.spec.now c.in-Ok.field-0.0.entries file (c.requires.second told) (c.in-Ok.ensures.stands told);
       same = c.len.ensures.content (ap (λ (d : g.row.D.Denot). g.D.Disk.tells d) c.stop-disk.ensures ∙ told2)
           ∙ (ap (λ (d : g.row.D.Denot). g.D.Disk.content d) c.stop-disk.ensures ∙ (c.settle_mark.ensures.untouched told1 ∙ c.take_history.ensures.content told));
       none = refl;

@@ -1,8 +1,10 @@
 use Rattle.std.proofs.Common.{◌≡◌, ◌∙◌, ℕ, List, inl, true, refl, sym, ap, subst}
 use Rattle.bank_tables.specs.Tables.{Tables}
-use Rattle.exam_edge.specs.Images.{latest}
+use Rattle.exam_edge.specs.Images.{AllImages, latest}
 use Rattle.form_model.specs.Plan.{Plan}
 use Rattle.exam_office.specs.declared.fault.OpenFault.TheVariants.{Disk as FailedDisk}
+use Rattle.answer_journal.specs.Journal.{accounts_of}
+use Rattle.exam_office.specs.Files.{StandsSecond}
 use Rattle.exam_office.specs.Marks.{history}
 use Rattle.exam_office.specs.Writing.{IsMending}
 use Rattle.exam_program.specs.declared.halt.Halt.{Halt}
@@ -28,6 +30,21 @@ returns-in-Err-clause-err g c =
     let untouched = λ (e : c.in-Err.fault ≡ FailedDisk → ⊥). unwritten_so g.D.Disk.tells g.D.Disk.content g.D.Disk.accounts g.D.Disk.faults c.args.disk c.in-Err.disk (opened.untouched e) (opened.unwritten e) in
     subst (λ (h : Halt). Halted b plan c.args.base.now disk c.args.requests.now told was was h) (sym c.halt_of_opening.ensures)
     (inl (unopened_so b plan disk c.in-Err.fault opened.why failed untouched, nothing_written told was))
+
+-- an office that was just opened
+pub do_requests-done-requires : goal.do_requests-done-requires
+do_requests-done-requires g c =
+    let opened = c.in-Ok.ensures in
+    let office = c.in-Ok.office in
+    record {
+      durable = record {
+        sure = opened.sure;
+        images = λ told.
+            subst (λ (p : Plan). AllImages (StandsSecond office.bank p (history office.marks)) (latest (accounts_of office.journal))) (sym opened.plan)
+            (subst (λ (b : Tables). AllImages (StandsSecond b c.args.spec.now (history office.marks)) (latest (accounts_of office.journal))) (sym opened.bank)
+            (opened.images (sym opened.tells ∙ told)));
+      };
+    }
 
 pub returns-clause-ok : goal.returns-clause-ok
 returns-clause-ok g c =

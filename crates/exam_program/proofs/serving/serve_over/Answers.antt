@@ -1,4 +1,5 @@
 use Rattle.std.proofs.Common.{◌≡◌, ◌∙◌, ℕ, List, length, true, refl, sym, ap, subst, arith}
+use Rattle.std.specs.Option.{option_copied}
 use Rattle.exam_edge.specs.Images.{Account, AllImages, IsSettled, latest}
 use Rattle.form_model.specs.Plan.{Plan}
 use Rattle.history_model.specs.Summaries.{summary}
@@ -101,7 +102,7 @@ returns-clause-answers g c = λ words o is same.
     let examined = subst (λ (d : DiskSeen). IsExamined b plan base d (notes_of old) (notes_of new) (history new.marks)) (sym same)
     (examined_so b plan base disk old new closed) in
     let are = c.summary-summary.ensures ∙ ap (λ (p : Plan). summary p (history new.marks)) (same_plan b plan base disk old new closed) in
-    ends_serving g.L.Door.tells g.L.Door.coming g.L.Door.returned g.L.Door.is_out g.L.Door.faults g.L.Door.identity
+    ends_serving (option_copied c.args.token) g.L.Door.tells g.L.Door.coming g.L.Door.returned g.L.Door.is_out g.L.Door.faults g.L.Door.identity
     g.L.Link.Link.tells g.L.Link.Link.left g.L.Link.Link.written g.L.Link.Link.faults g.L.Link.Link.identity
     words o told was (g.O.Sink.written c.end_over-status.new.out) c.end_over-status.result b plan base is old new examined c.summary-summary.result are
     c.args.doors.items back.items (back ≡ c.args.doors) end done.result (λ e. (done.unused e).0) (λ e. (done.unused e).1) c.end_over-status.ensures.printed

@@ -1,4 +1,5 @@
 use Rattle.std.proofs.Common.{◌≡◌, [], ap, subst, sym, ◌∙◌, append-nil}
+use Rattle.std.specs.Option.{option_copied}
 use Rattle.turn_lock.specs.Histories.{StartsWith}
 use Rattle.exam_office.specs.Noting.{opened_with}
 use Rattle.exam_serve.specs.Results.{notes_of}
@@ -36,7 +37,7 @@ returns-clause-result g c =
     let first = c.in-Ok-new.made.1 in
     let last = c.serve_at-failed.new.pass in
     let begun : first.seen ≡ notes_of c.args.office = ap (λ p. p.seen) c.in-Ok-new.ensures.pass in
-    result_of g.L.Door.tells g.L.Door.coming g.L.Door.returned g.L.Door.is_out g.L.Door.faults g.L.Door.identity
+    result_of (option_copied c.args.token) g.L.Door.tells g.L.Door.coming g.L.Door.returned g.L.Door.is_out g.L.Door.faults g.L.Door.identity
     g.L.Link.Link.tells g.L.Link.Link.left g.L.Link.Link.written g.L.Link.Link.faults g.L.Link.Link.identity
     c.args.office c.close-office.result c.args.doors.items c.serve_at-failed.new.doors.items
     c.serve_at-failed.result c.end_of.result last first.seen c.end_of.ensures begun c.close-office.ensures.begins
@@ -50,7 +51,7 @@ returns-in-Err-new-clause-lent g c = still_lent g.L.Door.tells g.L.Door.is_out g
 
 pub returns-clause-lent : goal.returns-clause-lent
 returns-clause-lent g c =
-    all_lent g.L.Door.tells g.L.Door.coming g.L.Door.returned g.L.Door.is_out g.L.Door.faults g.L.Door.identity
+    all_lent (option_copied c.args.token) g.L.Door.tells g.L.Door.coming g.L.Door.returned g.L.Door.is_out g.L.Door.faults g.L.Door.identity
     g.L.Link.Link.tells g.L.Link.Link.left g.L.Link.Link.written g.L.Link.Link.faults g.L.Link.Link.identity
     c.in-Ok-new.made.1.seen c.serve_at-failed.new.pass.seen c.args.doors.items c.serve_at-failed.new.doors.items
     c.serve_at-failed.result c.serve_at-failed.ensures.served
@@ -60,14 +61,14 @@ returns-clause-unused g c = λ is. absurd (not_memory c.serve_at-failed.result c
 
 pub returns-clause-done : goal.returns-clause-done
 returns-clause-done g c =
-    done_so g.L.Door.tells g.L.Door.coming g.L.Door.returned g.L.Door.is_out g.L.Door.faults g.L.Door.identity
+    done_so (option_copied c.args.token) g.L.Door.tells g.L.Door.coming g.L.Door.returned g.L.Door.is_out g.L.Door.faults g.L.Door.identity
     g.L.Link.Link.tells g.L.Link.Link.left g.L.Link.Link.written g.L.Link.Link.faults g.L.Link.Link.identity
     c.in-Ok-new.made.1.seen c.serve_at-failed.new.pass.seen c.args.doors.items c.serve_at-failed.new.doors.items
     c.serve_at-failed.result c.end_of.result c.end_of.ensures c.serve_at-failed.ensures.served
 
 pub returns-clause-failed : goal.returns-clause-failed
 returns-clause-failed g c =
-    failed_so g.L.Door.tells g.L.Door.coming g.L.Door.returned g.L.Door.is_out g.L.Door.faults g.L.Door.identity
+    failed_so (option_copied c.args.token) g.L.Door.tells g.L.Door.coming g.L.Door.returned g.L.Door.is_out g.L.Door.faults g.L.Door.identity
     g.L.Link.Link.tells g.L.Link.Link.left g.L.Link.Link.written g.L.Link.Link.faults g.L.Link.Link.identity
     c.in-Ok-new.made.1.seen c.serve_at-failed.new.pass.seen c.args.doors.items c.serve_at-failed.new.doors.items
     c.serve_at-failed.result c.end_of.result c.end_of.ensures c.serve_at-failed.ensures.served

@@ -22,3 +22,11 @@ pub returns-clause-path : goal.returns-clause-path
 returns-clause-path c =
     let path = c.in_ok-path.ensures.items_if_clones_equal (λ _ _ e. e) in
     path ∙ c.path_of.ensures ∙ ap (λ (l : List ℕ). path_of l) c.of.ensures
+
+pub returns-in_err-path-clause-authorization : goal.returns-in_err-path-clause-authorization
+returns-in_err-path-clause-authorization c = IfOk-from_err c.from_residual.result _ c.from_residual.ensures.0
+
+pub returns-clause-authorization : goal.returns-clause-authorization
+returns-clause-authorization c =
+    let kept = c.in_ok-authorization.ensures.items_if_clones_equal (λ _ _ e. e) in
+    kept ∙ c.authorization_of.ensures

@@ -46,4 +46,4 @@ returns-clause-message g c tells =
     let filled = c.in_ok-fill.ensures in
     let body = c.in_ok-body.ensures in
     message_is _ (bytes_of c.fill.new.kept) (g.K.Link.left c.fill.new.link) (bytes_of c.take.new.self) found.0 c.args.head.len
-    c.in_ok-end.field-0 _ head e (filled.left tells) filled.enough body.left found.1.method found.1.path body.taken found.1.close
+    c.in_ok-end.field-0 _ head e (filled.left tells) filled.enough body.left found.1.method found.1.path found.1.authorization body.taken found.1.close

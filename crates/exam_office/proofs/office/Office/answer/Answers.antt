@@ -1,10 +1,12 @@
 use Rattle.history_model.specs.Judging.{Record}
-use Rattle.std.proofs.Common.{◌≡◌, ◌∙◌, ℕ, Option, None, Some, true, false, refl, sym, ap, subst}
+use Rattle.std.proofs.Common.{◌≡◌, ◌∙◌, ℕ, Option, None, Some, Result, Ok, Err, OnOk, IsTrue, true, false, refl, sym, ap, subst}
 use Rattle.bank_tables.specs.Tables.{Tables}
 use Rattle.form_model.specs.Plan.{Plan}
 use Rattle.history_model.specs.declared.entry.Entry.TheVariants.{Answered}
 use Rattle.history_model.specs.declared.refusal.Refusal.{Refusal}
-use Rattle.answer_journal.specs.Journal.{accounts_of}
+use Rattle.answer_journal.specs.Journal.{accounts_of, tells_of}
+use Rattle.exam_edge.specs.Images.{latest, AllImages}
+use Rattle.exam_office.specs.Files.{StandsSecond}
 use Rattle.exam_office.specs.Marks.{history}
 use Rattle.exam_office.specs.Writing.{with_record}
 use Rattle.exam_office.specs.Calls.{refuse, nothing, add, Calls, unmended, FindsAnswer, IsAnswerFound}
@@ -12,6 +14,10 @@ use Rattle.exam_office.proofs.Called.{call_refused, call_found, call_written, ca
 use Rattle.exam_office.proofs.Calling.{mending_left}
 use Rattle.exam_office.proofs.Answered.{finds_there, answer_stands, looked, stands_written}
 use Rattle.exam_office.proofs.office.Office.answer.Goals as goal
+
+on_any : {A E : Type 0} (r : Result A E) (X : Type 0) → X → OnOk r X
+on_any (Ok x) X here = here
+on_any (Err e) X here = tt
 
 pub returns-in-Err-clause-call : goal.returns-in-Err-clause-call
 returns-in-Err-clause-call g c =
@@ -142,3 +148,14 @@ write-requires-clause-may g c =
     let mid = c.settle.new.self in
     let found : IsAnswerFound mid.bank mid.plan (history mid.marks) c.args.session c.args.step c.args.response false = rw c.in-Ok-false.field-0-test at c.in-Ok-false.ensures.found in
     (found.3, refl)
+
+-- what a crash leaves once the record is written
+pub returns-in-Ok-write-clause-images : goal.returns-in-Ok-write-clause-images
+returns-in-Ok-write-clause-images g c =
+    let old = c.args.self.now in
+    let mid = c.settle.new.self in
+    let new = c.write.new.self in
+    on_any c.look-in-Ok-write.result (IsTrue (tells_of old.journal) → AllImages (StandsSecond old.bank old.plan (history new.marks)) (latest (accounts_of new.journal)))
+    (λ told. subst (λ (p : Plan). AllImages (StandsSecond old.bank p (history new.marks)) (latest (accounts_of new.journal))) c.settle.ensures.same.plan
+    (subst (λ (b : Tables). AllImages (StandsSecond b mid.plan (history new.marks)) (latest (accounts_of new.journal))) c.settle.ensures.same.bank
+    (c.in-Ok-write.ensures.images (subst (λ (b : Rattle.std.specs.Prelude.Bool). IsTrue b) (sym c.settle.ensures.frame.tells) told))))

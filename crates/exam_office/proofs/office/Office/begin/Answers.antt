@@ -1,4 +1,4 @@
-use Rattle.std.proofs.Common.{◌≡◌, ◌∙◌, ◌++◌, ◌∷◌, [], ℕ, Option, None, Some, true, false, refl, sym, ap, subst}
+use Rattle.std.proofs.Common.{◌≡◌, ◌∙◌, ◌++◌, ◌∷◌, [], ℕ, Option, None, Some, IsTrue, true, false, refl, sym, ap, subst}
 use Rattle.history_model.specs.declared.entry.Entry.{Entry}
 use Rattle.bank_tables.specs.Tables.{Tables}
 use Rattle.form_model.specs.Plan.{Plan}
@@ -7,6 +7,8 @@ use Rattle.history_model.specs.declared.entry.Entry.TheVariants.{Closed}
 use Rattle.history_model.specs.Judging.{MayFollow, Record}
 use Rattle.history_model.specs.declared.refusal.Refusal.{Refusal}
 use Rattle.answer_journal.specs.Journal.{accounts_of}
+use Rattle.exam_edge.specs.Images.{latest, AllImages}
+use Rattle.exam_office.specs.Files.{StandsSecond}
 use Rattle.exam_office.specs.Marks.{history}
 use Rattle.exam_office.specs.Writing.{with_record}
 use Rattle.exam_office.specs.Calls.{refuse, nothing, add, Calls, unmended, FindsStart, FindsClosing, IsStartFound}
@@ -147,3 +149,13 @@ write-requires-clause-may g c =
     let entry : Entry = c.in-Ok-default-Some.entry in
     let found : IsStartFound mid.bank mid.plan H booking c.in-Ok-default-Some.session (Some entry) = rw c.in-Ok-default-Some.field-0-1-is at c.in-Ok-default-Some.ensures.found in
     may_start mid.bank mid.plan H booking entry c.in-Ok-default-Some.session found
+
+-- what a crash leaves once the record is written
+pub returns-in-Ok-write-clause-images : goal.returns-in-Ok-write-clause-images
+returns-in-Ok-write-clause-images g c = λ told.
+    let old = c.args.self.now in
+    let mid = c.settle.new.self in
+    let new = c.write.new.self in
+    subst (λ (p : Plan). AllImages (StandsSecond old.bank p (history new.marks)) (latest (accounts_of new.journal))) c.settle.ensures.same.plan
+    (subst (λ (b : Tables). AllImages (StandsSecond b mid.plan (history new.marks)) (latest (accounts_of new.journal))) c.settle.ensures.same.bank
+    (c.in-Ok-write.ensures.images (subst (λ (b : Rattle.std.specs.Prelude.Bool). IsTrue b) (sym c.settle.ensures.frame.tells) told)))

@@ -15,7 +15,7 @@ use Rattle.exam_office.specs.Marks.{history}
 use Rattle.exam_office.specs.Writing.{with_record}
 use Rattle.history_model.specs.declared.refusal.Refusal.TheVariants.{Memory}
 use Rattle.history_model.specs.declared.request.Request.TheVariants.{Look}
-use Rattle.exam_office.specs.Files.{Stands}
+use Rattle.exam_office.specs.Files.{StandsSecond}
 use Rattle.history_model.specs.Refusals.{refusal_of}
 use Rattle.exam_office.specs.Calls.{refuse, add, Calls, unmended, unwritten, IsAt}
 use Rattle.exam_office.specs.Commits.{FindsCommit, MayBeCommitted}
@@ -125,9 +125,9 @@ returns-in-Ok-write-clause-images g c =
     let found = c.in-Ok-find_commit.ensures.found in
     let new = c.write.new.self in
     let rec : Record = record { entry = entry; tree = Some c.tree.result.now } in
-    on_any c.look.result (IsTrue (tells_of old.journal) → AllImages (Stands old.bank old.plan (history new.marks)) (latest (accounts_of new.journal)))
-    (λ told. subst (λ (p : Plan). AllImages (Stands old.bank p (history new.marks)) (latest (accounts_of new.journal))) c.settle.ensures.same.plan
-    (subst (λ (b : Tables). AllImages (Stands b mid.plan (history new.marks)) (latest (accounts_of new.journal))) c.settle.ensures.same.bank (c.in-Ok-write.ensures.images (subst (λ (b : Rattle.std.specs.Prelude.Bool). IsTrue b) (sym c.settle.ensures.frame.tells) told))))
+    on_any c.look.result (IsTrue (tells_of old.journal) → AllImages (StandsSecond old.bank old.plan (history new.marks)) (latest (accounts_of new.journal)))
+    (λ told. subst (λ (p : Plan). AllImages (StandsSecond old.bank p (history new.marks)) (latest (accounts_of new.journal))) c.settle.ensures.same.plan
+    (subst (λ (b : Tables). AllImages (StandsSecond b mid.plan (history new.marks)) (latest (accounts_of new.journal))) c.settle.ensures.same.bank (c.in-Ok-write.ensures.images (subst (λ (b : Rattle.std.specs.Prelude.Bool). IsTrue b) (sym c.settle.ensures.frame.tells) told))))
 
 pub returns-in-Err-write-clause-call : goal.returns-in-Err-write-clause-call
 returns-in-Err-write-clause-call g c =

@@ -9,13 +9,13 @@ use Rattle.exam_edge.specs.Images.{Account, AtEachMoment, IsImage, IsSettled, la
 use Rattle.history_model.specs.declared.entry.Entry.{Entry}
 use Rattle.history_model.specs.Legality.{LegalRun}
 use Rattle.history_model.proofs.JudgingLaws.{backed_is_legal_run}
-use Rattle.exam_office.specs.Files.{Stands}
+use Rattle.exam_office.specs.Files.{Stands, StandsSecond}
 use Rattle.std.proofs.Common.{Option, Some, None}
 use Rattle.answer_journal.specs.Walk.{first_payloads}
 use Rattle.exam_office.specs.declared.vectors.Vectors.{Vectors}
 use Rattle.exam_office.specs.KeptVectors.{AreTakenWith}
 use Rattle.exam_office.specs.Running.{handed}
-use Rattle.exam_office.proofs.Opened.{history_is, marks_told, kept_open, vectors_open, stands_too, stands_while_read, stands_while_opened, short_so, given_by, open_answer, second_version, aside_on, aside_read}
+use Rattle.exam_office.proofs.Opened.{history_is, marks_told, kept_open, vectors_open, stands_while_read, stands_while_opened, stands_second, second_too, second_while_opened, short_so, given_by, open_answer, second_version, aside_on, aside_read}
 use Rattle.exam_office.specs.Opening.{journal_fault, IsReadAnswer, IsOpenAnswer}
 use Rattle.exam_office.proofs.Refused.{journal_answer, disk_failed, lent_on, rose_later}
 use Rattle.exam_office.proofs.office.Office.open.Goals as goal
@@ -255,11 +255,11 @@ invariant_of-result g c =
           let c0 = g.D.Disk.content c.args.disk in
           let a0 = g.D.Disk.accounts c.args.disk in
           let same = c.take_all.ensures.content told0 ∙ c.in-Ok.ensures.untouched told in
-          let here : Stands b plan book.entries c0 = subst (Stands b plan book.entries) (c.in-Ok.ensures.untouched told) (c.in-Ok-take_all.ensures.stands told0) in
-          subst (λ (d : g.row.D.Denot). IsSettled (g.D.Disk.content d) (g.D.Disk.accounts d) → AtEachMoment (g.D.Disk.accounts d) (accounts_of j) (Stands b plan book.entries)) (sym c.of-opened.ensures)
+          let here : StandsSecond b plan book.entries c0 = stands_second b plan book.entries c0 (sym (c.in-Ok.ensures.versions told).1 ∙ second) (subst (Stands b plan book.entries) (c.in-Ok.ensures.untouched told) (c.in-Ok-take_all.ensures.stands told0)) in
+          subst (λ (d : g.row.D.Denot). IsSettled (g.D.Disk.content d) (g.D.Disk.accounts d) → AtEachMoment (g.D.Disk.accounts d) (accounts_of j) (StandsSecond b plan book.entries)) (sym c.of-opened.ensures)
           (λ settled.
           let reading = subst (λ (a : List Account). AtEachMoment a0 a (λ file. file ≡ c0)) (sym (c.take_all.ensures.accounts told0)) (c.in-Ok.ensures.settled told settled) in
-          stands_while_opened b plan book.entries c0 (g.D.Disk.content w1.disk) a0 (g.D.Disk.accounts w1.disk) (accounts_of j) here reading same (c.in-Ok-finish.ensures.settled (c.take_all.ensures.frame.tells ∙ told0)))),
+          second_while_opened b plan book.entries c0 (g.D.Disk.content w1.disk) a0 (g.D.Disk.accounts w1.disk) (accounts_of j) here reading same (c.in-Ok-finish.ensures.settled (c.take_all.ensures.frame.tells ∙ told0)))),
       vectors_open marks book.entries w1.size is b plan j file first w1.given w1.at v taken keeps,
     )
 
@@ -291,8 +291,11 @@ returns-clause-images g c = λ told file i.
     let marks = c.in-Ok-take_all.found.1 in
     let is = c.in-Ok-take_all.ensures.marks in
     let told0 = c.in-Ok.ensures.frame.tells ∙ told in
-    subst (λ (H : List Entry). Stands b plan H file) (sym (history_is marks book.entries w1.size is))
-    (stands_too b plan book.entries (g.D.Disk.content w0.disk) file (c.in-Ok-take_all.ensures.stands told0)
+    let second = second_version c.record_version.result w0.record_version c.record_version.ensures.version c.record_version.ensures.one_of c.if-record_version-eq1.false in
+    let same = c.in-Ok.ensures.untouched told in
+    let two : (counted_in (g.D.Disk.content w0.disk)).version ≡ 2 = ap (λ (f : List ℕ). (counted_in f).version) same ∙ (sym (c.in-Ok.ensures.versions told).1 ∙ second) in
+    subst (λ (H : List Entry). StandsSecond b plan H file) (sym (history_is marks book.entries w1.size is))
+    (second_too b plan book.entries (g.D.Disk.content w0.disk) file (stands_second b plan book.entries (g.D.Disk.content w0.disk) two (c.in-Ok-take_all.ensures.stands told0))
     (c.in-Ok-finish.ensures.images (c.take_all.ensures.frame.tells ∙ told0) file i ∙ ap contents (c.take_all.ensures.content told0)))
 
 pub returns-clause-settled : goal.returns-clause-settled
@@ -310,9 +313,10 @@ returns-clause-settled g c = λ told settled.
     let a0 = g.D.Disk.accounts c.args.disk in
     let same = c.take_all.ensures.content told0 ∙ c.in-Ok.ensures.untouched told in
     let reading = subst (λ (a : List Account). AtEachMoment a0 a (λ file. file ≡ c0)) (sym (c.take_all.ensures.accounts told0)) (c.in-Ok.ensures.settled told settled) in
-    let here : Stands b plan book.entries c0 = subst (Stands b plan book.entries) (c.in-Ok.ensures.untouched told) (c.in-Ok-take_all.ensures.stands told0) in
-    subst (λ (H : List Entry). AtEachMoment a0 (accounts_of j) (Stands b plan H)) (sym (history_is marks book.entries w1.size is))
-    (stands_while_opened b plan book.entries c0 (g.D.Disk.content w1.disk) a0 (g.D.Disk.accounts w1.disk) (accounts_of j) here reading same (c.in-Ok-finish.ensures.settled (c.take_all.ensures.frame.tells ∙ told0)))
+    let second = second_version c.record_version.result w0.record_version c.record_version.ensures.version c.record_version.ensures.one_of c.if-record_version-eq1.false in
+    let here : StandsSecond b plan book.entries c0 = stands_second b plan book.entries c0 (sym (c.in-Ok.ensures.versions told).1 ∙ second) (subst (Stands b plan book.entries) (c.in-Ok.ensures.untouched told) (c.in-Ok-take_all.ensures.stands told0)) in
+    subst (λ (H : List Entry). AtEachMoment a0 (accounts_of j) (StandsSecond b plan H)) (sym (history_is marks book.entries w1.size is))
+    (second_while_opened b plan book.entries c0 (g.D.Disk.content w1.disk) a0 (g.D.Disk.accounts w1.disk) (accounts_of j) here reading same (c.in-Ok-finish.ensures.settled (c.take_all.ensures.frame.tells ∙ told0)))
 
 pub returns-clause-legal : goal.returns-clause-legal
 returns-clause-legal g c =

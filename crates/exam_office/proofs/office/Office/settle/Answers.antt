@@ -8,6 +8,7 @@ use Rattle.exam_office.proofs.Settled.{images_settled, mended_none, images_none,
 use Rattle.exam_office.specs.KeptVectors.{AreKeptVectors}
 use Rattle.exam_office.specs.Marks.{history}
 use Rattle.exam_office.specs.Running.{handed}
+use Rattle.exam_office.proofs.PayloadLaws.{doubtful_left, never_doubtful, some_is_none, resolved_kept, resolved_dropped, still_doubtful, mending_left}
 use Rattle.exam_office.proofs.office.Office.settle.Goals as goal
 
 pub returns-in_default-clause-mended : goal.returns-in_default-clause-mended
@@ -114,3 +115,69 @@ invariant_of-self-in-Err-mend g c =
       subst (λ (ms : List Mark). AreKeptVectors o.bank.now o.spec.now (history ms) c.mend.new.self o.doubt o.vectors.each.items o.vectors.doubt) (sym noted)
           (unmended_vectors o.bank.now o.spec.now o.base o.book o.journal o.marks o.doubt (handed g.D.Disk.content g.D.Disk.accounts g.D.Disk.faults o.opened.value) c.self.invariant.0 c.args.self.now c.self.view_is c.in-Some.entry c.in-Some.is o.vectors.each.items o.vectors.doubt c.self.invariant.1 c.mend.new.self c.in-Err-mend.ensures.still),
     )
+
+-- by the payloads of the journal
+
+pub returns-in_default-clause-resolved : goal.returns-in_default-clause-resolved
+returns-in_default-clause-resolved g c =
+    let o = c.self.inside in
+    λ ps payload d. absurd (never_doubtful o.bank.now o.spec.now o.base o.book o.journal o.marks o.doubt (handed g.D.Disk.content g.D.Disk.accounts g.D.Disk.faults o.opened.value) c.self.invariant.0 c.args.self.now c.self.view_is c.in_default.is ps payload d)
+
+pub returns-in_default-clause-left : goal.returns-in_default-clause-left
+returns-in_default-clause-left g c =
+    let o = c.self.inside in
+    λ told ps payload d. absurd (never_doubtful o.bank.now o.spec.now o.base o.book o.journal o.marks o.doubt (handed g.D.Disk.content g.D.Disk.accounts g.D.Disk.faults o.opened.value) c.self.invariant.0 c.args.self.now c.self.view_is c.in_default.is ps payload d)
+
+pub returns-in-Err-clause-left : goal.returns-in-Err-clause-left
+returns-in-Err-clause-left g c =
+    λ told ps payload d. doubtful_left c.args.self.now.journal ps payload d told
+
+pub returns-in-Ok-Kept-clause-resolved : goal.returns-in-Ok-Kept-clause-resolved
+returns-in-Ok-Kept-clause-resolved g c =
+    let o = c.self.inside in
+    let e = c.in-Some.entry in
+    let noted : c.push.new.self ≡ o.marks ++ Adopted e c.mend.new.self.size ∷ [] =
+    c.push.ensures ∙ ap (λ (n : ℕ). o.marks ++ Adopted e n ∷ []) c.length-size.ensures.length in
+    λ ps payload d. resolved_kept o.bank.now o.spec.now o.base o.book o.journal o.marks o.doubt (handed g.D.Disk.content g.D.Disk.accounts g.D.Disk.faults o.opened.value) c.self.invariant.0 c.args.self.now c.self.view_is c.mend.new.self c.mend.ensures.frame.tells ps payload d e c.push.new.self noted
+    (rw c.in-Ok-Kept.field-0-is at c.in-Ok-Kept.ensures.length) (rw c.in-Ok-Kept.field-0-is at c.in-Ok-Kept.ensures.mended)
+
+pub returns-in-Ok-Dropped-clause-resolved : goal.returns-in-Ok-Dropped-clause-resolved
+returns-in-Ok-Dropped-clause-resolved g c =
+    let o = c.self.inside in
+    λ ps payload d. resolved_dropped o.bank.now o.spec.now o.base o.book o.journal o.marks o.doubt (handed g.D.Disk.content g.D.Disk.accounts g.D.Disk.faults o.opened.value) c.self.invariant.0 c.args.self.now c.self.view_is c.mend.new.self c.mend.ensures.frame.tells ps payload d
+    (rw c.in-Ok-Dropped.field-0-is at c.in-Ok-Dropped.ensures.mended)
+
+pub returns-in-Ok-Kept-clause-left : goal.returns-in-Ok-Kept-clause-left
+returns-in-Ok-Kept-clause-left g c =
+    let o = c.self.inside in
+    mending_left o.bank.now o.spec.now o.base o.book o.journal o.marks o.doubt (handed g.D.Disk.content g.D.Disk.accounts g.D.Disk.faults o.opened.value) c.self.invariant.0 c.args.self.now c.self.view_is (accounts_of c.mend.new.self) c.mend.ensures.moments
+
+pub returns-in-Ok-Kept-clause-unchanged : goal.returns-in-Ok-Kept-clause-unchanged
+returns-in-Ok-Kept-clause-unchanged g c =
+    let o = c.self.inside in
+    λ none. absurd (some_is_none o.bank.now o.spec.now o.base o.book o.journal o.marks o.doubt (handed g.D.Disk.content g.D.Disk.accounts g.D.Disk.faults o.opened.value) c.self.invariant.0 c.args.self.now c.self.view_is c.in-Some.entry c.in-Some.is none)
+
+pub returns-in-Ok-Dropped-clause-left : goal.returns-in-Ok-Dropped-clause-left
+returns-in-Ok-Dropped-clause-left g c =
+    let o = c.self.inside in
+    mending_left o.bank.now o.spec.now o.base o.book o.journal o.marks o.doubt (handed g.D.Disk.content g.D.Disk.accounts g.D.Disk.faults o.opened.value) c.self.invariant.0 c.args.self.now c.self.view_is (accounts_of c.mend.new.self) c.mend.ensures.moments
+
+pub returns-in-Ok-Dropped-clause-unchanged : goal.returns-in-Ok-Dropped-clause-unchanged
+returns-in-Ok-Dropped-clause-unchanged g c =
+    let o = c.self.inside in
+    λ none. absurd (some_is_none o.bank.now o.spec.now o.base o.book o.journal o.marks o.doubt (handed g.D.Disk.content g.D.Disk.accounts g.D.Disk.faults o.opened.value) c.self.invariant.0 c.args.self.now c.self.view_is c.in-Some.entry c.in-Some.is none)
+
+pub returns-in-Err-mend-clause-left : goal.returns-in-Err-mend-clause-left
+returns-in-Err-mend-clause-left g c =
+    let o = c.self.inside in
+    mending_left o.bank.now o.spec.now o.base o.book o.journal o.marks o.doubt (handed g.D.Disk.content g.D.Disk.accounts g.D.Disk.faults o.opened.value) c.self.invariant.0 c.args.self.now c.self.view_is (accounts_of c.mend.new.self) c.mend.ensures.moments
+
+pub returns-in-Err-mend-clause-unchanged : goal.returns-in-Err-mend-clause-unchanged
+returns-in-Err-mend-clause-unchanged g c =
+    let o = c.self.inside in
+    λ none. absurd (some_is_none o.bank.now o.spec.now o.base o.book o.journal o.marks o.doubt (handed g.D.Disk.content g.D.Disk.accounts g.D.Disk.faults o.opened.value) c.self.invariant.0 c.args.self.now c.self.view_is c.in-Some.entry c.in-Some.is none)
+
+pub returns-in-Err-mend-clause-still : goal.returns-in-Err-mend-clause-still
+returns-in-Err-mend-clause-still g c =
+    let o = c.self.inside in
+    λ ps payload d. still_doubtful o.bank.now o.spec.now o.base o.book o.journal o.marks o.doubt (handed g.D.Disk.content g.D.Disk.accounts g.D.Disk.faults o.opened.value) c.self.invariant.0 c.args.self.now c.self.view_is c.mend.new.self c.mend.ensures.frame.tells ps payload d c.in-Err-mend.ensures.still

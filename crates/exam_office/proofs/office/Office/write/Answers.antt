@@ -11,6 +11,7 @@ use Rattle.exam_office.specs.KeptVectors.{AreKeptVectors}
 use Rattle.exam_office.specs.Marks.{history}
 use Rattle.exam_office.proofs.Written.{moments_before, moments_still, moments_of, kept_written, images_written, kept_faulted, kept_roomy, roomy_vectors, written_vectors, faulted_vectors}
 use Rattle.exam_office.specs.Running.{handed}
+use Rattle.exam_office.proofs.PayloadLaws.{writing_still, writing_before, writing_left, payloads_written, written_doubtful}
 use Rattle.exam_office.proofs.office.Office.write.Goals as goal
 
 pub returns-in-Err-clause-moments : goal.returns-in-Err-clause-moments
@@ -108,3 +109,59 @@ invariant_of-self-in-Err-Full g c =
       kept_roomy o.bank.now o.spec.now o.base o.book o.journal o.marks o.doubt (handed g.D.Disk.content g.D.Disk.accounts g.D.Disk.faults o.opened.value) c.self.invariant.0 c.args.self.now c.self.view_is c.requires.sure r c.requires.may c.reserve.new.self c.reserve.ensures.bank c.reserve.ensures.plan c.reserve.ensures.entries,
       roomy_vectors o.bank.now o.spec.now o.base o.book o.journal o.marks o.doubt (handed g.D.Disk.content g.D.Disk.accounts g.D.Disk.faults o.opened.value) c.self.invariant.0 c.args.self.now c.self.view_is c.requires.sure r c.requires.may o.vectors.each.items c.prepare.new.self.each.items o.vectors.doubt c.prepare.new.self.doubt c.prepare.ensures.same c.prepare.ensures.doubt c.self.invariant.1,
     )
+
+-- by the payloads of the journal
+
+pub returns-in-Err-clause-left : goal.returns-in-Err-clause-left
+returns-in-Err-clause-left g c =
+    let o = c.self.inside in
+    let r : Record = record { entry = c.args.entry.now; tree = option_copied c.args.tree } in
+    writing_still o.bank.now o.spec.now o.base o.book o.journal o.marks o.doubt (handed g.D.Disk.content g.D.Disk.accounts g.D.Disk.faults o.opened.value) c.self.invariant.0 c.args.self.now c.self.view_is c.requires.sure r
+
+pub returns-in-Err-room_for_mark-clause-left : goal.returns-in-Err-room_for_mark-clause-left
+returns-in-Err-room_for_mark-clause-left g c =
+    let o = c.self.inside in
+    let r : Record = record { entry = c.args.entry.now; tree = option_copied c.args.tree } in
+    writing_still o.bank.now o.spec.now o.base o.book o.journal o.marks o.doubt (handed g.D.Disk.content g.D.Disk.accounts g.D.Disk.faults o.opened.value) c.self.invariant.0 c.args.self.now c.self.view_is c.requires.sure r
+
+pub returns-in-Err-reserve-clause-left : goal.returns-in-Err-reserve-clause-left
+returns-in-Err-reserve-clause-left g c =
+    let o = c.self.inside in
+    let r : Record = record { entry = c.args.entry.now; tree = option_copied c.args.tree } in
+    writing_before o.bank.now o.spec.now o.base o.book o.journal o.marks o.doubt (handed g.D.Disk.content g.D.Disk.accounts g.D.Disk.faults o.opened.value) c.self.invariant.0 c.args.self.now c.self.view_is c.requires.sure r
+
+pub returns-in-Err-prepare-clause-left : goal.returns-in-Err-prepare-clause-left
+returns-in-Err-prepare-clause-left g c =
+    let o = c.self.inside in
+    let r : Record = record { entry = c.args.entry.now; tree = option_copied c.args.tree } in
+    writing_before o.bank.now o.spec.now o.base o.book o.journal o.marks o.doubt (handed g.D.Disk.content g.D.Disk.accounts g.D.Disk.faults o.opened.value) c.self.invariant.0 c.args.self.now c.self.view_is c.requires.sure r
+
+pub returns-in-Ok-append-clause-left : goal.returns-in-Ok-append-clause-left
+returns-in-Ok-append-clause-left g c =
+    let o = c.self.inside in
+    let r : Record = record { entry = c.args.entry.now; tree = option_copied c.args.tree } in
+    writing_left o.bank.now o.spec.now o.base o.book o.journal o.marks o.doubt (handed g.D.Disk.content g.D.Disk.accounts g.D.Disk.faults o.opened.value) c.self.invariant.0 c.args.self.now c.self.view_is c.requires.sure r c.in-Ok.frame c.in-Ok.ensures.frame c.append.new.self c.append.ensures.moments
+
+pub returns-in-Err-Full-clause-left : goal.returns-in-Err-Full-clause-left
+returns-in-Err-Full-clause-left g c =
+    let o = c.self.inside in
+    let r : Record = record { entry = c.args.entry.now; tree = option_copied c.args.tree } in
+    writing_left o.bank.now o.spec.now o.base o.book o.journal o.marks o.doubt (handed g.D.Disk.content g.D.Disk.accounts g.D.Disk.faults o.opened.value) c.self.invariant.0 c.args.self.now c.self.view_is c.requires.sure r c.in-Ok.frame c.in-Ok.ensures.frame c.append.new.self c.append.ensures.moments
+
+pub returns-clause-left : goal.returns-clause-left
+returns-clause-left g c =
+    let o = c.self.inside in
+    let r : Record = record { entry = c.args.entry.now; tree = option_copied c.args.tree } in
+    writing_left o.bank.now o.spec.now o.base o.book o.journal o.marks o.doubt (handed g.D.Disk.content g.D.Disk.accounts g.D.Disk.faults o.opened.value) c.self.invariant.0 c.args.self.now c.self.view_is c.requires.sure r c.in-Ok.frame c.in-Ok.ensures.frame c.append.new.self c.append.ensures.moments
+
+pub returns-in-Ok-append-clause-payloads : goal.returns-in-Ok-append-clause-payloads
+returns-in-Ok-append-clause-payloads g c =
+    let o = c.self.inside in
+    let r : Record = record { entry = c.args.entry.now; tree = option_copied c.args.tree } in
+    payloads_written o.bank.now o.spec.now o.base o.book o.journal o.marks o.doubt (handed g.D.Disk.content g.D.Disk.accounts g.D.Disk.faults o.opened.value) c.self.invariant.0 c.args.self.now c.self.view_is c.requires.sure r c.in-Ok.frame c.in-Ok.ensures.frame c.append.new.self c.in-Ok-append.ensures.added
+
+pub returns-clause-doubtful : goal.returns-clause-doubtful
+returns-clause-doubtful g c =
+    let o = c.self.inside in
+    let r : Record = record { entry = c.args.entry.now; tree = option_copied c.args.tree } in
+    λ is. (written_doubtful o.bank.now o.spec.now o.base o.book o.journal o.marks o.doubt (handed g.D.Disk.content g.D.Disk.accounts g.D.Disk.faults o.opened.value) c.self.invariant.0 c.args.self.now c.self.view_is c.requires.sure r c.in-Ok.frame c.in-Ok.ensures.frame c.append.new.self (rw c.in-Err-Disk.field-0-is at c.in-Err-Disk.ensures.doubt), c.in-Ok.ensures.is_record)
