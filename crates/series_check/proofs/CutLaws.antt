@@ -33,10 +33,12 @@ put sets f item new within is g i =
     ]
 
 -- two paths with the same items are one
-pub same_path : (taken taken' out out' : ℕ → Set) → ((f i : ℕ) → taken f i ≡ taken' f i) → ((f i : ℕ) → out f i ≡ out' f i) → (let p : SeriesPath = record { taken = taken; out = out } in let q : SeriesPath = record { taken = taken'; out = out' } in p ≡ q)
-same_path taken taken' out out' e d =
+pub same_path : (taken taken' out out' : ℕ → Set) (used used' : Set) → ((f i : ℕ) → taken f i ≡ taken' f i) → ((f i : ℕ) → out f i ≡ out' f i) → ((i : ℕ) → used i ≡ used' i)
+    → (let p : SeriesPath = record { taken = taken; out = out; used = used } in let q : SeriesPath = record { taken = taken'; out = out'; used = used' } in p ≡ q)
+same_path taken taken' out out' used used' e d h =
     let first : taken ≡ taken' = fun_ext (λ f. fun_ext (e f)) in
     let second : out ≡ out' = fun_ext (λ f. fun_ext (d f)) in
+    let third : used ≡ used' = fun_ext h in
     cc
 
 -- ---- an item is put out of a form and its twins, one form after the other
@@ -50,6 +52,17 @@ twin_more twin g h x old now before is e d =
       | inr rest ↦
           elim rest [
             | inl same ↦ (let a = eq-eqb h g same in let b = le-ltb h g (omega arith) in let b' = lt-ltb h (g + 1) (omega arith) in let t : twin h ≡ true = ap twin same ∙ is in e ∙ rw (a, b', t) (ap (λ (o : Bool). x || o) (d ∙ rw b refl)))
+            | inr higher ↦ (let a = ne_eqb h g (omega arith) in let b = le-ltb h g (omega arith) in let b' = le-ltb h (g + 1) (omega arith) in e ∙ rw (a, b') (d ∙ rw b refl))
+          ]
+    ]
+
+pub form_more : (g h : ℕ) (x old now before : Bool) → now ≡ ((h == g && x) || before) → before ≡ ((nat_lt h g && x) || old) → now ≡ ((nat_lt h (g + 1) && x) || old)
+form_more g h x old now before e d =
+    elim (twin_last h g) [
+      | inl lower ↦ (let a = ne_eqb h g (omega arith) in let b = lt-ltb h g lower in let b' = lt-ltb h (g + 1) (omega arith) in e ∙ rw (a, b') (d ∙ rw b refl))
+      | inr rest ↦
+          elim rest [
+            | inl same ↦ (let a = eq-eqb h g same in let b = le-ltb h g (omega arith) in let b' = lt-ltb h (g + 1) (omega arith) in e ∙ rw (a, b') (ap (λ (o : Bool). x || o) (d ∙ rw b refl)))
             | inr higher ↦ (let a = ne_eqb h g (omega arith) in let b = le-ltb h g (omega arith) in let b' = le-ltb h (g + 1) (omega arith) in e ∙ rw (a, b') (d ∙ rw b refl))
           ]
     ]

@@ -3,6 +3,7 @@ pub mod ApartLaws
 pub mod NameLaws
 pub mod BestLaws
 pub mod CutLaws
+pub mod UsedLaws
 pub mod SideLaws
 pub mod LinearLaws
 pub mod MaximumLaws

@@ -18,7 +18,7 @@ abbrev pub one_form : Setting → Problem
 one_form s = form_problem (problem_of s)
 
 abbrev pub path_of : SeriesCut → SeriesPath
-path_of c = record { taken = λ f. has (get_or c.taken f []); out = λ f. has (get_or c.out f []) }
+path_of c = record { taken = λ f. has (get_or c.taken f []); out = λ f. has (get_or c.out f []); used = has c.used }
 
 -- the path of one form
 abbrev pub form_path_of : Standing → Path

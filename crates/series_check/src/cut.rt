@@ -7,11 +7,12 @@ ghost use Rattle.series_check.specs.Cuts.{path_of};
 
 use bank_tables::ItemSet;
 
-/// The items taken into each form on a path, and those put out of it.
+/// The items taken into each form on a path, those put out of it, and the used items.
 #[derive(Clone, Copy)]
 pub struct SeriesCut {
     pub taken: [ItemSet; 4],
     pub out: [ItemSet; 4],
+    pub used: ItemSet,
 }
 
 /// The path with no branch.
@@ -22,6 +23,7 @@ pub fn root_cut() -> SeriesCut
     SeriesCut {
         taken: [none, none, none, none],
         out: [none, none, none, none],
+        used: none,
     }
 }
 
@@ -47,11 +49,13 @@ pub fn below_form(cut: &SeriesCut, form: u8, item: u16, taken: bool) -> SeriesCu
         SeriesCut {
             taken: with_item(&cut.taken, form, item),
             out: cut.out,
+            used: cut.used,
         }
     } else {
         SeriesCut {
             taken: cut.taken,
             out: with_item(&cut.out, form, item),
+            used: cut.used,
         }
     }
 }

@@ -18,6 +18,7 @@ mod sides;
 mod standing;
 mod top;
 mod twins;
+mod used;
 mod value;
 mod walk;
 

@@ -1,9 +1,11 @@
 //! One node of a series tree.
 
-ghost use Rattle.std.specs.Prelude.{◌≡◌, ◌↔◌, ℕ, Option, IsTrue};
+ghost use Rattle.std.specs.Prelude.{◌≡◌, ◌↔◌, ℕ, ◌+◌, ◌≤◌, ◌||◌, length, Option, IsTrue};
+ghost use Rattle.form_model.specs.Forms.{stimuli_of};
 ghost use Rattle.series_model.specs.declared.node.SeriesNode.TheVariants.{Count};
 ghost use Rattle.series_model.specs.SeriesTrees.{Certificate};
 ghost use Rattle.series_model.specs.Series.{IsSeriesProblem};
+ghost use Rattle.series_model.specs.SeriesPaths.{is_use_lost, are_uses_many};
 ghost use Rattle.series_model.specs.SeriesVerdicts.{IsFormBranch, IsSound, open_leaf};
 ghost use Rattle.series_check.specs.Cuts.{problem_of, path_of};
 ghost use Rattle.series_check.specs.Walks.{AreBelow};
@@ -14,6 +16,7 @@ use crate::leaf::{bound_is_sound, is_whole, ray_is_sound, whole_is_sound};
 use crate::setting::Setting;
 use crate::standing::standing_on;
 use crate::twins::without_twins;
+use crate::used::{are_uses_impossible, below_use, may_be_used};
 use series_model::SeriesNode;
 use series_tree::SeriesTree;
 
@@ -25,13 +28,26 @@ fn is_free(setting: &Setting, cut: &SeriesCut, form: u8, item: u16) -> bool
     form < setting.forms && standing_on(setting, cut, form).free.has(item)
 }
 
-/// Whether a row of a form of the series is impossible by counting.
+/// Whether a row with this number is one of a form, and the used items leave no series.
+fn are_uses_counted_out(setting: &Setting, cut: &SeriesCut, row: u8) -> bool
+    requires { IsSeriesProblem (problem_of setting.now) }
+    ensures { IsTrue result ↔ ((row ≤ length setting.now.spec.now.rows
+        + stimuli_of setting.now.bank.now) × IsTrue (is_use_lost (problem_of setting.now)
+        (path_of cut.now) || are_uses_many (problem_of setting.now) (path_of cut.now))) }
+{
+    let last = setting.spec.rows().len() + setting.bank.stimuli() as usize;
+    row as usize <= last && are_uses_impossible(setting, cut)
+}
+
+/// Whether a row of a form of the series is impossible by counting, or the used items are.
 fn is_counted_out(setting: &Setting, cut: &SeriesCut, form: u8, row: u8) -> bool
     requires { IsSeriesProblem (problem_of setting.now) }
     ensures { (bar : Option ℕ) (T : Certificate) → (IsTrue result
         ↔ IsSound (problem_of setting.now) bar T (path_of cut.now) (Count form row)) }
 {
-    form < setting.forms && is_impossible(setting, &standing_on(setting, cut, form), row)
+    form < setting.forms
+        && (is_impossible(setting, &standing_on(setting, cut, form), row)
+            || are_uses_counted_out(setting, cut, row))
 }
 
 /// Whether a node is sound.
@@ -56,7 +72,7 @@ pub fn is_sound(
         SeriesNode::Count { form, row } => is_counted_out(setting, cut, *form, *row),
         SeriesNode::Whole => whole_is_sound(setting, bar, tree, cut),
         SeriesNode::Open => !is_whole(setting, cut),
-        SeriesNode::Use { .. } => false,
+        SeriesNode::Use { item } => may_be_used(setting, cut, *item),
     }
 }
 
@@ -85,6 +101,13 @@ pub fn paths_below(
             Some((
                 below_form(cut, *form, *item, true),
                 without_twins(setting, cut, *form, *item),
+            ))
+        }
+        SeriesNode::Use { item } => {
+            prove!(setting.bank.items() <= 512);
+            Some((
+                below_use(setting, cut, *item, true),
+                below_use(setting, cut, *item, false),
             ))
         }
         _ => None,

@@ -53,5 +53,6 @@ pub fn without_twins(setting: &Setting, cut: &SeriesCut, form: u8, item: u16) ->
     SeriesCut {
         taken: cut.taken,
         out,
+        used: cut.used,
     }
 }

@@ -1,4 +1,5 @@
 pub mod SeriesSums
 pub mod SeriesDualityLaws
 pub mod TwinLaws
+pub mod UseLaws
 pub mod SeriesTreeLaws

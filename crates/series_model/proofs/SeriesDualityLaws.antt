@@ -1,24 +1,23 @@
 -- Each series on a path is at most the relaxed maximum there.
-use Rattle.std.proofs.Common.{◌≡◌, ℕ, zero, suc, ◌+◌, ◌-◌, ◌*◌, ◌≤◌, ◌<◌, ◌⊎◌, inl, inr, Bool, true, false, cond, not, ◌&&◌, ◌==◌, length, ℤ, pos, ◌+ℤ◌, ◌-ℤ◌, ◌*ℤ◌, ◌≤ℤ◌, refl, sym, ap, ◌∙◌, arith, nat_lt}
+use Rattle.std.proofs.Common.{◌≡◌, ℕ, suc, ◌+◌, ◌-◌, ◌*◌, ◌≤◌, ◌<◌, inl, inr, Bool, true, false, cond, not, ◌&&◌, ◌==◌, length, ℤ, pos, ◌-ℤ◌, ◌≤ℤ◌, sym, ap, ◌∙◌, arith, nat_lt}
 use Rattle.std.proofs.lemmas.Int.{ints}
 use Rattle.std.proofs.lemmas.Bool.{lt-ltb, ltb-true, and_parts, and_from, eq-eqb}
 use Rattle.std.proofs.Math.Bool.{true≢false}
 use Rattle.bank_tables.specs.Items.{Set}
-use Rattle.bank_tables.specs.Sums.{sum_in, sum_in_z, total_z}
+use Rattle.bank_tables.specs.Sums.{sum_in}
 use Rattle.bank_tables.specs.Tables.{size, info, stimulus}
-use Rattle.certificate_model.specs.Counting.{is_impossible}
 use Rattle.form_model.specs.Forms.{Meets, items_of, stimuli_of, used}
-use Rattle.certificate_model.specs.Paths.{Path, Under, is_free, is_chosen, is_open}
+use Rattle.certificate_model.specs.Paths.{Under}
 use Rattle.form_model.specs.Plan.{bound_at}
 use Rattle.form_model.specs.Problem.{Problem}
-use Rattle.certificate_model.specs.Relaxed.{Multipliers, multiplier, weighted_slacks, weighted_stimulus_slacks, lagrangian_without_links, IsRelaxedPair}
+use Rattle.certificate_model.specs.Relaxed.{Multipliers, multiplier, weighted_slacks, weighted_stimulus_slacks, lagrangian_without_links}
 use Rattle.certificate_model.specs.Weights.{weight}
 use Rattle.form_model.proofs.SumLaws.{either, or_true, any_intro, any_elim, nonneg_sub, nonneg_mul, nonneg_add, nonneg_total, sum_in-zero, count_none, count_some}
 use Rattle.certificate_model.proofs.Duality.{held_is_taken_or_free, used_chosen_or_open}
 use Rattle.certificate_model.proofs.CountingLaws.{impossible_leaves_no_form}
-use Rattle.series_model.specs.Series.{SeriesProblem, Forms, weight_of, weighted_information, IsSeries, IsValue}
+use Rattle.series_model.specs.Series.{SeriesProblem, Forms, weight_of, weighted_information, IsValue}
 use Rattle.series_model.specs.SeriesPaths.{SeriesPath, form_problem, in_another, form_path, OnPath}
-use Rattle.series_model.specs.SeriesBounds.{point_side, use_side, multipliers_of, counts, points_of, points, information_of, item_gain, form_lagrangian, uses, series_lagrangian, AreRelaxed, IsSeriesMaximum}
+use Rattle.series_model.specs.SeriesBounds.{point_side, use_side, multipliers_of, counts, points_of, points, information_of, form_lagrangian, series_lagrangian, AreRelaxed, IsSeriesMaximum}
 use Rattle.series_model.specs.SeriesLaws.{SeriesDuality, SeriesRay, SeriesCounting}
 use Rattle.series_model.proofs.SeriesSums.{every, times-le, sum_in-below, sum_in-times, by_points, each_once, sum_in_z-less, total_z-low}
 
@@ -109,7 +108,7 @@ module _ (Q : SeriesProblem) (p : SeriesPath) (S : Forms) (on : OnPath Q p S) wh
       omega (arith, ints)
 
   -- that of all forms at least the information, since each item is in one form at most
-  series_low : (v : Multipliers) (ray : Bool) → pos (sum_in Q.forms every (λ f. sum_in (size Q.bank) (S f) (information_of Q v ray f))) ≤ℤ series_lagrangian Q v ray S (λ f. used Q.bank (S f))
+  pub series_low : (v : Multipliers) (ray : Bool) → pos (sum_in Q.forms every (λ f. sum_in (size Q.bank) (S f) (information_of Q v ray f))) ≤ℤ series_lagrangian Q v ray S (λ f. used Q.bank (S f))
   series_low v ray =
       let forms =
       total_z-low Q.forms (λ f. form_lagrangian Q v ray f (S f) (used Q.bank (S f))) (λ f. sum_in (size Q.bank) (S f) (information_of Q v ray f)) (λ f. sum_in (size Q.bank) (S f) (λ i. multiplier v (use_side i)))

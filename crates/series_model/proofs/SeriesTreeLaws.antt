@@ -1,7 +1,7 @@
 -- Sound nodes leave no series with a value above the number, or none at all.
-use Rattle.std.proofs.Common.{◌≡◌, ℕ, zero, suc, ◌+◌, ◌*◌, ◌≤◌, ◌<◌, ◌⊎◌, inl, inr, Bool, true, false, not, ◌&&◌, ◌||◌, ◌==◌, List, [], ◌∷◌, ◌++◌, pos, refl, sym, ap, ◌∙◌, subst, arith, Option, Some, None}
+use Rattle.std.proofs.Common.{◌≡◌, ℕ, zero, suc, ◌+◌, ◌*◌, ◌≤◌, ◌<◌, ◌⊎◌, inl, inr, true, false, ◌&&◌, ◌==◌, List, [], ◌∷◌, ◌++◌, pos, refl, sym, ap, ◌∙◌, subst, arith, Option, Some, None}
 use Rattle.std.proofs.lemmas.Int.{ints}
-use Rattle.std.proofs.lemmas.Bool.{and_parts, eqb-true, eq-eqb}
+use Rattle.std.proofs.lemmas.Bool.{and_parts, eqb-true}
 use Rattle.std.proofs.Math.Bool.{true≢false}
 use Rattle.std.proofs.Math.Path.{fun_ext}
 use Rattle.bank_tables.specs.Items.{Set}
@@ -13,16 +13,17 @@ use Rattle.series_model.specs.declared.node.SeriesNode.{SeriesNode}
 use Rattle.series_model.specs.declared.node.SeriesNode.TheVariants.{Branch, Bound, Ray, Count, Whole, Open, Use, Twin}
 use Rattle.series_model.specs.declared.verdict.SeriesVerdict.{SeriesVerdict}
 use Rattle.series_model.specs.declared.verdict.SeriesVerdict.TheVariants.{Optimal, NoSeries, Bad}
-use Rattle.series_model.specs.Series.{SeriesProblem, Forms, IsSeries, IsValue, weighted_information, NoneAbove, HasNoSeries, BestSeries, forms_of}
+use Rattle.series_model.specs.Series.{SeriesProblem, Forms, IsSeries, IsValue, weighted_information, forms_of}
 use Rattle.series_model.specs.SeriesTrees.{Certificate, vector_at}
-use Rattle.series_model.specs.SeriesPaths.{SeriesPath, root, form_problem, form_path, is_free_in, with_form, OnPath}
+use Rattle.series_model.specs.SeriesPaths.{SeriesPath, root, form_problem, form_path, with_form, with_use, OnPath}
 use Rattle.series_model.specs.SeriesBounds.{points}
 use Rattle.series_model.specs.SeriesLaws.{OptimalIsBestSeries, OptimalIsAtMost, NoSeriesIsNone}
-use Rattle.series_model.specs.SeriesVerdicts.{MaximumIsBelow, ClosesByBound, IsWholePath, IsSettled, IsSound, below, open_leaf, verdict_of, GivesFrom, IsSeriesVerdict}
+use Rattle.series_model.specs.SeriesVerdicts.{MaximumIsBelow, ClosesByBound, IsWholePath, IsSettled, IsCountedOut, IsSound, below, open_leaf, verdict_of, GivesFrom}
 use Rattle.series_model.specs.SeriesTwins.{without_twins}
 use Rattle.series_model.proofs.SeriesSums.{times-le}
 use Rattle.series_model.proofs.TwinLaws.{exchanged, exchanged_settled, some_twin_or_out, twin_exchanged}
 use Rattle.series_model.proofs.SeriesDualityLaws.{form_under, series_duality, series_ray, series_counting}
+use Rattle.series_model.proofs.UseLaws.{series_uses, some_form_or_out, use_in}
 
 -- no series on the path has a value above U; without U, there is none on it
 abbrev pub Closed : SeriesProblem → Option ℕ → SeriesPath → Type 0
@@ -100,6 +101,7 @@ module _ (Q : SeriesProblem) (p : SeriesPath) (S : Forms) (on : OnPath Q p S) (f
               | inr old ↦ on.holds_taken g j w old
             ];
         holds_no_out = on.holds_no_out;
+        holds_used = on.holds_used;
       }
 
   pub form_out : S f i ≡ false → OnPath Q (with_form p f i false) S
@@ -112,6 +114,7 @@ module _ (Q : SeriesProblem) (p : SeriesPath) (S : Forms) (on : OnPath Q p S) (f
               | inl new ↦ (let parts = and_parts (g == f) (j == i) new in ap (λ (k : ℕ). S k j) (eqb-true _ _ parts.0) ∙ ap (S f) (eqb-true _ _ parts.1) ∙ has_not)
               | inr old ↦ on.holds_no_out g j w old
             ];
+        holds_used = on.holds_used;
       }
 
 branch_closed : (Q : SeriesProblem) (U : Option ℕ) (p : SeriesPath) (f i : ℕ) → f < Q.forms → Closed Q U (with_form p f i true) → Closed Q U (with_form p f i false) → Closed Q U p
@@ -131,6 +134,18 @@ twin_closed Q U p f i form left right S on =
           exchanged_settled Q S f g form w U on.series (left (exchanged Q S f g form w) (form_in Q p (exchanged Q S f g form w) moved.0 f i form moved.1))
       | inr out ↦ right S out
     ]
+
+-- where the item is in a form, the series is on the left path, else on the right one
+use_closed : (Q : SeriesProblem) (U : Option ℕ) (p : SeriesPath) (i : ℕ) → Closed Q U (with_use Q p i true) → Closed Q U (with_use Q p i false) → Closed Q U p
+use_closed Q U p i left right S on =
+    elim (some_form_or_out Q p S on i) [
+      | inl some ↦ left S (use_in Q p S on i some)
+      | inr out ↦ right S out
+    ]
+
+counted_out : (Q : SeriesProblem) (p : SeriesPath) (S : Forms) (f r : ℕ) → f < Q.forms → IsCountedOut Q p f r → OnPath Q p S → ⊥
+counted_out Q p S f r w (inl impossible) on = series_counting Q p S f r w impossible on
+counted_out Q p S f r w (inr uses) on = series_uses Q p S uses.1 on
 
 -- ---- the tree
 abbrev AllClosed : SeriesProblem → Option ℕ → List SeriesPath → Type 0
@@ -169,11 +184,11 @@ all_closed Q U T at met (node ∷ nodes) (p ∷ paths) verdict e gives =
     closes (Branch f i) sound none rest = (branch_closed Q U p f i sound.form rest.0 rest.1.0, rest.1.1)
     closes (Bound v) sound none rest = (bound_closed Q p U (vector_at T v) sound.2, rest)
     closes (Ray v) sound none rest = (ray_closed Q p U (vector_at T v) sound.2, rest)
-    closes (Count f r) sound none rest = (λ S on. absurd (series_counting Q p S f r sound.0 sound.1 on), rest)
+    closes (Count f r) sound none rest = (λ S on. absurd (counted_out Q p S f r sound.0 sound.1 on), rest)
     closes Whole sound none rest = (λ S on. whole_closed Q p S on sound.0 U sound.1, rest)
     closes Open sound none rest = absurd (none (omega arith))
     closes (Twin f i) sound none rest = (twin_closed Q U p f i sound.form rest.0 rest.1.0, rest.1.1)
-    closes (Use i) sound none rest = absurd sound
+    closes (Use i) sound none rest = (use_closed Q U p i rest.0 rest.1.0, rest.1.1)
 
 -- at the root every series is on the path
 at_root : (Q : SeriesProblem) (S : Forms) → IsSeries Q S → OnPath Q root S
@@ -182,6 +197,7 @@ at_root Q S series =
       series = series;
       holds_taken = λ f i w taken. absurd (true≢false (sym taken));
       holds_no_out = λ f i w out. absurd (true≢false (sym out));
+      holds_used = λ i uses. absurd (true≢false (sym uses));
     }
 
 -- what the nodes of a whole tree show

@@ -1,12 +1,10 @@
 -- Forms in equal state may be exchanged: no series is lost where an item is put out of all of them but for the first.
-use Rattle.std.proofs.Common.{◌≡◌, ℕ, zero, suc, ◌≤◌, ◌<◌, ◌⊎◌, inl, inr, Bool, true, false, cond, not, ◌&&◌, ◌||◌, ◌==◌, Option, Some, None, refl, sym, ap, ◌∙◌, subst, arith, nat_lt}
-use Rattle.std.proofs.lemmas.Bool.{and_parts, and_from, eqb-true, eqb-false, eq-eqb, ne_eqb, lt-ltb, ltb-true, cases_eq}
+use Rattle.std.proofs.Common.{◌≡◌, ℕ, ◌<◌, ◌⊎◌, inl, inr, Bool, true, false, cond, not, ◌&&◌, ◌||◌, ◌==◌, Option, Some, None, refl, sym, ap, ◌∙◌, subst, nat_lt}
+use Rattle.std.proofs.lemmas.Bool.{and_parts, and_from, eqb-true, eq-eqb, ne_eqb, cases_eq}
 use Rattle.std.proofs.Math.Bool.{true≢false}
 use Rattle.bank_tables.specs.Items.{Set}
 use Rattle.bank_tables.specs.Sums.{any_below}
 use Rattle.bank_tables.specs.Tables.{size}
-use Rattle.form_model.specs.Forms.{Meets}
-use Rattle.certificate_model.specs.Paths.{Path, is_free}
 use Rattle.form_model.proofs.SumLaws.{either, or_true, or_left, any_intro, any_elim}
 use Rattle.certificate_model.proofs.Duality.{held_is_taken_or_free}
 use Rattle.series_model.specs.Series.{SeriesProblem, Forms, IsSeries, IsValue, weighted_information}
@@ -165,6 +163,9 @@ module _ (Q : SeriesProblem) (p : SeriesPath) (S : Forms) (on : OnPath Q p S) (f
                       | inr neither ↦ ap (λ (k : ℕ). S k i) (other_stays f g h not_first neither) ∙ on.holds_no_out h i w e
                     ]
               ];
+          holds_used = λ i e.
+              let (h, w, has) = on.holds_used i e in
+              (exchange f g h, stays_below f g Q.forms h wf wg w, ap (λ (k : ℕ). S k i) (twice f g h) ∙ has);
         }
 
 -- ---- the branch: a series is on the left path, or on the right one, or with two forms exchanged on the left one
@@ -179,6 +180,7 @@ module _ (Q : SeriesProblem) (p : SeriesPath) (S : Forms) (on : OnPath Q p S) (f
               | inl new ↦ (let parts = and_parts (is_twin Q p f g) (j == i) new in ap (S g) (eqb-true _ _ parts.1) ∙ none g w parts.0)
               | inr old ↦ on.holds_no_out g j w old
             ];
+        holds_used = on.holds_used;
       }
 
   pub some_twin_or_out : ((g : ℕ) × (g < Q.forms) × (is_twin Q p f g ≡ true) × (S g i ≡ true)) ⊎ OnPath Q (without_twins Q p f i) S

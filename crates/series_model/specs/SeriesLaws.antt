@@ -1,11 +1,11 @@
 -- What the definitions imply, as the public laws state it.
-use Rattle.std.specs.Prelude.{◌≡◌, ℕ, ◌+◌, ◌*◌, ◌≤◌, ◌<◌, List, ℤ, pos, ◌≤ℤ◌, true, false, IsTrue, Option, Some, None}
+use Rattle.std.specs.Prelude.{◌≡◌, ℕ, ◌*◌, ◌<◌, ◌||◌, List, ℤ, pos, ◌≤ℤ◌, true, false, IsTrue, Option, Some, None}
 use Rattle.certificate_model.specs.Counting.{is_impossible}
 use Rattle.certificate_model.specs.Relaxed.{Multipliers}
 use Rattle.series_model.specs.declared.verdict.SeriesVerdict.TheVariants.{Optimal, NoSeries}
 use Rattle.series_model.specs.Series.{SeriesProblem, Forms, IsValue, NoneAbove, BestSeries, HasNoSeries, forms_of}
 use Rattle.series_model.specs.SeriesTrees.{Certificate}
-use Rattle.series_model.specs.SeriesPaths.{SeriesPath, form_problem, form_path, OnPath}
+use Rattle.series_model.specs.SeriesPaths.{SeriesPath, form_problem, form_path, is_use_lost, are_uses_many, OnPath}
 use Rattle.series_model.specs.SeriesBounds.{points, IsSeriesMaximum}
 use Rattle.series_model.specs.SeriesVerdicts.{IsSeriesVerdict}
 
@@ -20,6 +20,10 @@ SeriesRay = (Q : SeriesProblem) (p : SeriesPath) (v : Multipliers) (r : ℤ) (S 
 -- a row of a form that is impossible by counting leaves no series on the path
 abbrev pub SeriesCounting : Type 0
 SeriesCounting = (Q : SeriesProblem) (p : SeriesPath) (S : Forms) (f r : ℕ) → f < Q.forms → IsTrue (is_impossible (form_problem Q) (form_path Q p f) r) → OnPath Q p S → ⊥
+
+-- a used item that no form can have, or more items in forms and used than the forms have, leaves no series on the path
+abbrev pub SeriesUses : Type 0
+SeriesUses = (Q : SeriesProblem) (p : SeriesPath) (S : Forms) → IsTrue (is_use_lost Q p || are_uses_many Q p) → OnPath Q p S → ⊥
 
 -- a tree whose verdict is Optimal shows that its series is best
 abbrev pub OptimalIsBestSeries : Type 0

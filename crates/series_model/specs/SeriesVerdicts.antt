@@ -1,6 +1,5 @@
 -- The verdict on a series tree.
-use Rattle.std.specs.Prelude.{◌≡◌, ℕ, zero, suc, ◌+◌, ◌*◌, ◌<◌, ◌≤◌, ◌⊎◌, ◌||◌, ◌&&◌, ◌==◌, nat_lt, Bool, true, false, List, [], ◌∷◌, ◌++◌, length, IsTrue, IsFalse, ℤ, pos, negsuc, ◌<ℤ◌, Option, Some, None, All}
-use Rattle.bank_tables.specs.Items.{Set}
+use Rattle.std.specs.Prelude.{◌≡◌, ℕ, zero, suc, ◌+◌, ◌*◌, ◌<◌, ◌≤◌, ◌⊎◌, ◌||◌, Bool, true, false, List, [], ◌∷◌, ◌++◌, length, IsTrue, IsFalse, ℤ, pos, ◌<ℤ◌, Option, Some, None, All}
 use Rattle.bank_tables.specs.Tables.{size}
 use Rattle.certificate_model.specs.Counting.{is_impossible}
 use Rattle.form_model.specs.Forms.{stimuli_of}
@@ -11,7 +10,7 @@ use Rattle.series_model.specs.declared.verdict.SeriesVerdict.{SeriesVerdict}
 use Rattle.series_model.specs.declared.verdict.SeriesVerdict.TheVariants.{Optimal, NoSeries, Partial, Bad}
 use Rattle.series_model.specs.Series.{SeriesProblem, Forms, IsSeries, IsValue, forms_of, IsSeriesList}
 use Rattle.series_model.specs.SeriesTrees.{Certificate, vector_at}
-use Rattle.series_model.specs.SeriesPaths.{SeriesPath, root, form_problem, form_path, is_free_in, with_form}
+use Rattle.series_model.specs.SeriesPaths.{SeriesPath, root, form_problem, form_path, is_free_in, with_form, is_placed, is_live, with_use, is_use_lost, are_uses_many}
 use Rattle.series_model.specs.SeriesTwins.{without_twins}
 use Rattle.series_model.specs.SeriesBounds.{point_side, use_side, first_side, points, IsSeriesMaximum}
 
@@ -51,21 +50,33 @@ pub record IsFormBranch (Q : SeriesProblem) (p : SeriesPath) (f i : ℕ) : Type 
   pub form : f < Q.forms
   pub free : IsTrue (is_free_in Q p f i)
 
--- the node is sound on the path p, where no series with a value above U is sought, or no series at all; a use of an item is
--- not judged yet
+-- a branch on the use of an item that is in no form, not used yet, and free in some form
+pub record IsUseBranch (Q : SeriesProblem) (p : SeriesPath) (i : ℕ) : Type 0 where
+  pub not_placed : IsFalse (is_placed Q p i)
+  pub not_used : IsFalse (p.used i)
+  pub live : IsTrue (is_live Q p i)
+
+-- row r of form f is impossible by counting, or the uses are, whichever row is named
+abbrev pub IsCountedOut : SeriesProblem → SeriesPath → ℕ → ℕ → Type 0
+IsCountedOut Q p f r =
+    IsTrue (is_impossible (form_problem Q) (form_path Q p f) r)
+    ⊎ ((r ≤ length Q.plan.rows + stimuli_of Q.bank) × IsTrue (is_use_lost Q p || are_uses_many Q p))
+
+-- the node is sound on the path p, where no series with a value above U is sought, or no series at all
 abbrev pub IsSound : SeriesProblem → Option ℕ → Certificate → SeriesPath → SeriesNode → Type 0
 IsSound Q U T p (Branch f i) = IsFormBranch Q p f i
 IsSound Q U T p (Bound v) = (v < length T.vectors) × NamesOnlySides Q (vector_at T v) × ClosesByBound Q U p (vector_at T v)
 IsSound Q U T p (Ray v) = (v < length T.vectors) × NamesOnlySides Q (vector_at T v) × MaximumIsBelow Q p (vector_at T v) true (pos 0)
-IsSound Q U T p (Count f r) = (f < Q.forms) × IsTrue (is_impossible (form_problem Q) (form_path Q p f) r)
+IsSound Q U T p (Count f r) = (f < Q.forms) × IsCountedOut Q p f r
 IsSound Q U T p Whole = IsWholePath Q p × IsSettled Q U p.taken
 IsSound Q U T p Open = IsWholePath Q p → ⊥
 IsSound Q U T p (Twin f i) = IsFormBranch Q p f i
-IsSound Q U T p (Use i) = ⊥
+IsSound Q U T p (Use i) = IsUseBranch Q p i
 
 -- the paths below a node, left first
 abbrev pub below : SeriesProblem → SeriesPath → SeriesNode → List SeriesPath
 below Q p (Branch f i) = with_form p f i true ∷ with_form p f i false ∷ []
+below Q p (Use i) = with_use Q p i true ∷ with_use Q p i false ∷ []
 below Q p (Twin f i) = with_form p f i true ∷ without_twins Q p f i ∷ []
 below Q p node = []
 

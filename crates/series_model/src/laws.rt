@@ -1,6 +1,6 @@
 //! What the definitions imply, for every series problem, path, vector, tree and list of sets.
 
-ghost use Rattle.series_model.specs.SeriesLaws.{SeriesDuality, SeriesRay, SeriesCounting, OptimalIsBestSeries, OptimalIsAtMost, NoSeriesIsNone};
+ghost use Rattle.series_model.specs.SeriesLaws.{SeriesDuality, SeriesRay, SeriesCounting, SeriesUses, OptimalIsBestSeries, OptimalIsAtMost, NoSeriesIsNone};
 
 /// No series on a path has a value above the relaxed maximum there over the sum of the multipliers of the points, whatever the
 /// multipliers (weak duality of Lagrangian relaxation; Geoffrion, Lagrangean Relaxation for Integer Programming, 1974).
@@ -16,6 +16,12 @@ pub fn series_ray()
 /// A row of a form that is impossible by counting leaves no series on the path.
 pub fn series_counting()
     ensures { SeriesCounting }
+{}
+
+/// A used item that is in no form and free in none leaves no series on the path; nor do more items in forms and used than the
+/// forms have.
+pub fn series_uses()
+    ensures { SeriesUses }
 {}
 
 /// A tree whose verdict is Optimal shows that its series is best over all lists of sets of items.

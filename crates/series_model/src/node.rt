@@ -9,7 +9,7 @@ pub enum SeriesNode {
     Bound(u8),
     /// No series is here: with weights 0 the relaxed maximum of this vector is below 0.
     Ray(u8),
-    /// No series is here: this row of the form is impossible by counting.
+    /// No series is here: this row of the form is impossible by counting, or the used items are.
     Count { form: u8, row: u8 },
     /// Only one list of sets is left, and it is not a better series.
     Whole,

@@ -21,7 +21,7 @@ impl Kinds {
         }
     }
 
-    /// Those that `series_check` judges today: twins.
+    /// Twins alone. `series_check` judges these, and uses, but no vector of the pool.
     pub fn judged() -> Kinds {
         Kinds {
             pool: false,
