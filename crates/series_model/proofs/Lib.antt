@@ -3,3 +3,4 @@ pub mod SeriesDualityLaws
 pub mod TwinLaws
 pub mod UseLaws
 pub mod SeriesTreeLaws
+pub mod OneFormLaws

@@ -3,7 +3,9 @@ use Rattle.std.specs.Prelude.{◌≡◌, ℕ, ◌*◌, ◌<◌, ◌||◌, List, 
 use Rattle.certificate_model.specs.Counting.{is_impossible}
 use Rattle.certificate_model.specs.Relaxed.{Multipliers}
 use Rattle.series_model.specs.declared.verdict.SeriesVerdict.TheVariants.{Optimal, NoSeries}
-use Rattle.series_model.specs.Series.{SeriesProblem, Forms, IsValue, NoneAbove, BestSeries, HasNoSeries, forms_of}
+use Rattle.form_model.specs.Forms.{Best, objective}
+use Rattle.form_model.specs.Problem.{whole}
+use Rattle.series_model.specs.Series.{SeriesProblem, Forms, weight_of, IsValue, NoneAbove, BestSeries, HasNoSeries, forms_of}
 use Rattle.series_model.specs.SeriesTrees.{Certificate}
 use Rattle.series_model.specs.SeriesPaths.{SeriesPath, form_problem, form_path, is_use_lost, are_uses_many, OnPath}
 use Rattle.series_model.specs.SeriesBounds.{points, IsSeriesMaximum}
@@ -36,3 +38,9 @@ OptimalIsAtMost = (Q : SeriesProblem) (sets : List (List ℕ)) (U : ℕ) (T : Ce
 -- a tree whose verdict is NoSeries shows that there is no series
 abbrev pub NoSeriesIsNone : Type 0
 NoSeriesIsNone = (Q : SeriesProblem) (at_most : Option ℕ) (T : Certificate) → IsSeriesVerdict Q None at_most T NoSeries → HasNoSeries Q
+
+-- with one form, and one point g of weight 1 alone, the best series is a best form of the whole problem with g as the estimate,
+-- and its value is that form's objective
+abbrev pub OneFormIsBest : Type 0
+OneFormIsBest = (Q : SeriesProblem) (S : Forms) (V g : ℕ) → Q.forms ≡ 1 → weight_of Q g ≡ 1 → ((h : ℕ) → (h ≡ g → ⊥) → weight_of Q h ≡ 0)
+    → BestSeries Q S → IsValue Q S V → Best (whole Q.bank Q.plan g) (S 0) × (V ≡ objective (whole Q.bank Q.plan g) (S 0))

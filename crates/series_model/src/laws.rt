@@ -1,6 +1,6 @@
 //! What the definitions imply, for every series problem, path, vector, tree and list of sets.
 
-ghost use Rattle.series_model.specs.SeriesLaws.{SeriesDuality, SeriesRay, SeriesCounting, SeriesUses, OptimalIsBestSeries, OptimalIsAtMost, NoSeriesIsNone};
+ghost use Rattle.series_model.specs.SeriesLaws.{SeriesDuality, SeriesRay, SeriesCounting, SeriesUses, OptimalIsBestSeries, OptimalIsAtMost, NoSeriesIsNone, OneFormIsBest};
 
 /// No series on a path has a value above the relaxed maximum there over the sum of the multipliers of the points, whatever the
 /// multipliers (weak duality of Lagrangian relaxation; Geoffrion, Lagrangean Relaxation for Integer Programming, 1974).
@@ -37,4 +37,9 @@ pub fn optimal_is_at_most()
 /// A tree whose verdict is NoSeries shows that no list of sets is a series.
 pub fn no_series_verdict_is_right()
     ensures { NoSeriesIsNone }
+{}
+
+/// With one form and one weight of 1 the best series is a best form of the whole problem.
+pub fn one_form_is_best()
+    ensures { OneFormIsBest }
 {}
