@@ -9,6 +9,7 @@ use Rattle.series_model.specs.Series.{SeriesProblem, Forms, weight_of, IsValue, 
 use Rattle.series_model.specs.SeriesTrees.{Certificate}
 use Rattle.series_model.specs.SeriesPaths.{SeriesPath, form_problem, form_path, is_use_lost, are_uses_many, OnPath}
 use Rattle.series_model.specs.SeriesBounds.{points, IsSeriesMaximum}
+use Rattle.series_model.specs.SeriesPools.{least_of_pool, IsPoolMaximum}
 use Rattle.series_model.specs.SeriesVerdicts.{IsSeriesVerdict}
 
 -- the value of a series on a path, times the multipliers of the points, is at most the relaxed maximum there
@@ -18,6 +19,14 @@ SeriesDuality = (Q : SeriesProblem) (p : SeriesPath) (v : Multipliers) (r : ℤ)
 -- a ray's relaxed maximum is not negative where a series is on the path
 abbrev pub SeriesRay : Type 0
 SeriesRay = (Q : SeriesProblem) (p : SeriesPath) (v : Multipliers) (r : ℤ) (S : Forms) → IsSeriesMaximum Q p v true r → OnPath Q p S → pos 0 ≤ℤ r
+
+-- a series on a path with a value above U has at least the goal of U, so by the rule of the pool the relaxed maximum reaches it
+abbrev pub PoolDuality : Type 0
+PoolDuality = (Q : SeriesProblem) (p : SeriesPath) (v : Multipliers) (r : ℤ) (S : Forms) (U V : ℕ) → IsPoolMaximum Q p v false r → OnPath Q p S → IsValue Q S V → U < V → pos (least_of_pool Q v U) ≤ℤ r
+
+-- and a ray's relaxed maximum is not negative where a series is on the path
+abbrev pub PoolRay : Type 0
+PoolRay = (Q : SeriesProblem) (p : SeriesPath) (v : Multipliers) (r : ℤ) (S : Forms) → IsPoolMaximum Q p v true r → OnPath Q p S → pos 0 ≤ℤ r
 
 -- a row of a form that is impossible by counting leaves no series on the path
 abbrev pub SeriesCounting : Type 0

@@ -1,6 +1,6 @@
 //! What the definitions imply, for every series problem, path, vector, tree and list of sets.
 
-ghost use Rattle.series_model.specs.SeriesLaws.{SeriesDuality, SeriesRay, SeriesCounting, SeriesUses, OptimalIsBestSeries, OptimalIsAtMost, NoSeriesIsNone, OneFormIsBest};
+ghost use Rattle.series_model.specs.SeriesLaws.{SeriesDuality, SeriesRay, PoolDuality, PoolRay, SeriesCounting, SeriesUses, OptimalIsBestSeries, OptimalIsAtMost, NoSeriesIsNone, OneFormIsBest};
 
 /// No series on a path has a value above the relaxed maximum there over the sum of the multipliers of the points, whatever the
 /// multipliers (weak duality of Lagrangian relaxation; Geoffrion, Lagrangean Relaxation for Integer Programming, 1974).
@@ -11,6 +11,17 @@ pub fn series_duality()
 /// A ray whose relaxed maximum is below 0 leaves no series on its path.
 pub fn series_ray()
     ensures { SeriesRay }
+{}
+
+/// No series on a path has a value above a number U where the relaxed maximum of the pool is below the least that the weighted
+/// information of such a series can be.
+pub fn pool_duality()
+    ensures { PoolDuality }
+{}
+
+/// A ray whose relaxed maximum of the pool is below 0 leaves no series on its path.
+pub fn pool_ray()
+    ensures { PoolRay }
 {}
 
 /// A row of a form that is impossible by counting leaves no series on the path.
