@@ -1,104 +1,53 @@
 #!/usr/bin/env python3
 """Measures `shadowd serve` on a loopback socket. See serve.md.
 
-usage: serve.py PROGRAM FOLDER [--connections 1 2 4 8 16 60 200] [--sessions N] [--close] [--through nginx | haproxy] [--size]
+usage: serve.py PROGRAM FOLDER [--connections 1 2 4 8 16 60 200] [--sessions 200] [--close] [--through nginx | haproxy]
+       serve.py PROGRAM FOLDER --all | --kinds | --size     [--texts BANK PLAN] [--token TOKEN]
 
 PROGRAM is the built program of crates/shadowd; the journal is written in FOLDER, and so are the records of the loop beside it. With --close each
-request has a connection of its own. With --through the requests go through a proxy, in the set-up of docs/OPERATING.md. --size measures memory
-at 1,000 open sessions of the greatest bank in place of speed. The client is one process; `wrk` measures more than it can ask.
+request has a connection of its own. With --through the requests go through a proxy, in the set-up of docs/OPERATING.md. --all measures
+directly and by each proxy that is installed, with connections that stay open and with one a request. --kinds measures where the time of a request goes,
+--size memory at 1,000 open sessions of the greatest bank. Without --texts the bank and the plan are those of the drill. The client is `load.c`, which gcc
+compiles first; each row has the part of a processor that it used.
 """
 import argparse
+import collections
 import os
-import selectors
-import socket
-import statistics
+import shutil
+import subprocess
 import sys
 import tempfile
 import time
 
 from problems import Draws, drill
 
-sys.path.insert(0, os.path.join(os.path.dirname(os.path.abspath(__file__)), "..", "tools"))
-from exam_client import Connection, Server, answer, begin, split_reply  # noqa: E402
+HERE = os.path.dirname(os.path.abspath(__file__))
+sys.path.insert(0, os.path.join(HERE, "..", "tools"))
+from exam_client import Connection, Server, begin  # noqa: E402
 from proxies import PROXIES, start  # noqa: E402
 
 WORKERS = 16
 SYNCED_RECORDS = 500  # of the loop beside each measurement
+TICK = os.sysconf("SC_CLK_TCK")
+
+# What the client found: times in microseconds, `client` as the part of a processor that it used.
+Found = collections.namedtuple("Found", "replies answered faults seconds median p95 p99 longest connect connect_p99 client")
 
 
-class Seat:
-    """A connection that takes whole sessions, one request at a time."""
+class Load:
+    """The client, compiled in a folder."""
 
-    def __init__(self, address, bookings, draw, chosen, close=False):
-        self.address, self.chosen, self.close, self.socket = address, chosen, close, None
-        self.bookings, self.draw, self.kept, self.sent = bookings, draw, b"", 0.0
+    def __init__(self, folder, token):
+        if shutil.which("gcc") is None:
+            sys.exit("serve.py needs gcc for its client: apt-get install gcc libc6-dev")
+        self.program, self.token = os.path.join(folder, "load"), [token] if token else []
+        subprocess.run(["gcc", "-O2", "-o", self.program, os.path.join(HERE, "load.c")], check=True)
 
-    def send(self, message):
-        self.sent = time.perf_counter()
-        if self.close:
-            self.leave()
-        if self.socket is None:
-            self.socket = socket.create_connection(self.address)
-            self.socket.setsockopt(socket.IPPROTO_TCP, socket.TCP_NODELAY, 1)
-            self.chosen.register(self.socket, selectors.EVENT_READ, self)
-        self.socket.sendall(message)
-
-    def leave(self):
-        """Ends the connection, if there is one."""
-        if self.socket is not None:
-            self.chosen.unregister(self.socket)
-            self.socket.close()
-            self.socket = None
-
-    def begin(self):
-        """Begins the next session; False if there is no other."""
-        booking = next(self.bookings, None)
-        if booking is None:
-            return False
-        self.send(begin(booking))
-        return True
-
-    def reply(self):
-        """Reads what is there: the reply, if it is whole."""
-        more = self.socket.recv(65536)
-        if not more:
-            raise RuntimeError("the server closed a connection")
-        found = split_reply(self.kept + more)
-        if not found:
-            self.kept += more
-            return None
-        reply, self.kept = found
-        return reply
-
-    def go_on(self, place):
-        """Sends the request that follows this place; False after the last session."""
-        if place["state"] == "waiting":
-            self.send(answer(place["session"], place["step"], self.draw.next() % 2))
-            return True
-        return self.begin()
-
-
-def load(address, connections, sessions, close):
-    """Takes so many whole sessions over so many connections: the seconds, the time to each reply, and the items answered."""
-    draws, bookings = Draws(7), iter(range(sessions))
-    chosen = selectors.DefaultSelector()
-    times, answered, begun = [], 0, time.perf_counter()
-    for _ in range(connections):
-        Seat(address, bookings, draws, chosen, close).begin()
-    while chosen.get_map():
-        for key, _ in chosen.select():
-            seat = key.data
-            reply = seat.reply()
-            if reply is None:
-                continue
-            times.append(time.perf_counter() - seat.sent)
-            status, place = reply
-            if status not in (200, 201):
-                raise RuntimeError(f"status {status}: {place}")
-            answered += place["state"] == "complete" or place.get("step", 0) > 0
-            if not seat.go_on(place):
-                seat.leave()
-    return time.perf_counter() - begun, times, answered
+    def run(self, port, connections, count, close, *kind):
+        """So many sessions or requests over so many connections. `kind` is `sessions` and the first booking, or method, path and body."""
+        words = [self.program, str(port), str(connections), str(count), "close" if close else "keep", *kind, *self.token]
+        done = subprocess.run(words, stdout=subprocess.PIPE, check=True, text=True)
+        return Found(*map(float, done.stdout.split()[1::2]))
 
 
 def seconds_of_two_syncs(path, record):
@@ -129,19 +78,34 @@ def entries_of(journal):
     return count, at
 
 
-def percent(times, share):
-    return sorted(times)[min(len(times) - 1, int(len(times) * share))] * 1e3
+def processor_of(process):
+    """The seconds of processor that a process took: its own, and those of the system for it."""
+    with open(f"/proc/{process.pid}/stat", encoding="ascii") as file:
+        fields = file.read().rpartition(")")[2].split()
+    return int(fields[11]) / TICK, int(fields[12]) / TICK
 
 
-def measure(program, texts, folder, connections, asked):
-    """One row of the table."""
-    journal = f"{folder}/journal"
-    server, proxy, address = Server(program, *texts, journal, WORKERS), None, None
+# ---------------------------------------------------------------- speed
+
+class Way:
+    """How requests reach the server: directly or through a proxy, over connections that stay open or one a request."""
+
+    def __init__(self, through, close):
+        self.through, self.close = through, close
+
+    def __str__(self):
+        return f"{self.through or 'directly'}, {'a connection a request' if self.close else 'connections that stay open'}"
+
+
+def measure(program, texts, folder, load, connections, sessions, way):
+    """One row of a table."""
+    journal, proxy = f"{folder}/journal", None
+    server = Server(program, *texts, journal, WORKERS)
     try:
-        if asked.through:
-            proxy, port = start(asked.through, folder, server.address[1])
-            address = ("127.0.0.1", port)
-        took, times, answered = load(address or server.address, connections, asked.sessions, asked.close)
+        port = server.address[1]
+        if way.through:
+            proxy, port = start(way.through, folder, port)
+        found = load.run(port, connections, sessions, way.close, "sessions", "0")
     finally:
         if proxy:
             proxy.terminate()
@@ -149,23 +113,72 @@ def measure(program, texts, folder, connections, asked):
         server.kill()
     entries, size = entries_of(journal)
     os.remove(journal)
-    syncs = seconds_of_two_syncs(f"{folder}/records", size // entries)
-    allowed = len(times) / (entries * syncs)
-    print(f"| {connections} | {len(times) / took:.0f} | {answered / took:.0f} | {statistics.median(times) * 1e3:.2f} | {percent(times, 0.95):.2f} "
-          f"| {percent(times, 0.99):.2f} | {allowed:.0f} | {len(times) / took / allowed:.0%} |", flush=True)
+    allowed = found.replies / (entries * seconds_of_two_syncs(f"{folder}/records", size // entries))
+    rate = found.replies / found.seconds
+    print(f"| {connections} | {rate:.0f} | {found.answered / found.seconds:.0f} | {found.median / 1e3:.2f} | {found.p95 / 1e3:.2f} "
+          f"| {found.p99 / 1e3:.2f} | {found.longest / 1e3:.0f} | {found.faults:.0f} | {allowed:.0f} | {rate / allowed:.0%} | {found.client:.0%} |", flush=True)
 
 
-def speed(program, folder, asked):
-    problem = drill(7, 200)
-    plan = "".join(line for line in problem.plan.splitlines(True) if not line.startswith("sessions ")) + "sessions 65536\n"
-    texts = texts_in(folder, problem.bank, plan)
-    print(f"{asked.sessions} sessions of the drill's bank, {WORKERS} workers, {os.cpu_count()} processors, load {os.getloadavg()[0]:.1f} before")
-    print("| Connections | Requests a second | Items answered a second | Median ms | 95 % ms | 99 % ms | The disk's syncs allow | Part of it |")
-    print("|---|---|---|---|---|---|---|---|")
+def speed(program, texts, folder, load, asked, way):
+    print(f"\n{way}: {asked.sessions} sessions, {WORKERS} workers, {os.cpu_count()} processors, load {os.getloadavg()[0]:.1f} before\n")
+    print("| Connections | Requests a second | Items answered a second | Median ms | 95 % ms | 99 % ms | Longest ms | Sent again | The disk's syncs allow "
+          "| Part of it | Client's processor |")
+    print("|---|---|---|---|---|---|---|---|---|---|---|")
     for connections in asked.connections:
-        measure(program, texts, folder, connections, asked)
-    print(f"load {os.getloadavg()[0]:.1f} after")
+        measure(program, texts, folder, load, connections, max(asked.sessions, connections), way)
+    print(f"\nload {os.getloadavg()[0]:.1f} after")
 
+
+def ways(asked):
+    """The ways to measure."""
+    if not asked.all:
+        return [Way(asked.through, asked.close)]
+    for name in PROXIES:
+        if shutil.which(name) is None:
+            print(f"{name}: not installed, passed over")
+    through = [None, *(name for name in PROXIES if shutil.which(name))]
+    return [Way(name, close) for name in through for close in (False, True)]
+
+
+# ---------------------------------------------------------------- where the time of a request goes
+
+KINDS = [("a connection, and a path that is no route", True, ("GET", "/nothing", "")), ("a path that is no route", False, ("GET", "/nothing", "")),
+         ("the place of a session", False, ("GET", "/sessions/0", "")), ("a booking that is known", False, ("POST", "/sessions", '{"booking":0}')),
+         ("an answer that is recorded", False, ("POST", "/sessions/0/answers", '{"step":0,"response":%d}')),
+         ("the counts of exposure", False, ("GET", "/exposure", ""))]
+
+
+def kinds(program, texts, folder, load, asked):
+    """The time of each kind of request over one connection, and the server's processor for one."""
+    server = Server(program, *texts, f"{folder}/journal", WORKERS)
+    print(f"one connection, {asked.sessions * 10} requests of each kind, load {os.getloadavg()[0]:.1f}\n")
+    print("| Request | Median us | 99 % us | Until connected us | Server's processor us | System's for it us |")
+    print("|---|---|---|---|---|---|")
+    try:
+        kind_row(server, load, "begins and answers that add entries", False, asked.sessions, ("sessions", "0"))
+        connection = Connection(server.address)
+        recorded = [connection.ask(ANSWER_ZERO % value) for value in range(2)]
+        right = next(value for value, (status, _) in enumerate(recorded) if status == 200)
+        for name, close, (method, path, body) in KINDS:
+            kind_row(server, load, name, close, asked.sessions * 10, (method, path, body % right if "%d" in body else body))
+    finally:
+        server.kill()
+    entries, size = entries_of(f"{folder}/journal")
+    took = seconds_of_two_syncs(f"{folder}/records", size // entries)
+    print(f"\ntwo syncs of a record of {size // entries} bytes: {took * 1e6:.0f} us; the sessions have {entries} records")
+
+
+ANSWER_ZERO = b'POST /sessions/0/answers HTTP/1.1\r\nContent-Length: 23\r\n\r\n{"step":0,"response":%d}'
+
+
+def kind_row(server, load, name, close, count, kind):
+    before = processor_of(server.process)
+    found = load.run(server.address[1], 1, count, close, *kind)
+    own, system = ((now - then) / found.replies * 1e6 for now, then in zip(processor_of(server.process), before))
+    print(f"| {name} | {found.median:.0f} | {found.p99:.0f} | {found.connect:.0f} | {own:.0f} | {system:.0f} |", flush=True)
+
+
+# ---------------------------------------------------------------- memory
 
 def texts_in(folder, bank, plan):
     names = f"{folder}/bank.csv", f"{folder}/plan.txt"
@@ -173,6 +186,15 @@ def texts_in(folder, bank, plan):
         with open(name, "w", encoding="ascii") as file:
             file.write(text)
     return names
+
+
+def texts_of(folder, asked):
+    """The bank and the plan: those that are named, or those of the drill."""
+    if asked.texts:
+        return asked.texts
+    problem = drill(7, 200)
+    plan = "".join(line for line in problem.plan.splitlines(True) if not line.startswith("sessions ")) + "sessions 65536\n"
+    return texts_in(folder, problem.bank, plan)
 
 
 def greatest():
@@ -215,22 +237,35 @@ def size(program, folder):
     print(f"512 items, 61 grid points, 5 categories: {empty} kB with no session, {now} kB at 1,000 open sessions, at most {most} kB")
 
 
-def main():
+def words_of():
     words = argparse.ArgumentParser(description="Measures the server on a loopback socket.")
     words.add_argument("program")
     words.add_argument("folder")
     words.add_argument("--connections", type=int, nargs="+", default=[1, 2, 4, 8, 16, 60, 200])
     words.add_argument("--sessions", type=int, default=200)
-    words.add_argument("--close", action="store_true")
     words.add_argument("--through", choices=PROXIES)
-    words.add_argument("--size", action="store_true")
-    asked = words.parse_args()
+    words.add_argument("--texts", nargs=2, metavar=("BANK", "PLAN"))
+    words.add_argument("--token", default="")
+    for name in ("close", "all", "kinds", "size"):
+        words.add_argument(f"--{name}", action="store_true")
+    return words.parse_args()
+
+
+def main():
+    asked = words_of()
     program = [os.path.abspath(asked.program)]
+    if asked.token:
+        os.environ["SHADOWD_TOKEN"] = asked.token
     with tempfile.TemporaryDirectory(dir=asked.folder) as folder:
         if asked.size:
             size(program, folder)
-        else:
-            speed(program, folder, asked)
+            return
+        texts, load = texts_of(folder, asked), Load(folder, asked.token)
+        if asked.kinds:
+            kinds(program, texts, folder, load, asked)
+            return
+        for way in ways(asked):
+            speed(program, texts, folder, load, asked, way)
 
 
 if __name__ == "__main__":
