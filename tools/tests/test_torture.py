@@ -46,6 +46,16 @@ class Draws(unittest.TestCase):
         self.assertGreater(max(numbers), 2)
 
 
+    def test_each_way_to_bear_a_token(self):
+        """Of the messages to a server with a token some have it, some none, some two and some another one of its length."""
+        draw, right, found = draws.of_case(5, 0), b"a-token", set()
+        for _ in range(400):
+            fields = draws.authorization(draw, right)
+            found.add((len(fields), tuple(len(one) for one in fields), b"Bearer " + right in fields))
+        for wanted in ((1, (14,), True), (0, (), False), (1, (14,), False), (1, (13,), False), (1, (15,), False), (2, (14, 14), True)):
+            self.assertIn(wanted, found)
+
+
 class Plans(unittest.TestCase):
     """The first fault of a plan for the example's bank."""
 
@@ -142,8 +152,8 @@ class Models(unittest.TestCase):
 class Messages(unittest.TestCase):
     """What messages are, and why bytes are none."""
 
-    def found(self, data):
-        return [one.words if isinstance(one, message_model.Fault) else message_model.asked(one)
+    def found(self, data, token=b""):
+        return [one.words if isinstance(one, message_model.Fault) else message_model.asked(one, token)
                 for one in message_model.messages(data)]
 
     def test_messages(self):
@@ -168,6 +178,21 @@ class Messages(unittest.TestCase):
             with self.subTest(data):
                 self.assertEqual(self.found(data), wanted)
 
+    def test_tokens(self):
+        look = b"GET /sessions/7 HTTP/1.1\n%s\n"
+        for fields, wanted in ((b"", "unauthorized"), (b"authorization:\tBearer key \n", ("look", [7])),
+                               (b"Authorization: Bearer kex\n", "unauthorized"), (b"Authorization: Bearer ke\n", "unauthorized"),
+                               (b"Authorization: Bearer keys\n", "unauthorized"), (b"Authorization: Basic key\n", "unauthorized"),
+                               (b"Authorization: key\n", "unauthorized"), (b"Authorization: Bearer key\n" * 2, "unauthorized")):
+            with self.subTest(fields):
+                self.assertEqual(self.found(look % fields, b"key"), [wanted])
+                self.assertEqual(self.found(look % fields), [("look", [7])])
+        health = b"GET /health HTTP/1.1\n\n"
+        self.assertEqual(self.found(health, b"key"), [("health", [])])
+        self.assertEqual(self.found(health.replace(b"GET", b"PUT"), b"key"), ["unauthorized"])
+        self.assertEqual(self.found(health.replace(b"GET", b"PUT")), ["no-method"])
+        self.assertEqual(self.found(health.replace(b"health", b"health/"), b"key"), ["unauthorized"])
+
     def test_each_front_of_a_head_is_a_part(self):
         head = b"\r\n\nPOST /a?b HTTP/1.1\r\nContent-Length: 0\r\nA:\n\r\n"
         for size in range(1, len(head)):
@@ -177,7 +202,7 @@ class Messages(unittest.TestCase):
 
 def responded(status, body, close=False):
     """A response as docs/HTTP.md has it, with the status line as its text."""
-    fields = "Content-Type: application/json\r\n" + f"Content-Length: {len(body)}\r\n"
+    fields = "WWW-Authenticate: Bearer\r\n" * status.startswith("401") + "Content-Type: application/json\r\n" + f"Content-Length: {len(body)}\r\n"
     return f"HTTP/1.1 {status}\r\n{fields}{close * CLOSE}\r\n{body}".encode("ascii")
 
 
@@ -185,12 +210,15 @@ CLOSE = "Connection: close\r\n"
 PLACE = '{"item":2,"proved":true,"session":0,"state":"waiting","step":0}'
 # A session that begins, gets a response that its item does not have, and is closed.
 ASKED = [begin(70), answer(0, 0, 2), request_bytes("GET", "/sessions/0"),
-         request_bytes("POST", "/sessions/0/close"), request_bytes("GET", "/exposure"), b"\xff"]
+         request_bytes("POST", "/sessions/0/close"), request_bytes("GET", "/exposure"),
+         request_bytes("GET", "/health"), b"\xff"]
+# The journal has a header of 8 bytes, records of 83, 92 and 10, and a closed gate; it may have 67,108,864.
+HEALTH = '{"busy":2,"entries":3,"open":0,"room":67108670}'
 ANSWERED = [responded("201 Created", PLACE),
             responded("422 Unprocessable Entity", '{"error":"bad-response","value":2}'),
             responded("200 OK", PLACE), responded("200 OK", '{"session":0,"state":"closed"}'),
             responded("200 OK", '{"finished":1,"rows":[[0,1],[0,1],[1,1],[0,1],[0,1],[0,1]]}'),
-            responded("400 Bad Request", '{"error":"bad-head"}', True)]
+            responded("200 OK", HEALTH), responded("400 Bad Request", '{"error":"bad-head"}', True)]
 
 
 class Connections(Folder):
@@ -241,19 +269,40 @@ class Connections(Folder):
 
     def test_what_is_wrong(self):
         whole = b"".join(ANSWERED)
-        wrong = [b"".join(ANSWERED[:k] + ANSWERED[k + 1:]) for k in range(6)]
+        wrong = [b"".join(ANSWERED[:k] + ANSWERED[k + 1:]) for k in range(len(ANSWERED))]
         wrong += [whole + ANSWERED[-1], ANSWERED[0] + whole,
                   whole.replace(b"201 Created", b"200 OK")]
         changes = [(b'"item":2', b'"item":3'), (b'"value":2', b'"value":3'), (b"[1,1]", b"[2,1]"),
-                   (b"closed", b"opened"), (b"true", b"null"), (b'"step":0', b'"step":1')]
+                   (b"closed", b"opened"), (b"true", b"null"), (b'"step":0', b'"step":1'),
+                   (b'"busy":2', b'"busy":0'), (b'"entries":3', b'"entries":2'), (b'"open":0', b'"open":1'),
+                   (b"67108670", b"67108671"), (b'200 OK\r\nContent-Type: application/json\r\nContent-Length: 47',
+                                               b'503 Service Unavailable\r\nContent-Type: application/json\r\nContent-Length: 47')]
         wrong += [whole.replace(*change) for change in changes]
         for answered in wrong:
             for judge in (self.in_order, self.in_any_order):
-                if judge == self.in_any_order and answered == wrong[8]:
+                if judge == self.in_any_order and answered == whole.replace(b"201 Created", b"200 OK"):
                     continue  # another caller may have begun the session
                 with self.subTest(answered, judge=judge.__name__):
                     with self.assertRaises((reply_model.Surprise, LookupError)):
                         judge(answered)
+
+
+    def test_what_is_right_with_a_token(self):
+        """The requests without a token are refused, but for that on the health; then each bears the token."""
+        bears = [text.replace(b"Host: exam\r\n", b"Host: exam\r\nAuthorization: Bearer key\r\n") for text in ASKED]
+        denied = responded("401 Unauthorized", '{"error":"unauthorized"}')
+        health = responded("200 OK", '{"busy":1,"entries":0,"open":0,"room":67108855}')
+        asked, answered = ASKED[:6] + bears, [denied] * 5 + [health] + ANSWERED
+        self.judged_with(b"key", asked, answered)
+        for wrong in ([denied] * 4 + answered[5:], [denied] * 6 + answered[6:], [denied] * 5 + [HEALTH.encode()] + ANSWERED,
+                      [denied.replace(b"WWW-Authenticate: Bearer\r\n", b"")] * 5 + answered[5:]):
+            with self.assertRaises(reply_model.Surprise):
+                self.judged_with(b"key", asked, wrong)
+
+    def judged_with(self, token, asked, answered):
+        records, _ = reply_model.records_of(self.exam.case.read("journal"))
+        model = reply_model.Model(self.exam.rules, records)
+        torture_http.Responses(self.exam, model, b"".join(answered), False, token).judge(b"".join(asked), False)
 
 
 @needs_program

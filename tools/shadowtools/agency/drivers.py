@@ -122,15 +122,18 @@ class Lost(Stopped):
 class Server:
     """`shadowd serve`, started here: as many workers as clients, each of which takes one connection and then ends."""
 
-    def __init__(self, program: str, bank: str, plan: str, journal: str, workers: int) -> None:
+    def __init__(self, program: str, bank: str, plan: str, journal: str, workers: int, token: str = "") -> None:
         environment = dict(os.environ, SHADOWD_JOURNAL=journal, SHADOWD_LISTEN="127.0.0.1:0",
-                           SHADOWD_WORKERS=str(workers), SHADOWD_CONNECTIONS="1")
+                           SHADOWD_WORKERS=str(workers), SHADOWD_CONNECTIONS="1", SHADOWD_TOKEN=token)
+        if not token:
+            del environment["SHADOWD_TOKEN"]
         self.process = subprocess.Popen([program, "serve", bank, plan], env=environment, stdin=subprocess.DEVNULL,
                                         stdout=subprocess.PIPE, stderr=subprocess.PIPE, text=True)
-        line = self.process.stderr.readline()
-        found = LISTENING.search(line)
+        said = ""
+        while not (found := LISTENING.search(said)) and (line := self.process.stderr.readline()):
+            said += line
         if not found:
-            raise self.stopped(f"it names no address: {line.strip()!r}")
+            raise self.stopped(f"it names no address: {said.strip()!r}")
         self.address = found.group(1), int(found.group(2))
 
     def connection(self) -> http.client.HTTPConnection:

@@ -19,24 +19,26 @@ ENDINGS = [b"", b"G / HTTP/1.1\n\n", b"\nG / HTTP/1.1\n\n", b" / HTTP/1.1\n\n", 
            b":\n\n", b"\n\n", b"\n"]
 ENDINGS += [b" HTTP/1.1\n\n"[k:] for k in range(9)]
 LONGEST_HEAD, LONGEST_BODY, FIELDS = 8192, 4096, 64
-PHRASES = {200: "OK", 201: "Created", 400: "Bad Request", 404: "Not Found",
+PHRASES = {200: "OK", 201: "Created", 400: "Bad Request", 401: "Unauthorized", 404: "Not Found",
            405: "Method Not Allowed", 409: "Conflict",
            411: "Length Required", 413: "Payload Too Large", 422: "Unprocessable Entity",
            500: "Internal Server Error",
            503: "Service Unavailable", 507: "Insufficient Storage"}
 
-Message = namedtuple("Message", "method path body close")
+# `authorization` is the value of its only field of that name, empty if there is none or several.
+Message = namedtuple("Message", "method path body close authorization")
 # Why bytes begin with no message: the words of the errors that may be the response, where None is
 # no response.
 Fault = namedtuple("Fault", "words")
-STATUS = {"bad-head": 400, "no-length": 411, "too-long": 413, "no-route": 404, "no-method": 405,
-          "bad-json": 400, "bad-body": 422}
+STATUS = {"bad-head": 400, "no-length": 411, "too-long": 413, "unauthorized": 401, "no-route": 404,
+          "no-method": 405, "bad-json": 400, "bad-body": 422}
 
 
 def response(status, body, close):
     text = compact(body)
-    lines = [f"HTTP/1.1 {status} {PHRASES[status]}", "Content-Type: application/json",
-             f"Content-Length: {len(text)}"] + ["Connection: close"] * close
+    lines = [f"HTTP/1.1 {status} {PHRASES[status]}", *["WWW-Authenticate: Bearer"] * (status == 401),
+             "Content-Type: application/json", f"Content-Length: {len(text)}"]
+    lines += ["Connection: close"] * close
     return "".join(line + "\r\n" for line in [*lines, ""]).encode("ascii") + text
 
 
@@ -85,6 +87,12 @@ def fields_of(section):
         yield name.lower(), value.strip(b" \t")
 
 
+def authorization_of(fields):
+    """The value of the only field Authorization, empty if there is none or several."""
+    values = [value for name, value in fields if name == b"authorization"]
+    return values[0] if len(values) == 1 else b""
+
+
 def body_length(method, fields):
     """The length of the body that a head announces, or the word of its fault."""
     lengths = [value for name, value in fields if name == b"content-length"]
@@ -113,7 +121,8 @@ def messages(data):
         close = minor == b"0" or method == b"HEAD" or any(name == b"connection"
                                                           and value.lower() == b"close"
                                                           for name, value in fields)
-        yield Message(method, target.split(b"?")[0], data[head.end():head.end() + length], close)
+        yield Message(method, target.split(b"?")[0], data[head.end():head.end() + length], close,
+                      authorization_of(fields))
         if close:
             return
         data = data[head.end() + length:]
@@ -164,11 +173,19 @@ ROUTES = [(rb"/sessions", b"POST", "begin", {"booking": 2**64 - 1}),
           (rb"/sessions/(0|[1-9][0-9]*)/answers", b"POST", "answer",
            {"step": 65535, "response": 255}),
           (rb"/sessions/(0|[1-9][0-9]*)/close", b"POST", "close", {}),
-          (rb"/exposure", b"GET", "exposure", {})]
+          (rb"/exposure", b"GET", "exposure", {}), (rb"/health", b"GET", "health", {})]
 
 
-def asked(message):
+def may_ask(message, token):
+    """Whether a server with this token, which is empty where it has none, lets this message ask."""
+    return (not token or message.authorization == b"Bearer " + token
+            or (message.method, message.path) == (b"GET", b"/health"))
+
+
+def asked(message, token=b""):
     """The request of a message, or the word of its error."""
+    if not may_ask(message, token):
+        return "unauthorized"
     for path, method, kind, members in ROUTES:
         found = re.fullmatch(path, message.path)
         numbers = [int(one) for one in found.groups()] if found else []

@@ -60,6 +60,7 @@ class Model:
     def __init__(self, rules, records):
         self.judge, self.records, self.taken = audit.Judge(rules, self.note), records, 0
         self.rules, self.bookings, self.marks, self.trees = rules, {}, {}, []
+        self.opens = [0]  # after each record the sessions that are neither complete nor closed
 
     @property
     def history(self):
@@ -85,6 +86,7 @@ class Model:
         except (Refused, ValueError) as refused:
             raise Surprise(f"record {self.taken}: {refused}") from refused
         self.taken += 1
+        self.opens.append(len(self.history.sessions) - self.history.finished)
         if kind == audit.STARTED:
             self.bookings[fields[1]] = fields[0]
         elif kind == audit.SERVED:

@@ -25,6 +25,12 @@ def request_bytes(method: str, path: str, body: Any = None) -> bytes:
     return head.encode("ascii") + b"\r\n" + text
 
 
+def bearing(message: bytes, token: str) -> bytes:
+    """The same message with a token."""
+    field = f"Authorization: Bearer {token}\r\n".encode("ascii")
+    return message.replace(b"Host: exam\r\n", b"Host: exam\r\n" + field, 1)
+
+
 def begin(booking: int) -> bytes:
     return request_bytes("POST", "/sessions", {"booking": booking})
 
@@ -126,8 +132,11 @@ class Server:
         raise RuntimeError("the server does not answer")
 
     def kill(self) -> None:
-        """SIGKILL: the process has no time to do anything more."""
+        """SIGKILL: the process has no time to do anything more, nor what it runs, if it is a command that runs the program."""
         if self.process.poll() is None:
+            with open(f"/proc/{self.process.pid}/task/{self.process.pid}/children", encoding="ascii") as file:
+                for child in file.read().split():
+                    os.kill(int(child), signal.SIGKILL)
             self.process.send_signal(signal.SIGKILL)
         self.process.wait()
         self.process.stdout.close()

@@ -4,7 +4,7 @@ refusals of crates/history_model.
 usage: tools/http_docs.py
 
 It reads the tables of the code from its source, and ends with status 1 where a page has another route, status, error word or
-value, or lacks one. Each route needs an example by curl.
+value, or lacks one. Each route needs an example by curl, and each operation of openapi.json has the status 401, but for those that need no token.
 """
 import json
 import re
@@ -101,6 +101,18 @@ def schema_tables():
     return routes, errors, words
 
 
+def open_operations():
+    """The operations of the schema without the status 401, and those that need no token."""
+    schema, without, free = json.loads((REPOSITORY / "docs" / "openapi.json").read_text()), set(), set()
+    for path, item in schema["paths"].items():
+        for method, operation in item.items():
+            if method != "parameters" and "401" not in operation["responses"]:
+                without.add((method.upper(), path))
+            if method != "parameters" and operation.get("security", schema["security"]) == []:
+                free.add((method.upper(), path))
+    return without, free
+
+
 def compare(what, code, page):
     for entry in sorted(code - page, key=str):
         print(f"{what} lacks {entry}")
@@ -114,13 +126,15 @@ def main(words):
     page_routes, page_errors, examples = page_tables()
     schema_routes, schema_errors, words = schema_tables()
     held = [
-        len(routes) == 5 and len(errors) == 16,
+        len(routes) == 6 and len(errors) == 17,
         compare("docs/HTTP.md", routes, page_routes),
         compare("docs/HTTP.md", errors, page_errors),
         compare("docs/HTTP.md, examples by curl,", routes, examples),
         compare("docs/openapi.json", routes, schema_routes),
         compare("docs/openapi.json", errors, schema_errors),
         compare("docs/openapi.json, words of errors,", {error[0] for error in errors}, words),
+        compare("docs/openapi.json, operations without 401,", {("GET", "/health")}, open_operations()[0]),
+        compare("docs/openapi.json, operations without a token,", {("GET", "/health")}, open_operations()[1]),
     ]
     if not held[0]:
         print(f"the code's tables weren't found whole: {len(routes)} routes, {len(errors)} errors")

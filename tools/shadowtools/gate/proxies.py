@@ -3,8 +3,9 @@
 usage: proxies.py PROGRAM [--clients 60 200] [--only nginx haproxy]
 
 The set-ups are those of the page, between its ``` lines, without TLS and with other ports and folders. A proxy that is not installed is
-named and passed over. Each client keeps its connection to the proxy open. The status is 1 if a request had no reply of the server, or
-none within the limit.
+named and passed over. Each client keeps its connection to the proxy open; the server has a token, which each request has. Then syncs of the disk fail for a while:
+HAProxy takes the server out, and has to put it in again by its probes alone, since it sends nothing else (this needs strace). The status is 1 if a request had no reply
+of the server, or none within the limit, or if the server did not come back.
 """
 import argparse
 import os
@@ -18,12 +19,14 @@ import threading
 import time
 
 from shadowtools.command import as_command
-from shadowtools.gate.exam_client import Connection, Lost, Server, answer, begin
+from shadowtools.gate.exam_client import Connection, Lost, Server, answer, bearing, begin, request_bytes
 from shadowtools.places import TOP as ROOT
 
 DATA = os.path.join(ROOT, "crates", "shadowd", "data")
 LIMIT = 60  # seconds for a reply
 WORKERS = 16
+TOKEN = "a-token.of~40+characters/with=signs_of_it"
+FAILING = 12  # syncs that fail in a row: more than the probes that take a server out
 
 
 def set_up(name):
@@ -84,7 +87,7 @@ class Client(threading.Thread):
 
     def ask(self, connection, message):
         start_of = time.monotonic()
-        status, body = connection.ask(message)
+        status, body = connection.ask(bearing(message, TOKEN))
         self.times.append(time.monotonic() - start_of)
         if status not in (200, 201):
             raise RuntimeError(f"status {status}: {body}")
@@ -114,13 +117,20 @@ def sessions(port, count, bookings):
     return sorted(t for client in clients for t in client.times), faults
 
 
+def server_in(folder, program, front=()):
+    """A server with a token over a new journal of a folder; `front` is a command that runs the program."""
+    plan, journal = os.path.join(folder, "plan.txt"), os.path.join(folder, "journal")
+    with open(os.path.join(DATA, "plan.txt"), encoding="ascii") as file, open(plan, "w", encoding="ascii") as made:
+        made.write(file.read() + "sessions 65536\n")
+    if os.path.exists(journal):
+        os.remove(journal)
+    return Server([*front, program], os.path.join(DATA, "bank.csv"), plan, journal, WORKERS, token=TOKEN)
+
+
 def tried(name, program, counts):
     """One line for each number of clients; whether all had their replies."""
     with tempfile.TemporaryDirectory() as folder:
-        plan = os.path.join(folder, "plan.txt")
-        with open(os.path.join(DATA, "plan.txt"), encoding="ascii") as file, open(plan, "w", encoding="ascii") as made:
-            made.write(file.read() + "sessions 65536\n")
-        server = Server([program], os.path.join(DATA, "bank.csv"), plan, os.path.join(folder, "journal"), WORKERS)
+        server = server_in(folder, program)
         process, bookings, well = None, iter(range(10**6)), True
         try:
             process, port = start(name, folder, server.address[1])
@@ -138,6 +148,58 @@ def tried(name, program, counts):
     return well
 
 
+# ---------------------------------------------------------------- a disk that fails for a while
+
+def status_by(port, message):
+    """The status of a response, and whether it is the server's: those of a proxy are no JSON."""
+    connection = Connection(("127.0.0.1", port), LIMIT)
+    try:
+        return connection.ask(bearing(message, TOKEN))[0], True
+    except ValueError:
+        return 503, False
+    finally:
+        connection.close()
+
+
+def comes_back(program):
+    """One line on a server that HAProxy takes out while its disk fails; whether it was put in again."""
+    with tempfile.TemporaryDirectory() as folder:
+        log = os.path.join(folder, "calls")
+        front = ["strace", "-f", "-o", log, "-e", "trace=fsync,fdatasync"]
+        if shutil.which("strace") is None or subprocess.run([*front, "true"], stderr=subprocess.DEVNULL).returncode:
+            print("haproxy with a disk that fails: passed over, strace is not there or may not trace")
+            return True
+        server_in(folder, program, front).kill()
+        with open(log, encoding="utf-8") as file:
+            first = len(re.findall(r"f(?:data)?sync\(", file.read())) + 1
+        server = server_in(folder, program, [*front, "-e", f"inject=fsync,fdatasync:error=EIO:when={first}..{first + FAILING - 1}"])
+        process = None
+        try:
+            process, port = start("haproxy", folder, server.address[1])
+            return came_back(port)
+        finally:
+            if process:
+                process.terminate()
+                process.wait()
+            server.kill()
+
+
+def came_back(port):
+    """Begins a session on a disk that fails, waits without a request until the server is out, and then until it is in again."""
+    found, begun = [status_by(port, begin(1))], time.monotonic()
+    time.sleep(8)  # three probes, two seconds apart
+    while time.monotonic() < begun + 2 * LIMIT:
+        found.append(status_by(port, request_bytes("GET", "/exposure")))
+        if found[-1] == (200, True):
+            break
+        time.sleep(0.5)
+    took = time.monotonic() - begun
+    well = found[0] == (503, True) and found[1] == (503, False) and found[-1] == (200, True) and status_by(port, begin(1)) in ((200, True), (201, True))
+    print(f"haproxy: a disk that fails: {found[0][0]} of the server, then {'out' if (503, False) in found else 'never out'}, "
+          f"{f'in again after {took:.0f} s' if found[-1][1] else 'and never in again'}", flush=True)
+    return well
+
+
 def main(arguments):
     words = argparse.ArgumentParser(description="Tries the proxies of docs/OPERATING.md in front of the server.")
     words.add_argument("program")
@@ -150,6 +212,8 @@ def main(arguments):
             print(f"{name}: not installed, passed over")
             continue
         well = tried(name, os.path.abspath(asked.program), asked.clients) and well
+    if "haproxy" in asked.only and shutil.which("haproxy"):
+        well = comes_back(os.path.abspath(asked.program)) and well
     return 0 if well else 1
 
 

@@ -255,8 +255,37 @@ def json_of(draw, members):
     return (space + "{" + ("," + space).join(pairs) + space + "}").encode("ascii")
 
 
-def message(draw, line):
-    """The message that asks for the request of a script's line, spelled in one of many ways."""
+def token(draw):
+    """A token of a server, or most often none."""
+    size = draw.choice([0, 0, 0, 1, 8, 40, 40, 1024])
+    return bytes(draw.randrange(33, 127) for _ in range(size))
+
+
+def authorization(draw, right):
+    """The fields Authorization of a message to a server with this token, which is empty where it has none: most often one with
+    the token; or none, another token, a front or more of it, another scheme, or two fields."""
+    good = b"Bearer " + right
+    if not right:
+        return [b"Bearer x"] if draw.random() < 0.1 else []
+    if draw.random() < 0.8:
+        return [good]
+    at = 7 + draw.choice([0, len(right) - 1, draw.randrange(len(right))])
+    other = good[:at] + bytes([33 + (good[at] - 33 + 1) % 94]) + good[at + 1:]
+    return draw.choice([[], [b""], [other], [other], [good[:-1]], [good + b"x"], [good[:7]], [right], [good[:6] + right],
+                        [b"Basic " + right], [b"bearer " + right], [b"Bearer  " + right], [good, good], [other, good], [good, b""]])
+
+
+def health(draw, right):
+    """A message that asks for the health, sometimes by another method or with a body; the token is not needed."""
+    method = draw.choice(["GET"] * 6 + ["POST", "HEAD", "PUT", "get"])
+    body = draw.choice([b""] * 4 + [b"{}", b"not JSON"])
+    path = draw.choice(["/health"] * 9 + ["/health/", "/health?full", "/healthy"])
+    fields = authorization(draw, right) if draw.random() < 0.4 else []
+    return head_of(draw, method, path, len(body), fields) + body
+
+
+def message(draw, line, right=b""):
+    """The message that asks for the request of a script's line, spelled in one of many ways, of a server with this token."""
     kind, *numbers = line.split(" ")
     method, path, body = "GET", "/exposure", b""
     if kind == "begin":
@@ -273,11 +302,11 @@ def message(draw, line):
     if draw.random() < 0.04:
         path = draw.choice(["/", "/sessions/", path + "/", "/sessions/01", "/sessions/4294967296",
                             "/exposure?a=1?b", "*", "//exposure", path.upper()])
-    return head_of(draw, method, path, len(body)) + body
+    return head_of(draw, method, path, len(body), authorization(draw, right)) + body
 
 
-def head_of(draw, method, path, size):
-    """A head in one of many spellings, most of them well-formed."""
+def head_of(draw, method, path, size, bearers=()):
+    """A head in one of many spellings, most of them well-formed, with these fields Authorization."""
     end = draw.choice(["\r\n"] * 5 + ["\n"])
     fields = [draw.choice(["Host: exam", "host:exam", "Accept: */*", "X-Empty:",
                            "X-Latin: \u00e9\u00ff"]) for _ in range(draw.choice([0, 1, 1, 3]))]
@@ -293,6 +322,8 @@ def head_of(draw, method, path, size):
     if draw.random() < 0.02:
         fields += [f"X{k}: {'v' * draw.choice([0, 9, 140])}"
                    for k in range(draw.choice([60, 63, 64, 65, 90]))]
+    fields += [draw.choice(["Authorization: ", "authorization:", "AUTHORIZATION: \t"]) + value.decode("latin-1")
+               + draw.choice(["", "", " "]) for value in bearers]
     draw.shuffle(fields)
     version = draw.choice(["HTTP/1.1"] * 30 + ["HTTP/1.0", "HTTP/2.0", "http/1.1"])
     blank = draw.choice([""] * 10 + ["\r\n", "\n\r\n"])

@@ -20,7 +20,7 @@ from shadowtools.checkers.message_model import Fault
 from shadowtools.checkers.reply_model import Missing, Surprise
 from shadowtools.gate.torture_cases import LIMIT, Exam, demand, shown
 
-WORKERS = 12
+WORKERS, MOST_WORKERS = 12, 16
 
 
 def connect(address):
@@ -53,23 +53,28 @@ def exchange(address, parts, pause):
 
 # ---------------------------------------------------------------- one connection after another
 
-def stream(draw, lines, hostile):
-    """The bytes of a connection that asks for these requests."""
-    data = b"".join(draws.message(draw, line) for line in lines)
+def stream(draw, lines, hostile, token=b""):
+    """The bytes of a connection that asks for these requests, and for the health between them."""
+    data = b""
+    for line in lines:
+        data += draws.health(draw, token) if draw.random() < 0.1 else b""
+        data += draws.message(draw, line, token)
     return draws.damaged(draw, data) if draw.random() < hostile else data
 
 
 class Responses:
-    """What a connection was answered, beside the model."""
+    """What a connection was answered, beside the model. `token` is that of the server, empty if it has none."""
 
-    def __init__(self, exam, model, said, limited):
-        self.exam, self.model, self.left, self.limited = exam, model, said, limited
+    def __init__(self, exam, model, said, limited, token=b""):
+        self.exam, self.model, self.left, self.limited, self.token = exam, model, said, limited, token
 
     def next_of(self, message):
         """The response that a message has to get."""
-        asked = message_model.asked(message)
+        asked = message_model.asked(message, self.token)
         if isinstance(asked, str):
             return message_model.error(asked, message.close)
+        if asked.kind == "health":
+            return message_model.response(*self.health(), message.close)
         try:
             status, body = reply_model.response_of(self.model.reply(asked))
         except Missing as missing:
@@ -79,6 +84,16 @@ class Responses:
             else:
                 body["value"] = self.full(missing)
         return message_model.response(status, body, message.close)
+
+    def health(self):
+        """The status and the body of a look at the health after the requests so far. How many workers are busy is taken from the
+        response. With a full disk it may be that of a disk that fails."""
+        found = exam_client.split_reply(self.left)
+        if self.limited and found and found[0][0] == 503:
+            return 503, {"error": "disk"}
+        busy = found[0][1].get("busy") if found and isinstance(found[0][1], dict) else None
+        demand(is_busy(busy), f"for the health: {shown(self.left)}")
+        return 200, {"busy": busy, **health_after(self.model, self.model.taken)}
 
     def full(self, missing):
         """The length that a refusal for a full journal names, if it may be that."""
@@ -109,39 +124,44 @@ class Responses:
         demand(self.left == b"", f"after the last response: {shown(self.left)}")
 
 
-def ended(exam, server):
-    """Demands that a server that ended before its connections halted for a reason."""
-    said, _ = server.process.communicate(timeout=LIMIT)
-    demand(exam.halt is not None and (server.process.returncode, said.splitlines()) == exam.halt,
-           f"serve ended with status {server.process.returncode}: {said[:200]!r}")
+def is_busy(value):
+    """Whether so many workers may serve a connection, of which one asks."""
+    return isinstance(value, int) and not isinstance(value, bool) and 1 <= value <= MOST_WORKERS
+
+
+def health_after(model, count):
+    """The numbers of a look at the health after so many records of a journal that were taken."""
+    return {"entries": count, "open": model.opens[count],
+            "room": model.rules.journal - reply_model.length_of(model.records[:count])}
 
 
 def messages(case):
     """Connections one after another to a server that ends after the last."""
     draw = case.draw
-    exam = Exam(case, *draws.any_exam(draw, 0.02))
+    exam, token = Exam(case, *draws.any_exam(draw, 0.02)), draws.token(draw)
     exam.assemble()
     lines = list(draws.requests(draw, draw.randrange(1, 60), exam.problem.plan.length))
     streams = []
     while lines and len(streams) < 15:
         count = draw.choice([1, 2, 5, len(lines)])
-        streams.append(stream(draw, lines[:count], 0.3))
+        streams.append(stream(draw, lines[:count], 0.3, token))
         lines = lines[count:]
     spoken, pause = [draws.pieces(draw, data) for data in streams], draw.choice([0, 0, 0.0002])
     case.write("streams.json", json.dumps([data.decode("latin-1") for data in streams]).encode())
     limited = draw.random() < 0.2
     program = full_disk(case, draw.randrange(1, 6)) if limited else case.program
-    server = Server(program, *map(case.path, exam.words), case.path("journal"), len(streams))
     if exam.halt and b"base" not in exam.plan.lines:
-        ended(exam, server)
+        exam.serve_nobody()
         return
+    server = Server(program, *map(case.path, exam.words), case.path("journal"), len(streams),
+                    token.decode("ascii"))
     try:
         answers = [exchange(server.address, parts, pause) for parts in spoken]
         said = server.end(LIMIT)
     finally:
         server.process.kill()
     case.write("answers.json", json.dumps([text.decode("latin-1") for text, _ in answers]).encode())
-    judge_messages(exam, streams, answers, (server.process.returncode, said), limited)
+    judge_messages(exam, streams, answers, (server.process.returncode, said), limited, token)
     exam.serve_nobody()
     exam.audit()
 
@@ -154,12 +174,12 @@ def full_disk(case, blocks):
     return name
 
 
-def judge_messages(exam, streams, answers, end, limited):
+def judge_messages(exam, streams, answers, end, limited, token):
     """The responses of all connections, the journal that is left, and the end of the server."""
     records, kept = reply_model.records_of(exam.case.read("journal") or b"")
     model = reply_model.Model(exam.rules, records)
     for data, (text, reset) in zip(streams, answers):
-        Responses(exam, model, text, limited).judge(data, reset)
+        Responses(exam, model, text, limited, token).judge(data, reset)
     demand(model.taken == len(records),
            f"the journal has {len(records) - model.taken} entries that no request adds")
     demand(end == (0, reply_model.summary(model.history)[0]),
@@ -215,15 +235,15 @@ class Crowd:
     """A server that callers speak to, and that is killed and started again meanwhile. `lives`
     counts its starts, and is None while it is down."""
 
-    def __init__(self, case, exam):
-        self.case, self.exam, self.starts = case, exam, 0
+    def __init__(self, case, exam, token):
+        self.case, self.exam, self.starts, self.token = case, exam, 0, token.decode("ascii")
         self.address = self.server = self.lives = None
 
     def start(self):
         words = [self.case.path(name) for name in (*self.exam.words, "journal")]
         try:
             self.server = exam_client.Server([self.case.program], *words, workers=WORKERS,
-                                             wait=LIMIT)
+                                             wait=LIMIT, token=self.token)
         except RuntimeError as fault:
             raise Surprise(f"serve did not start again: {fault}") from fault
         self.address, self.starts = self.server.address, self.starts + 1
@@ -246,13 +266,13 @@ class Crowd:
         self.server.kill()
 
 
-def plans_of(draw, begun, length):
+def plans_of(draw, begun, length, token):
     """The connections of a caller: what is written, in pieces, and how each ends."""
     lines = list(draws.requests(draw, draw.randrange(10, 40), length, begun))
     plans = []
     while lines:
         count = draw.choice([1, 2, 4, 9])
-        data = stream(draw, lines[:count], 0.1)
+        data = stream(draw, lines[:count], 0.1, token)
         plans.append((draws.pieces(draw, data),
                       draw.choice(["whole"] * 6 + ["leave", "reset", "mute"])))
         lines = lines[count:]
@@ -266,11 +286,11 @@ def crowd(case):
     exam.assemble()
     if exam.halt:
         return
-    begun, length = draw.randrange(1, 12), exam.problem.plan.length
+    begun, length, token = draw.randrange(1, 12), exam.problem.plan.length, draws.token(draw)
     exam.replay("".join(f"begin {k + 1}\n" for k in range(begun)).encode())
-    plans = [plans_of(draw, begun, length) for _ in range(draw.randrange(2, 11))]
+    plans = [plans_of(draw, begun, length, token) for _ in range(draw.randrange(2, 11))]
     pauses = [draw.random() * 0.3 for _ in range(draw.choice([0, 0, 1, 2, 4]))]
-    scene = Crowd(case, exam)
+    scene = Crowd(case, exam, token)
     scene.start()
     callers = [Caller(scene, one) for one in plans]
     try:
@@ -281,14 +301,15 @@ def crowd(case):
                    "\n".join(repr(one) for caller in callers for one in caller.heard).encode())
     exam.replay(b"")
     exam.audit()
-    Facts(exam).judge(callers)
+    Facts(exam, token).judge(callers)
 
 
 class Facts:
     """What the replies of many callers claim, beside the journal that was left: each claim holds of
-    it whenever it was made."""
+    it whenever it was made. `token` is that of the server, empty if it has none."""
 
-    def __init__(self, exam):
+    def __init__(self, exam, token=b""):
+        self.token = token
         records, _ = reply_model.records_of(exam.case.read("journal"))
         self.model = reply_model.Model(exam.rules, records)
         self.model.take_first(len(records))
@@ -310,7 +331,7 @@ class Facts:
                 demand(silent or not whole, f"no response to {message}, but {shown(said)}")
                 return
             (status, body), rest = found
-            request = Fault if isinstance(message, Fault) else message_model.asked(message)
+            request = Fault if isinstance(message, Fault) else message_model.asked(message, self.token)
             text = said[:len(said) - len(rest)]
             if request is Fault:
                 demand(any(word and text == message_model.error(word, True)
@@ -330,6 +351,8 @@ class Facts:
         """Whether a response holds of the journal."""
         if request.kind == "exposure":
             return status == 200 and self.counts(body)
+        if request.kind == "health":
+            return status == 200 and self.is_healthy(body)
         if "error" in body:
             fits = reply_model.STATUS.get(body["error"]) == status
             return fits and self.refused(request, body["error"], body.get("value"))
@@ -376,6 +399,12 @@ class Facts:
         if word == "bad-response":
             return self.model.rules.categories[session.shown[step]] == value <= response
         return word == "wrong-step" and value <= min(step, len(session.responses))
+
+    def is_healthy(self, body):
+        """Whether the numbers are those of a beginning of the journal."""
+        busy, count = body.get("busy"), body.get("entries")
+        return (is_busy(busy) and isinstance(count, int) and 0 <= count <= self.model.taken
+                and body == {"busy": busy, **health_after(self.model, count)})
 
     def counts(self, body):
         """Whether the counts were those at some time: none is above that of the end."""
