@@ -258,8 +258,8 @@ class Pages(Serving):
     def test_the_responses_of_the_page_on_messages(self):
         with open(os.path.join(ROOT, "docs", "HTTP.md"), encoding="utf-8") as page:
             found = re.findall(r"^curl -i (?:-X (\w+) )?localhost:4710(\S+)(?: -d '(.*)')?\n(HTTP/1\.1 [^`]*)\n```", page.read(), re.M)
-        self.assertEqual([wanted.splitlines()[0] for *_, wanted in found], ["HTTP/1.1 201 Created", "HTTP/1.1 404 Not Found"])
-        port = self.port(self.start(connections=2))
+        self.assertEqual([wanted.splitlines()[0] for *_, wanted in found], ["HTTP/1.1 201 Created", "HTTP/1.1 200 OK", "HTTP/1.1 404 Not Found"])
+        port = self.port(self.start(connections=3))
         for method, path, body, wanted in found:
             self.assertEqual(self.response(port, method or "GET", path, body), wanted.replace("\n", "\r\n"))
         self.assertEqual(self.end()[0], 0)

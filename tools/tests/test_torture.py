@@ -180,7 +180,8 @@ class Messages(unittest.TestCase):
 
     def test_tokens(self):
         look = b"GET /sessions/7 HTTP/1.1\n%s\n"
-        for fields, wanted in ((b"", "unauthorized"), (b"authorization:\tBearer key \n", ("look", [7])),
+        for fields, wanted in ((b"", "unauthorized"), (b"authorization:\tBearer key \n", ("look", [7])), (b"Authorization:BEARER key\n", ("look", [7])),
+                               (b"Authorization: Bearer  key\n", "unauthorized"),
                                (b"Authorization: Bearer kex\n", "unauthorized"), (b"Authorization: Bearer ke\n", "unauthorized"),
                                (b"Authorization: Bearer keys\n", "unauthorized"), (b"Authorization: Basic key\n", "unauthorized"),
                                (b"Authorization: key\n", "unauthorized"), (b"Authorization: Bearer key\n" * 2, "unauthorized")):

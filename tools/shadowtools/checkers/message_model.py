@@ -178,7 +178,8 @@ ROUTES = [(rb"/sessions", b"POST", "begin", {"booking": 2**64 - 1}),
 
 def may_ask(message, token):
     """Whether a server with this token, which is empty where it has none, lets this message ask."""
-    return (not token or message.authorization == b"Bearer " + token
+    scheme, found = message.authorization[:7], message.authorization[7:]
+    return (not token or scheme.lower() == b"bearer " and found == token
             or (message.method, message.path) == (b"GET", b"/health"))
 
 

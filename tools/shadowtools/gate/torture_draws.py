@@ -268,11 +268,11 @@ def authorization(draw, right):
     if not right:
         return [b"Bearer x"] if draw.random() < 0.1 else []
     if draw.random() < 0.8:
-        return [good]
+        return [draw.choice([good, good, good, b"bearer " + right, b"BEARER " + right])]
     at = 7 + draw.choice([0, len(right) - 1, draw.randrange(len(right))])
     other = good[:at] + bytes([33 + (good[at] - 33 + 1) % 94]) + good[at + 1:]
     return draw.choice([[], [b""], [other], [other], [good[:-1]], [good + b"x"], [good[:7]], [right], [good[:6] + right],
-                        [b"Basic " + right], [b"bearer " + right], [b"Bearer  " + right], [good, good], [other, good], [good, b""]])
+                        [b"Basic " + right], [b"Bearer  " + right], [b"Bearer\t" + right], [good, good], [other, good], [good, b""]])
 
 
 def health(draw, right):
