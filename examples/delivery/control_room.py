@@ -27,7 +27,7 @@ class ControlRoom:
     """The figures of one examination. `lock` lets one caller at a time draw them."""
 
     def __init__(self, settings):
-        self.settings, self.server, self.lock, self.drawn = settings, ExamServer(settings.server, 2, settings.patience), threading.Lock(), None
+        self.settings, self.server, self.lock, self.drawn = settings, ExamServer(settings.server, 2, settings.patience, settings.server_token()), threading.Lock(), None
         documents = read_documents(settings.bank, settings.plan, settings.map, settings.program)
         self.names = [item["id"] for item in documents.map["items"]]
         self.desk, self.password = Desk(settings.store, settings.secret_of("secret")), settings.secret_of("staff_password")

@@ -148,7 +148,8 @@ class Delivery:
 
 
 def make_app(settings, server=None):
-    app, pages = Flask(__name__), Delivery(settings, server or ExamServer(settings.server, settings.connections, settings.patience))
+    client = server or ExamServer(settings.server, settings.connections, settings.patience, settings.server_token())
+    app, pages = Flask(__name__), Delivery(settings, client)
     app.config.update(
         SECRET_KEY=settings.secret_of("secret"), PERMANENT_SESSION_LIFETIME=COOKIE_SECONDS, MAX_CONTENT_LENGTH=4096,
         SESSION_COOKIE_NAME="__Host-delivery" if settings.secure_cookies else "delivery", SESSION_COOKIE_HTTPONLY=True,

@@ -1,7 +1,6 @@
 """The client of shadowd: each request may be sent again, and a reply that was lost is asked for again."""
 import http.client
 import json
-import os
 import threading
 import time
 from typing import NamedTuple
@@ -30,11 +29,10 @@ class Place(NamedTuple):
 
 
 class ExamServer:
-    """`connections` requests are under way at a time; others wait here, and not in the server's queue."""
+    """`connections` requests are under way at a time; others wait here, and not in the server's queue. With a token each has it."""
 
-    def __init__(self, address, connections, patience):
+    def __init__(self, address, connections, patience, token=""):
         self.address, self.room, self.patience = address, threading.BoundedSemaphore(connections), patience
-        token = os.environ.get("SHADOWD_TOKEN")
         self.fields = {"Connection": "close", **({"Authorization": f"Bearer {token}"} if token else {})}
 
     def begin(self, booking):

@@ -26,6 +26,7 @@ random() { "$python" -c 'import secrets; print(secrets.token_hex(32))'; }
 if [ ! -f "$folder/settings.toml" ]; then
     random > "$folder/secret"
     random | cut -c 1-16 > "$folder/staff_password"
+    random > "$folder/token"
     { cat "$here/../$example/$example.plan.txt"; echo "rate 2 3"; echo "key $(random)"; } > "$folder/plan.txt"
     "$python" - "$here/../$example/$example.map.json" "$folder" <<'MAP'  # a map has the digest of its plan
 import hashlib, json, sys
@@ -47,6 +48,7 @@ journal = "journal"
 store = "delivery.sqlite"
 secret = "secret"
 staff_password = "staff_password"
+token = "token"
 secure_cookies = false  # there is no TLS here, and only this machine reaches the addresses
 show_score = false
 SETTINGS
@@ -55,6 +57,7 @@ fi
 # Keeps shadowd up: after its end it starts again in five seconds, unless a new start meets the same fault.
 serve() {
     export SHADOWD_JOURNAL=$folder/journal SHADOWD_LISTEN=127.0.0.1:$((port + 2)) SHADOWD_WORKERS=16
+    if [ -f "$folder/token" ]; then SHADOWD_TOKEN=$(cat "$folder/token") && export SHADOWD_TOKEN; fi
     trap 'kill $child 2>/dev/null; exit 0' TERM
     while true; do
         "$program" serve "$here/../$example/$example.bank.csv" "$folder/plan.txt" &

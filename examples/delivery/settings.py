@@ -23,6 +23,7 @@ class Settings:
     store: str  # the application's own file: codes, seats, answers on their way
     secret: str  # file with the key of cookies and codes
     staff_password: str  # file with the password of the control room
+    token: str = ""  # file with the token of shadowd; else SHADOWD_TOKEN of the environment, if it is set
     connections: int = 12  # requests to shadowd at a time; with the control room's 2 fewer than its workers
     patience: float = 5.0  # seconds for a reply of shadowd, three times
     show_score: bool = False
@@ -38,8 +39,15 @@ class Settings:
             raise BadInput(f"{getattr(self, name)}: fewer than 16 characters")
         return found
 
+    def server_token(self):
+        """The token that requests to shadowd have, empty if they have none."""
+        found = self.secret_of("token") if self.token else os.environ.get("SHADOWD_TOKEN", "")
+        if not all(33 <= ord(one) <= 126 for one in found) or len(found) > 1024:
+            raise BadInput(f"{self.token or 'SHADOWD_TOKEN'}: a token has at most 1,024 characters of ASCII, and no space")
+        return found
 
-PATHS = ("program", "bank", "plan", "map", "texts", "journal", "store", "secret", "staff_password")
+
+PATHS = ("program", "bank", "plan", "map", "texts", "journal", "store", "secret", "staff_password", "token")
 
 
 def read_table(path):
@@ -54,6 +62,6 @@ def read_table(path):
 def read_settings(path):
     folder, found = os.path.dirname(os.path.abspath(path)), read_table(path)
     try:
-        return Settings(**found | {name: os.path.join(folder, found[name]) for name in PATHS if name in found})
+        return Settings(**found | {name: os.path.join(folder, found[name]) for name in PATHS if found.get(name)})
     except TypeError as error:
         raise BadInput(f"{path}: {error}") from error

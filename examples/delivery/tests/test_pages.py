@@ -1,6 +1,7 @@
 """The application without a browser: who may ask, what counts as an answer, and what a lost reply leaves."""
 import contextlib
 import csv
+import dataclasses
 import http.client
 import io
 import os
@@ -491,8 +492,18 @@ class WithProgram(Examination):
         self.assertEqual(client.place(), 1)
 
     def test_a_token(self):
-        """The client sends the token of its environment."""
+        """The client sends the token of the file that the settings name, else that of the environment, else none."""
         from exam_server import ExamServer
+        from settings import BadInput
+
+        def sent(**changed):
+            return ExamServer("127.0.0.1:1", 1, 1, dataclasses.replace(self.settings(), **changed).server_token()).fields.get("Authorization")
+
+        self.assertIsNone(sent())
         os.environ["SHADOWD_TOKEN"] = "t" * 20
         self.addCleanup(os.environ.pop, "SHADOWD_TOKEN")
-        self.assertEqual(ExamServer("127.0.0.1:1", 1, 1).fields["Authorization"], "Bearer " + "t" * 20)
+        self.assertEqual(sent(), "Bearer " + "t" * 20)
+        self.assertEqual(sent(token=self.write("token", "u" * 30 + "\n")), "Bearer " + "u" * 30)
+        for wrong in ("u" * 15, "two words of them", "u" * 1025):
+            with self.assertRaises(BadInput):
+                sent(token=self.write("token", wrong))
