@@ -8,8 +8,8 @@ usage: crowd.py PROGRAM FOLDER [--clients 500] [--every 20] [--seconds 60] [--wo
 Each client sends an answer every so many seconds. Beside them so many silent connections of one kind are open: that send `nothing`,
 `half-head`, `half-body`, that are `idle` after a reply, or that do not read (`deaf`). --vanished has so many connections of a machine that goes away without a
 word, a network namespace whose link is cut (it needs root), and one client beside them that asks all the time. --lines does each of these and ends with
-status 1 where a client waits longer than a second, or than the limit of a slow connection and a second. Without --texts the bank and the plan are those of the
-drill.
+status 1 where a client waits longer than a second beside nobody and beside connections that are silent between messages, or longer than the limits of all those
+that stop within one. Without --texts the bank and the plan are those of the drill.
 """
 import argparse
 import collections
@@ -35,8 +35,8 @@ SILENT = {
     "idle": request_bytes("GET", "/sessions/0"),
     "deaf": request_bytes("GET", "/exposure") * 20_000,
 }
-# The most seconds that a client may wait beside each kind: 5 is the limit of a slow connection, which its worker waits for.
-LONGEST = {"nothing": 1, "idle": 1, "half-head": 6, "half-body": 6, "deaf": 6}
+# The seconds that a connection of each kind may hold its worker, until the server has ended it. A worker waits for its own one after another.
+HOLDS = {"nothing": 0, "idle": 0, "half-head": 6, "half-body": 6, "deaf": 6}
 
 
 class Seat:
@@ -140,9 +140,8 @@ def crowd(asked, texts, folder, count, kind):
     beside = f"{count} of kind {kind}" if count else "nobody"
     print(f"| {beside} | {len(times)} | {share(times, 0.5):.1f} | {share(times, 0.99):.1f} | {max(times) * 1e3:.0f} "
           f"| {sum(t > 1 for t in times)} | {waiting} | {os.getloadavg()[0]:.1f} |", flush=True)
-    most = LONGEST[kind] if count else 1
-    # The clients that were sent their request in the last second may still wait.
-    return max(times) <= most and waiting <= asked.clients / asked.every * most
+    most = 1 + count * HOLDS[kind]
+    return max(times) <= most and waiting <= asked.clients / asked.every * most  # those that asked last may still wait
 
 
 def title(asked):
@@ -156,11 +155,11 @@ def title(asked):
 CLIENT = """
 import socket, sys, time
 made = [socket.create_connection(("{host}", {port}), 10) for _ in range({count})]
-for number, one in enumerate(made):
+for one in made:
     one.sendall({whole!r})
     one.recv(65536)
-    if number % 2:
-        one.sendall({part!r})
+for one in made[::2]:
+    one.sendall({part!r})
 print("ready", flush=True)
 time.sleep(3600)
 """
@@ -238,7 +237,7 @@ def vanished(asked, texts, folder, count, workers):
     print(f"\n{count} connections of a machine that vanished, {workers} workers, SHADOWD_IDLE {asked.idle}: {len(times)} replies to another client, "
           f"median {share(times, 0.5):.1f} ms, longest {max(times) * 1e3:.0f} ms; the connections "
           + (f"ended within {ended:.0f} s" if ended else "did not end"), flush=True)
-    return max(times) <= 6 and ended is not None
+    return max(times) <= 1 + HOLDS["half-head"] and ended is not None
 
 
 def lines(asked, texts, folder):
