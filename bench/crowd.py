@@ -223,7 +223,8 @@ def vanished(asked, texts, folder, count, workers):
             machine.connect(server.address[1], count)
             machine.vanish()
             begun, times, ended = time.monotonic(), [], None
-            while time.monotonic() < begun + asked.idle + 15:
+            until = begun + asked.idle + HOLDS["half-head"] * count + 15  # where one worker has all of them
+            while ended is None and time.monotonic() < until:
                 since = time.monotonic()
                 connection = Connection(server.address, 60)
                 connection.ask(request_bytes("GET", "/sessions/0"))
