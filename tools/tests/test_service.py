@@ -12,6 +12,7 @@ import time
 import unittest
 
 from common import PROGRAM, ROOT, Folder, needs_program
+from exam_client import children_of
 
 DATA = os.path.join(ROOT, "crates", "shadowd", "data")
 FILES = [os.path.join(DATA, name) for name in ("bank.csv", "plan.txt")]
@@ -61,9 +62,8 @@ class Service(Folder):
     def stop(self, server):
         """Ends a server, and what it runs where it is another command."""
         if server.poll() is None:
-            with open(f"/proc/{server.pid}/task/{server.pid}/children", encoding="ascii") as file:
-                for child in file.read().split():
-                    os.kill(int(child), signal.SIGKILL)
+            for child in children_of(server.pid):
+                os.kill(child, signal.SIGKILL)
             server.kill()
         if not server.stdout.closed:
             server.communicate(timeout=LIMIT)

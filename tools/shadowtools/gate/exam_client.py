@@ -7,7 +7,7 @@ import signal
 import socket
 import subprocess
 import time
-from typing import Any, Optional, Sequence, Tuple
+from typing import Any, List, Optional, Sequence, Tuple
 
 HEAD_END = b"\r\n\r\n"
 
@@ -85,6 +85,15 @@ class Connection:
         self.socket.close()
 
 
+def children_of(process: int) -> List[int]:
+    """The processes that a process runs, as far as the system tells."""
+    try:
+        with open(f"/proc/{process}/task/{process}/children", encoding="ascii") as file:
+            return list(map(int, file.read().split()))
+    except OSError:
+        return []
+
+
 class Server:
     """A process of `shadowd serve BANK PLAN` on a free port of the loopback address."""
 
@@ -134,9 +143,8 @@ class Server:
     def kill(self) -> None:
         """SIGKILL: the process has no time to do anything more, nor what it runs, if it is a command that runs the program."""
         if self.process.poll() is None:
-            with open(f"/proc/{self.process.pid}/task/{self.process.pid}/children", encoding="ascii") as file:
-                for child in file.read().split():
-                    os.kill(int(child), signal.SIGKILL)
+            for child in children_of(self.process.pid):
+                os.kill(child, signal.SIGKILL)
             self.process.send_signal(signal.SIGKILL)
         self.process.wait()
         self.process.stdout.close()
