@@ -263,7 +263,11 @@ class Watched(WithJournal):
         watch.start()
         self.addCleanup(watch.cancel)
         self.addCleanup(self.server.kill)
-        self.port = int(re.search(r"listening on [0-9.]+:(\d+)", self.server.stderr.readline()).group(1))
+        line = ""
+        while not (found := re.search(r"listening on [0-9.]+:(\d+)", line)):
+            line = self.server.stderr.readline()
+            self.assertNotEqual(line, "")
+        self.port = int(found.group(1))
 
     def asked(self, path, body):
         connection = http.client.HTTPConnection("127.0.0.1", self.port, timeout=LIMIT)

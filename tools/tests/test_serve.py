@@ -37,14 +37,22 @@ class Serving(Folder):
         if not self.server.stdout.closed:
             self.server.communicate(timeout=LIMIT)
 
-    def port(self, line):
+    def port(self, line, entries=0, sessions=0):
+        """The port, of the line on the address, which comes after this one on the journal that was read."""
+        read = f"shadowd: journal {self.path('journal')}: {entries} entries, {sessions} sessions, read "
+        self.assertRegex(line, rf"\A{re.escape(read)}\d+\.\d{{3}} seconds after the start\n\Z")
+        line = self.server.stderr.readline()
         found = re.fullmatch(r"shadowd: listening on 127\.0\.0\.1:(\d+), journal (.*)\n", line)
         self.assertIsNotNone(found, line)
         self.assertEqual(found.group(2), self.path("journal"))
         return int(found.group(1))
 
+    def last_line(self, entries, sessions):
+        """What standard error has at the end of a server."""
+        return f"shadowd: journal {self.path('journal')}: {entries} entries, {sessions} sessions at the end\n"
+
     def end(self):
-        """Status, standard output, and what standard error has after its first line."""
+        """Status, standard output, and what standard error has after the lines that were read."""
         said, errors = self.server.communicate(timeout=LIMIT)
         return self.server.returncode, said, errors
 
@@ -89,7 +97,7 @@ class Session(Serving):
         self.connection.close()
         status, said, errors = self.end()
         self.assertRegex(said, r"\Aentries 7 sessions 1 finished 1 proved 3 unproved 0 aside 0 nodes \d+\n\Z")
-        self.assertEqual((status, errors), (0, ""))
+        self.assertEqual((status, errors), (0, self.last_line(7, 1)))
         kept = self.journal()
         self.assertEqual(self.replay("begin 70", "answer 0 0 0", "answer 0 1 1", "answer 0 2 0", "exposure")[:5],
                          ["session 0 complete", "refused other 1", "refused other 0", "refused other 1", "exposure finished 1"])
@@ -283,7 +291,13 @@ class Ends(Serving):
 
     def test_no_connections_give_the_summary(self):
         self.port(self.start(connections=0))
-        self.assertEqual(self.end(), (0, "entries 0 sessions 0 finished 0 proved 0 unproved 0 aside 0 nodes 0\n", ""))
+        said = "entries 0 sessions 0 finished 0 proved 0 unproved 0 aside 0 nodes 0\n"
+        self.assertEqual(self.end(), (0, said, self.last_line(0, 0)))
+
+    def test_a_server_that_is_started_again_tells_what_it_read(self):
+        self.replay("begin 70", "answer 0 0 1", "begin 71")
+        self.port(self.start(connections=0), entries=6, sessions=2)
+        self.assertEqual(self.end()[2], self.last_line(6, 2))
 
 
 if __name__ == "__main__":
