@@ -266,15 +266,16 @@ class Health(Service):
         words = ["strace", "-f", "-o", log, "-e", "trace=fsync,fdatasync"]
         if shutil.which("strace") is None or subprocess.run([*words, "true"], stderr=subprocess.DEVNULL, check=False).returncode:
             self.skipTest("needs strace, which may trace")
-        self.asked(self.start(front=words))
+        port = self.start(workers=1, front=words)
+        opening = threads_that_sync(log)
+        self.assertEqual(self.begun(port, 70), 201)
+        first = opening.count(threads_that_sync(log)[len(opening)]) + 1  # strace counts the calls of each thread
         self.stop(self.server)
-        with open(log, encoding="utf-8") as file:
-            opening = len(re.findall(r"f(?:data)?sync\(", file.read()))
-        for last in ("+", f"..{opening + 3}"):
+        for last in ("+", f"..{first + 2}"):
             with self.subTest(last):
                 os.remove(self.path("journal"))
-                fault = f"inject=fsync,fdatasync:error=EIO:when={opening + 1}{last}"
-                port = self.start(front=[*words, "-e", fault])
+                fault = f"inject=fsync,fdatasync:error=EIO:when={first}{last}"
+                port = self.start(workers=1, front=[*words, "-e", fault])
                 self.assertEqual(self.asked(port)[0], 200)
                 self.assertEqual(self.begun(port, 70), 503)
                 found = [self.asked(port) for _ in range(6)]
@@ -288,6 +289,12 @@ class Health(Service):
                     self.assertIn(self.begun(port, 70), (200, 201))
                     self.assertEqual(self.asked(port)[1]["open"], 1)
                 self.stop(self.server)
+
+
+def threads_that_sync(log):
+    """The threads of the syncs in a trace, in order."""
+    with open(log, encoding="utf-8") as file:
+        return re.findall(r"(?m)^(\d+) +f(?:data)?sync\(", file.read())
 
 
 @needs_program

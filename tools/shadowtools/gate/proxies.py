@@ -117,14 +117,14 @@ def sessions(port, count, bookings):
     return sorted(t for client in clients for t in client.times), faults
 
 
-def server_in(folder, program, front=()):
+def server_in(folder, program, workers=WORKERS, front=()):
     """A server with a token over a new journal of a folder; `front` is a command that runs the program."""
     plan, journal = os.path.join(folder, "plan.txt"), os.path.join(folder, "journal")
     with open(os.path.join(DATA, "plan.txt"), encoding="ascii") as file, open(plan, "w", encoding="ascii") as made:
         made.write(file.read() + "sessions 65536\n")
     if os.path.exists(journal):
         os.remove(journal)
-    return Server([*front, program], os.path.join(DATA, "bank.csv"), plan, journal, WORKERS, token=TOKEN)
+    return Server([*front, program], os.path.join(DATA, "bank.csv"), plan, journal, workers, token=TOKEN)
 
 
 def tried(name, program, counts):
@@ -161,6 +161,23 @@ def status_by(port, message):
         connection.close()
 
 
+def threads_that_sync(log):
+    """The threads of the syncs in a trace, in order."""
+    with open(log, encoding="utf-8") as file:
+        return re.findall(r"(?m)^(\d+) +f(?:data)?sync\(", file.read())
+
+
+def first_sync_of_a_request(folder, program, front, log):
+    """Which sync of its thread the first one of a request is, with one worker: strace counts the calls of each thread."""
+    server = server_in(folder, program, 1, front)
+    try:
+        opening = threads_that_sync(log)
+        Connection(server.address, LIMIT).ask(bearing(begin(1), TOKEN))
+        return opening.count(threads_that_sync(log)[len(opening)]) + 1
+    finally:
+        server.kill()
+
+
 def comes_back(program):
     """One line on a server that HAProxy takes out while its disk fails; whether it was put in again."""
     with tempfile.TemporaryDirectory() as folder:
@@ -169,10 +186,8 @@ def comes_back(program):
         if shutil.which("strace") is None or subprocess.run([*front, "true"], stderr=subprocess.DEVNULL).returncode:
             print("haproxy with a disk that fails: passed over, strace is not there or may not trace")
             return True
-        server_in(folder, program, front).kill()
-        with open(log, encoding="utf-8") as file:
-            first = len(re.findall(r"f(?:data)?sync\(", file.read())) + 1
-        server = server_in(folder, program, [*front, "-e", f"inject=fsync,fdatasync:error=EIO:when={first}..{first + FAILING - 1}"])
+        first = first_sync_of_a_request(folder, program, front, log)
+        server = server_in(folder, program, 1, [*front, "-e", f"inject=fsync,fdatasync:error=EIO:when={first}..{first + FAILING - 1}"])
         process = None
         try:
             process, port = start("haproxy", folder, server.address[1])
