@@ -23,7 +23,7 @@ from problems import Draws, drill
 
 HERE = os.path.dirname(os.path.abspath(__file__))
 sys.path.insert(0, os.path.join(HERE, "..", "tools"))
-from exam_client import Connection, Server, begin  # noqa: E402
+from exam_client import Connection, Server, answer, bearing, begin  # noqa: E402
 from proxies import PROXIES, start  # noqa: E402
 
 WORKERS = 16
@@ -157,7 +157,7 @@ def kinds(program, texts, folder, load, asked):
     try:
         kind_row(server, load, "begins and answers that add entries", False, asked.sessions, ("sessions", "0"))
         connection = Connection(server.address)
-        recorded = [connection.ask(ANSWER_ZERO % value) for value in range(2)]
+        recorded = [connection.ask(bearing(answer(0, 0, value), asked.token)) for value in range(2)]
         right = next(value for value, (status, _) in enumerate(recorded) if status == 200)
         for name, close, (method, path, body) in KINDS:
             kind_row(server, load, name, close, asked.sessions * 10, (method, path, body % right if "%d" in body else body))
@@ -166,9 +166,6 @@ def kinds(program, texts, folder, load, asked):
     entries, size = entries_of(f"{folder}/journal")
     took = seconds_of_two_syncs(f"{folder}/records", size // entries)
     print(f"\ntwo syncs of a record of {size // entries} bytes: {took * 1e6:.0f} us; the sessions have {entries} records")
-
-
-ANSWER_ZERO = b'POST /sessions/0/answers HTTP/1.1\r\nContent-Length: 23\r\n\r\n{"step":0,"response":%d}'
 
 
 def kind_row(server, load, name, close, count, kind):
@@ -221,14 +218,14 @@ def memory_of(process):
     return [int(said[name].split()[0]) for name in ("VmRSS", "VmHWM")]
 
 
-def size(program, folder):
+def size(program, folder, token):
     texts = texts_in(folder, *greatest())
     server = Server(program, *texts, f"{folder}/journal", WORKERS)
     try:
         empty, _ = memory_of(server.process)
         connection = Connection(server.address)
         for booking in range(1000):
-            status, place = connection.ask(begin(booking))
+            status, place = connection.ask(bearing(begin(booking), token))
             if status != 201:
                 raise RuntimeError(f"status {status}: {place}")
         now, most = memory_of(server.process)
@@ -258,7 +255,7 @@ def main():
         os.environ["SHADOWD_TOKEN"] = asked.token
     with tempfile.TemporaryDirectory(dir=asked.folder) as folder:
         if asked.size:
-            size(program, folder)
+            size(program, folder, asked.token)
             return
         texts, load = texts_of(folder, asked), Load(folder, asked.token)
         if asked.kinds:
