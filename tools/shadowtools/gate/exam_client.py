@@ -26,8 +26,8 @@ def request_bytes(method: str, path: str, body: Any = None) -> bytes:
 
 
 def bearing(message: bytes, token: str) -> bytes:
-    """The same message with a token."""
-    field = f"Authorization: Bearer {token}\r\n".encode("ascii")
+    """The same message with a token, if there is one."""
+    field = f"Authorization: Bearer {token}\r\n".encode("ascii") if token else b""
     return message.replace(b"Host: exam\r\n", b"Host: exam\r\n" + field, 1)
 
 
