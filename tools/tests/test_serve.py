@@ -53,7 +53,8 @@ class Serving(Folder):
 
     def end(self):
         """Status, standard output, and what standard error has after the lines that were read."""
-        said, errors = self.server.communicate(timeout=LIMIT)
+        errors = self.server.stderr.read()  # `communicate` leaves out what `readline` has in store
+        said, _ = self.server.communicate(timeout=LIMIT)
         return self.server.returncode, said, errors
 
     def replay(self, *requests):
