@@ -120,8 +120,8 @@ class Server:
                 found = re.search(rb"listening on ([0-9.]+):(\d+)", said)
                 if found:
                     return found.group(1).decode("ascii"), int(found.group(2))
-                if not more:
-                    break
+                if not more:  # it has ended
+                    raise RuntimeError(f"the server ended with status {self.process.wait()}: {said.decode('utf-8', 'replace')}")
         self.kill()
         raise RuntimeError(f"the server did not begin: {said.decode('utf-8', 'replace')}")
 
