@@ -98,7 +98,7 @@ module _ {D : Type 0} (b : Tables) (plan : Plan) (base : List ℕ) (was : Handed
         grows = omega (arith, kept.grows, grows);
         backed = record {
           records = s.records;
-          are = subst (λ (H : List Entry). AreRecordsOf b plan H s.records) (sym e) s.are;
+          are = subst (λ (H : List Entry). AreRecordsOf b plan 2 H s.records) (sym e) s.are;
           last = r;
           is_entry = refl;
           spells = spells;
@@ -190,7 +190,7 @@ module _ {D : Type 0} (b : Tables) (plan : Plan) (base : List ℕ) (was : Handed
         grows = omega (arith, kept.grows, grows);
         backed = record {
           records = u.records;
-          are = subst (λ (H : List Entry). AreRecordsOf b plan H u.records) (sym e) u.are;
+          are = subst (λ (H : List Entry). AreRecordsOf b plan 2 H u.records) (sym e) u.are;
           last = u.last;
           is_entry = u.is_entry;
           spells = u.spells;

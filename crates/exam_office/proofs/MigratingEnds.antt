@@ -38,8 +38,8 @@ module _ (b : Tables) (plan : Plan) (file : List ℕ) (old : IsOldFile b plan fi
   old_stands = record { records = old.records; are = old.are; version = 1; holds = old.holds }
 
   -- its records are those of the history that it represents
-  pub old_records : (H : List Entry) → Stands b plan H file → AreRecordsOf b plan H old.records
-  old_records H s = subst (λ (G : List Entry). AreRecordsOf b plan G old.records) (one_history b plan old.H H file old_stands s) old.are
+  pub old_records : (H : List Entry) → Stands b plan H file → AreRecordsOf b plan 1 H old.records
+  old_records H s = subst (λ (G : List Entry). AreRecordsOf b plan 1 G old.records) (one_history b plan old.H H file old_stands s) old.are
 
   module _ (H : List Entry) (s : Stands b plan H file) where
     -- the moments up to the switch

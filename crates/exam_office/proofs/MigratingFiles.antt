@@ -21,8 +21,9 @@ use Rattle.exam_office.specs.declared.fault.OpenFault.TheVariants.{Disk as OfDis
 use Rattle.exam_office.specs.declared.migrating.MigrateFault.{MigrateFault}
 use Rattle.exam_office.specs.declared.migrating.MigrateFault.TheVariants.{Disk, Memory}
 use Rattle.exam_office.specs.Migrating.{IsImageOrStands, migrate_fault}
+use Rattle.exam_office.proofs.Records.{as_second}
 
-module _ (b : Tables) (plan : Plan) (H : List Entry) (R : List Record) (are : AreRecordsOf b plan H R) where
+module _ (b : Tables) (plan : Plan) (H : List Entry) (R : List Record) (are : AreRecordsOf b plan 1 H R) where
   no_records : (Q : List Record) → map (payload_in b plan 1) Q ≡ [] → map payload_of Q ≡ []
   no_records [] e = refl
   no_records (r ∷ Q) e = absurd (cc)
@@ -30,11 +31,11 @@ module _ (b : Tables) (plan : Plan) (H : List Entry) (R : List Record) (are : Ar
   -- the old records count
   pub unmoved_stands : (file : List ℕ) → IsUnmoved (map (payload_in b plan 1) R) file → Stands b plan H file
   unmoved_stands file (inl first) = record { records = R; are = are; version = 1; holds = first }
-  unmoved_stands file (inr none) = record { records = R; are = are; version = 2; holds = none.1 ∙ ap (λ (ps : List (List ℕ)). Some (second ps)) (sym (no_records R none.0)) }
+  unmoved_stands file (inr none) = record { records = R; are = as_second b plan H R are; version = 2; holds = none.1 ∙ ap (λ (ps : List (List ℕ)). Some (second ps)) (sym (no_records R none.0)) }
 
   -- the new records count
   pub moved_stands : (file : List ℕ) → contents file ≡ Some (second (map payload_of R)) → StandsSecond b plan H file
-  moved_stands file holds = record { stands = record { records = R; are = are; version = 2; holds = holds }; second = refl }
+  moved_stands file holds = record { stands = record { records = R; are = as_second b plan H R are; version = 2; holds = holds }; second = refl }
 
   pub either_stands : (file : List ℕ) → GivesEither (map (payload_in b plan 1) R) (map payload_of R) file → Stands b plan H file
   either_stands file (inl old) = unmoved_stands file old

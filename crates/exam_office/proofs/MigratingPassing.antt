@@ -62,7 +62,7 @@ module _ (b : Tables) (plan : Plan) (start : ℕ) (tells : Bool) (file : List �
     unfolding taken_more
     measured_more p given1 at1 at_is more now second one =
         let R = so_far.taken.records in
-        let taken : IsTaken b plan 1 H p one.last.entry = record { last = one.last; is_entry = refl; spells = one.spells; spelling = one.spelling; may = one.may } in
+        let taken : IsTaken b plan 1 H p one.last.entry = record { last = one.last; is_entry = refl; spells = one.spells; unlisted = λ _. one.unlisted; spelling = one.spelling; may = one.may } in
         let all : map payload_of (R ++ one.last ∷ []) ≡ map payload_of R ++ payload_of one.last ∷ [] = map-append payload_of R (one.last ∷ []) in
         subst (λ (G : List Entry). AreMeasured b plan start tells file given1 at1 G (total + (5 + length second))) (sym one.entries) (record {
           taken = taken_more b plan 1 start tells file H given at so_far.taken p given1 at1 at_is more one.last.entry taken;

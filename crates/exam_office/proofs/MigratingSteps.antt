@@ -9,13 +9,12 @@ use Rattle.exam_edge.specs.Images.{Account}
 use Rattle.history_model.specs.declared.entry.Entry.{Entry}
 use Rattle.history_model.specs.Judging.{Record, MayFollow, entries_of, Backed, more}
 use Rattle.history_model.proofs.RunParts.{each_may_follow}
-use Rattle.exam_records.specs.Shape.{IsRecord}
 use Rattle.exam_records.specs.Spelling.{payload_of}
 use Rattle.answer_journal.specs.Frames.{frames}
 use Rattle.answer_journal.specs.Moving.{IsMovingWith}
 use Rattle.answer_journal.specs.Payload.{end_of}
 use Rattle.answer_journal.specs.Walk.{IsJust}
-use Rattle.exam_office.specs.Files.{payload_in, AreRecordsOf}
+use Rattle.exam_office.specs.Files.{payload_in, IsRecordIn, AreRecordsOf}
 use Rattle.exam_office.specs.Migrating.{IsMovedUpTo, IsTakenOver, moved_file}
 use Rattle.exam_office.proofs.Backing.{first_below, same_run}
 use Rattle.exam_office.proofs.MigratingLengths.{end_at, end_more, frames_length, frames_one, gate_ends, is_before, moved_size}
@@ -33,10 +32,10 @@ last_same [] r q e = cc
 last_same (x ∷ R) r q e = let rest : R ++ r ∷ [] ≡ R ++ q ∷ [] = cc in last_same R r q rest
 
 module _ (b : Tables) (plan : Plan) where
-  low : (R done : List Record) (r : Record) (rest : List Record) → AllByRecursion IsRecord R → Backed b plan R → R ≡ done ++ r ∷ rest → first_band b plan < 8
+  low : (R done : List Record) (r : Record) (rest : List Record) → AllByRecursion (IsRecordIn 1) R → Backed b plan R → R ≡ done ++ r ∷ rest → first_band b plan < 8
   low [] [] r rest spells backed e = absurd (cc)
   low [] (q ∷ done) r rest spells backed e = absurd (cc)
-  low (x ∷ R) done r rest spells backed e = first_below b plan x R spells.0 backed
+  low (x ∷ R) done r rest spells backed e = first_below b plan x R spells.0.is_record backed
 
 -- the next record that is to be moved
 pub record IsNextMoved (b : Tables) (plan : Plan) (R done : List Record) (entries : List Entry) : Type 0 where
@@ -44,9 +43,9 @@ pub record IsNextMoved (b : Tables) (plan : Plan) (R done : List Record) (entrie
   pub after : List Record
   pub is : R ≡ done ++ next ∷ after
   pub low : first_band b plan < 8
-  pub spells : IsRecord next
+  pub spells : IsRecordIn 1 next
   pub backed : Backed b plan done
-  pub all_spell : AllByRecursion IsRecord (done ++ next ∷ [])
+  pub all_spell : AllByRecursion (IsRecordIn 1) (done ++ next ∷ [])
   pub may : MayFollow b plan entries next.entry next.tree
   pub payloads : map (payload_in b plan 1) R ≡ map (payload_in b plan 1) done ++ payload_in b plan 1 next ∷ map (payload_in b plan 1) after
 
@@ -56,16 +55,16 @@ module _ (b : Tables) (plan : Plan) (R done : List Record) (content waiting : Li
 
   is_next : (r : Record) (rest : List Record) → R ≡ done ++ r ∷ rest → IsNextMoved b plan R done entries
   is_next r rest is =
-      let spell : AllByRecursion IsRecord (done ++ r ∷ rest) = subst (AllByRecursion IsRecord) is m.are.spell in
+      let spell : AllByRecursion (IsRecordIn 1) (done ++ r ∷ rest) = subst (AllByRecursion (IsRecordIn 1)) is m.are.spell in
       let so = each_may_follow b plan done r rest (subst (Backed b plan) is m.are.backed) in
       record {
         next = r;
         after = rest;
         is = is;
         low = low b plan R done r rest m.are.spell m.are.backed is;
-        spells = one_of IsRecord done r rest spell;
+        spells = one_of (IsRecordIn 1) done r rest spell;
         backed = so.0;
-        all_spell = all_before IsRecord done r rest spell r (one_of IsRecord done r rest spell);
+        all_spell = all_before (IsRecordIn 1) done r rest spell r (one_of (IsRecordIn 1) done r rest spell);
         may = subst (λ (G : List Entry). MayFollow b plan G r.entry r.tree) (sym m.entries_are) so.1;
         payloads = ap (map (payload_in b plan 1)) is ∙ map-append (payload_in b plan 1) done (r ∷ rest);
       }
@@ -116,7 +115,7 @@ module _ (b : Tables) (plan : Plan) (R done : List Record) (content waiting : Li
           let may_next : MayFollow b plan (entries_of done) n.next.entry n.next.tree = subst (λ (G : List Entry). MayFollow b plan G n.next.entry n.next.tree) m.entries_are n.may in
           last_same done taken.last n.next
           (same_run b plan 1 (done ++ taken.last ∷ []) (done ++ n.next ∷ []) (more done taken.last n.backed may) (more done n.next n.backed may_next)
-          (all_before IsRecord done n.next [] n.all_spell taken.last taken.spells) n.all_spell
+          (all_before (IsRecordIn 1) done n.next [] n.all_spell taken.last (record { is_record = taken.spells; unlisted = λ _. taken.unlisted })) n.all_spell
           (map-append (payload_in b plan 1) done (taken.last ∷ []) ∙ (ap (λ (p : List ℕ). map (payload_in b plan 1) done ++ p ∷ []) taken.spelling ∙ sym (map-append (payload_in b plan 1) done (n.next ∷ [])))))
 
       pub second_next : second ≡ payload_of n.next

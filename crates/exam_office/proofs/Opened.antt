@@ -33,7 +33,7 @@ use Rattle.exam_office.specs.Running.{HandedDisk}
 use Rattle.exam_office.specs.Opening.{IsTaken, AreTaken, IsNotTaken, IsRefusedFile, IsReadAnswer, IsOpenAnswer}
 use Rattle.exam_office.specs.declared.vectors.Vectors.{Vectors}
 use Rattle.exam_office.specs.KeptVectors.{HasRoom, AreKeptVectors, AreOf, IsTakenWith, AreTakenWith}
-use Rattle.exam_office.proofs.Records.{are_more, stands_by}
+use Rattle.exam_office.proofs.Records.{are_more_in, stands_by}
 use Rattle.exam_office.proofs.Marking.{reach-push, faults-push}
 
 -- these payloads of this version
@@ -88,7 +88,7 @@ module _ (b : Tables) (plan : Plan) (version start : ℕ) (tells : Bool) (file :
         map-append (payload_in b plan version) so_far.records (one.last ∷ []) ∙ ap (λ (q : List ℕ). map (payload_in b plan version) so_far.records ++ q ∷ []) one.spelling in
         record {
           records = so_far.records ++ one.last ∷ [];
-          are = subst (λ (e : Entry). AreRecordsOf b plan (H ++ e ∷ []) (so_far.records ++ one.last ∷ [])) one.is_entry (are_more b plan H so_far.records so_far.are one.last one.spells one.may);
+          are = subst (λ (e : Entry). AreRecordsOf b plan version (H ++ e ∷ []) (so_far.records ++ one.last ∷ [])) one.is_entry (are_more_in b plan H version so_far.records so_far.are one.last (record { is_record = one.spells; unlisted = one.unlisted }) one.may);
           bytes = λ told. now ∙ (ap (λ (ps : List (List ℕ)). ps ++ p ∷ []) (so_far.bytes told) ∙ sym (more told));
           place = λ told. at_is ∙ (ap (λ (k : ℕ). k + 5 + length p) (so_far.place told) ∙ (sym (end-push start (map (payload_in b plan version) so_far.records) p) ∙ ap (end_of start) (sym now)));
         }
@@ -121,7 +121,7 @@ module _ (b : Tables) (plan : Plan) (version start : ℕ) (tells : Bool) (file :
 
     pub stood : IsTrue tells → version ≡ (counted_in file).version → contents file ≡ Some (counted_in file) → first_payloads given file ≡ (counted_in file).payloads → Stands b plan H file
     stood told version_is gives all =
-        stands_by b plan H so_far.records so_far.are version file
+        stands_by b plan H version so_far.records so_far.are file
         (gives ∙ ap Some (counted_is (counted_in file) version (map (payload_in b plan version) so_far.records) (sym version_is) (sym (all_taken told all))))
 
     -- the same with what its record gives

@@ -11,7 +11,7 @@ use Rattle.history_model.specs.Judging.{MayFollow, Record, entries_of, Backed, m
 use Rattle.exam_records.specs.Shape.{GoesWith, IsRecord}
 use Rattle.exam_records.specs.Spelling.{payload_of}
 use Rattle.answer_journal.specs.Versions.{contents, second, HoldsOrOneMore}
-use Rattle.exam_office.specs.Files.{counted_of, AreRecordsOf, Stands, StandsSecond}
+use Rattle.exam_office.specs.Files.{counted_of, IsRecordIn, AreRecordsOf, Stands, StandsSecond}
 use Rattle.exam_office.specs.Writing.{IsWriting}
 
 -- a record that may follow has a tree if its entry needs one, with as many nodes as its entry has
@@ -31,16 +31,36 @@ all-push : (P : Record → Type 0) (R : List Record) (r : Record) → AllByRecur
 all-push P [] r all here = (here, tt)
 all-push P (q ∷ R) r all here = (all.0, all-push P R r all.1 here)
 
-module _ (b : Tables) (plan : Plan) (H : List Entry) (R : List Record) (are : AreRecordsOf b plan H R) where
-  pub are_more : (r : Record) → IsRecord r → MayFollow b plan H r.entry r.tree → AreRecordsOf b plan (H ++ r.entry ∷ []) (R ++ r ∷ [])
-  are_more r spells may = record {
-    spell = all-push IsRecord R r are.spell spells;
+module _ (b : Tables) (plan : Plan) (H : List Entry) (version : ℕ) (R : List Record) (are : AreRecordsOf b plan version H R) where
+  pub are_more_in : (r : Record) → IsRecordIn version r → MayFollow b plan H r.entry r.tree → AreRecordsOf b plan version (H ++ r.entry ∷ []) (R ++ r ∷ [])
+  are_more_in r spells may = record {
+    spell = all-push (IsRecordIn version) R r are.spell spells;
     backed = more R r are.backed (subst (λ (G : List Entry). MayFollow b plan G r.entry r.tree) (sym are.entries) may);
     entries = map-append (λ (q : Record). q.entry) R (r ∷ []) ∙ ap (λ (G : List Entry). G ++ r.entry ∷ []) are.entries;
   }
 
-  pub stands_by : (version : ℕ) (file : List ℕ) → contents file ≡ Some (counted_of b plan version R) → Stands b plan H file
-  stands_by version file holds = record { records = R; are = are; version = version; holds = holds }
+  pub stands_by : (file : List ℕ) → contents file ≡ Some (counted_of b plan version R) → Stands b plan H file
+  stands_by file holds = record { records = R; are = are; version = version; holds = holds }
+
+-- a record of the second version
+pub in_second : (r : Record) → IsRecord r → IsRecordIn 2 r
+in_second r spells = record { is_record = spells; unlisted = λ e. absurd (let clash : 2 ≡ 1 = e in cc) }
+
+pub all_in_second : (R : List Record) → AllByRecursion IsRecord R → AllByRecursion (IsRecordIn 2) R
+all_in_second [] all = tt
+all_in_second (r ∷ R) all = (in_second r all.0, all_in_second R all.1)
+
+all_second : (R : List Record) → AllByRecursion (IsRecordIn 1) R → AllByRecursion (IsRecordIn 2) R
+all_second [] all = tt
+all_second (r ∷ R) all = (in_second r all.0.is_record, all_second R all.1)
+
+-- records of the first version are records of the second
+pub as_second : (b : Tables) (plan : Plan) (H : List Entry) (R : List Record) → AreRecordsOf b plan 1 H R → AreRecordsOf b plan 2 H R
+as_second b plan H R are = record { spell = all_second R are.spell; backed = are.backed; entries = are.entries }
+
+module _ (b : Tables) (plan : Plan) (H : List Entry) (R : List Record) (are : AreRecordsOf b plan 2 H R) where
+  pub are_more : (r : Record) → IsRecord r → MayFollow b plan H r.entry r.tree → AreRecordsOf b plan 2 (H ++ r.entry ∷ []) (R ++ r ∷ [])
+  are_more r spells may = are_more_in b plan H 2 R are r (in_second r spells) may
 
   pub stands_so : (file : List ℕ) → contents file ≡ Some (second (map payload_of R)) → StandsSecond b plan H file
   stands_so file holds = record { stands = record { records = R; are = are; version = 2; holds = holds }; second = refl }

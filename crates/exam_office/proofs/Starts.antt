@@ -51,7 +51,7 @@ start_found b plan H session booking eligible none number within is_drawn = (
       number = record { next = number; within = within };
       not_booked = sym none;
       drawn = subst (λ (n : ℕ). AreDrawn b plan H n eligible) (sym number) is_drawn;
-      no_list = refl;
+      listed = tt;
     },
   ),
   held_then H session booking eligible (sym none),

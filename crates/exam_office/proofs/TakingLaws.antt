@@ -4,10 +4,10 @@ use Rattle.bank_tables.specs.Tables.{Tables}
 use Rattle.form_model.specs.Plan.{Plan}
 use Rattle.history_model.specs.declared.entry.Entry.{Entry}
 use Rattle.history_model.specs.declared.illegal.Illegal.{Illegal}
-use Rattle.history_model.specs.declared.illegal.Illegal.TheVariants.{NotNumber, Booked, NotDrawn, HasList, NoSession, NotPending, IsAside, NotStep, NotBand, NotForm, NotItem, NotSpent, Tree, NotWaiting, BadResponse, Ended}
+use Rattle.history_model.specs.declared.illegal.Illegal.TheVariants.{NotNumber, Booked, NotDrawn, NoItem, NotWithout, NoSession, NotPending, IsAside, NotStep, NotBand, NotForm, NotItem, NotSpent, Tree, NotWaiting, BadResponse, Ended}
 use Rattle.history_model.specs.Judging.{Record, MayFollow}
 use Rattle.history_model.specs.Reasons.{IsIllegal}
-use Rattle.exam_records.specs.Shape.{IsRecord}
+use Rattle.exam_records.specs.Shape.{HasNoList, IsRecord}
 use Rattle.exam_office.specs.declared.fault.OpenFault.{OpenFault}
 use Rattle.exam_office.specs.declared.fault.OpenFault.TheVariants.{Journal as OfJournal, Version, BadRecord, BadTree, Illegal as NotLegal, Disk, Memory}
 use Rattle.exam_office.specs.Files.{payload_in}
@@ -20,7 +20,8 @@ not_following b plan H at last (NotSpent nodes) why = record { reason = NotSpent
 not_following b plan H at last (NotNumber n) why = record { reason = NotNumber n; illegal = why; is = refl }
 not_following b plan H at last (Booked n) why = record { reason = Booked n; illegal = why; is = refl }
 not_following b plan H at last (NotDrawn n) why = record { reason = NotDrawn n; illegal = why; is = refl }
-not_following b plan H at last HasList why = record { reason = HasList; illegal = why; is = refl }
+not_following b plan H at last (NoItem n) why = record { reason = NoItem n; illegal = why; is = refl }
+not_following b plan H at last (NotWithout breach) why = record { reason = NotWithout breach; illegal = why; is = refl }
 not_following b plan H at last (NoSession n) why = record { reason = NoSession n; illegal = why; is = refl }
 not_following b plan H at last (NotPending p) why = record { reason = NotPending p; illegal = why; is = refl }
 not_following b plan H at last IsAside why = record { reason = IsAside; illegal = why; is = refl }
@@ -32,8 +33,8 @@ not_following b plan H at last (NotWaiting p) why = record { reason = NotWaiting
 not_following b plan H at last (BadResponse n) why = record { reason = BadResponse n; illegal = why; is = refl }
 not_following b plan H at last (Ended p) why = record { reason = Ended p; illegal = why; is = refl }
 
-pub taken_so : (b : Tables) (plan : Plan) (version : ℕ) (H : List Entry) (payload : List ℕ) (rec : Record) → IsRecord rec → payload_in b plan version rec ≡ payload → MayFollow b plan H rec.entry rec.tree → IsTaken b plan version H payload rec.entry
-taken_so b plan version H payload rec is spelling may = record { last = record { entry = rec.entry; tree = rec.tree }; is_entry = refl; spells = is; spelling = spelling; may = may }
+pub taken_so : (b : Tables) (plan : Plan) (version : ℕ) (H : List Entry) (payload : List ℕ) (rec : Record) → IsRecord rec → (version ≡ 1 → HasNoList rec.entry) → payload_in b plan version rec ≡ payload → MayFollow b plan H rec.entry rec.tree → IsTaken b plan version H payload rec.entry
+taken_so b plan version H payload rec is unlisted spelling may = record { last = record { entry = rec.entry; tree = rec.tree }; is_entry = refl; spells = is; unlisted = unlisted; spelling = spelling; may = may }
 
 module _ (b : Tables) (plan : Plan) (version : ℕ) (H : List Entry) (at : ℕ) (payload : List ℕ) (rec : Record) (reads : IsReadAs b plan version H payload rec) where
   pub not_taken_so : (fault : OpenFault) → IsNotFollowing b plan H at rec fault → IsNotTaken b plan version H at payload fault

@@ -6,13 +6,19 @@ use Rattle.form_model.specs.Plan.{Plan}
 use Rattle.serving_model.specs.Seats.{first_band}
 use Rattle.history_model.specs.declared.entry.Entry.{Entry}
 use Rattle.history_model.specs.Judging.{Record, entries_of, Backed}
-use Rattle.exam_records.specs.Shape.{IsRecord}
+use Rattle.exam_records.specs.Shape.{HasNoList, IsRecord}
 use Rattle.exam_records.specs.Spelling.{payload_of, old_payload_of}
 use Rattle.answer_journal.specs.Versions.{Counted, contents}
 
--- the records of a history: each has a spelling and may follow the entries before it
-pub record AreRecordsOf (b : Tables) (plan : Plan) (H : List Entry) (R : List Record) : Type 0 where
-  pub spell : AllByRecursion IsRecord R
+-- a record that has a spelling in a version: in the first no start has a list
+pub record IsRecordIn (version : ℕ) (r : Record) : Type 0 where
+  pub is_record : IsRecord r
+  pub unlisted : version ≡ 1 → HasNoList r.entry
+
+-- the records of a history in a version: each has a spelling and may follow the entries before it
+pub record AreRecordsOf (b : Tables) (plan : Plan) (version : ℕ) (H : List Entry)
+    (R : List Record) : Type 0 where
+  pub spell : AllByRecursion (IsRecordIn version) R
   pub backed : Backed b plan R
   pub entries : entries_of R ≡ H
 
@@ -32,8 +38,8 @@ counted_of b plan version R =
 -- version of its records
 pub record Stands (b : Tables) (plan : Plan) (H : List Entry) (file : List ℕ) : Type 0 where
   pub records : List Record
-  pub are : AreRecordsOf b plan H records
   pub version : ℕ
+  pub are : AreRecordsOf b plan version H records
   pub holds : contents file ≡ Some (counted_of b plan version records)
 
 -- a file represents a history by records of the second version, the only ones that an office

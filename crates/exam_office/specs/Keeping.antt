@@ -22,7 +22,7 @@ use Rattle.exam_office.specs.Running.{HandedDisk}
 pub record IsSure {D : Type 0} (b : Tables) (plan : Plan) (H : List Entry)
     (journal : JournalState D) : Type 0 where
   pub records : List Record
-  pub are : AreRecordsOf b plan H records
+  pub are : AreRecordsOf b plan 2 H records
   pub ready : IsReady journal
   pub holds : IsTrue (tells_of journal) → payloads_of journal ≡ map payload_of records
 
@@ -31,7 +31,7 @@ pub record IsUnsure {D : Type 0} (b : Tables) (plan : Plan) (marks : List Mark) 
     (room : ℕ)
     (journal : JournalState D) : Type 0 where
   pub records : List Record
-  pub are : AreRecordsOf b plan (history marks) records
+  pub are : AreRecordsOf b plan 2 (history marks) records
   pub last : Record
   pub is_entry : last.entry ≡ entry
   pub spells : IsRecord last

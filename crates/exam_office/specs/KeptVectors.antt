@@ -56,7 +56,7 @@ pub record AreKeptVectors {D : Type 0} (b : Tables) (plan : Plan) (H : List Entr
     (journal : JournalState D) (doubt : Option Entry)
     (each : List (Option Multipliers)) (new : Option NewVector) : Type 0 where
   pub records : List Record
-  pub are : AreRecordsOf b plan H records
+  pub are : AreRecordsOf b plan 2 H records
   pub last : Option Record
   pub holds : Holds b plan H journal records doubt last
   pub each_is : AreVectorsOf b plan records each

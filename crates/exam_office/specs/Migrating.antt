@@ -5,7 +5,6 @@ use Rattle.form_model.specs.Plan.{Plan}
 use Rattle.exam_edge.specs.Images.{Account, IsImage, IsSettled}
 use Rattle.history_model.specs.declared.entry.Entry.{Entry}
 use Rattle.history_model.specs.Judging.{Record, MayFollow, entries_of}
-use Rattle.exam_records.specs.Shape.{IsRecord}
 use Rattle.exam_records.specs.Spelling.{payload_of}
 use Rattle.answer_journal.specs.Frames.{shadowj1, frames, front}
 use Rattle.answer_journal.specs.Moving.{IsMovingWith}
@@ -17,6 +16,7 @@ use Rattle.exam_office.specs.declared.fault.OpenFault.TheVariants.{Disk as OfDis
 use Rattle.exam_office.specs.declared.migrating.Moved.{Moved}
 use Rattle.exam_office.specs.declared.migrating.MigrateFault.{MigrateFault}
 use Rattle.exam_office.specs.declared.migrating.MigrateFault.TheVariants.{Open, Full, Disk, Memory}
+use Rattle.exam_records.specs.Shape.{HasNoList, IsRecord}
 use Rattle.exam_office.specs.Files.{payload_in, counted_of, AreRecordsOf, Stands, StandsSecond}
 use Rattle.exam_office.specs.Opening.{AreTaken, IsReadAnswer}
 
@@ -24,7 +24,7 @@ use Rattle.exam_office.specs.Opening.{AreTaken, IsReadAnswer}
 pub record IsOldFile (b : Tables) (plan : Plan) (file : List ℕ) : Type 0 where
   pub H : List Entry
   pub records : List Record
-  pub are : AreRecordsOf b plan H records
+  pub are : AreRecordsOf b plan 1 H records
   pub holds : contents file ≡ Some (counted_of b plan 1 records)
 
 -- the file of these records of the first version once it is moved: they are followed by the mark,
@@ -119,6 +119,7 @@ pub record IsTakenOver (b : Tables) (plan : Plan) (H : List Entry) (payload : Li
     (second : List ℕ) : Type 0 where
   pub last : Record
   pub spells : IsRecord last
+  pub unlisted : HasNoList last.entry
   pub spelling : payload_in b plan 1 last ≡ payload
   pub may : MayFollow b plan H last.entry last.tree
   pub entries : now ≡ H ++ last.entry ∷ []
@@ -139,7 +140,7 @@ pub record IsMovedUpTo (b : Tables) (plan : Plan) (R done : List Record)
     (content waiting : List ℕ) (accounts : List Account)
     (gate end : ℕ) (entries : List Entry) (at : ℕ) : Type 0 where
   pub H : List Entry
-  pub are : AreRecordsOf b plan H R
+  pub are : AreRecordsOf b plan 1 H R
   pub rest : List Record
   pub all : R ≡ done ++ rest
   pub moving : IsMovingWith (map (payload_in b plan 1) R) (map payload_of done) content waiting

@@ -15,10 +15,10 @@ use Rattle.answer_journal.specs.declared.open_fault.OpenFault.TheVariants.{Disk 
 use Rattle.answer_journal.specs.Payload.{end_of}
 use Rattle.answer_journal.specs.Versions.{Counted, contents, counted_in}
 use Rattle.answer_journal.specs.Walk.{first_gate, first_payloads}
-use Rattle.exam_records.specs.Shape.{IsRecord}
 use Rattle.exam_records.specs.declared.fault.RecordFault.{RecordFault}
 use Rattle.exam_office.specs.declared.fault.OpenFault.{OpenFault}
 use Rattle.exam_office.specs.declared.fault.OpenFault.TheVariants.{Journal, Version, BadRecord, BadTree, Illegal as NotLegal, Disk, Memory}
+use Rattle.exam_records.specs.Shape.{HasNoList, IsRecord}
 use Rattle.exam_office.specs.Files.{payload_in, AreRecordsOf}
 
 -- the fault of a record that may not follow: of its tree, or of its entry
@@ -37,6 +37,7 @@ pub record IsTaken (b : Tables) (plan : Plan) (version : ℕ) (H : List Entry) (
   pub last : Record
   pub is_entry : last.entry ≡ entry
   pub spells : IsRecord last
+  pub unlisted : version ≡ 1 → HasNoList last.entry
   pub spelling : payload_in b plan version last ≡ payload
   pub may : MayFollow b plan H last.entry last.tree
 
@@ -50,6 +51,7 @@ pub record IsReadAs (b : Tables) (plan : Plan) (version : ℕ) (H : List Entry) 
   pub same : version ≢ 1 → last.entry ≡ read.entry
   pub tree : last.tree ≡ read.tree
   pub spells : IsRecord last
+  pub unlisted : version ≡ 1 → HasNoList last.entry
   pub spelling : payload_in b plan version last ≡ payload
 
 -- the payload spells a record that may not follow; the first reason
@@ -91,7 +93,7 @@ IsNotTaken b plan version H at payload fault = ⊥
 pub record AreTaken (b : Tables) (plan : Plan) (version start : ℕ) (tells : Bool) (file : List ℕ)
     (given at : ℕ) (H : List Entry) : Type 0 where
   pub records : List Record
-  pub are : AreRecordsOf b plan H records
+  pub are : AreRecordsOf b plan version H records
   pub bytes : IsTrue tells → map (payload_in b plan version) records ≡ first_payloads given file
   pub place : IsTrue tells → at ≡ end_of start (map (payload_in b plan version) records)
 
@@ -108,8 +110,8 @@ pub record IsRefusedFile (b : Tables) (plan : Plan) (file : List ℕ)
     (fault : OpenFault) : Type 0 where
   pub H : List Entry
   pub records : List Record
-  pub are : AreRecordsOf b plan H records
   pub version : ℕ
+  pub are : AreRecordsOf b plan version H records
   pub first : List ℕ
   pub rest : List (List ℕ)
   pub gives : contents file ≡ Some (record {

@@ -19,7 +19,7 @@ use Rattle.exam_office.specs.Writing.{IsSameOffice}
 -- the journal has the payloads of records of the history
 pub record HoldsRecords {D : Type 0} (office : Running D) : Type 0 where
   pub records : List Record
-  pub are : AreRecordsOf office.bank office.plan (history office.marks) records
+  pub are : AreRecordsOf office.bank office.plan 2 (history office.marks) records
   pub holds : IsTrue (tells_of office.journal)
       → payloads_of office.journal ≡ map payload_of records
 

@@ -81,7 +81,7 @@ Holds b plan H journal R (Some entry) (Some last) = IsInDoubtAfter b plan H jour
 pub record IsWarm {D : Type 0} (office : Running D) (session : ℕ)
     (found : Option Multipliers) : Type 0 where
   pub records : List Record
-  pub are : AreRecordsOf office.bank office.plan (history office.marks) records
+  pub are : AreRecordsOf office.bank office.plan 2 (history office.marks) records
   pub last : Option Record
   pub holds : Holds office.bank office.plan (history office.marks) office.journal records
       office.doubt last

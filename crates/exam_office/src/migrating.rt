@@ -15,9 +15,9 @@ ghost use Rattle.answer_journal.specs.Opening.{PutsTailAside, tail_gates};
 ghost use Rattle.answer_journal.specs.Standing.{IsAsLeft, IsBeingSwitched};
 ghost use Rattle.answer_journal.specs.Versions.{contents, counted_in};
 ghost use Rattle.answer_journal.specs.Walk.{first_gate, first_payloads};
-ghost use Rattle.exam_records.specs.Shape.{IsRecord};
 ghost use Rattle.exam_office.specs.declared.fault.OpenFault.TheVariants.{Disk as OfDisk, Memory as OfMemory};
 ghost use Rattle.exam_office.specs.declared.migrating.MigrateFault.TheVariants.{Disk as NoDisk, Memory as NoMemory};
+ghost use Rattle.exam_records.specs.Shape.{HasNoList, IsRecord};
 ghost use Rattle.exam_office.specs.Files.{payload_in, Stands, StandsSecond};
 ghost use Rattle.exam_office.specs.Opening.{IsNotTaken, IsReadAnswer};
 ghost use Rattle.exam_office.specs.Migrating.{AreMeasured, IsImageOrStands, IsLeft, IsMigrateAnswer, IsMigrated, IsMoved, IsMovedUpTo, IsOfContent, IsOldFile, IsOpenOfFile, IsTakenOver, moved_file, moved_tail};
@@ -70,6 +70,7 @@ fn take_old(alloc: Global, at: u64, payload: &[u8], book: &mut Book) -> Result<R
     ensures bank { book.new.bank ≡ book.old.bank }
     ensures plan { book.new.plan ≡ book.old.plan }
     ensures spells { IfOk result IsRecord }
+    ensures unlisted { IfOk result (λ rec. HasNoList rec.entry) }
     ensures spelling { IfOk result
         (λ rec. payload_in book.old.bank book.old.plan 1 rec ≡ payload.now) }
     ensures may { IfOk result

@@ -1,6 +1,6 @@
 //! How an office is opened.
 
-ghost use Rattle.std.specs.Prelude.{◌≡◌, ◌≢◌, ◌≤◌, [], ◌∷◌, ◌++◌, List, length, map, None, IsTrue, IfOk, IfErr};
+ghost use Rattle.std.specs.Prelude.{◌≡◌, ◌≢◌, ◌≤◌, [], ◌∷◌, ◌++◌, List, length, map, Some, None, IsTrue, IfOk, IfErr};
 ghost use Rattle.bank_tables.specs.Items.{has};
 ghost use Rattle.form_model.specs.Forms.{Meets};
 ghost use Rattle.form_model.specs.Validity.{IsPlanFor};
@@ -12,8 +12,8 @@ ghost use Rattle.history_model.specs.Legality.{LegalRun};
 ghost use Rattle.exam_office.specs.declared.mark.Mark.TheVariants.{Old, Opened};
 ghost use Rattle.exam_office.specs.declared.fault.OpenFault.TheVariants.{Disk as OfDisk};
 ghost use Rattle.answer_journal.specs.Standing.{IsAsLeft};
-ghost use Rattle.answer_journal.specs.Versions.{counted_in};
-ghost use Rattle.answer_journal.specs.Journal.{disk_of, tells_of, accounts_of, aside_of, faults_of, identity_of};
+ghost use Rattle.answer_journal.specs.Versions.{contents, counted_in, second};
+ghost use Rattle.answer_journal.specs.Journal.{disk_of, tells_of, accounts_of, aside_of, faults_of, identity_of, payloads_of};
 ghost use Rattle.answer_journal.specs.Opening.{PutsTailAside, tail_gates};
 ghost use Rattle.exam_office.specs.Writing.{IsMending};
 ghost use Rattle.exam_office.specs.Files.{Stands, StandsSecond};
@@ -62,6 +62,9 @@ impl<'a, D: Disk> Office<'a, D> {
         // Its records were of the second version.
         ensures version { IfOk result (λ office. IsTrue (D.tells disk)
             → (counted_in (D.content disk)).version ≡ 2) }
+        // The journal has its payloads.
+        ensures payloads { IfOk result (λ office. IsTrue (D.tells disk)
+            → contents (D.content disk) ≡ Some (second (payloads_of office.journal))) }
         // The file was within the journal's limit.
         ensures short { IfOk result (λ office. IsTrue (D.tells disk)
             → length (D.content disk) ≤ spec.now.journal) }

@@ -48,6 +48,7 @@ use Rattle.replay_cli.specs.Replies.{place_line, line_of, lines_of}
 use Rattle.exam_office.specs.Asking.{IsGood, AreGood, no_more, one_more as good_more}
 use Rattle.exam_office.specs.Files.{Stands, StandsSecond}
 use Rattle.exam_office.proofs.FileLaws.{one_history}
+use Rattle.exam_office.proofs.Records.{all_in_second}
 use Rattle.exam_program.specs.Outside.{DiskSeen}
 use Rattle.exam_program.specs.Replays.{AreDone, none, one_more, IsFileOf, IsFileOnTheWay, IsUnderWay, IsOpeningFailed}
 use Rattle.exam_program.proofs.ScriptLaws.{not_yet}
@@ -125,7 +126,7 @@ drawn_a = record { number = refl; each = each }
     each (suc k) i = past_first k i ∙ (sym (no_set k i) ∙ old_start.0.drawn.each (suc k) i)
 
 may_start : MayFollow bank_a plan_a [] (Started 0 70 eligible_a None) None
-may_start = (record { number = old_start.0.number; not_booked = old_start.0.not_booked; drawn = drawn_a; no_list = refl }, refl)
+may_start = (record { number = old_start.0.number; not_booked = old_start.0.not_booked; drawn = drawn_a; listed = tt }, refl)
 
 -- the problems are those of the history with one set
 moved : (H K : List Entry) (step item : ℕ) (form : ℕ → Bool) (proved : Bool) (nodes : ℕ) (tree : Option ProofTree) → ((P : Problem) → IsProblemOf bank_a plan_a H 0 step P → IsProblemOf bank_a plan_a K 0 step P)
@@ -313,8 +314,8 @@ started_spelled : IsRecord (bare (Started 0 70 eligible_a None))
 unfolding bare eligible_a
 started_spelled = record {
   goes_with = tt;
-  bands = (record { some = omega arith; few = omega arith; none_past = none_later }, refl);
-  fits = (omega arith, omega arith, record { eight = refl; each = each });
+  bands = (record { some = omega arith; few = omega arith; none_past = none_later }, tt);
+  fits = (omega arith, omega arith, record { eight = refl; each = each }, tt);
   tree = tt;
 }
   where
@@ -376,7 +377,7 @@ unfolding contents version_of
 short_holds file short = let e : nat_le (length file) 9 ≡ true = le-leb (length file) 9 short in rw e (ap (option_map (counted 2)) (none_short file e))
 
 file_stands : Stands bank_a plan_a answered_2 file_a
-file_stands = record { records = records_a; are = record { spell = spelled_a; backed = backed_a; entries = entries_a }; version = 2; holds = holds_a }
+file_stands = record { records = records_a; are = record { spell = all_in_second records_a spelled_a; backed = backed_a; entries = entries_a }; version = 2; holds = holds_a }
 
 file_moved : StandsSecond bank_a plan_a answered_2 file_a
 unfolding file_stands

@@ -68,14 +68,14 @@ kept_goes first (Answered session step response) tree goes = goes
 kept_goes first (Closed session) tree goes = goes
 
 kept_bands : (first : ℕ) (entry : Entry) → HasBands (old_entry first entry)
-kept_bands first (Started session booking eligible without) = (one_band_eligible (get_or eligible.sets first []), refl)
+kept_bands first (Started session booking eligible without) = (one_band_eligible (get_or eligible.sets first []), tt)
 kept_bands first (SetAside session step band cause nodes) = omega arith
 kept_bands first (Served session step item form proved nodes) = tt
 kept_bands first (Answered session step response) = tt
 kept_bands first (Closed session) = tt
 
 kept_fits : (first : ℕ) (entry : Entry) → first < 8 → IsInRange entry → IsInRange (old_entry first entry)
-kept_fits first (Started session booking eligible without) lt fits = (fits.0, fits.1, one_band_sets (get_or eligible.sets first []) (fits.2.each first lt))
+kept_fits first (Started session booking eligible without) lt fits = (fits.0, fits.1, one_band_sets (get_or eligible.sets first []) (fits.2.each first lt), tt)
 kept_fits first (SetAside session step band cause nodes) lt fits = (fits.0, omega arith)
 kept_fits first (Served session step item form proved nodes) lt fits = fits
 kept_fits first (Answered session step response) lt fits = fits

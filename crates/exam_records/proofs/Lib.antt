@@ -7,6 +7,7 @@ pub mod BandFields
 pub mod RecordLaws
 pub mod AgainLaws
 pub mod CutLaws
+pub mod ListFields
 pub mod SecondLaws
 pub mod SecondCuts
 pub mod VersionLaws

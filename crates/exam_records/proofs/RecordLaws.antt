@@ -149,7 +149,7 @@ old_started_found bytes x fits kind e =
     let whole : Stands bytes 0 (old_entry_bytes 0 (Started a.0 b.0 (one_band s.0) None)) 77 = stand_both bytes 0 (1 ∷ []) 1 (to_be_bytes w32 a.0 ++ (to_be_bytes w64 b.0 ++ set_bytes (has s.0))) 77 kind fields in
     let made : Record × ℕ = (record { entry = Started a.0 b.0 (one_band s.0) None; tree = None }, 77) in
     let found : IsOldFound bytes made = record {
-      is = record { is_record = record { goes_with = tt; bands = (one_band_eligible s.0, refl); fits = (session.1, booking.1, one_band_sets s.0 eligible.1); tree = tt }; all = refl };
+      is = record { is_record = record { goes_with = tt; bands = (one_band_eligible s.0, tt); fits = (session.1, booking.1, one_band_sets s.0 eligible.1, tt); tree = tt }; all = refl };
       stands = entry_alone bytes (old_entry_bytes 0 (Started a.0 b.0 (one_band s.0) None)) 77 whole;
     } in
     subst (IsOldFound bytes) {x = made} (ok_is {F = RecordFault} made x s.2) found

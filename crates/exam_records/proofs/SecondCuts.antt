@@ -1,14 +1,17 @@
 -- The first bytes of a record of the second version, cut off anywhere before its end.
-use Rattle.std.proofs.Common.{◌≡◌, ℕ, zero, suc, ◌+◌, ◌*◌, ◌^◌, ◌<◌, ◌≤◌, inl, inr, false, ltb, List, [], ◌∷◌, ◌++◌, length, take, get_or, Option, Some, None, Result, Ok, refl, sym, ap, subst, ◌∙◌, arith, add-one}
+use Rattle.std.proofs.Common.{◌≡◌, ℕ, zero, suc, ◌+◌, ◌*◌, ◌^◌, ◌<◌, ◌≤◌, inl, inr, true, false, ltb, List, [], ◌∷◌, ◌++◌, length, take, get_or, Option, Some, None, Result, Ok, refl, sym, ap, subst, ◌∙◌, arith, add-one}
 use Rattle.std.specs.Int.{w16, w32, w64, to_be_bytes}
 use Rattle.std.proofs.lemmas.Bool.{le-ltb}
 use Rattle.std.proofs.lemmas.List.{append-nil, take_more}
 use Rattle.std.proofs.Math.Seq.{drop-length}
+use Rattle.bank_tables.specs.Items.{has}
+use Rattle.bank_tables.specs.Sums.{any_below}
 use Rattle.exam_text.specs.First.{◌>>=◌, each_below}
 use Rattle.certificate_model.specs.ProofTrees.{ProofTree}
 use Rattle.history_model.specs.declared.entry.Bands.{Bands}
 use Rattle.history_model.specs.declared.entry.Cause.{Cause}
 use Rattle.history_model.specs.declared.entry.Entry.{Entry}
+use Rattle.history_model.specs.declared.entry.Without.{Without}
 use Rattle.history_model.specs.declared.entry.Entry.TheVariants.{Started, SetAside, Served, Answered, Closed}
 use Rattle.proof_tree.specs.Shape.{IsTree}
 use Rattle.proof_tree.specs.Spelling.{bytes_of}
@@ -16,14 +19,15 @@ use Rattle.proof_tree.specs.Reading.{number_at, byte_at}
 use Rattle.proof_tree.proofs.Fields.{Stands, stand_first, stand_second, wide16, wide32}
 use Rattle.exam_records.specs.declared.fault.RecordFault.{RecordFault}
 use Rattle.history_model.specs.Judging.{Record}
-use Rattle.exam_records.specs.Shape.{GoesWith, HasBands, IsInRange, AreEligible, AreSets, IsTreeOrNone, IsRecord}
-use Rattle.exam_records.specs.Spelling.{cause_byte, answered_bytes, closed_bytes, tree_bytes, sets_bytes, entry_bytes, payload_of}
-use Rattle.exam_records.specs.Reading.{field, set_at, flag_at, count_at, band_at, bands_of, bands_at, tree_at, started, set_aside, record_by, record_of_kind, record_of}
+use Rattle.exam_records.specs.Shape.{GoesWith, HasBands, IsInRange, AreEligible, AreSets, AreListSets, IsTreeOrNone, IsRecord}
+use Rattle.exam_records.specs.Spelling.{cause_byte, answered_bytes, closed_bytes, tree_bytes, sets_bytes, list_bytes, entry_bytes, payload_of}
+use Rattle.exam_records.specs.Reading.{field, set_at, flag_at, count_at, band_at, bands_of, bands_at, list_at, tree_at, started, started_with_list, set_aside, record_by, record_of_kind, record_of}
 use Rattle.exam_records.specs.Cuts.{IsCutOff}
 use Rattle.exam_records.proofs.FieldLaws.{wide64}
 use Rattle.exam_records.proofs.BandFields.{sets_len, set_stands, count_fits, bands_again}
 use Rattle.exam_records.proofs.AgainLaws.{alone}
 use Rattle.exam_records.proofs.CutLaws.{ReadsOrShort, and_then, and_stays, no_tree, cut_number, cut_byte, cut_set, cut_tree, cause_cut, from_kind, cut_served, cut_answered, cut_closed}
+use Rattle.exam_records.proofs.ListFields.{some_bit, list_len, cut_list}
 use Rattle.exam_records.proofs.SecondLaws.{kind_3, kind_4, kind_5}
 
 -- a field, and what follows it up to a later place
@@ -93,6 +97,32 @@ cut_started session booking eligible bytes k lt few low are sets p =
     and_then end k end (bands_at (take k bytes) 13) eligible _ (omega arith) (cut_bands eligible bytes k 13 end kb are sets last) (λ le. no_tree end k _ lt le)))) in
     subst (λ (n : ℕ). IsCutOff n k (record_by record_of_kind (take k bytes))) whole cut
 
+cut_started_with_list : (session booking : ℕ) (eligible : Bands) (list : Without) (bytes : List ℕ) (k : ℕ) → k < length bytes → session < 2 ^ 32 → booking < 2 ^ 64 → AreEligible eligible → AreSets eligible → any_below 512 (has list.items) ≡ true → AreListSets (Some list)
+    → Stands bytes 0 (entry_bytes (Started session booking eligible (Some list))) (length bytes) → IsCutOff (length (entry_bytes (Started session booking eligible (Some list)))) k (record_by record_of_kind (take k bytes))
+unfolding entry_bytes record_of_kind started_with_list
+cut_started_with_list session booking eligible list bytes k lt few low are sets some words p =
+    let S : List ℕ = to_be_bytes w32 session in
+    let B : List ℕ = to_be_bytes w64 booking in
+    let E : List ℕ = eligible.count ∷ sets_bytes eligible.count eligible.sets in
+    let L : List ℕ = list_bytes list in
+    let end : ℕ = length bytes in
+    let at : ℕ = 14 + 64 * eligible.count in
+    let kb : k ≤ end = omega (arith, lt) in
+    let fields : Stands bytes 1 (S ++ (B ++ (E ++ L))) end = stand_second bytes 0 (9 ∷ []) (S ++ (B ++ (E ++ L))) end p in
+    let later : Stands bytes 5 (B ++ (E ++ L)) end = stand_second bytes 1 S (B ++ (E ++ L)) end fields in
+    let from_bands : Stands bytes 13 (E ++ L) end = stand_second bytes 5 B (E ++ L) end later in
+    let there : 13 + length E ≡ at = omega (arith, sets_len eligible.count eligible.sets) in
+    let bands : Stands bytes 13 E at = subst (λ (n : ℕ). Stands bytes 13 E n) there (stand_first bytes 13 E L end from_bands) in
+    let last : Stands bytes at L end = subst (λ (n : ℕ). Stands bytes n L end) there (stand_second bytes 13 E L end from_bands) in
+    let long : at + 128 ≡ end = omega (arith, last.ends, list_len list) in
+    let whole : end ≡ length (9 ∷ (S ++ (B ++ (E ++ L)))) = omega (arith, p.ends) in
+    let cut : IsCutOff end k (record_by record_of_kind (take k bytes)) = from_kind record_of_kind bytes k 9 end kb (omega (arith, long)) (stand_first bytes 0 (9 ∷ []) (S ++ (B ++ (E ++ L))) end p) (λ _.
+    and_then end k 5 (field (number_at w32 (take k bytes) 1)) session _ (omega (arith, long)) (cut_number w32 (2 ^ 32) wide32 bytes k 1 session 5 kb few (stand_first bytes 1 S (B ++ (E ++ L)) end fields)) (λ _.
+    and_then end k 13 (field (number_at w64 (take k bytes) 5)) booking _ (omega (arith, long)) (cut_number w64 (2 ^ 64) wide64 bytes k 5 booking 13 kb low (stand_first bytes 5 B (E ++ L) end later)) (λ _.
+    and_then end k at (bands_at (take k bytes) 13) eligible _ (omega (arith, long)) (cut_bands eligible bytes k 13 at kb are sets bands) (λ _.
+    and_then end k end (list_at (take k bytes) at) list _ (omega arith) (cut_list list bytes k at end kb words.0 words.1 some last) (λ le. no_tree end k _ lt le))))) in
+    subst (λ (n : ℕ). IsCutOff n k (record_by record_of_kind (take k bytes))) whole cut
+
 cut_set_aside : (session step band : ℕ) (cause : Cause) (nodes : ℕ) (T : ProofTree) (bytes : List ℕ) (k : ℕ) → k < length bytes → (session < 2 ^ 32) × (step < 2 ^ 16) → band < 8 → nodes ≡ length T.nodes → IsTree T → Stands bytes 0 (entry_bytes (SetAside session step band cause nodes) ++ bytes_of T) (length bytes) → IsCutOff (length (entry_bytes (SetAside session step band cause nodes))) k (record_by record_of_kind (take k bytes))
 unfolding entry_bytes record_of_kind set_aside
 cut_set_aside session step band cause nodes T bytes k lt fits low number is p =
@@ -122,7 +152,7 @@ cut_set_aside session step band cause nodes T bytes k lt fits low number is p =
 cut_entry : (entry : Entry) (tree : Option ProofTree) (bytes : List ℕ) (k : ℕ) → GoesWith entry tree → HasBands entry → IsInRange entry → IsTreeOrNone tree → k < length bytes → Stands bytes 0 (entry_bytes entry ++ tree_bytes tree) (length bytes) → IsCutOff (length (entry_bytes entry)) k (record_by record_of_kind (take k bytes))
 unfolding entry_bytes
 cut_entry (Started session booking eligible None) None bytes k goes bands fits is lt p = cut_started session booking eligible bytes k lt fits.0 fits.1 bands.0 fits.2 (alone bytes (entry_bytes (Started session booking eligible None)) (length bytes) p)
-cut_entry (Started session booking eligible (Some list)) None bytes k goes bands fits is lt p = absurd (let no = bands.1 in cc)
+cut_entry (Started session booking eligible (Some list)) None bytes k goes bands fits is lt p = cut_started_with_list session booking eligible list bytes k lt fits.0 fits.1 bands.0 fits.2 (some_bit list.items fits.3.0 bands.1) fits.3 (alone bytes (entry_bytes (Started session booking eligible (Some list))) (length bytes) p)
 cut_entry (Started session booking eligible without) (Some T) bytes k goes bands fits is lt p = absurd goes
 cut_entry (SetAside session step band cause nodes) None bytes k goes bands fits is lt p = absurd goes
 cut_entry (SetAside session step band cause nodes) (Some T) bytes k goes bands fits is lt p = cut_set_aside session step band cause nodes T bytes k lt fits bands goes is p

@@ -15,7 +15,7 @@ one_band words = record {
 }
 
 -- what the first version keeps of an entry: of a start the eligible set of the band where each
--- session begins, and of a setting aside neither the step nor the band
+-- session begins and no list, and of a setting aside neither the step nor the band
 abbrev pub old_entry : ℕ → Entry → Entry
 old_entry first (Started session booking eligible without) =
     Started session booking (one_band (get_or eligible.sets first [])) None

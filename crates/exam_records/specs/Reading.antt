@@ -2,12 +2,15 @@
 -- the field that has it.
 use Rattle.std.specs.Prelude.{ℕ, ◌+◌, ◌-◌, ◌*◌, ◌==◌, ◌||◌, not, Bool, true, false, nat_lt, List, ◌++◌, replicate, length, drop, Some, None, Result, Ok, Err, if◌then◌else◌}
 use Rattle.std.specs.Int.{w16, w32, w64}
+use Rattle.bank_tables.specs.Items.{has}
+use Rattle.bank_tables.specs.Sums.{any_below}
 use Rattle.exam_text.specs.First.{◌>>=◌, unless, fault_where, each_below}
 use Rattle.certificate_model.specs.ProofTrees.{ProofTree}
 use Rattle.history_model.specs.declared.entry.Bands.{Bands}
 use Rattle.history_model.specs.declared.entry.Cause.{Cause}
 use Rattle.history_model.specs.declared.entry.Cause.TheVariants.{NoForm, Spent}
 use Rattle.history_model.specs.declared.entry.Entry.TheVariants.{Started, SetAside, Served, Answered, Closed}
+use Rattle.history_model.specs.declared.entry.Without.{Without}
 use Rattle.proof_tree.specs.declared.fault.TreeFault.{TreeFault}
 use Rattle.proof_tree.specs.Reading.{number_at, byte_at, read}
 use Rattle.exam_records.specs.declared.fault.RecordFault.{RecordFault}
@@ -59,6 +62,19 @@ bands_at bytes at = do
   count ← count_at bytes at
   sets ← each_below count (λ band. set_at bytes (at + 1 + 64 * band))
   Ok (bands_of count sets)
+
+-- a set that isn't empty
+unfoldable pub some_set_at : List ℕ → ℕ → Result (List ℕ) RecordFault
+some_set_at bytes at = do
+  words ← set_at bytes at
+  unless (fault_where (not (any_below 512 (has words))) (Field at)) (Ok words)
+
+-- a list of items that the examinee must not get: the items, and the form without them
+unfoldable pub list_at : List ℕ → ℕ → Result Without RecordFault
+list_at bytes at = do
+  items ← some_set_at bytes at
+  form ← set_at bytes (at + 64)
+  Ok (record { items = items; form = form })
 
 -- why eligibility was set aside
 abbrev pub cause_of : Bool → Cause
@@ -124,6 +140,18 @@ started bytes = do
     14 + 64 * eligible.count,
   )
 
+-- with a list
+unfoldable pub started_with_list : List ℕ → Result (Record × ℕ) RecordFault
+started_with_list bytes = do
+  session ← field (number_at w32 bytes 1)
+  booking ← field (number_at w64 bytes 5)
+  eligible ← bands_at bytes 13
+  list ← list_at bytes (14 + 64 * eligible.count)
+  Ok (
+    record { entry = Started session booking eligible (Some list); tree = None },
+    14 + 64 * eligible.count + 128,
+  )
+
 unfoldable pub set_aside : List ℕ → Result (Record × ℕ) RecordFault
 set_aside bytes = do
   session ← field (number_at w32 bytes 1)
@@ -144,7 +172,8 @@ set_aside bytes = do
 unfoldable pub record_of_kind : ℕ → List ℕ → Result (Record × ℕ) RecordFault
 record_of_kind kind bytes =
     if kind == 6 then started bytes else
-    (if kind == 7 then set_aside bytes else shared_of_kind kind bytes)
+    (if kind == 7 then set_aside bytes else
+    (if kind == 9 then started_with_list bytes else shared_of_kind kind bytes))
 
 -- the record of a payload
 unfoldable pub record_of : List ℕ → Result Record RecordFault

@@ -1,10 +1,11 @@
 -- Which records have a spelling.
-use Rattle.std.specs.Prelude.{◌≡◌, ◌^◌, ◌<◌, ◌≤◌, ℕ, false, [], get_or, length, Option, Some, None}
-use Rattle.bank_tables.specs.Items.{AreWords}
+use Rattle.std.specs.Prelude.{◌≡◌, ◌^◌, ◌<◌, ◌≤◌, ℕ, false, [], get_or, length, IsTrue, Option, Some, None}
+use Rattle.bank_tables.specs.Items.{has, AreWords}
 use Rattle.certificate_model.specs.ProofTrees.{ProofTree}
 use Rattle.history_model.specs.declared.entry.Bands.{Bands}
 use Rattle.history_model.specs.declared.entry.Entry.{Entry}
 use Rattle.history_model.specs.declared.entry.Entry.TheVariants.{Started, SetAside, Served, Answered, Closed}
+use Rattle.history_model.specs.declared.entry.Without.{Without}
 use Rattle.history_model.specs.Draws.{SameItems}
 use Rattle.history_model.specs.Entries.{items_in}
 use Rattle.proof_tree.specs.Shape.{IsTree}
@@ -27,22 +28,36 @@ pub record AreEligible (eligible : Bands) : Type 0 where
   pub none_past : (band : ℕ) → eligible.count ≤ band
       → SameItems (items_in eligible.sets band) (λ _. false)
 
--- the bands of an entry are at most eight, and a start has no list of items that the examinee must
--- not get
+-- a list of items that the examinee must not get has some, if there is one
+abbrev pub HasItemsIfAny : Option Without → Type 0
+HasItemsIfAny None = Unit {0}
+HasItemsIfAny (Some list) = (item : ℕ) × IsTrue (has list.items item)
+
+-- the bands of an entry are at most eight, and a list of a start isn't empty
 abbrev pub HasBands : Entry → Type 0
-HasBands (Started session booking eligible without) = AreEligible eligible × (without ≡ None)
+HasBands (Started session booking eligible without) = AreEligible eligible × HasItemsIfAny without
 HasBands (SetAside session step band cause nodes) = band < 8
 HasBands entry = Unit {0}
+
+-- the entry has no list of items that the examinee must not get
+abbrev pub HasNoList : Entry → Type 0
+HasNoList (Started session booking eligible without) = without ≡ None
+HasNoList entry = Unit {0}
 
 -- each of the eight sets is one of items
 pub record AreSets (eligible : Bands) : Type 0 where
   pub eight : length eligible.sets ≡ 8
   pub each : (band : ℕ) → band < 8 → AreWords (get_or eligible.sets band [])
 
+-- so are the two of a list, if there is one
+abbrev pub AreListSets : Option Without → Type 0
+AreListSets None = Unit {0}
+AreListSets (Some list) = AreWords list.items × AreWords list.form
+
 -- the numbers of an entry fit the bytes that they are written in, and its sets are of items
 abbrev pub IsInRange : Entry → Type 0
 IsInRange (Started session booking eligible without) =
-    (session < 2 ^ 32) × (booking < 2 ^ 64) × AreSets eligible
+    (session < 2 ^ 32) × (booking < 2 ^ 64) × AreSets eligible × AreListSets without
 IsInRange (SetAside session step band cause nodes) = (session < 2 ^ 32) × (step < 2 ^ 16)
 IsInRange (Served session step item form proved nodes) =
     (session < 2 ^ 32) × (step < 2 ^ 16) × (item < 2 ^ 16) × AreWords form

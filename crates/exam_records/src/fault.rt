@@ -15,7 +15,7 @@ pub enum RecordFault {
     /// The first byte is of no kind; the place is 0.
     Kind(u64),
     /// The cause or the mark that begins here is above 1, or the number of bands isn't 1 to 8, or the band is above 7, or the
-    /// number of nodes isn't that of the tree.
+    /// list of items that the examinee must not get is empty, or the number of nodes isn't that of the tree.
     Field(u64),
     /// The bytes of the tree are at fault; the place in it counts from the tree's first byte.
     Tree(TreeFault),

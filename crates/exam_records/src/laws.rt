@@ -66,10 +66,10 @@ pub fn cut_off_is_told()
         (old_record_of (take k (old_payload_of first r))) }
 {}
 
-/// The first byte shows which versions may read a payload: kinds 3 to 5 are the same in both, 6 and 7 are of the second
-/// alone, and 1 and 2 of the first alone.
+/// The first byte shows which versions may read a payload: kinds 3 to 5 are the same in both, 6, 7 and 9 are of the second
+/// alone, and 1 and 2 of the first alone. No kind is 8.
 pub fn kind_shows_version()
-    ensures none { (kind : ℕ) (rest : List ℕ) → (kind < 3) ⊎ (7 < kind)
+    ensures none { (kind : ℕ) (rest : List ℕ) → (kind < 3) ⊎ ((kind ≡ 8) ⊎ (9 < kind))
         → record_of (kind ∷ rest) ≡ Err (Kind 0) }
     ensures old_none { (kind : ℕ) (rest : List ℕ) → (kind < 1) ⊎ (5 < kind)
         → old_record_of (kind ∷ rest) ≡ Err (Kind 0) }

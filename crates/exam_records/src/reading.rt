@@ -9,13 +9,13 @@ ghost use Rattle.history_model.specs.Judging.{Record};
 ghost use Rattle.exam_records.specs.Shape.{IsRecord};
 ghost use Rattle.exam_records.specs.Old.{one_band, IsOldRecord};
 ghost use Rattle.exam_records.specs.Spelling.{payload_of, old_payload_of};
-ghost use Rattle.exam_records.specs.Reading.{field, flag_at, count_at, band_at, bands_at, cause_of, tree_at, served, answered, closed, shared_of_kind, started, set_aside, record_of_kind, record_of, old_started, old_set_aside, old_record_of_kind, old_record_of};
+ghost use Rattle.exam_records.specs.Reading.{field, flag_at, count_at, band_at, bands_at, some_set_at, list_at, cause_of, tree_at, served, answered, closed, shared_of_kind, started, started_with_list, set_aside, record_of_kind, record_of, old_started, old_set_aside, old_record_of_kind, old_record_of};
 
 use crate::fault::RecordFault;
 use crate::record::Record;
-use crate::sets::{no_items, set_of};
+use crate::sets::{has_items, no_items, set_of};
 use bank_tables::ItemSet;
-use history_model::{Bands, Cause, Entry};
+use history_model::{Bands, Cause, Entry, Without};
 use proof_tree::{Tree, TreeFault};
 use std::alloc::Global;
 
@@ -112,7 +112,8 @@ fn band_of(bytes: &[u8], at: usize) -> Result<u8, RecordFault>
 /// The number of bands, and the set of each.
 #[tactic(auto, unfolding(crate::specs::Reading::bands_at))]
 fn bands_of(bytes: &[u8], at: usize) -> Result<Bands, RecordFault>
-    ensures { result ≡ bands_at bytes.now at }
+    ensures bands { result ≡ bands_at bytes.now at }
+    ensures there { IfOk result (λ bands. at + 1 + 64 * bands.count ≤ length bytes.now) }
 {
     let count = count_of(bytes, at)?;
     let mut sets = [no_items(); 8];
@@ -120,6 +121,31 @@ fn bands_of(bytes: &[u8], at: usize) -> Result<Bands, RecordFault>
         sets[band as usize] = set_of(bytes, at + 1 + 64 * band as usize)?;
     }
     Ok(Bands { count, sets })
+}
+
+/// A set that isn't empty.
+#[tactic(auto, unfolding(crate::specs::Reading::some_set_at))]
+fn some_set_of(bytes: &[u8], at: usize) -> Result<ItemSet, RecordFault>
+    requires { at ≤ length bytes.now }
+    ensures set { result ≡ some_set_at bytes.now at }
+    ensures there { OnOk result (at + 64 ≤ length bytes.now) }
+{
+    let set = set_of(bytes, at)?;
+    if !has_items(&set) {
+        return Err(RecordFault::Field(at as u64));
+    }
+    Ok(set)
+}
+
+/// The items that the examinee must not get, and the form without them.
+#[tactic(auto, unfolding(crate::specs::Reading::list_at))]
+fn list_of(bytes: &[u8], at: usize) -> Result<Without, RecordFault>
+    requires { at ≤ length bytes.now }
+    ensures { result ≡ list_at bytes.now at }
+{
+    let items = some_set_of(bytes, at)?;
+    let form = set_of(bytes, at + 64)?;
+    Ok(Without { items, form })
 }
 
 fn cause(spent: bool) -> Cause
@@ -245,6 +271,25 @@ fn started(bytes: &[u8]) -> Result<(Record, usize), RecordFault>
     Ok((Record { entry, tree: None }, next))
 }
 
+#[tactic(auto, unfolding(crate::specs::Reading::started_with_list))]
+fn started_with_list(bytes: &[u8]) -> Result<(Record, usize), RecordFault>
+    requires { 1 ≤ length bytes.now }
+    ensures { result ≡ started_with_list bytes.now }
+{
+    let session = u32_of(bytes, 1)?;
+    let booking = u64_of(bytes, 5)?;
+    let eligible = bands_of(bytes, 13)?;
+    let at = 14 + 64 * eligible.count as usize;
+    let list = list_of(bytes, at)?;
+    let entry = Entry::Started {
+        session,
+        booking,
+        eligible,
+        without: Some(list),
+    };
+    Ok((Record { entry, tree: None }, at + 128))
+}
+
 #[tactic(auto, unfolding(crate::specs::Reading::set_aside))]
 fn set_aside(alloc: Global, bytes: &[u8]) -> Result<(Record, usize), RecordFault>
     requires { 1 ≤ length bytes.now }
@@ -280,6 +325,7 @@ fn record_of_kind(alloc: Global, kind: u8, bytes: &[u8]) -> Result<(Record, usiz
     match kind {
         6 => started(bytes),
         7 => set_aside(alloc, bytes),
+        9 => started_with_list(bytes),
         _ => shared_of_kind(alloc, kind, bytes),
     }
 }

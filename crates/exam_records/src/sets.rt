@@ -3,6 +3,7 @@
 ghost use Rattle.std.specs.Prelude.{◌≡◌, ℕ, ◌+◌, ◌*◌, ◌<◌, ◌≤◌, ◌==◌, ◌||◌, ◌⊎◌, [], ◌++◌, get_or, slice_index, length, OnOk};
 ghost use Rattle.std.specs.Int.{bit_at};
 ghost use Rattle.bank_tables.specs.Items.{has, AreWords};
+ghost use Rattle.bank_tables.specs.Sums.{any_below};
 ghost use Rattle.exam_records.specs.Sets.{number_of, set_bytes, items_at, words_of, no_items};
 ghost use Rattle.exam_records.specs.Reading.{set_at};
 
@@ -78,6 +79,13 @@ pub(crate) fn no_items() -> ItemSet
     let set = ItemSet::empty();
     is_set(&set);
     set
+}
+
+/// Whether the set has an item.
+pub(crate) fn has_items(set: &ItemSet) -> bool
+    ensures { result ≡ any_below 512 (has set.now) }
+{
+    set.first().is_some()
 }
 
 /// The set with those of eight items in it, from one on, whose bits are set.

@@ -3,11 +3,11 @@
 ghost use Rattle.std.specs.Prelude.{◌≡◌, ◌<◌, ℕ, [], get_or, length};
 ghost use Rattle.std.specs.Option.{option_copied};
 ghost use Rattle.bank_tables.specs.Items.{AreWords};
-ghost use Rattle.exam_records.specs.Shape.{GoesWith, HasBands, IsInRange, IsTreeOrNone, IsRecord};
+ghost use Rattle.exam_records.specs.Shape.{GoesWith, HasBands, AreListSets, IsInRange, IsTreeOrNone, IsRecord};
 
 use crate::sets::is_set;
 use bank_tables::ItemSet;
-use history_model::Entry;
+use history_model::{Entry, Without};
 use proof_tree::Tree;
 
 /// What eight sets are by their type, for a caller's proof: each is one of items. It does nothing.
@@ -17,6 +17,16 @@ pub fn are_sets(sets: &[ItemSet; 8])
 {
     for set in sets {
         is_set(set);
+    }
+}
+
+/// The two sets of a list are of items.
+fn are_list_sets(without: &Option<Without>)
+    ensures { AreListSets without.now }
+{
+    if let Some(list) = without {
+        is_set(&list.items);
+        is_set(&list.form);
     }
 }
 
@@ -30,10 +40,11 @@ pub fn is_in_range(entry: &Entry)
             session,
             booking,
             eligible,
-            ..
+            without,
         } => {
             let _numbers = (*session, *booking);
             are_sets(&eligible.sets);
+            are_list_sets(without);
         }
         Entry::SetAside { session, step, .. } => {
             let _numbers = (*session, *step);
@@ -70,7 +81,7 @@ fn is_tree(tree: Option<&Tree>)
     }
 }
 
-/// An entry and the tree that goes with it have a spelling, if its bands are few.
+/// An entry and the tree that goes with it have a spelling, if its bands are few and its list isn't empty.
 pub(crate) fn is_record(entry: &Entry, tree: Option<&Tree>)
     requires { GoesWith entry.now (option_copied tree) }
     ensures is_record { HasBands entry.now

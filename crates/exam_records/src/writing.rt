@@ -4,14 +4,15 @@ ghost use Rattle.std.specs.Prelude.{◌≡◌, ℕ, ◌+◌, ◌≤◌, ◌<◌,
 ghost use Rattle.std.specs.Int.{w16, w32, w64, to_be_bytes};
 ghost use Rattle.std.specs.Option.{option_copied};
 ghost use Rattle.certificate_model.specs.ProofTrees.{ProofTree};
-ghost use Rattle.exam_records.specs.Shape.{GoesWith, HasBands, IsRecord};
-ghost use Rattle.exam_records.specs.Spelling.{cause_byte, served_bytes, answered_bytes, tree_bytes, sets_bytes, entry_bytes, payload_of, old_entry_bytes, old_payload_of, more_bytes};
+ghost use Rattle.history_model.specs.declared.entry.Entry.TheVariants.{Started};
+ghost use Rattle.exam_records.specs.Shape.{GoesWith, HasBands, HasNoList, IsRecord};
+ghost use Rattle.exam_records.specs.Spelling.{cause_byte, served_bytes, answered_bytes, tree_bytes, sets_bytes, list_bytes, entry_bytes, payload_of, old_entry_bytes, old_payload_of, more_bytes};
 
 use crate::record::Record;
 use crate::sets::{push_set, set_in};
 use crate::spellable::is_record;
 use bank_tables::ItemSet;
-use history_model::{Bands, Cause, Entry};
+use history_model::{Bands, Cause, Entry, Without};
 use proof_tree::{Memory, Tree};
 use std::alloc::{AllocError, Global};
 
@@ -75,22 +76,68 @@ fn push_sets(out: &mut Vec<u8>, eligible: &Bands) -> Result<(), AllocError>
     Ok(())
 }
 
-/// The bytes of the entry of a start.
+/// The bytes of the entry of a start of a kind, up to its eligible sets.
 fn push_started(
     out: &mut Vec<u8>,
+    kind: u8,
     session: u32,
     booking: u64,
     eligible: &Bands,
 ) -> Result<(), AllocError>
     requires { eligible.now.count ≤ 8 }
-    ensures { OnOk result (out.new.items ≡ out.old.items ++ 6 ∷ (to_be_bytes w32 session
+    ensures { OnOk result (out.new.items ≡ out.old.items ++ kind ∷ (to_be_bytes w32 session
         ++ (to_be_bytes w64 booking
         ++ eligible.now.count ∷ sets_bytes eligible.now.count eligible.now.sets))) }
 {
-    push_front(out, 6, session)?;
+    push_front(out, kind, session)?;
     out.extend_from_slice(&booking.to_be_bytes())?;
     out.push(eligible.count)?;
     push_sets(out, eligible)
+}
+
+/// The items that the examinee must not get, and the form without them.
+#[tactic(auto, unfolding(crate::specs::Spelling::list_bytes))]
+fn push_list(out: &mut Vec<u8>, list: &Without) -> Result<(), AllocError>
+    ensures { OnOk result (out.new.items ≡ out.old.items ++ list_bytes list.now) }
+{
+    push_set(out, &list.items)?;
+    push_set(out, &list.form)
+}
+
+/// The bytes of the entry of a start with a list.
+fn push_started_with_list(
+    out: &mut Vec<u8>,
+    session: u32,
+    booking: u64,
+    eligible: &Bands,
+    list: &Without,
+) -> Result<(), AllocError>
+    requires { eligible.now.count ≤ 8 }
+    ensures { OnOk result (out.new.items ≡ out.old.items ++ 9 ∷ (to_be_bytes w32 session
+        ++ (to_be_bytes w64 booking ++ eligible.now.count
+        ∷ (sets_bytes eligible.now.count eligible.now.sets ++ list_bytes list.now)))) }
+{
+    push_started(out, 9, session, booking, eligible)?;
+    push_list(out, list)
+}
+
+/// The bytes of the entry of a start, with a list or without one.
+#[tactic(auto, unfolding(crate::specs::Spelling::entry_bytes))]
+fn push_start(
+    out: &mut Vec<u8>,
+    session: u32,
+    booking: u64,
+    eligible: &Bands,
+    without: &Option<Without>,
+) -> Result<(), AllocError>
+    requires { eligible.now.count ≤ 8 }
+    ensures { OnOk result (out.new.items
+        ≡ out.old.items ++ entry_bytes (Started session booking eligible.now without.now)) }
+{
+    match without {
+        Some(list) => push_started_with_list(out, session, booking, eligible, list),
+        None => push_started(out, 6, session, booking, eligible),
+    }
 }
 
 /// The bytes of the entry of a setting aside.
@@ -121,8 +168,8 @@ fn push_entry(out: &mut Vec<u8>, entry: &Entry) -> Result<(), AllocError>
             session,
             booking,
             eligible,
-            ..
-        } => push_started(out, *session, *booking, eligible),
+            without,
+        } => push_start(out, *session, *booking, eligible, without),
         Entry::SetAside {
             session,
             step,
@@ -202,9 +249,9 @@ fn push_tree(alloc: Global, out: &mut Vec<u8>, tree: Option<&Tree>) -> Result<()
 
 /// Writes the spelling of the record of an entry and its tree in the second version of the journal, at most 86,600 bytes,
 /// after what was written before. The conditions are that there is a tree exactly where the entry is SetAside or Served, that
-/// the entry's number of nodes is the tree's, that a start has 1 to 8 bands that count and no items in the others, and no
-/// list, and that the band of a setting aside is below 8. Fails only where it is out of memory, and then it isn't known what
-/// of the spelling was written.
+/// the entry's number of nodes is the tree's, that a start has 1 to 8 bands that count and no items in the others, that its
+/// list, if there is one, isn't empty, and that the band of a setting aside is below 8. Fails only where it is out of memory,
+/// and then it isn't known what of the spelling was written.
 #[tactic(auto, unfolding(crate::specs::Spelling::payload_of))]
 pub fn push_record(
     alloc: Global,
@@ -258,7 +305,7 @@ pub fn encode(alloc: Global, rec: &Record) -> Result<Vec<u8>, Memory>
 
 /// Writes the spelling of the record of an entry and its tree in the first version of the journal, at most 86,600 bytes,
 /// after what was written before. Of a start it keeps the set of one band, `first`, which is to be the band where each session
-/// begins; of a setting aside it keeps neither the step nor the band. The conditions are that there is such a band, that there
+/// begins, and no list; of a setting aside it keeps neither the step nor the band. The conditions are that there is such a band, that there
 /// is a tree exactly where the entry is SetAside or Served, and that the entry's number of nodes is the tree's. Fails only
 /// where it is out of memory, and then it isn't known what of the spelling was written.
 #[tactic(auto, unfolding(crate::specs::Spelling::old_payload_of))]
@@ -321,10 +368,12 @@ pub fn encode_old(alloc: Global, first: u8, rec: &Record) -> Result<Vec<u8>, Mem
 }
 
 /// By how many bytes the spelling of a record of the entry is longer in the second version than in the first: 1 and 64 for
-/// each band but one that counts, for a start; 3 for a setting aside; else none. The condition is that of `push_record` on
-/// bands. So the length of a record in the second version is known from its payload in the first.
+/// each band but one that counts, for a start; 3 for a setting aside; else none. The conditions are that of `push_record` on
+/// bands, and that a start has no list. So the length of a record in the second version is known from its payload in the
+/// first.
 pub fn growth(entry: &Entry) -> u64
-    requires { HasBands entry.now }
+    requires bands { HasBands entry.now }
+    requires unlisted { HasNoList entry.now }
     ensures more { result ≡ more_bytes entry.now }
     ensures longer { (first : ℕ) (tree : Option ProofTree)
         → length (payload_of (record { entry = entry.now; tree = tree }))

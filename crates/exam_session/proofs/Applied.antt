@@ -135,12 +135,17 @@ no_start (Served session step item form proved nodes) other = refl
 no_start (Answered session step response) other = refl
 no_start (Closed session) other = refl
 
+-- a start brings a set for each band, and one for its list
+few_sets : (eligible : Bands) (without : Option Without) → sets_of eligible without ≤ eligible.count + 1
+few_sets eligible (Some list) = omega arith
+few_sets eligible None = omega arith
+
 -- the spare seat takes a start that is legal
 pub takes_start : (b : Tables) (plan : Plan) (H : List Entry) (e : Entry) (spare : Option KeptSeat) → IsPlanFor b plan → Legal b plan H e → starts e ≡ true → IfSome spare (IsSpare plan) → IfSome spare (HasRoomFor e)
 takes_start b plan H e None valid legal start ready = tt
 takes_start b plan H (Started session booking eligible without) (Some kept) valid legal start ready =
     let number : eligible.count ≡ bands_of plan = legal.drawn.number in
-    let sets : sets_of eligible without ≡ eligible.count = ap (sets_of eligible) legal.no_list in
+    let sets : sets_of eligible without ≤ eligible.count + 1 = few_sets eligible without in
     let free = ready.room.sets in
     record {
       no_sets = ready.unused.no_sets;

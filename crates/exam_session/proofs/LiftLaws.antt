@@ -23,13 +23,14 @@ use Rattle.history_model.specs.Counts.{band_counts}
 use Rattle.history_model.specs.Draws.{SameItems, AreDrawn, drawn, draw}
 use Rattle.history_model.specs.Entries.{items_in, starts, sets_aside}
 use Rattle.history_model.specs.Lifting.{AreLifted, IsLifted}
+use Rattle.history_model.specs.Lists.{IsLegalWithout}
 use Rattle.history_model.specs.SessionProblems.{IsProblemOf}
 use Rattle.history_model.proofs.JudgingLaws.{one_problem}
 use Rattle.exam_records.specs.Old.{one_band, old_entry}
 use Rattle.exam_records.specs.Sets.{set_bytes}
 use Rattle.exam_records.specs.Spelling.{old_entry_bytes}
 use Rattle.std.specs.Int.{w32, w64, to_be_bytes}
-use Rattle.exam_records.specs.Shape.{AreEligible, AreSets, HasBands, IsInRange}
+use Rattle.exam_records.specs.Shape.{AreEligible, AreSets, HasItemsIfAny, HasBands, HasNoList, IsInRange}
 use Rattle.exam_session.specs.Laws.{LegalHasBands, MayIsLifted, LiftedIsOne}
 
 -- the draws are sets of as many bands as an entry may have
@@ -43,8 +44,21 @@ drawn_eligible b plan H s eligible valid are =
       none_past = λ band past i. are.each band i ∙ ap (λ (t : Bool). t && drawn plan.key plan.rate s band (size b) (band_counts b plan H band) i) (le-ltb band (bands_of plan) (omega (arith, past, number)));
     }
 
+-- a list that is legal has items
+legal_items : (b : Tables) (plan : Plan) (without : Option Without) → IsLegalWithout b plan without → HasItemsIfAny without
+legal_items b plan None legal = tt
+legal_items b plan (Some list) legal = (legal.items.item, legal.items.listed)
+
+-- an entry that starts no session has no list
+pub no_list_unless_start : (e : Entry) → starts e ≡ false → HasNoList e
+no_list_unless_start (Started session booking eligible without) is = absurd (cc)
+no_list_unless_start (SetAside session step band cause nodes) is = tt
+no_list_unless_start (Served session step item form proved nodes) is = tt
+no_list_unless_start (Answered session step response) is = tt
+no_list_unless_start (Closed session) is = tt
+
 pub legal_has_bands : LegalHasBands
-legal_has_bands b plan H (Started session booking eligible without) valid legal = (drawn_eligible b plan H session eligible valid legal.drawn, legal.no_list)
+legal_has_bands b plan H (Started session booking eligible without) valid legal = (drawn_eligible b plan H session eligible valid legal.drawn, legal_items b plan without legal.listed)
 legal_has_bands b plan H (SetAside session step band cause nodes) valid legal =
     let is = legal.band_is in
     let most = count_by-le-length (λ point. nat_le point legal.problem.theta) plan.bands in
@@ -69,15 +83,15 @@ aside_at b plan H s step now band nodes cause P Q is band_is other =
     same_aside s step band now (band_of plan Q.theta) nodes cause at (band_is ∙ ap (λ (R : Problem). band_of plan R.theta) same)
 
 pub may_is_lifted : MayIsLifted
-may_is_lifted b plan H (Started session booking eligible without) tree may =
-    (eligible, record { number = may.0.drawn.number; kept = λ i. refl; others = λ band other. may.0.drawn.each band }, ap (λ (list : Option Without). Started session booking eligible list) may.0.no_list)
-may_is_lifted b plan H (SetAside session step band cause nodes) tree may = record {
+may_is_lifted b plan H (Started session booking eligible without) tree unlisted may =
+    (eligible, record { number = may.0.drawn.number; kept = λ i. refl; others = λ band other. may.0.drawn.each band }, ap (λ (list : Option Without). Started session booking eligible list) unlisted)
+may_is_lifted b plan H (SetAside session step band cause nodes) tree unlisted may = record {
   pending = λ now P is. aside_at b plan H session step now band nodes cause may.problem P may.is_problem may.band_is is;
   stays = λ none. absurd (none step may.is_problem.pending);
 }
-may_is_lifted b plan H (Served session step item form proved nodes) tree may = refl
-may_is_lifted b plan H (Answered session step response) tree may = refl
-may_is_lifted b plan H (Closed session) tree may = refl
+may_is_lifted b plan H (Served session step item form proved nodes) tree unlisted may = refl
+may_is_lifted b plan H (Answered session step response) tree unlisted may = refl
+may_is_lifted b plan H (Closed session) tree unlisted may = refl
 
 -- ---- and to nothing else
 pub same_lists : (xs ys : List (List ℕ)) → length xs ≡ length ys → ((k : ℕ) → k < length xs → get_or xs k [] ≡ get_or ys k []) → xs ≡ ys
@@ -103,16 +117,16 @@ one_bands b plan H s eligible new are are_new made lifted =
     ]
 
 pub lifted_is_one : LiftedIsOne
-lifted_is_one b plan H (Started session booking eligible without) new tree fits fits_new may lifted =
+lifted_is_one b plan H (Started session booking eligible without) new tree fits fits_new unlisted may lifted =
     let sets : Bands = lifted.0 in
     let range : IsInRange (Started session booking sets None) = subst IsInRange lifted.2 fits_new in
     lifted.2 ∙ (ap (λ (x : Bands). Started session booking x None) (one_bands b plan H session eligible sets fits.2 range.2 may.0.drawn lifted.1)
-    ∙ ap (λ (list : Option Without). Started session booking eligible list) (sym may.0.no_list))
-lifted_is_one b plan H (SetAside session step band cause nodes) new tree fits fits_new may lifted =
+    ∙ ap (λ (list : Option Without). Started session booking eligible list) (sym unlisted))
+lifted_is_one b plan H (SetAside session step band cause nodes) new tree fits fits_new unlisted may lifted =
     lifted.pending step may.problem may.is_problem ∙ same_aside session step (band_of plan may.problem.theta) step band nodes cause refl (sym may.band_is)
-lifted_is_one b plan H (Served session step item form proved nodes) new tree fits fits_new may lifted = lifted
-lifted_is_one b plan H (Answered session step response) new tree fits fits_new may lifted = lifted
-lifted_is_one b plan H (Closed session) new tree fits fits_new may lifted = lifted
+lifted_is_one b plan H (Served session step item form proved nodes) new tree fits fits_new unlisted may lifted = lifted
+lifted_is_one b plan H (Answered session step response) new tree fits fits_new unlisted may lifted = lifted
+lifted_is_one b plan H (Closed session) new tree fits fits_new unlisted may lifted = lifted
 
 -- ---- the sets that lifting makes: the draws, with that of a record where each session begins
 module _ (b : Tables) (plan : Plan) (H : List Entry) (s : ℕ) (old made : Bands) (first : ℕ) (words : List ℕ) (valid : IsPlanFor b plan) (is_first : first ≡ first_band b plan) (of_plan : first < bands_of plan) (within : first < length made.sets) (is_old : words ≡ get_or old.sets 0 [])

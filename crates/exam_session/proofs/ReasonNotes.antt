@@ -12,7 +12,7 @@ use Rattle.history_model.specs.declared.entry.Cause.{Cause}
 use Rattle.history_model.specs.declared.entry.Entry.{Entry}
 use Rattle.history_model.specs.declared.entry.Entry.TheVariants.{SetAside, Served}
 use Rattle.history_model.specs.declared.illegal.Illegal.{Illegal}
-use Rattle.history_model.specs.declared.illegal.Illegal.TheVariants.{NotNumber, Booked, NotDrawn, HasList, NoSession, NotPending, IsAside, NotStep, NotBand, NotForm, NotItem, NotSpent, Tree, NotWaiting, BadResponse, Ended}
+use Rattle.history_model.specs.declared.illegal.Illegal.TheVariants.{NotNumber, Booked, NotDrawn, NoItem, NotWithout, NoSession, NotPending, IsAside, NotStep, NotBand, NotForm, NotItem, NotSpent, Tree, NotWaiting, BadResponse, Ended}
 use Rattle.history_model.specs.SessionProblems.{IsProblemOf}
 use Rattle.history_model.specs.declared.claim.Claim.{Claim}
 use Rattle.history_model.specs.Judging.{claim_of_mark, claim_of_cause}
@@ -32,7 +32,8 @@ of_serving b plan H s step item nodes form proved tree P claim reason is form_is
     by (NotNumber count) h = absurd h
     by (Booked session) h = absurd h
     by (NotDrawn item) h = absurd h
-    by HasList h = absurd h
+    by (NoItem count) h = absurd h
+    by (NotWithout breach) h = absurd h
     by (NoSession count) h = absurd h
     by (NotPending at) h = absurd h
     by IsAside h = absurd h
@@ -54,7 +55,8 @@ of_aside b plan H s step band nodes cause tree P claim reason is not_aside band_
     by (NotNumber count) h = absurd h
     by (Booked session) h = absurd h
     by (NotDrawn item) h = absurd h
-    by HasList h = absurd h
+    by (NoItem count) h = absurd h
+    by (NotWithout breach) h = absurd h
     by (NoSession count) h = absurd h
     by (NotPending at) h = absurd h
     by IsAside h = absurd h
@@ -73,7 +75,8 @@ pub of_no_wait : (b : Tables) (plan : Plan) (H : List Entry) (s step band nodes 
 of_no_wait b plan H s step band nodes cause tree (NotNumber count) h = absurd h
 of_no_wait b plan H s step band nodes cause tree (Booked session) h = absurd h
 of_no_wait b plan H s step band nodes cause tree (NotDrawn item) h = absurd h
-of_no_wait b plan H s step band nodes cause tree HasList h = absurd h
+of_no_wait b plan H s step band nodes cause tree (NoItem count) h = absurd h
+of_no_wait b plan H s step band nodes cause tree (NotWithout breach) h = absurd h
 of_no_wait b plan H s step band nodes cause tree (NoSession count) h = h
 of_no_wait b plan H s step band nodes cause tree (NotPending at) h = h
 of_no_wait b plan H s step band nodes cause tree IsAside h = absurd h

@@ -42,11 +42,12 @@ seat_kept kept =
       closed = kept.closed;
     }
 
--- each list has room for what a test of the plan needs in all
+-- each list has room for what a test of the plan needs in all, the sets for a list of items that the
+-- examinee must not get
 pub record HasRoom (plan : Plan) (kept : KeptSeat) : Type 0 where
   pub shown : plan.length ≤ vec_capacity kept.shown
   pub responses : plan.length ≤ vec_capacity kept.responses
-  pub sets : bands_of plan ≤ vec_capacity kept.sets
+  pub sets : bands_of plan + 1 ≤ vec_capacity kept.sets
 
 -- how many sets a start brings
 abbrev pub sets_of : Bands → Option Without → ℕ

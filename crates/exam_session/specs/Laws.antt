@@ -10,22 +10,23 @@ use Rattle.history_model.specs.Judging.{Record, MayFollow}
 use Rattle.history_model.specs.Legality.{Legal}
 use Rattle.history_model.specs.Lifting.{IsLifted}
 use Rattle.exam_records.specs.Old.{old_entry}
-use Rattle.exam_records.specs.Shape.{HasBands, IsInRange}
+use Rattle.exam_records.specs.Shape.{HasBands, HasNoList, IsInRange}
 
--- the bands of an entry that is legal are as many as an entry may have
+-- the bands of an entry that is legal are as many as an entry may have, and its list isn't empty
 abbrev pub LegalHasBands : Type 0
 LegalHasBands = (b : Tables) (plan : Plan) (H : List Entry) (entry : Entry)
     → IsPlanFor b plan → Legal b plan H entry → HasBands entry
 
--- what the first version keeps of an entry that may follow is lifted to that entry
+-- what the first version keeps of an entry that may follow is lifted to that entry, if it has no
+-- list
 abbrev pub MayIsLifted : Type 0
 MayIsLifted = (b : Tables) (plan : Plan) (H : List Entry) (entry : Entry) (tree : Option ProofTree)
-    → MayFollow b plan H entry tree
+    → HasNoList entry → MayFollow b plan H entry tree
     → IsLifted b plan H (old_entry (first_band b plan) entry) entry
 
 -- and to nothing else
 abbrev pub LiftedIsOne : Type 0
 LiftedIsOne =
     (b : Tables) (plan : Plan) (H : List Entry) (entry new : Entry) (tree : Option ProofTree)
-    → IsInRange entry → IsInRange new → MayFollow b plan H entry tree
+    → IsInRange entry → IsInRange new → HasNoList entry → MayFollow b plan H entry tree
     → IsLifted b plan H (old_entry (first_band b plan) entry) new → new ≡ entry

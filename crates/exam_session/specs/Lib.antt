@@ -7,4 +7,5 @@ pub mod Visits
 pub mod Bookings
 pub mod Totals
 pub mod Waits
+pub mod Unlisted
 pub mod Laws

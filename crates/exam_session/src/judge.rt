@@ -16,6 +16,7 @@ ghost use Rattle.exam_session.specs.Waits.{IsNotPending, WaitsForNone};
 use crate::book::Book;
 use crate::claims::{claim_of_cause, claim_of_mark, shows};
 use crate::drawing::first_difference;
+use crate::listing::unlisted;
 use bank_tables::ItemSet;
 use constraint_model::{Problem, meets};
 use exam_records::Record;
@@ -91,8 +92,8 @@ impl<'a> Book<'a> {
         if let Some(item) = first_difference(eligible, &self.drawn()) {
             return Err(Illegal::NotDrawn(item));
         }
-        if without.is_some() {
-            return Err(Illegal::HasList);
+        if let Some(reason) = unlisted(self.bank, self.spec, without) {
+            return Err(reason);
         }
         if tree.is_some() {
             return Err(Illegal::NotSpent(0));

@@ -22,8 +22,8 @@ use history_model::{Bands, Entry, Place, Without};
 use serving_model::Seat;
 use std::alloc::Global;
 
-/// The content of a `Seat`, in lists that have room for the items of a test and the bands of the plan and no more, and the
-/// sums of the plan's prior and its answers.
+/// The content of a `Seat`, in lists that have room for the items of a test, a set of items withheld and the bands of the plan
+/// and no more, and the sums of the plan's prior and its answers.
 #[derive(Drop)]
 pub(crate) struct KeptSeat {
     pub(crate) shown: Vec<u16>,
@@ -131,7 +131,7 @@ impl KeptSeat {
             shown: Vec::with_capacity(alloc, items)?,
             responses: Vec::with_capacity(alloc, items)?,
             sums: KeptSums::of_prior(alloc, spec.prior())?,
-            sets: Vec::with_capacity(alloc, spec.bands().len() + 1)?,
+            sets: Vec::with_capacity(alloc, spec.bands().len() + 2)?,
             form: None,
             aside: 0,
             has_list: false,

@@ -2,12 +2,12 @@
 
 ghost use Rattle.exam_session.specs.Laws.{LegalHasBands, MayIsLifted, LiftedIsOne};
 
-/// The bands of a legal entry are at most eight.
+/// The bands of a legal entry are at most eight, and its list isn't empty.
 pub fn a_legal_entry_has_bands()
     ensures { LegalHasBands }
 {}
 
-/// What the first version keeps of an entry that may follow is lifted to that entry.
+/// What the first version keeps of an entry that may follow is lifted to that entry, if it has no list.
 pub fn an_entry_is_lifted_to_itself()
     ensures { MayIsLifted }
 {}

@@ -18,6 +18,7 @@ mod judge;
 mod kept_seat;
 pub mod laws;
 mod lifting;
+mod listing;
 mod seats;
 mod totals;
 
@@ -25,3 +26,4 @@ pub use book::Book;
 pub use exam_records::{Bands, Cause, Entry, Record, Without};
 pub use exposure_counters::{Counters, Memory};
 pub use history_model::{Illegal, Place, Summary};
+pub use listing::{is_list, whole_without};

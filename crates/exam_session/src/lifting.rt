@@ -4,7 +4,7 @@ ghost use Rattle.std.specs.Prelude.{◌≡◌, [], get_or, Option};
 ghost use Rattle.certificate_model.specs.ProofTrees.{ProofTree};
 ghost use Rattle.serving_model.specs.Seats.{first_band};
 ghost use Rattle.history_model.specs.Lifting.{AreLifted, IsLifted};
-ghost use Rattle.exam_records.specs.Shape.{AreEligible, GoesWith, HasBands, IsRecord};
+ghost use Rattle.exam_records.specs.Shape.{AreEligible, GoesWith, HasBands, HasNoList, IsRecord};
 ghost use Rattle.exam_records.specs.Spelling.{old_entry_bytes, old_payload_of};
 
 use crate::book::Book;
@@ -43,6 +43,7 @@ impl<'a> Book<'a> {
         ensures goes_with { (tree : Option ProofTree) → GoesWith old.now tree
             → GoesWith result tree }
         ensures bands { HasBands old.now → HasBands result }
+        ensures unlisted { HasNoList result }
     {
         match *old {
             Entry::Started {
@@ -77,7 +78,7 @@ impl<'a> Book<'a> {
 
     /// A record of the first version as one of today, after the entries of the book: a start gets its
     /// draw in the bands that the record has no set of, and a setting aside the step and the band of its session, if the
-    /// session waits for an item. Every other record stays as it is. Takes no memory.
+    /// session waits for an item. Every other record stays as it is, and none gets a list. Takes no memory.
     pub fn lift(&self, old: Record) -> Record
         ensures entry { IsLifted self.now.bank self.now.plan self.now.entries old.entry
             result.entry }
@@ -86,6 +87,7 @@ impl<'a> Book<'a> {
         ensures spelling { old_payload_of (first_band self.now.bank self.now.plan) result
             ≡ old_payload_of 0 old }
         ensures is_record { IsRecord old → IsRecord result }
+        ensures unlisted { HasNoList result.entry }
     {
         let entry = self.lift_entry(&old.entry);
         is_in_range(&entry);

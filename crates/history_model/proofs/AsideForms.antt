@@ -15,7 +15,7 @@ use Rattle.form_model.proofs.SumLaws.{or_right}
 use Rattle.history_model.specs.Entries.{seat_of}
 use Rattle.history_model.specs.SessionProblems.{problem_once_aside, fallback}
 use Rattle.history_model.specs.Laws.{FormOnceAside, FormWhereAside}
-use Rattle.history_model.proofs.Running.{seat_is_seat, has_no_list, last_form_stays}
+use Rattle.history_model.proofs.Running.{seat_is_seat, last_form_stays}
 
 no_items : (xs : List ℕ) → length xs ≡ 0 → xs ≡ []
 no_items [] e = refl
@@ -58,7 +58,7 @@ form_once_aside b plan H s step P base run is meets = by seat.form refl
     by None none =
         let e : P.start ≡ None = start ∙ ap (λ (f : Option (List ℕ)). option_map has f) none in
         let empty : seat.shown ≡ [] = no_items seat.shown ((seat_is_seat b plan H s run).form_none none) in
-        subst (λ (o : Option Set). Form (problem_once_aside b plan H s P.theta) (unwrap_or o base)) (sym e) (form_unshown b plan s P.theta seat empty (has_no_list b plan H s run) base meets)
+        subst (λ (o : Option Set). Form (problem_once_aside b plan H s P.theta) (unwrap_or o base)) (sym e) (form_unshown b plan s P.theta seat empty ((seat_is_seat b plan H s run).list_form none) base meets)
 
 pub form_where_aside : FormWhereAside
 form_where_aside b plan H s step P base run is meets aside =

@@ -175,7 +175,7 @@ are_drawn = record { number = refl; each = each }
 
 may_start : MayFollow bank_three plan_two two_sessions (Started 2 72 (two_bands (one_word 4) (one_word 1)) None) None
 unfolding two_sessions plan_two plan_of_rows
-may_start = (record { number = record { next = refl; within = lit≤ tt }; not_booked = refl; drawn = are_drawn; no_list = refl }, refl)
+may_start = (record { number = record { next = refl; within = lit≤ tt }; not_booked = refl; drawn = are_drawn; listed = tt }, refl)
 
 -- ---- one Count leaf of the length shows that no set of two is a form
 unfoldable one_leaf : ProofTree

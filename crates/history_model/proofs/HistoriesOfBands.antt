@@ -31,7 +31,7 @@ use Rattle.serving_model.proofs.BandsOfA.{bank_bands, plan_bands}
 use Rattle.history_model.specs.declared.entry.Bands.{Bands}
 use Rattle.history_model.specs.declared.entry.Entry.{Entry}
 use Rattle.history_model.specs.declared.entry.Entry.TheVariants.{Started, Served, Answered, Closed}
-use Rattle.history_model.specs.declared.illegal.Illegal.TheVariants.{NotDrawn, HasList, NotForm}
+use Rattle.history_model.specs.declared.illegal.Illegal.TheVariants.{NotDrawn, NotForm}
 use Rattle.history_model.specs.declared.place.Place.TheVariants.{Pending, Complete, Closed as IsClosed}
 use Rattle.history_model.specs.Entries.{items_in, seat_of}
 use Rattle.history_model.specs.Places.{place}
@@ -210,9 +210,9 @@ next_number = record { next = refl; within = lit≤ tt }
 
 may_start : MayFollow bank_bands plan_rare stayed (Started 1 71 (two_bands (one_word 49) (one_word 63)) None) None
 unfolding stayed
-may_start = (record { number = next_number; not_booked = refl; drawn = are_drawn; no_list = refl }, refl)
+may_start = (record { number = next_number; not_booked = refl; drawn = are_drawn; listed = tt }, refl)
 
--- refused: all items in the first band, item 0 missing in the second, one set alone, a list
+-- refused: all items in the first band, item 0 missing in the second, one set alone
 start_all : IsIllegal bank_bands plan_rare stayed (Started 1 71 (two_bands (one_word 63) (one_word 63)) None) None (NotDrawn 1)
 unfolding plan_rare plan_bands plan_of_rows plan_a stayed has bank_bands item_a sevens mode_of greatest_at draw_word u32_at quarter_round column_round diagonal_round double_rounds block_word
 start_all = (next_number, refl, other_items 1 refl (record { band = 0; differs = λ e. true≢false e; before = before }))
@@ -230,10 +230,6 @@ start_second = (next_number, refl, other_items 0 refl (record { band = 1; differ
 start_one_set : IsIllegal bank_bands plan_rare stayed (Started 1 71 (one_band (one_word 49)) None) None (NotDrawn 0)
 unfolding stayed plan_rare plan_bands plan_of_rows plan_a
 start_one_set = (next_number, refl, other_number (λ e. absurd (omega (arith, e))))
-
-start_with_list : IsIllegal bank_bands plan_rare stayed (Started 1 71 (two_bands (one_word 49) (one_word 63)) (Some (record { items = one_word 4; form = one_word 49 }))) None HasList
-unfolding stayed
-start_with_list = (next_number, refl, are_drawn, λ e. cc)
 
 -- ---- the third item in the second band: nothing is barred, and item 1 follows from the form of items 1, 4 and 5
 mode_on : IsPosteriorMode bank_bands plan_rare.prior ((5, 1) ∷ (4, 1) ∷ []) 2

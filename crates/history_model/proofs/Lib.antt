@@ -15,10 +15,13 @@ pub mod Running
 pub mod JudgingLaws
 pub mod Lifted
 pub mod CompleteLaws
+pub mod ListReasons
+pub mod ListLaws
 pub mod ReasonLaws
 pub mod RecordsOfA
 pub mod RequestsOfA
 pub mod ReasonsOfA
+pub mod ListsOfA
 pub mod MarksAndCauses
 pub mod CountLaws
 pub mod OneBand
@@ -32,3 +35,4 @@ pub mod AsideForms
 pub mod Bounds
 pub mod LastForms
 pub mod BandLaws
+pub mod AheadLaws

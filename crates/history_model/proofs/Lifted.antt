@@ -32,7 +32,7 @@ all_drawn b plan H session old new drawn lifted = record { number = lifted.numbe
 pub lifted_may_follow : LiftedMayFollow
 lifted_may_follow b plan H (Started session booking old without) new tree may lifted =
     subst (λ (e : Entry). MayFollow b plan H e tree) (sym lifted.2)
-    (record { number = may.0.number; not_booked = may.0.not_booked; drawn = all_drawn b plan H session old lifted.0 may.0.drawn lifted.1; no_list = refl }, may.1)
+    (record { number = may.0.number; not_booked = may.0.not_booked; drawn = all_drawn b plan H session old lifted.0 may.0.drawn lifted.1; listed = tt }, may.1)
 lifted_may_follow b plan H (SetAside session step band cause nodes) new tree may lifted =
     subst (λ (e : Entry). MayFollow b plan H e tree) (sym (lifted.pending may.step may.problem may.is_problem))
     (record { problem = may.problem; is_problem = may.is_problem; band_is = refl; not_aside = may.not_aside; shows = may.shows })

@@ -23,7 +23,7 @@ use Rattle.history_model.specs.declared.entry.Entry.TheVariants.{Started, SetAsi
 use Rattle.history_model.specs.declared.place.Place.{Place}
 use Rattle.history_model.specs.declared.place.Place.TheVariants.{Pending, Waiting}
 use Rattle.history_model.specs.declared.illegal.Illegal.{Illegal}
-use Rattle.history_model.specs.declared.illegal.Illegal.TheVariants.{NotNumber, Booked, NotDrawn, HasList, NoSession, NotPending, IsAside, NotStep, NotBand, NotForm, NotItem, NotSpent, Tree, NotWaiting, BadResponse, Ended}
+use Rattle.history_model.specs.declared.illegal.Illegal.TheVariants.{NotNumber, Booked, NotDrawn, NoItem, NotWithout, NoSession, NotPending, IsAside, NotStep, NotBand, NotForm, NotItem, NotSpent, Tree, NotWaiting, BadResponse, Ended}
 use Rattle.history_model.specs.Entries.{holder}
 use Rattle.history_model.specs.Places.{place}
 use Rattle.history_model.specs.Draws.{AreDrawn, IsFirstDifference, IsNotDrawn, other_number, other_items}
@@ -34,6 +34,7 @@ use Rattle.history_model.specs.Judging.{claim_of_mark, claim_of_cause, HasTree, 
 use Rattle.history_model.specs.Reasons.{IsWaitingAt, IsPendingPlace, IsIllegal}
 use Rattle.history_model.specs.Laws.{OneReason, NoReasonIfMay}
 use Rattle.history_model.proofs.JudgingLaws.{one_problem}
+use Rattle.history_model.proofs.ListReasons.{one_breach_of, no_list_breach, no_list_legal, breach_not_legal}
 
 -- ---- values that are there, or aren't
 none_some : {A : Type 0} (o : Option A) (x : A) → o ≡ None → o ≡ Some x → ⊥
@@ -106,31 +107,43 @@ module _ (b : Tables) (plan : Plan) (H : List Entry) where
     one_start (NotNumber n) (NotNumber m) h k = ap NotNumber (h.1 ∙ sym k.1)
     one_start (NotNumber n) (Booked m) h k = absurd (h.0 k.0)
     one_start (NotNumber n) (NotDrawn j) h k = absurd (h.0 k.0)
-    one_start (NotNumber n) HasList h k = absurd (h.0 k.0)
+    one_start (NotNumber n) (NoItem m) h k = absurd (h.0 k.0)
+    one_start (NotNumber n) (NotWithout other) h k = absurd (h.0 k.0)
     one_start (NotNumber n) (NotSpent m) h k = absurd (h.0 k.0)
     one_start (NotNumber n) q h k = absurd k
     one_start (Booked n) (NotNumber m) h k = absurd (k.0 h.0)
     one_start (Booked n) (Booked m) h k = ap Booked (one_value (holder H booking) n m h.1 k.1)
     one_start (Booked n) (NotDrawn j) h k = absurd (none_some (holder H booking) n k.1 h.1)
-    one_start (Booked n) HasList h k = absurd (none_some (holder H booking) n k.1 h.1)
+    one_start (Booked n) (NoItem m) h k = absurd (none_some (holder H booking) n k.1 h.1)
+    one_start (Booked n) (NotWithout other) h k = absurd (none_some (holder H booking) n k.1 h.1)
     one_start (Booked n) (NotSpent m) h k = absurd (none_some (holder H booking) n k.1 h.1)
     one_start (Booked n) q h k = absurd k
     one_start (NotDrawn i) (NotNumber m) h k = absurd (k.0 h.0)
     one_start (NotDrawn i) (Booked m) h k = absurd (none_some (holder H booking) m h.1 k.1)
     one_start (NotDrawn i) (NotDrawn j) h k = ap NotDrawn (one_not_drawn b plan H session eligible i j h.2 k.2)
-    one_start (NotDrawn i) HasList h k = absurd (drawn_differs i k.2 h.2)
+    one_start (NotDrawn i) (NoItem m) h k = absurd (drawn_differs i k.2 h.2)
+    one_start (NotDrawn i) (NotWithout other) h k = absurd (drawn_differs i k.2 h.2)
     one_start (NotDrawn i) (NotSpent m) h k = absurd (drawn_differs i k.2 h.2)
     one_start (NotDrawn i) q h k = absurd k
-    one_start HasList (NotNumber m) h k = absurd (k.0 h.0)
-    one_start HasList (Booked m) h k = absurd (none_some (holder H booking) m h.1 k.1)
-    one_start HasList (NotDrawn j) h k = absurd (drawn_differs j h.2 k.2)
-    one_start HasList HasList h k = refl
-    one_start HasList (NotSpent m) h k = absurd (h.3 k.3)
-    one_start HasList q h k = absurd k
+    one_start (NoItem n) (NotNumber m) h k = absurd (k.0 h.0)
+    one_start (NoItem n) (Booked m) h k = absurd (none_some (holder H booking) m h.1 k.1)
+    one_start (NoItem n) (NotDrawn j) h k = absurd (drawn_differs j h.2 k.2)
+    one_start (NoItem n) (NoItem m) h k = ap NoItem (h.4 ∙ sym k.4)
+    one_start (NoItem n) (NotWithout other) h k = absurd (no_list_breach b plan without other h.3 k.3)
+    one_start (NoItem n) (NotSpent m) h k = absurd (no_list_legal b plan without h.3 k.3)
+    one_start (NoItem n) q h k = absurd k
+    one_start (NotWithout breach) (NotNumber m) h k = absurd (k.0 h.0)
+    one_start (NotWithout breach) (Booked m) h k = absurd (none_some (holder H booking) m h.1 k.1)
+    one_start (NotWithout breach) (NotDrawn j) h k = absurd (drawn_differs j h.2 k.2)
+    one_start (NotWithout breach) (NoItem m) h k = absurd (no_list_breach b plan without breach k.3 h.3)
+    one_start (NotWithout breach) (NotWithout other) h k = ap NotWithout (one_breach_of b plan without breach other h.3 k.3)
+    one_start (NotWithout breach) (NotSpent m) h k = absurd (breach_not_legal b plan without breach h.3 k.3)
+    one_start (NotWithout breach) q h k = absurd k
     one_start (NotSpent n) (NotNumber m) h k = absurd (k.0 h.0)
     one_start (NotSpent n) (Booked m) h k = absurd (none_some (holder H booking) m h.1 k.1)
     one_start (NotSpent n) (NotDrawn j) h k = absurd (drawn_differs j h.2 k.2)
-    one_start (NotSpent n) HasList h k = absurd (k.3 h.3)
+    one_start (NotSpent n) (NoItem m) h k = absurd (no_list_legal b plan without k.3 h.3)
+    one_start (NotSpent n) (NotWithout other) h k = absurd (breach_not_legal b plan without other k.3 h.3)
     one_start (NotSpent n) (NotSpent m) h k = ap NotSpent (h.5 ∙ sym k.5)
     one_start (NotSpent n) q h k = absurd k
     one_start r q h k = absurd h
@@ -139,7 +152,8 @@ module _ (b : Tables) (plan : Plan) (H : List Entry) where
     may_start (NotNumber n) h may = h.0 may.0.number
     may_start (Booked n) h may = none_some (holder H booking) n may.0.not_booked h.1
     may_start (NotDrawn i) h may = drawn_differs i may.0.drawn h.2
-    may_start HasList h may = h.3 may.0.no_list
+    may_start (NoItem n) h may = no_list_legal b plan without h.3 may.0.listed
+    may_start (NotWithout breach) h may = breach_not_legal b plan without breach h.3 may.0.listed
     may_start (NotSpent n) h may = h.4 may.1
     may_start r h may = h
 

@@ -35,7 +35,7 @@ use Rattle.history_model.specs.Reasons.{IsIllegal}
 use Rattle.history_model.proofs.HistoriesOfA.{one_band, started_a, served_a, answered_a, served_1, answered_1, served_2, answered_2, two_a, closed_a}
 use Rattle.history_model.proofs.RecordsOfA.{all_drawn, and_on, one_drawn, mode_0, problem_0, is_problem_0, form_0, next_0}
 
-unfoldable one_leaf : ProofTree
+unfoldable pub one_leaf : ProofTree
 one_leaf = record { vectors = []; nodes = Count 1 ∷ [] }
 
 -- ---- a start after session 0: of session 2, for its booking, without item 0, with a tree
@@ -43,7 +43,7 @@ start_2 : IsIllegal bank_a plan_a served_a (Started 2 71 (one_band (one_word 63)
 unfolding started_a served_a
 start_2 = (λ number. let e = number.next in omega arith, refl)
 
-next_number : IsNextNumber plan_a served_a 1
+pub next_number : IsNextNumber plan_a served_a 1
 unfolding started_a served_a plan_of_rows plan_a
 next_number = record { next = refl; within = lit≤ tt }
 
@@ -55,17 +55,17 @@ start_without : IsIllegal bank_a plan_a served_a (Started 1 71 (one_band (one_wo
 unfolding started_a served_a bank_a item_a plan_of_rows plan_a has
 start_without = (next_number, refl, other_items 0 refl (record { band = 0; differs = λ e. true≢false (sym e); before = λ other i w. absurd (omega arith) }))
 
-draw_1 : AreDrawn bank_a plan_a served_a 1 (one_band (one_word 63))
+pub draw_1 : AreDrawn bank_a plan_a served_a 1 (one_band (one_word 63))
 unfolding started_a served_a bank_a item_a plan_of_rows plan_a
 draw_1 = one_drawn served_a 1 (one_word 63) (λ i. all_drawn i ∙ sym (and_on (nat_lt i 6)))
 
 start_with_tree : IsIllegal bank_a plan_a served_a (Started 1 71 (one_band (one_word 63)) None) (Some one_leaf) (NotSpent 0)
 unfolding started_a served_a
-start_with_tree = (next_number, refl, draw_1, refl, λ e. cc, refl)
+start_with_tree = (next_number, refl, draw_1, tt, λ e. cc, refl)
 
 may_start_1 : MayFollow bank_a plan_a served_a (Started 1 71 (one_band (one_word 63)) None) None
 unfolding started_a served_a
-may_start_1 = (record { number = next_number; not_booked = refl; drawn = draw_1; no_list = refl }, refl)
+may_start_1 = (record { number = next_number; not_booked = refl; drawn = draw_1; listed = tt }, refl)
 
 -- ---- an answer out of range, of another step, of a session that isn't there, with a tree
 answer_2 : IsIllegal bank_a plan_a served_a (Answered 0 0 2) None (BadResponse 2)

@@ -75,7 +75,7 @@ draw_first = one_drawn [] 0 (one_word 63) (λ i. all_drawn i ∙ sym (and_on (na
 
 pub may_start : MayFollow bank_a plan_a [] (Started 0 70 (one_band (one_word 63)) None) None
 unfolding plan_of_rows plan_a
-may_start = (record { number = record { next = refl; within = lit≤ tt }; not_booked = refl; drawn = draw_first; no_list = refl }, refl)
+may_start = (record { number = record { next = refl; within = lit≤ tt }; not_booked = refl; drawn = draw_first; listed = tt }, refl)
 
 -- ---- item 2 from the form of items 1, 2 and 3
 pub mode_0 : IsPosteriorMode bank_a plan_a.prior [] 1

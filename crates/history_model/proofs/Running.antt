@@ -22,11 +22,12 @@ use Rattle.history_model.specs.declared.place.Place.TheVariants.{Pending, Waitin
 use Rattle.history_model.specs.Entries.{session_of, starts, starts_session, Serving, StepAnswer, sessions, is_started, is_closed, servings, step_answers, seat_of}
 use Rattle.history_model.specs.Places.{serving_at, place_at}
 use Rattle.history_model.specs.Legality.{Legal, IsLegalServing, IsLegalAnswer, LegalRun, empty, more}
+use Rattle.history_model.specs.Lists.{IsLegalWithout}
 use Rattle.history_model.specs.Laws.{AreInOrder, no_seat, raised, seat_with, step_place, SessionsAreNumbered, StepsAreInOrder, SeatBeforeStart, SeatGoesOn, SeatIsSeat, PlaceIsOfSeat, PendingIsOfSeat, LastFormStays}
 use Rattle.history_model.proofs.Pushed.{started-push, sessions-push, seat_goes_on}
 use Rattle.history_model.proofs.Standing.{past_end, before_end, IsPendingAt, IsWaitingFor, pending, waiting, there}
 use Rattle.history_model.proofs.Ordered.{found_at, in_order}
-use Rattle.history_model.proofs.SeatSteps.{Stands, new_stands, aside_stands, closed_stands, answered_stands, served_stands}
+use Rattle.history_model.proofs.SeatSteps.{Stands, new_stands, listed_stands, aside_stands, closed_stands, answered_stands, served_stands}
 
 -- ---- the number of a seat's items and responses
 pub shown_number : (H : List Entry) (s : ℕ) → length (seat_of H s).shown ≡ length (servings H s)
@@ -178,20 +179,27 @@ module _ (b : Tables) (plan : Plan) (H : List Entry) (e : Entry) (s : ℕ) (runs
       other = elim (either (session_of e == s)) [ inl same ↦ absurd (this_one same (either (starts e))) | inr differs ↦ differs ]
 
 -- ---- the predicate Stands holds of the seat after each entry
-started_stands : (b : Tables) (plan : Plan) (s : ℕ) (eligible : List (List ℕ)) (without : Option Without) (seat : Seat) → seat ≡ no_seat → without ≡ None
+started_stands : (b : Tables) (plan : Plan) (s : ℕ) (eligible : List (List ℕ)) (without : Option Without) (seat : Seat) → seat ≡ no_seat → IsLegalWithout b plan without
     → Stands b plan s (record seat { eligible = eligible; without = option_map (λ (list : Without). list.items) without; form = option_map (λ (list : Without). list.form) without })
-started_stands b plan s eligible without seat none unlisted =
-    new_stands b plan s (record seat { eligible = eligible; without = option_map (λ (list : Without). list.items) without; form = option_map (λ (list : Without). list.form) without })
+started_stands b plan s eligible None seat none legal =
+    new_stands b plan s (record seat { eligible = eligible; without = None; form = None })
     (ap (λ (t : Seat). t.shown) none)
     (ap (λ (t : Seat). t.responses) none)
-    (ap (option_map (λ (list : Without). list.items)) unlisted)
-    (ap (option_map (λ (list : Without). list.form)) unlisted)
+    refl
+    refl
+started_stands b plan s eligible (Some list) seat none legal =
+    listed_stands b plan s (record seat { eligible = eligible; without = Some list.items; form = Some list.form }) list.items list.form
+    (ap (λ (t : Seat). t.shown) none)
+    refl
+    legal.witness
+    (ap (λ (t : Seat). t.responses) none)
+    refl
 
 stands_with : (b : Tables) (plan : Plan) (H : List Entry) (e : Entry) (s : ℕ) → Runs b plan H s → AreInOrder H s → Legal b plan H e → Stands b plan s (seat_with s (seat_of H s) e)
 stands_with b plan H (Started session booking eligible without) s runs order legal = by (session == s) refl
   where
     by : (this : Bool) → (session == s) ≡ this → Stands b plan s (cond this (record (seat_of H s) { eligible = eligible.sets; without = option_map (λ (list : Without). list.items) without; form = option_map (λ (list : Without). list.form) without }) (seat_of H s))
-    by true same = started_stands b plan s eligible.sets without (seat_of H s) (runs.before_start (once b plan H (Started session booking eligible without) s runs order legal same)) legal.no_list
+    by true same = started_stands b plan s eligible.sets without (seat_of H s) (runs.before_start (once b plan H (Started session booking eligible without) s runs order legal same)) legal.listed
     by false other = runs.stands
 stands_with b plan H (SetAside session step band cause nodes) s runs order legal = by (session == s) refl
   where
@@ -258,10 +266,6 @@ the_seat_goes_on b plan H e s run legal = goes_on b plan H e s (along b plan H s
 
 pub seat_is_seat : SeatIsSeat
 seat_is_seat b plan H s run = (along b plan H s run).stands.is_seat
-
--- no session of a legal run has a list
-pub has_no_list : (b : Tables) (plan : Plan) (H : List Entry) (s : ℕ) → LegalRun b plan H → (seat_of H s).without ≡ None
-has_no_list b plan H s run = (along b plan H s run).stands.no_list
 
 pub last_form_stays : LastFormStays
 last_form_stays b plan H s theta words run e = (along b plan H s run).stands.keeps words theta e

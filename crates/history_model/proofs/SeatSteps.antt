@@ -1,25 +1,27 @@
 -- What each entry does to a seat: it stays one, and the form last served from stays a form of its problem.
 use Rattle.std.proofs.Common.{◌≡◌, ℕ, zero, suc, ◌+◌, ◌<◌, ◌⊎◌, inl, inr, Bool, true, false, not, ◌&&◌, ◌||◌, ◌==◌, List, [], ◌∷◌, ◌++◌, length, slice_get, Option, Some, None, refl, sym, ap, ◌∙◌, subst, arith, nat_lt, length-append}
 use Rattle.std.specs.List.{list_any}
+use Rattle.std.specs.Option.{option_map_or}
 use Rattle.std.proofs.Math.Bool.{true≢false}
 use Rattle.std.proofs.lemmas.Bool.{eqb-true, eq-eqb, lt-ltb}
 use Rattle.std.proofs.lemmas.List.Folds.{list_any-append}
 use Rattle.bank_tables.specs.Items.{Set, has}
-use Rattle.bank_tables.specs.Tables.{Tables, size, categories}
+use Rattle.bank_tables.specs.Tables.{Tables, size, stimulus, categories}
 use Rattle.bank_tables.specs.Validity.{HoldsItems}
 use Rattle.serving_model.specs.declared.seat.Seat.{Seat}
 use Rattle.form_model.specs.Plan.{Plan, band_of}
-use Rattle.form_model.specs.Forms.{Form}
-use Rattle.serving_model.specs.Seats.{is_shown, is_of_stimulus_left_behind, is_withheld, is_barred, is_unavailable_in, seat_problem, problem_aside, IsSeat}
-use Rattle.serving_model.specs.Serving.{IsNext}
+use Rattle.form_model.specs.Problem.{Problem}
+use Rattle.form_model.specs.Forms.{Meets, Form}
+use Rattle.serving_model.specs.Seats.{is_shown, is_of_stimulus_left_behind, is_withheld, is_barred, last_shown, is_unavailable_in, seat_problem, problem_aside, IsSeat}
+use Rattle.serving_model.specs.Serving.{IsNext, last_stimulus}
 use Rattle.form_model.proofs.SumLaws.{either, and_true, both, or_true, or_left, or_right}
 use Rattle.serving_model.proofs.Staying.{form_stays_aside}
+use Rattle.history_model.specs.Lists.{IsFormWithout}
 use Rattle.history_model.proofs.Standing.{before_end}
 
--- the seat is one without a list, and the form last served from is a form of its problem once eligibility is set aside, whatever the estimate
+-- the seat is one, and its form is a form of its problem once eligibility is set aside, whatever the estimate
 pub record Stands (b : Tables) (plan : Plan) (s : ℕ) (seat : Seat) : Type 0 where
   pub is_seat : IsSeat b plan seat
-  pub no_list : seat.without ≡ None
   pub keeps : (words : List ℕ) (theta : ℕ) → seat.form ≡ Some words → Form (problem_aside b plan s seat theta) (has words)
 
 -- ---- a list with an element more
@@ -57,28 +59,74 @@ barred_more b seat unavailable i e = by (nat_lt i (size b)) (is_shown seat i) (i
     by false shown left withheld h = absurd (true≢false (sym h))
 
 -- ---- a seat without items
+module _ (b : Tables) (plan : Plan) (seat : Seat) (e : seat.shown ≡ []) (f : seat.responses ≡ []) where
+  not_shown : (i : ℕ) → is_shown seat i ≡ true → ⊥
+  not_shown i h = true≢false (sym h ∙ ap (λ (xs : List ℕ). list_any (λ x. x == i) xs) e)
+
+  bare_seat : ((words : List ℕ) → seat.form ≡ Some words → HoldsItems b (has words)) → (seat.without ≡ None → seat.form ≡ None) → (seat.form ≡ None → seat.without ≡ None) → IsSeat b plan seat
+  bare_seat items unlisted listed =
+      let none : length seat.shown ≡ 0 = ap (λ (xs : List ℕ). length xs) e in
+      let neither : length seat.responses ≡ 0 = ap (λ (xs : List ℕ). length xs) f in
+      let nothing : (k x : ℕ) → slice_get seat.shown k ≡ Some x → ⊥ = λ k x h. let w = before_end seat.shown k x h in omega arith in
+      record {
+        items = λ i h. absurd (not_shown i h);
+        once = λ j k item h q. absurd (nothing j item h);
+        few = omega (arith, none);
+        responses = inl (neither ∙ sym none);
+        in_range = λ k item response h q. absurd (nothing k item h);
+        form_items = items;
+        form_none = λ h. none;
+        form_some = λ h n. unlisted n;
+        list_form = listed;
+        not_withheld = λ i h. absurd (not_shown i h);
+      }
+
 pub new_stands : (b : Tables) (plan : Plan) (s : ℕ) (seat : Seat) → seat.shown ≡ [] → seat.responses ≡ [] → seat.without ≡ None → seat.form ≡ None → Stands b plan s seat
 new_stands b plan s seat e f unlisted g =
-    let none : length seat.shown ≡ 0 = ap (λ (xs : List ℕ). length xs) e in
-    let neither : length seat.responses ≡ 0 = ap (λ (xs : List ℕ). length xs) f in
-    let nothing : (k x : ℕ) → slice_get seat.shown k ≡ Some x → ⊥ = λ k x h. let w = before_end seat.shown k x h in omega arith in
     record {
-      is_seat =
-          record {
-            items = λ i h. absurd (true≢false (sym h ∙ ap (λ (xs : List ℕ). list_any (λ x. x == i) xs) e));
-            once = λ j k item h q. absurd (nothing j item h);
-            few = omega (arith, none);
-            responses = inl (neither ∙ sym none);
-            in_range = λ k item response h q. absurd (nothing k item h);
-            form_items = λ words h. absurd (no_words seat.form words g h);
-            form_none = λ h. none;
-            form_some = λ h n. g;
-            list_form = λ h. unlisted;
-            not_withheld = λ i h. absurd (true≢false (sym h ∙ ap (λ (xs : List ℕ). list_any (λ x. x == i) xs) e));
-          };
-      no_list = unlisted;
+      is_seat = bare_seat b plan seat e f (λ words h. absurd (no_words seat.form words g h)) (λ n. g) (λ h. unlisted);
       keeps = λ words theta h. absurd (no_words seat.form words g h);
     }
+
+-- one with a list has the form without its items
+module _ (b : Tables) (plan : Plan) (s : ℕ) (seat : Seat) (items form : List ℕ) (e : seat.shown ≡ []) (listed : seat.without ≡ Some items) (witness : IsFormWithout b plan (has items) (has form)) where
+  held : (i : ℕ) → has items i ≡ true → has form i ≡ false
+  held i h = witness.form.holds_no_barred i (ap (λ (P : Problem). P.barred i) witness.is_whole.is ∙ h)
+
+  meets_plan : Meets b plan (has form)
+  meets_plan = subst (λ (P : Problem). Meets P.bank P.plan (has form)) witness.is_whole.is witness.form.meets
+
+  -- nothing but its items is barred
+  barred_is_listed : (i : ℕ) → is_barred b seat (λ _. false) i ≡ true → has items i ≡ true
+  barred_is_listed i h = by (nat_lt i (size b)) (not (stimulus b i == 0)) (has items i) (sym spelled ∙ h)
+    where
+      spelled : is_barred b seat (λ _. false) i ≡ (nat_lt i (size b) && (true && ((not (stimulus b i == 0) && false) || (has items i || false))))
+      spelled =
+          ap (λ (xs : List ℕ). nat_lt i (size b) && (not (list_any (λ item. item == i) xs) && ((not (stimulus b i == 0) && (list_any (λ item. stimulus b item == stimulus b i) xs && not (stimulus b i == last_stimulus b (last_shown seat)))) || (is_withheld seat i || false)))) e
+          ∙ ap (λ (list : Option (List ℕ)). nat_lt i (size b) && (true && ((not (stimulus b i == 0) && false) || (option_map_or (λ words. has words i) list false || false)))) listed
+
+      by : (t u v : Bool) → (t && (true && ((u && false) || (v || false)))) ≡ true → v ≡ true
+      by t u true h = refl
+      by true true false h = absurd (true≢false (sym h))
+      by true false false h = absurd (true≢false (sym h))
+      by false u false h = absurd (true≢false (sym h))
+
+  form_listed : (theta : ℕ) → Form (problem_aside b plan s seat theta) (has form)
+  form_listed theta = record {
+    meets = meets_plan;
+    holds_given = λ i given. absurd (true≢false (sym given ∙ ap (λ (xs : List ℕ). list_any (λ x. x == i) xs) e));
+    holds_no_barred = λ i barred. held i (barred_is_listed i barred);
+  }
+
+  pub listed_stands : seat.responses ≡ [] → seat.form ≡ Some form → Stands b plan s seat
+  listed_stands f g =
+      record {
+        is_seat = bare_seat b plan seat e f
+            (λ words h. subst (λ (ws : List ℕ). HoldsItems b (has ws)) (words_same form words (sym g ∙ h)) meets_plan.right_length.in_bank)
+            (λ n. absurd (no_words seat.without items n listed))
+            (λ h. absurd (no_words seat.form form h g));
+        keeps = λ words theta h. subst (λ (ws : List ℕ). Form (problem_aside b plan s seat theta) (has ws)) (words_same form words (sym g ∙ h)) (form_listed theta);
+      }
 
 module _ (b : Tables) (plan : Plan) (s : ℕ) (seat : Seat) (stands : Stands b plan s seat) where
   is : IsSeat b plan seat
@@ -89,7 +137,6 @@ module _ (b : Tables) (plan : Plan) (s : ℕ) (seat : Seat) (stands : Stands b p
   aside_stands flags =
       record {
         is_seat = record { items = stands.is_seat.items; once = stands.is_seat.once; few = stands.is_seat.few; responses = stands.is_seat.responses; in_range = stands.is_seat.in_range; form_items = stands.is_seat.form_items; form_none = stands.is_seat.form_none; form_some = stands.is_seat.form_some; list_form = stands.is_seat.list_form; not_withheld = stands.is_seat.not_withheld };
-        no_list = stands.no_list;
         keeps = λ words theta h. let form = stands.keeps words theta h in record { meets = form.meets; holds_given = form.holds_given; holds_no_barred = form.holds_no_barred };
       }
 
@@ -98,7 +145,6 @@ module _ (b : Tables) (plan : Plan) (s : ℕ) (seat : Seat) (stands : Stands b p
   closed_stands =
       record {
         is_seat = record { items = stands.is_seat.items; once = stands.is_seat.once; few = stands.is_seat.few; responses = stands.is_seat.responses; in_range = stands.is_seat.in_range; form_items = stands.is_seat.form_items; form_none = stands.is_seat.form_none; form_some = stands.is_seat.form_some; list_form = stands.is_seat.list_form; not_withheld = stands.is_seat.not_withheld };
-        no_list = stands.no_list;
         keeps = λ words theta h. let form = stands.keeps words theta h in record { meets = form.meets; holds_given = form.holds_given; holds_no_barred = form.holds_no_barred };
       }
 
@@ -127,7 +173,6 @@ module _ (b : Tables) (plan : Plan) (s : ℕ) (seat : Seat) (stands : Stands b p
               list_form = stands.is_seat.list_form;
               not_withheld = stands.is_seat.not_withheld;
             };
-        no_list = stands.no_list;
         keeps = λ words theta h. let form = stands.keeps words theta h in record { meets = form.meets; holds_given = form.holds_given; holds_no_barred = form.holds_no_barred };
       }
 
@@ -196,7 +241,6 @@ module _ (b : Tables) (plan : Plan) (s : ℕ) (seat : Seat) (stands : Stands b p
                 list_form = λ e. absurd (no_words (Some words) words e refl);
                 not_withheld = shown_allowed;
               };
-          no_list = stands.no_list;
           keeps = λ others later e.
               let aside : Form (problem_aside b plan s seat theta) (has words) = record { meets = form.meets; holds_given = form.holds_given; holds_no_barred = λ i barred. form.holds_no_barred i (barred_more b seat (is_unavailable_in seat (band_of plan theta)) i barred) } in
               let stays = form_stays_aside b plan s theta item 0 later seat words aside next in

@@ -18,12 +18,13 @@ use Rattle.history_model.specs.declared.counts.Counts.{Counts}
 use Rattle.history_model.specs.declared.place.Place.{Place}
 use Rattle.history_model.specs.declared.place.Place.TheVariants.{Pending, Waiting, Complete, Closed as IsClosed}
 use Rattle.history_model.specs.declared.illegal.Illegal.{Illegal}
-use Rattle.history_model.specs.Entries.{Serving, StepAnswer, sessions, is_started, holder, servings, step_answers, seat_of}
+use Rattle.history_model.specs.Entries.{Serving, StepAnswer, sessions, is_started, holder, list_of, servings, step_answers, seat_of}
 use Rattle.history_model.specs.Places.{place}
 use Rattle.history_model.specs.Counts.{counts, shows, opens, band_counts, shows_in, opens_in, visited, finished}
 use Rattle.history_model.specs.Refusals.{recorded}
 use Rattle.history_model.specs.SessionProblems.{IsProblemOf, problem_once_aside, fallback}
 use Rattle.history_model.specs.Legality.{Legal, LegalRun}
+use Rattle.history_model.specs.Lists.{IsLegalList}
 use Rattle.history_model.specs.Judging.{MayFollow, Record, entries_of, Backed}
 use Rattle.history_model.specs.Reasons.{IsIllegal}
 
@@ -233,8 +234,9 @@ OneBandIsAll = (b : Tables) (plan : Plan) (H : List Entry) (i : ℕ) → plan.ba
     → (band_counts b plan H 0 i ≡ counts b plan H i) × (visited b plan H 0 ≡ finished plan H)
 
 -- ---- forms
--- the form last served from stays a form of the problem that the session has once eligibility is
--- set aside in the band of its estimate, whatever that is
+-- the form of the seat, which is the one last served from, or that of the list before the first
+-- item, stays a form of the problem that the session has once eligibility is set aside in the band
+-- of its estimate, whatever that is
 abbrev pub LastFormStays : Type 0
 LastFormStays =
     (b : Tables) (plan : Plan) (H : List Entry) (s theta : ℕ) (words : List ℕ) → LegalRun b plan H
@@ -253,8 +255,8 @@ abbrev pub CompleteMeets : Type 0
 CompleteMeets = (b : Tables) (plan : Plan) (H : List Entry) (s : ℕ) → 0 < plan.length
     → LegalRun b plan H → place plan H s ≡ Some Complete → Meets b plan (is_shown (seat_of H s))
 
--- once eligibility is set aside in the band of the estimate, the form last served from, or before
--- the first item any set that meets the plan, is a form of the session's problem
+-- once eligibility is set aside in the band of the estimate, the form of the seat, or where it has
+-- none any set that meets the plan, is a form of the session's problem
 abbrev pub FormOnceAside : Type 0
 FormOnceAside = (b : Tables) (plan : Plan) (H : List Entry) (s step : ℕ) (P : Problem) (base : Set)
     → LegalRun b plan H → IsProblemOf b plan H s step P → Meets b plan base
@@ -265,6 +267,50 @@ abbrev pub FormWhereAside : Type 0
 FormWhereAside = (b : Tables) (plan : Plan) (H : List Entry) (s step : ℕ) (P : Problem) (base : Set)
     → LegalRun b plan H → IsProblemOf b plan H s step P → Meets b plan base → IsTrue P.aside
     → Form P (fallback P base)
+
+-- ---- lists
+-- a session with a list, at step 0 too, has a form of the problem once eligibility is set aside:
+-- that of its seat
+pub record HasFormOnceAside (b : Tables) (plan : Plan) (H : List Entry) (s theta : ℕ) : Type 0 where
+  pub words : List ℕ
+  pub of_seat : (seat_of H s).form ≡ Some words
+  pub is_form : Form (problem_once_aside b plan H s theta) (has words)
+
+abbrev pub ListHasForm : Type 0
+ListHasForm =
+    (b : Tables) (plan : Plan) (H : List Entry) (s theta : ℕ) (list : Without) → LegalRun b plan H
+    → list_of H s ≡ Some list → HasFormOnceAside b plan H s theta
+
+-- no item shown in a session is on its list
+abbrev pub NoneShownOfList : Type 0
+NoneShownOfList =
+    (b : Tables) (plan : Plan) (H : List Entry) (s item : ℕ) (list : Without) → LegalRun b plan H
+    → list_of H s ≡ Some list → IsTrue (has list.items item) → IsFalse (is_shown (seat_of H s) item)
+
+-- nor is one in a form that an item is served from, whether eligibility is set aside or not
+abbrev pub NoneServedOfList : Type 0
+NoneServedOfList =
+    (b : Tables) (plan : Plan) (H : List Entry) (session step item : ℕ) (form : List ℕ)
+    (proved : Bool) (nodes i : ℕ) (list : Without) → LegalRun b plan H
+    → Legal b plan H (Served session step item form proved nodes)
+    → list_of H session ≡ Some list → IsTrue (has list.items i) → IsFalse (has form i)
+
+-- an item of the list doesn't count as eligible for the session
+abbrev pub NoneOpenOfList : Type 0
+NoneOpenOfList =
+    (b : Tables) (plan : Plan) (H : List Entry) (s item band : ℕ) (list : Without)
+    → list_of H s ≡ Some list → IsTrue (has list.items item)
+    → IsFalse (opens_in b plan band item (seat_of H s)) × IsFalse (opens b plan item (seat_of H s))
+
+-- the list of a session is of the bank, with a form without it, and stays in a longer history
+abbrev pub ListIsLegal : Type 0
+ListIsLegal =
+    (b : Tables) (plan : Plan) (H : List Entry) (s : ℕ) (list : Without) → LegalRun b plan H
+    → list_of H s ≡ Some list → IsLegalList b plan list
+
+abbrev pub ListStays : Type 0
+ListStays = (H more : List Entry) (s : ℕ) (list : Without) → list_of H s ≡ Some list
+    → list_of (H ++ more) s ≡ Some list
 
 -- ---- a longer history
 -- a booking keeps its session, a step its response, a closed session its end, and no session goes

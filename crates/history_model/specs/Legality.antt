@@ -18,20 +18,21 @@ use Rattle.history_model.specs.Entries.{sessions, holder}
 use Rattle.history_model.specs.Places.{place}
 use Rattle.history_model.specs.Draws.{AreDrawn}
 use Rattle.history_model.specs.SessionProblems.{IsProblemOf}
+use Rattle.history_model.specs.Lists.{IsLegalWithout}
 
 -- the number that the next session has, below the plan's limit
 pub record IsNextNumber (plan : Plan) (H : List Entry) (session : ℕ) : Type 0 where
   pub next : session ≡ sessions H
   pub within : session < plan.sessions
 
--- a session starts with the next number, for a booking that has none, with its draw in each band
--- and without a list
+-- a session starts with the next number, for a booking that has none, with its draw in each band,
+-- and with a list of items that its examinee must not get, or without one
 pub record IsLegalStart (b : Tables) (plan : Plan) (H : List Entry) (session booking : ℕ)
     (eligible : Bands) (without : Option Without) : Type 0 where
   pub number : IsNextNumber plan H session
   pub not_booked : holder H booking ≡ None
   pub drawn : AreDrawn b plan H session eligible
-  pub no_list : without ≡ None
+  pub listed : IsLegalWithout b plan without
 
 -- why eligibility may be set aside: no set is a form, or the node budget was spent
 abbrev pub IsLegalCause : Plan → Problem → Cause → ℕ → Type 0

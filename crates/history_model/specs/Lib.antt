@@ -3,6 +3,7 @@ pub mod Places
 pub mod Counts
 pub mod Draws
 pub mod SessionProblems
+pub mod Lists
 pub mod Legality
 pub mod Judging
 pub mod Lifting
@@ -13,3 +14,4 @@ pub mod Halting
 pub mod Summaries
 pub mod Words
 pub mod Laws
+pub mod Ahead

@@ -1,13 +1,13 @@
 -- Why a record may not follow a history.
 use Rattle.std.specs.Prelude.{◌≡◌, ◌≢◌, ℕ, ◌≤◌, Bool, List, IsTrue, IsFalse, Option, Some, None}
 use Rattle.bank_tables.specs.Items.{has}
-use Rattle.bank_tables.specs.Tables.{Tables, categories}
+use Rattle.bank_tables.specs.Tables.{Tables, size, categories}
 use Rattle.history_model.specs.declared.entry.Entry.{Entry}
 use Rattle.history_model.specs.declared.entry.Entry.TheVariants.{Started, SetAside, Served, Answered, Closed}
 use Rattle.history_model.specs.declared.place.Place.{Place}
 use Rattle.history_model.specs.declared.place.Place.TheVariants.{Pending, Waiting}
 use Rattle.history_model.specs.declared.illegal.Illegal.{Illegal}
-use Rattle.history_model.specs.declared.illegal.Illegal.TheVariants.{NotNumber, Booked, NotDrawn, HasList, NoSession, NotPending, IsAside, NotStep, NotBand, NotForm, NotItem, NotSpent, Tree, NotWaiting, BadResponse, Ended}
+use Rattle.history_model.specs.declared.illegal.Illegal.TheVariants.{NotNumber, Booked, NotDrawn, NoItem, NotWithout, NoSession, NotPending, IsAside, NotStep, NotBand, NotForm, NotItem, NotSpent, Tree, NotWaiting, BadResponse, Ended}
 use Rattle.form_model.specs.Plan.{Plan, band_of}
 use Rattle.form_model.specs.Problem.{Problem}
 use Rattle.form_model.specs.Forms.{Form}
@@ -18,6 +18,7 @@ use Rattle.history_model.specs.Entries.{sessions, holder}
 use Rattle.history_model.specs.Places.{place}
 use Rattle.history_model.specs.Draws.{AreDrawn, IsNotDrawn}
 use Rattle.history_model.specs.SessionProblems.{IsProblemOf}
+use Rattle.history_model.specs.Lists.{IsLegalWithout, IsNoListFor, IsBreachOfWithout}
 use Rattle.history_model.specs.Legality.{IsNextNumber, GoesOn}
 use Rattle.history_model.specs.Judging.{claim_of_mark, claim_of_cause, HasTree, HasVerdict, IsAsked}
 
@@ -33,7 +34,7 @@ IsPendingPlace place = ⊥
 
 -- the reason is the first, in the order of the variants, that holds for the entry, with its value
 abbrev pub IsIllegal : Tables → Plan → List Entry → Entry → Option ProofTree → Illegal → Type 0
--- a start: the number, the booking, the draw, no list, no tree
+-- a start: the number, the booking, the draw, the items of the list, its form, no tree
 IsIllegal b plan H (Started session booking eligible without) tree (NotNumber count) =
     (IsNextNumber plan H session → ⊥) × (count ≡ sessions H)
 IsIllegal b plan H (Started session booking eligible without) tree (Booked by) =
@@ -41,12 +42,15 @@ IsIllegal b plan H (Started session booking eligible without) tree (Booked by) =
 IsIllegal b plan H (Started session booking eligible without) tree (NotDrawn item) =
     IsNextNumber plan H session × (holder H booking ≡ None)
     × IsNotDrawn b plan H session eligible item
-IsIllegal b plan H (Started session booking eligible without) tree HasList =
+IsIllegal b plan H (Started session booking eligible without) tree (NoItem count) =
     IsNextNumber plan H session × (holder H booking ≡ None) × AreDrawn b plan H session eligible
-    × (without ≢ None)
+    × IsNoListFor b without × (count ≡ size b)
+IsIllegal b plan H (Started session booking eligible without) tree (NotWithout breach) =
+    IsNextNumber plan H session × (holder H booking ≡ None) × AreDrawn b plan H session eligible
+    × IsBreachOfWithout b plan without breach
 IsIllegal b plan H (Started session booking eligible without) tree (NotSpent nodes) =
     IsNextNumber plan H session × (holder H booking ≡ None) × AreDrawn b plan H session eligible
-    × (without ≡ None) × (tree ≢ None) × (nodes ≡ 0)
+    × IsLegalWithout b plan without × (tree ≢ None) × (nodes ≡ 0)
 -- setting eligibility aside: the session, its place, aside already in the band of the estimate, the
 -- step, the band, the tree, its verdict
 IsIllegal b plan H (SetAside session step band cause nodes) tree (NoSession count) =

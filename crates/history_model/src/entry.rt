@@ -20,7 +20,8 @@ pub struct Bands {
     pub sets: [ItemSet; 8],
 }
 
-/// The items that an examinee must not get, as those of earlier sittings.
+/// The items that an examinee must not get, as those of earlier sittings. A list with no items is none: no session starts
+/// with it.
 #[derive(Clone, Copy, Debug, PartialEq, Eq)]
 pub struct Without {
     /// The items.
@@ -33,7 +34,7 @@ pub struct Without {
 #[derive(Clone, Copy, Debug, PartialEq, Eq)]
 pub enum Entry {
     /// A session was started for a booking, with its draw of eligible items in each band, and the list of items that the
-    /// examinee must not get, if there is one. No rule lets a session with a list start yet.
+    /// examinee must not get, if there is one.
     Started {
         session: u32,
         booking: u64,

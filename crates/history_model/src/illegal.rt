@@ -14,8 +14,11 @@ pub enum Illegal {
     /// The eligible sets aren't the draws: 0 where there isn't one for each band of the plan, else the lowest item at which
     /// the set of some band and its draw differ.
     NotDrawn(u16),
-    /// There is a list of items that the examinee must not get. No rule lets a session with a list start yet.
-    HasList,
+    /// The list of the items that the examinee must not get is empty, or has an item that the bank hasn't; the number of
+    /// items of the bank.
+    NoItem(u16),
+    /// The form of the list is no form of the whole problem with the items of the list barred; its first breach.
+    NotWithout(Breach),
     /// There is no such session; the number of sessions.
     NoSession(u32),
     /// The session doesn't wait for an item, or an item is served at another step than that of the session; its place.

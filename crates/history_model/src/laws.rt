@@ -1,7 +1,8 @@
 //! What the definitions imply, for every bank, plan, history and record.
 
+ghost use Rattle.history_model.specs.Ahead.{AheadStays, AnsweredThere};
 ghost use Rattle.history_model.specs.Lifting.{LiftedMayFollow};
-ghost use Rattle.history_model.specs.Laws.{MayIsLegal, BackedIsLegalRun, OneProblem, OneReason, NoReasonIfMay, EachIsLegal, SessionsAreNumbered, SessionsAreFew, FinishedAreFew, StepsAreInOrder, SeatBeforeStart, SeatGoesOn, SeatIsSeat, EligibleIsOfBank, OnlyBandsOfPlan, AsideIsOfEstimate, PlaceIsOfSeat, PendingIsOfSeat, CountsGoOn, BandCountsGoOn, VisitedGoesOn, FinishedGoesOn, OneBandIsAll, LastFormStays, LastFormStaysInBand, CompleteMeets, FormOnceAside, FormWhereAside, HolderStays, ResponseStays, ClosedStays, SessionsGrow, BeginningIsLegal, CompleteStays, ProblemStays, SameProblem, EachMayFollow};
+ghost use Rattle.history_model.specs.Laws.{MayIsLegal, BackedIsLegalRun, OneProblem, OneReason, NoReasonIfMay, EachIsLegal, SessionsAreNumbered, SessionsAreFew, FinishedAreFew, StepsAreInOrder, SeatBeforeStart, SeatGoesOn, SeatIsSeat, EligibleIsOfBank, OnlyBandsOfPlan, AsideIsOfEstimate, PlaceIsOfSeat, PendingIsOfSeat, CountsGoOn, BandCountsGoOn, VisitedGoesOn, FinishedGoesOn, OneBandIsAll, LastFormStays, LastFormStaysInBand, CompleteMeets, FormOnceAside, FormWhereAside, HolderStays, ResponseStays, ClosedStays, SessionsGrow, BeginningIsLegal, CompleteStays, ProblemStays, SameProblem, EachMayFollow, ListHasForm, NoneShownOfList, NoneServedOfList, NoneOpenOfList, ListIsLegal, ListStays};
 
 /// What may follow, by its tree, is legal: a form marked proved is best, and eligibility is set aside for the stated cause.
 pub fn may_is_legal()
@@ -119,8 +120,8 @@ pub fn one_band_is_all()
     ensures { OneBandIsAll }
 {}
 
-/// The form last served from stays a form of the problem that the session has once eligibility is
-/// set aside in the band of its estimate: so a session that has begun never lacks one then.
+/// The form last served from, or that of the list before the first item, stays a form of the problem that the session has
+/// once eligibility is set aside in the band of its estimate: so a session that has begun never lacks one then.
 pub fn last_form_stays()
     ensures { LastFormStays }
 {}
@@ -136,7 +137,7 @@ pub fn complete_meets()
 {}
 
 /// With eligibility set aside in the band of the estimate, the form last served from is a form of the session's problem;
-/// before the first item, each set that meets the plan is one.
+/// before the first item, that of the list is one, or without a list each set that meets the plan.
 pub fn form_once_aside()
     ensures { FormOnceAside }
 {}
@@ -144,6 +145,36 @@ pub fn form_once_aside()
 /// So a session for which eligibility is set aside in the band of its estimate never lacks a form.
 pub fn form_where_aside()
     ensures { FormWhereAside }
+{}
+
+/// A session with a list never lacks a form once eligibility is set aside, at step 0 too: its seat has one.
+pub fn list_has_form()
+    ensures { ListHasForm }
+{}
+
+/// No item shown in a session is on its list of items that its examinee must not get.
+pub fn none_shown_of_list()
+    ensures { NoneShownOfList }
+{}
+
+/// No form that an item is served from has an item of the list, also where eligibility is set aside.
+pub fn none_served_of_list()
+    ensures { NoneServedOfList }
+{}
+
+/// An item of the list doesn't count as eligible for the session.
+pub fn none_open_of_list()
+    ensures { NoneOpenOfList }
+{}
+
+/// The list of a session of a legal run has items, all of the bank, and a form of the whole problem without them.
+pub fn list_is_legal()
+    ensures { ListIsLegal }
+{}
+
+/// A session keeps its list in every longer history.
+pub fn list_stays()
+    ensures { ListStays }
 {}
 
 /// A booking keeps its session in every longer history.
@@ -195,4 +226,15 @@ pub fn each_may_follow()
 /// A record of the first version of the journal that is lifted may follow wherever the old one may.
 pub fn lifted_may_follow()
     ensures { LiftedMayFollow }
+{}
+
+/// A problem that was made before an answer came is the session's problem once that answer is recorded, whatever was done in
+/// other sessions meanwhile, if eligibility is set aside in its band or not as it was then.
+pub fn ahead_stays()
+    ensures { AheadStays }
+{}
+
+/// The response of an answer in a legal run is the one that is recorded for its step.
+pub fn answered_there()
+    ensures { AnsweredThere }
 {}

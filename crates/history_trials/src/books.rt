@@ -63,16 +63,34 @@ const AFTER_START: &[Question] = &[
     Question::Reason(Line::Started(1, 70, EACH), Some(Illegal::Booked(0))),
     Question::Reason(Line::Started(1, 71, 0x37), Some(Illegal::NotDrawn(3))),
     Question::Reason(Line::Started(1, 71, 0x7f), Some(Illegal::NotDrawn(6))),
-    // A set for each of two bands, where the plan has one; a list.
+    // A set for each of two bands, where the plan has one.
     Question::Reason(
         Line::StartedInTwo(1, 71, [EACH, EACH]),
         Some(Illegal::NotDrawn(0)),
     ),
+    // A list: after the draw an empty one, one with an item beyond the bank, and one whose form has an item of it, or two of the
+    // row that needs exactly one of 0 and 1. Without item 2 there is the form {1, 3, 5}.
     Question::Reason(
-        Line::StartedWithout(1, 71, 0x37, 1),
+        Line::StartedWithout(1, 71, 0x37, (0, 0x2a)),
         Some(Illegal::NotDrawn(3)),
     ),
-    Question::Reason(Line::StartedWithout(1, 71, EACH, 1), Some(Illegal::HasList)),
+    Question::Reason(
+        Line::StartedWithout(1, 71, EACH, (0, 0x2a)),
+        Some(Illegal::NoItem(6)),
+    ),
+    Question::Reason(
+        Line::StartedWithout(1, 71, EACH, (0x40, 0x2a)),
+        Some(Illegal::NoItem(6)),
+    ),
+    Question::Reason(
+        Line::StartedWithout(1, 71, EACH, (0x04, 0x0e)),
+        Some(Illegal::NotWithout(Breach::Barred(2))),
+    ),
+    Question::Reason(
+        Line::StartedWithout(1, 71, EACH, (0x04, 0x0b)),
+        Some(Illegal::NotWithout(Breach::Row(0, 2))),
+    ),
+    Question::Reason(Line::StartedWithout(1, 71, EACH, (0x04, 0x2a)), None),
     // A serving. Of the items 0, 1 and 2 two are of the row that needs exactly one of 0 and 1.
     Question::Reason(
         Line::Served(0, (0, 2), 0x07, Shape::FirstBest),
@@ -210,6 +228,51 @@ const OF_ONE_CLOSED: &[Question] = &[
 fn two_sessions(rt: HostRuntime) {
     holds(&rt, rt.alloc(), &(WORKED, TWO_SESSIONS, OF_TWO));
     holds(&rt, rt.alloc(), &(WORKED, ONE_CLOSED, OF_ONE_CLOSED));
+}
+
+/// Session 1 begins without item 2.
+const LISTED: &[Line] = &[
+    Line::Started(0, 70, EACH),
+    Line::Served(0, (0, 2), 0x0e, Shape::FirstBest),
+    Line::StartedWithout(1, 71, EACH, (0x04, 0x2a)),
+];
+
+/// The form of session 0 has item 2, and is none for session 1. The best without it is {1, 3, 5}.
+const OF_LISTED: &[Question] = &[
+    Question::Sessions(2),
+    Question::Booked(71, Some(1)),
+    Question::At(1, Some(Place::Pending(0))),
+    Question::Reason(
+        Line::Served(1, (0, 2), 0x0e, Shape::FirstBest),
+        Some(Illegal::NotForm(Breach::Barred(2))),
+    ),
+    Question::Reason(Line::Served(1, (0, 1), 0x2a, Shape::Plain), None),
+];
+
+/// The same, and session 1 is served item 1 and closed.
+const LISTED_CLOSED: &[Line] = &[
+    Line::Started(0, 70, EACH),
+    Line::Served(0, (0, 2), 0x0e, Shape::FirstBest),
+    Line::StartedWithout(1, 71, EACH, (0x04, 0x2a)),
+    Line::Served(1, (0, 1), 0x2a, Shape::Plain),
+    Line::Closed(1),
+];
+
+/// Item 2 was not eligible in the closed session.
+const OF_LISTED_CLOSED: &[Question] = &[
+    Question::Finished(1),
+    Question::Exposure(0, ELIGIBLE),
+    Question::Exposure(1, SHOWN),
+    Question::Exposure(2, NEVER),
+    Question::Exposure(3, ELIGIBLE),
+    Question::Exposure(4, ELIGIBLE),
+    Question::Exposure(5, ELIGIBLE),
+];
+
+#[test]
+fn without_an_item(rt: HostRuntime) {
+    holds(&rt, rt.alloc(), &(WORKED, LISTED, OF_LISTED));
+    holds(&rt, rt.alloc(), &(WORKED, LISTED_CLOSED, OF_LISTED_CLOSED));
 }
 
 /// The counts of an item that was eligible and shown in ten thousand sessions.

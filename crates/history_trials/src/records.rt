@@ -26,6 +26,9 @@ const STARTED: &[u8] = &[1, 0, 0, 0, 0, 0, 0, 0, 0, 0, 0, 0, 70, 0x3f];
 /// The same without the number of bands and the sets, in the second version.
 const STARTED_NOW: &[u8] = &[6, 0, 0, 0, 0, 0, 0, 0, 0, 0, 0, 0, 70];
 
+/// The same start with a list of items that the examinee must not get.
+const LISTED_NOW: &[u8] = &[9, 0, 0, 0, 0, 0, 0, 0, 0, 0, 0, 0, 70];
+
 /// Item 2 is served at step 0 of session 0, from the form {1, 2, 3}.
 const SERVED: &[u8] = &[3, 0, 0, 0, 0, 0, 0, 0, 2, 0x0e];
 
@@ -148,10 +151,11 @@ fn kept_of_two_bands(rt: HostRuntime) {
 }
 
 /// Payloads, each with its fault.
-const FAULTS: [(Parts, RecordFault); 6] = [
+const FAULTS: [(Parts, RecordFault); 7] = [
     (&[], RecordFault::Short),
     (&[&[4, 0, 0, 0, 0, 0, 0]], RecordFault::Short),
     (&[&[6]], RecordFault::Kind(0)),
+    (&[&[9]], RecordFault::Kind(0)),
     (&[ANSWERED, &[0]], RecordFault::Extra(8)),
     // The mark, and the number of nodes.
     (
@@ -177,7 +181,7 @@ fn faults(rt: HostRuntime) {
 }
 
 /// Payloads of the second version with their lengths and their records.
-const WORKED_NOW: [(Parts, usize, Line); 4] = [
+const WORKED_NOW: [(Parts, usize, Line); 5] = [
     (&[ANSWERED], 8, Line::Answered(0, (0, 1), Shape::NoTree)),
     (
         &[STARTED_NOW, &[1, 0x3f], REST],
@@ -188,6 +192,11 @@ const WORKED_NOW: [(Parts, usize, Line); 4] = [
         &[STARTED_NOW, &[2, 0x3f], REST, &[0x31], REST],
         142,
         Line::StartedInTwo(0, 70, [0x3f, 0x31]),
+    ),
+    (
+        &[LISTED_NOW, &[1, 0x3f], REST, &[0x04], REST, &[0x2a], REST],
+        206,
+        Line::StartedWithout(0, 70, 0x3f, (0x04, 0x2a)),
     ),
     (
         &[&[7, 0, 0, 0, 0, 0, 2, 1, 1, 0, 1, 0, 7]],
@@ -224,7 +233,7 @@ fn worked_records_now(rt: HostRuntime) {
 }
 
 /// Payloads of the second version, each with its fault.
-const FAULTS_NOW: [(Parts, RecordFault); 8] = [
+const FAULTS_NOW: [(Parts, RecordFault); 11] = [
     (&[&[6]], RecordFault::Short),
     (&[&[1]], RecordFault::Kind(0)),
     (&[&[8]], RecordFault::Kind(0)),
@@ -233,6 +242,16 @@ const FAULTS_NOW: [(Parts, RecordFault); 8] = [
     (&[STARTED_NOW, &[0]], RecordFault::Field(13)),
     (&[STARTED_NOW, &[9]], RecordFault::Field(13)),
     (&[STARTED_NOW, &[2, 0x3f], REST], RecordFault::Short),
+    // An empty list, before what is cut off; a form that is cut off.
+    (
+        &[LISTED_NOW, &[1, 0x3f], REST, &[0], REST],
+        RecordFault::Field(78),
+    ),
+    (
+        &[LISTED_NOW, &[1, 0x3f], REST, &[4], REST],
+        RecordFault::Short,
+    ),
+    (&[&[10]], RecordFault::Kind(0)),
     // The band.
     (&[&[7, 0, 0, 0, 0, 0, 2, 8]], RecordFault::Field(7)),
 ];

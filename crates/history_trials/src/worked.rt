@@ -62,8 +62,8 @@ pub(crate) enum Line {
     Started(u32, u64, u8),
     /// The same in each of two bands.
     StartedInTwo(u32, u64, [u8; 2]),
-    /// The same in one band, with a list of items that the examinee must not get.
-    StartedWithout(u32, u64, u8, u8),
+    /// The same in one band, with a list of items that the examinee must not get, and a form.
+    StartedWithout(u32, u64, u8, (u8, u8)),
     /// At a step eligibility is set aside in a band, since there is no form, or with an Open tree since a budget of one node
     /// was spent.
     SetAside(u32, (u16, u8), Shape),
@@ -120,10 +120,10 @@ pub(crate) fn entry_of(line: &Line) -> Entry {
         Line::StartedInTwo(session, booking, eligible) => {
             start(session, booking, bands_of(2, eligible), None)
         }
-        Line::StartedWithout(session, booking, eligible, items) => {
+        Line::StartedWithout(session, booking, eligible, (items, form)) => {
             let list = Without {
                 items: items_of(items),
-                form: items_of(0x0e),
+                form: items_of(form),
             };
             start(session, booking, bands_of(1, [eligible, 0]), Some(list))
         }

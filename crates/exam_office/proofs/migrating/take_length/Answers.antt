@@ -19,6 +19,7 @@ returns-in-Ok-clause-taken c =
       record {
         last = rec;
         spells = c.in-Ok.ensures.spells;
+        unlisted = c.in-Ok.ensures.unlisted;
         spelling = c.in-Ok.ensures.spelling;
         may = c.in-Ok.ensures.may;
         entries = c.in-Ok.ensures.entries;

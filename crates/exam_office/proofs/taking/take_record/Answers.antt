@@ -15,6 +15,7 @@ returns-in-Ok-keep_vector-clause-taken c =
         last = r;
         is_entry = sym (ap (λ (q : Record). q.entry) c.rec.view_is);
         spells = c.in-Ok.ensures.reads.spells;
+        unlisted = c.in-Ok.ensures.reads.unlisted;
         spelling = c.in-Ok.ensures.reads.spelling;
         may = c.in-Ok-follow.ensures.may;
       };

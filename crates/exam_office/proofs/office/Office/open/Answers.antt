@@ -2,7 +2,7 @@ use Rattle.std.proofs.Common.{◌≡◌, ◌≤◌, ◌∙◌, ◌++◌, ℕ, Bo
 use Rattle.answer_journal.specs.Journal.{accounts_of, faults_of, tells_of, payloads_of}
 use Rattle.answer_journal.specs.OpenFault.{IsWalkAnswer, fault_in}
 use Rattle.answer_journal.specs.Opening.{PutsTailAside, tail_gates}
-use Rattle.answer_journal.specs.Versions.{contents, counted_in}
+use Rattle.answer_journal.specs.Versions.{contents, counted_in, second}
 use Rattle.exam_edge.specs.Faults.{Rose}
 use Rattle.exam_edge.specs.Lent.{IsLent}
 use Rattle.exam_edge.specs.Images.{Account, AtEachMoment, IsImage, IsSettled, latest}
@@ -350,3 +350,11 @@ returns-clause-tail_aside g c = λ told.
     c.in-Ok-finish.ensures.aside (c.take_all.ensures.frame.tells ∙ told0)
     ∙ (ap (λ (x : List ℕ). x ++ tail_gates (g.D.Disk.content d1)) (c.take_all.ensures.aside told0 ∙ c.in-Ok.ensures.aside told)
     ∙ ap (λ (f : List ℕ). g.D.Disk.aside d0 ++ tail_gates f) file)
+
+-- the journal over the file has its payloads
+pub returns-clause-payloads : goal.returns-clause-payloads
+returns-clause-payloads g c = λ told.
+    let told0 = c.in-Ok.ensures.frame.tells ∙ told in
+    let told1 = c.take_all.ensures.frame.tells ∙ told0 in
+    subst (λ (f : List ℕ). contents f ≡ Some (second (payloads_of c.in-Ok-finish.journal)))
+    (c.take_all.ensures.content told0 ∙ c.in-Ok.ensures.untouched told) (c.in-Ok-finish.ensures.keeps told1)

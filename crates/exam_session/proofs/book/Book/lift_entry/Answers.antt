@@ -8,7 +8,7 @@ use Rattle.history_model.specs.declared.entry.Entry.TheVariants.{SetAside}
 use Rattle.history_model.specs.Lifting.{IsLifted}
 use Rattle.constraint_model.specs.Views.{problem_of}
 use Rattle.exam_records.specs.Spelling.{old_entry_bytes}
-use Rattle.exam_session.proofs.LiftLaws.{start_bytes, aside_bytes, aside_at, other_bytes, others_stay}
+use Rattle.exam_session.proofs.LiftLaws.{no_list_unless_start, start_bytes, aside_bytes, aside_at, other_bytes, others_stay}
 use Rattle.exam_session.proofs.book.Book.lift_entry.Goals as goal
 
 pub returns-in-Started-clause-spelling : goal.returns-in-Started-clause-spelling
@@ -65,4 +65,5 @@ returns-in-Served c =
       spelling = other_bytes (first_band book.bank book.plan) e kind.0;
       goes_with = λ tree h. h;
       bands = λ h. h;
+      unlisted = no_list_unless_start e kind.0;
     }

@@ -1,0 +1,5 @@
+use Rattle.history_model.proofs.ListLaws.{none_served_of_list}
+use Rattle.history_model.proofs.laws.none_served_of_list.Goals as goal
+
+pub returns : goal.returns
+returns c = none_served_of_list
