@@ -1,9 +1,8 @@
-pub mod Pieces
-pub mod MessageLaws
-pub mod WorldLaws
+pub mod Marked
+pub mod Keeping
+pub mod Judged
 pub mod Rules
-pub mod Taking
-pub mod Sending
-pub mod Payloads
-pub mod EventLaws
-pub mod ReadingLaws
+pub mod Stops
+pub mod Steps
+pub mod Appends
+pub mod Takeover

@@ -1,74 +1,88 @@
--- What is so by the rule at one moment of a link is so by the rule at its start, which is the same.
-use Rattle.std.proofs.Common.{⊎_elim, inl, inr, ℕ, ◌<◌, List, refl, ◌∙◌, subst}
-use Rattle.exam_follower.specs.declared.followed.Followed.{Followed}
-use Rattle.exam_follower.specs.declared.followed.Followed.TheVariants.{Done, Link, Peer, Offer, Full, Disk, Memory}
-use Rattle.exam_follower.specs.declared.followed.Turn.{Turn}
-use Rattle.exam_follower.specs.declared.followed.Turn.TheVariants.{GoesOn, Over}
-use Rattle.exam_follower.specs.declared.replica.TakeFault.{TakeFault}
-use Rattle.exam_follower.specs.declared.replica.TakeFault.TheVariants as take
-use Rattle.exam_follower.specs.World.{Numbered, Delivers, appended, ignored}
-use Rattle.exam_follower.specs.Replicas.{Held, IsSameRule, Takes, IsDue, Fails}
-use Rattle.exam_follower.specs.Following.{Moves, Halts, Ends, EndsWith}
+-- The rule of a follower is that of its start, and what is so after mending is so before it.
+use Rattle.std.proofs.Common.{◌≡◌, ⊎_elim, inl, inr, ℕ, ◌<◌, List, [], ◌∷◌, ◌++◌, length, drop, None, refl, sym, ap, ◌∙◌, subst}
+use Rattle.form_model.specs.Plan.{Plan}
+use Rattle.bank_tables.specs.Tables.{Tables}
+use Rattle.history_model.specs.declared.entry.Entry.{Entry}
+use Rattle.answer_journal.specs.Payload.{end_of}
+use Rattle.record_links.specs.declared.replica.TakeFault.{TakeFault}
+use Rattle.record_links.specs.declared.replica.TakeFault.TheVariants as take
+use Rattle.record_links.specs.Replicas.{Held, sure, IsMended, as_they_are, with_doubt, IsUndelivered, IsSameRule, Takes, IsDue, StopLeaves, Fails}
+use Rattle.record_links.specs.World.{Numbered, Delivers, appended, ignored}
+use Rattle.exam_follower.specs.Followers.{FollowerState, found, opened_size, found_payloads, may_follow, IsFollowing, size_with, limit_of, IsSameFollower}
 
-pub same_rule : (m : List (List ℕ) → List ℕ → Type 0) (s : List (List ℕ) → ℕ) (l : ℕ) → IsSameRule m m s s l l
-same_rule m s l =
-    record { there = λ F r h. h; back = λ F r h. h; same_size = λ F. refl; same_limit = refl }
+-- what was found is the same
+pub first_later : {D : Type 0} (f g : FollowerState D) → IsSameFollower f g → found_payloads g.office ≡ found_payloads f.office
+first_later f g later = rw (later.frame.tells, later.same.opened, later.found_same) refl
 
-pub same_still : (m n o : List (List ℕ) → List ℕ → Type 0) (s t u : List (List ℕ) → ℕ) (l k j : ℕ) → IsSameRule m n s t l k → IsSameRule n o t u k j → IsSameRule m o s u l j
-same_still m n o s t u l k j a b =
-    record {
-      there = λ F r h. b.there F r (a.there F r h);
-      back = λ F r h. a.back F r (b.back F r h);
-      same_size = λ F. b.same_size F ∙ a.same_size F;
-      same_limit = b.same_limit ∙ a.same_limit;
-    }
+-- one rule by the same parts
+rule_by : (b c : Tables) (p q : Plan) (xs ys : List (List ℕ)) (H K : List Entry) → b ≡ c → p ≡ q → xs ≡ ys → H ≡ K → (F : List (List ℕ)) (r : List ℕ) → IsFollowing b p xs H F r → IsFollowing c q ys K F r
+rule_by b c p q xs ys H K eb ep ex eh F r w =
+    subst (λ (t : Tables). IsFollowing t q ys K F r) eb
+    (subst (λ (t : Plan). IsFollowing b t ys K F r) ep
+    (subst (λ (t : List (List ℕ)). IsFollowing b p t K F r) ex
+    (subst (λ (t : List Entry). IsFollowing b p xs t F r) eh w)))
 
-module _ (m n : List (List ℕ) → List ℕ → Type 0) (s t : List (List ℕ) → ℕ) (l k : ℕ) (same : IsSameRule m n s t l k) where
-  delivers_then : (F : List (List ℕ)) (o : Numbered (List ℕ)) (G : List (List ℕ)) → Delivers n F o G → Delivers m F o G
-  delivers_then F o G (appended next may) = appended next (same.back F o.content may)
-  delivers_then F o G (ignored unless) = ignored (λ next may. unless next (same.there F o.content may))
+pub rule_there : {D : Type 0} (f g : FollowerState D) → IsSameFollower f g → (F : List (List ℕ)) (r : List ℕ) → may_follow f F r → may_follow g F r
+rule_there f g later F r w =
+    rule_by f.office.bank g.office.bank f.office.plan g.office.plan (found_payloads f.office) (found_payloads g.office) (found f.office.marks) (found g.office.marks)
+    (sym later.same.bank) (sym later.same.plan) (sym (first_later f g later)) (sym later.found_same) F r w
 
-  pub takes_then : (old : Held) (o : Numbered (List ℕ)) (new : Held) → Takes n old o new → Takes m old o new
-  takes_then old o new w =
-      record { base = w.base; mended = w.mended; delivers = delivers_then w.base o new.records w.delivers; settled = w.settled }
+pub rule_back : {D : Type 0} (f g : FollowerState D) → IsSameFollower f g → (F : List (List ℕ)) (r : List ℕ) → may_follow g F r → may_follow f F r
+rule_back f g later F r w =
+    rule_by g.office.bank f.office.bank g.office.plan f.office.plan (found_payloads g.office) (found_payloads f.office) (found g.office.marks) (found f.office.marks)
+    later.same.bank later.same.plan (first_later f g later) later.found_same F r w
 
-  due_then : (old : Held) (base : List (List ℕ)) (o : Numbered (List ℕ)) → IsDue n old base o → IsDue m old base o
-  due_then old base o w = record { mended = w.mended; next = w.next; follows = same.back base o.content w.follows }
+pub same_rule_of : {D : Type 0} (f g : FollowerState D) → IsSameFollower f g → IsSameRule (may_follow f) (may_follow g) (size_with f) (size_with g) (limit_of f) (limit_of g)
+same_rule_of f g later = record {
+  there = rule_there f g later;
+  back = rule_back f g later;
+  same_size = λ F. ap (λ (n : ℕ). end_of n (drop (length (found g.office.marks)) F)) later.opened_same ∙ ap (λ (H : List Entry). end_of (opened_size f.office.marks) (drop (length H) F)) later.found_same;
+  same_limit = ap (λ (p : Plan). p.journal) later.same.plan;
+}
 
-  fails_then : (old : Held) (o : Numbered (List ℕ)) (new : Held) (f : TakeFault) → Fails n t k old o new f → Fails m s l old o new f
-  fails_then old o new take.Refused w = (w.0, w.1, w.2, w.3, λ may. w.4 (same.there w.0 o.content may))
-  fails_then old o new (take.Full v) w = (w.0, due_then old w.0 o w.1, w.2, w.3 ∙ same.same_size _, subst (λ (x : ℕ). x < v) same.same_limit w.4)
-  fails_then old o new take.Disk w = ⊎_elim (λ z. inl z) (λ v. inr (v.0, due_then old v.0 o v.1, v.2)) w
-  fails_then old o new take.Memory w = w
+-- ---- after mending
+-- nothing is left to mend
+none_left : (held : Held) (base base1 : List (List ℕ)) → held ≡ sure base → IsMended held base1 → base1 ≡ base
+none_left held base _ is as_they_are = ap (λ (h : Held). h.records) is
+none_left held base _ is (with_doubt r e) =
+    let none : held.doubt ≡ None = ap (λ (h : Held). h.doubt) is in
+    absurd (cc (none, e))
 
-  moves_then : (old : Held) (o : Numbered (List ℕ)) (new : Held) (turn : Turn) → Moves n t k old o new turn → Moves m s l old o new turn
-  moves_then old o new GoesOn w = takes_then old o new w
-  moves_then old o new (Over (Done count)) w = absurd w
-  moves_then old o new (Over Link) w = takes_then old o new w
-  moves_then old o new (Over (Peer fault)) w = absurd w
-  moves_then old o new (Over (Offer v)) w = (fails_then old o new take.Refused w.0, w.1)
-  moves_then old o new (Over (Full v)) w = fails_then old o new (take.Full v) w
-  moves_then old o new (Over Disk) w = fails_then old o new take.Disk w
-  moves_then old o new (Over Memory) w = fails_then old o new take.Memory w
+module _ (m n : List (List ℕ) → List ℕ → Type 0) (s t : List (List ℕ) → ℕ) (l k : ℕ) (same : IsSameRule m n s t l k) (old mid : Held) (base : List (List ℕ)) (mended : IsMended old base) (mid_is : mid ≡ sure base) where
+  delivers_from : (o : Numbered (List ℕ)) (base1 G : List (List ℕ)) → base1 ≡ base → Delivers n base1 o G → Delivers m base o G
+  delivers_from o base1 _ e (appended next may) =
+      subst (λ (B : List (List ℕ)). Delivers m B o (base1 ++ o.content ∷ [])) e (appended next (same.back base1 o.content may))
+  delivers_from o base1 _ e (ignored unless) =
+      subst (λ (B : List (List ℕ)). Delivers m B o base1) e (ignored (λ next may. unless next (same.there base1 o.content may)))
 
-  pub halts_then : (old new : Held) (followed : Followed) → Halts n t k old new followed → Halts m s l old new followed
-  halts_then old new (Done count) w = w
-  halts_then old new (Peer fault) w = w
-  halts_then old new Link w = ⊎_elim (λ z. inl z) (λ v. inr (v.0, moves_then old v.0 new (Over Link) v.1)) w
-  halts_then old new Memory w = ⊎_elim (λ z. inl z) (λ v. inr (v.0, moves_then old v.0 new (Over Memory) v.1)) w
-  halts_then old new (Offer v) w = (w.0, moves_then old w.0 new (Over (Offer v)) w.1)
-  halts_then old new (Full v) w = (w.0, moves_then old w.0 new (Over (Full v)) w.1)
-  halts_then old new Disk w = (w.0, moves_then old w.0 new (Over Disk) w.1)
+  mended_from : (base1 : List (List ℕ)) → IsMended mid base1 → IsMended old base1
+  mended_from base1 w = subst (IsMended old) (sym (none_left mid base base1 mid_is w)) mended
 
-  ends_then : (old : Held) (bytes text : List ℕ) (new : Held) (turn : Turn) → Ends n t k old bytes text new turn → Ends m s l old bytes text new turn
-  ends_then old bytes text new turn w =
-      record { offer = w.offer; next = w.next; is_offer = w.is_offer; moves = moves_then old w.offer new turn w.moves; answers = w.answers }
+  pub takes_from : (o : Numbered (List ℕ)) (new : Held) → Takes n mid o new → Takes m old o new
+  takes_from o new w = record {
+    base = base;
+    mended = mended;
+    delivers = delivers_from o w.base new.records (none_left mid base w.base mid_is w.mended) w.delivers;
+    settled = w.settled;
+  }
 
-  pub ends_with_then : (old : Held) (bytes text : List ℕ) (new : Held) (followed : Followed) → EndsWith n t k old bytes text new followed → EndsWith m s l old bytes text new followed
-  ends_with_then old bytes text new (Done count) w = w
-  ends_with_then old bytes text new (Peer fault) w = w
-  ends_with_then old bytes text new Link w = ⊎_elim (λ z. inl z) (λ v. inr (ends_then old bytes text new (Over Link) v)) w
-  ends_with_then old bytes text new Memory w = ⊎_elim (λ z. inl z) (λ v. inr (ends_then old bytes text new (Over Memory) v)) w
-  ends_with_then old bytes text new (Offer v) w = ends_then old bytes text new (Over (Offer v)) w
-  ends_with_then old bytes text new (Full v) w = ends_then old bytes text new (Over (Full v)) w
-  ends_with_then old bytes text new Disk w = ends_then old bytes text new (Over Disk) w
+  due_from : (base1 : List (List ℕ)) (o : Numbered (List ℕ)) → IsDue n mid base1 o → IsDue m old base1 o
+  due_from base1 o w = record { mended = mended_from base1 w.mended; next = w.next; follows = same.back base1 o.content w.follows }
+
+  undelivered_from : (new : Held) → IsUndelivered mid new → IsUndelivered old new
+  undelivered_from new w = ⊎_elim (λ e. inr (base, mended, e ∙ mid_is)) (λ z. inr (z.0, mended_from z.0 z.1, z.2)) w
+
+  pub fails_from : (o : Numbered (List ℕ)) (new : Held) (f : TakeFault) → Fails n t k mid o new f → Fails m s l old o new f
+  fails_from o new take.Refused w = (w.0, mended_from w.0 w.1, w.2, w.3, λ may. w.4 (same.there w.0 o.content may))
+  fails_from o new (take.Full v) w = (w.0, due_from w.0 o w.1, w.2, w.3 ∙ same.same_size _, subst (λ (x : ℕ). x < v) same.same_limit w.4)
+  fails_from o new take.Disk w = ⊎_elim (λ z. inl (undelivered_from new z)) (λ v. inr (v.0, due_from v.0 o v.1, v.2)) w
+  fails_from o new take.Memory w = undelivered_from new w
+
+  pub stops_from : (o : Numbered (List ℕ)) (left : List (List ℕ)) → StopLeaves n mid o left → StopLeaves m old o left
+  stops_from o left w =
+      let e = none_left mid base w.0 mid_is w.1 in
+      (base, mended, ⊎_elim (λ z. inl (z ∙ e)) (λ d. inr (delivers_from o w.0 left e d)) w.2)
+
+-- an offer with another number leaves the mended records
+pub left_alone : (m : List (List ℕ) → List ℕ → Type 0) (old new : Held) (o : Numbered (List ℕ)) → IsMended old new.records → new.doubt ≡ None → (o.number ≡ length new.records → ⊥) → Takes m old o new
+left_alone m old new o mended none other = record { base = new.records; mended = mended; delivers = ignored (λ next may. other next); settled = none }

@@ -1,7 +1,5 @@
-pub mod World
-pub mod Messages
-pub mod Replicas
-pub mod Following
+pub mod Followers
+pub mod Delivering
 pub mod Shipping
-pub mod Memory
-pub mod Events
+pub mod Takeover
+pub mod Later

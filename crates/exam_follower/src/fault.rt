@@ -1,39 +1,19 @@
-//! Why no message was read from a link.
-ghost use Rattle.std.specs.Prelude.{◌≡◌};
-ghost use Rattle.exam_follower.specs.declared.fault.MessageFault.TheVariants.{Memory as OutOfMemory};
+//! Why an offer was not delivered.
 
-use std::alloc::AllocError;
+use exam_records::RecordFault;
+use history_model::Illegal;
 
-/// What the other side of a link did that no peer may do.
+/// Why an offer was not delivered. Of several causes the first is given.
 #[derive(Clone, Copy, Debug, PartialEq, Eq)]
-pub enum PeerFault {
-    /// A message of a kind that this side doesn't take begins with this byte.
-    Kind(u8),
-    /// An offer has a payload of this length, in bytes: none, or more than 131,072.
-    Length(u32),
-    /// The link ended within a message, or before a shipper was done.
-    Cut,
-    /// A have of this count is above the number of the shipper's records.
-    Above(u64),
-    /// A shipper of C records has read 2 C + 1 haves, and none of them is C.
-    TooManyHaves,
-}
-
-/// Why no message was read.
-#[derive(Clone, Copy, Debug, PartialEq, Eq)]
-pub(crate) enum MessageFault {
-    /// The bytes begin with no message of the other side.
-    Peer(PeerFault),
-    /// The link failed, and has counted that.
-    Link,
+pub enum DeliverFault {
+    /// Its number is the count, and its payload is no record.
+    BadRecord(RecordFault),
+    /// Its number is the count, and its record may not follow the entries of the history.
+    Refused(Illegal),
+    /// Its number is the count and its record may follow; with it the journal would have this length in bytes, above its limit.
+    Full(u64),
+    /// A call of the disk failed, and the disk has counted that.
+    Disk,
     /// Out of memory.
     Memory,
-}
-
-impl From<AllocError> for MessageFault {
-    ghost from_gives = { λ _ e. e ≡ OutOfMemory };
-
-    fn from(_e: AllocError) -> MessageFault {
-        MessageFault::Memory
-    }
 }

@@ -1,29 +1,15 @@
-//! A follower of a leader's records: what the two say to one another over a link, and what the follower keeps of it. Upward: over
-//! every loss, repeat and stop its records are a beginning of the leader's, with at least as many as it ever answered. A link
-//! leaves it where the offers that were read leave it, in their order, and what it wrote is the counts after them; the leader's
-//! side wrote the offer of each record that was asked for. Who keeps the records, and from where they are shipped, are traits.
+//! A follower over an office: a second journal, kept from the records of a leader, that another machine takes over with; and
+//! an office's journal as a log to ship from. Upward: an offer is delivered as the world of `record_links` has it, judged by the
+//! rules of examinations as a request's own entry is; a stop at any call of the disk leaves the records, those with the one in
+//! doubt, or either with the record taken; and the office that a takeover goes on with has every record that was answered for.
 #![tactic(auto)]
 
+mod delivering;
 mod fault;
-mod followed;
-mod following;
-mod have;
-mod kept;
-pub mod laws;
-mod memory;
-mod offer;
-mod record_log;
+mod follower;
+mod office_log;
 mod replica;
-mod shipping;
-mod writing;
 
-pub use fault::PeerFault;
-pub use followed::Followed;
-pub use following::follow_link;
-pub use memory::MemoryRecords;
-pub use record_log::{LogFault, RecordLog};
-pub use replica::{Replica, TakeFault};
-pub use shipping::ship_link;
-
-#[cfg(test)]
-mod tests;
+pub use fault::DeliverFault;
+pub use follower::Follower;
+pub use office_log::OfficeLog;

@@ -1,65 +1,58 @@
-//! Who keeps a copy of a leader's records.
-ghost use Rattle.std.specs.Prelude.{◌≡◌, ◌≤◌, List, ℕ, IfOk, IfErr, length};
-ghost use Rattle.exam_edge.specs.Faults.{Rose};
-ghost use Rattle.exam_follower.specs.Messages.{IsPayload, offer_of};
-ghost use Rattle.exam_follower.specs.Replicas.{Takes, Fails, StopLeaves, IsSameRule};
+//! The follower as a replica: what a link delivers to.
 
+ghost use Rattle.std.specs.Prelude.{◌≡◌};
+ghost use Rattle.exam_follower.specs.Delivering.{taken_as};
+
+use crate::fault::DeliverFault;
+use crate::follower::Follower;
+use exam_edge::Disk;
+use record_links::{Replica, TakeFault};
 use std::alloc::Global;
 
-/// Why an offer was not taken.
-#[derive(Clone, Copy, Debug, PartialEq, Eq)]
-pub enum TakeFault {
-    /// Its number is the count, and its payload is no record, or one that may not follow.
-    Refused,
-    /// Its number is the count and its record may follow; with it the file would have this length, above its limit.
-    Full(u64),
-    /// The disk failed, and has counted that.
-    Disk,
-    /// Out of memory.
-    Memory,
+/// The fault of a replica: a payload that is no record is refused as a record that may not follow is.
+fn take_fault(fault: DeliverFault) -> TakeFault
+    ensures { result ≡ taken_as fault }
+{
+    match fault {
+        DeliverFault::BadRecord(_) | DeliverFault::Refused(_) => TakeFault::Refused,
+        DeliverFault::Full(size) => TakeFault::Full(size),
+        DeliverFault::Disk => TakeFault::Disk,
+        DeliverFault::Memory => TakeFault::Memory,
+    }
 }
 
-/// A copy of a leader's records, numbered from 0, which takes those that are offered.
-pub trait Replica {
-    ghost use Rattle.std.specs.Prelude.{ℕ, List};
-    ghost use Rattle.exam_follower.specs.Replicas.{Held};
+impl<'a, D: Disk> Replica for Follower<'a, D> {
+    ghost use Rattle.answer_journal.specs.Journal.{faults_of};
+    ghost use Rattle.exam_follower.specs.Delivering.{MayBeLeft};
+    ghost use Rattle.exam_follower.specs.Followers.{held_of, may_follow, size_with, limit_of, IsSameFollower};
+    ghost use Rattle.exam_follower.specs.Later.{same_itself, same_still};
 
-    /// Its records, and the one in doubt, if there is one.
-    ghost held: { Self → Held };
+    ghost held = { held_of };
 
-    /// The rule: whether a record may follow these.
-    ghost may_follow: { Self → List (List ℕ) → List ℕ → Type 0 };
+    ghost may_follow = { may_follow };
 
-    /// The size of these records in its file, in bytes.
-    ghost size: { Self → List (List ℕ) → ℕ };
+    ghost size = { size_with };
 
-    /// The greatest size of its file, in bytes.
-    ghost limit: { Self → ℕ };
+    ghost limit = { limit_of };
 
-    /// Records that may be found after a stop at a call of the disk between the one state and the other.
-    ghost may_leave: { Self → Self → List (List ℕ) → Type 0 };
+    ghost may_leave = { MayBeLeft };
 
-    /// How many calls of its disk have failed: a count that never falls, and stays at its last value.
-    ghost faults: { Self → ℕ };
+    ghost faults = { λ f. faults_of f.office.journal };
 
-    /// How many records it has, without one in doubt.
-    fn count(&self) -> u64
-        ensures { result ≡ length (held self.now).records };
+    ghost is_later = { IsSameFollower };
 
-    /// Delivers an offer, and answers how many records it has then, each on its disk for sure. It mends first where a record
-    /// is in doubt. An offer with another number than the count leaves the records.
-    fn take(&mut self, alloc: Global, number: u64, payload: &[u8]) -> Result<u64, TakeFault>
-        requires { IsPayload payload.now }
-        ensures taken { IfOk result (λ _. Takes (may_follow self.old) (held self.old)
-            (offer_of number payload.now) (held self.new)) }
-        ensures count { IfOk result (λ n. n ≡ length (held self.new).records) }
-        ensures fault { IfErr result (Fails (may_follow self.old) (size self.old) (limit self.old)
-            (held self.old) (offer_of number payload.now) (held self.new)) }
-        ensures stops { (left : List (List ℕ)) → may_leave self.old self.new left
-            → StopLeaves (may_follow self.old) (held self.old) (offer_of number payload.now) left }
-        ensures rule { IsSameRule (may_follow self.old) (may_follow self.new) (size self.old)
-            (size self.new) (limit self.old) (limit self.new) }
-        ensures failed { IfErr result (λ e. e ≡ TakeFault.Disk
-            → Rose (faults self.old) (faults self.new)) }
-        ensures grows { faults self.old ≤ faults self.new };
+    ghost later_itself = { same_itself };
+
+    ghost later_still = { same_still };
+
+    fn count(&self) -> u64 {
+        self.office.records()
+    }
+
+    fn take(&mut self, alloc: Global, number: u64, payload: &[u8]) -> Result<u64, TakeFault> {
+        match self.deliver(alloc, number, payload) {
+            Ok(count) => Ok(count),
+            Err(fault) => Err(take_fault(fault)),
+        }
+    }
 }

@@ -1,11 +1,19 @@
 -- A door of the host.
-use Rattle.std.specs.Prelude.{◌≡◌, ◌-◌, ℕ, Bool, true, Option, Some, None, is_some, nat_lt}
+use Rattle.std.specs.Prelude.{◌≡◌, ◌-◌, ℕ, Bool, true, false, Option, Some, None, nat_lt}
 use Rattle.host_edge.specs.declared.fault_count.FaultCount.{FaultCount}
 use Rattle.host_edge.specs.declared.host_door.HostDoor.{HostDoor}
+use Rattle.host_edge.specs.declared.host_door.Origin.{Origin}
+use Rattle.host_edge.specs.declared.host_door.Origin.TheVariants.{Nowhere, Listener, Address}
 
--- whether it has a listener
+-- whether connections can come from there
+abbrev pub comes_from : Origin → Bool
+comes_from Nowhere = false
+comes_from (Listener listener) = true
+comes_from (Address address) = true
+
+-- whether it has a listener, or an address to connect to
 abbrev pub listens : HostDoor → Bool
-listens door = is_some door.listener
+listens door = comes_from door.origin
 
 -- how many more links it gives, if that is limited
 abbrev pub left_of : HostDoor → Option ℕ

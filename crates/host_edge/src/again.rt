@@ -6,7 +6,7 @@ ghost use Rattle.std.specs.IoError.{error_kind};
 use crate::trouble::Trouble;
 use std::fs::File;
 use std::io::{ErrorKind, Read, Write};
-use std::net::{TcpListener, TcpStream};
+use std::net::{TcpListener, TcpStream, ToSocketAddrs};
 use std::os::unix::fs::FileExt;
 use std::time::Duration;
 use std::{io, thread};
@@ -129,4 +129,16 @@ pub fn accept_again(rt: &HostRuntime, listener: &TcpListener) -> io::Result<TcpS
         }
     }
     Err(interrupted_on_and_on())
+}
+
+/// A connection to an address, each of whose places is tried for so long, one after another.
+pub fn connect_within(rt: &HostRuntime, address: &str, limit: Duration) -> io::Result<TcpStream> {
+    let mut cause = io::Error::new(ErrorKind::InvalidInput, "no such address");
+    for place in address.to_socket_addrs(rt)? {
+        match TcpStream::connect_timeout(rt, &place, limit) {
+            Ok(stream) => return Ok(stream),
+            Err(fault) => cause = fault,
+        }
+    }
+    Err(cause)
 }

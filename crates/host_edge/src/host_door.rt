@@ -3,14 +3,14 @@
 ghost use Rattle.std.specs.Prelude.{◌≡◌, ◌≢◌, ◌≤◌, ◌-◌, [], All, vec_len, Ok, Some, None, true, false, is_ok, is_some, option_map, IsErr, IsNone, IfOk, OnErr};
 ghost use Rattle.exam_edge.specs.Faults.{Rose};
 ghost use Rattle.host_edge.specs.FaultCount.{count_of, cause_of, IsCounted};
-ghost use Rattle.host_edge.specs.HostDoor.{listens, left_of, out_of, ended_of, faults_of, IsLinkCounted};
+ghost use Rattle.host_edge.specs.HostDoor.{comes_from, listens, left_of, out_of, ended_of, faults_of, IsLinkCounted};
 
-use crate::HostLink;
-use crate::again::accept_again;
+use crate::again::{accept_again, connect_within};
 use crate::closing::{Closing, is_closing};
 use crate::fault_count::FaultCount;
 use crate::idle_streams::IdleStreams;
 use crate::trouble::tell_end;
+use crate::{HostLink, Patience};
 use exam_edge::{Door, Failed, Memory};
 use std::alloc::Global;
 use std::io;
@@ -18,15 +18,50 @@ use std::io::ErrorKind;
 use std::net::{TcpListener, TcpStream};
 use std::time::Duration;
 
-/// The connections of a listener, which other doors may share, one after another. It gives no more after a stated number
-/// of links, if there is one. If there is none, a connection that has nothing to read is no link: the door keeps it aside, and
-/// gives it when it has. A door without a listener fails at each accept. Where the journal is lost, it gives no more links from
-/// the flag on that the journal's file sets. It does not report its links.
+/// Where the connections of a door come from.
+#[derive(Drop)]
+enum Origin {
+    /// From nowhere: each accept fails.
+    Nowhere,
+    /// From a listener, which other doors may share.
+    Listener(TcpListener),
+    /// From an accept, which connects to this address.
+    Address(String),
+}
+
+impl Origin {
+    // Whether connections can come from it.
+    fn is_somewhere(&self) -> bool
+        ensures { result ≡ comes_from self.now }
+    {
+        match self {
+            Origin::Nowhere => false,
+            Origin::Listener(_) => true,
+            Origin::Address(_) => true,
+        }
+    }
+}
+
+// A listener, if there is one.
+fn origin_of(listener: Option<TcpListener>) -> Origin
+    ensures { comes_from result ≡ is_some listener }
+{
+    match listener {
+        Some(listener) => Origin::Listener(listener),
+        None => Origin::Nowhere,
+    }
+}
+
+/// The connections of a listener, which other doors may share, one after another, or those that it makes to an address. It
+/// gives no more after a stated number of links, if there is one. If there is none, the doors of a server keep a connection
+/// aside that has nothing to read, and give it when it has. A door with neither a listener nor an address fails at each accept.
+/// Where the journal is lost, it gives no more links from the flag on that the journal's file sets. It does not report its
+/// links.
 #[derive(Drop)]
 pub struct HostDoor {
     rt: HostRuntime,
-    listener: Option<TcpListener>,
-    limit: Duration,
+    origin: Origin,
+    patience: Patience,
     idle: Option<IdleStreams>,
     left: Option<u64>,
     out: bool,
@@ -58,10 +93,51 @@ impl HostDoor {
         ensures count { count_of (faults_of result) ≡ 0 }
         ensures cause { cause_of (faults_of result) ≡ None }
     {
+        HostDoor::from(rt, origin_of(listener), Patience::of_messages(limit), links)
+    }
+
+    /// The door of a follower: each connection of this listener is a link, and each read and write of it waits for at most a
+    /// minute. No call has failed yet.
+    pub fn to_follow(rt: HostRuntime, listener: Option<TcpListener>) -> HostDoor
+        ensures listens { listens result ≡ is_some listener }
+        ensures left { left_of result ≡ None }
+        ensures out { out_of result ≡ false }
+        ensures count { count_of (faults_of result) ≡ 0 }
+        ensures cause { cause_of (faults_of result) ≡ None }
+    {
+        HostDoor::from(rt, origin_of(listener), Patience::of_records(), None)
+    }
+
+    /// The door of a shipper: one link, which accept makes by a connection to this address. A connection that is refused, or
+    /// not made within a minute, is a fault of the door. Each read and write of it waits for at most a minute. No call has
+    /// failed yet.
+    pub fn to_ship(rt: HostRuntime, address: String) -> HostDoor
+        ensures listens { listens result ≡ true }
+        ensures left { left_of result ≡ Some 1 }
+        ensures out { out_of result ≡ false }
+        ensures count { count_of (faults_of result) ≡ 0 }
+        ensures cause { cause_of (faults_of result) ≡ None }
+    {
+        HostDoor::from(
+            rt,
+            Origin::Address(address),
+            Patience::of_records(),
+            Some(1),
+        )
+    }
+
+    // A door of this origin that gives so many links, or any number of them, and keeps none aside.
+    fn from(rt: HostRuntime, origin: Origin, patience: Patience, links: Option<u64>) -> HostDoor
+        ensures listens { listens result ≡ comes_from origin }
+        ensures left { left_of result ≡ links }
+        ensures out { out_of result ≡ false }
+        ensures count { count_of (faults_of result) ≡ 0 }
+        ensures cause { cause_of (faults_of result) ≡ None }
+    {
         HostDoor {
             rt,
-            listener,
-            limit,
+            origin,
+            patience,
             idle: None,
             left: links,
             out: false,
@@ -86,7 +162,7 @@ impl HostDoor {
         let mut door = HostDoor::of(rt, None, limit, None);
         if let Some(listener) = listener {
             if let Ok(idle) = IdleStreams::of(&rt, alloc, &listener, limit) {
-                door.listener = Some(listener);
+                door.origin = Origin::Listener(listener);
                 door.idle = Some(idle);
             }
         }
@@ -150,7 +226,7 @@ impl HostDoor {
         Ok(all)
     }
 
-    // The next connection of the listener, or one that was kept aside; none where the journal is lost.
+    // The next connection of the listener, one that was kept aside, or one that is made; none where the journal is lost.
     fn next_stream(&mut self) -> io::Result<Option<TcpStream>>
         ensures listens { listens self.new ≡ listens self.old }
         ensures left { left_of self.new ≡ left_of self.old }
@@ -159,8 +235,14 @@ impl HostDoor {
         ensures faults { faults_of self.new ≡ faults_of self.old }
         ensures deaf { listens self.old ≡ false → IsErr result }
     {
-        let Some(listener) = &self.listener else {
-            return Err(io::Error::new(ErrorKind::NotConnected, "no listener"));
+        let listener = match &self.origin {
+            Origin::Listener(listener) => listener,
+            Origin::Address(address) => {
+                return connect_within(&self.rt, address.as_str(), self.patience.first).map(Some);
+            }
+            Origin::Nowhere => {
+                return Err(io::Error::new(ErrorKind::NotConnected, "no listener"));
+            }
         };
         let closing = self.closing.as_ref();
         let given = match &mut self.idle {
@@ -219,7 +301,7 @@ impl Door for HostDoor {
             (Rose (count_of (faults_of self.old)) (count_of (faults_of self.new))) }
     {
         self.ended = false;
-        if self.left == Some(0) && self.listener.is_some() {
+        if self.left == Some(0) && self.origin.is_somewhere() {
             return Ok(None);
         }
         let given = self.next_stream();
@@ -228,7 +310,7 @@ impl Door for HostDoor {
             return Ok(None);
         };
         self.count_link();
-        Ok(Some(HostLink::of(self.rt, stream, self.limit, self.idle.is_some())))
+        Ok(Some(HostLink::of(self.rt, stream, self.patience, self.idle.is_some())))
     }
 
     fn back(&mut self, link: HostLink)

@@ -20,12 +20,43 @@ use std::time::{Duration, Instant};
 pub struct HostLink {
     rt: HostRuntime,
     stream: TcpStream,
-    /// How long it waits for the first byte of a message.
-    idle: Duration,
+    patience: Patience,
     /// Whether its door keeps idle connections.
     is_kept: bool,
     stage: Stage,
     faults: FaultCount,
+}
+
+/// How long a link waits.
+#[derive(Clone, Copy, Debug)]
+pub struct Patience {
+    /// For the first byte of a message, or for the connection.
+    pub first: Duration,
+    /// For the next bytes of a message that has begun, and for room for what is written.
+    pub between: Duration,
+    /// For a whole message, from its first byte or from the last write on: later than that no read begins.
+    pub whole: Duration,
+}
+
+impl Patience {
+    /// That of the messages of HTTP: so long for the first byte, then 5 seconds for the next bytes and 15 for a whole message.
+    pub fn of_messages(first: Duration) -> Patience {
+        Patience {
+            first,
+            between: Duration::from_secs(BETWEEN),
+            whole: Duration::from_secs(WHOLE),
+        }
+    }
+
+    /// That of records: a minute.
+    pub fn of_records() -> Patience {
+        let minute = Duration::from_secs(MINUTE);
+        Patience {
+            first: minute,
+            between: minute,
+            whole: minute,
+        }
+    }
 }
 
 /// How far a link is.
@@ -46,6 +77,9 @@ const BETWEEN: u64 = 5;
 
 // How many seconds a message may take from its first byte.
 const WHOLE: u64 = 15;
+
+// How many seconds a side of records waits for the other.
+const MINUTE: u64 = 60;
 
 // How many seconds, and in how many reads, the end of a connection waits for what its client still sends.
 const LAST_WAIT: u64 = 1;
@@ -72,23 +106,27 @@ fn read_rest(rt: &HostRuntime, stream: &mut TcpStream) -> io::Result<()> {
 }
 
 impl HostLink {
-    /// The link over a connection; no call has failed yet. It waits so long for the first byte of a message, unless its door
-    /// keeps idle connections: then it has something to read already. A reply is sent at once, and not held back for more.
-    pub fn of(rt: HostRuntime, stream: TcpStream, idle: Duration, is_kept: bool) -> HostLink
+    /// The link over a connection; no call has failed yet. It waits so long, but if its door keeps idle connections, no longer
+    /// for the first byte of a message than for the next: it has something to read already. A reply is sent at once, and not
+    /// held back for more.
+    pub fn of(rt: HostRuntime, stream: TcpStream, patience: Patience, is_kept: bool) -> HostLink
         ensures count { count_of (faults_of result) ≡ 0 }
         ensures cause { cause_of (faults_of result) ≡ None }
         ensures over { is_over result ≡ false }
         ensures rest { is_at_rest result ≡ false }
     {
-        let between = Duration::from_secs(BETWEEN);
-        let first = if is_kept { between } else { idle };
+        let first = if is_kept {
+            patience.between
+        } else {
+            patience.first
+        };
         let _ = stream.set_nodelay(true);
         let _ = stream.set_read_timeout(Some(first));
-        let _ = stream.set_write_timeout(Some(between));
+        let _ = stream.set_write_timeout(Some(patience.between));
         HostLink {
             rt,
             stream,
-            idle,
+            patience,
             is_kept,
             stage: Stage::Fresh,
             faults: FaultCount::none(),
@@ -118,7 +156,7 @@ impl HostLink {
             self.stage = if self.is_kept {
                 Stage::AtRest
             } else {
-                let _ = self.stream.set_read_timeout(Some(self.idle));
+                let _ = self.stream.set_read_timeout(Some(self.patience.first));
                 Stage::Fresh
             };
         }
@@ -140,15 +178,14 @@ impl HostLink {
     {
         match self.stage {
             Stage::Begun(start) => {
-                if Duration::from_secs(WHOLE) <= start.elapsed(&self.rt)? {
+                if self.patience.whole <= start.elapsed(&self.rt)? {
                     return Err(io::Error::from(ErrorKind::TimedOut));
                 }
                 read_again(&mut self.stream, buffer)
             }
             _ => {
                 let count = read_again(&mut self.stream, buffer)?;
-                self.stream
-                    .set_read_timeout(Some(Duration::from_secs(BETWEEN)))?;
+                self.stream.set_read_timeout(Some(self.patience.between))?;
                 self.stage = Stage::Begun(Instant::now(&self.rt)?);
                 Ok(count)
             }

@@ -1,5 +1,5 @@
 //! The outside of the host, as the traits of `exam_edge` have it: its files, standard output, the journal's file, a
-//! listener and its connections. Upward: a call answers `Failed` exactly where the system's call failed or moved more
+//! listener and its connections, and a connection to an address. Upward: a call answers `Failed` exactly where the system's call failed or moved more
 //! bytes than there is room for, and each such call is counted. It makes an interrupted call again. It reports no
 //! content, so that nothing is claimed of what a file or a socket holds.
 #![tactic(auto)]
@@ -25,5 +25,5 @@ pub use closing::Closing;
 pub use host_disk::HostDisk;
 pub use host_door::HostDoor;
 pub use host_files::HostFiles;
-pub use host_link::HostLink;
+pub use host_link::{HostLink, Patience};
 pub use host_sink::HostSink;

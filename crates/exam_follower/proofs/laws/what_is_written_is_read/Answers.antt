@@ -1,8 +1,0 @@
-use Rattle.exam_follower.proofs.ReadingLaws.{offer_is_read, have_is_read}
-use Rattle.exam_follower.proofs.laws.what_is_written_is_read.Goals as goal
-
-pub returns-clause-offer : goal.returns-clause-offer
-returns-clause-offer c = offer_is_read
-
-pub returns-clause-have : goal.returns-clause-have
-returns-clause-have c = have_is_read

@@ -1,0 +1,4 @@
+pub mod Rules
+pub mod Giving
+pub mod Ending
+pub mod Chaining

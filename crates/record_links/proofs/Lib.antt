@@ -1,0 +1,10 @@
+pub mod Pieces
+pub mod MessageLaws
+pub mod WorldLaws
+pub mod Rules
+pub mod Taking
+pub mod Sending
+pub mod Payloads
+pub mod EventLaws
+pub mod ReadingLaws
+pub mod Growing

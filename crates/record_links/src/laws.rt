@@ -1,0 +1,52 @@
+//! What the definitions mean: functions that do nothing, and whose clauses are laws.
+ghost use Rattle.std.specs.Prelude.{◌≡◌, ◌<◌, ◌^◌, ◌++◌, ℕ, List};
+ghost use Rattle.record_links.specs.declared.fault.PeerFault.{PeerFault};
+ghost use Rattle.record_links.specs.Events.{LinksAreEvents};
+ghost use Rattle.record_links.specs.Messages.{IsPayload, offer_of, offer_text, have_text, IsOffer, IsEnd, IsNoOffer, IsHave, IsNoHave};
+ghost use Rattle.record_links.specs.World.{Numbered, FollowsAlong};
+
+use crate::Replica;
+
+/// Whatever happens to a leader and a follower that begins as it does, by the rule of a replica, its records are a beginning of
+/// the leader's, and none that it ever answered for is lacking.
+pub fn a_follower_follows<F: Replica>(_replica: &F)
+    ensures { FollowsAlong (F.may_follow _replica.now) }
+{}
+
+/// What a link does to a replica with no record in doubt is events of the world, where the offers that it took were sent.
+pub fn links_are_events<F: Replica>(_replica: &F)
+    ensures { LinksAreEvents (F.may_follow _replica.now) (F.size _replica.now)
+        (F.limit _replica.now) }
+{}
+
+/// Bytes begin with at most one message of a shipper, or have one fault.
+pub fn one_message_of_a_shipper()
+    ensures offer { (bytes : List ℕ) (o p : Numbered (List ℕ)) (next after : List ℕ)
+        → IsOffer bytes o next → IsOffer bytes p after → (o ≡ p) × (next ≡ after) }
+    ensures no_end { (bytes : List ℕ) (o : Numbered (List ℕ)) (next : List ℕ)
+        → IsOffer bytes o next → IsEnd bytes → ⊥ }
+    ensures no_fault { (bytes : List ℕ) (o : Numbered (List ℕ)) (next : List ℕ) (f : PeerFault)
+        → IsOffer bytes o next → IsNoOffer bytes f → ⊥ }
+    ensures end_no_fault { (bytes : List ℕ) (f : PeerFault)
+        → IsEnd bytes → IsNoOffer bytes f → ⊥ }
+    ensures fault { (bytes : List ℕ) (f g : PeerFault)
+        → IsNoOffer bytes f → IsNoOffer bytes g → f ≡ g }
+{}
+
+/// Bytes begin with at most one message of a follower, or have one fault.
+pub fn one_message_of_a_follower()
+    ensures have { (bytes : List ℕ) (n m : ℕ) (next after : List ℕ)
+        → IsHave bytes n next → IsHave bytes m after → (n ≡ m) × (next ≡ after) }
+    ensures no_fault { (bytes : List ℕ) (n : ℕ) (next : List ℕ) (f : PeerFault)
+        → IsHave bytes n next → IsNoHave bytes f → ⊥ }
+    ensures fault { (bytes : List ℕ) (f g : PeerFault)
+        → IsNoHave bytes f → IsNoHave bytes g → f ≡ g }
+{}
+
+/// What one side writes the other side reads.
+pub fn what_is_written_is_read()
+    ensures offer { (number : ℕ) (payload rest : List ℕ) → number < 2 ^ 64 → IsPayload payload
+        → IsOffer (offer_text number payload ++ rest) (offer_of number payload) rest }
+    ensures have { (count : ℕ) (rest : List ℕ) → count < 2 ^ 64
+        → IsHave (have_text count ++ rest) count rest }
+{}
