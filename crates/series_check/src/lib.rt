@@ -23,4 +23,11 @@ mod value;
 mod walk;
 
 pub use checker::check_series;
+pub use counting::is_impossible;
+pub use cut::{SeriesCut, below_form, root_cut};
+pub use leaf::is_whole;
+pub use node::{is_sound, paths_below};
 pub use series_model::SeriesVerdict;
+pub use setting::Setting;
+pub use standing::{Standing, standing_on};
+pub use value::{is_series, value as series_value};

@@ -1,0 +1,10 @@
+pub mod CountLaws
+pub mod ShapeLaws
+pub mod SpendSteps
+pub mod KnownLaws
+pub mod UndecidedLaws
+pub mod LeafLaws
+pub mod SearchLaws
+pub mod WholeSearch
+pub mod OutcomeLaws
+pub mod ListLaws

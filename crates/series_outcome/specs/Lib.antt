@@ -1,0 +1,4 @@
+pub mod Spending
+pub mod Assemblies
+pub mod Walks
+pub mod Searches
