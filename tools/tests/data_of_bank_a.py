@@ -59,6 +59,11 @@ def started(session, booking, sets=(range(6),)):
     return head + bytes([len(sets)]) + b"".join(map(item_set, sets))
 
 
+def started_without(session, booking, without, form, sets=(range(6),)):
+    """A start with a list of items that the examinee must not get, and a form."""
+    return b"\x09" + started(session, booking, sets)[1:] + item_set(without) + item_set(form)
+
+
 def set_aside(session, step, band, cause, nodes, tree):
     """Eligibility set aside."""
     head = b"\7" + session.to_bytes(4, "big") + step.to_bytes(2, "big")

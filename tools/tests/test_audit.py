@@ -11,7 +11,7 @@ import audit
 import data_of_bank_a as a
 import drill_texts
 from common import PROGRAM, Folder, needs_program
-from shadowtools.formats import exposure
+from shadowtools.formats import examination, exposure
 
 EMPTY = b"SHADOWJ1\0"
 # Three records with payloads of one, two and three bytes, the gates at 8, 14, 21 and 29.
@@ -79,6 +79,102 @@ class Files(Folder):
                 ([started, b"\5\0\0\0\0"], (0, "entries 2 sessions 1 finished 1 proved 0 unproved 0 aside 0 nodes 0"))):
             with self.subTest(payloads):
                 self.assertEqual(self.said(b"SHADOWJ1" + b"".join(map(framed, payloads)) + b"\0"), wanted)
+
+
+class Lists(Files):
+    """Session 1 of bank A begins without item 2: its best form is that of items 1, 3 and 5, and its first item is 1."""
+
+    FIRST = [a.started(0, 70), a.served(0, 0, 2, {1, 2, 3}, tree=bytes.fromhex("0100010003000000410300"))]
+    SHOWN = a.served(1, 0, 1, {1, 3, 5}, tree=bytes.fromhex("0100000300"))
+
+    def lines(self, payloads):
+        with open(self.path("journal"), "wb") as file:
+            file.write(a.journal(payloads))
+        status, said, _ = self.tool("audit", self.bank, self.plan, self.path("journal"))
+        return status, said.splitlines()
+
+    def test_a_session_without_an_item(self):
+        payloads = [*self.FIRST, a.started_without(1, 71, {2}, {1, 3, 5}), self.SHOWN, a.closed(1)]
+        self.assertEqual(len(payloads[2]), 206)
+        counts = [(0, 1), (1, 1), (0, 0), (0, 1), (0, 1), (0, 1)]
+        self.assertEqual(self.lines(payloads), (0, [
+            "entries 5 sessions 2 finished 1 proved 2 unproved 0 aside 0 nodes 2", "exposure finished 1",
+            *(f"item {k} shown {shown} eligible {eligible}" for k, (shown, eligible) in enumerate(counts))]))
+        entries = examination.read_journal(self.path("journal"))
+        self.assertEqual((entries[2].without, entries[2].form), ({2}, {1, 3, 5}))
+        found = exposure.exposure_of(entries, examination.read_bank(self.bank), examination.read_plan(self.plan))
+        self.assertIsNone(exposure.differs(found, (1, counts)))
+
+    def test_lists_that_are_none(self):
+        at = len(a.journal(self.FIRST)) - 1
+        empty = a.started_without(1, 71, set(), {1, 3, 5})
+        for payload, word in (
+                (empty, "record"), (empty[:-64], "record"), (a.started_without(1, 71, {2}, {1, 3, 5})[:-1], "record"),
+                (a.started_without(1, 71, {6}, {1, 3, 5}), "illegal"), (a.started_without(1, 71, {2}, {1, 2, 3}), "illegal"),
+                (a.started_without(1, 71, {0, 1}, {3, 4, 5}), "illegal"), (a.started_without(1, 70, {2}, {1, 3, 5}), "illegal")):
+            with self.subTest(payload):
+                self.assertEqual(self.lines([*self.FIRST, payload]), (6, [f"journal: {word} at {at}"]))
+
+    def test_an_item_of_the_list_is_not_served(self):
+        payloads = [*self.FIRST, a.started_without(1, 71, {2}, {1, 3, 5})]
+        at = len(a.journal(payloads)) - 1
+        served = a.served(1, 0, 2, {1, 2, 3}, tree=bytes.fromhex("0100010003000000410300"))
+        self.assertEqual(self.lines([*payloads, served]), (6, [f"journal: illegal at {at}"]))
+
+    def test_a_later_step(self):
+        """The estimate stays point 1. With item 1 given, {1, 2, 3} has 23; without item 2 {1, 3, 5} is best with 21, and item 5 has most of it."""
+        payloads = [*self.FIRST, a.started_without(1, 71, {2}, {1, 3, 5}), self.SHOWN, a.answered(1, 0, 0)]
+        later = a.served(1, 1, 5, {1, 3, 5}, tree=bytes.fromhex("0100000300"))
+        self.assertEqual(self.lines([*payloads, later])[1][0],
+                         "entries 6 sessions 2 finished 0 proved 3 unproved 0 aside 0 nodes 3")
+        at = len(a.journal(payloads)) - 1
+        served = a.served(1, 1, 2, {1, 2, 3}, tree=bytes.fromhex("0100010003000000410300"))
+        self.assertEqual(self.lines([*payloads, served]), (6, [f"journal: illegal at {at}"]))
+
+    def aside(self):
+        """Sessions 0 and 1 show each item once; then none is eligible, and session 2 begins without item 2 and is set aside."""
+        self.write("plan", a.PLAN + "rate 1 65535\nkey " + "0" * 64 + "\n")
+        whole = bytes.fromhex("0006")
+        return [*a.history()[:6], a.answered(0, 2, 1), a.started(1, 71, ((0, 3, 5),)),
+                a.served(1, 0, 5, {0, 3, 5}, tree=whole), a.answered(1, 0, 0), a.served(1, 1, 3, {0, 3, 5}, tree=whole),
+                a.answered(1, 1, 0), a.served(1, 2, 0, {0, 3, 5}, tree=whole), a.answered(1, 2, 0),
+                a.started_without(2, 72, {2}, {1, 3, 5}, ((),)), a.set_aside(2, 0, 0, 0, 1, bytes.fromhex("000500"))]
+
+    def test_eligibility_set_aside(self):
+        payloads = self.aside()
+        shown = a.served(2, 0, 1, {1, 3, 5}, tree=bytes.fromhex("0100000300"))
+        status, said = self.lines([*payloads, shown, a.closed(2)])
+        self.assertEqual((status, said[:2]), (0, ["entries 18 sessions 3 finished 3 proved 7 unproved 0 aside 1 nodes 8", "exposure finished 3"]))
+        self.assertEqual(said[2:], [f"item {k} shown {shown} eligible {eligible}" for k, (shown, eligible)
+                                    in enumerate(((1, 3), (2, 2), (1, 1), (1, 3), (1, 2), (1, 3)))])
+        at = len(a.journal(payloads)) - 1
+        served = a.served(2, 0, 2, {1, 2, 3}, tree=bytes.fromhex("0100010003000000410300"))
+        self.assertEqual(self.lines([*payloads, served]), (6, [f"journal: illegal at {at}"]))
+
+    @needs_program
+    def test_the_program_reads_it(self):
+        later = a.served(1, 1, 5, {1, 3, 5}, tree=bytes.fromhex("0100000300"))
+        for payloads in ([*self.FIRST, a.started_without(1, 71, {2}, {1, 3, 5}), self.SHOWN, a.answered(1, 0, 0), later], self.aside()):
+            with self.subTest(len(payloads)):
+                status, said = self.lines(payloads)
+                done = subprocess.run([PROGRAM, "audit", self.bank, self.plan], stdin=subprocess.DEVNULL, capture_output=True,
+                                      text=True, env={"SHADOWD_JOURNAL": self.path("journal")})
+                self.assertEqual((done.returncode, done.stdout.splitlines()), (status, said))
+
+    @needs_program
+    def test_the_program_goes_on(self):
+        """Session 2 gets the best form without item 2: {1, 3, 5} with 21; after it {1, 3, 4} has 18 and {1, 4, 5} 19."""
+        with open(self.path("journal"), "wb") as file:
+            file.write(a.journal(self.aside()))
+        script = self.write("script", "look 2\nanswer 2 0 0\nanswer 2 1 0\n")
+        done = subprocess.run([PROGRAM, "replay", self.bank, self.plan, script], stdin=subprocess.DEVNULL, capture_output=True,
+                              text=True, env={"SHADOWD_JOURNAL": self.path("journal")})
+        self.assertEqual((done.returncode, done.stdout.splitlines()), (0, [
+            "session 2 step 0 item 1 proved", "session 2 step 1 item 5 proved", "session 2 step 2 item 3 proved"]))
+
+    def test_version_1_has_none(self):
+        payload = a.started_without(0, 70, {2}, {1, 3, 5})
+        self.assertEqual(self.said(b"SHADOWJ1" + framed(payload) + b"\0"), (6, "journal: record at 8"))
 
 
 class Seals(Folder):

@@ -242,23 +242,37 @@ class Health(Service):
         self.assertEqual(self.asked(port, path="/health/"), (404, {"error": "no-route"}))
 
     def test_workers_that_are_busy(self):
-        """A client within a message holds a worker, and one between two messages does not."""
+        """A client within a message holds a worker, and one between two messages does not. A worker that finds a new connection and a part of a
+        message at the same moment may keep that connection waiting until the message is too late. A look is seldom such a connection, so the
+        client within a message tries some times."""
         port = self.start(workers=3)
-        within, idle = (socket.create_connection(("127.0.0.1", port), LIMIT) for _ in range(2))
-        self.addCleanup(within.close)
-        self.addCleanup(idle.close)
+        idle = self.connected(port)
         idle.sendall(b"GET /sessions/9 HTTP/1.1\r\n\r\n")
         self.assertTrue(idle.recv(4096))
-        within.sendall(b"GET /sessions/9")
-        self.becomes(port, 2)
-        within.close()
-        self.becomes(port, 1)
+        for _ in range(5):
+            within = self.connected(port)
+            within.sendall(b"GET /sessions/9")
+            time.sleep(0.5)  # its worker has the part by then
+            held = self.becomes(port, 2, 4)  # a message in parts has five seconds between its bytes
+            within.close()
+            if held:
+                break
+        self.assertTrue(held)
+        self.assertTrue(self.becomes(port, 1, LIMIT))
 
-    def becomes(self, port, busy):
-        until = time.monotonic() + 4  # a message in parts has five seconds between its bytes
+    def connected(self, port):
+        connection = socket.create_connection(("127.0.0.1", port), LIMIT)
+        self.addCleanup(connection.close)
+        return connection
+
+    def becomes(self, port, busy, seconds):
+        """Whether a look finds so many busy workers within some seconds."""
+        until = time.monotonic() + seconds
         while self.asked(port)[1]["busy"] != busy:
-            self.assertLess(time.monotonic(), until)
+            if time.monotonic() > until:
+                return False
             time.sleep(0.2)  # the connection of the look before has ended by then
+        return True
 
     def test_a_disk_that_fails(self):
         """Syncs fail from one on: no look finds the server well. Where they succeed again after some, a look settles what is in doubt."""

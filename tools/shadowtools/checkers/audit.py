@@ -43,9 +43,10 @@ VERSIONS = {OLD_HEADER: 1, HEADER: 2}
 OPEN, LONGEST = 1, 131072
 DEFAULTS = {"rate": (1, 1), "key": bytes(32), "bands": (), "budget": 2001, "sessions": 1000, "journal": 67108864}
 STARTED, ASIDE, SERVED, ANSWERED, CLOSED = range(5)
-# What the first byte of a payload says, by version.
+# What the first byte of a payload says, by version. Kind 9 is a start with a list of items that the examinee must not get.
 KINDS = {1: {1: STARTED, 2: ASIDE, 3: SERVED, 4: ANSWERED, 5: CLOSED},
-         2: {6: STARTED, 7: ASIDE, 3: SERVED, 4: ANSWERED, 5: CLOSED}}
+         2: {6: STARTED, 9: STARTED, 7: ASIDE, 3: SERVED, 4: ANSWERED, 5: CLOSED}}
+WITH_LIST = 9
 NO_FORM, MOST_BANDS, PLACES = 0, 8, 512
 
 # `bands` has the grid points that begin new bands.
@@ -116,12 +117,12 @@ def chacha_block(key: bytes, stream: int, number: int) -> List[int]:
 # ---------------------------------------------------------------- a history
 
 class Session:
-    """A session: its eligible items by band, the bands in which eligibility was set aside, the items shown with the band of the
-    estimate at each, and the responses."""
+    """A session: its eligible items by band, the bands in which eligibility was set aside, the items that its examinee must not
+    get, the items shown with the band of the estimate at each, the responses, and the form last served from or that of the list."""
 
-    def __init__(self, eligible):
-        self.eligible, self.aside, self.closed = eligible, set(), False
-        self.shown, self.bands, self.responses, self.form = [], [], [], None
+    def __init__(self, eligible, without=frozenset(), form=None):
+        self.eligible, self.aside, self.closed, self.without = eligible, set(), False, without
+        self.shown, self.bands, self.responses, self.form = [], [], [], form
 
 
 class Counts:
@@ -208,8 +209,13 @@ class History:
         return check_tree.Problem(self.rules.bank, self.rules.plan, theta, given, barred, session.form)
 
     def open_in(self, session, band):
-        """The items that may be served in a band: those eligible there, or all where eligibility was set aside there."""
-        return frozenset(self.items) if band in session.aside else session.eligible[band]
+        """The items that may be served in a band: those eligible there, or all where eligibility was set aside there, without those of
+        the session's list."""
+        return (frozenset(self.items) if band in session.aside else session.eligible[band]) - session.without
+
+    def whole_without(self, without):
+        """The problem that has only the plan, at the mode of the prior, with the items of a list barred."""
+        return check_tree.Problem(self.rules.bank, self.rules.plan, self.mode(Session([])), frozenset(), without, None)
 
     def next_item(self, session, problem, form):
         """The item that is served from a form."""
@@ -270,6 +276,14 @@ def kind_of(payload: bytes, version: int) -> Optional[int]:
     return KINDS[version].get(payload[0]) if payload else None
 
 
+def list_of(fields: Fields) -> Tuple[frozenset, frozenset]:
+    """The items that the examinee must not get, which are some, and a form without them."""
+    without = fields.items()
+    if not without:
+        raise ValueError("field")
+    return without, fields.items()
+
+
 def read_record(payload: bytes, version: int) -> Tuple[int, tuple]:
     """The kind of a record and its fields, in the order of the format. Version 1 has one set of a start, and neither step nor band
     where eligibility is set aside: these two are None."""
@@ -280,7 +294,8 @@ def read_record(payload: bytes, version: int) -> Tuple[int, tuple]:
     session = fields.number(4)
     if kind == STARTED:
         booking = fields.number(8)
-        record = session, booking, [fields.items() for _ in range(1 if version == 1 else fields.within(1, MOST_BANDS))]
+        sets = [fields.items() for _ in range(1 if version == 1 else fields.within(1, MOST_BANDS))]
+        record = (session, booking, sets, *list_of(fields)) if payload[0] == WITH_LIST else (session, booking, sets)
     elif kind == ASIDE:
         place = (None, None) if version == 1 else (fields.number(2), fields.within(0, MOST_BANDS - 1))
         record = (session, *place, fields.within(0, 1), fields.tree())
@@ -349,11 +364,13 @@ class Judge:
             raise Refused(f"journal: bad tree at {at}")
         self.history.nodes += len(tree[1])
 
-    def start(self, at, number, booking, sets):
+    def start(self, at, number, booking, sets, without=frozenset(), form=None):
         H = self.history
         self.require(number == len(H.sessions) < H.rules.sessions and booking not in H.bookings, at)
         self.require(sets == H.draws(number), at)
-        H.sessions.append(Session(sets))
+        if without:
+            self.require(without <= frozenset(H.items) and check_tree.is_form(H.whole_without(without), form), at)
+        H.sessions.append(Session(sets, without, form))
         H.bookings.add(booking)
 
     def set_aside(self, at, number, step, band, cause, tree):

@@ -16,8 +16,9 @@ from shadowtools.command import Refused
 from shadowtools.formats.tables import members, text_of
 
 # `eligible` has a set for each band. Records of version 1 have that of the first estimate's band alone (`is_first_alone`), and of
-# a setting aside neither step nor band, which are None; exposure.py has the rest.
-Started = namedtuple("Started", "session booking eligible is_first_alone")
+# a setting aside neither step nor band, which are None; exposure.py has the rest. `without` has the items that the examinee must
+# not get, and `form` a form without them; both are empty where the start has no list.
+Started = namedtuple("Started", "session booking eligible is_first_alone without form", defaults=(frozenset(), frozenset()))
 SetAside = namedtuple("SetAside", "session step band cause nodes")
 Served = namedtuple("Served", "session step item form proved nodes")
 Answered = namedtuple("Answered", "session step response")
@@ -345,6 +346,11 @@ def entry(where: str, payload: bytes, version: int) -> tuple:
         first, bands = (13, 1) if version == 1 else (14, number(13, 1))
         if 1 <= bands <= MOST_BANDS and size == first + 64 * bands:
             return Started(session, number(5, 8), tuple(items(first + 64 * band) for band in range(bands)), version == 1)
+    if version == 2 and kind == 9 and size > 14:
+        bands, last = number(13, 1), 14 + 64 * number(13, 1)
+        if 1 <= bands <= MOST_BANDS and size == last + 128 and items(last):
+            sets = tuple(items(14 + 64 * band) for band in range(bands))
+            return Started(session, number(5, 8), sets, False, items(last), items(last + 64))
     if version == 1 and kind == 2 and size > 8:
         return SetAside(session, None, None, number(5, 1), number(6, 2))
     if version == 2 and kind == 7 and size > 11 and payload[7] < MOST_BANDS:
@@ -360,8 +366,9 @@ def entry(where: str, payload: bytes, version: int) -> tuple:
 
 @dataclass
 class Session:
-    """One examinee's session, as a journal or the lines of a replay have it. `eligible` has the sets of its start, `aside` the steps
-    at which eligibility was set aside; `could` has the items that it could be shown, where exposure.py counted it as finished."""
+    """One examinee's session, as a journal or the lines of a replay have it. `eligible` has the sets of its start, `without` the items
+    that the examinee must not get, `aside` the steps at which eligibility was set aside; `could` has the items that it could be
+    shown, where exposure.py counted it as finished."""
     booking: Optional[int] = None
     items: List[int] = field(default_factory=list)
     responses: List[int] = field(default_factory=list)
@@ -370,6 +377,7 @@ class Session:
     aside: List[int] = field(default_factory=list)
     could: FrozenSet[int] = frozenset()
     closed: bool = False
+    without: FrozenSet[int] = frozenset()
 
 
 def sessions_of(entries: Iterable[tuple]) -> List[Session]:
@@ -377,7 +385,7 @@ def sessions_of(entries: Iterable[tuple]) -> List[Session]:
     found: List[Session] = []
     for place, one in enumerate(entries):
         if isinstance(one, Started) and one.session == len(found):
-            found.append(Session(booking=one.booking, eligible=one.eligible))
+            found.append(Session(booking=one.booking, eligible=one.eligible, without=one.without))
         elif isinstance(one, Started) or one.session >= len(found) or not follow(found[one.session], one):
             raise Refused(f"the journal's record {place} ({type(one).__name__.lower()}) does not follow from those before it")
     return found

@@ -101,7 +101,7 @@ class Exposure:
     def take(self, one: tuple) -> None:
         """Takes the next entry of a journal."""
         if isinstance(one, Started) and one.session == len(self.seats):
-            session = Session(booking=one.booking, eligible=one.eligible)
+            session = Session(booking=one.booking, eligible=one.eligible, without=one.without)
             self.seats.append(Seat(session, list(self.plan.prior), self.sets_of(one)))
             return
         seat = self.seats[one.session] if one.session < len(self.seats) and not isinstance(one, Started) else None
@@ -156,8 +156,9 @@ class Exposure:
         return band_of(self.plan.points, estimate_of(seat))
 
     def may(self, seat: Seat, band: int) -> Iterable[int]:
-        """The items that could be served in a band."""
-        return self.items if band in seat.aside else seat.eligible[band]
+        """The items that could be served in a band: none of those that the examinee must not get."""
+        found = self.items if band in seat.aside else seat.eligible[band]
+        return frozenset(found) - seat.session.without if seat.session.without else found
 
     def set_aside(self, seat: Seat, one: SetAside) -> None:
         band = self.band_now(seat)
