@@ -9,7 +9,7 @@ pub mod laws;
 mod words;
 
 /// The version of the program.
-pub const VERSION: &str = "0.5.0";
+pub const VERSION: &str = "0.6.0";
 
 pub use command::Command;
 pub use words::command_of;
