@@ -1,6 +1,7 @@
 -- What a book needs for an entry that is legal after its own.
 use Rattle.std.proofs.Common.{◌≡◌, ℕ, ◌+◌, ◌-◌, ◌≤◌, ◌<◌, inl, inr, Bool, true, false, cond, List, length, map, slice_get, Option, Some, None, refl, sym, ap, ◌∙◌, arith}
 use Rattle.std.specs.Prelude.{min, IfSome}
+use Rattle.std.specs.Vec.{vec_capacity}
 use Rattle.bank_tables.specs.Tables.{Tables}
 use Rattle.bank_tables.specs.Validity.{IsBank}
 use Rattle.serving_model.specs.declared.seat.Seat.{Seat}
@@ -18,7 +19,7 @@ use Rattle.std.specs.Option.{option_map}
 use Rattle.std.proofs.lemmas.Option.{slice_get-map}
 use Rattle.std.proofs.lemmas.Slice.Zip.{length-zip}
 use Rattle.exam_session.specs.declared.kept_seat.KeptSeat.{KeptSeat}
-use Rattle.exam_session.specs.KeptSeats.{seat_kept, sets_of, HasRoom, HasRoomFor, TakesAnswer, IsSpare, IsSeated, AreKept, HasSums, HaveSums}
+use Rattle.exam_session.specs.KeptSeats.{seat_kept, HasRoom, HasRoomFor, TakesAnswer, IsSpare, IsSeated, AreKept, HasSums, HaveSums}
 use Rattle.exam_session.proofs.BookLaws.{found_seat, waiting_shown, waiting_item}
 use Rattle.exam_session.proofs.KeptLaws.{is_of}
 use Rattle.exam_session.proofs.LiftLaws.{drawn_eligible, legal_has_bands}
@@ -135,24 +136,24 @@ no_start (Served session step item form proved nodes) other = refl
 no_start (Answered session step response) other = refl
 no_start (Closed session) other = refl
 
--- a start brings a set for each band, and one for its list
-few_sets : (eligible : Bands) (without : Option Without) → sets_of eligible without ≤ eligible.count + 1
-few_sets eligible (Some list) = omega arith
-few_sets eligible None = omega arith
+-- there is room for the list of a start, if it has one
+list_room : (without : Option Without) (kept : KeptSeat) → 1 ≤ vec_capacity kept.without → IfSome without (λ list. 1 ≤ vec_capacity kept.without)
+list_room (Some list) kept room = room
+list_room None kept room = tt
 
 -- the spare seat takes a start that is legal
 pub takes_start : (b : Tables) (plan : Plan) (H : List Entry) (e : Entry) (spare : Option KeptSeat) → IsPlanFor b plan → Legal b plan H e → starts e ≡ true → IfSome spare (IsSpare plan) → IfSome spare (HasRoomFor e)
 takes_start b plan H e None valid legal start ready = tt
 takes_start b plan H (Started session booking eligible without) (Some kept) valid legal start ready =
     let number : eligible.count ≡ bands_of plan = legal.drawn.number in
-    let sets : sets_of eligible without ≤ eligible.count + 1 = few_sets eligible without in
-    let free = ready.room.sets in
+    let free = ready.room.eligible in
     record {
       no_sets = ready.unused.no_sets;
       no_list = ready.unused.no_list;
       no_form = ap (λ (x : Seat). x.form) ready.unused.empty;
       fit = drawn_eligible b plan H session eligible valid legal.drawn;
-      room = omega (arith, number, sets, free);
+      bands = omega (arith, number, free);
+      list = list_room without kept ready.list;
     }
 takes_start b plan H (SetAside session step band cause nodes) (Some kept) valid legal start ready = absurd (cc)
 takes_start b plan H (Served session step item form proved nodes) (Some kept) valid legal start ready = absurd (cc)

@@ -1,7 +1,6 @@
 -- The exposure counts of a book after one entry more.
 use Rattle.std.proofs.Common.{◌≡◌, ℕ, zero, suc, ◌+◌, ◌≤◌, ◌<◌, inl, inr, Bool, true, false, cond, ◌&&◌, ◌==◌, List, [], ◌∷◌, ◌++◌, length, set, slice_get, Option, Some, None, refl, sym, ap, ◌∙◌, subst, arith, get_or}
-use Rattle.std.specs.Prelude.{is_some, nat_lt, nat_le, slice_index_or}
-use Rattle.std.proofs.Math.Bool.{true≢false}
+use Rattle.std.specs.Prelude.{is_some, nat_le, slice_index_or}
 use Rattle.std.proofs.lemmas.Bool.{eqb-true, cases_eq}
 use Rattle.std.proofs.lemmas.Option.{slice_get_read, slice_get-get_or}
 use Rattle.bank_tables.specs.Items.{Set, has}
@@ -9,7 +8,7 @@ use Rattle.bank_tables.specs.Sums.{count_in}
 use Rattle.bank_tables.specs.Tables.{Tables, size}
 use Rattle.bank_tables.specs.Validity.{IsBank}
 use Rattle.serving_model.specs.declared.seat.Seat.{Seat}
-use Rattle.form_model.specs.Plan.{Plan, bands_of}
+use Rattle.form_model.specs.Plan.{Plan}
 use Rattle.serving_model.specs.Seats.{is_shown, is_shown_in, band_at, visits}
 use Rattle.form_model.specs.Validity.{IsPlanFor}
 use Rattle.form_model.proofs.SumLaws.{and_true, any_elim, either}

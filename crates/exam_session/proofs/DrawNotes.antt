@@ -4,7 +4,6 @@ use Rattle.std.specs.Prelude.{nat_lt, IfSome, IfNone, MatchOption}
 use Rattle.std.proofs.lemmas.Bool.{ltb-true, lt-ltb, le-ltb, cases_lt, cases_eq}
 use Rattle.std.proofs.lemmas.List.{get_or-set_same, get_or-set_other, length-set}
 use Rattle.std.proofs.lemmas.Option.{slice_get-get_or}
-use Rattle.std.proofs.Math.Bool.{true≢false}
 use Rattle.bank_tables.specs.Items.{Set, has, IsLowest}
 use Rattle.bank_tables.specs.Tables.{Tables, size}
 use Rattle.bank_tables.specs.Validity.{HoldsItems}
@@ -18,7 +17,7 @@ use Rattle.history_model.specs.declared.counts.Counts.{Counts}
 use Rattle.history_model.specs.declared.entry.Bands.{Bands}
 use Rattle.history_model.specs.declared.entry.Entry.{Entry}
 use Rattle.history_model.specs.Counts.{band_counts}
-use Rattle.history_model.specs.Draws.{draw_word, is_admitted, drawn, draw, SameItems, AreDrawn, IsFirstDifference, IsNotDrawn, other_number, other_items}
+use Rattle.history_model.specs.Draws.{draw_word, is_admitted, drawn, draw, SameItems, AreDrawn, IsNotDrawn, other_number, other_items}
 use Rattle.history_model.specs.Entries.{items_in}
 use Rattle.exam_session.specs.Kept.{AreBandCounts, AreCountsByBand, drawn_at}
 

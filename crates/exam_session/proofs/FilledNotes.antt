@@ -1,5 +1,5 @@
 -- The sets of the bands of a kept seat, and the seat that a start gives.
-use Rattle.std.proofs.Common.{◌≡◌, ℕ, zero, suc, ◌≤◌, ◌<◌, inl, inr, Bool, true, false, cond, List, [], ◌∷◌, length, take, get_or, Option, Some, None, refl, sym, ap, ◌∙◌, arith}
+use Rattle.std.proofs.Common.{◌≡◌, ℕ, zero, suc, ◌≤◌, ◌<◌, inl, inr, Bool, false, List, [], length, take, get_or, Option, refl, sym, ◌∙◌, arith}
 use Rattle.std.proofs.lemmas.Bool.{cases_lt}
 use Rattle.std.proofs.lemmas.List.{get_or-take, get_or_past, get_or_default, length-take-le}
 use Rattle.serving_model.specs.declared.seat.Seat.{Seat}
@@ -9,7 +9,7 @@ use Rattle.exam_records.specs.Sets.{no_items}
 use Rattle.exam_records.specs.Shape.{AreEligible, AreSets}
 use Rattle.exam_records.proofs.SetLaws.{words_again}
 use Rattle.exam_session.specs.Flags.{flags_of}
-use Rattle.exam_session.specs.KeptSeats.{filled, before_bands}
+use Rattle.exam_session.specs.KeptSeats.{filled}
 use Rattle.exam_session.proofs.LiftLaws.{same_lists}
 
 -- what eight things have at a band
@@ -25,8 +25,8 @@ eight_at f (suc (suc (suc (suc (suc (suc (suc zero))))))) d lt = refl
 eight_at f (suc (suc (suc (suc (suc (suc (suc (suc k)))))))) d lt = absurd (omega arith)
 
 -- the sets that count fill up to the eight of a start
-pub filled_is : (eligible : Bands) → AreEligible eligible → AreSets eligible → filled 0 (take eligible.count eligible.sets) ≡ eligible.sets
-filled_is eligible are sets = same_lists (filled 0 (take eligible.count eligible.sets)) eligible.sets (sym sets.eight) each
+pub filled_is : (eligible : Bands) → AreEligible eligible → AreSets eligible → filled (take eligible.count eligible.sets) ≡ eligible.sets
+filled_is eligible are sets = same_lists (filled (take eligible.count eligible.sets)) eligible.sets (sym sets.eight) each
   where
     at : (k : ℕ) → k < 8 → get_or (take eligible.count eligible.sets) k no_items ≡ get_or eligible.sets k []
     at k lt = elim (cases_lt k eligible.count) [
@@ -42,7 +42,7 @@ filled_is eligible are sets = same_lists (filled 0 (take eligible.count eligible
           ∙ sym (words_again (get_or eligible.sets k []) (λ _. false) (sets.each k lt) (λ i below. are.none_past k past i))
     ]
 
-    each : (k : ℕ) → k < 8 → get_or (filled 0 (take eligible.count eligible.sets)) k [] ≡ get_or eligible.sets k []
+    each : (k : ℕ) → k < 8 → get_or (filled (take eligible.count eligible.sets)) k [] ≡ get_or eligible.sets k []
     each zero lt = at 0 lt
     each (suc zero) lt = at 1 lt
     each (suc (suc zero)) lt = at 2 lt
@@ -54,17 +54,7 @@ filled_is eligible are sets = same_lists (filled 0 (take eligible.count eligible
     each (suc (suc (suc (suc (suc (suc (suc (suc k)))))))) lt = absurd (omega arith)
 
 -- ---- the seat that a start gives, without a list and with one
-pub bare : (shown responses : List ℕ) (items : List (List ℕ)) (aside : ℕ) (list : Bool) (form : Option (List ℕ)) (proved closed : Bool) (eligible : Bands) → list ≡ false → form ≡ None → filled 0 items ≡ eligible.sets
-    → (let one : Seat = record { shown = shown; responses = responses; eligible = filled (before_bands list) items; aside = flags_of aside; without = cond list (Some (get_or items 0 no_items)) None; form = form; proved = proved; closed = closed } in
-    let other : Seat = record { shown = shown; responses = responses; eligible = eligible.sets; aside = flags_of aside; without = None; form = None; proved = proved; closed = closed } in one ≡ other)
-bare shown responses items aside true form proved closed eligible e f g = absurd (cc)
-bare shown responses items aside false form proved closed eligible e f g =
-    ap (λ (sets : List (List ℕ)). let x : Seat = record { shown = shown; responses = responses; eligible = sets; aside = flags_of aside; without = None; form = form; proved = proved; closed = closed } in x) g
-    ∙ ap (λ (o : Option (List ℕ)). let x : Seat = record { shown = shown; responses = responses; eligible = eligible.sets; aside = flags_of aside; without = None; form = o; proved = proved; closed = closed } in x) f
-
-pub listed : (shown responses words form : List ℕ) (items rest : List (List ℕ)) (aside : ℕ) (proved closed : Bool) (eligible : Bands) → items ≡ words ∷ rest → filled 0 rest ≡ eligible.sets
-    → (let one : Seat = record { shown = shown; responses = responses; eligible = filled 1 items; aside = flags_of aside; without = Some (get_or items 0 no_items); form = Some form; proved = proved; closed = closed } in
-    let other : Seat = record { shown = shown; responses = responses; eligible = eligible.sets; aside = flags_of aside; without = Some words; form = Some form; proved = proved; closed = closed } in one ≡ other)
-listed shown responses words form items rest aside proved closed eligible e g =
-    ap (λ (xs : List (List ℕ)). let x : Seat = record { shown = shown; responses = responses; eligible = filled 1 xs; aside = flags_of aside; without = Some (get_or xs 0 no_items); form = Some form; proved = proved; closed = closed } in x) e
-    ∙ ap (λ (sets : List (List ℕ)). let x : Seat = record { shown = shown; responses = responses; eligible = sets; aside = flags_of aside; without = Some words; form = Some form; proved = proved; closed = closed } in x) g
+pub starts_with : (shown responses : List ℕ) (aside : ℕ) (proved closed : Bool) (filled sets : List (List ℕ)) (list without form witness : Option (List ℕ)) → filled ≡ sets → list ≡ without → form ≡ witness
+    → (let one : Seat = record { shown = shown; responses = responses; eligible = filled; aside = flags_of aside; without = list; form = form; proved = proved; closed = closed } in
+    let other : Seat = record { shown = shown; responses = responses; eligible = sets; aside = flags_of aside; without = without; form = witness; proved = proved; closed = closed } in one ≡ other)
+starts_with shown responses aside proved closed filled sets list without form witness e f g = rw (e, f, g) refl

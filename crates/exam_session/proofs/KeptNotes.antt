@@ -25,11 +25,11 @@ still_has : (plan : Plan) (old new : KeptSeat) → KeepsRoom old new → HasRoom
 still_has plan old new keeps room =
     let same = keeps.shown in
     let as_many = keeps.responses in
-    let places = keeps.sets in
+    let places = keeps.eligible in
     let shown = room.shown in
     let responses = room.responses in
-    let sets = room.sets in
-    record { shown = omega arith; responses = omega arith; sets = omega arith }
+    let eligible = room.eligible in
+    record { shown = omega arith; responses = omega arith; eligible = omega arith }
 
 -- ---- an entry of a session that goes on
 pub kept_changed : (b : Tables) (plan : Plan) (H : List Entry) (seats : List KeptSeat) (e : Entry) (kept after : KeptSeat) → starts e ≡ false → LegalRun b plan H → Legal b plan H e → AreKept plan H seats

@@ -1,15 +1,14 @@
 -- What lifting makes of the records of the first version of the journal.
-use Rattle.std.proofs.Common.{◌≡◌, ◌≢◌, ℕ, zero, suc, ◌+◌, ◌≤◌, ◌<◌, inl, inr, Bool, true, false, ◌&&◌, List, [], ◌∷◌, ◌++◌, length, set, get_or, Option, Some, None, refl, sym, ap, ◌∙◌, subst, arith}
-use Rattle.std.specs.Prelude.{nat_lt, nat_le}
+use Rattle.std.proofs.Common.{◌≡◌, ◌≢◌, ℕ, suc, ◌<◌, inl, inr, Bool, false, ◌&&◌, List, [], ◌∷◌, ◌++◌, length, set, get_or, Option, Some, None, refl, sym, ap, ◌∙◌, subst, arith}
+use Rattle.std.specs.Prelude.{nat_le}
 use Rattle.std.proofs.lemmas.Bool.{le-ltb, cases_eq}
 use Rattle.std.proofs.lemmas.List.{get_or-set_same, get_or-set_other}
 use Rattle.std.proofs.lemmas.List.Sums.{count_by-le-length}
-use Rattle.bank_tables.specs.Items.{has, AreWords}
+use Rattle.bank_tables.specs.Items.{has}
 use Rattle.bank_tables.specs.Tables.{Tables, size}
 use Rattle.bank_tables.proofs.Bits.{same_sets}
 use Rattle.form_model.specs.Plan.{Plan, band_of, bands_of}
 use Rattle.form_model.specs.Problem.{Problem}
-use Rattle.certificate_model.specs.ProofTrees.{ProofTree}
 use Rattle.serving_model.specs.Seats.{first_band}
 use Rattle.form_model.specs.Validity.{IsPlanFor}
 use Rattle.history_model.specs.declared.entry.Bands.{Bands}
@@ -17,20 +16,19 @@ use Rattle.history_model.specs.declared.entry.Cause.{Cause}
 use Rattle.history_model.specs.declared.entry.Entry.{Entry}
 use Rattle.history_model.specs.declared.entry.Entry.TheVariants.{Started, SetAside, Served, Answered, Closed}
 use Rattle.history_model.specs.declared.entry.Without.{Without}
-use Rattle.history_model.specs.declared.place.Place.{Place}
 use Rattle.history_model.specs.declared.place.Place.TheVariants.{Pending}
 use Rattle.history_model.specs.Counts.{band_counts}
-use Rattle.history_model.specs.Draws.{SameItems, AreDrawn, drawn, draw}
+use Rattle.history_model.specs.Draws.{SameItems, AreDrawn, drawn}
 use Rattle.history_model.specs.Entries.{items_in, starts, sets_aside}
 use Rattle.history_model.specs.Lifting.{AreLifted, IsLifted}
 use Rattle.history_model.specs.Lists.{IsLegalWithout}
 use Rattle.history_model.specs.SessionProblems.{IsProblemOf}
 use Rattle.history_model.proofs.JudgingLaws.{one_problem}
-use Rattle.exam_records.specs.Old.{one_band, old_entry}
+use Rattle.exam_records.specs.Old.{one_band}
 use Rattle.exam_records.specs.Sets.{set_bytes}
 use Rattle.exam_records.specs.Spelling.{old_entry_bytes}
 use Rattle.std.specs.Int.{w32, w64, to_be_bytes}
-use Rattle.exam_records.specs.Shape.{AreEligible, AreSets, HasItemsIfAny, HasBands, HasNoList, IsInRange}
+use Rattle.exam_records.specs.Shape.{AreEligible, AreSets, HasItemsIfAny, HasNoList, IsInRange}
 use Rattle.exam_session.specs.Laws.{LegalHasBands, MayIsLifted, LiftedIsOne}
 
 -- the draws are sets of as many bands as an entry may have

@@ -7,7 +7,7 @@ use Rattle.bank_tables.specs.Sums.{any_below}
 use Rattle.bank_tables.specs.Tables.{Tables}
 use Rattle.serving_model.specs.declared.seat.Seat.{Seat}
 use Rattle.form_model.specs.Plan.{Plan, band_of}
-use Rattle.form_model.specs.Ability.{IsPosteriorMode, mode_of}
+use Rattle.form_model.specs.Ability.{IsPosteriorMode}
 use Rattle.serving_model.specs.Seats.{answers, band_at, first_band}
 use Rattle.form_model.proofs.SomeMode.{mode_is_mode_of}
 use Rattle.exam_session.specs.declared.bands.BandVisits.{BandVisits}

@@ -1,5 +1,5 @@
 -- The seats of a book, each in as few bytes as its content needs.
-use Rattle.std.specs.Prelude.{◌≡◌, ℕ, ◌+◌, ◌<◌, ◌≤◌, Bool, true, false, List, [], ◌∷◌, ◌++◌, map, get_or, length, slice_get, Option, Some, None, if◌then◌else◌}
+use Rattle.std.specs.Prelude.{◌≡◌, ℕ, ◌<◌, ◌≤◌, List, [], ◌∷◌, ◌++◌, map, get_or, length, slice_get, Option, Some, None, IfSome}
 use Rattle.std.specs.Option.{option_map}
 use Rattle.std.specs.Vec.{vec_len, vec_capacity}
 use Rattle.bank_tables.specs.Tables.{Tables, size, categories}
@@ -19,14 +19,9 @@ use Rattle.exam_session.specs.declared.kept_seat.KeptSeat.{KeptSeat}
 use Rattle.exam_session.specs.Flags.{flags_of}
 use Rattle.exam_session.specs.Kept.{AreSeats}
 
--- the sets of the eight bands, from a place of a list on, and no items past its end
-abbrev pub filled : ℕ → List (List ℕ) → List (List ℕ)
-filled first sets = eight (λ band. get_or sets (first + band) no_items)
-
--- how many sets there are before those of the bands: the items withheld, if there is a list of them
-abbrev pub before_bands : Bool → ℕ
-before_bands true = 1
-before_bands false = 0
+-- the sets of the eight bands, and no items past the end of the list
+abbrev pub filled : List (List ℕ) → List (List ℕ)
+filled sets = eight (λ band. get_or sets band no_items)
 
 -- the seat whose content is kept
 abbrev pub seat_kept : KeptSeat → Seat
@@ -34,33 +29,28 @@ seat_kept kept =
     record {
       shown = kept.shown.items;
       responses = kept.responses.items;
-      eligible = filled (before_bands kept.has_list) kept.sets.items;
+      eligible = filled kept.eligible.items;
       aside = flags_of kept.aside;
-      without = if kept.has_list then Some (get_or kept.sets.items 0 no_items) else None;
+      without = slice_get kept.without.items 0;
       form = kept.form;
       proved = kept.proved;
       closed = kept.closed;
     }
 
--- each list has room for what a test of the plan needs in all, the sets for a list of items that the
--- examinee must not get
+-- each list has room for what a test of the plan needs in all
 pub record HasRoom (plan : Plan) (kept : KeptSeat) : Type 0 where
   pub shown : plan.length ≤ vec_capacity kept.shown
   pub responses : plan.length ≤ vec_capacity kept.responses
-  pub sets : bands_of plan + 1 ≤ vec_capacity kept.sets
+  pub eligible : bands_of plan ≤ vec_capacity kept.eligible
 
--- how many sets a start brings
-abbrev pub sets_of : Bands → Option Without → ℕ
-sets_of eligible (Some list) = eligible.count + 1
-sets_of eligible None = eligible.count
-
--- the seat is unused, and has room for the sets of a start
+-- the seat is unused, and has room for the sets of a start and for its list, if it has one
 pub record TakesStart (eligible : Bands) (without : Option Without) (kept : KeptSeat) : Type 0 where
-  pub no_sets : kept.sets.items ≡ []
-  pub no_list : kept.has_list ≡ false
+  pub no_sets : kept.eligible.items ≡ []
+  pub no_list : kept.without.items ≡ []
   pub no_form : kept.form ≡ None
   pub fit : AreEligible eligible
-  pub room : sets_of eligible without ≤ vec_capacity kept.sets
+  pub bands : eligible.count ≤ vec_capacity kept.eligible
+  pub list : IfSome without (λ list. 1 ≤ vec_capacity kept.without)
 
 -- there is room for what the entry adds, and a flag for its band
 abbrev pub HasRoomFor : Entry → KeptSeat → Type 0
@@ -91,11 +81,11 @@ TakesAnswer b entry kept = Unit {0}
 abbrev pub HasSums : Tables → Plan → KeptSeat → Type 0
 HasSums b plan kept = IsSumsOf b plan.prior (answers (seat_kept kept)) kept.sums
 
--- the lists have as much room as before
+-- the lists of items, responses and bands have as much room as before
 pub record KeepsRoom (old new : KeptSeat) : Type 0 where
   pub shown : vec_capacity new.shown ≡ vec_capacity old.shown
   pub responses : vec_capacity new.responses ≡ vec_capacity old.responses
-  pub sets : vec_capacity new.sets ≡ vec_capacity old.sets
+  pub eligible : vec_capacity new.eligible ≡ vec_capacity old.eligible
 
 -- the lists are as short as those of a seat
 pub record IsShort (kept : KeptSeat) : Type 0 where
@@ -104,14 +94,15 @@ pub record IsShort (kept : KeptSeat) : Type 0 where
 
 -- a seat before its session is started; its sets are noted then
 pub record IsUnused (kept : KeptSeat) : Type 0 where
-  pub empty : seat_kept kept ≡ record no_seat { eligible = filled 0 [] }
-  pub no_sets : kept.sets.items ≡ []
-  pub no_list : kept.has_list ≡ false
+  pub empty : seat_kept kept ≡ record no_seat { eligible = filled [] }
+  pub no_sets : kept.eligible.items ≡ []
+  pub no_list : kept.without.items ≡ []
 
--- such a seat with room for a test of the plan, and the sums of the plan's prior
+-- such a seat with room for a test of the plan and a list, and the sums of the plan's prior
 pub record IsSpare (plan : Plan) (kept : KeptSeat) : Type 0 where
   pub unused : IsUnused kept
   pub room : HasRoom plan kept
+  pub list : 1 ≤ vec_capacity kept.without
   pub sums : (b : Tables) → b.grid ≡ length plan.prior → IsSumsOf b plan.prior [] kept.sums
 
 -- the seat of each session of the entries, with room for a test of the plan

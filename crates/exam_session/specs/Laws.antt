@@ -1,12 +1,12 @@
 -- What lifting promises of the records of the first version of the journal.
-use Rattle.std.specs.Prelude.{◌≡◌, ℕ, List, Option}
+use Rattle.std.specs.Prelude.{◌≡◌, List, Option}
 use Rattle.bank_tables.specs.Tables.{Tables}
 use Rattle.form_model.specs.Plan.{Plan}
 use Rattle.certificate_model.specs.ProofTrees.{ProofTree}
 use Rattle.serving_model.specs.Seats.{first_band}
 use Rattle.form_model.specs.Validity.{IsPlanFor}
 use Rattle.history_model.specs.declared.entry.Entry.{Entry}
-use Rattle.history_model.specs.Judging.{Record, MayFollow}
+use Rattle.history_model.specs.Judging.{MayFollow}
 use Rattle.history_model.specs.Legality.{Legal}
 use Rattle.history_model.specs.Lifting.{IsLifted}
 use Rattle.exam_records.specs.Old.{old_entry}

@@ -10,7 +10,7 @@ ghost use Rattle.ability_grid.specs.Running.{IsSumsOf};
 ghost use Rattle.history_model.specs.Entries.{session_of};
 ghost use Rattle.history_model.specs.Laws.{seat_with, seat_place};
 ghost use Rattle.exam_records.specs.Sets.{no_items};
-ghost use Rattle.exam_session.specs.KeptSeats.{filled, before_bands, seat_kept, started_seat, IsSpare, IsShort, HasRoomFor, TakesStart, TakesAnswer, HasSums, KeepsRoom};
+ghost use Rattle.exam_session.specs.KeptSeats.{filled, seat_kept, started_seat, IsSpare, IsShort, HasRoomFor, TakesStart, TakesAnswer, HasSums, KeepsRoom};
 
 use crate::flags::{all_flags, has_flag, with_flag};
 use ability_grid::{KeptSums, Sums};
@@ -22,19 +22,20 @@ use history_model::{Bands, Entry, Place, Without};
 use serving_model::Seat;
 use std::alloc::Global;
 
-/// The content of a `Seat`, in lists that have room for the items of a test, a set of items withheld and the bands of the plan
-/// and no more, and the sums of the plan's prior and its answers.
+/// The content of a `Seat`, in lists that have room for the items of a test and the bands of the plan and no more, and the
+/// sums of the plan's prior and its answers.
 #[derive(Drop)]
 pub(crate) struct KeptSeat {
     pub(crate) shown: Vec<u16>,
     pub(crate) responses: Vec<u8>,
     pub(crate) sums: KeptSums,
-    /// The set of the items withheld, if there is a list of them, and then the eligible set of each band.
-    pub(crate) sets: Vec<ItemSet>,
+    /// The eligible set of each band.
+    pub(crate) eligible: Vec<ItemSet>,
+    /// The set of the items withheld, if there is a list of them. A start without one gives its room back.
+    pub(crate) without: Vec<ItemSet>,
     pub(crate) form: Option<ItemSet>,
     /// A bit for each band in which eligibility is set aside.
     pub(crate) aside: u8,
-    pub(crate) has_list: bool,
     pub(crate) proved: bool,
     pub(crate) closed: bool,
 }
@@ -82,29 +83,20 @@ fn set_at(sets: &[ItemSet], place: usize) -> ItemSet
     }
 }
 
-/// The sets of the eight bands, from a place on; no items past the end of the list.
-fn filled(sets: &[ItemSet], first: usize) -> [ItemSet; 8]
-    requires { first ≤ 1 }
-    ensures { result ≡ filled first sets.now }
+/// The sets of the eight bands; no items past the end of the list.
+fn filled(sets: &[ItemSet]) -> [ItemSet; 8]
+    ensures { result ≡ filled sets.now }
 {
     [
-        set_at(sets, first),
-        set_at(sets, first + 1),
-        set_at(sets, first + 2),
-        set_at(sets, first + 3),
-        set_at(sets, first + 4),
-        set_at(sets, first + 5),
-        set_at(sets, first + 6),
-        set_at(sets, first + 7),
+        set_at(sets, 0),
+        set_at(sets, 1),
+        set_at(sets, 2),
+        set_at(sets, 3),
+        set_at(sets, 4),
+        set_at(sets, 5),
+        set_at(sets, 6),
+        set_at(sets, 7),
     ]
-}
-
-/// How many sets there are before those of the bands.
-fn before_bands(has_list: bool) -> usize
-    ensures result { result ≡ before_bands has_list }
-    ensures few { result ≤ 1 }
-{
-    if has_list { 1 } else { 0 }
 }
 
 /// Adds the eligible set of each band.
@@ -120,7 +112,7 @@ fn push_bands(sets: &mut Vec<ItemSet>, eligible: &Bands)
 }
 
 impl KeptSeat {
-    /// The seat before its session is started, with room for the items of a test.
+    /// The seat before its session is started, with room for the items of a test and for a list.
     pub(crate) fn new(alloc: Global, spec: &Spec) -> Result<KeptSeat, Memory>
         requires some { 0 < length spec.now.prior }
         requires few { length spec.now.prior ≤ 61 }
@@ -131,24 +123,13 @@ impl KeptSeat {
             shown: Vec::with_capacity(alloc, items)?,
             responses: Vec::with_capacity(alloc, items)?,
             sums: KeptSums::of_prior(alloc, spec.prior())?,
-            sets: Vec::with_capacity(alloc, spec.bands().len() + 2)?,
+            eligible: Vec::with_capacity(alloc, spec.bands().len() + 1)?,
+            without: Vec::with_capacity(alloc, 1)?,
             form: None,
             aside: 0,
-            has_list: false,
             proved: false,
             closed: false,
         })
-    }
-
-    /// The items withheld, if there is a list of them.
-    fn withheld(&self) -> Option<ItemSet>
-        ensures { result ≡ (seat_kept self.now).without }
-    {
-        if self.has_list {
-            Some(set_at(self.sets.as_slice(), 0))
-        } else {
-            None
-        }
     }
 
     /// The seat.
@@ -159,9 +140,9 @@ impl KeptSeat {
         Seat {
             shown: items_of(self.shown.as_slice()),
             responses: responses_of(self.responses.as_slice()),
-            eligible: filled(self.sets.as_slice(), before_bands(self.has_list)),
+            eligible: filled(self.eligible.as_slice()),
             aside: all_flags(self.aside),
-            without: self.withheld(),
+            without: self.without.first().copied(),
             form: self.form,
             proved: self.proved,
             closed: self.closed,
@@ -214,7 +195,7 @@ impl KeptSeat {
         has_flag(self.aside, spec.band(self.sums.sums().mode()))
     }
 
-    /// Notes the sets of a session that starts.
+    /// Notes the sets of a session that starts. Without a list it gives back the room for one.
     pub(crate) fn start(&mut self, eligible: &Bands, without: Option<&Without>)
         requires { TakesStart eligible.now (option_copied without) self.old }
         ensures seat { seat_kept self.new
@@ -223,14 +204,13 @@ impl KeptSeat {
         ensures sums { self.new.sums ≡ self.old.sums }
     {
         are_sets(&eligible.sets);
+        push_bands(&mut self.eligible, eligible);
         match without {
             Some(list) => {
-                self.has_list = true;
                 self.form = Some(list.form);
-                self.sets.push_reserved(list.items);
-                push_bands(&mut self.sets, eligible);
+                self.without.push_reserved(list.items);
             }
-            None => push_bands(&mut self.sets, eligible),
+            None => self.without = Vec::new(*self.without.allocator()),
         }
     }
 

@@ -1,4 +1,4 @@
-use Rattle.std.proofs.Common.{◌≡◌, ◌<◌, ◌∙◌, List, ℤ, [], length, take, ap, sym, subst, arith}
+use Rattle.std.proofs.Common.{◌≡◌, ◌∙◌, List, ℤ, [], length, take, ap, sym, subst, arith}
 use Rattle.serving_model.specs.Seats.{answers}
 use Rattle.ability_grid.specs.Running.{IsSumsOf}
 use Rattle.shadow_select.proofs.ShownLaws.{found_at}

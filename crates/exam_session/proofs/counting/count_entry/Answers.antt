@@ -1,9 +1,8 @@
-use Rattle.std.proofs.Common.{◌≡◌, ◌∙◌, ℕ, ◌<◌, List, length, sym, ap, subst, arith}
+use Rattle.std.proofs.Common.{◌∙◌, sym, subst, arith}
 use Rattle.bank_tables.specs.Items.{has}
 use Rattle.serving_model.specs.declared.seat.Seat.{Seat}
 use Rattle.serving_model.specs.Seats.{IsSeat}
 use Rattle.history_model.proofs.Running.{seat_is_seat}
-use Rattle.history_model.specs.Entries.{seat_of}
 use Rattle.exam_session.proofs.CountNotes.{counts_kept, counts_more, by_band_kept, by_band_more, countable, few_finished, finishes_seat, seat_at, short_at, shown_of_bank}
 use Rattle.exam_session.proofs.counting.count_entry.Goals as goal
 

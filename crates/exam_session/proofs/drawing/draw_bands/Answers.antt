@@ -1,4 +1,4 @@
-use Rattle.std.proofs.Common.{◌≡◌, ◌<◌, length, Some, slice_get, refl, arith}
+use Rattle.std.proofs.Common.{length, refl, arith}
 use Rattle.std.proofs.lemmas.Option.{slice_get_read}
 use Rattle.history_model.proofs.Standing.{before_end}
 use Rattle.exam_session.proofs.DrawNotes.{none_drawn, drawn_more}

@@ -1,4 +1,3 @@
-use Rattle.std.proofs.Common.{◌≡◌, arith}
 use Rattle.bank_tables.specs.Items.{has}
 use Rattle.history_model.specs.Draws.{AreDrawn, IsNotDrawn}
 use Rattle.exam_session.proofs.DrawNotes.{not_as_many, is_not_drawn, all_drawn, if_lowest, if_none}

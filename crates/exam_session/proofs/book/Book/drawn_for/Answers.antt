@@ -1,4 +1,4 @@
-use Rattle.std.proofs.Common.{◌≡◌, List, subst, sym}
+use Rattle.std.proofs.Common.{List, subst, sym}
 use Rattle.exposure_counters.specs.Tallies.{Tally}
 use Rattle.exam_session.specs.Kept.{AreCountsByBand}
 use Rattle.exam_session.proofs.DrawNotes.{are_drawn, drawn_items}

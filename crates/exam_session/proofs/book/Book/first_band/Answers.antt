@@ -1,4 +1,4 @@
-use Rattle.std.proofs.Common.{sym, rules}
+use Rattle.std.proofs.Common.{sym}
 use Rattle.exam_session.proofs.book.Book.first_band.Goals as goal
 
 pub returns-clause-band : goal.returns-clause-band

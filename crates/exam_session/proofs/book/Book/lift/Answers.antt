@@ -1,5 +1,4 @@
 use Rattle.std.proofs.Common.{sym, subst, refl}
-use Rattle.history_model.specs.Judging.{Record}
 use Rattle.exam_records.specs.Shape.{IsRecord}
 use Rattle.exam_records.specs.Spelling.{old_payload_of}
 use Rattle.exam_session.proofs.book.Book.lift.Goals as goal
