@@ -112,6 +112,20 @@ class Plans(unittest.TestCase):
                           "journal 67108864", "count 0 3 0-2 4", "base 1 4-5"])
 
 
+class Scripts(unittest.TestCase):
+    """Lines with a list of items that the examinee must not get."""
+
+    def test_lines(self):
+        for line, wanted in (
+                (b"begin 7 without 2", [7, frozenset([2])]), (b"begin 18446744073709551615 without 2", [2**64 - 1, frozenset([2])]), (b"begin 7 without 0-2 4 511", [7, frozenset([0, 1, 2, 4, 511])]),
+                (b"begin 7 without", None), (b"begin 7 without ", None), (b"begin 7 without 0 1", None), (b"begin 7 without 2-2", None),
+                (b"begin 7 without 3 1", None), (b"begin 7 without 512", None), (b"begin 7 without 01", None), (b"begin 07 without 1", None),
+                (b"begin 18446744073709551616 without 1", None), (b"begin 7 Without 1", None), (b"begin 7 1", None)):
+            with self.subTest(line):
+                found = text_readers.request_of(line)
+                self.assertEqual(found and found.numbers, wanted)
+
+
 class Models(unittest.TestCase):
     """The model of the requests over a journal in which eligibility is set aside at a later step."""
 
@@ -149,6 +163,57 @@ class Models(unittest.TestCase):
                 self.assertEqual((missing.kind, missing.least, missing.exact), (kind, least, exact))
 
 
+class Lists(unittest.TestCase):
+    """The model of sessions with a list of items that the examinee must not get, over records of bank A that were made by hand."""
+
+    SCRIPT = ("begin 70\nbegin 71 without 2\nbegin 71 without 1\nbegin 71\nbegin 70 without 2\nbegin 72 without 0-1\nbegin 72 without 3-5\n"
+              "begin 72 without 6\nclose 1\nexposure\n")
+    REPLIES = ["session 0 step 0 item 2 proved", "session 1 step 0 item 1 proved", "refused other-list 1", "session 1 step 0 item 1 proved",
+               "refused other-list 0", "refused no-form", "refused no-form", "refused no-item 6", "session 1 closed", "exposure finished 1",
+               "item 0 shown 0 eligible 1", "item 1 shown 1 eligible 1", "item 2 shown 0 eligible 0", "item 3 shown 0 eligible 1",
+               "item 4 shown 0 eligible 1", "item 5 shown 0 eligible 1"]
+
+    def model(self, payloads, plan=a.PLAN):
+        data = journal_maker.file_of(journal_maker.TWO, payloads)
+        return reply_model.Model(journal_maker.rules_of(a.BANK, plan), reply_model.records_of(data)[0])
+
+    def payloads(self):
+        """Session 0 without a list is served item 2; session 1 without item 2 is served item 1 from the form {1, 3, 5}, and closed."""
+        made = journal_maker.Maker(a.BANK, a.PLAN)
+        made.begin(70)
+        made.add(a.started_without(1, 71, {2}, {1, 3, 5}))
+        made.serve(1)
+        made.close(1)
+        return made.new
+
+    def test_replies(self):
+        model = self.model(self.payloads())
+        said = [line for request in text_readers.read_script(self.SCRIPT.encode())
+                for line in reply_model.lines_of(model.reply(request), model.rules)]
+        self.assertEqual(said, self.REPLIES)
+        self.assertEqual(model.taken, len(model.records))
+
+    def test_what_is_missing(self):
+        """A start with a list has 206 bytes in a plan of one band. One with another list, or without one, is not the next record."""
+        payloads = self.payloads()
+        for words in ("begin 71 without 2-3", "begin 71"):
+            model = self.model(payloads)
+            model.reply(text_readers.request_of(b"begin 70"))
+            with self.subTest(words), self.assertRaises(reply_model.Missing):
+                model.reply(text_readers.request_of(words.encode()))
+        with self.assertRaises(reply_model.Missing) as found:
+            self.model([]).reply(text_readers.request_of(b"begin 70 without 2"))
+        self.assertEqual((found.exception.kind, found.exception.least, found.exception.exact), (audit.STARTED, 206, True))
+
+    def test_the_order_of_refusals(self):
+        """The number of sessions comes after the items of the list, and before a form without them."""
+        for words, wanted in (("begin 71 without 0-1 6", "refused no-item 6"), ("begin 71 without 0-1", "limit sessions 1 of 1")):
+            model = self.model(self.payloads()[:2], a.PLAN + "sessions 1\n")
+            model.take_first(2)
+            with self.subTest(words):
+                self.assertEqual(reply_model.lines_of(model.reply(text_readers.request_of(words.encode())), model.rules), [wanted])
+
+
 class Messages(unittest.TestCase):
     """What messages are, and why bytes are none."""
 
@@ -177,6 +242,19 @@ class Messages(unittest.TestCase):
                 (b"POST /sessions HTTP/1.1\nContent-Length: 6\n\n[1e400", ["bad-json"])):
             with self.subTest(data):
                 self.assertEqual(self.found(data), wanted)
+
+    def test_lists(self):
+        for member, wanted in (
+                (b"", ("begin", [1])), (b',"without":[]', ("begin", [1])), (b',"Without":[2]', ("begin", [1])),
+                (b',"without":[5,2,5]', ("begin", [1, frozenset([2, 5])])), (b',"without":[511]', ("begin", [1, frozenset([511])])),
+                (b',"without":null,"without":[0]', ("begin", [1, frozenset([0])])), (b',"without":null', "bad-body"),
+                (b',"without":[0],"without":null', "bad-body"), (b',"without":[512]', "bad-body"), (b',"without":[1.0]', "bad-body"),
+                (b',"without":["1"]', "bad-body"), (b',"without":[[1]]', "bad-body"), (b',"without":"1"', "bad-body"),
+                (b',"without":-1', "bad-body"), (b',"without":{"1":1}', "bad-body"), (b',"without":[-0]', "bad-body")):
+            body = b'{"booking":1' + member + b"}"
+            head = b"POST /sessions HTTP/1.1\nContent-Length: %d\n\n" % len(body)
+            with self.subTest(member):
+                self.assertEqual(self.found(head + body), [wanted])
 
     def test_tokens(self):
         look = b"GET /sessions/7 HTTP/1.1\n%s\n"

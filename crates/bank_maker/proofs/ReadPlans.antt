@@ -30,7 +30,7 @@ use Rattle.spec_reader.proofs.SameLaws.{one_plan}
 use Rattle.spec_reader.proofs.ShortLaws.{canonical_short}
 use Rattle.bank_maker.specs.Items.{items}
 use Rattle.bank_maker.specs.Plans.{between, in_category, category_row, pair, base_quantity, rows, eight_bytes, key_of, plan, plan_text}
-use Rattle.bank_maker.specs.Drills.{tables_of_drill, plan_of_drill}
+use Rattle.bank_maker.specs.Drills.{plan_of_drill}
 use Rattle.bank_maker.specs.Exams.{IsPlanOfDrill}
 use Rattle.bank_maker.proofs.BankTexts.{each_value, drill_text}
 use Rattle.bank_maker.proofs.BaseForms.{base, all, enemies_of, bank, base_to, size_is, stimuli_are, no_stimuli, no_items_of, many, in_each_category, no_enemies, quantity_low, quantity_high, quantity_sum}

@@ -10,7 +10,7 @@ use Rattle.std.proofs.lemmas.List.Concat.{length-flat_map}
 use Rattle.std.proofs.lemmas.List.FromFn.{length-range_with_len, get_or-range_with_len}
 use Rattle.std.proofs.lemmas.List.Sums.{sum_by-le}
 use Rattle.history_model.specs.declared.request.Request.{Request}
-use Rattle.history_model.specs.declared.request.Request.TheVariants.{Begin, Answer, Close, Look, Exposure}
+use Rattle.history_model.specs.declared.request.Request.TheVariants.{Begin, BeginWithout, Answer, Close, Look, Exposure}
 use Rattle.exam_text.specs.Words.{text_of_lines}
 use Rattle.replay_cli.specs.Scripts.{request_line, text_of_requests, IsInRange, IsScript}
 use Rattle.bank_maker.specs.declared.act.Act.{Act}
@@ -101,6 +101,7 @@ small_in_range : (r : Request) → IsSmall r → IsInRange r
 small_in_range (Begin booking) lt = omega (arith, lt)
 small_in_range (Answer session step response) h = (omega (arith, h.0), omega (arith, h.1), omega (arith, h.2))
 small_in_range (Close session) lt = omega (arith, lt)
+small_in_range (BeginWithout booking items) h = absurd h
 small_in_range (Look session) h = absurd h
 small_in_range Exposure h = absurd h
 
@@ -121,6 +122,7 @@ short_line (Answer session step response) h =
       length-append (decimal step) (32 ∷ decimal response),
     )
 short_line (Close session) lt = omega (arith, three session lt)
+short_line (BeginWithout booking items) h = absurd h
 short_line (Look session) h = absurd h
 short_line Exposure h = absurd h
 

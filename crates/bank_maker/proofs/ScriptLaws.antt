@@ -1,12 +1,10 @@
 -- The text of a script, act by act.
-use Rattle.std.proofs.Common.{◌≡◌, ℕ, suc, ◌+◌, ◌<◌, List, [], ◌∷◌, ◌++◌, length, get_or, drop, refl, sym, ap, ◌∙◌, append_assoc, add-one, drop-cons, codes}
+use Rattle.std.proofs.Common.{◌≡◌, ℕ, ◌+◌, ◌<◌, List, [], ◌∷◌, ◌++◌, length, get_or, drop, refl, sym, ap, ◌∙◌, append_assoc, add-one, drop-cons}
 use Rattle.std.proofs.lemmas.List.{append-nil}
 use Rattle.std.proofs.Math.Seq.{drop-length}
-use Rattle.std.specs.Fmt.{decimal}
-use Rattle.history_model.specs.declared.request.Request.TheVariants.{Answer}
 use Rattle.replay_cli.specs.Scripts.{request_line, text_of_requests}
 use Rattle.bank_maker.specs.declared.act.Act.{Act}
-use Rattle.bank_maker.specs.Scripts.{answer_text, request_at, state_behind, requests_from, script_text}
+use Rattle.bank_maker.specs.Scripts.{request_at, state_behind, requests_from, script_text}
 
 pub script_cons : (state : ℕ) (t : Act) (ts : List Act) → script_text state (t ∷ ts) ≡ (request_line (request_at state t) ++ 10 ∷ []) ++ script_text (state_behind state t) ts
 unfolding script_text requests_from text_of_requests
@@ -35,10 +33,3 @@ pub last_act : (whole out : List ℕ) (state : ℕ) (ts : List Act) (i : ℕ) �
 last_act whole out state ts i e is =
     sym (is ∙ ap (λ (rest : List Act). out ++ script_text state rest) (ap (λ (n : ℕ). drop n ts) e ∙ drop-length ts)
     ∙ ap (λ (rest : List ℕ). out ++ rest) (nothing_left state) ∙ append-nil out)
-
--- the words of an answer are parted by spaces
-pub answer_line : (session step response : ℕ) → answer_text session step response ≡ request_line (Answer session step response) ++ 10 ∷ []
-answer_line session step response = regroup (codes "answer ") (decimal session) (decimal step) (decimal response)
-  where
-    regroup : (w a b c : List ℕ) → w ++ (a ++ (32 ∷ [] ++ (b ++ (32 ∷ [] ++ (c ++ 10 ∷ []))))) ≡ (w ++ (a ++ 32 ∷ (b ++ 32 ∷ c))) ++ 10 ∷ []
-    regroup w a b c = simp append_assoc

@@ -1,5 +1,5 @@
 -- The plan of a drill.
-use Rattle.std.specs.Prelude.{ℕ, ◌+◌, ◌*◌, ◌%◌, ◌^◌, Bool, ◌&&◌, ◌==◌, nat_lt, nat_le, List, [], ◌∷◌, ◌++◌, map, replicate, Some, ℤ, pos, neg_ℤ}
+use Rattle.std.specs.Prelude.{ℕ, ◌+◌, ◌*◌, ◌%◌, ◌^◌, ◌&&◌, ◌==◌, nat_lt, nat_le, List, [], ◌∷◌, ◌++◌, map, replicate, Some, pos, neg_ℤ}
 use Rattle.std.specs.List.{flat_map, range_with_len, sum_by, slice_range}
 use Rattle.std.specs.Int.{abs_diff, to_be_bytes}
 use Rattle.std.specs.Int.Width.{w64}

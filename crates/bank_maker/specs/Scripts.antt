@@ -1,6 +1,5 @@
 -- The script of a drill.
-use Rattle.std.specs.Prelude.{ℕ, ◌+◌, ◌-◌, ◌*◌, ◌/◌, ◌%◌, min, nat_lt, ◌==◌, if◌then◌else◌, List, [], ◌∷◌, ◌++◌, map, codes, Option, Some, None}
-use Rattle.std.specs.Fmt.{decimal}
+use Rattle.std.specs.Prelude.{ℕ, ◌+◌, ◌-◌, ◌*◌, ◌/◌, ◌%◌, min, nat_lt, ◌==◌, if◌then◌else◌, List, [], ◌∷◌, ◌++◌, map, Option, Some, None}
 use Rattle.std.specs.Option.{option_to_list}
 use Rattle.std.specs.List.{flat_map, range_with_len}
 use Rattle.history_model.specs.declared.request.Request.{Request}
@@ -36,11 +35,6 @@ group_acts sessions first = map (λ session. Begins session) (group sessions fir
 unfoldable pub acts : ℕ → List Act
 acts sessions =
     flat_map (λ g. group_acts sessions (10 * g)) (range_with_len 0 ((sessions + 9) / 10))
-
--- the line of an answer, with its line feed
-abbrev pub answer_text : ℕ → ℕ → ℕ → List ℕ
-answer_text session step response = codes "answer " ++ (decimal session
-    ++ (codes " " ++ (decimal step ++ (codes " " ++ (decimal response ++ codes "\n")))))
 
 -- what is asked at an act: session s has the booking s + 1, and an answer takes the next draw for
 -- its response

@@ -1,9 +1,10 @@
 -- One request of a drill: how it ends.
 use Rattle.std.specs.Prelude.{⊤}
-use Rattle.std.proofs.Common.{◌≡◌, ℕ, suc, ◌+◌, ◌<◌, Bool, true, false, cond, List, ◌++◌, length, get_or, take, drop, Option, Some, None, nat_lt, ◌==◌, refl, sym, ap, ◌∙◌, subst, drop-cons}
+use Rattle.std.proofs.Common.{◌≡◌, inl, inr, ℕ, suc, ◌+◌, ◌<◌, Bool, true, false, cond, List, ◌++◌, length, get_or, take, drop, Option, Some, None, nat_lt, ◌==◌, refl, sym, ap, ◌∙◌, subst, drop-cons}
 use Rattle.std.proofs.lemmas.List.{take_more, take-append-drop}
 use Rattle.std.proofs.Math.Seq.{take-length}
-use Rattle.bank_tables.specs.Tables.{Tables, categories}
+use Rattle.bank_tables.specs.Items.{Set, has}
+use Rattle.bank_tables.specs.Tables.{Tables, categories, size}
 use Rattle.form_model.specs.Plan.{Plan}
 use Rattle.history_model.specs.declared.entry.Entry.{Entry}
 use Rattle.history_model.specs.declared.place.Place.{Place}
@@ -13,9 +14,10 @@ use Rattle.history_model.specs.declared.refusal.Refusal.TheVariants as why
 use Rattle.history_model.specs.declared.request.Reply.{Reply}
 use Rattle.history_model.specs.declared.request.Reply.TheVariants.{At, Exposure as Exposed, Refused}
 use Rattle.history_model.specs.declared.request.Request.{Request}
-use Rattle.history_model.specs.declared.request.Request.TheVariants.{Begin, Answer, Close, Look, Exposure}
+use Rattle.history_model.specs.declared.request.Request.TheVariants.{Begin, BeginWithout, Answer, Close, Look, Exposure}
 use Rattle.history_model.specs.Halting.{IsNextOf}
-use Rattle.history_model.specs.Refusals.{recorded, refusal_of, refusal_of_new, refusal_at, refusal_of_answer, refusal_of_closing, in_session}
+use Rattle.history_model.specs.Lists.{LacksForm, no_form, none_found}
+use Rattle.history_model.specs.Refusals.{recorded, refusal_of, refusal_of_new, refusal_of_list, is_list, refusal_at, refusal_of_answer, refusal_of_closing, in_session}
 use Rattle.history_model.specs.Entries.{holder}
 use Rattle.history_model.specs.Places.{place}
 use Rattle.history_model.specs.Requests.{Does, DoesUnless, DoesUnrefused}
@@ -74,28 +76,49 @@ tested_in : (H : List Entry) (o : Option Place) (refusal : Place → Option Refu
 tested_in H None refusal each r e = tested_is _ r tt e
 tested_in H (Some at) refusal each r e = each at r e
 
+tested_list : (b : Tables) (plan : Plan) (H : List Entry) (items : List ℕ) (o : Option ℕ) (r : Refusal) → refusal_of_list b plan H items o ≡ Some r → IsTested r
+tested_list b plan H items (Some session) r e = tested_unless _ _ r tt e
+tested_list b plan H items None r e = here (is_list b items) r e
+  where
+    here : (listed : Bool) (r : Refusal) → cond listed (refusal_of_new plan H None) (Some (why.NoItem (size b))) ≡ Some r → IsTested r
+    here true r e = tested_new plan H None r e
+    here false r e = tested_is _ r tt e
+
 tested : (b : Tables) (plan : Plan) (H : List Entry) (request : Request) (r : Refusal) → refusal_of b plan H request ≡ Some r → IsTested r
 tested b plan H (Begin booking) r e = tested_new plan H (holder H booking) r e
+tested b plan H (BeginWithout booking items) r e = tested_list b plan H items (holder H booking) r e
 tested b plan H (Answer session step response) r e =
     tested_in H (place plan H session) (λ (at : Place). refusal_of_answer b step response at (recorded H session step)) (λ at r. tested_answer b step response at (recorded H session step) r) r e
 tested b plan H (Close session) r e = tested_in H (place plan H session) refusal_of_closing tested_closing r e
 tested b plan H (Look session) r e = tested_in H (place plan H session) (λ (at : Place). None) (λ at r f. cc) r e
 tested b plan H Exposure r e = cc
 
--- ---- a request that is done, with a refusal as its reply
-unrefused : (b : Tables) (plan : Plan) (G : List Entry) (request : Request) (K : List Entry) (r : Refusal) → DoesUnrefused b plan G request K (Refused r) → ⊥
-unrefused b plan G (Begin booking) K r d = let e = d.reply in cc
-unrefused b plan G (Answer session step response) K r d = let e = d.reply in cc
-unrefused b plan G (Close session) K r d = let e = d.reply in cc
-unrefused b plan G (Look session) K r d = let e = d.reply in cc
-unrefused b plan G Exposure K r d = let e = d.reply in cc
+-- ---- a request that is done, with a refusal as its reply: that of a test, or that no form is known
+tested_lacking : (b : Tables) (plan : Plan) (X : Set) (r : Refusal) → LacksForm b plan X r → IsTested r
+tested_lacking b plan X r (no_form P whole none) = tt
+tested_lacking b plan X r (none_found P T leaves whole verdict spent) = tt
 
-refused_by : (b : Tables) (plan : Plan) (G : List Entry) (request : Request) (K : List Entry) (r : Refusal) (o : Option Refusal) → DoesUnless o b plan G request K (Refused r) → o ≡ Some r
-refused_by b plan G request K r (Some x) d = let e = d.1 in cc
-refused_by b plan G request K r None d = absurd (unrefused b plan G request K r d)
+unrefused : (b : Tables) (plan : Plan) (G : List Entry) (request : Request) (K : List Entry) (r : Refusal) → DoesUnrefused b plan G request K (Refused r) → IsTested r
+unrefused b plan G (Begin booking) K r d = absurd (let e = d.reply in cc)
+unrefused b plan G (BeginWithout booking items) K r (inl d) = absurd (let e = d.reply in cc)
+unrefused b plan G (BeginWithout booking items) K r (inr d) =
+    let e = d.reply in
+    let same : d.why ≡ r = cc in
+    subst (λ (x : Refusal). IsTested x) same (tested_lacking b plan (has items) d.why d.lacks)
+unrefused b plan G (Answer session step response) K r d = absurd (let e = d.reply in cc)
+unrefused b plan G (Close session) K r d = absurd (let e = d.reply in cc)
+unrefused b plan G (Look session) K r d = absurd (let e = d.reply in cc)
+unrefused b plan G Exposure K r d = absurd (let e = d.reply in cc)
 
-refused_so : (b : Tables) (plan : Plan) (G : List Entry) (request : Request) (K : List Entry) (r : Refusal) → Does b plan G request K (Refused r) → refusal_of b plan G request ≡ Some r
-refused_so b plan G request K r d = refused_by b plan G request K r (refusal_of b plan G request) d
+refused_by : (b : Tables) (plan : Plan) (G : List Entry) (request : Request) (K : List Entry) (r : Refusal) (o : Option Refusal) → refusal_of b plan G request ≡ o → DoesUnless o b plan G request K (Refused r) → IsTested r
+refused_by b plan G request K r (Some x) is d =
+    let e = d.1 in
+    let same : x ≡ r = cc in
+    subst (λ (y : Refusal). IsTested y) same (tested b plan G request x is)
+refused_by b plan G request K r None is d = unrefused b plan G request K r d
+
+refused_so : (b : Tables) (plan : Plan) (G : List Entry) (request : Request) (K : List Entry) (r : Refusal) → Does b plan G request K (Refused r) → IsTested r
+refused_so b plan G request K r d = refused_by b plan G request K r (refusal_of b plan G request) refl d
 
 -- ---- from an office with nothing in doubt
 one_of_none : (H G : List Entry) (doubt : Option Entry) → doubt ≡ None → IsOneOf H doubt G → G ≡ H
@@ -134,7 +157,7 @@ module _ {D : Type 0} (request : Request) (old new : Running D) where
         subst (λ (x : Refusal). IsStoppedBy b plan (history new.marks) (IsNextOf b plan (history old.marks) request (history new.marks)) old new x) same h.because
 
     full_so : (size : ℕ) → Becomes b plan (history old.marks) request old new (Refused (why.JournalFull size)) → IsCutShort b plan (history old.marks) request (JournalFull size plan.journal)
-    full_so size (done does durable) = absurd (tested b plan (history old.marks) request (why.JournalFull size) (refused_so b plan (history old.marks) request (history new.marks) (why.JournalFull size) does))
+    full_so size (done does durable) = absurd (refused_so b plan (history old.marks) request (history new.marks) (why.JournalFull size) does)
     full_so size (halted h) =
         let t = stopped_by (why.JournalFull size) h in
         (record { G = history new.marks; cut_off = h.cut_off; last = t.last; next = t.next; spells = t.spells; may = t.may; reached = reach new.marks; size_is = t.size_is; above = t.above }, refl)

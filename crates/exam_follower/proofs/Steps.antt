@@ -7,7 +7,7 @@ use Rattle.exam_edge.specs.Images.{AllImages, AtEachMoment, latest}
 use Rattle.exam_edge.specs.Lent.{IsLent}
 use Rattle.history_model.specs.declared.entry.Entry.{Entry}
 use Rattle.history_model.specs.declared.refusal.Refusal.{Refusal}
-use Rattle.history_model.specs.declared.refusal.Refusal.TheVariants.{NoSession, WrongStep, Other, BadResponse, IsClosed, Stale, SessionsFull, JournalFull, Disk, Memory}
+use Rattle.history_model.specs.declared.refusal.Refusal.TheVariants.{NoSession, WrongStep, Other, BadResponse, IsClosed, Stale, OtherList, NoItem, SessionsFull, NoForm, NoneFound, JournalFull, Disk, Memory}
 use Rattle.history_model.specs.Judging.{Record, entries_of}
 use Rattle.exam_records.specs.Shape.{IsRecord}
 use Rattle.exam_records.specs.Spelling.{payload_of}
@@ -202,6 +202,10 @@ unmended_beside old new (BadResponse number) why = absurd why
 unmended_beside old new (IsClosed at) why = absurd why
 unmended_beside old new (Stale at aside) why = absurd why
 unmended_beside old new (SessionsFull count) why = absurd why
+unmended_beside old new (OtherList session) why = absurd why
+unmended_beside old new (NoItem number) why = absurd why
+unmended_beside old new NoForm why = absurd why
+unmended_beside old new NoneFound why = absurd why
 
 pub beside_unmended : {D : Type 0} (old new : Running D) (refusal : Refusal) → IsUnmended old new refusal → IsBeside old.marks new.marks
 beside_unmended old new refusal why = (unmended_beside old new refusal why).0
@@ -220,6 +224,10 @@ rose_unmended old new (BadResponse number) why other = absurd why
 rose_unmended old new (IsClosed at) why other = absurd why
 rose_unmended old new (Stale at aside) why other = absurd why
 rose_unmended old new (SessionsFull count) why other = absurd why
+rose_unmended old new (OtherList session) why other = absurd why
+rose_unmended old new (NoItem number) why other = absurd why
+rose_unmended old new NoForm why other = absurd why
+rose_unmended old new NoneFound why other = absurd why
 
 -- there is room for one record more
 pub push_room : {D : Type 0} (f : FollowerState D) → IsFollower f → (N : List Mark) (r : Record) → IsOn f.office.marks N r → (n : ℕ) → n ≡ length (history N) → n < 2 ^ 64 → length f.taken + 1 < 2 ^ 64

@@ -6,7 +6,7 @@ use Rattle.bank_tables.specs.Tables.{Tables}
 use Rattle.form_model.specs.Plan.{Plan}
 use Rattle.history_model.specs.declared.entry.Entry.{Entry}
 use Rattle.history_model.specs.declared.refusal.Refusal.{Refusal}
-use Rattle.history_model.specs.declared.refusal.Refusal.TheVariants.{NoSession, WrongStep, Other, BadResponse, IsClosed, Stale, SessionsFull, JournalFull, Disk, Memory}
+use Rattle.history_model.specs.declared.refusal.Refusal.TheVariants.{NoSession, WrongStep, Other, BadResponse, IsClosed, Stale, OtherList, NoItem, SessionsFull, NoForm, NoneFound, JournalFull, Disk, Memory}
 use Rattle.history_model.specs.Legality.{Legal}
 use Rattle.turn_lock.proofs.Lists.{tail_is}
 use Rattle.exam_office.specs.declared.mark.Mark.{Mark}
@@ -67,7 +67,11 @@ module _ {D : Type 0} (old new : Running D) where
   unmended_on (BadResponse k) doubt h = absurd h
   unmended_on (IsClosed at) doubt h = absurd h
   unmended_on (Stale at flag) doubt h = absurd h
+  unmended_on (OtherList session) doubt h = absurd h
+  unmended_on (NoItem count) doubt h = absurd h
   unmended_on (SessionsFull count) doubt h = absurd h
+  unmended_on NoForm doubt h = absurd h
+  unmended_on NoneFound doubt h = absurd h
 
   halted_on : (marks : List Mark) (e : Entry) (r : Refusal) → IsHalted old new marks e r → FailsAs old.bank old.plan marks e new.marks r
   halted_on marks e Memory h = h.marks_are
@@ -79,7 +83,11 @@ module _ {D : Type 0} (old new : Running D) where
   halted_on marks e (BadResponse k) h = absurd h
   halted_on marks e (IsClosed at) h = absurd h
   halted_on marks e (Stale at flag) h = absurd h
+  halted_on marks e (OtherList session) h = absurd h
+  halted_on marks e (NoItem count) h = absurd h
   halted_on marks e (SessionsFull count) h = absurd h
+  halted_on marks e NoForm h = absurd h
+  halted_on marks e NoneFound h = absurd h
 
   pub calls_on : (finds : List Entry → Finding → Type 0) (o : Option Refusal) → IsDoubtOf old.marks old.doubt → Calls finds old new o → CallsOn old.bank old.plan finds old.marks new.marks o
   calls_on finds o doubt (office_unmended r h) = unmended r (unmended_on r doubt h)
@@ -164,7 +172,11 @@ module _ (b : Tables) (plan : Plan) (finds : List Entry → Finding → Type 0) 
   by_doubt (BadResponse k) h = absurd h
   by_doubt (IsClosed at) h = absurd h
   by_doubt (Stale at flag) h = absurd h
+  by_doubt (OtherList session) h = absurd h
+  by_doubt (NoItem count) h = absurd h
   by_doubt (SessionsFull count) h = absurd h
+  by_doubt NoForm h = absurd h
+  by_doubt NoneFound h = absurd h
 
   module _ (mid : List Mark) (s : Settles before mid) where
     longer : (X : List Mark) → after ≡ mid ++ X → after ≡ before ++ (s.added ++ X)
@@ -201,7 +213,11 @@ module _ (b : Tables) (plan : Plan) (finds : List Entry → Finding → Type 0) 
     by_failure e (BadResponse k) says h = absurd h
     by_failure e (IsClosed at) says h = absurd h
     by_failure e (Stale at flag) says h = absurd h
+    by_failure e (OtherList session) says h = absurd h
+    by_failure e (NoItem count) says h = absurd h
     by_failure e (SessionsFull count) says h = absurd h
+    by_failure e NoForm says h = absurd h
+    by_failure e NoneFound says h = absurd h
 
   pub addition : (o : Option Refusal) → CallsOn b plan finds before after o → Addition b plan finds before after o
   addition o (unmended r h) = by_doubt r h

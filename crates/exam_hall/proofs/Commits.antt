@@ -19,7 +19,7 @@ use Rattle.history_model.specs.declared.entry.Entry.TheVariants.{SetAside, Serve
 use Rattle.history_model.specs.declared.place.Place.{Place}
 use Rattle.history_model.specs.declared.place.Place.TheVariants.{Pending}
 use Rattle.history_model.specs.declared.refusal.Refusal.{Refusal}
-use Rattle.history_model.specs.declared.refusal.Refusal.TheVariants.{NoSession, WrongStep, Other, BadResponse, IsClosed, Stale, SessionsFull, JournalFull, Disk, Memory}
+use Rattle.history_model.specs.declared.refusal.Refusal.TheVariants.{NoSession, WrongStep, Other, BadResponse, IsClosed, Stale, OtherList, NoItem, SessionsFull, NoForm, NoneFound, JournalFull, Disk, Memory}
 use Rattle.history_model.specs.Entries.{Serving, servings, step_answers, seat_of}
 use Rattle.history_model.specs.Laws.{raised, seat_place}
 use Rattle.history_model.specs.Legality.{Legal, LegalRun}
@@ -152,7 +152,7 @@ committed_good b plan base H Q n (Found form proved) e asked at firm start hint 
 committed_good b plan base H Q n NoForm e asked at firm start hint made legal = subst (λ y. IsFirm b plan H y × IsGood b plan base H y) (sym made) (tt, tt)
 committed_good b plan base H Q n NoneFound e asked at firm start hint made legal =
     subst (λ y. IsFirm b plan H y × IsGood b plan base H y) (sym made)
-    (tt, record { problem = Q; is_problem = asked; no_base = at.1 })
+    (tt, record { problem = Q; is_problem = asked; no_base = at.1; no_start = λ X is. subst (λ s. IsNoWorseThan Q s NoneFound) is start })
 
 module _ (b : Tables) (plan : Plan) (base : List ℕ) (a : Assembly) (fits : IsGoodFor base a) where
   mark_good : (H : List Entry) (m : Mark) → MayBeCommitted b plan base H a → LegalRun b plan H → IsFoundMark (FindsCommit b plan a) H m → IsGoodMark b plan base H m
@@ -253,7 +253,11 @@ module _ {D : Type 0} (old new : Running D) (a : Assembly) (same : IsSameOffice 
   fails_if (Other k) T never says = says
   fails_if (BadResponse k) T never says = says
   fails_if (IsClosed at) T never says = says
+  fails_if (OtherList session) T never says = says
+  fails_if (NoItem count) T never says = says
   fails_if (SessionsFull count) T never says = says
+  fails_if NoForm T never says = says
+  fails_if NoneFound T never says = says
   fails_if (JournalFull size) T never says = says
   fails_if Disk T never says = says
   fails_if Memory T never says = says

@@ -6,6 +6,7 @@ use Rattle.std.proofs.lemmas.Bool.{eqb-true}
 use Rattle.std.proofs.lemmas.List.{append-nil}
 use Rattle.std.proofs.lemmas.List.Elements.{Contains-push}
 use Rattle.std.proofs.lemmas.Option.{slice_get-map}
+use Rattle.bank_tables.specs.Items.{has}
 use Rattle.bank_tables.specs.Tables.{Tables}
 use Rattle.form_model.specs.Plan.{Plan}
 use Rattle.exam_edge.specs.Lent.{IsLent}
@@ -16,30 +17,32 @@ use Rattle.history_model.specs.declared.place.Place.{Place}
 use Rattle.history_model.specs.declared.place.Place.TheVariants.{Pending}
 use Rattle.history_model.specs.declared.place.Place.TheVariants as place_is
 use Rattle.history_model.specs.declared.refusal.Refusal.{Refusal}
-use Rattle.history_model.specs.declared.refusal.Refusal.TheVariants.{Memory}
+use Rattle.history_model.specs.declared.refusal.Refusal.TheVariants.{NoSession, WrongStep, Other, BadResponse, IsClosed, Stale, OtherList, NoItem, SessionsFull, NoForm, NoneFound, JournalFull, Disk, Memory}
 use Rattle.history_model.specs.declared.request.Exposure.{Exposure as Counts}
-use Rattle.history_model.specs.declared.request.Request.TheVariants.{Begin, Answer, Close, Look, Exposure}
+use Rattle.history_model.specs.declared.request.Request.TheVariants.{Begin, BeginWithout, Answer, Close, Look, Exposure}
 use Rattle.history_model.specs.declared.request.Reply.TheVariants as reply
-use Rattle.history_model.specs.Entries.{StepAnswer, starts, holder, step_answers}
+use Rattle.history_model.specs.Entries.{StepAnswer, starts, holder, list_of, step_answers}
 use Rattle.history_model.specs.Legality.{Legal, LegalRun}
+use Rattle.history_model.specs.Lists.{LacksForm}
 use Rattle.history_model.specs.Places.{place}
-use Rattle.history_model.specs.Refusals.{recorded, refusal_of}
+use Rattle.history_model.specs.Refusals.{has_list, recorded, refusal_of}
 use Rattle.history_model.specs.Requests.{IsExposureOf}
 use Rattle.history_model.proofs.SessionEntries.{session_answer, answers_by}
 use Rattle.history_model.proofs.Ordered.{in_order}
 use Rattle.exam_office.specs.Asking.{reply_of}
 use Rattle.exam_office.specs.declared.mark.Mark.{Mark}
 use Rattle.exam_office.specs.declared.mark.Mark.TheVariants.{Own}
-use Rattle.exam_office.specs.Calls.{Finding, Calls, IsStartFor, FindsAnswer, FindsStart, FindsClosing, IsFreshly, refused_with}
+use Rattle.exam_office.specs.Calls.{Finding, Calls, IsStartFor, IsStartWithout, LacksWitness, FindsAnswer, FindsStart, FindsStartWithout, FindsClosing, IsFreshly, IsFreshlyBy, refused_with}
 use Rattle.exam_office.specs.Marks.{history}
 use Rattle.exam_office.specs.Noting.{IsDoubtOf}
 use Rattle.exam_office.specs.Running.{Running}
 use Rattle.exam_office.specs.Writing.{IsSameOffice}
 use Rattle.exam_office.proofs.Advancing.{closed_there}
-use Rattle.exam_hall.specs.Parts.{owns, IsFirst, Fails}
+use Rattle.exam_hall.specs.Parts.{owns, NoFault, IsFirst, LacksFirst, IsUnbooked, IsNotBegunBy, Fails}
 use Rattle.exam_hall.specs.Leading.{Leads}
 use Rattle.exam_hall.specs.Turns.{Adds, Led}
-use Rattle.exam_hall.proofs.Calls.{CameTo, to_refusal, to_nothing, to_entry, to_failure, Addition, addition, calls_on, settled_by, settles, none_faulty, own_faultless, both_faultless}
+use Rattle.exam_hall.proofs.Calls.{CameTo, to_refusal, to_nothing, to_entry, to_failure, Addition, addition, calls_on, settled_by, settles, none_faulty, own_faultless, both_faultless, cancel}
+use Rattle.exam_hall.proofs.Listed.{listed_new, listed_there}
 use Rattle.exam_hall.proofs.Moved.{owns_append}
 
 -- ---- a recorded response is in the history
@@ -110,7 +113,7 @@ module _ {D : Type 0} (old new : Running D) (same : IsSameOffice old new) (frame
   }
   answer_leads s step response (Err q) T run (to_refusal r says none whole) stands = inl (record { test = says; none = none; no_fault = whole })
   answer_leads s step response (Err q) T run (to_failure r fails none why) stands =
-      inr (fails (IsFirst (Answer s step response)) (λ H e says. (says.2, says.3)), (none, ⊎_elim (λ d. inl d) (λ t. inr (t.0, t.1.2, t.1.3)) why))
+      inr (inr (fails (IsFirst (Answer s step response)) (λ H e says. (says.2, says.3)), (none, ⊎_elim (λ d. inl d) (λ t. inr (t.0, t.1.2, t.1.3)) why)))
 
   pub answer_led : (s step response : ℕ) (result : Result Place Refusal) → IsDoubtOf old.marks old.doubt → LegalRun old.bank old.plan (history new.marks)
       → Calls (FindsAnswer old.bank old.plan s step response) old new (refused_with result)
@@ -144,7 +147,7 @@ module _ {D : Type 0} (old new : Running D) (same : IsSameOffice old new) (frame
       never : (k : ℕ) → ◌≡◌ {A = Option Place} (Some place_is.Closed) (Some (Pending k)) → ⊥
       never k e = cc
   closing_leads s (Err q) T (to_refusal r says none whole) stands = inl (record { test = says; none = none; no_fault = whole })
-  closing_leads s (Err q) T (to_failure r fails none why) stands = inr (fails (IsFirst (Close s)) (λ H e says. (says.1, says.2)), (none, ⊎_elim (λ d. inl d) (λ t. inr (t.0, t.1.1, t.1.2)) why))
+  closing_leads s (Err q) T (to_failure r fails none why) stands = inr (inr (fails (IsFirst (Close s)) (λ H e says. (says.1, says.2)), (none, ⊎_elim (λ d. inl d) (λ t. inr (t.0, t.1.1, t.1.2)) why)))
 
   pub closing_led : (s : ℕ) (result : Result Place Refusal) → IsDoubtOf old.marks old.doubt → Calls (FindsClosing old.bank old.plan s) old new (refused_with result)
       → IfOk result (λ at. place new.plan (history new.marks) s ≡ Some at) → Led (Close s) old new (reply_of s false result)
@@ -206,16 +209,119 @@ module _ {D : Type 0} (old new : Running D) (same : IsSameOffice old new) (frame
       inl (record { test = subst (λ x. refusal_of old.bank old.plan (history new.marks) (Begin booking) ≡ Some x) same_r says; none = none; no_fault = whole })
   refused_leads booking q o T is (to_failure r fails none why) =
       let same_r : r ≡ q = cc in
-      inr (
+      inr (inr (
         subst (λ x. Fails old.bank old.plan (IsFirst (Begin booking)) new.marks T x) same_r (fails (IsFirst (Begin booking)) (λ H e says. (says.2, says.3))),
         (none, ⊎_elim (λ d. inl d) (λ t. inr (t.0, t.1.2, t.1.3)) why),
-      )
+      ))
 
   pub begin_refused : (booking : ℕ) (q : Refusal) → IsDoubtOf old.marks old.doubt → Calls (FindsStart old.bank old.plan booking) old new (Some q) → Led (Begin booking) old new (reply.Refused q)
   begin_refused booking q doubt calls =
       let finds = FindsStart old.bank old.plan booking in
       let a = addition old.bank old.plan finds old.marks new.marks (Some q) (calls_on old new finds (Some q) doubt calls) in
       record { adds = adds finds (Some q) a; leads = refused_leads booking q (Some q) a.added refl a.came }
+
+  -- a booking that was begun with a list
+  fresh_is : (booking : ℕ) (items : List ℕ) (witness : Result (List ℕ) Refusal) (fresh : Bool) (T : List Mark) → IsFreshlyBy old new (IsStartWithout booking items witness) fresh → new.marks ≡ old.marks ++ T → fresh ≡ list_any starts (owns T)
+  fresh_is booking items witness false T how is =
+      let s = settles old.marks new.marks (settled_by old.marks new.marks old.doubt how) in
+      let same_added : T ≡ s.added = cancel old.marks T s.added (sym is ∙ s.is) in
+      sym (ap (λ l. list_any starts l) (ap owns same_added ∙ s.none))
+  fresh_is booking items witness true T how is =
+      let e = how.1 in
+      let size = how.2 in
+      let s = settles old.marks how.0 (settled_by old.marks how.0 old.doubt how.3) in
+      let X = s.added ++ Own e size ∷ [] in
+      let here : new.marks ≡ old.marks ++ X = how.4 ∙ (ap (λ l. l ++ Own e size ∷ []) s.is ∙ Rattle.std.proofs.Common.append_assoc old.marks s.added (Own e size ∷ [])) in
+      let same_added : T ≡ X = cancel old.marks T X (sym is ∙ here) in
+      let own : owns T ≡ e ∷ [] = ap owns same_added ∙ (owns_append s.added (Own e size ∷ []) ∙ ap (λ l. l ++ e ∷ []) s.none) in
+      sym (ap (λ l. list_any starts l) own ∙ ap (λ t. t || false) (ap starts how.5.is))
+
+  listed_leads : (booking : ℕ) (items : List ℕ) (witness : Result (List ℕ) Refusal) (session : ℕ) (fresh : Bool) (at : Place) (o : Option Refusal) (T : List Mark) → o ≡ None → LegalRun old.bank old.plan (history new.marks)
+      → CameTo old.bank old.plan (FindsStartWithout old.bank old.plan booking items witness) new.marks T o → holder (history new.marks) booking ≡ Some session → fresh ≡ list_any starts (owns T)
+      → place new.plan (history new.marks) session ≡ Some at → Leads old.bank old.plan (BeginWithout booking items) new.marks T (reply.At session at fresh)
+  listed_leads booking items witness session fresh at o T is run (to_nothing says none whole) held started stands = record {
+    is_at = record {
+      session_is = (held, listed_there old.bank old.plan (history new.marks) booking session items says.0 held);
+      stands = there session at stands;
+      answered = tt;
+      fresh_is = started;
+      closed = tt;
+      no_fault = whole;
+    };
+    one = inl none;
+    ends = tt;
+  }
+  listed_leads booking items witness session fresh at o T is run (to_entry H e says grown own whole) held started stands = record {
+    is_at = record {
+      session_is = (
+        held,
+        subst (λ l. has_list items (list_of l session) ≡ true) (sym grown)
+            (listed_new old.bank old.plan H e booking session items witness (subst (λ l. LegalRun old.bank old.plan l) grown run) says.1 says.2 (subst (λ l. holder l booking ≡ Some session) grown held)),
+      );
+      stands = there session at stands;
+      answered = tt;
+      fresh_is = started;
+      closed = tt;
+      no_fault = whole;
+    };
+    one = inr (e, own, (witness, says.2));
+    ends = tt;
+  }
+  listed_leads booking items witness session fresh at o T is run (to_refusal r says none whole) held started stands = absurd cc
+  listed_leads booking items witness session fresh at o T is run (to_failure r fails none why) held started stands = absurd cc
+
+  pub listed_led : (booking : ℕ) (items : List ℕ) (witness : Result (List ℕ) Refusal) (session : ℕ) (fresh : Bool) (at : Place) → IsDoubtOf old.marks old.doubt → LegalRun old.bank old.plan (history new.marks)
+      → Calls (FindsStartWithout old.bank old.plan booking items witness) old new None → holder (history new.marks) booking ≡ Some session → IsFreshlyBy old new (IsStartWithout booking items witness) fresh
+      → place new.plan (history new.marks) session ≡ Some at → Led (BeginWithout booking items) old new (reply.At session at fresh)
+  listed_led booking items witness session fresh at doubt run calls held how stands =
+      let finds = FindsStartWithout old.bank old.plan booking items witness in
+      let a = addition old.bank old.plan finds old.marks new.marks None (calls_on old new finds None doubt calls) in
+      record { adds = adds finds None a; leads = listed_leads booking items witness session fresh at None a.added refl run a.came held (fresh_is booking items witness fresh a.added how a.is) stands }
+
+  -- why a booking was not begun with a list
+  lacking : (booking : ℕ) (items : List ℕ) (r : Refusal) (T : List Mark) → IsUnbooked old.bank old.plan (history new.marks) booking items → LacksForm old.bank old.plan (has items) r
+      → owns T ≡ [] → NoFault T → IsNotBegunBy old.bank old.plan (BeginWithout booking items) new.marks T r
+  lacking booking items r T unbooked lacks none whole = record { booking = booking; items = items; asked = refl; unbooked = unbooked; lacks = lacks; none = none; no_fault = whole }
+
+  no_witness : (booking : ℕ) (items : List ℕ) (r : Refusal) (T : List Mark) → IsUnbooked old.bank old.plan (history new.marks) booking items → LacksWitness old.bank old.plan items r → owns T ≡ [] → NoFault T
+      → IsNotBegunBy old.bank old.plan (BeginWithout booking items) new.marks T r
+      ⊎ (Fails old.bank old.plan (IsFirst (BeginWithout booking items)) new.marks T r × LacksFirst old.bank old.plan new.marks (BeginWithout booking items) (owns T))
+  no_witness booking items Memory T u lacks none whole = inr (whole, (none, inr u))
+  no_witness booking items (NoSession count) T u lacks none whole = inl (lacking booking items (NoSession count) T u lacks none whole)
+  no_witness booking items (WrongStep k) T u lacks none whole = inl (lacking booking items (WrongStep k) T u lacks none whole)
+  no_witness booking items (Other k) T u lacks none whole = inl (lacking booking items (Other k) T u lacks none whole)
+  no_witness booking items (BadResponse k) T u lacks none whole = inl (lacking booking items (BadResponse k) T u lacks none whole)
+  no_witness booking items (IsClosed at) T u lacks none whole = inl (lacking booking items (IsClosed at) T u lacks none whole)
+  no_witness booking items (Stale at flag) T u lacks none whole = inl (lacking booking items (Stale at flag) T u lacks none whole)
+  no_witness booking items (OtherList session) T u lacks none whole = inl (lacking booking items (OtherList session) T u lacks none whole)
+  no_witness booking items (NoItem count) T u lacks none whole = inl (lacking booking items (NoItem count) T u lacks none whole)
+  no_witness booking items (SessionsFull count) T u lacks none whole = inl (lacking booking items (SessionsFull count) T u lacks none whole)
+  no_witness booking items NoForm T u lacks none whole = inl (lacking booking items NoForm T u lacks none whole)
+  no_witness booking items NoneFound T u lacks none whole = inl (lacking booking items NoneFound T u lacks none whole)
+  no_witness booking items (JournalFull size) T u lacks none whole = inl (lacking booking items (JournalFull size) T u lacks none whole)
+  no_witness booking items Disk T u lacks none whole = inl (lacking booking items Disk T u lacks none whole)
+
+  unlisted_leads : (booking : ℕ) (items : List ℕ) (witness : Result (List ℕ) Refusal) (q : Refusal) (o : Option Refusal) (T : List Mark) → o ≡ Some q → CameTo old.bank old.plan (FindsStartWithout old.bank old.plan booking items witness) new.marks T o
+      → Leads old.bank old.plan (BeginWithout booking items) new.marks T (reply.Refused q)
+  unlisted_leads booking items witness q o T is (to_nothing says none whole) = absurd cc
+  unlisted_leads booking items witness q o T is (to_entry H e says grown own whole) = absurd cc
+  unlisted_leads booking items witness q o T is (to_refusal r says none whole) =
+      let same_r : r ≡ q = cc in
+      subst (λ x. Leads old.bank old.plan (BeginWithout booking items) new.marks T (reply.Refused x)) same_r
+      (⊎_elim (λ test. inl (record { test = test; none = none; no_fault = whole })) (λ w. inr (no_witness booking items r T (record { unrefused = w.0; no_session = w.1 }) w.3 none whole)) says)
+  unlisted_leads booking items witness q o T is (to_failure r fails none why) =
+      let same_r : r ≡ q = cc in
+      inr (inr (
+        subst (λ x. Fails old.bank old.plan (IsFirst (BeginWithout booking items)) new.marks T x) same_r (fails (IsFirst (BeginWithout booking items)) (λ H e says. ((witness, says.2), says.3))),
+        (none, ⊎_elim (λ d. inl d) (λ t. inr (record { unrefused = t.1.0; no_session = t.1.1 })) why),
+      ))
+
+  pub listed_refused : (booking : ℕ) (items : List ℕ) (witness : Result (List ℕ) Refusal) (q : Refusal) → IsDoubtOf old.marks old.doubt → Calls (FindsStartWithout old.bank old.plan booking items witness) old new (Some q)
+      → Led (BeginWithout booking items) old new (reply.Refused q)
+  listed_refused booking items witness q doubt calls =
+      let finds = FindsStartWithout old.bank old.plan booking items witness in
+      let a = addition old.bank old.plan finds old.marks new.marks (Some q) (calls_on old new finds (Some q) doubt calls) in
+      record { adds = adds finds (Some q) a; leads = unlisted_leads booking items witness q (Some q) a.added refl a.came }
 
 -- a request that only looks
 module _ {D : Type 0} (now : Running D) where
@@ -244,7 +350,7 @@ module _ {D : Type 0} (now : Running D) where
   exposure_led counts is = record { adds = still; leads = record { asked = refl; is_exposure = is; none = refl; no_fault = none_faulty } }
 
   pub exposure_stopped : (r : Refusal) → r ≡ Memory → Led Exposure now now (reply.Refused r)
-  exposure_stopped r is = subst (λ x. Led Exposure now now (reply.Refused x)) (sym is) (record { adds = still; leads = inr (none_faulty, refl) })
+  exposure_stopped r is = subst (λ x. Led Exposure now now (reply.Refused x)) (sym is) (record { adds = still; leads = inr (inr (none_faulty, refl)) })
 
 pub legal_before : {D : Type 0} (old new : Running D) → IsSameOffice old new → LegalRun new.bank new.plan (history new.marks) → LegalRun old.bank old.plan (history new.marks)
 legal_before old new same run = subst (λ (p : Plan). LegalRun old.bank p (history new.marks)) same.plan (subst (λ (b : Tables). LegalRun b new.plan (history new.marks)) same.bank run)

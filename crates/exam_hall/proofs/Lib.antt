@@ -3,6 +3,7 @@ pub mod Passes
 pub mod Moved
 pub mod Owned
 pub mod Calls
+pub mod Listed
 pub mod Leading
 pub mod Commits
 pub mod Served

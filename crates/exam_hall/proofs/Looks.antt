@@ -3,10 +3,9 @@ use Rattle.std.proofs.Common.{◌≡◌, ℕ, List, [], ◌∷◌, length, refl,
 use Rattle.std.proofs.lemmas.List.{append-nil}
 use Rattle.bank_tables.specs.Tables.{Tables}
 use Rattle.form_model.specs.Plan.{Plan}
-use Rattle.turn_lock.specs.Histories.{places}
 use Rattle.turn_lock.specs.Passes.{Known, TakesTurn}
 use Rattle.history_model.specs.declared.refusal.Refusal.{Refusal}
-use Rattle.history_model.specs.declared.refusal.Refusal.TheVariants.{NoSession, WrongStep, Other, BadResponse, IsClosed, Stale, SessionsFull, JournalFull, Disk, Memory}
+use Rattle.history_model.specs.declared.refusal.Refusal.TheVariants.{NoSession, WrongStep, Other, BadResponse, IsClosed, Stale, OtherList, NoItem, SessionsFull, NoForm, NoneFound, JournalFull, Disk, Memory}
 use Rattle.history_model.specs.Legality.{LegalRun}
 use Rattle.exam_handler.specs.Handling.{IsProbeRefusal}
 use Rattle.exam_handler.specs.declared.health.Health.{Health}
@@ -66,7 +65,11 @@ module _ {D : Type 0} (old new : Running D) where
   not_found (BadResponse k) doubt is = absurd is.finds
   not_found (IsClosed at) doubt is = absurd is.finds
   not_found (Stale at flag) doubt is = absurd is.finds
+  not_found (OtherList session) doubt is = absurd is.finds
+  not_found (NoItem count) doubt is = absurd is.finds
   not_found (SessionsFull count) doubt is = absurd is.finds
+  not_found NoForm doubt is = absurd is.finds
+  not_found NoneFound doubt is = absurd is.finds
 
   pub probed_so : (result : Result Health Refusal) → IsDoubtOf old.marks old.doubt → IsProbed old result new → Probed old new result
   probed_so (Ok found) doubt is = found_so found is
@@ -117,7 +120,11 @@ why_not plan S T (Other k) is = absurd is
 why_not plan S T (BadResponse k) is = absurd is
 why_not plan S T (IsClosed at) is = absurd is
 why_not plan S T (Stale at flag) is = absurd is
+why_not plan S T (OtherList session) is = absurd is
+why_not plan S T (NoItem count) is = absurd is
 why_not plan S T (SessionsFull count) is = absurd is
+why_not plan S T NoForm is = absurd is
+why_not plan S T NoneFound is = absurd is
 
 pub refused_so : (h : HallKnown) (old new : Known Mark) (result : Result Health Refusal) → Probes h old new result → IfErr result IsProbeRefusal
 refused_so h old new (Ok found) p = tt

@@ -1,9 +1,8 @@
 -- What is added between two moments at which a session waits for an item.
-use Rattle.std.proofs.Common.{◌≡◌, ◌≢◌, ◌⊎◌, ℕ, zero, suc, ◌+◌, ◌<◌, ◌==◌, true, cond, List, [], ◌∷◌, ◌++◌, length, refl, sym, ap, ◌∙◌, subst, inl, inr, ⊎_elim, arith, Option, Some, None, filter_map, Contains, slice_get, length-append}
-use Rattle.std.specs.List.{cons_option, list_any}
+use Rattle.std.proofs.Common.{◌≡◌, ◌≢◌, ◌⊎◌, ℕ, zero, suc, ◌+◌, ◌<◌, ◌==◌, cond, List, [], ◌∷◌, ◌++◌, length, refl, sym, ap, ◌∙◌, subst, inl, inr, ⊎_elim, arith, Option, Some, None, filter_map, Contains, slice_get, length-append}
+use Rattle.std.specs.List.{cons_option}
 use Rattle.std.proofs.lemmas.Bool.{eqb-true, cases_Bool}
 use Rattle.std.proofs.lemmas.List.Elements.{filter_map-append}
-use Rattle.std.proofs.lemmas.List.Folds.{list_any-append}
 use Rattle.bank_tables.specs.Tables.{Tables}
 use Rattle.form_model.specs.Plan.{Plan}
 use Rattle.history_model.specs.declared.entry.Entry.{Entry}
@@ -12,7 +11,7 @@ use Rattle.history_model.specs.declared.place.Place.TheVariants.{Pending}
 use Rattle.history_model.specs.Entries.{Serving, StepAnswer, servings, step_answers, is_set_aside, seat_of}
 use Rattle.history_model.specs.Legality.{LegalRun}
 use Rattle.history_model.specs.Places.{place}
-use Rattle.history_model.proofs.SessionEntries.{session_serving, session_answer, sets_session_aside, servings_by, answers_by, aside_by}
+use Rattle.history_model.proofs.SessionEntries.{session_serving, session_answer, servings_by, answers_by}
 use Rattle.history_model.proofs.Standing.{pending}
 use Rattle.history_model.proofs.Running.{all_answered}
 use Rattle.history_model.proofs.Ordered.{in_order}

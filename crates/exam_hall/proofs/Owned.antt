@@ -8,7 +8,7 @@ use Rattle.bank_tables.specs.Tables.{Tables}
 use Rattle.form_model.specs.Plan.{Plan}
 use Rattle.history_model.specs.declared.entry.Entry.{Entry}
 use Rattle.history_model.specs.declared.request.Request.{Request}
-use Rattle.history_model.specs.declared.request.Request.TheVariants.{Begin, Answer, Close, Look, Exposure}
+use Rattle.history_model.specs.declared.request.Request.TheVariants.{Begin, BeginWithout, Answer, Close, Look, Exposure}
 use Rattle.turn_lock.specs.Histories.{places}
 use Rattle.turn_lock.specs.Passes.{Known}
 use Rattle.turn_lock.proofs.Lists.{all_of}
@@ -84,6 +84,7 @@ module _ (b : Tables) (plan : Plan) (base : List ℕ) where
   -- the first entry of a request is no serving
   first_good : (q : Request) (H : List Entry) (e : Entry) → IsFirst q e → IsFirm b plan H e × IsGood b plan base H e
   first_good (Begin booking) H e h = subst (λ x. IsFirm b plan H x × IsGood b plan base H x) (sym h.is) (tt, tt)
+  first_good (BeginWithout booking items) H e h = subst (λ x. IsFirm b plan H x × IsGood b plan base H x) (sym h.1.is) (tt, tt)
   first_good (Answer session step response) H e h = subst (λ x. IsFirm b plan H x × IsGood b plan base H x) (sym h) (tt, tt)
   first_good (Close session) H e h = subst (λ x. IsFirm b plan H x × IsGood b plan base H x) (sym h) (tt, tt)
   first_good (Look session) H e h = absurd h

@@ -4,6 +4,7 @@ use Rattle.certificate_model.specs.Relaxed.{Multipliers}
 use Rattle.std.specs.List.{list_any}
 use Rattle.std.proofs.lemmas.List.{append-nil}
 use Rattle.std.proofs.lemmas.List.Elements.{Contains-append_left}
+use Rattle.bank_tables.specs.Items.{Set, has}
 use Rattle.bank_tables.specs.Tables.{Tables}
 use Rattle.form_model.specs.Plan.{Plan}
 use Rattle.constraint_model.specs.declared.problem.Problem.{Problem}
@@ -12,13 +13,14 @@ use Rattle.history_model.specs.declared.entry.Entry.TheVariants.{Started, SetAsi
 use Rattle.history_model.specs.declared.place.Place.{Place}
 use Rattle.history_model.specs.declared.place.Place.TheVariants.{Pending}
 use Rattle.history_model.specs.declared.refusal.Refusal.{Refusal}
-use Rattle.history_model.specs.declared.refusal.Refusal.TheVariants.{NoSession, WrongStep, Other, BadResponse, IsClosed, Stale, SessionsFull, JournalFull, Disk, Memory}
+use Rattle.history_model.specs.declared.refusal.Refusal.TheVariants.{NoSession, WrongStep, Other, BadResponse, IsClosed, Stale, OtherList, NoItem, SessionsFull, NoForm, NoneFound, JournalFull, Disk, Memory}
 use Rattle.history_model.specs.declared.request.Request.{Request}
-use Rattle.history_model.specs.declared.request.Request.TheVariants.{Begin, Answer, Close, Look, Exposure}
+use Rattle.history_model.specs.declared.request.Request.TheVariants.{Begin, BeginWithout, Answer, Close, Look, Exposure}
 use Rattle.history_model.specs.declared.request.Reply.{Reply}
 use Rattle.history_model.specs.declared.request.Reply.TheVariants as reply
 use Rattle.history_model.specs.Entries.{starts, is_started}
 use Rattle.history_model.specs.Legality.{LegalRun}
+use Rattle.history_model.specs.Lists.{LacksForm}
 use Rattle.history_model.proofs.Standing.{there}
 use Rattle.history_model.proofs.Staying.{holder_stays, still_started}
 use Rattle.turn_lock.specs.Histories.{StartsWith}
@@ -40,6 +42,7 @@ use Rattle.exam_hall.specs.Rounds.{Assembles}
 use Rattle.exam_hall.specs.Turns.{HasBegun}
 use Rattle.exam_hall.proofs.Went.{went_nowhere, taken_both}
 use Rattle.exam_hall.proofs.Calls.{none_faulty, both_faultless}
+use Rattle.exam_hall.proofs.Listed.{listed_later}
 use Rattle.exam_hall.proofs.Moved.{history_append, owns_append}
 use Rattle.exam_hall.proofs.Owned.{firsts_good, both_good}
 use Rattle.exam_hall.proofs.Served.{here, went_here, legal_here, made_here, fails_more}
@@ -62,6 +65,7 @@ one_weaker P Q w xs h = ⊎_elim (λ e. inl e) (λ t. inr (t.0, t.1, w t.0 t.2))
 
 lacks_all : (b : Tables) (plan : Plan) (S : List Mark) (q : Request) (E : List Entry) → LacksFirst b plan S q E → E ≡ []
 lacks_all b plan S (Begin booking) E h = h.0
+lacks_all b plan S (BeginWithout booking items) E h = h.0
 lacks_all b plan S (Answer session step response) E h = h.0
 lacks_all b plan S (Close session) E h = h.0
 lacks_all b plan S (Look session) E h = absurd h
@@ -73,6 +77,7 @@ part_first H q E one = record { first = E; aside = []; serving = []; is = sym (a
 -- ---- what lasts
 answered_later : (H G : List Entry) (q : Request) → IsAnswered H q → IsAnswered (H ++ G) q
 answered_later H G (Begin booking) h = tt
+answered_later H G (BeginWithout booking items) h = tt
 answered_later H G (Answer session step response) h = Contains-append_left H G (Answered session step response) h
 answered_later H G (Close session) h = tt
 answered_later H G (Look session) h = tt
@@ -80,6 +85,7 @@ answered_later H G Exposure h = tt
 
 session_later : (H G : List Entry) (q : Request) (s : ℕ) → IsSessionOf H q s → IsSessionOf (H ++ G) q s
 session_later H G (Begin booking) s h = holder_stays H G booking s h
+session_later H G (BeginWithout booking items) s h = (holder_stays H G booking s h.0, listed_later H G s items h.1)
 session_later H G (Answer session step response) s h = h
 session_later H G (Close session) s h = h
 session_later H G (Look session) s h = h
@@ -88,6 +94,7 @@ session_later H G Exposure s h = h
 -- the session of a request that waits for an item is one that it may serve
 served_for : (H : List Entry) (q : Request) (s k : ℕ) → EndsSession q (Pending k) → IsSessionOf H q s → IsAnswered H q → is_started H s ≡ true → IsServedFor H q s
 served_for H (Begin booking) s k ends h a i = (h, a, i)
+served_for H (BeginWithout booking items) s k ends h a i = (h, a, i)
 served_for H (Answer session step response) s k ends h a i = (h, a, i)
 served_for H (Close session) s k ends h a i = absurd (ends k refl)
 served_for H (Look session) s k ends h a i = (h, a, i)
@@ -95,6 +102,7 @@ served_for H Exposure s k ends h a i = (h, a, i)
 
 no_closing : (q : Request) (k : ℕ) (E : List Entry) → EndsSession q (Pending k) → HasClosed q E
 no_closing (Begin booking) k E ends = tt
+no_closing (BeginWithout booking items) k E ends = tt
 no_closing (Answer session step response) k E ends = tt
 no_closing (Close session) k E ends = absurd (ends k refl)
 no_closing (Look session) k E ends = tt
@@ -151,10 +159,12 @@ module _ (h : HallKnown) (old new : Known Mark) (q : Request) where
       seen_once (reply.Exposure exposure) b.places b.went b.legal (inl x.none) x
   sees_done (reply.Refused r) b =
       let T = taken new.seen b.places in
-      let none : owns T ≡ [] = ⊎_elim (λ x. x.none) (λ x. lacks_all h.bank h.plan new.seen q (owns T) x.1) b.begins.0 in
+      let none : owns T ≡ [] = ⊎_elim (λ x. x.none) (λ y. ⊎_elim (λ x. x.none) (λ x. lacks_all h.bank h.plan new.seen q (owns T) x.1) y) b.begins.0 in
       seen_once (reply.Refused r) b.places b.went b.legal (inl none)
       (⊎_elim (λ x. inl x)
+      (λ y. inr (⊎_elim (λ x. inl x)
       (λ x. inr (fails_more h.bank h.plan (IsFirst q) (IsWanted (history new.seen) q) (λ e k. inl k) new.seen [] T r none_faulty x.0, inl x.1))
+      y))
       b.begins.0)
 
 -- ---- a request whose session waited for an item
@@ -275,10 +285,10 @@ module _ (h : HallKnown) (old mid new : Known Mark) (q : Request) (fresh : Bool)
         part = subst (λ l. IsPartOf H q (owns l)) (sym whole) part;
         good = all_good a.places a.fronts a.went a.good;
         tells = subst (λ l. Tells h.bank h.plan q mid.seen new.seen l a.places (reply.Refused r)) (sym whole)
-            (inr (
+            (inr (inr (
               fails_more h.bank h.plan (IsCommitted P.session) (IsWanted H q) (λ e k. inr (P.session, served_now s, k)) new.seen T U r led.is_at.no_fault a.serves.0,
               inr lacks,
-            ));
+            )));
       }
 
 -- ---- what a reply may be
@@ -289,15 +299,38 @@ fails_refusal b plan K S T (Other k) h = absurd h
 fails_refusal b plan K S T (BadResponse k) h = absurd h
 fails_refusal b plan K S T (IsClosed at) h = absurd h
 fails_refusal b plan K S T (Stale at flag) h = absurd h
+fails_refusal b plan K S T (OtherList session) h = absurd h
+fails_refusal b plan K S T (NoItem count) h = absurd h
 fails_refusal b plan K S T (SessionsFull count) h = absurd h
+fails_refusal b plan K S T NoForm h = absurd h
+fails_refusal b plan K S T NoneFound h = absurd h
 fails_refusal b plan K S T (JournalFull l) h = tt
 fails_refusal b plan K S T Disk h = tt
 fails_refusal b plan K S T Memory h = tt
+
+lacks_refusal : (b : Tables) (plan : Plan) (items : Set) (r : Refusal) → LacksForm b plan items r → IsRefusal r
+lacks_refusal b plan items (NoSession count) h = elim h [ ]
+lacks_refusal b plan items (WrongStep k) h = elim h [ ]
+lacks_refusal b plan items (Other k) h = elim h [ ]
+lacks_refusal b plan items (BadResponse k) h = elim h [ ]
+lacks_refusal b plan items (IsClosed at) h = elim h [ ]
+lacks_refusal b plan items (Stale at flag) h = elim h [ ]
+lacks_refusal b plan items (OtherList session) h = elim h [ ]
+lacks_refusal b plan items (NoItem count) h = elim h [ ]
+lacks_refusal b plan items (SessionsFull count) h = elim h [ ]
+lacks_refusal b plan items NoForm h = tt
+lacks_refusal b plan items NoneFound h = tt
+lacks_refusal b plan items (JournalFull l) h = elim h [ ]
+lacks_refusal b plan items Disk h = elim h [ ]
+lacks_refusal b plan items Memory h = elim h [ ]
 
 pub reply_is : (h : HallKnown) (old new : Known Mark) (q : Request) (answer : Reply) → Sees h old new q answer → IsReply answer
 reply_is h old new q (reply.At session at fresh) s = tt
 reply_is h old new q (reply.Exposure exposure) s = tt
 reply_is h old new q (reply.Refused r) s = ⊎_elim
     (λ x. refused_so h.bank h.plan (history new.seen) q r x.test)
+    (λ y. ⊎_elim
+    (λ x. lacks_refusal h.bank h.plan (has x.items) r x.lacks)
     (λ x. fails_refusal h.bank h.plan (IsWanted (history new.seen) q) new.seen (taken new.seen (s.early ++ s.later)) r x.0)
+    y)
     s.tells

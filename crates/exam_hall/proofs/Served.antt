@@ -18,7 +18,7 @@ use Rattle.history_model.specs.declared.entry.Entry.{Entry}
 use Rattle.history_model.specs.declared.place.Place.{Place}
 use Rattle.history_model.specs.declared.place.Place.TheVariants.{Pending}
 use Rattle.history_model.specs.declared.refusal.Refusal.{Refusal}
-use Rattle.history_model.specs.declared.refusal.Refusal.TheVariants.{NoSession, WrongStep, Other, BadResponse, IsClosed, Stale, SessionsFull, JournalFull, Disk, Memory}
+use Rattle.history_model.specs.declared.refusal.Refusal.TheVariants.{NoSession, WrongStep, Other, BadResponse, IsClosed, Stale, OtherList, NoItem, SessionsFull, NoForm, NoneFound, JournalFull, Disk, Memory}
 use Rattle.history_model.specs.Legality.{LegalRun}
 use Rattle.history_model.specs.Places.{place}
 use Rattle.turn_lock.specs.Histories.{StartsWith, places}
@@ -124,7 +124,11 @@ fails_more b plan K L w S A T (Other k) n h = absurd h
 fails_more b plan K L w S A T (BadResponse k) n h = absurd h
 fails_more b plan K L w S A T (IsClosed at) n h = absurd h
 fails_more b plan K L w S A T (Stale at flag) n h = absurd h
+fails_more b plan K L w S A T (OtherList session) n h = absurd h
+fails_more b plan K L w S A T (NoItem count) n h = absurd h
 fails_more b plan K L w S A T (SessionsFull count) n h = absurd h
+fails_more b plan K L w S A T NoForm n h = absurd h
+fails_more b plan K L w S A T NoneFound n h = absurd h
 fails_more b plan K L w S A T (JournalFull l) n h = ((h.0.0, w h.0.0 h.0.1, h.0.2), both_faultless A T n h.1)
 fails_more b plan K L w S A T Disk n h = record {
   front = h.front;

@@ -1,5 +1,5 @@
 -- From what a call does to an office to what a turn does to its history.
-use Rattle.std.proofs.Common.{◌≡◌, ℕ, Bool, List, ◌++◌, refl, sym, ap, ◌∙◌, subst, arith, Option, Some, IfSome}
+use Rattle.std.proofs.Common.{◌≡◌, ℕ, Bool, List, ◌++◌, refl, sym, ap, ◌∙◌, subst, arith, Option, Some, IfSome, Result}
 use Rattle.certificate_model.specs.Relaxed.{Multipliers}
 use Rattle.exam_office.specs.Warm.{FitsPlan}
 use Rattle.std.proofs.lemmas.List.{map-append}
@@ -12,6 +12,7 @@ use Rattle.constraint_model.specs.Views.{problem_of}
 use Rattle.history_model.specs.declared.entry.Entry.{Entry}
 use Rattle.history_model.specs.declared.place.Place.{Place}
 use Rattle.history_model.specs.declared.place.Place.TheVariants.{Pending}
+use Rattle.history_model.specs.declared.refusal.Refusal.{Refusal}
 use Rattle.history_model.specs.declared.request.Request.{Request}
 use Rattle.history_model.specs.declared.request.Reply.{Reply}
 use Rattle.history_model.specs.declared.request.Reply.TheVariants as reply
@@ -28,7 +29,7 @@ use Rattle.exam_office.specs.Running.{HandedDisk, Running}
 use Rattle.exam_hall.specs.declared.asking.FirstAnswer.{FirstAnswer}
 use Rattle.exam_hall.specs.declared.asking.FirstAnswer.TheVariants.{Done, Waits}
 use Rattle.exam_hall.specs.declared.committing.Round.{Round}
-use Rattle.exam_hall.specs.Leading.{Leads, IsLed, IsNoWait, IsBegun, GoesOn, BeginsRequest}
+use Rattle.exam_hall.specs.Leading.{IsWitnessFor, IsSought, Leads, IsLed, IsNoWait, IsBegun, GoesOn, BeginsRequest}
 use Rattle.exam_hall.specs.Rounds.{IsGoodFor, IsCommittable, EndsRound, EndsGood, Commits}
 use Rattle.exam_hall.specs.Turns.{Adds, Led, Ended, IsBegunAt, IsPlacedReply}
 use Rattle.exam_hall.proofs.Leading.{legal_before}
@@ -96,6 +97,10 @@ first_made old new q answer begun led run h =
     let there : IsBegunAt old.bank old.plan (history new.marks) answer begun =
     subst (λ (p : Plan). IsBegunAt old.bank p (history new.marks) answer begun) led.adds.same.plan (subst (λ (b : Tables). IsBegunAt b new.plan (history new.marks) answer begun) led.adds.same.bank h) in
     goes_on old new led.adds (λ office S T. IsBegun office.bank office.plan q S T begun) run (begun_so old.bank old.plan q new.marks led.adds.added begun answer led.leads there)
+
+-- what was sought is a witness for the office of the turn
+pub sought_now : {D : Type 0} (office : Running D) (q : Request) (found : Result (List ℕ) Refusal) → IsSought (noted (opened_with office) office.marks) q found → IsWitnessFor office.bank office.plan q found
+sought_now office q found h = subst (λ (x : OpenedWith). IsWitnessFor x.bank x.plan q found) (noted_with (opened_with office) office.marks h.one h.there) h.is_witness
 
 -- ---- the turn of a commit
 pub committable_now : {D : Type 0} (office : Running D) (made : Assembly) → IsCommittable (noted (opened_with office) office.marks) made → MayBeCommitted office.bank office.plan office.base (history office.marks) made

@@ -1,6 +1,7 @@
 -- What the first turn of a request does.
-use Rattle.std.specs.Prelude.{◌≡◌, ◌⊎◌, ⊤, ℕ, Bool, List, ◌++◌, IfSome}
+use Rattle.std.specs.Prelude.{◌≡◌, ◌⊎◌, ⊤, ℕ, Bool, List, ◌++◌, Contains, IfSome, Result}
 use Rattle.exam_office.specs.Warm.{FitsPlan}
+use Rattle.bank_tables.specs.Items.{has}
 use Rattle.bank_tables.specs.Tables.{Tables}
 use Rattle.form_model.specs.Plan.{Plan}
 use Rattle.form_model.specs.Validity.{IsWellMade}
@@ -9,16 +10,19 @@ use Rattle.constraint_model.specs.Views.{problem_of}
 use Rattle.history_model.specs.declared.entry.Entry.{Entry}
 use Rattle.history_model.specs.declared.place.Place.{Place}
 use Rattle.history_model.specs.declared.place.Place.TheVariants.{Pending}
+use Rattle.history_model.specs.declared.refusal.Refusal.{Refusal}
 use Rattle.history_model.specs.declared.request.Request.{Request}
 use Rattle.history_model.specs.declared.request.Request.TheVariants as request
 use Rattle.history_model.specs.declared.request.Reply.{Reply}
 use Rattle.history_model.specs.declared.request.Reply.TheVariants as reply
 use Rattle.history_model.specs.Legality.{LegalRun}
+use Rattle.history_model.specs.Lists.{IsListFor}
 use Rattle.history_model.specs.SessionProblems.{IsProblemOf}
 use Rattle.exam_office.specs.declared.mark.Mark.{Mark}
+use Rattle.exam_office.specs.Calls.{IsWitness}
 use Rattle.exam_office.specs.Marks.{history}
 use Rattle.exam_office.specs.Noting.{OpenedWith, NotedMark, noted, marks_of}
-use Rattle.exam_hall.specs.Parts.{owns, AtMostOne, IsFirst, LacksFirst, IsRefusedBy, Fails}
+use Rattle.exam_hall.specs.Parts.{owns, AtMostOne, IsFirst, LacksFirst, IsRefusedBy, IsNotBegunBy, Fails}
 use Rattle.exam_hall.specs.Sees.{IsAt, IsExposed}
 use Rattle.exam_hall.specs.declared.asking.FirstAnswer.{FirstAnswer}
 use Rattle.exam_hall.specs.declared.asking.FirstAnswer.TheVariants.{Done, Waits}
@@ -27,6 +31,20 @@ use Rattle.exam_hall.specs.declared.asking.FirstAnswer.TheVariants.{Done, Waits}
 pub record IsAsked (b : Tables) (plan : Plan) (H : List Entry) (P : Problem) : Type 0 where
   pub is_problem : IsProblemOf b plan H P.session P.step (problem_of P)
   pub well_made : IsWellMade (problem_of P)
+
+-- what the search for a form without the items of the request's list found; a request that has no
+-- list of items of the bank needs none
+abbrev pub IsWitnessFor : Tables → Plan → Request → Result (List ℕ) Refusal → Type 0
+IsWitnessFor b plan (request.BeginWithout booking items) found =
+    IsListFor b (has items) → IsWitness b plan items found
+IsWitnessFor b plan q found = ⊤
+
+-- it was sought for the bank and the plan that the office was opened with
+pub record IsSought (seen : List NotedMark) (q : Request)
+    (found : Result (List ℕ) Refusal) : Type 0 where
+  pub one : NotedMark
+  pub there : Contains seen one
+  pub is_witness : IsWitnessFor one.office.bank one.office.plan q found
 
 -- a session that was closed doesn't wait for an item
 abbrev pub EndsSession : Request → Place → Type 0
@@ -41,13 +59,14 @@ pub record IsLed (plan : Plan) (q : Request) (S T : List Mark) (session : ℕ) (
   pub one : AtMostOne (IsFirst q) (owns T)
   pub ends : EndsSession q at
 
--- the first entry of a request was added, or its answer was there; or it was refused; or the entry
--- could not be added
+-- the first entry of a request was added, or its answer was there; or it was refused; or no form
+-- without the items of its list is known; or the entry could not be added
 abbrev pub Leads : Tables → Plan → Request → List Mark → List Mark → Reply → Type 0
 Leads b plan q S T (reply.At session at fresh) = IsLed plan q S T session at fresh
 Leads b plan q S T (reply.Exposure exposure) = IsExposed b plan q S T exposure
 Leads b plan q S T (reply.Refused r) =
-    IsRefusedBy b plan q S T r ⊎ (Fails b plan (IsFirst q) S T r × LacksFirst b plan S q (owns T))
+    IsRefusedBy b plan q S T r ⊎ (IsNotBegunBy b plan q S T r
+    ⊎ (Fails b plan (IsFirst q) S T r × LacksFirst b plan S q (owns T)))
 
 -- the reply is not that a session waits for an item
 abbrev pub IsNoWait : Reply → Type 0

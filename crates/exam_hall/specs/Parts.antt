@@ -1,6 +1,7 @@
 -- The parts of what a request does on a shared hall.
-use Rattle.std.specs.Prelude.{◌≡◌, ◌≢◌, ◌⊎◌, ⊤, ℕ, ◌≤◌, List, [], ◌∷◌, ◌++◌, length, slice_get, All, Contains, Option, Some, None, IsTrue}
+use Rattle.std.specs.Prelude.{◌≡◌, ◌≢◌, ◌⊎◌, ⊤, ℕ, ◌≤◌, List, [], ◌∷◌, ◌++◌, length, slice_get, All, Contains, Option, Some, None, Result, IsTrue}
 use Rattle.std.specs.List.{filter_map}
+use Rattle.bank_tables.specs.Items.{has}
 use Rattle.bank_tables.specs.Tables.{Tables}
 use Rattle.form_model.specs.Plan.{Plan}
 use Rattle.history_model.specs.declared.entry.Entry.{Entry}
@@ -9,14 +10,15 @@ use Rattle.history_model.specs.declared.place.Place.TheVariants.{Pending}
 use Rattle.history_model.specs.declared.refusal.Refusal.{Refusal}
 use Rattle.history_model.specs.declared.refusal.Refusal.TheVariants.{JournalFull, Disk, Memory}
 use Rattle.history_model.specs.declared.request.Request.{Request}
-use Rattle.history_model.specs.declared.request.Request.TheVariants.{Begin, Answer, Close, Look, Exposure}
-use Rattle.history_model.specs.Entries.{holder, is_started}
+use Rattle.history_model.specs.declared.request.Request.TheVariants.{Begin, BeginWithout, Answer, Close, Look, Exposure}
+use Rattle.history_model.specs.Entries.{holder, list_of, is_started}
 use Rattle.history_model.specs.Legality.{Legal}
+use Rattle.history_model.specs.Lists.{LacksForm}
 use Rattle.history_model.specs.Places.{place}
-use Rattle.history_model.specs.Refusals.{refusal_of}
+use Rattle.history_model.specs.Refusals.{has_list, refusal_of}
 use Rattle.exam_office.specs.declared.mark.Mark.{Mark}
 use Rattle.exam_office.specs.declared.mark.Mark.TheVariants.{Own, Fault}
-use Rattle.exam_office.specs.Calls.{IsTooLong, IsStartFor}
+use Rattle.exam_office.specs.Calls.{IsTooLong, IsStartFor, IsStartWithout}
 use Rattle.exam_office.specs.Marks.{entry_of, history}
 use Rattle.exam_office.specs.Noting.{EndsInFault}
 
@@ -39,6 +41,8 @@ AtMostOne {A} P xs = (xs ≡ []) ⊎ ((x : A) × (xs ≡ x ∷ []) × P x)
 -- the entry that a request may add first
 abbrev pub IsFirst : Request → Entry → Type 0
 IsFirst (Begin booking) e = IsStartFor booking e
+IsFirst (BeginWithout booking items) e =
+    (witness : Result (List ℕ) Refusal) × IsStartWithout booking items witness e
 IsFirst (Answer session step response) e = e ≡ Answered session step response
 IsFirst (Close session) e = e ≡ Closed session
 IsFirst (Look session) e = ⊥
@@ -57,9 +61,12 @@ abbrev pub IsAnswer : ℕ → Entry → Type 0
 IsAnswer s (Answered session step response) = session ≡ s
 IsAnswer s e = ⊥
 
--- the session of a request, after the history H: for a booking, the one that the booking has
+-- the session of a request, after the history H: for a booking, the one that the booking has; for a
+-- booking with a list, that one, and it was started with this list
 abbrev pub IsSessionOf : List Entry → Request → ℕ → Type 0
 IsSessionOf H (Begin booking) s = holder H booking ≡ Some s
+IsSessionOf H (BeginWithout booking items) s =
+    (holder H booking ≡ Some s) × IsTrue (has_list items (list_of H s))
 IsSessionOf H (Answer session step response) s = s ≡ session
 IsSessionOf H (Close session) s = s ≡ session
 IsSessionOf H (Look session) s = s ≡ session
@@ -92,9 +99,18 @@ pub record IsPartOf (H : List Entry) (q : Request) (E : List Entry) : Type 0 whe
 abbrev pub IsAfterFault : List Mark → Type 0
 IsAfterFault S = (e : Entry) × EndsInFault S e
 
+-- the booking has no session, and nothing refuses one with this list
+pub record IsUnbooked (b : Tables) (plan : Plan) (H : List Entry) (booking : ℕ)
+    (items : List ℕ) : Type 0 where
+  pub unrefused : refusal_of b plan H (BeginWithout booking items) ≡ None
+  pub no_session : holder H booking ≡ None
+
 -- nothing was added, and the first entry of the request may follow, or the history was not tested;
--- or counts were asked for
+-- or counts were asked for. A booking with a list has no session: there may have been no memory to
+-- look for a form without the items
 abbrev pub LacksFirst : Tables → Plan → List Mark → Request → List Entry → Type 0
+LacksFirst b plan S (BeginWithout booking items) E =
+    (E ≡ []) × (IsAfterFault S ⊎ IsUnbooked b plan (history S) booking items)
 LacksFirst b plan S (Look session) E = ⊥
 LacksFirst b plan S Exposure E = E ≡ []
 LacksFirst b plan S q E =
@@ -152,6 +168,18 @@ MovedOn s F S own = HasOther (IsServing s) F S own × HasOther (IsAnswer s) F S 
 pub record IsRefusedBy (b : Tables) (plan : Plan) (q : Request) (S T : List Mark)
     (r : Refusal) : Type 0 where
   pub test : refusal_of b plan (history S) q ≡ Some r
+  pub none : owns T ≡ []
+  pub no_fault : NoFault T
+
+-- no form without the items of its list is known, so that no session starts for its booking, which
+-- has none; nothing was added
+pub record IsNotBegunBy (b : Tables) (plan : Plan) (q : Request) (S T : List Mark)
+    (r : Refusal) : Type 0 where
+  pub booking : ℕ
+  pub items : List ℕ
+  pub asked : q ≡ BeginWithout booking items
+  pub unbooked : IsUnbooked b plan (history S) booking items
+  pub lacks : LacksForm b plan (has items) r
   pub none : owns T ≡ []
   pub no_fault : NoFault T
 

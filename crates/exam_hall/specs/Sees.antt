@@ -22,7 +22,7 @@ use Rattle.exam_office.specs.Marks.{history}
 use Rattle.exam_hall.specs.Known.{HallKnown}
 use Rattle.exam_hall.specs.Went.{Went, taken}
 use Rattle.exam_hall.specs.Good.{AreGoodAt}
-use Rattle.exam_hall.specs.Parts.{owns, NoFault, IsSessionOf, IsAnswered, IsPartOf, IsUnfinished, IsWanted, IsRefusedBy, Fails, MovedOn}
+use Rattle.exam_hall.specs.Parts.{owns, NoFault, IsSessionOf, IsAnswered, IsPartOf, IsUnfinished, IsWanted, IsRefusedBy, IsNotBegunBy, Fails, MovedOn}
 
 -- a closing added its entry
 abbrev pub HasClosed : Request → List Entry → Type 0
@@ -57,8 +57,8 @@ Tells b plan q F S T later (reply.At session at fresh) =
     IsAt plan q S T session at fresh × ((step : ℕ) → at ≡ Pending step → MovedOn session F S later)
 Tells b plan q F S T later (reply.Exposure exposure) = IsExposed b plan q S T exposure
 Tells b plan q F S T later (reply.Refused r) =
-    IsRefusedBy b plan q S T r ⊎ (Fails b plan (IsWanted (history S) q) S T r
-    × IsUnfinished b plan F S q (owns T))
+    IsRefusedBy b plan q S T r ⊎ (IsNotBegunBy b plan q S T r
+    ⊎ (Fails b plan (IsWanted (history S) q) S T r × IsUnfinished b plan F S q (owns T)))
 
 -- the call made one turn, after which its pass was `mid`, and at most two more; `early` and `later`
 -- are the places of the marks that it added, whose servings are good. The whole history is a legal

@@ -1,13 +1,18 @@
 //! The first turn of a request.
 
 ghost use Rattle.std.specs.Prelude.{◌≡◌, false, IfSome};
-ghost use Rattle.history_model.specs.declared.request.Request.TheVariants.{Begin, Answer, Close, Look, Exposure};
-ghost use Rattle.exam_hall.specs.Leading.{BeginsRequest};
+ghost use Rattle.history_model.specs.declared.request.Request.TheVariants.{Begin, BeginWithout, Answer, Close, Look, Exposure};
+ghost use Rattle.bank_tables.specs.Items.{has};
+ghost use Rattle.history_model.specs.Lists.{IsListFor};
+ghost use Rattle.exam_office.specs.Calls.{IsWitness};
+ghost use Rattle.exam_hall.specs.Lasting.{sought_later};
+ghost use Rattle.exam_hall.specs.Leading.{IsWitnessFor, IsSought, BeginsRequest};
 ghost use Rattle.exam_hall.specs.Turns.{IsBegunAt, IsPlacedReply, Led};
 ghost use Rattle.exam_office.specs.Asking.{reply_of};
 ghost use Rattle.exam_office.specs.Marks.{history};
 ghost use Rattle.exam_office.specs.Warm.{FitsPlan};
 
+use bank_tables::ItemSet;
 use constraint_model::Problem;
 use exam_edge::Disk;
 use exam_office::{Office, Place, Refusal, Reply, Request};
@@ -34,6 +39,9 @@ pub enum FirstAnswer<'a> {
 pub(crate) struct First {
     pub(crate) alloc: Global,
     pub(crate) request: Request,
+    /// What the search for a form without the items of the request's list found. A request without
+    /// a list doesn't read it.
+    pub(crate) witness: Result<ItemSet, Refusal>,
 }
 
 /// The reply of a place or a refusal.
@@ -55,6 +63,33 @@ fn begin<'a, D: Disk>(office: &mut Office<'a, D>, alloc: Global, booking: u64) -
 {
     office.keeps();
     let begun = office.begin(alloc, booking);
+    match begun {
+        Ok(begun) => match office.look(begun.session) {
+            Ok(place) => Reply::At {
+                session: begun.session,
+                place,
+                fresh: begun.fresh,
+            },
+            Err(_) => unreachable!(),
+        },
+        Err(refusal) => Reply::Refused(refusal),
+    }
+}
+
+fn begin_without<'a, D: Disk>(
+    office: &mut Office<'a, D>,
+    alloc: Global,
+    booking: u64,
+    items: &ItemSet,
+    witness: Result<ItemSet, Refusal>,
+) -> Reply
+    requires { IsListFor office.old.bank (has items.now)
+        → IsWitness office.old.bank office.old.plan items.now witness }
+    ensures { Led (BeginWithout booking items.now) office.old office.new result }
+{
+    office.keeps();
+    let begun = office.begin_without(alloc, booking, items, witness);
+    office.keeps();
     match begun {
         Ok(begun) => match office.look(begun.session) {
             Ok(place) => Reply::At {
@@ -106,11 +141,20 @@ fn exposure<'a, D: Disk>(office: &Office<'a, D>, alloc: Global) -> Reply
     }
 }
 
-fn lead<'a, D: Disk>(office: &mut Office<'a, D>, alloc: Global, request: &Request) -> Reply
+fn lead<'a, D: Disk>(
+    office: &mut Office<'a, D>,
+    alloc: Global,
+    request: &Request,
+    witness: Result<ItemSet, Refusal>,
+) -> Reply
+    requires { IsWitnessFor office.old.bank office.old.plan request.now witness }
     ensures { Led request.now office.old office.new result }
 {
     match request {
         Request::Begin(booking) => begin(office, alloc, *booking),
+        Request::BeginWithout { booking, items } => {
+            begin_without(office, alloc, *booking, items, witness)
+        }
         Request::Answer {
             session,
             step,
@@ -166,15 +210,15 @@ fn begun_by<'a, D: Disk>(office: &Office<'a, D>, alloc: Global, reply: Reply) ->
 impl<'a, D: Disk> TurnMove<Office<'a, D>> for First {
     type Answer = FirstAnswer<'a>;
 
-    ghost needs = { λ _ _. Unit {0} };
+    ghost needs = { λ m seen. IsSought seen m.request m.witness };
 
     ghost makes = { λ m before after _ begun. BeginsRequest m.request before after begun };
 
     fn make(&mut self, value: &mut Office<'a, D>) -> FirstAnswer<'a> {
-        let reply = lead(value, self.alloc, &self.request);
+        let reply = lead(value, self.alloc, &self.request, self.witness);
         value.keeps();
         begun_by(value, self.alloc, reply)
     }
 
-    ghost lasts = { λ _ _ _ h. h };
+    ghost lasts = { λ m seen rest h. sought_later m.request m.witness seen rest h };
 }

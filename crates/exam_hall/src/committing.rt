@@ -15,7 +15,7 @@ use exam_office::{Office, Place, Refusal};
 use std::alloc::Global;
 use turn_lock::Move as TurnMove;
 
-/// What one assembly with its commit came to.
+/// What one assembly with its commit did.
 #[derive(Clone, Copy)]
 pub enum Round<'a> {
     /// The session is at this place.

@@ -2,6 +2,7 @@
 
 ghost use Rattle.std.specs.Prelude.{◌≡◌, ◌<◌, ◌+◌, List, IfOk, IfErr, IfSome};
 ghost use Rattle.std.specs.Option.{option_copied};
+ghost use Rattle.bank_tables.specs.Items.{has};
 ghost use Rattle.form_model.specs.Validity.{IsWellMade};
 ghost use Rattle.certificate_model.specs.Verdicts.{NamesOnlySides};
 ghost use Rattle.constraint_model.specs.Views.{problem_of};
@@ -9,14 +10,16 @@ ghost use Rattle.turn_lock.specs.Histories.{StartsWith};
 ghost use Rattle.turn_lock.specs.Passes.{TakesIn, new_pass};
 ghost use Rattle.history_model.specs.declared.entry.Entry.{Entry};
 ghost use Rattle.history_model.specs.Legality.{LegalRun};
+ghost use Rattle.history_model.specs.Lists.{IsListFor};
 ghost use Rattle.history_model.specs.SessionProblems.{IsProblemOf};
+ghost use Rattle.exam_office.specs.Calls.{IsWitness};
 ghost use Rattle.exam_office.specs.Commits.{MayBeCommitted};
 ghost use Rattle.exam_handler.specs.Handling.{IsProbeRefusal, IsReply};
 ghost use Rattle.exam_office.specs.Marks.{history};
 ghost use Rattle.exam_office.specs.Noting.{noted, marks_of, opened_with};
 ghost use Rattle.exam_office.specs.Serving.{IsAssembledFor};
 ghost use Rattle.exam_office.specs.Warm.{FitsPlan};
-ghost use Rattle.exam_hall.specs.Leading.{IsAsked};
+ghost use Rattle.exam_hall.specs.Leading.{IsAsked, IsWitnessFor};
 ghost use Rattle.exam_hall.specs.Known.{IsOf, IsOfficeOf, marked};
 ghost use Rattle.exam_hall.specs.Rounds.{IsGoodFor, Rounds, Assembles};
 ghost use Rattle.exam_hall.specs.Probes.{Probes, Watches};
@@ -31,7 +34,7 @@ use branch_bound::{Assembled, assemble_from};
 use constraint_model::{Problem, Spec};
 use exam_edge::{Disk, Gate, Memory, Point};
 use exam_handler::Health;
-use exam_office::{Office, Place, Refusal, Reply, Request};
+use exam_office::{Office, Place, Refusal, Reply, Request, needs_search, search_witness};
 use proof_tree::Vector;
 use std::alloc::Global;
 use std::marker::Model;
@@ -50,6 +53,7 @@ pub struct Hall<'a, D: Disk> {
 impl<'a, D: Disk> Model for Hall<'a, D> {
     ghost use Rattle.bank_tables.specs.Items.{has};
     ghost use Rattle.form_model.specs.Forms.{Meets};
+    ghost use Rattle.form_model.specs.Validity.{IsPlanFor};
     ghost use Rattle.exam_hall.specs.Known.{HallKnown};
 
     ghost Value = { HallKnown };
@@ -61,7 +65,8 @@ impl<'a, D: Disk> Model for Hall<'a, D> {
       base = h.base;
     } };
 
-    ghost invariant = { λ h. Meets h.bank.now h.spec.now (has h.base) };
+    ghost invariant = { λ h. Meets h.bank.now h.spec.now (has h.base)
+        × IsPlanFor h.bank.now h.spec.now };
 }
 
 impl<'a, D: Disk> Hall<'a, D> {
@@ -138,7 +143,9 @@ impl<'a, D: Disk> Hall<'a, D> {
 
     /// Answers a request, in one turn, and two more at most. Where its session waits for an item, a form is assembled
     /// between two turns, and the gate is passed before and after that. If the session moved on meanwhile, its place
-    /// is the reply; if it still waits at the same step, there is one assembly more. It waits for its turns.
+    /// is the reply; if it still waits at the same step, there is one assembly more. Before the first turn of a
+    /// request with a list, a form without the items of the list is assembled where the base has one of them; the gate
+    /// is passed before and after that too. It waits for its turns.
     pub fn handle<G: Gate, R: Wait>(
         &self,
         rt: &R,
@@ -152,7 +159,8 @@ impl<'a, D: Disk> Hall<'a, D> {
         ensures of { IsOf pass.new self.now }
         ensures reply { IsReply result }
     {
-        match self.begin(rt, alloc, pass, request) {
+        let witness = self.seek(alloc, gate, pass.number(), request);
+        match self.begin(rt, alloc, pass, request, witness) {
             FirstAnswer::Done(reply) => reply,
             FirstAnswer::Waits {
                 fresh,
@@ -193,6 +201,46 @@ impl<'a, D: Disk> Hall<'a, D> {
         self.turn.turn(rt, pass, &mut Watch)
     }
 
+    /// A form without the items of a request's list, or why none is known. A request without a list
+    /// needs none, and gets the base.
+    fn seek<G: Gate>(
+        &self,
+        alloc: Global,
+        gate: &G,
+        caller: u32,
+        request: &Request,
+    ) -> Result<ItemSet, Refusal>
+        ensures { IsWitnessFor self.now.bank self.now.plan request.now result }
+    {
+        match request {
+            Request::BeginWithout { booking: _, items } => {
+                self.seek_without(alloc, gate, caller, items)
+            }
+            _ => Ok(self.base),
+        }
+    }
+
+    /// A form without these items, or why none is known: the base, if it has none of them, else what
+    /// an assembly gives. The gate is passed before and after an assembly.
+    fn seek_without<G: Gate>(
+        &self,
+        alloc: Global,
+        gate: &G,
+        caller: u32,
+        items: &ItemSet,
+    ) -> Result<ItemSet, Refusal>
+        ensures { IsListFor self.now.bank (has items.now)
+            → IsWitness self.now.bank self.now.plan items.now result }
+    {
+        if !needs_search(self.bank, self.spec, &self.base, items) {
+            return Ok(self.base);
+        }
+        gate.pass(Point::BeforeAssembly, caller);
+        let found = search_witness(alloc, self.bank, self.spec, items);
+        gate.pass(Point::AfterAssembly, caller);
+        found
+    }
+
     /// The first turn of a request.
     fn begin<R: Wait>(
         &self,
@@ -200,14 +248,17 @@ impl<'a, D: Disk> Hall<'a, D> {
         alloc: Global,
         pass: &mut Pass<Office<'a, D>>,
         request: &Request,
+        witness: Result<ItemSet, Refusal>,
     ) -> FirstAnswer<'a>
         requires of { IsOf pass.old self.now }
+        requires witness { IsWitnessFor self.now.bank self.now.plan request.now witness }
         ensures of { IsOf pass.new self.now }
         ensures begun { HasBegun self.now (marked pass.old) (marked pass.new) request.now result }
     {
         let mut first = First {
             alloc,
             request: *request,
+            witness,
         };
         self.turn.turn(rt, pass, &mut first)
     }

@@ -3,7 +3,7 @@ use Rattle.std.specs.Prelude.{⊤}
 use Rattle.history_model.specs.declared.place.Place.{Place}
 use Rattle.history_model.specs.declared.place.Place.TheVariants.{Pending, Waiting, Complete, Closed}
 use Rattle.history_model.specs.declared.refusal.Refusal.{Refusal}
-use Rattle.history_model.specs.declared.refusal.Refusal.TheVariants.{NoSession, WrongStep, Other, BadResponse, IsClosed, Stale, SessionsFull, JournalFull, Disk, Memory}
+use Rattle.history_model.specs.declared.refusal.Refusal.TheVariants.{NoSession, WrongStep, Other, BadResponse, IsClosed, Stale, OtherList, NoItem, SessionsFull, NoForm, NoneFound, JournalFull, Disk, Memory}
 use Rattle.history_model.specs.declared.request.Reply.{Reply}
 use Rattle.history_model.specs.declared.request.Reply.TheVariants.{At, Exposure, Refused}
 
@@ -22,7 +22,11 @@ IsRefusal (Other response) = ⊤
 IsRefusal (BadResponse categories) = ⊤
 IsRefusal (IsClosed place) = IsEnd place
 IsRefusal (Stale place aside) = ⊥
+IsRefusal (OtherList session) = ⊤
+IsRefusal (NoItem count) = ⊤
 IsRefusal (SessionsFull count) = ⊤
+IsRefusal NoForm = ⊤
+IsRefusal NoneFound = ⊤
 IsRefusal (JournalFull length) = ⊤
 IsRefusal Disk = ⊤
 IsRefusal Memory = ⊤

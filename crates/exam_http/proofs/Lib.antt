@@ -1,3 +1,4 @@
+pub mod ListLaws
 pub mod Bodies
 pub mod Names
 pub mod RoutePaths

@@ -1,7 +1,7 @@
 -- Who may ask, and texts that are compared byte by byte.
 use Rattle.std.proofs.Common.{◌≡◌, ◌≢◌, ℕ, ◌+◌, ◌<◌, ◌≤◌, Bool, true, false, List, [], ◌∷◌, ◌++◌, length, get_or, take, Option, Some, None, refl, sym, ap, subst, ◌∙◌, arith, inl, inr, ◌⊎◌, ◌==◌}
 use Rattle.std.specs.Prelude.{Result, Ok, Err, ◌||◌, bytes_eq, codes, option_and_then}
-use Rattle.std.specs.Int.Bits.{bit_or, bit_xor, bit_and, xor_self, xor_add_and, or_zero_r}
+use Rattle.std.specs.Int.Bits.{bit_or, bit_xor, xor_self, xor_add_and, or_zero_r}
 use Rattle.std.proofs.Math.Seq.{take-length}
 use Rattle.std.proofs.lemmas.Nat.{le_or_l, le_or_r, and_le_l, and_le_r}
 use Rattle.std.proofs.lemmas.List.{take_more, take-take, get_or-take}
@@ -15,10 +15,10 @@ use Rattle.wire_http.specs.declared.message.Message.{Message}
 use Rattle.exam_http.specs.declared.asked.Asked.{Asked}
 use Rattle.exam_http.specs.declared.asked.Asked.TheVariants as ask
 use Rattle.exam_http.specs.declared.message_fault.MessageFault.{MessageFault}
-use Rattle.exam_http.specs.declared.message_fault.MessageFault.TheVariants.{NoRoute, NoMethod, BadJson, BadBody, Unauthorized}
+use Rattle.exam_http.specs.declared.message_fault.MessageFault.TheVariants.{NoMethod, BadJson, BadBody, Unauthorized}
 use Rattle.exam_http.specs.declared.route.Route.{Route}
 use Rattle.exam_http.specs.declared.route.Route.TheVariants.{Sessions, Session, Answers, Close, Exposure, Health}
-use Rattle.exam_http.specs.Asks.{Asks, AsksIf, AsksBy, AsksOn, begin_of, answer_of, number_member, up_to}
+use Rattle.exam_http.specs.Asks.{Asks, AsksIf, AsksBy, AsksOn, IfJson, IsSaidBy, BeginOf, no_booking, no_list, begin, answer_of, number_member, numbers_of, up_to}
 use Rattle.exam_http.specs.Paths.{method_of}
 use Rattle.exam_http.specs.Tokens.{bears, is_for_all}
 
@@ -125,16 +125,34 @@ something r e = absurd cc
 two_faults : (asked : Result Asked MessageFault) → asked ≡ Err Unauthorized → asked ≡ Err NoMethod → ⊥
 two_faults asked a b = absurd cc
 
-not_of_begin : (d : Data) → begin_of d ≢ Err Unauthorized
-unfolding begin_of
-not_of_begin d = not_of_member d (codes "booking") 18446744073709551615 _ (λ k. something (ask.Request (request.Begin k)))
+other_fault : {A : Type 0} (o : Option A) (fault : MessageFault) → or_fault o BadBody ≡ Err fault → fault ≢ Unauthorized
+other_fault None fault e f = absurd cc
+other_fault (Some x) fault e f = absurd cc
+
+abbrev asks_nothing : MessageFault → Result Asked MessageFault
+asks_nothing f = Err f
+
+same_fault : (f g : MessageFault) → asks_nothing f ≡ asks_nothing g → f ≡ g
+same_fault f g e = cc
+
+not_of_begin : (d : Data) (asked : Result Asked MessageFault) → BeginOf d asked → asked ≢ Err Unauthorized
+not_of_begin d _ (no_booking fault none) e = other_fault (up_to 18446744073709551615 (option_and_then as_u64 (option_and_then as_number (get (codes "booking") d)))) fault none (same_fault fault Unauthorized e)
+not_of_begin d _ (no_list booking fault some none) e = other_fault (numbers_of 511 (get (codes "without") d)) fault none (same_fault fault Unauthorized e)
+not_of_begin d _ (begin booking items asked some list asks) e = something (ask.Request asked) e
+
+not_said : (body : List ℕ) → IsSaidBy BeginOf body (Err Unauthorized) → ⊥
+not_said body h = from h.0 h.2
+  where
+    from : (value : Option Data) → IfJson BeginOf value (Err Unauthorized) → ⊥
+    from None e = absurd cc
+    from (Some d) says = not_of_begin d (Err Unauthorized) says refl
 
 not_of_answer : (s : ℕ) (d : Data) → answer_of s d ≢ Err Unauthorized
 unfolding answer_of
 not_of_answer s d = not_of_member d (codes "step") 65535 _ (λ k. not_of_member d (codes "response") 255 _ (λ n. something (ask.Request (request.Answer s k n))))
 
 not_on : (route : Route) (body : List ℕ) → AsksOn route body (Err Unauthorized) → ⊥
-not_on Sessions body h = parsed h.0 begin_of not_of_begin h.2
+not_on Sessions body h = not_said body h
 not_on (Session s) body h = absurd cc
 not_on (Answers s) body h = parsed h.0 (answer_of s) (not_of_answer s) h.2
 not_on (Close s) body h = absurd cc

@@ -1,11 +1,13 @@
 -- What a message asks, or why it asks nothing.
-use Rattle.std.specs.Prelude.{◌≡◌, ◌≢◌, ◌⊎◌, ℕ, ◌||◌, Bool, true, false, List, codes, nat_le, IsUtf8, if◌then◌else◌, Option, None, Some, option_and_then, Result, Ok, Err}
+use Rattle.std.specs.Prelude.{◌≡◌, ◌≢◌, ◌⊎◌, ℕ, ◌||◌, ◌==◌, Bool, true, false, List, [], ◌∷◌, codes, nat_le, IsUtf8, if◌then◌else◌, Option, None, Some, option_and_then, Result, Ok, Err}
 use Rattle.exam_text.specs.First.{or_fault, ◌>>=◌}
-use Rattle.serde_json.specs.Data.{Data}
+use Rattle.bank_tables.specs.Items.{has, AreWords}
+use Rattle.serde_json.specs.Data.{Data, Items, no_items, item}
 use Rattle.serde_json.specs.Read.{read}
 use Rattle.serde_json.specs.View.{view}
 use Rattle.serde_json.specs.declared.value.Value.{Value}
-use Rattle.serde_json.specs.Find.{get, as_number, as_u64}
+use Rattle.serde_json.specs.Find.{get, as_number, as_array, as_u64}
+use Rattle.history_model.specs.declared.request.Request.{Request}
 use Rattle.history_model.specs.declared.request.Request.TheVariants as request
 use Rattle.wire_http.specs.declared.message.Message.{Message}
 use Rattle.exam_http.specs.declared.asked.Asked.{Asked}
@@ -31,16 +33,89 @@ abbrev pub number_member : Data → List ℕ → ℕ → Result ℕ MessageFault
 number_member d name most =
     or_fault (up_to most (option_and_then as_u64 (option_and_then as_number (get name d)))) BadBody
 
-unfoldable pub begin_of : Data → Result Asked MessageFault
-begin_of d =
-    number_member d (codes "booking") 18446744073709551615 >>= λ booking.
-    Ok (ask.Request (request.Begin booking))
+-- ---- a list of items
+-- the number is one of these
+abbrev pub is_among : List ℕ → ℕ → Bool
+is_among [] i = false
+is_among (n ∷ ns) i = (n == i) || is_among ns i
+
+-- a number, and the numbers after it, if all are there
+abbrev pub number_before : Option ℕ → Option (List ℕ) → Option (List ℕ)
+number_before (Some n) (Some ns) = Some (n ∷ ns)
+number_before n ns = None
+
+-- the number of an element: written in digits alone, and at most so much
+abbrev pub number_in : ℕ → Data → Option ℕ
+number_in most d = up_to most (option_and_then as_u64 (as_number d))
+
+-- the numbers of an array, if each of its elements is one
+abbrev pub numbers_in : ℕ → Items → Option (List ℕ)
+numbers_in most no_items = Some []
+numbers_in most (item d ds) = number_before (number_in most d) (numbers_in most ds)
+
+-- the same of a member, of which there may be none: then there are no numbers
+abbrev pub numbers_of : ℕ → Option Data → Option (List ℕ)
+numbers_of most None = Some []
+numbers_of most (Some d) = option_and_then (numbers_in most) (as_array d)
+
+-- the numbers of the array that the last member of this name is; none without such a member
+abbrev pub list_member : Data → List ℕ → ℕ → Result (List ℕ) MessageFault
+list_member d name most = or_fault (numbers_of most (get name d)) BadBody
+
+-- the words are of the set of these items
+pub record AreItems (words items : List ℕ) : Type 0 where
+  pub are_words : AreWords words
+  pub each : (i : ℕ) → has words i ≡ is_among items i
+
+-- the request is for a session for a booking, whose examinee must not get these items; where there
+-- are none, it has no list
+abbrev pub AsksBegin : ℕ → List ℕ → Request → Type 0
+AsksBegin booking [] asked = asked ≡ request.Begin booking
+AsksBegin booking (n ∷ ns) asked =
+    (words : List ℕ) × AreItems words (n ∷ ns) × (asked ≡ request.BeginWithout booking words)
+
+-- what the value of a body asks of the beginning of a session: the booking is read first
+pub data BeginOf (d : Data) : Result Asked MessageFault → Type 0 where
+  no_booking : (fault : MessageFault)
+      → number_member d (codes "booking") 18446744073709551615 ≡ Err fault → BeginOf d (Err fault)
+  no_list : (booking : ℕ) (fault : MessageFault)
+      → number_member d (codes "booking") 18446744073709551615 ≡ Ok booking
+      → list_member d (codes "without") 511 ≡ Err fault → BeginOf d (Err fault)
+  begin : (booking : ℕ) (items : List ℕ) (asked : Request)
+      → number_member d (codes "booking") 18446744073709551615 ≡ Ok booking
+      → list_member d (codes "without") 511 ≡ Ok items → AsksBegin booking items asked
+      → BeginOf d (Ok (ask.Request asked))
+
+-- the set of the elements of an array, or none, as they are read
+abbrev pub IsSetIn : Items → Option (List ℕ) → Type 0
+IsSetIn ds None = numbers_in 511 ds ≡ None
+IsSetIn ds (Some words) =
+    (items : List ℕ) × (numbers_in 511 ds ≡ Some items) × AreItems words items
+
+-- the set of the list of a body, or its fault, as they are read
+abbrev pub IsSetOf : Data → Result (List ℕ) MessageFault → Type 0
+IsSetOf d (Err fault) = list_member d (codes "without") 511 ≡ Err fault
+IsSetOf d (Ok words) =
+    (items : List ℕ) × (list_member d (codes "without") 511 ≡ Ok items) × AreItems words items
+
+-- ---- an answer
 
 unfoldable pub answer_of : ℕ → Data → Result Asked MessageFault
 answer_of session d =
     number_member d (codes "step") 65535 >>= λ step.
     number_member d (codes "response") 255 >>= λ response.
     Ok (ask.Request (request.Answer session step response))
+
+-- what the value of a body asks, if the body has one
+abbrev pub IfJson : (Data → Result Asked MessageFault → Type 0) → Option Data
+    → Result Asked MessageFault → Type 0
+IfJson Says None asked = asked ≡ Err BadJson
+IfJson Says (Some d) asked = Says d asked
+
+-- what is asked by a body, by the relation of its value to that
+abbrev pub IsSaidBy : (Data → Result Asked MessageFault → Type 0) → List ℕ
+    → Result Asked MessageFault → Type 0
+IsSaidBy Says body asked = (value : Option Data) × IsJson body value × IfJson Says value asked
 
 -- what is asked by the value of a body
 abbrev pub IsParsedBy : (Data → Result Asked MessageFault) → List ℕ → Result Asked MessageFault
@@ -50,7 +125,7 @@ IsParsedBy f body asked =
 
 -- what a body asks on a route
 abbrev pub AsksOn : Route → List ℕ → Result Asked MessageFault → Type 0
-AsksOn Sessions body asked = IsParsedBy begin_of body asked
+AsksOn Sessions body asked = IsSaidBy BeginOf body asked
 AsksOn (Session s) body asked = asked ≡ Ok (ask.Request (request.Look s))
 AsksOn (Answers s) body asked = IsParsedBy (answer_of s) body asked
 AsksOn (Close s) body asked = asked ≡ Ok (ask.Request (request.Close s))

@@ -92,8 +92,14 @@ refusal_body (refusal.BadResponse categories) =
 refusal_body (refusal.IsClosed place) =
     error_body_with (refusal_word (refusal.IsClosed place)) (string (end_word place))
 refusal_body (refusal.Stale place aside) = error_body (refusal_word (refusal.Stale place aside))
+refusal_body (refusal.OtherList session) =
+    error_body_with (refusal_word (refusal.OtherList session)) (whole_number session)
+refusal_body (refusal.NoItem items) =
+    error_body_with (refusal_word (refusal.NoItem items)) (whole_number items)
 refusal_body (refusal.SessionsFull sessions) =
     error_body_with (refusal_word (refusal.SessionsFull sessions)) (whole_number sessions)
+refusal_body refusal.NoForm = error_body (refusal_word refusal.NoForm)
+refusal_body refusal.NoneFound = error_body (refusal_word refusal.NoneFound)
 refusal_body (refusal.JournalFull length) =
     error_body_with (refusal_word (refusal.JournalFull length)) (whole_number length)
 refusal_body refusal.Disk = error_body (refusal_word refusal.Disk)
@@ -121,7 +127,11 @@ refusal_status (refusal.Other response) = 409
 refusal_status (refusal.BadResponse categories) = 422
 refusal_status (refusal.IsClosed place) = 409
 refusal_status (refusal.Stale place aside) = 409
+refusal_status (refusal.OtherList session) = 409
+refusal_status (refusal.NoItem items) = 422
 refusal_status (refusal.SessionsFull sessions) = 507
+refusal_status refusal.NoForm = 422
+refusal_status refusal.NoneFound = 422
 refusal_status (refusal.JournalFull length) = 507
 refusal_status refusal.Disk = 503
 refusal_status refusal.Memory = 500

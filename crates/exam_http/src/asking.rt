@@ -1,8 +1,8 @@
 //! What a message asks.
-ghost use Rattle.std.specs.Prelude.{◌≡◌, ◌≤◌, IfOk};
+ghost use Rattle.std.specs.Prelude.{◌≡◌, ◌≤◌, ℕ, List, [], IfOk, IfSome};
 ghost use Rattle.std.specs.Option.{option_copied};
-ghost use Rattle.serde_json.specs.View.{view};
-ghost use Rattle.exam_http.specs.Asks.{IsJson, number_member, begin_of, answer_of, IsParsedBy, AsksOn, AsksBy, Asks, view_of};
+ghost use Rattle.serde_json.specs.View.{view, items_view};
+ghost use Rattle.exam_http.specs.Asks.{IsJson, number_member, number_in, IsSetIn, IsSetOf, AreItems, AsksBegin, BeginOf, answer_of, IsSaidBy, IsParsedBy, AsksOn, AsksBy, Asks, view_of};
 ghost use Rattle.exam_http.specs.Tokens.{is_for_all};
 ghost use Rattle.exam_http.specs.Table.{table};
 
@@ -10,6 +10,7 @@ use crate::route::{method_of, route_of};
 use crate::terms::Terms;
 use crate::token::may_ask;
 use crate::{Asked, MessageFault, Route};
+use bank_tables::ItemSet;
 use history_model::Request;
 use serde_json::Value;
 use std::alloc::{AllocError, Global};
@@ -41,13 +42,77 @@ fn number_member(value: &Value, name: &str, most: u64) -> Result<u64, MessageFau
     }
 }
 
-#[tactic(auto, unfolding(crate::specs::Asks::begin_of))]
+// No items.
+fn no_items() -> ItemSet
+    ensures { AreItems result [] }
+{
+    let set = ItemSet::empty();
+    let _ = set.count();
+    set
+}
+
+// The item that an element is, if it is a number of at most 511, in digits alone.
+fn item_of(element: &Value) -> Option<u16>
+    ensures value { result ≡ number_in 511 (view element.now) }
+    ensures small { IfSome result (λ item. item ≤ 511) }
+{
+    match element.as_u64() {
+        Some(n) if n <= 511 => Some(n as u16),
+        _ => None,
+    }
+}
+
+// The set of the items that the elements of an array are, if each is a number of at most 511, in digits alone.
+fn items_in(elements: &[Value]) -> Option<ItemSet>
+    ensures { IsSetIn (items_view elements.now) result }
+{
+    let mut set = ItemSet::empty();
+    for element in elements {
+        match item_of(element) {
+            None => return None,
+            Some(item) => set = set.with(item),
+        }
+    }
+    let _ = set.count();
+    Some(set)
+}
+
+// The set of the items of the list that a body has, or no items where it has no list.
+fn list_member(value: &Value) -> Result<ItemSet, MessageFault>
+    ensures { IsSetOf (view value.now) result }
+{
+    match value.get("without") {
+        None => Ok(no_items()),
+        Some(list) => match list.as_array() {
+            None => Err(MessageFault::BadBody),
+            Some(elements) => match items_in(elements.as_slice()) {
+                None => Err(MessageFault::BadBody),
+                Some(items) => Ok(items),
+            },
+        },
+    }
+}
+
+// The beginning of a session for a booking whose examinee must not get these items.
+fn begin_with(booking: u64, items: ItemSet) -> Request
+    ensures { (list : List ℕ) → AreItems items list → AsksBegin booking list result }
+{
+    match items.first() {
+        Some(_) => Request::BeginWithout { booking, items },
+        None => Request::Begin(booking),
+    }
+}
+
+// What a value asks of the beginning of a session.
 fn begin_of(value: &Value) -> Result<Asked, MessageFault>
-    ensures { result ≡ begin_of (view value.now) }
+    ensures { BeginOf (view value.now) result }
 {
     match number_member(value, "booking", u64::MAX) {
-        Ok(booking) => Ok(Asked::Request(Request::Begin(booking))),
         Err(fault) => Err(fault),
+        Ok(booking) => match list_member(value) {
+            Err(fault) => Err(fault),
+            Ok(items) => Ok(Asked::Request(begin_with(booking, items))),
+        },
     }
 }
 
@@ -69,7 +134,7 @@ fn answer_of(session: u32, value: &Value) -> Result<Asked, MessageFault>
 }
 
 fn parse_begin(alloc: Global, body: &[u8]) -> Result<Result<Asked, MessageFault>, AllocError>
-    ensures { IfOk result (IsParsedBy begin_of body.now) }
+    ensures { IfOk result (IsSaidBy BeginOf body.now) }
 {
     match value_of(alloc, body) {
         Err(e) => Err(e),

@@ -127,8 +127,11 @@ fn refusal_value(alloc: Global, refusal: Refusal) -> Result<Value, AllocError>
         Refusal::BadResponse(categories) => error_with_number(alloc, word, u64::from(categories)),
         Refusal::IsClosed(place) => error_with_word(alloc, word, end_word(place)),
         Refusal::Stale(_, _) => error_value(alloc, word),
+        Refusal::OtherList(session) => error_with_number(alloc, word, u64::from(session)),
+        Refusal::NoItem(items) => error_with_number(alloc, word, u64::from(items)),
         Refusal::SessionsFull(sessions) => error_with_number(alloc, word, u64::from(sessions)),
         Refusal::JournalFull(length) => error_with_number(alloc, word, length),
+        Refusal::NoForm | Refusal::NoneFound => error_value(alloc, word),
         Refusal::Disk => error_value(alloc, word),
         Refusal::Memory => error_value(alloc, word),
     }

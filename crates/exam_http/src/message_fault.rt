@@ -9,7 +9,8 @@ pub enum MessageFault {
     NoMethod,
     /// Its body is no JSON.
     BadJson,
-    /// A number of the body is missing, isn't written in digits alone, or is out of range.
+    /// A number of the body is missing, isn't written in digits alone, or is out of range; or its
+    /// list of items is no array of such numbers.
     BadBody,
     /// The server has a token, and the message does not bear it.
     Unauthorized,

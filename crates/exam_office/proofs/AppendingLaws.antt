@@ -1,25 +1,21 @@
 -- What appending a record that another office wrote does, from the contracts of its steps.
-use Rattle.std.proofs.Common.{◌≡◌, ◌⊎◌, inl, inr, ℕ, ◌+◌, ◌<◌, ◌≤◌, List, [], ◌∷◌, ◌++◌, Option, Some, None, IsTrue, refl, sym, ◌∙◌, ap, subst, arith}
+use Rattle.std.proofs.Common.{◌≡◌, inl, inr, ℕ, ◌<◌, ◌≤◌, List, [], ◌∷◌, ◌++◌, Some, None, IsTrue, refl, sym, subst, arith}
 use Rattle.bank_tables.specs.Tables.{Tables}
 use Rattle.form_model.specs.Plan.{Plan}
 use Rattle.exam_edge.specs.Faults.{Rose}
 use Rattle.exam_edge.specs.Images.{AllImages, AtEachMoment, latest}
 use Rattle.exam_edge.specs.ImageLaws.{started}
-use Rattle.history_model.specs.declared.entry.Entry.{Entry}
 use Rattle.history_model.specs.declared.illegal.Illegal.{Illegal as Reason}
 use Rattle.history_model.specs.declared.refusal.Refusal.{Refusal}
-use Rattle.history_model.specs.declared.refusal.Refusal.TheVariants.{NoSession, WrongStep, Other, BadResponse, IsClosed, Stale, SessionsFull, JournalFull, Disk as DiskFailed, Memory as NoMemory}
+use Rattle.history_model.specs.declared.refusal.Refusal.TheVariants.{NoSession, WrongStep, Other, BadResponse, IsClosed, Stale, OtherList, NoItem, SessionsFull, NoForm, NoneFound, JournalFull, Disk as DiskFailed, Memory as NoMemory}
 use Rattle.history_model.specs.Judging.{Record, MayFollow}
 use Rattle.history_model.specs.Reasons.{IsIllegal}
 use Rattle.answer_journal.specs.Journal.{faults_of, tells_of, accounts_of, payloads_of, IsDoubtful}
 use Rattle.answer_journal.specs.Versions.{contents, second, HoldsOrOneMore}
 use Rattle.exam_records.specs.Shape.{IsRecord}
-use Rattle.exam_records.specs.Spelling.{payload_of}
-use Rattle.exam_office.specs.Appending.{FindsRecord, IsNext, IsAppended, IsRefusedFor, IsPutOff, IsAbove, IsLeftInDoubt, IsNotAppended, taken_by}
+use Rattle.exam_office.specs.Appending.{FindsRecord, IsNext, IsAppended, IsRefusedFor, IsPutOff, IsNotAppended, taken_by}
 use Rattle.exam_office.specs.Calls.{add, IsAt}
-use Rattle.exam_office.specs.declared.appending.Taken.{Taken}
-use Rattle.exam_office.specs.declared.appending.Taken.TheVariants.{Disk, Full, Memory}
-use Rattle.exam_office.specs.declared.mark.Mark.{Mark}
+use Rattle.exam_office.specs.declared.appending.Taken.TheVariants.{Disk}
 use Rattle.exam_office.specs.declared.mark.Mark.TheVariants.{Own}
 use Rattle.exam_office.specs.Marks.{history}
 use Rattle.exam_office.specs.Running.{Running}
@@ -38,6 +34,10 @@ disk_by old new rec (BadResponse number) why e = absurd why
 disk_by old new rec (IsClosed at) why e = absurd why
 disk_by old new rec (Stale at aside) why e = absurd why
 disk_by old new rec (SessionsFull count) why e = absurd why
+disk_by old new rec (OtherList session) why e = absurd why
+disk_by old new rec (NoItem number) why e = absurd why
+disk_by old new rec NoForm why e = absurd why
+disk_by old new rec NoneFound why e = absurd why
 
 -- mending is refused only with an entry in doubt
 pub unmended_some : {D : Type 0} (old new : Running D) (refusal : Refusal) → IsUnmended old new refusal → old.doubt ≡ None → ⊥
@@ -51,6 +51,10 @@ unmended_some old new (BadResponse number) why none = absurd why
 unmended_some old new (IsClosed at) why none = absurd why
 unmended_some old new (Stale at aside) why none = absurd why
 unmended_some old new (SessionsFull count) why none = absurd why
+unmended_some old new (OtherList session) why none = absurd why
+unmended_some old new (NoItem number) why none = absurd why
+unmended_some old new NoForm why none = absurd why
+unmended_some old new NoneFound why none = absurd why
 
 -- nothing else changes an office
 pub unwritten_same : {D : Type 0} (old new : Running D) (rec : Record) (refusal : Refusal) → IsUnwritten old new rec refusal → (taken_by refusal ≡ Disk → ⊥) → new ≡ old
@@ -64,6 +68,10 @@ unwritten_same old new rec (BadResponse number) why other = absurd why
 unwritten_same old new rec (IsClosed at) why other = absurd why
 unwritten_same old new rec (Stale at aside) why other = absurd why
 unwritten_same old new rec (SessionsFull count) why other = absurd why
+unwritten_same old new rec (OtherList session) why other = absurd why
+unwritten_same old new rec (NoItem number) why other = absurd why
+unwritten_same old new rec NoForm why other = absurd why
+unwritten_same old new rec NoneFound why other = absurd why
 
 -- the entry in doubt was not resolved
 pub not_mended : {D : Type 0} (old new : Running D) (rec : Record) (refusal : Refusal) → IsUnmended old new refusal → IsNotAppended old new rec (taken_by refusal)
@@ -77,6 +85,10 @@ not_mended old new rec (BadResponse number) why = absurd why
 not_mended old new rec (IsClosed at) why = absurd why
 not_mended old new rec (Stale at aside) why = absurd why
 not_mended old new rec (SessionsFull count) why = absurd why
+not_mended old new rec (OtherList session) why = absurd why
+not_mended old new rec (NoItem number) why = absurd why
+not_mended old new rec NoForm why = absurd why
+not_mended old new rec NoneFound why = absurd why
 
 -- ---- the entry in doubt was resolved
 module _ {D : Type 0} (old mid : Running D) (same : IsSameOffice old mid) (sure : mid.doubt ≡ None) (mended : IsMended old.marks old.doubt mid.marks) (rec : Record) where
@@ -136,6 +148,10 @@ module _ {D : Type 0} (old mid : Running D) (same : IsSameOffice old mid) (sure 
       not_written (IsClosed at) grows spells why = absurd why
       not_written (Stale at aside) grows spells why = absurd why
       not_written (SessionsFull count) grows spells why = absurd why
+      not_written (OtherList session) grows spells why = absurd why
+      not_written (NoItem number) grows spells why = absurd why
+      not_written NoForm grows spells why = absurd why
+      not_written NoneFound grows spells why = absurd why
 
 -- ---- where nothing was in doubt
 module _ {D : Type 0} (old mid : Running D) (is : mid ≡ old) (payload : List ℕ) where

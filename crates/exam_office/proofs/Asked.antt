@@ -1,7 +1,7 @@
 -- A request from its steps.
 use Rattle.std.proofs.Common.{◌≡◌, inl, inr, ℕ, Bool, true, false, cond, ◌==◌, List, [], ◌∷◌, ◌++◌, Option, Some, None, Result, Ok, Err, IfOk, IsTrue, refl, sym, ap, ◌∙◌, subst, arith}
 use Rattle.std.specs.Prelude.{nat_le, nat_lt}
-use Rattle.bank_tables.specs.Tables.{Tables, categories}
+use Rattle.bank_tables.specs.Tables.{Tables, categories, size}
 use Rattle.exam_edge.specs.Images.{AllImages, AtEachMoment, latest}
 use Rattle.exam_edge.specs.ImageLaws.{weaker}
 use Rattle.exam_edge.specs.Lent.{IsLent}
@@ -11,18 +11,18 @@ use Rattle.history_model.specs.declared.entry.Entry.TheVariants.{Started, Answer
 use Rattle.history_model.specs.declared.place.Place.{Place}
 use Rattle.history_model.specs.declared.place.Place.TheVariants.{Pending, Waiting, Complete, Closed}
 use Rattle.history_model.specs.declared.refusal.Refusal.{Refusal}
-use Rattle.history_model.specs.declared.refusal.Refusal.TheVariants.{NoSession, WrongStep, Other, BadResponse, IsClosed, Stale, SessionsFull, JournalFull, Disk, Memory}
+use Rattle.history_model.specs.declared.refusal.Refusal.TheVariants.{NoSession, WrongStep, Other, BadResponse, IsClosed, Stale, OtherList, NoItem, SessionsFull, NoForm, NoneFound, JournalFull, Disk, Memory}
 use Rattle.history_model.specs.declared.request.Exposure.{Exposure}
 use Rattle.history_model.specs.declared.request.Request.{Request}
 use Rattle.history_model.specs.declared.request.Request.TheVariants as request
 use Rattle.history_model.specs.declared.request.Reply.{Reply}
 use Rattle.history_model.specs.declared.request.Reply.TheVariants as reply
-use Rattle.history_model.specs.Entries.{sessions, holder, is_started}
+use Rattle.history_model.specs.Entries.{sessions, holder, is_started, list_of}
 use Rattle.history_model.specs.Halting.{IsBeforeServing, led, IsCutOff, at_start, before_serving, IsNextOf, first}
 use Rattle.history_model.specs.Halting.{set_aside as led_aside, aside as next_aside, served as next_served}
 use Rattle.history_model.specs.Places.{place}
-use Rattle.history_model.specs.Refusals.{recorded, refusal_of, refusal_of_new, refusal_at, refusal_of_answer, refusal_of_closing, in_session}
-use Rattle.history_model.specs.Requests.{Begins, RecordsAnswer, Leads, by_begin, by_answer, by_look, IsServedBy, IsExposureOf, DoesUnrefused, DoesUnless, Does}
+use Rattle.history_model.specs.Refusals.{recorded, refusal_of, refusal_of_new, refusal_of_list, is_list, has_list, refusal_at, refusal_of_answer, refusal_of_closing, in_session}
+use Rattle.history_model.specs.Requests.{Begins, BeginsWithout, RecordsAnswer, Leads, by_begin, by_begin_without, by_answer, by_look, IsServedBy, IsExposureOf, DoesUnrefused, DoesUnless, Does}
 use Rattle.answer_journal.specs.Journal.{tells_of, accounts_of, faults_of, identity_of}
 use Rattle.exam_office.specs.Asking.{IsStoppedBy, AreGood, no_more, one_more, IsDurable, StandsForOne, Steps, IsBegunBy, not_begun, begun, IsOnTheWay, IsSettled, IsSettledReply, Becomes, done, halted, IsAsked, IsAskedSurely, reply_of}
 use Rattle.exam_office.specs.Calls.{refused_with}
@@ -34,7 +34,7 @@ use Rattle.exam_office.specs.Serving.{IsBeforeItem, waits, set_aside, ServesNext
 use Rattle.exam_office.specs.Writing.{as_before, IsMending, IsMended, IsSameOffice, IsUnmended}
 use Rattle.exam_office.proofs.Advancing.{closed_there}
 use Rattle.exam_office.proofs.Calling.{mended_one_of}
-use Rattle.exam_office.proofs.Firsts.{IsFirst, first_done, first_refused, first_stopped, DoneLeading, DoneClosing, held_is_started}
+use Rattle.exam_office.proofs.Firsts.{IsFirst, first_done, first_refused, first_wanting, first_stopped, DoneLeading, DoneClosing, held_is_started}
 use Rattle.exam_office.proofs.Marking.{history-fault}
 use Rattle.exam_office.proofs.Sessions.{not_there}
 use Rattle.exam_office.proofs.Surely.{moved, moved_back, no_unmended, stopped_weaker, steps_joined, stayed_steps}
@@ -80,8 +80,21 @@ refused_new plan H None r e = by (nat_le plan.sessions (sessions H)) e
     by true e1 = let is : SessionsFull (sessions H) ≡ r = cc in subst IsRefusal is tt
     by false e1 = absurd (cc)
 
+refused_list : (b : Tables) (plan : Plan) (H : List Entry) (items : List ℕ) (o : Option ℕ) (r : Refusal) → refusal_of_list b plan H items o ≡ Some r → IsRefusal r
+refused_list b plan H items (Some s) r e = by (has_list items (list_of H s)) e
+  where
+    by : (t : Bool) → cond t None (Some (OtherList s)) ≡ Some r → IsRefusal r
+    by true e1 = absurd (cc)
+    by false e1 = let is : OtherList s ≡ r = cc in subst IsRefusal is tt
+refused_list b plan H items None r e = by (is_list b items) e
+  where
+    by : (t : Bool) → cond t (refusal_of_new plan H None) (Some (NoItem (size b))) ≡ Some r → IsRefusal r
+    by true e1 = refused_new plan H None r e1
+    by false e1 = let is : NoItem (size b) ≡ r = cc in subst IsRefusal is tt
+
 pub refused_so : (b : Tables) (plan : Plan) (H : List Entry) (asked : Request) (r : Refusal) → refusal_of b plan H asked ≡ Some r → IsRefusal r
 refused_so b plan H (request.Begin booking) r e = refused_new plan H (holder H booking) r e
+refused_so b plan H (request.BeginWithout booking items) r e = refused_list b plan H items (holder H booking) r e
 refused_so b plan H (request.Answer s step response) r e = refused_in H (place plan H s) (λ (at : Place). refusal_of_answer b step response at (recorded H s step)) r (λ at e1. refused_answer b step response at (recorded H s step) r e1) e
 refused_so b plan H (request.Close s) r e = refused_in H (place plan H s) refusal_of_closing r (λ at e1. refused_closing at r e1) e
 refused_so b plan H (request.Look s) r e = refused_in H (place plan H s) (λ (at : Place). None) r (λ at e1. absurd (cc)) e
@@ -98,6 +111,10 @@ stopped_refusal b plan H N old new (BadResponse k) why = absurd why
 stopped_refusal b plan H N old new (IsClosed at) why = absurd why
 stopped_refusal b plan H N old new (Stale at flag) why = absurd why
 stopped_refusal b plan H N old new (SessionsFull count) why = absurd why
+stopped_refusal b plan H N old new (OtherList session) why = absurd why
+stopped_refusal b plan H N old new (NoItem number) why = absurd why
+stopped_refusal b plan H N old new NoForm why = absurd why
+stopped_refusal b plan H N old new NoneFound why = absurd why
 
 -- ---- a request that leads to a session
 module _ (b : Tables) (plan : Plan) (base : List ℕ) (H : List Entry) where
@@ -106,6 +123,10 @@ module _ (b : Tables) (plan : Plan) (base : List ℕ) (H : List Entry) where
   begun_lead asked s fresh G (by_begin booking session flag K (Begins.is_new n eligible none legal)) =
       let e = Started n booking eligible None in
       begun H e (first n true e (by_begin booking n true (H ++ e ∷ []) (Begins.is_new n eligible none legal))) (one_more H e no_more tt)
+  begun_lead asked s fresh G (by_begin_without booking items session flag K (BeginsWithout.is_there n held)) = not_begun
+  begun_lead asked s fresh G (by_begin_without booking items session flag K (BeginsWithout.is_new n eligible list none same legal)) =
+      let e = Started n booking eligible (Some list) in
+      begun H e (first n true e (by_begin_without booking items n true (H ++ e ∷ []) (BeginsWithout.is_new n eligible list none same legal))) (one_more H e no_more tt)
   begun_lead asked s fresh G (by_answer session step response K (RecordsAnswer.is_there known)) = not_begun
   begun_lead asked s fresh G (by_answer session step response K (RecordsAnswer.is_new none legal)) =
       let e = Answered session step response in
@@ -115,6 +136,8 @@ module _ (b : Tables) (plan : Plan) (base : List ℕ) (H : List Entry) where
   good_lead : (asked : Request) (s : ℕ) (fresh : Bool) (G : List Entry) → Leads b plan H asked s fresh G → AreGood b plan base H G
   good_lead asked s fresh G (by_begin booking session flag K (Begins.is_there n held)) = no_more
   good_lead asked s fresh G (by_begin booking session flag K (Begins.is_new n eligible none legal)) = one_more H (Started n booking eligible None) no_more tt
+  good_lead asked s fresh G (by_begin_without booking items session flag K (BeginsWithout.is_there n held)) = no_more
+  good_lead asked s fresh G (by_begin_without booking items session flag K (BeginsWithout.is_new n eligible list none same legal)) = one_more H (Started n booking eligible (Some list)) no_more tt
   good_lead asked s fresh G (by_answer session step response K (RecordsAnswer.is_there known)) = no_more
   good_lead asked s fresh G (by_answer session step response K (RecordsAnswer.is_new none legal)) = one_more H (Answered session step response) no_more tt
   good_lead asked s fresh G (by_look session) = no_more
@@ -125,6 +148,7 @@ module _ (b : Tables) (plan : Plan) (base : List ℕ) (H : List Entry) where
 
   unrefused_lead : (asked : Request) (s : ℕ) (fresh : Bool) (G H2 : List Entry) (answer : Reply) → Leads b plan H asked s fresh G → IsServedBy b plan H asked H2 answer → DoesUnrefused b plan H asked H2 answer
   unrefused_lead asked s fresh G H2 answer (by_begin booking session flag K begins) is = is
+  unrefused_lead asked s fresh G H2 answer (by_begin_without booking items session flag K begins) is = inl is
   unrefused_lead asked s fresh G H2 answer (by_answer session step response K records) is = is
   unrefused_lead asked s fresh G H2 answer (by_look session) is = is
 
@@ -160,6 +184,17 @@ module _ {D : Type 0} (asked : Request) (old new : Running D) where
         becomes = done (does_refused old.bank old.plan old.base H asked (history new.marks) q why grown) durable;
         good = subst (λ (G : List Entry). AreGood old.bank old.plan old.base H G) (sym grown) no_more;
         settled = refused_so old.bank old.plan H asked q why;
+        steps = steps;
+      })
+  first_fails Done o r is (first_wanting q none does refuses grown durable) steps =
+      let H = history old.marks in
+      let same : q ≡ r = cc in
+      let here = does_unrefused old.bank old.plan old.base H asked H (reply.Refused q) none does in
+      subst (λ (x : Refusal). IsAskedSurely old asked (reply.Refused x) new) same
+      (record {
+        becomes = done (subst (λ (G : List Entry). Does old.bank old.plan H asked G (reply.Refused q)) (sym grown) here) durable;
+        good = subst (λ (G : List Entry). AreGood old.bank old.plan old.base H G) (sym grown) no_more;
+        settled = refuses;
         steps = steps;
       })
   first_fails Done o r is (first_stopped q none grown why) steps =
@@ -233,6 +268,7 @@ first_led asked Done old new is = by None refl is
     by : (o : Option Refusal) → o ≡ None → IsFirst asked Done old new o → Done (history new.marks) × IsDurable old.bank old.plan new
     by o e (first_done did durable) = (did, durable)
     by o e (first_refused r why grown durable) = absurd (cc)
+    by o e (first_wanting r none does refuses grown durable) = absurd (cc)
     by o e (first_stopped r none grown why) = absurd (cc)
 
 -- it lasts for the office that goes on
@@ -357,6 +393,10 @@ module _ {D : Type 0} (old mid : Running D) (same : IsSameOffice old mid) (frame
   unmended_so (IsClosed at) why = absurd why
   unmended_so (Stale at flag) why = absurd why
   unmended_so (SessionsFull count) why = absurd why
+  unmended_so (OtherList session) why = absurd why
+  unmended_so (NoItem number) why = absurd why
+  unmended_so NoForm why = absurd why
+  unmended_so NoneFound why = absurd why
 
   pub unmended_asked : (asked : Request) (r : Refusal) → IsUnmended old mid r → IsAsked old asked (reply.Refused r) mid
   unmended_asked asked r why =

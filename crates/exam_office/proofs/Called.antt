@@ -1,21 +1,19 @@
 -- What a call does to an office, from the contracts of its steps.
-use Rattle.std.proofs.Common.{◌≡◌, ℕ, ◌+◌, ◌-◌, ◌^◌, ◌<◌, ◌≤◌, min, List, [], ◌∷◌, ◌++◌, length, Option, Some, None, IsTrue, refl, sym, ◌∙◌, ap, subst, arith}
+use Rattle.std.proofs.Common.{◌≡◌, ℕ, ◌<◌, ◌≤◌, List, [], ◌∷◌, ◌++◌, Some, None, refl, sym, subst, arith}
 use Rattle.bank_tables.specs.Tables.{Tables}
 use Rattle.form_model.specs.Plan.{Plan}
 use Rattle.exam_edge.specs.Faults.{Rose}
-use Rattle.exam_edge.specs.Images.{Account, latest, AllImages, AtEachMoment}
+use Rattle.exam_edge.specs.Images.{AtEachMoment}
 use Rattle.history_model.specs.declared.entry.Entry.{Entry}
 use Rattle.history_model.specs.Judging.{Record, MayFollow}
 use Rattle.answer_journal.specs.Journal.{faults_of, accounts_of}
-use Rattle.exam_office.specs.declared.mark.Mark.{Mark}
 use Rattle.exam_office.specs.declared.mark.Mark.TheVariants.{Own}
 use Rattle.history_model.specs.declared.refusal.Refusal.{Refusal}
-use Rattle.history_model.specs.declared.refusal.Refusal.TheVariants.{NoSession, WrongStep, Other, BadResponse, IsClosed, Stale, SessionsFull, JournalFull, Disk, Memory}
-use Rattle.exam_office.specs.Files.{StandsSecond}
-use Rattle.exam_office.specs.Marks.{reach, history}
+use Rattle.history_model.specs.declared.refusal.Refusal.TheVariants.{NoSession, WrongStep, Other, BadResponse, IsClosed, Stale, OtherList, NoItem, SessionsFull, NoForm, NoneFound, JournalFull, Disk, Memory}
+use Rattle.exam_office.specs.Marks.{history}
 use Rattle.exam_office.specs.Running.{Running}
-use Rattle.exam_office.specs.Writing.{IsMending, IsWriting, IsMended, IsSameOffice, IsFaulted, IsUnmended, IsUnwritten, with_record}
-use Rattle.exam_office.specs.Calls.{Finding, refuse, nothing, add, IsAt, IsTooLong, IsHalted, IsLeft, Calls, unmended, refused, found, written, unwritten}
+use Rattle.exam_office.specs.Writing.{IsMending, IsWriting, IsMended, IsSameOffice, IsUnwritten}
+use Rattle.exam_office.specs.Calls.{Finding, refuse, nothing, add, IsAt, IsHalted, IsLeft, Calls, refused, found, written, unwritten}
 use Rattle.exam_office.proofs.Calling.{mended_one_of, mending_left, writing_left}
 
 module _ {D : Type 0} (finds : List Entry → Finding → Type 0) (old mid new : Running D) (same : IsSameOffice old mid) (sure : mid.doubt ≡ None) (mended : IsMended old.marks old.doubt mid.marks) where
@@ -55,6 +53,10 @@ module _ {D : Type 0} (finds : List Entry → Finding → Type 0) (old mid new :
   halted rec (IsClosed at) grows may why = absurd why
   halted rec (Stale at aside) grows may why = absurd why
   halted rec (SessionsFull count) grows may why = absurd why
+  halted rec (OtherList session) grows may why = absurd why
+  halted rec (NoItem number) grows may why = absurd why
+  halted rec NoForm grows may why = absurd why
+  halted rec NoneFound grows may why = absurd why
 
   pub call_unwritten : (rec : Record) (refusal : Refusal) → finds (history mid.marks) (add rec.entry) → faults_of old.journal ≤ faults_of mid.journal → MayFollow mid.bank mid.plan (history mid.marks) rec.entry rec.tree → IsUnwritten mid new rec refusal → Calls finds old new (Some refusal)
   call_unwritten rec refusal says grows may why = unwritten mid.marks rec.entry refusal mended says (halted rec refusal grows may why)

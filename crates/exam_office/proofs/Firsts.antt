@@ -10,13 +10,16 @@ use Rattle.history_model.specs.declared.entry.Entry.{Entry}
 use Rattle.history_model.specs.declared.entry.Entry.TheVariants.{Started, SetAside, Served, Answered, Closed}
 use Rattle.history_model.specs.declared.place.Place.{Place}
 use Rattle.history_model.specs.declared.refusal.Refusal.{Refusal}
+use Rattle.history_model.specs.declared.refusal.Refusal.TheVariants.{Memory}
+use Rattle.history_model.specs.declared.request.Reply.TheVariants.{Refused}
+use Rattle.exam_handler.specs.Handling.{IsRefusal}
 use Rattle.history_model.specs.declared.request.Request.{Request}
 use Rattle.history_model.specs.declared.request.Request.TheVariants.{Begin, Answer, Close}
 use Rattle.history_model.specs.Entries.{holder_of, holder, starts_session, is_started}
 use Rattle.history_model.specs.Halting.{IsNextOf, first, closing}
 use Rattle.history_model.specs.Legality.{Legal}
 use Rattle.history_model.specs.Refusals.{refusal_of, refusal_of_new}
-use Rattle.history_model.specs.Requests.{Leads, by_begin, by_answer}
+use Rattle.history_model.specs.Requests.{Leads, by_begin, by_answer, DoesUnrefused}
 use Rattle.history_model.specs.Requests.{Begins, RecordsAnswer}
 use Rattle.answer_journal.specs.Journal.{tells_of, accounts_of, faults_of, identity_of}
 use Rattle.exam_office.specs.declared.mark.Mark.{Mark}
@@ -30,17 +33,32 @@ use Rattle.exam_office.proofs.Marking.{history-own}
 use Rattle.exam_office.proofs.Starts.{held_then}
 use Rattle.exam_office.proofs.Surely.{mended_none, no_longer, CallsSurely, is_refused, is_found, is_written, is_stopped, surely, call_steps, nothing_added, stopped_weaker}
 
--- what the first call of a request does: its first entry, or none; or it is refused; or it stops before that entry
+-- why a call adds nothing: the request is refused by the tests; or it is done without an entry, with a refusal as the
+-- reply; or there was no memory for what it needs before
+pub data IsTurned (b : Tables) (plan : Plan) (H : List Entry) (request : Request) : Refusal → Type 0 where
+  by_test : (r : Refusal) → refusal_of b plan H request ≡ Some r → IsTurned b plan H request r
+  by_want : (r : Refusal) → refusal_of b plan H request ≡ None → DoesUnrefused b plan H request H (Refused r) → IsRefusal r → IsTurned b plan H request r
+  by_memory : refusal_of b plan H request ≡ None → IsTurned b plan H request Memory
+
+-- a test doesn't both refuse and not
+pub one_test : {o : Option Refusal} (r : Refusal) → o ≡ Some r → o ≡ None → ⊥
+one_test r is none = let clash : ◌≡◌ {A = Option Refusal} (Some r) None = sym is ∙ none in absurd (cc)
+
+-- what the first call of a request does: its first entry, or none; or it is refused; or it is done without an entry; or
+-- it stops before that entry
 pub data IsFirst {D : Type 0} (request : Request) (Done : List Entry → Type 0) (old new : Running D) : Option Refusal → Type 0 where
   first_done : Done (history new.marks) → IsDurable old.bank old.plan new → IsFirst request Done old new None
   first_refused : (r : Refusal) → refusal_of old.bank old.plan (history old.marks) request ≡ Some r → history new.marks ≡ history old.marks
       → IsDurable old.bank old.plan new → IsFirst request Done old new (Some r)
+  first_wanting : (r : Refusal) → refusal_of old.bank old.plan (history old.marks) request ≡ None → DoesUnrefused old.bank old.plan (history old.marks) request (history old.marks) (Refused r) → IsRefusal r
+      → history new.marks ≡ history old.marks → IsDurable old.bank old.plan new → IsFirst request Done old new (Some r)
   first_stopped : (r : Refusal) → refusal_of old.bank old.plan (history old.marks) request ≡ None → history new.marks ≡ history old.marks
       → IsStoppedBy old.bank old.plan (history old.marks) (IsNextOf old.bank old.plan (history old.marks) request (history old.marks)) old new r
       → IsFirst request Done old new (Some r)
 
 module _ {D : Type 0} (request : Request) (finds : List Entry → Finding → Type 0) (Done : List Entry → Type 0) (old new : Running D) (durable : IsDurable old.bank old.plan old)
-    (refuses : (r : Refusal) → finds (history old.marks) (refuse r) → refusal_of old.bank old.plan (history old.marks) request ≡ Some r)
+    (turned : (r : Refusal) → finds (history old.marks) (refuse r) → IsTurned old.bank old.plan (history old.marks) request r)
+    (apart : (r : Refusal) (e : Entry) → finds (history old.marks) (refuse r) → finds (history old.marks) (add e) → ⊥)
     (unrefused : (e : Entry) → finds (history old.marks) (add e) → refusal_of old.bank old.plan (history old.marks) request ≡ None)
     (next : (e : Entry) → finds (history old.marks) (add e) → IsNextOf old.bank old.plan (history old.marks) request (history old.marks) e)
     (good : (e : Entry) → finds (history old.marks) (add e) → IsGood old.bank old.plan old.base (history old.marks) e)
@@ -51,15 +69,18 @@ module _ {D : Type 0} (request : Request) (finds : List Entry → Finding → Ty
   abbrev Lasts : Type 0
   Lasts = IsTrue (tells_of old.journal) → AllImages (StandsSecond old.bank old.plan (history new.marks)) (latest (accounts_of new.journal))
 
+  by_turn : (r : Refusal) → IsTurned old.bank old.plan (history old.marks) request r → history new.marks ≡ history old.marks → IsDurable old.bank old.plan new → IsFirst request Done old new (Some r)
+  by_turn r (by_test q is) grown lasting = first_refused q is grown lasting
+  by_turn r (by_want q none does is) grown lasting = first_wanting q none does is grown lasting
+  by_turn r (by_memory none) grown lasting = first_stopped Memory none grown (λ e. lasting.sure)
+
   by_surely : (o : Option Refusal) → (o ≡ None → Lasts) → CallsSurely finds old new o → IsFirst request Done old new o
   by_surely o lasts (is_found says grown sure) =
       first_done (subst Done (sym grown) (done_found says grown)) (record { sure = sure; images = λ told. lasts refl (subst IsTrue frame.tells told) })
   by_surely o lasts (is_written e says grown sure) =
       first_done (subst Done (sym grown) (done_written e says grown)) (record { sure = sure; images = λ told. lasts refl (subst IsTrue frame.tells told) })
   by_surely o lasts (is_refused r says grown sure) =
-      let is = refuses r says in
-      first_refused r is grown
-      (nothing_added finds old new durable.sure (λ e says1. let clash : ◌≡◌ {A = Option Refusal} (Some r) None = sym is ∙ unrefused e says1 in absurd (cc)) grown sure frame moments)
+      by_turn r (turned r says) grown (nothing_added finds old new durable.sure (λ e more. apart r e says more) grown sure frame moments)
   by_surely o lasts (is_stopped r e says grown why) =
       first_stopped r (unrefused e says) grown
       (stopped_weaker old.bank old.plan (history old.marks) (λ e. finds (history old.marks) (add e)) (IsNextOf old.bank old.plan (history old.marks) request (history old.marks)) next old old new (omega arith) (λ e. e) r why)
@@ -94,7 +115,8 @@ module _ {D : Type 0} (s step response : ℕ) (old new : Running D) (durable : I
       → Calls (FindsAnswer old.bank old.plan s step response) old new (refused_with result) → IsFirst (Answer s step response) (DoneLeading old.bank old.plan (history old.marks) (Answer s step response) s false) old new (refused_with result)
   answer_first result lasts calls =
       first_so (Answer s step response) (FindsAnswer old.bank old.plan s step response) (DoneLeading old.bank old.plan (history old.marks) (Answer s step response) s false) old new durable
-      (λ r says. says)
+      (λ r says. by_test r says)
+      (λ r e says more. one_test r says more.0)
       (λ e says. says.0)
       (λ e says. first s false e (led_answer e says))
       (λ e says. subst (λ (x : Entry). IsGood old.bank old.plan old.base (history old.marks) x) (sym says.2) tt)
@@ -105,7 +127,8 @@ module _ {D : Type 0} (s step response : ℕ) (old new : Running D) (durable : I
   pub answer_steps : IsSameOffice old new → Steps (IsBegunBy old.bank old.plan old.base (history old.marks) (Answer s step response)) old new
   answer_steps same =
       first_call_steps (Answer s step response) (FindsAnswer old.bank old.plan s step response) (λ G. Unit {0}) old new durable
-      (λ r says. says)
+      (λ r says. by_test r says)
+      (λ r e says more. one_test r says more.0)
       (λ e says. says.0)
       (λ e says. first s false e (led_answer e says))
       (λ e says. subst (λ (x : Entry). IsGood old.bank old.plan old.base (history old.marks) x) (sym says.2) tt)
@@ -130,7 +153,8 @@ module _ {D : Type 0} (s : ℕ) (old new : Running D) (durable : IsDurable old.b
   closing_first result lasts calls =
       let H = history old.marks in
       first_so (Close s) (FindsClosing old.bank old.plan s) (DoneClosing old.bank old.plan H s) old new durable
-      (λ r says. says)
+      (λ r says. by_test r says)
+      (λ r e says more. one_test r says more.0)
       (λ e says. says.0)
       next_closing
       (λ e says. subst (λ (x : Entry). IsGood old.bank old.plan old.base (history old.marks) x) (sym says.1) tt)
@@ -141,7 +165,8 @@ module _ {D : Type 0} (s : ℕ) (old new : Running D) (durable : IsDurable old.b
   pub closing_steps : IsSameOffice old new → Steps (IsBegunBy old.bank old.plan old.base (history old.marks) (Close s)) old new
   closing_steps same =
       first_call_steps (Close s) (FindsClosing old.bank old.plan s) (λ G. Unit {0}) old new durable
-      (λ r says. says)
+      (λ r says. by_test r says)
+      (λ r e says more. one_test r says more.0)
       (λ e says. says.0)
       next_closing
       (λ e says. subst (λ (x : Entry). IsGood old.bank old.plan old.base (history old.marks) x) (sym says.1) tt)
@@ -204,7 +229,8 @@ module _ {D : Type 0} (booking : ℕ) (old new : Running D) (durable : IsDurable
   pub start_steps : IsSameOffice old new → Steps (IsBegunBy old.bank old.plan old.base (history old.marks) (Begin booking)) old new
   start_steps same =
       first_call_steps (Begin booking) (FindsStart old.bank old.plan booking) (λ G. Unit {0}) old new durable
-      (λ r says. says)
+      (λ r says. by_test r says)
+      (λ r e says more. one_test r says more.0)
       (λ e says. says.0)
       first_start
       good_start
@@ -215,7 +241,8 @@ module _ {D : Type 0} (booking : ℕ) (old new : Running D) (durable : IsDurable
   pub start_unstarted : (r : Refusal) → Calls (FindsStart old.bank old.plan booking) old new (Some r) → IsFirst (Begin booking) (λ G. Unit {0}) old new (Some r)
   start_unstarted r calls =
       first_so (Begin booking) (FindsStart old.bank old.plan booking) (λ G. Unit {0}) old new durable
-      (λ q says. says)
+      (λ q says. by_test q says)
+      (λ q e says more. one_test q says more.0)
       (λ e says. says.0)
       first_start
       good_start
@@ -251,7 +278,8 @@ module _ {D : Type 0} (booking : ℕ) (old new : Running D) (durable : IsDurable
         → Calls (FindsStart old.bank old.plan booking) old new None → IsFirst (Begin booking) (DoneLeading old.bank old.plan (history old.marks) (Begin booking) session fresh) old new None
     start_first fresh freshly lasts calls =
         first_so (Begin booking) (FindsStart old.bank old.plan booking) (DoneLeading old.bank old.plan (history old.marks) (Begin booking) session fresh) old new durable
-        (λ q says. says)
+        (λ q says. by_test q says)
+        (λ q e says more. one_test q says more.0)
         (λ e says. says.0)
         first_start
         good_start

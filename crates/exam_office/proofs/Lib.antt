@@ -24,6 +24,7 @@ pub mod Assembling
 pub mod Trying
 pub mod Advancing
 pub mod Firsts
+pub mod FirstsWithList
 pub mod Asked
 pub mod CompletenessLaws
 pub mod VectorLaws
@@ -40,3 +41,4 @@ pub mod MigratingSwitch
 pub mod PayloadLaws
 pub mod ReadingLaws
 pub mod AppendingLaws
+pub mod Witnesses

@@ -7,7 +7,7 @@ use Rattle.exam_edge.specs.Lent.{IsLent}
 use Rattle.exam_handler.specs.Handling.{IsProbeRefusal}
 use Rattle.exam_handler.specs.declared.health.Health.{Health}
 use Rattle.history_model.specs.declared.refusal.Refusal.{Refusal}
-use Rattle.history_model.specs.declared.refusal.Refusal.TheVariants.{NoSession, WrongStep, Other, BadResponse, IsClosed, Stale, SessionsFull, JournalFull, Disk, Memory}
+use Rattle.history_model.specs.declared.refusal.Refusal.TheVariants.{NoSession, WrongStep, Other, BadResponse, IsClosed, Stale, OtherList, NoItem, SessionsFull, NoForm, NoneFound, JournalFull, Disk, Memory}
 use Rattle.answer_journal.specs.Journal.{tells_of, accounts_of, faults_of, identity_of}
 use Rattle.exam_office.specs.Asking.{StandsForOne, Steps}
 use Rattle.exam_office.specs.Files.{StandsSecond}
@@ -54,3 +54,7 @@ module _ {D : Type 0} (old mid : Running D) (same : IsSameOffice old mid) (frame
   why_not (IsClosed at) why = absurd why
   why_not (Stale at flag) why = absurd why
   why_not (SessionsFull count) why = absurd why
+  why_not (OtherList session) why = absurd why
+  why_not (NoItem number) why = absurd why
+  why_not NoForm why = absurd why
+  why_not NoneFound why = absurd why

@@ -7,7 +7,7 @@ use Rattle.exam_edge.specs.Lent.{IsLent}
 use Rattle.form_model.specs.Plan.{Plan}
 use Rattle.history_model.specs.declared.entry.Entry.{Entry}
 use Rattle.history_model.specs.declared.refusal.Refusal.{Refusal}
-use Rattle.history_model.specs.declared.refusal.Refusal.TheVariants.{NoSession, WrongStep, Other, BadResponse, IsClosed, Stale, SessionsFull, JournalFull, Disk, Memory}
+use Rattle.history_model.specs.declared.refusal.Refusal.TheVariants.{NoSession, WrongStep, Other, BadResponse, IsClosed, Stale, OtherList, NoItem, SessionsFull, NoForm, NoneFound, JournalFull, Disk, Memory}
 use Rattle.history_model.specs.Judging.{MayFollow}
 use Rattle.answer_journal.specs.Journal.{tells_of, accounts_of, faults_of, identity_of}
 use Rattle.exam_office.specs.declared.mark.Mark.{Mark}
@@ -46,6 +46,10 @@ stopped_weaker b plan H N Q leads old mid new grows stays (BadResponse k) why = 
 stopped_weaker b plan H N Q leads old mid new grows stays (IsClosed at) why = absurd why
 stopped_weaker b plan H N Q leads old mid new grows stays (Stale at aside) why = absurd why
 stopped_weaker b plan H N Q leads old mid new grows stays (SessionsFull count) why = absurd why
+stopped_weaker b plan H N Q leads old mid new grows stays (OtherList session) why = absurd why
+stopped_weaker b plan H N Q leads old mid new grows stays (NoItem number) why = absurd why
+stopped_weaker b plan H N Q leads old mid new grows stays NoForm why = absurd why
+stopped_weaker b plan H N Q leads old mid new grows stays NoneFound why = absurd why
 
 -- ---- one call
 -- it is refused; there is nothing to add; an entry is added; or none is, though one was to be
@@ -68,6 +72,10 @@ no_unmended old new no_doubt (BadResponse k) why = why
 no_unmended old new no_doubt (IsClosed at) why = why
 no_unmended old new no_doubt (Stale at aside) why = why
 no_unmended old new no_doubt (SessionsFull count) why = why
+no_unmended old new no_doubt (OtherList session) why = why
+no_unmended old new no_doubt (NoItem number) why = why
+no_unmended old new no_doubt NoForm why = why
+no_unmended old new no_doubt NoneFound why = why
 
 module _ {D : Type 0} (finds : List Entry → Finding → Type 0) (old new : Running D) (no_doubt : old.doubt ≡ None) where
   module _ (M : List Mark) (is : M ≡ old.marks) where
@@ -96,6 +104,10 @@ module _ {D : Type 0} (finds : List Entry → Finding → Type 0) (old new : Run
     not_written e (IsClosed at) says why = absurd why
     not_written e (Stale at aside) says why = absurd why
     not_written e (SessionsFull count) says why = absurd why
+    not_written e (OtherList session) says why = absurd why
+    not_written e (NoItem number) says why = absurd why
+    not_written e NoForm says why = absurd why
+    not_written e NoneFound says why = absurd why
 
   pub surely : (o : Option Refusal) → Calls finds old new o → CallsSurely finds old new o
   surely o (unmended r why) = absurd (no_unmended old new no_doubt r why)

@@ -15,7 +15,7 @@ use Rattle.history_model.specs.declared.entry.Cause.TheVariants.{NoForm as Cause
 use Rattle.history_model.specs.declared.entry.Entry.{Entry}
 use Rattle.history_model.specs.declared.place.Place.{Place}
 use Rattle.history_model.specs.declared.refusal.Refusal.{Refusal}
-use Rattle.history_model.specs.declared.refusal.Refusal.TheVariants.{NoSession, WrongStep, Other, BadResponse, IsClosed, Stale, SessionsFull, JournalFull, Disk, Memory}
+use Rattle.history_model.specs.declared.refusal.Refusal.TheVariants.{NoSession, WrongStep, Other, BadResponse, IsClosed, Stale, OtherList, NoItem, SessionsFull, NoForm as RefusedNoForm, NoneFound as RefusedNoneFound, JournalFull, Disk, Memory}
 use Rattle.history_model.specs.Legality.{Legal}
 use Rattle.history_model.specs.SessionProblems.{IsProblemOf}
 use Rattle.answer_journal.specs.Journal.{tells_of, accounts_of, faults_of, identity_of}
@@ -50,7 +50,7 @@ tried_by b plan base H P n NoForm entry asked at firm start hint e legal = (
 )
 tried_by b plan base H P n NoneFound entry asked at firm start hint e legal = (
   inr (record { step = P.step; band = band_of P.plan P.theta; cause = Spent; nodes = n; is = e; legal = legal }),
-  subst (λ (x : Entry). IsGood b plan base H x) (sym e) (record { problem = P; is_problem = asked; no_base = at.1 }),
+  subst (λ (x : Entry). IsGood b plan base H x) (sym e) (record { problem = P; is_problem = asked; no_base = at.1; no_start = λ X is. subst (λ (s : Option Set). IsNoWorseThan P s NoneFound) is start }),
 )
 
 module _ {D : Type 0} (session : ℕ) (old new : Running D) (a : Assembly) (for : IsAssembledFor old.bank old.plan old.base (history old.marks) session a) where
@@ -83,6 +83,10 @@ module _ {D : Type 0} (session : ℕ) (old new : Running D) (a : Assembly) (for 
   not_stale (BadResponse k) says = says
   not_stale (IsClosed at) says = says
   not_stale (SessionsFull count) says = says
+  not_stale (OtherList session) says = says
+  not_stale (NoItem number) says = says
+  not_stale RefusedNoForm says = says
+  not_stale RefusedNoneFound says = says
 
   tried_so : (result : Result Place Refusal) → CallsSurely (FindsCommit old.bank old.plan a) old new (refused_with result)
       → OnOk result (IsTrue (tells_of old.journal) → AllImages (StandsSecond old.bank old.plan (history new.marks)) (latest (accounts_of new.journal)))

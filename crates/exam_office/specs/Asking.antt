@@ -73,7 +73,8 @@ pub record Halts {D : Type 0} (b : Tables) (plan : Plan) (H : List Entry) (reque
 abbrev pub IsNoLessThan : Problem → Set → Set → Type 0
 IsNoLessThan P X form = Form P X → objective P X ≤ objective P form
 
--- an item is served from a form no worse than the base and the form last served from
+-- an item is served from a form no worse than the base and the form last served from, or before
+-- the first item that of the list
 pub record IsGoodServing (b : Tables) (plan : Plan) (base : List ℕ) (H : List Entry)
     (session step : ℕ) (form : List ℕ) : Type 0 where
   pub problem : Problem
@@ -81,12 +82,14 @@ pub record IsGoodServing (b : Tables) (plan : Plan) (base : List ℕ) (H : List 
   pub base_is : IsNoLessThan problem (has base) (has form)
   pub start : (X : Set) → problem.start ≡ Some X → IsNoLessThan problem X (has form)
 
--- eligibility is set aside with the budget spent only if the base is no form
+-- eligibility is set aside with the budget spent only if the base is no form, nor the form last
+-- served from, or before the first item that of the list
 pub record IsGoodAside (b : Tables) (plan : Plan) (base : List ℕ) (H : List Entry)
     (session step : ℕ) : Type 0 where
   pub problem : Problem
   pub is_problem : IsProblemOf b plan H session step problem
   pub no_base : Form problem (has base) → ⊥
+  pub no_start : (X : Set) → problem.start ≡ Some X → Form problem X → ⊥
 
 abbrev pub IsGoodCause : Tables → Plan → List ℕ → List Entry → ℕ → ℕ → Cause → Type 0
 IsGoodCause b plan base H session step NoForm = ⊤

@@ -1,20 +1,23 @@
 -- One call of an office that may write one entry.
-use Rattle.std.specs.Prelude.{◌≡◌, ◌⊎◌, ℕ, ◌+◌, ◌<◌, Bool, true, false, List, [], ◌∷◌, ◌++◌, length, Option, Some, None, Result, Ok, Err}
+use Rattle.std.specs.Prelude.{◌≡◌, ◌⊎◌, ⊤, ℕ, ◌+◌, ◌<◌, Bool, true, false, List, [], ◌∷◌, ◌++◌, length, Option, Some, None, Result, Ok, Err}
+use Rattle.bank_tables.specs.Items.{has}
 use Rattle.bank_tables.specs.Tables.{Tables}
 use Rattle.form_model.specs.Plan.{Plan}
 use Rattle.history_model.specs.declared.entry.Bands.{Bands}
 use Rattle.history_model.specs.declared.entry.Entry.{Entry}
+use Rattle.history_model.specs.declared.entry.Without.{Without}
 use Rattle.history_model.specs.declared.entry.Entry.TheVariants.{Started, Answered, Closed}
 use Rattle.history_model.specs.Entries.{holder}
 use Rattle.history_model.specs.Judging.{Record, MayFollow}
 use Rattle.history_model.specs.Legality.{Legal}
+use Rattle.history_model.specs.Lists.{IsFormWithout, LacksForm}
 use Rattle.exam_records.specs.Shape.{IsRecord}
 use Rattle.exam_records.specs.Spelling.{payload_of}
 use Rattle.exam_office.specs.declared.mark.Mark.{Mark}
 use Rattle.exam_office.specs.declared.mark.Mark.TheVariants.{Own}
 use Rattle.history_model.specs.declared.refusal.Refusal.{Refusal}
 use Rattle.history_model.specs.declared.refusal.Refusal.TheVariants.{JournalFull, Disk, Memory}
-use Rattle.history_model.specs.declared.request.Request.TheVariants.{Begin, Answer, Close}
+use Rattle.history_model.specs.declared.request.Request.TheVariants.{Begin, BeginWithout, Answer, Close}
 use Rattle.exam_office.specs.Files.{StandsSecond}
 use Rattle.exam_office.specs.Marks.{reach, history}
 use Rattle.history_model.specs.Refusals.{recorded, refusal_of}
@@ -109,6 +112,43 @@ FindsStart b plan booking H (add entry) =
     (refusal_of b plan H (Begin booking) ≡ None) × (holder H booking ≡ None)
     × IsStartFor booking entry × Legal b plan H entry
 
+-- why a session with a list is not started though nothing else refuses it: no form without the items
+-- is known, or there was no memory to look for one
+abbrev pub LacksWitness : Tables → Plan → List ℕ → Refusal → Type 0
+LacksWitness b plan items Memory = ⊤
+LacksWitness b plan items refusal = LacksForm b plan (has items) refusal
+
+-- what a search for a form without the items of a list found: such a form, or why none is known
+abbrev pub IsWitness : Tables → Plan → List ℕ → Result (List ℕ) Refusal → Type 0
+IsWitness b plan items (Ok form) = IsFormWithout b plan (has items) (has form)
+IsWitness b plan items (Err refusal) = LacksWitness b plan items refusal
+
+-- the entry starts a session for a booking, with a list of these items and the form that the search
+-- for one found
+pub record IsStartWithout (booking : ℕ) (items : List ℕ) (witness : Result (List ℕ) Refusal)
+    (entry : Entry) : Type 0 where
+  pub session : ℕ
+  pub eligible : Bands
+  pub list : Without
+  pub items_are : list.items ≡ items
+  pub form_is : witness ≡ Ok list.form
+  pub is : entry ≡ Started session booking eligible (Some list)
+
+-- those of a booking with a list, after a search for a form without its items: it is refused, or no
+-- such form is known; it has a session with that list; or one is to be started
+abbrev pub FindsStartWithout : Tables → Plan → ℕ → List ℕ → Result (List ℕ) Refusal → List Entry
+    → Finding → Type 0
+FindsStartWithout b plan booking items witness H (refuse refusal) =
+    (refusal_of b plan H (BeginWithout booking items) ≡ Some refusal)
+    ⊎ ((refusal_of b plan H (BeginWithout booking items) ≡ None) × (holder H booking ≡ None)
+    × (witness ≡ Err refusal) × LacksWitness b plan items refusal)
+FindsStartWithout b plan booking items witness H nothing =
+    (refusal_of b plan H (BeginWithout booking items) ≡ None)
+    × ((session : ℕ) × (holder H booking ≡ Some session))
+FindsStartWithout b plan booking items witness H (add entry) =
+    (refusal_of b plan H (BeginWithout booking items) ≡ None) × (holder H booking ≡ None)
+    × IsStartWithout booking items witness entry × Legal b plan H entry
+
 -- those of a closing: it is refused; or it is to be added
 abbrev pub FindsClosing : Tables → Plan → ℕ → List Entry → Finding → Type 0
 FindsClosing b plan session H (refuse refusal) = refusal_of b plan H (Close session) ≡ Some refusal
@@ -130,11 +170,24 @@ IsStartFound b plan H booking session None =
 IsStartFound b plan H booking session (Some entry) = FindsStart b plan booking H (add entry)
     × (holder (H ++ entry ∷ []) booking ≡ Some session)
 
--- whether a call started a session for a booking: then its last mark is that start, and else it
--- added no entry of its own
-abbrev pub IsFreshly : {D : Type 0} → Running D → Running D → ℕ → Bool → Type 0
-IsFreshly old new booking true =
+-- the same with a list
+abbrev pub IsStartWithoutFound : Tables → Plan → List Entry → ℕ → List ℕ
+    → Result (List ℕ) Refusal → ℕ → Option Entry → Type 0
+IsStartWithoutFound b plan H booking items witness session None =
+    FindsStartWithout b plan booking items witness H nothing × (holder H booking ≡ Some session)
+IsStartWithoutFound b plan H booking items witness session (Some entry) =
+    FindsStartWithout b plan booking items witness H (add entry)
+    × (holder (H ++ entry ∷ []) booking ≡ Some session)
+
+-- whether a call started a session: then its last mark is an entry that is such a start, and else
+-- it added no entry of its own
+abbrev pub IsFreshlyBy : {D : Type 0} → Running D → Running D → (Entry → Type 0) → Bool → Type 0
+IsFreshlyBy old new is_start true =
     (marks : List Mark) × (entry : Entry) × (size : ℕ) × IsMended old.marks old.doubt marks
     × (new.marks ≡ marks ++ Own entry size ∷ [])
-    × IsStartFor booking entry
-IsFreshly old new booking false = IsMended old.marks old.doubt new.marks
+    × is_start entry
+IsFreshlyBy old new is_start false = IsMended old.marks old.doubt new.marks
+
+-- a session for a booking, without a list
+abbrev pub IsFreshly : {D : Type 0} → Running D → Running D → ℕ → Bool → Type 0
+IsFreshly old new booking fresh = IsFreshlyBy old new (IsStartFor booking) fresh

@@ -12,6 +12,9 @@ use Rattle.exam_edge.specs.Images.{Account, AtEachMoment}
 use Rattle.history_model.specs.declared.refusal.Refusal.{Refusal}
 use Rattle.history_model.specs.declared.refusal.Refusal.TheVariants.{Memory as OutOfMemory}
 use Rattle.history_model.specs.declared.request.Request.{Request}
+use Rattle.history_model.specs.declared.request.Request.TheVariants.{BeginWithout}
+use Rattle.history_model.specs.Lists.{LacksForm}
+use Rattle.bank_tables.specs.Items.{has}
 use Rattle.history_model.specs.declared.request.Reply.{Reply}
 use Rattle.history_model.specs.declared.request.Reply.TheVariants.{At, Refused}
 use Rattle.history_model.specs.Halting.{IsNextOf}
@@ -71,16 +74,22 @@ MayBeCommittedNow =
     → a.budget ≡ plan.budget → IsOfStart (problem_of a.problem) base a.outcome
     → MayBeCommitted b plan base H a
 
--- a reply of a request that wasn't stopped: where its session is, which doesn't wait for an item;
--- the counts; or out of memory
-abbrev pub IsMemory : Refusal → Type 0
-IsMemory OutOfMemory = ⊤
-IsMemory refusal = ⊥
+-- why a request that isn't refused by the tests has no other answer: out of memory; or no form
+-- without the items of its list is known
+abbrev pub LacksForList : Tables → Plan → Refusal → Request → Type 0
+LacksForList b plan refusal (BeginWithout booking items) = LacksForm b plan (has items) refusal
+LacksForList b plan refusal request = ⊥
 
-abbrev pub IsAnswered : Reply → Type 0
-IsAnswered (At session place fresh) = IsSettled place
-IsAnswered (Refused refusal) = IsMemory refusal
-IsAnswered answer = ⊤
+abbrev pub IsWant : Tables → Plan → Request → Refusal → Type 0
+IsWant b plan request OutOfMemory = ⊤
+IsWant b plan request refusal = LacksForList b plan refusal request
+
+-- a reply of a request that wasn't stopped: where its session is, which doesn't wait for an item;
+-- the counts; or such a want
+abbrev pub IsAnswered : Tables → Plan → Request → Reply → Type 0
+IsAnswered b plan request (At session place fresh) = IsSettled place
+IsAnswered b plan request (Refused refusal) = IsWant b plan request refusal
+IsAnswered b plan request answer = ⊤
 
 -- a request that isn't refused is answered, unless the disk counts a fault or the next record is
 -- above the journal's limit
@@ -91,7 +100,7 @@ AskedIsAnswered D = (old new : Running D) (request : Request) (answer : Reply)
     → (Rose (faults_of old.journal) (faults_of new.journal) → ⊥)
     → ((size : ℕ) → IsTooLongWith old.bank old.plan (history new.marks)
     (IsNextOf old.bank old.plan asked.from request (history new.marks)) new size → ⊥)
-    → IsAnswered answer
+    → IsAnswered old.bank old.plan request answer
 
 -- a file within the limit that represents a history is not migrated only if memory runs out, by a
 -- fault of the disk, or because the file would be too long once its records of the history are

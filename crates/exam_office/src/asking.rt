@@ -1,10 +1,15 @@
 //! One request of an office with nothing in doubt.
 
 ghost use Rattle.std.specs.Prelude.{◌≡◌};
-ghost use Rattle.history_model.specs.declared.request.Request.TheVariants.{Begin, Answer, Close, Look, Exposure};
+ghost use Rattle.bank_tables.specs.Items.{has};
+ghost use Rattle.history_model.specs.declared.request.Request.TheVariants.{Begin, BeginWithout, Answer, Close, Look, Exposure};
+ghost use Rattle.history_model.specs.Lists.{IsListFor};
 ghost use Rattle.exam_office.specs.Asking.{IsDurable, IsAskedSurely, reply_of};
+ghost use Rattle.exam_office.specs.Calls.{IsWitness};
 
 use crate::office::Office;
+use crate::witness::seek_witness;
+use bank_tables::ItemSet;
 use exam_edge::Disk;
 use history_model::{Place, Refusal, Reply, Request};
 use std::alloc::Global;
@@ -30,6 +35,35 @@ impl<'a, D: Disk> Office<'a, D> {
         ensures { IsAskedSurely self.old (Begin booking) result self.new }
     {
         let begun = match self.begin(alloc, booking) {
+            Ok(begun) => begun,
+            Err(refusal) => return Reply::Refused(refusal),
+        };
+        match self.look(begun.session) {
+            Ok(at) => {
+                let found = self.serve(alloc, begun.session, at);
+                replied(begun.session, begun.fresh, found)
+            }
+            Err(_) => unreachable!(),
+        }
+    }
+
+    /// What a search for a form without the items of a list finds, for the office's bank and
+    /// plan.
+    fn witness(&self, alloc: Global, items: &ItemSet) -> Result<ItemSet, Refusal>
+        ensures { IsListFor self.now.bank (has items.now)
+            → IsWitness self.now.bank self.now.plan items.now result }
+    {
+        let _ = self.book.entries();
+        seek_witness(alloc, self.bank, self.spec, &self.base, items)
+    }
+
+    /// Begins a session for a booking with a list, and serves its item.
+    fn ask_begin_without(&mut self, alloc: Global, booking: u64, items: &ItemSet) -> Reply
+        requires { IsDurable self.old.bank self.old.plan self.old }
+        ensures { IsAskedSurely self.old (BeginWithout booking items.now) result self.new }
+    {
+        let witness = self.witness(alloc, items);
+        let begun = match self.begin_without(alloc, booking, items, witness) {
             Ok(begun) => begun,
             Err(refusal) => return Reply::Refused(refusal),
         };
@@ -103,6 +137,9 @@ impl<'a, D: Disk> Office<'a, D> {
     {
         match request {
             Request::Begin(booking) => self.ask_begin(alloc, *booking),
+            Request::BeginWithout { booking, items } => {
+                self.ask_begin_without(alloc, *booking, items)
+            }
             Request::Answer {
                 session,
                 step,

@@ -30,6 +30,7 @@ mod threads;
 mod turns;
 mod vectors;
 mod warming;
+mod witness;
 mod writing;
 
 pub use alone::Alone;
@@ -44,3 +45,4 @@ pub use migrating::{MigrateFault, Moved, migrate};
 pub use noted::Noted;
 pub use office::Office;
 pub use taking::{journal_fault, take_history};
+pub use witness::{needs_search, search_witness, seek_witness};

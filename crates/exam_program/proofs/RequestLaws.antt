@@ -1,8 +1,9 @@
 -- One request of a replay: how it ends.
 use Rattle.std.specs.Prelude.{⊤}
-use Rattle.std.proofs.Common.{◌≡◌, ℕ, Bool, true, false, cond, List, [], ◌∷◌, Option, Some, None, Result, Ok, Err, OnOk, IfErr, IsTrue, nat_lt, ◌==◌, refl, sym, ap, ◌∙◌, subst}
+use Rattle.std.proofs.Common.{◌≡◌, ℕ, Bool, true, false, cond, List, [], ◌∷◌, Option, Some, None, ◌⊎◌, inl, inr, Result, Ok, Err, OnOk, IfErr, IsTrue, nat_lt, ◌==◌, refl, sym, ap, ◌∙◌, subst}
 use Rattle.std.proofs.lemmas.List.{append-nil}
-use Rattle.bank_tables.specs.Tables.{Tables, categories}
+use Rattle.bank_tables.specs.Items.{Set, has}
+use Rattle.bank_tables.specs.Tables.{Tables, categories, size}
 use Rattle.exam_edge.specs.Images.{AtEachMoment}
 use Rattle.exam_edge.specs.ImageLaws.{weaker}
 use Rattle.form_model.specs.Plan.{Plan}
@@ -14,10 +15,11 @@ use Rattle.history_model.specs.declared.refusal.Refusal.TheVariants as why
 use Rattle.history_model.specs.declared.request.Reply.{Reply}
 use Rattle.history_model.specs.declared.request.Reply.TheVariants.{At, Exposure as Exposed, Refused}
 use Rattle.history_model.specs.declared.request.Request.{Request}
-use Rattle.history_model.specs.declared.request.Request.TheVariants.{Begin, Answer, Close, Look, Exposure}
+use Rattle.history_model.specs.declared.request.Request.TheVariants.{Begin, BeginWithout, Answer, Close, Look, Exposure}
 use Rattle.history_model.specs.Halting.{IsNextOf}
-use Rattle.history_model.specs.Refusals.{recorded, refusal_of, refusal_of_new, refusal_at, refusal_of_answer, refusal_of_closing, in_session}
-use Rattle.history_model.specs.Entries.{holder}
+use Rattle.history_model.specs.Lists.{LacksForm, no_form, none_found}
+use Rattle.history_model.specs.Refusals.{recorded, refusal_of, refusal_of_new, is_list, has_list, refusal_of_list, refusal_at, refusal_of_answer, refusal_of_closing, in_session}
+use Rattle.history_model.specs.Entries.{holder, list_of}
 use Rattle.history_model.specs.Places.{place}
 use Rattle.history_model.specs.Requests.{Does, DoesUnless, DoesUnrefused}
 use Rattle.exam_office.specs.Asking.{AreGood, IsStoppedBy, Halts, Becomes, done, halted, IsAsked, IsBegunBy, IsOnTheWay, StandsForOne}
@@ -79,8 +81,17 @@ tested_in : (H : List Entry) (o : Option Place) (refusal : Place → Option Refu
 tested_in H None refusal each r e = tested_is _ r tt e
 tested_in H (Some at) refusal each r e = each at r e
 
+tested_list : (b : Tables) (plan : Plan) (H : List Entry) (items : List ℕ) (o : Option ℕ) (r : Refusal) → refusal_of_list b plan H items o ≡ Some r → IsTested r
+tested_list b plan H items (Some session) r e = tested_unless (has_list items (list_of H session)) _ r tt e
+tested_list b plan H items None r e = here (is_list b items) e
+  where
+    here : (list : Bool) → cond list (refusal_of_new plan H None) (Some (why.NoItem (size b))) ≡ Some r → IsTested r
+    here true e = tested_new plan H None r e
+    here false e = tested_is _ r tt e
+
 tested : (b : Tables) (plan : Plan) (H : List Entry) (request : Request) (r : Refusal) → refusal_of b plan H request ≡ Some r → IsTested r
 tested b plan H (Begin booking) r e = tested_new plan H (holder H booking) r e
+tested b plan H (BeginWithout booking items) r e = tested_list b plan H items (holder H booking) r e
 tested b plan H (Answer session step response) r e =
     tested_in H (place plan H session) (λ (at : Place). refusal_of_answer b step response at (recorded H session step)) (λ at r. tested_answer b step response at (recorded H session step) r) r e
 tested b plan H (Close session) r e = tested_in H (place plan H session) refusal_of_closing tested_closing r e
@@ -88,19 +99,34 @@ tested b plan H (Look session) r e = tested_in H (place plan H session) (λ (at 
 tested b plan H Exposure r e = cc
 
 -- ---- a request that is done, with a refusal as its reply
-unrefused : (b : Tables) (plan : Plan) (G : List Entry) (request : Request) (K : List Entry) (r : Refusal) → DoesUnrefused b plan G request K (Refused r) → ⊥
-unrefused b plan G (Begin booking) K r d = let e = d.reply in cc
-unrefused b plan G (Answer session step response) K r d = let e = d.reply in cc
-unrefused b plan G (Close session) K r d = let e = d.reply in cc
-unrefused b plan G (Look session) K r d = let e = d.reply in cc
-unrefused b plan G Exposure K r d = let e = d.reply in cc
+-- only a want of a form without the items of a list refuses a request that passes the tests
+abbrev IsOfTests : Refusal → Type 0
+IsOfTests why.NoForm = ⊥
+IsOfTests why.NoneFound = ⊥
+IsOfTests r = ⊤
 
-refused_by : (b : Tables) (plan : Plan) (G : List Entry) (request : Request) (K : List Entry) (r : Refusal) (o : Option Refusal) → DoesUnless o b plan G request K (Refused r) → o ≡ Some r
-refused_by b plan G request K r (Some x) d = let e = d.1 in cc
-refused_by b plan G request K r None d = absurd (unrefused b plan G request K r d)
+not_lacking : (b : Tables) (plan : Plan) (X : Set) (r : Refusal) → LacksForm b plan X r → IsOfTests r → ⊥
+not_lacking b plan X _ (no_form P is none) of = of
+not_lacking b plan X _ (none_found P T leaves is verdict spent) of = of
 
-refused_so : (b : Tables) (plan : Plan) (G : List Entry) (request : Request) (K : List Entry) (r : Refusal) → Does b plan G request K (Refused r) → refusal_of b plan G request ≡ Some r
-refused_so b plan G request K r d = refused_by b plan G request K r (refusal_of b plan G request) d
+unrefused : (b : Tables) (plan : Plan) (G : List Entry) (request : Request) (K : List Entry) (r : Refusal) → IsOfTests r → DoesUnrefused b plan G request K (Refused r) → ⊥
+unrefused b plan G (Begin booking) K r of d = let e = d.reply in cc
+unrefused b plan G (BeginWithout booking items) K r of (inl d) = let e = d.reply in cc
+unrefused b plan G (BeginWithout booking items) K r of (inr d) =
+    let e = d.reply in
+    let same : r ≡ d.why = cc in
+    not_lacking b plan (has items) d.why d.lacks (subst IsOfTests same of)
+unrefused b plan G (Answer session step response) K r of d = let e = d.reply in cc
+unrefused b plan G (Close session) K r of d = let e = d.reply in cc
+unrefused b plan G (Look session) K r of d = let e = d.reply in cc
+unrefused b plan G Exposure K r of d = let e = d.reply in cc
+
+refused_by : (b : Tables) (plan : Plan) (G : List Entry) (request : Request) (K : List Entry) (r : Refusal) (o : Option Refusal) → IsOfTests r → DoesUnless o b plan G request K (Refused r) → o ≡ Some r
+refused_by b plan G request K r (Some x) of d = let e = d.1 in cc
+refused_by b plan G request K r None of d = absurd (unrefused b plan G request K r of d)
+
+refused_so : (b : Tables) (plan : Plan) (G : List Entry) (request : Request) (K : List Entry) (r : Refusal) → IsOfTests r → Does b plan G request K (Refused r) → refusal_of b plan G request ≡ Some r
+refused_so b plan G request K r of d = refused_by b plan G request K r (refusal_of b plan G request) of d
 
 -- ---- from an office with nothing in doubt
 one_of_none : (H G : List Entry) (doubt : Option Entry) → doubt ≡ None → IsOneOf H doubt G → G ≡ H
@@ -155,17 +181,17 @@ module _ {D : Type 0} (request : Request) (old new : Running D) where
 
     full_so : (size : ℕ) → Becomes b plan (history old.marks) request old new (Refused (why.JournalFull size))
         → IsFullAt b plan (history old.marks) request (history new.marks) (reach new.marks) size × (new.doubt ≡ None)
-    full_so size (done does durable) = absurd (tested b plan (history old.marks) request (why.JournalFull size) (refused_so b plan (history old.marks) request (history new.marks) (why.JournalFull size) does))
+    full_so size (done does durable) = absurd (tested b plan (history old.marks) request (why.JournalFull size) (refused_so b plan (history old.marks) request (history new.marks) (why.JournalFull size) tt does))
     full_so size (halted h) =
         let t = stopped_by (why.JournalFull size) h in
         (record { cut_off = h.cut_off; last = t.last; next = t.next; spells = t.spells; may = t.may; size_is = t.size_is; above = t.above }, t.sure)
 
     rose_so : Becomes b plan (history old.marks) request old new (Refused why.Disk) → IsStoppedBy b plan (history new.marks) (IsNextOf b plan (history old.marks) request (history new.marks)) old new why.Disk
-    rose_so (done does durable) = absurd (tested b plan (history old.marks) request why.Disk (refused_so b plan (history old.marks) request (history new.marks) why.Disk does))
+    rose_so (done does durable) = absurd (tested b plan (history old.marks) request why.Disk (refused_so b plan (history old.marks) request (history new.marks) why.Disk tt does))
     rose_so (halted h) = stopped_by why.Disk h
 
     full_sessions : (count : ℕ) → Becomes b plan (history old.marks) request old new (Refused (why.SessionsFull count)) → refusal_of b plan (history old.marks) request ≡ Some (why.SessionsFull count)
-    full_sessions count (done does durable) = refused_so b plan (history old.marks) request (history new.marks) (why.SessionsFull count) does
+    full_sessions count (done does durable) = refused_so b plan (history old.marks) request (history new.marks) (why.SessionsFull count) tt does
     full_sessions count (halted h) = absurd (stopped_by (why.SessionsFull count) h)
 
     module _ (told : Bool) (was now : List ℕ) where

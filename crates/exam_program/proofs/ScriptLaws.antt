@@ -218,25 +218,32 @@ pub lent_on : {D : Type 0} (old cur new : JournalState D) → IsLent tells_of id
 lent_on old cur new first then = record { grows = omega (arith, first.grows, then.grows); tells = then.tells ∙ first.tells; identity = then.identity ∙ first.identity }
 
 module _ {D : Type 0} (script : List Request) (i : ℕ) (old cur new : Running D) (told : Bool) (was mid now : List ℕ)
-    (s : IsSoFar old.bank old.plan old.base script i old cur told was mid) (d : Request) (lt : i < length script) (same : IsSameOffice old cur) (told_now : Bool) (e : told_now ≡ told) where
+    (s : IsSoFar old.bank old.plan old.base script i old cur told was mid) (d : Request) (lt : i < length script) (item : d ≡ get_or script i d) (same : IsSameOffice old cur) (told_now : Bool) (e : told_now ≡ told) where
   -- each moment of the next request, by the bank, the plan and the base of the first office
   each_as_first : (IsTrue (tells_of cur.journal) → AtEachMoment (accounts_of cur.journal) (accounts_of new.journal) (IsFileOf cur.bank cur.plan cur.base (history cur.marks) (get_or script i d ∷ [])))
       → IsTrue (tells_of cur.journal) → AtEachMoment (accounts_of cur.journal) (accounts_of new.journal) (IsFileOf old.bank old.plan old.base (history cur.marks) (get_or script i d ∷ []))
   each_as_first each t = as_first (λ (b : Tables) (p : Plan) (f : List ℕ). AtEachMoment (accounts_of cur.journal) (accounts_of new.journal) (IsFileOf b p f (history cur.marks) (get_or script i d ∷ []))) old cur same (each t)
 
-  pub next_so_far : (IsTrue (tells_of cur.journal) → AtEachMoment (accounts_of cur.journal) (accounts_of new.journal) (IsFileOf cur.bank cur.plan cur.base (history cur.marks) (get_or script i d ∷ [])))
-      → IsLent tells_of identity_of faults_of old.journal cur.journal
-      → IsAnswered cur.bank cur.plan cur.base (get_or script i d) cur new told_now mid now → IsSoFar old.bank old.plan old.base script (i + 1) old new told was now
-  next_so_far each first is =
-      one_so_far old.bank old.plan old.base script i old cur new told was mid now s d lt first.tells (each_as_first each)
-      (subst (λ (t : Bool). IsAnswered old.bank old.plan old.base (get_or script i d) cur new t mid now) e
-      (as_first (λ (b : Tables) (p : Plan) (f : List ℕ). IsAnswered b p f (get_or script i d) cur new told_now mid now) old cur same is))
+  -- the same of the request that was done, which is the next of the script
+  each_here : (IsTrue (tells_of cur.journal) → AtEachMoment (accounts_of cur.journal) (accounts_of new.journal) (IsFileOf cur.bank cur.plan cur.base (history cur.marks) (d ∷ [])))
+      → IsTrue (tells_of cur.journal) → AtEachMoment (accounts_of cur.journal) (accounts_of new.journal) (IsFileOf cur.bank cur.plan cur.base (history cur.marks) (get_or script i d ∷ []))
+  each_here each t = subst (λ (r : Request). AtEachMoment (accounts_of cur.journal) (accounts_of new.journal) (IsFileOf cur.bank cur.plan cur.base (history cur.marks) (r ∷ []))) item (each t)
 
-  pub next_stops : (IsTrue (tells_of cur.journal) → AtEachMoment (accounts_of cur.journal) (accounts_of new.journal) (IsFileOf cur.bank cur.plan cur.base (history cur.marks) (get_or script i d ∷ [])))
+  pub next_so_far : (IsTrue (tells_of cur.journal) → AtEachMoment (accounts_of cur.journal) (accounts_of new.journal) (IsFileOf cur.bank cur.plan cur.base (history cur.marks) (d ∷ [])))
+      → IsLent tells_of identity_of faults_of old.journal cur.journal
+      → IsAnswered cur.bank cur.plan cur.base d cur new told_now mid now → IsSoFar old.bank old.plan old.base script (i + 1) old new told was now
+  next_so_far each first is =
+      one_so_far old.bank old.plan old.base script i old cur new told was mid now s d lt first.tells (each_as_first (each_here each))
+      (subst (λ (t : Bool). IsAnswered old.bank old.plan old.base (get_or script i d) cur new t mid now) e
+      (as_first (λ (b : Tables) (p : Plan) (f : List ℕ). IsAnswered b p f (get_or script i d) cur new told_now mid now) old cur same
+      (subst (λ (r : Request). IsAnswered cur.bank cur.plan cur.base r cur new told_now mid now) item is)))
+
+  pub next_stops : (IsTrue (tells_of cur.journal) → AtEachMoment (accounts_of cur.journal) (accounts_of new.journal) (IsFileOf cur.bank cur.plan cur.base (history cur.marks) (d ∷ [])))
       → IsLent tells_of identity_of faults_of old.journal cur.journal → IsLent tells_of identity_of faults_of cur.journal new.journal
-      → (h : Halt) → IsStopped cur.bank cur.plan cur.base (get_or script i d) cur new told_now mid now h → IsUnserved old.bank old.plan old.base script old new told was now h
+      → (h : Halt) → IsStopped cur.bank cur.plan cur.base d cur new told_now mid now h → IsUnserved old.bank old.plan old.base script old new told was now h
   next_stops each first then h is =
       stop_so_far old.bank old.plan old.base script i old cur new told was mid now s d lt
-      (each_as_first each) first.tells (then.tells ∙ first.tells) first.grows h
+      (each_as_first (each_here each)) first.tells (then.tells ∙ first.tells) first.grows h
       (subst (λ (t : Bool). IsStopped old.bank old.plan old.base (get_or script i d) cur new t mid now h) e
-      (as_first (λ (b : Tables) (p : Plan) (f : List ℕ). IsStopped b p f (get_or script i d) cur new told_now mid now h) old cur same is))
+      (as_first (λ (b : Tables) (p : Plan) (f : List ℕ). IsStopped b p f (get_or script i d) cur new told_now mid now h) old cur same
+      (subst (λ (r : Request). IsStopped cur.bank cur.plan cur.base r cur new told_now mid now h) item is)))

@@ -1,5 +1,5 @@
 -- The history that a replay leads to is a legal run.
-use Rattle.std.proofs.Common.{ℕ, Bool, List, [], ◌∷◌, ◌++◌, Option, Some, None, sym, subst}
+use Rattle.std.proofs.Common.{ℕ, Bool, List, [], ◌∷◌, ◌++◌, Option, Some, None, ◌⊎◌, inl, inr, sym, subst}
 use Rattle.bank_tables.specs.Tables.{Tables}
 use Rattle.form_model.specs.Plan.{Plan}
 use Rattle.history_model.specs.declared.entry.Entry.{Entry}
@@ -9,12 +9,12 @@ use Rattle.history_model.specs.declared.place.Place.TheVariants.{Pending}
 use Rattle.history_model.specs.declared.refusal.Refusal.{Refusal}
 use Rattle.history_model.specs.declared.request.Reply.{Reply}
 use Rattle.history_model.specs.declared.request.Request.{Request}
-use Rattle.history_model.specs.declared.request.Request.TheVariants.{Begin, Answer, Close, Look, Exposure}
+use Rattle.history_model.specs.declared.request.Request.TheVariants.{Begin, BeginWithout, Answer, Close, Look, Exposure}
 use Rattle.history_model.specs.Legality.{LegalRun, more}
 use Rattle.history_model.proofs.CompleteLaws.{complete_meets}
 use Rattle.history_model.specs.Places.{place}
 use Rattle.history_model.specs.Refusals.{refusal_of}
-use Rattle.history_model.specs.Requests.{Begins, RecordsAnswer, Leads, by_begin, by_answer, by_look, Serves, at_once, after_setting_aside, AdvancesFrom, IsServedBy, DoesUnrefused, DoesUnless}
+use Rattle.history_model.specs.Requests.{Begins, BeginsWithout, RecordsAnswer, Leads, by_begin, by_begin_without, by_answer, by_look, Serves, at_once, after_setting_aside, AdvancesFrom, IsServedBy, DoesUnrefused, DoesUnless}
 use Rattle.exam_program.specs.Laws.{CompleteSessionsMeet, CompleteServedSessionsMeet}
 use Rattle.exam_program.specs.Replays.{AreDone, none, one_more}
 
@@ -25,6 +25,11 @@ leads_legal b plan H _ session fresh G run (by_begin booking _ _ _ begins) = beg
     begun : (fresh : Bool) (G : List Entry) → Begins b plan H booking session fresh G → LegalRun b plan G
     begun _ _ (Begins.is_there _ held) = run
     begun _ _ (Begins.is_new _ eligible held legal) = more H _ run legal
+leads_legal b plan H _ session fresh G run (by_begin_without booking items _ _ _ begins) = begun fresh G begins
+  where
+    begun : (fresh : Bool) (G : List Entry) → BeginsWithout b plan H booking items session fresh G → LegalRun b plan G
+    begun _ _ (BeginsWithout.is_there _ held) = run
+    begun _ _ (BeginsWithout.is_new _ eligible list held same legal) = more H _ run legal
 leads_legal b plan H _ session fresh G run (by_answer _ step response _ records) = recorded_so G records
   where
     recorded_so : (G : List Entry) → RecordsAnswer b plan H session step response G → LegalRun b plan G
@@ -47,6 +52,8 @@ served_legal b plan H request K reply run is =
 
 unrefused_legal : (b : Tables) (plan : Plan) (H : List Entry) (request : Request) (K : List Entry) (reply : Reply) → LegalRun b plan H → DoesUnrefused b plan H request K reply → LegalRun b plan K
 unrefused_legal b plan H (Begin booking) K reply run is = served_legal b plan H (Begin booking) K reply run is
+unrefused_legal b plan H (BeginWithout booking items) K reply run (inl is) = served_legal b plan H (BeginWithout booking items) K reply run is
+unrefused_legal b plan H (BeginWithout booking items) K reply run (inr is) = subst (λ (G : List Entry). LegalRun b plan G) (sym is.same) run
 unrefused_legal b plan H (Answer session step response) K reply run is = served_legal b plan H (Answer session step response) K reply run is
 unrefused_legal b plan H (Close session) K reply run is = subst (λ (G : List Entry). LegalRun b plan G) (sym is.closed) (more H (Closed session) run is.legal)
 unrefused_legal b plan H (Look session) K reply run is = served_legal b plan H (Look session) K reply run is

@@ -22,6 +22,8 @@ mod faults;
 #[cfg(test)]
 mod journals;
 #[cfg(test)]
+mod lists;
+#[cfg(test)]
 mod outcome;
 #[cfg(test)]
 mod sessions;

@@ -36,3 +36,4 @@ pub mod Bounds
 pub mod LastForms
 pub mod BandLaws
 pub mod AheadLaws
+pub mod RequestLists

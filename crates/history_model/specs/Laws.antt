@@ -1,7 +1,7 @@
 -- What the definitions imply, as the public laws state it.
-use Rattle.std.specs.Prelude.{◌≡◌, ℕ, ◌+◌, ◌<◌, ◌≤◌, Bool, true, false, ◌||◌, ◌==◌, List, get_or, [], ◌∷◌, ◌++◌, length, slice_get, nat_le, is_some, IsTrue, IsFalse, Option, Some, None, if◌then◌else◌}
+use Rattle.std.specs.Prelude.{◌≡◌, ◌↔◌, ℕ, ◌+◌, ◌<◌, ◌≤◌, Bool, true, false, ◌||◌, ◌==◌, List, get_or, [], ◌∷◌, ◌++◌, length, slice_get, nat_le, is_some, IsTrue, IsFalse, Option, Some, None, if◌then◌else◌}
 use Rattle.std.specs.Option.{option_map}
-use Rattle.bank_tables.specs.Items.{Set, has}
+use Rattle.bank_tables.specs.Items.{Set, has, AreWords}
 use Rattle.bank_tables.specs.Tables.{Tables}
 use Rattle.bank_tables.specs.Validity.{HoldsItems}
 use Rattle.serving_model.specs.declared.seat.Seat.{Seat}
@@ -18,13 +18,16 @@ use Rattle.history_model.specs.declared.counts.Counts.{Counts}
 use Rattle.history_model.specs.declared.place.Place.{Place}
 use Rattle.history_model.specs.declared.place.Place.TheVariants.{Pending, Waiting, Complete, Closed as IsClosed}
 use Rattle.history_model.specs.declared.illegal.Illegal.{Illegal}
+use Rattle.history_model.specs.declared.request.Reply.TheVariants.{At}
+use Rattle.history_model.specs.declared.request.Request.TheVariants.{BeginWithout}
 use Rattle.history_model.specs.Entries.{Serving, StepAnswer, sessions, is_started, holder, list_of, servings, step_answers, seat_of}
 use Rattle.history_model.specs.Places.{place}
 use Rattle.history_model.specs.Counts.{counts, shows, opens, band_counts, shows_in, opens_in, visited, finished}
-use Rattle.history_model.specs.Refusals.{recorded}
+use Rattle.history_model.specs.Refusals.{recorded, is_list, has_list}
+use Rattle.history_model.specs.Requests.{Does}
 use Rattle.history_model.specs.SessionProblems.{IsProblemOf, problem_once_aside, fallback}
 use Rattle.history_model.specs.Legality.{Legal, LegalRun}
-use Rattle.history_model.specs.Lists.{IsLegalList}
+use Rattle.history_model.specs.Lists.{IsListFor, IsLegalList}
 use Rattle.history_model.specs.Judging.{MayFollow, Record, entries_of, Backed}
 use Rattle.history_model.specs.Reasons.{IsIllegal}
 
@@ -311,6 +314,20 @@ ListIsLegal =
 abbrev pub ListStays : Type 0
 ListStays = (H more : List Entry) (s : ℕ) (list : Without) → list_of H s ≡ Some list
     → list_of (H ++ more) s ≡ Some list
+
+-- the test of the words of a set is whether the set is a list for the bank
+abbrev pub ListByWords : Type 0
+ListByWords = (b : Tables) (items : List ℕ) → AreWords items
+    → IsTrue (is_list b items) ↔ IsListFor b (has items)
+
+-- a place as the reply to a request with a list is that of the booking's session, which was started
+-- with that list
+abbrev pub PlaceHasList : Type 0
+PlaceHasList =
+    (b : Tables) (plan : Plan) (H : List Entry) (booking : ℕ) (items : List ℕ) (H2 : List Entry)
+    (session : ℕ) (at : Place) (fresh : Bool) → LegalRun b plan H
+    → Does b plan H (BeginWithout booking items) H2 (At session at fresh)
+    → (holder H2 booking ≡ Some session) × IsTrue (has_list items (list_of H2 session))
 
 -- ---- a longer history
 -- a booking keeps its session, a step its response, a closed session its end, and no session goes

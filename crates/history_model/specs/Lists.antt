@@ -7,9 +7,15 @@ use Rattle.history_model.specs.declared.entry.Without.{Without}
 use Rattle.form_model.specs.declared.breach.Breach.{Breach}
 use Rattle.form_model.specs.Ability.{IsPosteriorMode}
 use Rattle.form_model.specs.Breaches.{IsFirstBreach}
-use Rattle.form_model.specs.Forms.{Form}
+use Rattle.form_model.specs.Forms.{Form, HasNoForm}
 use Rattle.form_model.specs.Plan.{Plan}
 use Rattle.form_model.specs.Problem.{Problem, whole}
+use Rattle.certificate_model.specs.declared.verdict.Verdict.TheVariants.{Partial}
+use Rattle.certificate_model.specs.ProofTrees.{ProofTree}
+use Rattle.certificate_model.specs.Verdicts.{IsVerdict}
+use Rattle.certificate_model.specs.Spending.{IsSpent}
+use Rattle.history_model.specs.declared.refusal.Refusal.{Refusal}
+use Rattle.history_model.specs.declared.refusal.Refusal.TheVariants.{NoForm, NoneFound}
 
 -- a list has items, all of the bank
 pub record IsListFor (b : Tables) (items : Set) : Type 0 where
@@ -55,3 +61,13 @@ pub record IsBreachOfList (b : Tables) (plan : Plan) (list : Without)
 abbrev pub IsBreachOfWithout : Tables → Plan → Option Without → Breach → Type 0
 IsBreachOfWithout b plan None breach = ⊥
 IsBreachOfWithout b plan (Some list) breach = IsBreachOfList b plan list breach
+
+-- ---- why no session starts with a list
+-- no form without the items is known: no set is one, or none was found within the node budget for a
+-- base form
+pub data LacksForm (b : Tables) (plan : Plan) (items : Set) : Refusal → Type 0 where
+  no_form : (P : Problem) → IsWholeWithout b plan items P → HasNoForm P
+      → LacksForm b plan items NoForm
+  none_found : (P : Problem) (T : ProofTree) (leaves : ℕ) → IsWholeWithout b plan items P
+      → IsVerdict P None T (Partial leaves) → IsSpent P T plan.base_budget
+      → LacksForm b plan items NoneFound

@@ -1,5 +1,5 @@
 -- What a request does to a history, on one thread.
-use Rattle.std.specs.Prelude.{◌≡◌, ℕ, ◌<◌, Bool, true, false, List, [], ◌∷◌, ◌++◌, length, slice_get, Option, Some, None}
+use Rattle.std.specs.Prelude.{◌≡◌, ◌⊎◌, ℕ, ◌<◌, Bool, true, false, List, [], ◌∷◌, ◌++◌, length, slice_get, Option, Some, None}
 use Rattle.bank_tables.specs.Items.{has}
 use Rattle.bank_tables.specs.Tables.{Tables, size}
 use Rattle.form_model.specs.Plan.{Plan}
@@ -7,6 +7,7 @@ use Rattle.form_model.specs.Problem.{Problem}
 use Rattle.form_model.specs.Forms.{Firm}
 use Rattle.history_model.specs.declared.entry.Bands.{Bands}
 use Rattle.history_model.specs.declared.entry.Cause.{Cause}
+use Rattle.history_model.specs.declared.entry.Without.{Without}
 use Rattle.history_model.specs.declared.entry.Entry.{Entry}
 use Rattle.history_model.specs.declared.entry.Entry.TheVariants.{Started, SetAside, Served, Answered, Closed}
 use Rattle.history_model.specs.declared.place.Place.{Place}
@@ -20,6 +21,7 @@ use Rattle.history_model.specs.declared.request.Request.TheVariants as request
 use Rattle.history_model.specs.Counts.{counts, finished}
 use Rattle.history_model.specs.Entries.{holder}
 use Rattle.history_model.specs.Legality.{Legal}
+use Rattle.history_model.specs.Lists.{LacksForm}
 use Rattle.history_model.specs.Places.{place}
 use Rattle.history_model.specs.Refusals.{recorded, refusal_of}
 use Rattle.history_model.specs.SessionProblems.{IsProblemOf}
@@ -33,6 +35,16 @@ pub data Begins (b : Tables) (plan : Plan) (H : List Entry) (booking : ℕ) : �
   is_new : (session : ℕ) (eligible : Bands) → holder H booking ≡ None
       → Legal b plan H (Started session booking eligible None)
       → Begins b plan H booking session true (H ++ Started session booking eligible None ∷ [])
+
+-- the session of a booking with a list: it is there, or it is started with that list
+pub data BeginsWithout (b : Tables) (plan : Plan) (H : List Entry) (booking : ℕ)
+    (items : List ℕ) : ℕ → Bool → List Entry → Type 0 where
+  is_there : (session : ℕ) → holder H booking ≡ Some session
+      → BeginsWithout b plan H booking items session false H
+  is_new : (session : ℕ) (eligible : Bands) (list : Without) → holder H booking ≡ None
+      → list.items ≡ items → Legal b plan H (Started session booking eligible (Some list))
+      → BeginsWithout b plan H booking items session true
+      (H ++ Started session booking eligible (Some list) ∷ [])
 
 -- the answer to a step: it is recorded, or it is added
 pub data RecordsAnswer (b : Tables) (plan : Plan) (H : List Entry)
@@ -49,6 +61,9 @@ pub data Leads (b : Tables) (plan : Plan) (H : List Entry) : Request → ℕ →
   by_begin : (booking session : ℕ) (fresh : Bool) (G : List Entry)
       → Begins b plan H booking session fresh G
       → Leads b plan H (request.Begin booking) session fresh G
+  by_begin_without : (booking : ℕ) (items : List ℕ) (session : ℕ) (fresh : Bool) (G : List Entry)
+      → BeginsWithout b plan H booking items session fresh G
+      → Leads b plan H (request.BeginWithout booking items) session fresh G
   by_answer : (session step response : ℕ) (G : List Entry)
       → RecordsAnswer b plan H session step response G
       → Leads b plan H (request.Answer session step response) session false G
@@ -118,6 +133,15 @@ pub record IsClosedBy (b : Tables) (plan : Plan) (H : List Entry) (session : ℕ
   pub stands : place plan H2 session ≡ Some at
   pub reply : answer ≡ reply.At session at false
 
+-- no session is started for a booking that has none, since no form without the items is known
+pub record IsNotBegun (b : Tables) (plan : Plan) (H : List Entry) (booking : ℕ) (items : List ℕ)
+    (H2 : List Entry) (answer : Reply) : Type 0 where
+  pub same : H2 ≡ H
+  pub not_booked : holder H booking ≡ None
+  pub why : Refusal
+  pub lacks : LacksForm b plan (has items) why
+  pub reply : answer ≡ reply.Refused why
+
 -- the number of finished sessions, and the counts of each item of the bank
 pub record IsExposureOf (b : Tables) (plan : Plan) (H : List Entry)
     (exposure : Exposure) : Type 0 where
@@ -136,6 +160,9 @@ pub record IsExposedBy (b : Tables) (plan : Plan) (H H2 : List Entry)
 abbrev pub DoesUnrefused : Tables → Plan → List Entry → Request → List Entry → Reply → Type 0
 DoesUnrefused b plan H (request.Close session) H2 answer = IsClosedBy b plan H session H2 answer
 DoesUnrefused b plan H request.Exposure H2 answer = IsExposedBy b plan H H2 answer
+DoesUnrefused b plan H (request.BeginWithout booking items) H2 answer =
+    IsServedBy b plan H (request.BeginWithout booking items) H2 answer
+    ⊎ IsNotBegun b plan H booking items H2 answer
 DoesUnrefused b plan H asked H2 answer = IsServedBy b plan H asked H2 answer
 
 -- a request that is refused does nothing

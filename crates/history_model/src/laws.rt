@@ -2,7 +2,7 @@
 
 ghost use Rattle.history_model.specs.Ahead.{AheadStays, AnsweredThere};
 ghost use Rattle.history_model.specs.Lifting.{LiftedMayFollow};
-ghost use Rattle.history_model.specs.Laws.{MayIsLegal, BackedIsLegalRun, OneProblem, OneReason, NoReasonIfMay, EachIsLegal, SessionsAreNumbered, SessionsAreFew, FinishedAreFew, StepsAreInOrder, SeatBeforeStart, SeatGoesOn, SeatIsSeat, EligibleIsOfBank, OnlyBandsOfPlan, AsideIsOfEstimate, PlaceIsOfSeat, PendingIsOfSeat, CountsGoOn, BandCountsGoOn, VisitedGoesOn, FinishedGoesOn, OneBandIsAll, LastFormStays, LastFormStaysInBand, CompleteMeets, FormOnceAside, FormWhereAside, HolderStays, ResponseStays, ClosedStays, SessionsGrow, BeginningIsLegal, CompleteStays, ProblemStays, SameProblem, EachMayFollow, ListHasForm, NoneShownOfList, NoneServedOfList, NoneOpenOfList, ListIsLegal, ListStays};
+ghost use Rattle.history_model.specs.Laws.{MayIsLegal, BackedIsLegalRun, OneProblem, OneReason, NoReasonIfMay, EachIsLegal, SessionsAreNumbered, SessionsAreFew, FinishedAreFew, StepsAreInOrder, SeatBeforeStart, SeatGoesOn, SeatIsSeat, EligibleIsOfBank, OnlyBandsOfPlan, AsideIsOfEstimate, PlaceIsOfSeat, PendingIsOfSeat, CountsGoOn, BandCountsGoOn, VisitedGoesOn, FinishedGoesOn, OneBandIsAll, LastFormStays, LastFormStaysInBand, CompleteMeets, FormOnceAside, FormWhereAside, HolderStays, ResponseStays, ClosedStays, SessionsGrow, BeginningIsLegal, CompleteStays, ProblemStays, SameProblem, EachMayFollow, ListHasForm, NoneShownOfList, NoneServedOfList, NoneOpenOfList, ListIsLegal, ListStays, ListByWords, PlaceHasList};
 
 /// What may follow, by its tree, is legal: a form marked proved is best, and eligibility is set aside for the stated cause.
 pub fn may_is_legal()
@@ -175,6 +175,16 @@ pub fn list_is_legal()
 /// A session keeps its list in every longer history.
 pub fn list_stays()
     ensures { ListStays }
+{}
+
+/// The test of the words of a set is whether the set is a list for the bank: it has items, all of the bank.
+pub fn list_by_words()
+    ensures { ListByWords }
+{}
+
+/// A place as the reply to a request with a list is that of the booking's session, which was started with that list.
+pub fn place_has_list()
+    ensures { PlaceHasList }
 {}
 
 /// A booking keeps its session in every longer history.

@@ -22,8 +22,18 @@ pub enum Refusal {
     /// The session doesn't wait for the item that was assembled; its place, and whether eligibility
     /// is set aside in the band of its estimate.
     Stale(Place, bool),
+    /// The booking has a session that was not started with this list of items; that session.
+    OtherList(u32),
+    /// The list of items that the examinee must not get has none, or one that the bank hasn't; the
+    /// number of items of the bank.
+    NoItem(u16),
     /// No more sessions are allowed; their number.
     SessionsFull(u32),
+    /// No set of items is a form of the plan without the items of the list.
+    NoForm,
+    /// No form of the plan without the items of the list was found within the plan's node budget
+    /// for a base form.
+    NoneFound,
     /// The journal would be longer than its limit; the length that it would have, in bytes.
     JournalFull(u64),
     /// A call of the disk failed, and the disk has counted that. One entry is in doubt.

@@ -3,13 +3,19 @@
 use crate::counts::Counts;
 use crate::place::Place;
 use crate::refusal::Refusal;
-use bank_tables::List;
+use bank_tables::{ItemSet, List};
 
 /// What one request asks.
 #[derive(Clone, Copy, Debug, PartialEq, Eq)]
 pub enum Request {
     /// A session for a booking.
     Begin(u64),
+    /// A session for a booking whose examinee must not get the items of a list, as those of earlier
+    /// sittings. A list with no items is none: no session starts with it.
+    BeginWithout {
+        booking: u64,
+        items: ItemSet,
+    },
     /// The response to the item of a step.
     Answer {
         session: u32,

@@ -4,7 +4,7 @@ use Rattle.bank_tables.specs.Tables.{Tables}
 use Rattle.form_model.specs.Plan.{Plan}
 use Rattle.history_model.specs.declared.entry.Entry.{Entry}
 use Rattle.history_model.specs.declared.refusal.Refusal.{Refusal}
-use Rattle.history_model.specs.declared.refusal.Refusal.TheVariants.{NoSession, WrongStep, Other, BadResponse, IsClosed, Stale, SessionsFull, JournalFull, Disk, Memory}
+use Rattle.history_model.specs.declared.refusal.Refusal.TheVariants.{NoSession, WrongStep, Other, BadResponse, IsClosed, Stale, OtherList, NoItem, SessionsFull, NoForm, NoneFound, JournalFull, Disk, Memory}
 use Rattle.branch_bound.specs.Assembled.{Assembly}
 use Rattle.exam_office.specs.declared.mark.Mark.{Mark}
 use Rattle.exam_office.specs.declared.mark.Mark.TheVariants.{Own, Fault}
@@ -34,6 +34,10 @@ module _ {D : Type 0} (old new : Running D) (a : Assembly) where
   not_mended (IsClosed at) why m = absurd why
   not_mended (Stale at aside) why m = absurd why
   not_mended (SessionsFull count) why m = absurd why
+  not_mended (OtherList session) why m = absurd why
+  not_mended (NoItem number) why m = absurd why
+  not_mended NoForm why m = absurd why
+  not_mended NoneFound why m = absurd why
 
   not_written : (M : List Mark) (entry : Entry) (r : Refusal) → IsHalted old new M entry r → May (history M) → May (history new.marks)
   not_written M entry Memory why m = subst May (sym (ap history why.marks_are)) m
@@ -46,6 +50,10 @@ module _ {D : Type 0} (old new : Running D) (a : Assembly) where
   not_written M entry (IsClosed at) why m = absurd why
   not_written M entry (Stale at aside) why m = absurd why
   not_written M entry (SessionsFull count) why m = absurd why
+  not_written M entry (OtherList session) why m = absurd why
+  not_written M entry (NoItem number) why m = absurd why
+  not_written M entry NoForm why m = absurd why
+  not_written M entry NoneFound why m = absurd why
 
   may_after : (M : List Mark) → IsMended old.marks old.doubt M → May (history old.marks) → May (history M)
   may_after M mended m = mended_may old.bank old.plan old.base old.marks M old.doubt a mended m

@@ -24,6 +24,8 @@ mod files;
 #[cfg(test)]
 mod journal;
 #[cfg(test)]
+mod lists;
+#[cfg(test)]
 mod lossy_disk;
 #[cfg(test)]
 mod lost_moves;

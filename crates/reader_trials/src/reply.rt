@@ -21,7 +21,7 @@ enum Short {
 }
 
 /// Replies, each with its line. A reply that a replay never prints has an empty one.
-const REPLIES: [(Short, &str); 18] = [
+const REPLIES: [(Short, &str); 22] = [
     (
         Short::At(
             0,
@@ -79,6 +79,13 @@ const REPLIES: [(Short, &str); 18] = [
         Short::Refused(Refusal::IsClosed(Place::Closed)),
         "refused is-closed closed\n",
     ),
+    (
+        Short::Refused(Refusal::OtherList(1)),
+        "refused other-list 1\n",
+    ),
+    (Short::Refused(Refusal::NoItem(6)), "refused no-item 6\n"),
+    (Short::Refused(Refusal::NoForm), "refused no-form\n"),
+    (Short::Refused(Refusal::NoneFound), "refused none-found\n"),
     (Short::Refused(Refusal::IsClosed(Place::Pending(1))), ""),
     (Short::Refused(Refusal::Stale(Place::Complete, true)), ""),
     (Short::Refused(Refusal::SessionsFull(1)), ""),

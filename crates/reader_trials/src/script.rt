@@ -7,6 +7,7 @@ use history_model::Request;
 use replay_cli::{ScriptFault, read_script};
 use std::alloc::Global;
 use std::process::Abort;
+use trial_cases::set_of;
 
 /// The requests that these bytes are read to, or the fault. The calls of their source that have
 /// these numbers fail.
@@ -19,35 +20,30 @@ fn read<R: Abort>(
     read_script(alloc, &mut source_of(rt, alloc, bytes, fails))
 }
 
-/// A request of each kind, some with the greatest numbers, some with the least.
-const EACH: &[Request] = &[
-    Request::Begin(18_446_744_073_709_551_615),
-    Request::Answer {
-        session: 4_294_967_295,
-        step: 65_535,
-        response: 255,
-    },
-    Request::Answer {
-        session: 0,
-        step: 0,
-        response: 0,
-    },
-    Request::Close(10),
-    Request::Look(0),
-    Request::Exposure,
-];
+/// A request of each kind without a list, some with the greatest numbers, some with the least.
+fn each_kind() -> [Request; 6] {
+    [
+        Request::Begin(18_446_744_073_709_551_615),
+        Request::Answer {
+            session: 4_294_967_295,
+            step: 65_535,
+            response: 255,
+        },
+        Request::Answer {
+            session: 0,
+            step: 0,
+            response: 0,
+        },
+        Request::Close(10),
+        Request::Look(0),
+        Request::Exposure,
+    ]
+}
 
-/// Texts, each with its requests. The second is the first without the last line feed.
-const SCRIPTS: [(&str, &[Request]); 3] = [
-    (
-        "begin 18446744073709551615\nanswer 4294967295 65535 255\nanswer 0 0 0\nclose 10\nlook 0\nexposure\n",
-        EACH,
-    ),
-    (
-        "begin 18446744073709551615\nanswer 4294967295 65535 255\nanswer 0 0 0\nclose 10\nlook 0\nexposure",
-        EACH,
-    ),
-    ("", &[]),
+/// Texts of these requests. The second is the first without the last line feed.
+const SCRIPTS: [&str; 2] = [
+    "begin 18446744073709551615\nanswer 4294967295 65535 255\nanswer 0 0 0\nclose 10\nlook 0\nexposure\n",
+    "begin 18446744073709551615\nanswer 4294967295 65535 255\nanswer 0 0 0\nclose 10\nlook 0\nexposure",
 ];
 
 fn reads<R: Abort>(rt: &R, alloc: Global, text: &str, requests: &[Request]) {
@@ -57,13 +53,14 @@ fn reads<R: Abort>(rt: &R, alloc: Global, text: &str, requests: &[Request]) {
 
 #[test]
 fn each_kind_of_line_is_read(rt: HostRuntime) {
-    for (text, requests) in &SCRIPTS {
-        reads(&rt, rt.alloc(), text, requests);
+    for text in &SCRIPTS {
+        reads(&rt, rt.alloc(), text, &each_kind());
     }
+    reads(&rt, rt.alloc(), "", &[]);
 }
 
 /// Texts, each with the number of the first line that is out of form.
-const OUT_OF_FORM: [(&str, u64); 21] = [
+const OUT_OF_FORM: [(&str, u64); 35] = [
     ("answer 0 0\n", 1),
     ("\n", 1),
     ("exposure\n\n", 2),
@@ -85,6 +82,23 @@ const OUT_OF_FORM: [(&str, u64); 21] = [
     ("begin 1\r\n", 1),
     ("Begin 1\n", 1),
     ("# begin 1\n", 1),
+    ("begin 1 without\n", 1),
+    ("begin 1 without \n", 1),
+    ("begin 1 without 0 1\n", 1),
+    ("begin 1 without 0-1 2\n", 1),
+    ("begin 1 without 2-2\n", 1),
+    ("begin 1 without 2-1\n", 1),
+    ("begin 1 without 3 1\n", 1),
+    ("begin 1 without 0-3 2\n", 1),
+    ("begin 1 without 512\n", 1),
+    ("begin 1 without 510-512\n", 1),
+    ("begin 1 without 02\n", 1),
+    ("begin 1 without 2,4\n", 1),
+    ("begin 1 Without 2\n", 1),
+    (
+        "begin 1 without 2\nbegin 18446744073709551616 without 2\n",
+        2,
+    ),
 ];
 
 fn is_out_of_form<R: Abort>(rt: &R, alloc: Global, text: &str, line: u64) {
@@ -96,6 +110,34 @@ fn is_out_of_form<R: Abort>(rt: &R, alloc: Global, text: &str, line: u64) {
 fn the_first_line_out_of_form_is_named(rt: HostRuntime) {
     for (text, line) in &OUT_OF_FORM {
         is_out_of_form(&rt, rt.alloc(), text, *line);
+    }
+}
+
+/// Lines of beginnings with a list, each with the booking and the items.
+const LISTS: [(&str, u64, &[u16]); 5] = [
+    ("begin 71 without 2\n", 71, &[2]),
+    ("begin 0 without 0-1 5", 0, &[0, 1, 5]),
+    ("begin 18446744073709551615 without 511\n", u64::MAX, &[511]),
+    (
+        "begin 7 without 63-64 66 127-130\n",
+        7,
+        &[63, 64, 66, 127, 128, 129, 130],
+    ),
+    ("begin 8 without 0 2 4-6\n", 8, &[0, 2, 4, 5, 6]),
+];
+
+fn reads_list<R: Abort>(rt: &R, alloc: Global, text: &str, booking: u64, items: &[u16]) {
+    let expected = [Request::BeginWithout {
+        booking,
+        items: set_of(items),
+    }];
+    reads(rt, alloc, text, &expected);
+}
+
+#[test]
+fn a_line_with_a_list_is_read(rt: HostRuntime) {
+    for (text, booking, items) in &LISTS {
+        reads_list(&rt, rt.alloc(), text, *booking, items);
     }
 }
 

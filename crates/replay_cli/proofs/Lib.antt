@@ -1,3 +1,6 @@
+pub mod WordLists
+pub mod ListLines
+pub mod RequestTexts
 pub mod RequestLines
 pub mod ScriptLines
 pub mod ReadLaws

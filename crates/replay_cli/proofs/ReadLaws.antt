@@ -2,21 +2,21 @@
 use Rattle.std.proofs.Common.{◌≡◌, ℕ, zero, suc, ◌+◌, ◌<◌, ◌⊎◌, inl, inr, List, [], ◌∷◌, ◌++◌, length, get_or, map, Option, Some, None, Result, Ok, Err, refl, sym, ap, ◌∙◌, arith}
 use Rattle.std.proofs.lemmas.List.{ext_get_or, get_or-map, length-map}
 use Rattle.exam_text.specs.First.{or_fault, each_below, ◌>>=◌}
-use Rattle.exam_text.specs.Words.{lines_of, words_of, word}
+use Rattle.exam_text.specs.Words.{lines_of, word}
 use Rattle.exam_text.proofs.Firsts.{or_fault_ok, each_is, each_from, ok_is}
 use Rattle.history_model.specs.declared.request.Request.{Request}
 use Rattle.history_model.specs.declared.request.Request.TheVariants.{Exposure}
 use Rattle.replay_cli.specs.declared.script_fault.ScriptFault.{ScriptFault}
 use Rattle.replay_cli.specs.declared.script_fault.ScriptFault.TheVariants.{Line}
 use Rattle.replay_cli.specs.Scripts.{request_line, IsInRange, IsScript, IsRequestLine, IsFirstFaultyLine}
-use Rattle.replay_cli.specs.Reading.{request_in, request_at, requests_of}
+use Rattle.replay_cli.specs.Reading.{request_on, request_at, requests_of}
 use Rattle.replay_cli.proofs.RequestLines.{line_read, line_is}
 use Rattle.replay_cli.proofs.ScriptLines.{script_lines, script_from_lines}
 
 -- ---- lines that are read
 
 read_at : (lines : List (List ℕ)) (i : ℕ) (r : Request) → request_at lines i ≡ Ok r → (word lines i ≡ request_line r) × IsInRange r
-read_at lines i r e = line_is (word lines i) r (or_fault_ok (request_in (words_of (word lines i))) (Line (i + 1)) r e)
+read_at lines i r e = line_is (word lines i) r (or_fault_ok (request_on (word lines i)) (Line (i + 1)) r e)
 
 again_at : (lines : List (List ℕ)) (i : ℕ) (r : Request) → word lines i ≡ request_line r → IsInRange r → request_at lines i ≡ Ok r
 again_at lines i r e range = rw (e, line_read r range) refl
@@ -80,9 +80,9 @@ missing : (o : Option Request) (f e : ScriptFault) → or_fault o f ≡ Err e �
 missing None f e h = (refl, cc)
 missing (Some r) f e h = absurd cc
 
-unread : (line : List ℕ) → request_in (words_of line) ≡ None → IsRequestLine line → ⊥
+unread : (line : List ℕ) → request_on line ≡ None → IsRequestLine line → ⊥
 unread line none is =
-    let some : request_in (words_of line) ≡ Some is.request = rw is.words (line_read is.request is.in_range) in
+    let some : request_on line ≡ Some is.request = rw is.words (line_read is.request is.in_range) in
     differ is.request (sym none ∙ some)
   where
     differ : (r : Request) → None ≡ Some r → ⊥
@@ -99,7 +99,7 @@ unfolding requests_of
 fault_is text fault e =
     let lines = lines_of text in
     let first = each_err (length lines) (request_at lines) fault e in
-    let m = missing (request_in (words_of (word lines first.at))) (Line (first.at + 1)) fault first.here in
+    let m = missing (request_on (word lines first.at)) (Line (first.at + 1)) fault first.here in
     record {
       line = first.at + 1;
       is = m.1;

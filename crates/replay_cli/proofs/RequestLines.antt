@@ -1,27 +1,35 @@
 -- A line is read as a request exactly where it is that request's line.
-use Rattle.std.proofs.Common.{◌≡◌, ◌≢◌, ℕ, zero, suc, ◌^◌, ◌<◌, ◌≤◌, ◌⊎◌, inl, inr, Bool, true, false, ◌&&◌, cond, eqb, List, [], ◌∷◌, ◌++◌, length, get_or, Option, Some, None, refl, sym, ap, ap₂, subst, ◌∙◌, arith, codes}
+use Rattle.std.proofs.Common.{◌≡◌, ◌≢◌, ℕ, zero, suc, ◌^◌, ◌<◌, ◌≤◌, ◌⊎◌, inl, inr, Bool, true, false, ◌&&◌, cond, eqb, List, [], ◌∷◌, ◌++◌, length, get_or, map, Option, Some, None, refl, sym, ap, ap₂, subst, ◌∙◌, arith, codes}
 use Rattle.std.specs.Prelude.{nat_le}
 use Rattle.std.specs.Option.{option_map}
 use Rattle.std.specs.List.{list_all, join_with_byte}
 use Rattle.std.specs.Fmt.{decimal}
 use Rattle.std.specs.Int.{IsInRange as IsWithin}
 use Rattle.std.specs.Str.{bytes_eq}
-use Rattle.std.proofs.lemmas.Bool.{and_parts, leb-true, ne_eqb, eqb-true}
+use Rattle.std.proofs.lemmas.Bool.{and_parts, cases_Bool, leb-true, ne_eqb, eqb-true}
 use Rattle.std.proofs.lemmas.List.Splits.{join_with_byte-slice_split}
 use Rattle.std.proofs.lemmas.Slice.Eq.{bytes_eq-Decides}
 use Rattle.std.proofs.lemmas.Str.Parse.{digit_at}
 use Rattle.std.proofs.lemmas.Fmt.{digits_decimal}
 use Rattle.exam_text.specs.First.{◌orelse◌}
+use Rattle.bank_tables.specs.Items.{has}
 use Rattle.exam_text.specs.Numbers.{number_of}
+use Rattle.exam_text.specs.declared.run.Run.{Run}
+use Rattle.exam_text.specs.Runs.{IsRun, run_word}
 use Rattle.exam_text.specs.Words.{words_of, word, spaced, Lacks, NoneHas}
 use Rattle.exam_text.proofs.Numerals.{own, number_is, number_again}
 use Rattle.exam_text.proofs.WordLaws.{words_again}
 use Rattle.history_model.specs.declared.request.Request.{Request}
-use Rattle.history_model.specs.declared.request.Request.TheVariants.{Begin, Answer, Close, Look, Exposure}
+use Rattle.history_model.specs.declared.request.Request.TheVariants.{Begin, BeginWithout, Answer, Close, Look, Exposure}
 use Rattle.replay_cli.specs.Scripts.{request_words, request_line, IsInRange}
-use Rattle.replay_cli.specs.Reading.{number_after, answer_with, answer_in, exposure_in, request_in}
+use Rattle.replay_cli.specs.Reading.{number_after, answer_with, answer_in, exposure_in, request_in, without_in, if_spelled, request_from, request_on}
+use Rattle.spec_reader.specs.Sets.{runs_of}
+use Rattle.spec_reader.specs.Canonical.{set_words}
+use Rattle.spec_reader.specs.Grammar.{run}
+use Rattle.spec_reader.proofs.RunsLaws.{runs_items}
+use Rattle.replay_cli.proofs.ListLines.{without_again, without_is}
 
--- ---- no word has a space or a line feed, which come before the digits and the letters
+-- ---- no word has a space or a line feed, which come before the dash, the digits and the letters
 
 lacks_from : (c : ℕ) (w : List ℕ) → ((k : ℕ) → k < length w → get_or w k 0 ≢ c) → Lacks c w
 lacks_from c [] h k e lt = absurd (omega arith)
@@ -41,33 +49,62 @@ name_lacks c (b ∷ bs) low h (suc k) e lt =
     let p = and_parts (nat_le 48 b) (list_all (λ x. nat_le 48 x) bs) h in
     name_lacks c bs low p.1 k e (omega (arith, lt))
 
-words_lack : (c : ℕ) → c < 48 → (r : Request) → IsInRange r → NoneHas c (request_words r)
-words_lack c low (Begin n) h = (name_lacks c (codes "begin") low refl, (number_lacks c n low (omega (arith, h)), tt))
+lacks_cons : (c b : ℕ) (bs : List ℕ) → eqb b c ≡ false → Lacks c bs → Lacks c (b ∷ bs)
+lacks_cons c b bs h g zero e lt = h
+lacks_cons c b bs h g (suc k) e lt = g k e (omega (arith, lt))
+
+lacks_append : (c : ℕ) (a b : List ℕ) → Lacks c a → Lacks c b → Lacks c (a ++ b)
+lacks_append c [] b h g k e lt = g k e lt
+lacks_append c (x ∷ xs) b h g zero e lt = h 0 e (omega arith)
+lacks_append c (x ∷ xs) b h g (suc k) e lt = lacks_append c xs b (λ j d lt2. h (suc j) d (omega (arith, lt2))) g k e (omega (arith, lt))
+
+run_lacks : (c : ℕ) → c < 45 → (r : Run) → IsRun r → Lacks c (run_word r)
+run_lacks c low r is =
+    let front : Lacks c (decimal r.low) = number_lacks c r.low (omega (arith, low)) (omega (arith, is.order, is.high)) in
+    let back : Lacks c (decimal r.high) = number_lacks c r.high (omega (arith, low)) (omega (arith, is.high)) in
+    elim (cases_Bool (eqb r.low r.high)) [
+      | inl one ↦ rw one front
+      | inr more ↦ rw more (lacks_append c (decimal r.low) (45 ∷ decimal r.high) front (lacks_cons c 45 (decimal r.high) (ne_eqb 45 c (λ e. omega (arith, low, e))) back))
+    ]
+
+runs_lack : (c : ℕ) → c < 45 → (rs : List Run) → ((i : ℕ) → i < length rs → IsRun (run rs i)) → NoneHas c (map run_word rs)
+runs_lack c low [] h = tt
+runs_lack c low (r ∷ rs) h = (run_lacks c low r (h 0 (omega arith)), runs_lack c low rs (λ i lt. h (suc i) (omega (arith, lt))))
+
+words_lack : (c : ℕ) → c < 45 → (r : Request) → IsInRange r → NoneHas c (request_words r)
+words_lack c low (Begin n) h = (name_lacks c (codes "begin") (omega (arith, low)) refl, (number_lacks c n (omega (arith, low)) (omega (arith, h)), tt))
+words_lack c low (BeginWithout n items) h =
+    (name_lacks c (codes "begin") (omega (arith, low)) refl, (number_lacks c n (omega (arith, low)) (omega (arith, h.0)), (name_lacks c (codes "without") (omega (arith, low)) refl, runs_lack c low (runs_of (has items)) (runs_items (has items) h.2).0.each)))
 words_lack c low (Answer s k r) h =
-    (name_lacks c (codes "answer") low refl, (number_lacks c s low (omega (arith, h.0)), (number_lacks c k low (omega (arith, h.1)), (number_lacks c r low (omega (arith, h.2)), tt))))
-words_lack c low (Close s) h = (name_lacks c (codes "close") low refl, (number_lacks c s low (omega (arith, h)), tt))
-words_lack c low (Look s) h = (name_lacks c (codes "look") low refl, (number_lacks c s low (omega (arith, h)), tt))
-words_lack c low Exposure h = (name_lacks c (codes "exposure") low refl, tt)
+    (name_lacks c (codes "answer") (omega (arith, low)) refl, (number_lacks c s (omega (arith, low)) (omega (arith, h.0)), (number_lacks c k (omega (arith, low)) (omega (arith, h.1)), (number_lacks c r (omega (arith, low)) (omega (arith, h.2)), tt))))
+words_lack c low (Close s) h = (name_lacks c (codes "close") (omega (arith, low)) refl, (number_lacks c s (omega (arith, low)) (omega (arith, h)), tt))
+words_lack c low (Look s) h = (name_lacks c (codes "look") (omega (arith, low)) refl, (number_lacks c s (omega (arith, low)) (omega (arith, h)), tt))
+words_lack c low Exposure h = (name_lacks c (codes "exposure") (omega (arith, low)) refl, tt)
 
 -- ---- what is written is read
 
 line_words : (r : Request) → IsInRange r → words_of (request_line r) ≡ request_words r
 line_words (Begin n) h = words_again (codes "begin") (decimal n ∷ []) (words_lack 32 (omega arith) (Begin n) h)
+line_words (BeginWithout n items) h = words_again (codes "begin") (decimal n ∷ codes "without" ∷ set_words (has items)) (words_lack 32 (omega arith) (BeginWithout n items) h)
 line_words (Answer s k r) h = words_again (codes "answer") (decimal s ∷ decimal k ∷ decimal r ∷ []) (words_lack 32 (omega arith) (Answer s k r) h)
 line_words (Close s) h = words_again (codes "close") (decimal s ∷ []) (words_lack 32 (omega arith) (Close s) h)
 line_words (Look s) h = words_again (codes "look") (decimal s ∷ []) (words_lack 32 (omega arith) (Look s) h)
 line_words Exposure h = words_again (codes "exposure") [] (words_lack 32 (omega arith) Exposure h)
 
-words_read : (r : Request) → IsInRange r → request_in (request_words r) ≡ Some r
-unfolding request_in number_after answer_in exposure_in
-words_read (Begin n) h = rw (number_again 18446744073709551615 n (omega arith) h) refl
-words_read (Answer s k r) h = rw (number_again 4294967295 s (omega arith) h.0, number_again 65535 k (omega arith) h.1, number_again 255 r (omega arith) h.2) refl
-words_read (Close s) h = rw (number_again 4294967295 s (omega arith) h) refl
-words_read (Look s) h = rw (number_again 4294967295 s (omega arith) h) refl
-words_read Exposure h = refl
+spelled : (line : List ℕ) (r : Request) (other : Option Request) → line ≡ request_line r → if_spelled line (Some r) other ≡ Some r
+spelled line r other e = ap (λ (b : Bool). cond b (Some r) None) ((bytes_eq-Decides (request_line r) line).1 (sym e))
 
-pub line_read : (r : Request) → IsInRange r → request_in (words_of (request_line r)) ≡ Some r
-line_read r h = ap request_in (line_words r h) ∙ words_read r h
+words_read : (line : List ℕ) (r : Request) → IsInRange r → line ≡ request_line r → request_from line (request_words r) ≡ Some r
+unfolding request_from without_in request_in number_after answer_in exposure_in
+words_read line (Begin n) h e = rw (number_again 18446744073709551615 n (omega arith) h) refl
+words_read line (BeginWithout n items) h e = rw (without_again n items h) (spelled line (BeginWithout n items) (request_in (request_words (BeginWithout n items))) e)
+words_read line (Answer s k r) h e = rw (number_again 4294967295 s (omega arith) h.0, number_again 65535 k (omega arith) h.1, number_again 255 r (omega arith) h.2) refl
+words_read line (Close s) h e = rw (number_again 4294967295 s (omega arith) h) refl
+words_read line (Look s) h e = rw (number_again 4294967295 s (omega arith) h) refl
+words_read line Exposure h e = refl
+
+pub line_read : (r : Request) → IsInRange r → request_on (request_line r) ≡ Some r
+line_read r h = ap (request_from (request_line r)) (line_words r h) ∙ words_read (request_line r) r h refl
 
 -- ---- what is read is what is written
 
@@ -189,28 +226,38 @@ joined [] = refl
 joined (w ∷ []) = refl
 joined (w ∷ v ∷ vs) = ap (λ (xs : List ℕ). w ++ 32 ∷ xs) (joined (v ∷ vs))
 
-pub line_is : (line : List ℕ) (r : Request) → request_in (words_of line) ≡ Some r → (line ≡ request_line r) × IsInRange r
-line_is line r e =
+plain_is : (line : List ℕ) (r : Request) → request_in (words_of line) ≡ Some r → (line ≡ request_line r) × IsInRange r
+plain_is line r e =
     let is = words_are (words_of line) r e in
     (sym (join_with_byte-slice_split 32 line) ∙ joined (words_of line) ∙ ap spaced is.0, is.1)
+
+some_request : (a b : Request) → Some a ≡ Some b → a ≡ b
+some_request a b e = cc
+
+pub line_is : (line : List ℕ) (r : Request) → request_on line ≡ Some r → (line ≡ request_line r) × IsInRange r
+unfolding request_from
+line_is line r e = from (without_in (words_of line)) refl e
+  where
+    from : (o : Option Request) → without_in (words_of line) ≡ o → if_spelled line o (request_in (words_of line)) ≡ Some r → (line ≡ request_line r) × IsInRange r
+    from None w h = plain_is line r h
+    from (Some q) w h =
+        let c = chosen (bytes_eq (request_line q) line) (Some q) r h in
+        let same : q ≡ r = some_request q r c.1 in
+        subst (λ (p : Request). (line ≡ request_line p) × IsInRange p) same (sym ((bytes_eq-Decides (request_line q) line).0 c.0), without_is (words_of line) q w)
+
+-- a line is that of one request
+pub one_request : (r q : Request) → IsInRange r → IsInRange q → request_line r ≡ request_line q → r ≡ q
+one_request r q h k e = some_request r q (sym (line_read r h) ∙ ap request_on e ∙ line_read q k)
 
 -- ---- what the lines of a script need
 
 line_lacks_from : (w : List ℕ) (ws : List (List ℕ)) → NoneHas 10 (w ∷ ws) → Lacks 10 (spaced (w ∷ ws))
 line_lacks_from w [] h = h.0
-line_lacks_from w (v ∷ vs) h = lacks_append w (32 ∷ spaced (v ∷ vs)) h.0 (lacks_cons 32 (spaced (v ∷ vs)) refl (line_lacks_from v vs h.1))
-  where
-    lacks_cons : (b : ℕ) (bs : List ℕ) → eqb b 10 ≡ false → Lacks 10 bs → Lacks 10 (b ∷ bs)
-    lacks_cons b bs h g zero e lt = h
-    lacks_cons b bs h g (suc k) e lt = g k e (omega (arith, lt))
-
-    lacks_append : (a b : List ℕ) → Lacks 10 a → Lacks 10 b → Lacks 10 (a ++ b)
-    lacks_append [] b h g k e lt = g k e lt
-    lacks_append (x ∷ xs) b h g zero e lt = h 0 e (omega arith)
-    lacks_append (x ∷ xs) b h g (suc k) e lt = lacks_append xs b (λ j d lt2. h (suc j) d (omega (arith, lt2))) g k e (omega (arith, lt))
+line_lacks_from w (v ∷ vs) h = lacks_append 10 w (32 ∷ spaced (v ∷ vs)) h.0 (lacks_cons 10 32 (spaced (v ∷ vs)) refl (line_lacks_from v vs h.1))
 
 pub line_lacks : (r : Request) → IsInRange r → Lacks 10 (request_line r)
 line_lacks (Begin n) h = line_lacks_from (codes "begin") (decimal n ∷ []) (words_lack 10 (omega arith) (Begin n) h)
+line_lacks (BeginWithout n items) h = line_lacks_from (codes "begin") (decimal n ∷ codes "without" ∷ set_words (has items)) (words_lack 10 (omega arith) (BeginWithout n items) h)
 line_lacks (Answer s k r) h = line_lacks_from (codes "answer") (decimal s ∷ decimal k ∷ decimal r ∷ []) (words_lack 10 (omega arith) (Answer s k r) h)
 line_lacks (Close s) h = line_lacks_from (codes "close") (decimal s ∷ []) (words_lack 10 (omega arith) (Close s) h)
 line_lacks (Look s) h = line_lacks_from (codes "look") (decimal s ∷ []) (words_lack 10 (omega arith) (Look s) h)
@@ -218,6 +265,7 @@ line_lacks Exposure h = line_lacks_from (codes "exposure") [] (words_lack 10 (om
 
 pub line_some : (r : Request) → 0 < length (request_line r)
 line_some (Begin n) = omega arith
+line_some (BeginWithout n items) = omega arith
 line_some (Answer s k r) = omega arith
 line_some (Close s) = omega arith
 line_some (Look s) = omega arith

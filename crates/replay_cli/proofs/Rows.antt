@@ -3,16 +3,17 @@ use Rattle.std.proofs.Common.{◌≡◌, ℕ, zero, suc, true, false, List, [], 
 use Rattle.std.specs.List.{All}
 use Rattle.std.specs.Fmt.{digits}
 use Rattle.exam_text.specs.Numbers.{number_of}
+use Rattle.exam_text.specs.Runs.{is_set, run_of}
 use Rattle.exam_text.specs.Words.{lines_of as lines_of_text}
 use Rattle.history_model.specs.declared.counts.Counts.{Counts}
 use Rattle.history_model.specs.declared.place.Place.TheVariants.{Pending, Waiting, Complete, Closed}
-use Rattle.history_model.specs.declared.refusal.Refusal.TheVariants.{NoSession, WrongStep, Other, BadResponse, IsClosed, SessionsFull, JournalFull, Disk, Memory, Stale}
+use Rattle.history_model.specs.declared.refusal.Refusal.TheVariants.{NoSession, WrongStep, Other, BadResponse, IsClosed, OtherList, NoItem, NoForm, NoneFound, SessionsFull, JournalFull, Disk, Memory, Stale}
 use Rattle.history_model.specs.declared.request.Reply.TheVariants as reply
 use Rattle.history_model.specs.declared.request.Request.{Request}
 use Rattle.history_model.specs.declared.request.Request.TheVariants.{Begin, Answer, Close, Look, Exposure}
 use Rattle.replay_cli.specs.declared.script_fault.ScriptFault.TheVariants.{Line}
 use Rattle.replay_cli.specs.Scripts.{IsInRange, text_of_requests, IsScript, IsFirstFaultyLine}
-use Rattle.replay_cli.specs.Reading.{number_after, answer_in, exposure_in, request_in, requests_of}
+use Rattle.replay_cli.specs.Reading.{number_after, answer_in, exposure_in, request_in, without_in, request_from, requests_of}
 use Rattle.replay_cli.specs.Replies.{place_line, counts_line, exposure_lines, refusal_line, line_of, lines_of}
 use Rattle.replay_cli.proofs.ReadLaws.{fault_is}
 
@@ -73,24 +74,39 @@ first_faulty text n e =
 
 -- an answer lacks its response
 answer_too_short : IsFirstFaultyLine (codes "answer 0 0\n") 1
-unfolding requests_of request_in number_after answer_in exposure_in number_of
+unfolding requests_of request_from without_in request_in number_after answer_in exposure_in number_of
 answer_too_short = first_faulty (codes "answer 0 0\n") 1 refl
 
 empty_line : IsFirstFaultyLine (codes "begin 1\n\nbegin 2\n") 2
-unfolding requests_of request_in number_after answer_in exposure_in number_of
+unfolding requests_of request_from without_in request_in number_after answer_in exposure_in number_of
 empty_line = first_faulty (codes "begin 1\n\nbegin 2\n") 2 refl
 
 leading_zero : IsFirstFaultyLine (codes "begin 1\nclose 00\nlook\n") 2
-unfolding requests_of request_in number_after answer_in exposure_in number_of
+unfolding requests_of request_from without_in request_in number_after answer_in exposure_in number_of
 leading_zero = first_faulty (codes "begin 1\nclose 00\nlook\n") 2 refl
 
 step_too_great : IsFirstFaultyLine (codes "answer 0 65536 0\n") 1
-unfolding requests_of request_in number_after answer_in exposure_in number_of
+unfolding requests_of request_from without_in request_in number_after answer_in exposure_in number_of
 step_too_great = first_faulty (codes "answer 0 65536 0\n") 1 refl
 
 space_too_many : IsFirstFaultyLine (codes "exposure\nlook 0 \n") 2
-unfolding requests_of request_in number_after answer_in exposure_in number_of
+unfolding requests_of request_from without_in request_in number_after answer_in exposure_in number_of
 space_too_many = first_faulty (codes "exposure\nlook 0 \n") 2 refl
+
+-- a list has an item
+no_item : IsFirstFaultyLine (codes "begin 1 without\n") 1
+unfolding requests_of request_from without_in request_in number_after answer_in exposure_in number_of
+no_item = first_faulty (codes "begin 1 without\n") 1 refl
+
+-- a word in the place of `without`
+other_word : IsFirstFaultyLine (codes "begin 1 with 2\n") 1
+unfolding requests_of request_from without_in request_in number_after answer_in exposure_in number_of
+other_word = first_faulty (codes "begin 1 with 2\n") 1 refl
+
+-- no item has the number 512
+past_the_items : IsFirstFaultyLine (codes "begin 1 without 512\n") 1
+unfolding requests_of request_from without_in request_in number_after answer_in exposure_in number_of is_set run_of
+past_the_items = first_faulty (codes "begin 1 without 512\n") 1 refl
 
 -- ---- replies
 
@@ -114,6 +130,11 @@ refused : (lines_of (reply.Refused (Other 1) ∷ reply.Refused (WrongStep 1) ∷
     ≡ codes "refused no-session 2\nrefused is-closed closed\nrefused is-closed complete\n")
 unfolding line_of refusal_line digits
 refused = (refl, refl)
+
+refused_lists : lines_of (reply.Refused (OtherList 1) ∷ reply.Refused (NoItem 6) ∷ reply.Refused NoForm ∷ reply.Refused NoneFound ∷ [])
+    ≡ codes "refused other-list 1\nrefused no-item 6\nrefused no-form\nrefused none-found\n"
+unfolding line_of refusal_line digits
+refused_lists = refl
 
 without_line : lines_of (reply.Refused (SessionsFull 1) ∷ reply.Refused (JournalFull 91) ∷ reply.Refused Disk ∷ reply.Refused Memory
     ∷ reply.Refused (Stale Complete true) ∷ reply.Refused (IsClosed (Pending 0)) ∷ []) ≡ []

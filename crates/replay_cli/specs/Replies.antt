@@ -6,7 +6,7 @@ use Rattle.history_model.specs.declared.counts.Counts.{Counts}
 use Rattle.history_model.specs.declared.place.Place.{Place}
 use Rattle.history_model.specs.declared.place.Place.TheVariants.{Pending, Waiting, Complete, Closed}
 use Rattle.history_model.specs.declared.refusal.Refusal.{Refusal}
-use Rattle.history_model.specs.declared.refusal.Refusal.TheVariants.{NoSession, WrongStep, Other, BadResponse, IsClosed}
+use Rattle.history_model.specs.declared.refusal.Refusal.TheVariants.{NoSession, WrongStep, Other, BadResponse, IsClosed, OtherList, NoItem, NoForm, NoneFound}
 use Rattle.history_model.specs.Words.{refusal_word}
 use Rattle.history_model.specs.declared.request.Exposure.{Exposure}
 use Rattle.history_model.specs.declared.request.Reply.{Reply}
@@ -53,6 +53,10 @@ abbrev pub line_with : Refusal → List ℕ → List ℕ
 line_with refusal value =
     codes "refused " ++ (refusal_word refusal ++ (codes " " ++ (value ++ codes "\n")))
 
+-- the line of a refusal without a value
+abbrev pub line_without : Refusal → List ℕ
+line_without refusal = codes "refused " ++ (refusal_word refusal ++ codes "\n")
+
 -- why a request was refused; a refusal that ends a replay has no line
 unfoldable pub refusal_line : Refusal → List ℕ
 refusal_line (NoSession count) = line_with (NoSession count) (decimal count)
@@ -61,6 +65,10 @@ refusal_line (Other response) = line_with (Other response) (decimal response)
 refusal_line (BadResponse categories) = line_with (BadResponse categories) (decimal categories)
 refusal_line (IsClosed Complete) = line_with (IsClosed Complete) (codes "complete")
 refusal_line (IsClosed Closed) = line_with (IsClosed Closed) (codes "closed")
+refusal_line (OtherList session) = line_with (OtherList session) (decimal session)
+refusal_line (NoItem count) = line_with (NoItem count) (decimal count)
+refusal_line NoForm = line_without NoForm
+refusal_line NoneFound = line_without NoneFound
 refusal_line _ = []
 
 -- the line of a reply, or the lines of an exposure, each with its line feed

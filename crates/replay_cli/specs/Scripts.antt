@@ -2,13 +2,19 @@
 use Rattle.std.specs.Prelude.{◌≡◌, ℕ, ◌+◌, ◌<◌, ◌≤◌, ◌⊎◌, List, [], ◌∷◌, ◌++◌, map, length, get_or, codes}
 use Rattle.std.specs.Fmt.{decimal}
 use Rattle.std.specs.List.{All}
+use Rattle.bank_tables.specs.Items.{has, AreWords}
 use Rattle.exam_text.specs.Words.{lines_of, spaced, text_of_lines}
 use Rattle.history_model.specs.declared.request.Request.{Request}
-use Rattle.history_model.specs.declared.request.Request.TheVariants.{Begin, Answer, Close, Look, Exposure}
+use Rattle.history_model.specs.declared.request.Request.TheVariants.{Begin, BeginWithout, Answer, Close, Look, Exposure}
+use Rattle.spec_reader.specs.Canonical.{set_words}
+use Rattle.spec_reader.specs.Grammar.{IsSet}
 
--- the words of a request
+-- the words of a request; the items of a list are spelled as the canonical text of a plan spells a
+-- set, in its maximal runs
 abbrev pub request_words : Request → List (List ℕ)
 request_words (Begin booking) = codes "begin" ∷ decimal booking ∷ []
+request_words (BeginWithout booking items) =
+    codes "begin" ∷ decimal booking ∷ codes "without" ∷ set_words (has items)
 request_words (Answer session step response) =
     codes "answer" ∷ decimal session ∷ decimal step ∷ decimal response ∷ []
 request_words (Close session) = codes "close" ∷ decimal session ∷ []
@@ -19,9 +25,12 @@ request_words Exposure = codes "exposure" ∷ []
 abbrev pub request_line : Request → List ℕ
 request_line request = spaced (request_words request)
 
--- a booking has 64 bits, a session 32, a step 16, a response 8
+-- a booking has 64 bits, a session 32, a step 16, a response 8; a list has an item, and each is below
+-- 512
 abbrev pub IsInRange : Request → Type 0
 IsInRange (Begin booking) = booking ≤ 18446744073709551615
+IsInRange (BeginWithout booking items) =
+    (booking ≤ 18446744073709551615) × AreWords items × IsSet (has items)
 IsInRange (Answer session step response) =
     (session ≤ 4294967295) × (step ≤ 65535) × (response ≤ 255)
 IsInRange (Close session) = session ≤ 4294967295

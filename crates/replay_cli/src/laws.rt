@@ -1,9 +1,14 @@
 //! What the definitions mean: functions that do nothing, and whose clauses are laws.
 
-ghost use Rattle.std.specs.Prelude.{◌≡◌, ℕ, ◌⊎◌, List};
-ghost use Rattle.std.specs.List.{All};
+ghost use Rattle.std.specs.Prelude.{◌≡◌, ℕ, ◌⊎◌, ◌++◌, ◌∷◌, List, codes};
+ghost use Rattle.std.specs.Fmt.{decimal};
+ghost use Rattle.std.specs.List.{All, flat_map};
+ghost use Rattle.bank_tables.specs.Items.{has};
+ghost use Rattle.exam_text.specs.Runs.{run_word};
 ghost use Rattle.history_model.specs.declared.request.Request.{Request};
-ghost use Rattle.replay_cli.specs.Scripts.{IsInRange, text_of_requests, IsScript, IsFirstFaultyLine};
+ghost use Rattle.history_model.specs.declared.request.Request.TheVariants.{Begin, BeginWithout};
+ghost use Rattle.replay_cli.specs.Scripts.{IsInRange, request_line, text_of_requests, IsScript, IsFirstFaultyLine};
+ghost use Rattle.spec_reader.specs.Sets.{runs_of};
 
 /// A text is a script of one list of requests, or it has one first faulty line, and never both.
 pub fn a_text_has_one_reading()
@@ -21,4 +26,16 @@ pub fn a_text_has_one_reading()
 pub fn printed_requests_are_a_script()
     ensures { (requests : List Request) → All IsInRange requests
         → IsScript (text_of_requests requests) requests }
+{}
+
+/// A line is that of one request. So the line of a beginning without a list is read as it was before
+/// there were lists, and a list has one spelling.
+pub fn a_line_is_one_request()
+    ensures one { (request other : Request) → IsInRange request → IsInRange other
+        → request_line request ≡ request_line other → request ≡ other }
+    ensures begin { (booking : ℕ) → request_line (Begin booking)
+        ≡ codes "begin " ++ decimal booking }
+    ensures list { (booking : ℕ) (items : List ℕ) → request_line (BeginWithout booking items)
+        ≡ codes "begin " ++ (decimal booking ++ (codes " without"
+        ++ flat_map (λ run. 32 ∷ run_word run) (runs_of (has items)))) }
 {}

@@ -5,10 +5,12 @@
 #![tactic(auto)]
 
 pub mod laws;
+mod line;
 mod reply;
 mod script;
 mod script_fault;
 
+pub use line::request_line;
 pub use reply::reply_line;
 pub use script::read_script;
 pub use script_fault::ScriptFault;

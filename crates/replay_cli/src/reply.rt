@@ -2,7 +2,7 @@
 
 ghost use Rattle.std.specs.Fmt.{decimal};
 ghost use Rattle.std.specs.Prelude.{◌≡◌, ◌++◌, ◌<◌, length, IfOk, OnOk, string_bytes};
-ghost use Rattle.replay_cli.specs.Replies.{mark_word, place_line, counts_line, counts_lines, exposure_lines, line_with, refusal_line, line_of};
+ghost use Rattle.replay_cli.specs.Replies.{mark_word, place_line, counts_line, counts_lines, exposure_lines, line_with, line_without, refusal_line, line_of};
 
 use exam_edge::Memory;
 use history_model::{Counts, Exposure, Place, Refusal, Reply, refusal_word};
@@ -72,6 +72,13 @@ fn line_with_word(alloc: Global, refusal: Refusal, value: &str) -> Result<String
     format!(in alloc; "refused {word} {value}\n")
 }
 
+fn line_without(alloc: Global, refusal: Refusal) -> Result<String, Memory>
+    ensures { IfOk result (λ line. string_bytes line ≡ line_without refusal) }
+{
+    let word = refusal_word(refusal);
+    format!(in alloc; "refused {word}\n")
+}
+
 #[tactic(auto, unfolding(crate::specs::Replies::refusal_line))]
 fn refusal_line(alloc: Global, refusal: Refusal) -> Result<String, Memory>
     ensures { IfOk result (λ line. string_bytes line ≡ refusal_line refusal) }
@@ -83,6 +90,9 @@ fn refusal_line(alloc: Global, refusal: Refusal) -> Result<String, Memory>
         Refusal::BadResponse(categories) => line_with_number(alloc, refusal, u32::from(categories)),
         Refusal::IsClosed(Place::Complete) => line_with_word(alloc, refusal, "complete"),
         Refusal::IsClosed(Place::Closed) => line_with_word(alloc, refusal, "closed"),
+        Refusal::OtherList(session) => line_with_number(alloc, refusal, session),
+        Refusal::NoItem(count) => line_with_number(alloc, refusal, u32::from(count)),
+        Refusal::NoForm | Refusal::NoneFound => line_without(alloc, refusal),
         _ => Ok(String::new(alloc)),
     }
 }

@@ -7,13 +7,16 @@ ghost use Rattle.exam_text.specs.First.{Gives, or_fault};
 ghost use Rattle.exam_text.specs.Words.{lines_of, words_of};
 ghost use Rattle.history_model.specs.declared.request.Request.{Request};
 ghost use Rattle.replay_cli.specs.Scripts.{IsScript};
-ghost use Rattle.replay_cli.specs.Reading.{number_after, answer_in, exposure_in, request_in, requests_of, most_bytes, IsScriptFault, IsOfText};
+ghost use Rattle.replay_cli.specs.Reading.{number_after, answer_in, exposure_in, request_in, list_in, without_in, request_on, requests_of, most_bytes, IsScriptFault, IsOfText};
 ghost use Rattle.replay_cli.specs.declared.script_fault.ScriptFault.TheVariants as fault;
 
+use crate::line::request_line;
 use crate::script_fault::ScriptFault;
-use exam_edge::Source;
+use bank_tables::ItemSet;
+use exam_edge::{Memory, Source};
 use exam_text::{lines_of, number, word_at, words_of};
 use history_model::Request;
+use spec_reader::set_of;
 use std::alloc::Global;
 use text_source::{TextFault, text_of};
 
@@ -58,7 +61,7 @@ fn exposure_in(words: &[&[u8]]) -> Option<Request>
     Some(Request::Exposure)
 }
 
-/// The request of the words of a line.
+/// The request without a list of the words of a line.
 #[tactic(auto, unfolding(crate::specs::Reading::request_in))]
 fn request_in(words: &[&[u8]]) -> Option<Request>
     ensures { result ≡ request_in (map (λ w. w.now) words.now) }
@@ -78,13 +81,54 @@ fn request_in(words: &[&[u8]]) -> Option<Request>
     exposure_in(words)
 }
 
+/// The set of items that the words write, however it is spelled.
+fn list_in(words: &[&[u8]]) -> Option<ItemSet>
+    ensures { result ≡ list_in (map (λ w. w.now) words.now) }
+{
+    let set = set_of(words)?;
+    let _ = set.count();
+    Some(set)
+}
+
+/// The beginning with a list of the words of a line, however the list is spelled.
+#[tactic(auto, unfolding(crate::specs::Reading::without_in))]
+fn without_in(words: &[&[u8]]) -> Option<Request>
+    ensures { result ≡ without_in (map (λ w. w.now) words.now) }
+{
+    if words.len() < 4
+        || word_at(words, 0) != b"begin".as_slice()
+        || word_at(words, 2) != b"without".as_slice()
+    {
+        return None;
+    }
+    let booking = number(word_at(words, 1), u64::MAX)?;
+    let items = list_in(words.split_at(3).1)?;
+    Some(Request::BeginWithout { booking, items })
+}
+
+/// The request of a line, if it is one. A list has one spelling, which is the printed one.
+#[tactic(auto, unfolding(crate::specs::Reading::request_from))]
+fn request_on(alloc: Global, line: &[u8]) -> Result<Option<Request>, Memory>
+    ensures { IfOk result (λ request. request ≡ request_on line.now) }
+{
+    let words = words_of(alloc, line)?;
+    let Some(request) = without_in(&words) else {
+        return Ok(request_in(&words));
+    };
+    let own = request_line(alloc, &request)?;
+    if own.as_slice() == line {
+        Ok(Some(request))
+    } else {
+        Ok(None)
+    }
+}
+
 /// The request of a line, whose number counts from 1.
 fn request_of(alloc: Global, number: u64, line: &[u8]) -> Result<Request, ScriptFault>
     ensures { Gives fault.Memory (λ r. r) result
-        (or_fault (request_in (words_of line.now)) (fault.Line number)) }
+        (or_fault (request_on line.now) (fault.Line number)) }
 {
-    let words = words_of(alloc, line)?;
-    request_in(&words).ok_or(ScriptFault::Line(number))
+    request_on(alloc, line)?.ok_or(ScriptFault::Line(number))
 }
 
 /// The requests of lines.
@@ -109,8 +153,9 @@ fn requests_in(alloc: Global, text: &[u8]) -> Result<Vec<Request>, ScriptFault>
 }
 
 /// The requests of the script that a source gives, in order. A script has a line for each request:
-/// `begin B`, `answer S K R`, `close S`, `look S` or `exposure`, with B a booking, S a session, K a
-/// step and R a response. The last line may lack its line feed. The text has at most 16,777,216
+/// `begin B`, `begin B without SET`, `answer S K R`, `close S`, `look S` or `exposure`, with B a
+/// booking, SET the items of a list, S a session, K a step and R a response. SET is spelled in its
+/// maximal runs, as `0-3 7`, with a space between each two. The last line may lack its line feed. The text has at most 16,777,216
 /// bytes and is read to its end. Of several faulty lines the first is named. `Source` is given only
 /// if the source's count of faults rose.
 pub fn read_script<S: Source>(alloc: Global, source: &mut S) -> Result<Vec<Request>, ScriptFault>

@@ -4,36 +4,36 @@ use crate::answers::{Answered, answers};
 use crate::equal::is_equal;
 use crate::office::{EVEN, Numbers, RARE};
 use crate::requests::{
-    FIRST, FIRST_ANSWER, LATER_FIRST, LATER_FIRST_ANSWER, LATER_SECOND, LATER_SECOND_ANSWER,
+    Ask, FIRST, FIRST_ANSWER, LATER_FIRST, LATER_FIRST_ANSWER, LATER_SECOND, LATER_SECOND_ANSWER,
     LATER_THIRD, LATER_THIRD_ANSWER, OTHER_ANSWER, SECOND, SECOND_ANSWER, THIRD, THIRD_ANSWER,
     Told,
 };
-use exam_office::{Place, Refusal, Request};
+use exam_office::{Place, Refusal};
 use std::alloc::Global;
 use std::process::Abort;
 use std::test::Fail;
 
-const START: Request = Request::Begin(70);
+const START: Ask = Ask::Begin(70);
 
 // Requests over an empty journal, the calls of the disk that fail, the replies, and the exposure
 // counts in them.
 struct Case {
     numbers: Numbers,
     fails: &'static [u64],
-    requests: &'static [Request],
+    requests: &'static [Ask],
     replies: &'static [Told],
     counts: &'static [(u32, u32)],
 }
 
 // An answer with a response that its item does not have.
-const BAD_RESPONSE: Request = Request::Answer {
+const BAD_RESPONSE: Ask = Ask::Answer {
     session: 0,
     step: 1,
     response: 2,
 };
 
 // An answer to a session that does not exist.
-const NO_SESSION: Request = Request::Answer {
+const NO_SESSION: Ask = Ask::Answer {
     session: 9,
     step: 0,
     response: 0,
@@ -49,10 +49,10 @@ const CASES: [Case; 4] = [
             FIRST_ANSWER,
             FIRST_ANSWER,
             SECOND_ANSWER,
-            Request::Look(0),
+            Ask::Look(0),
             START,
             THIRD_ANSWER,
-            Request::Exposure,
+            Ask::Exposure,
         ],
         replies: &[
             Ok((0, FIRST, true)),
@@ -76,13 +76,13 @@ const CASES: [Case; 4] = [
             FIRST_ANSWER,
             SECOND_ANSWER,
             THIRD_ANSWER,
-            Request::Begin(71),
+            Ask::Begin(71),
             LATER_FIRST_ANSWER,
             LATER_SECOND_ANSWER,
             LATER_THIRD_ANSWER,
-            Request::Begin(72),
-            Request::Close(2),
-            Request::Exposure,
+            Ask::Begin(72),
+            Ask::Close(2),
+            Ask::Exposure,
         ],
         replies: &[
             Ok((0, FIRST, true)),
@@ -105,21 +105,21 @@ const CASES: [Case; 4] = [
         numbers: EVEN,
         fails: &[],
         requests: &[
-            Request::Begin(1),
-            Request::Begin(2),
+            Ask::Begin(1),
+            Ask::Begin(2),
             FIRST_ANSWER,
-            Request::Exposure,
-            Request::Close(1),
-            Request::Exposure,
+            Ask::Exposure,
+            Ask::Close(1),
+            Ask::Exposure,
             FIRST_ANSWER,
             OTHER_ANSWER,
             THIRD_ANSWER,
             BAD_RESPONSE,
-            Request::Begin(1),
+            Ask::Begin(1),
             NO_SESSION,
             LATER_FIRST_ANSWER,
-            Request::Close(1),
-            Request::Look(9),
+            Ask::Close(1),
+            Ask::Look(9),
         ],
         replies: &[
             Ok((0, FIRST, true)),
@@ -158,7 +158,7 @@ const CASES: [Case; 4] = [
     Case {
         numbers: EVEN,
         fails: &[17],
-        requests: &[START, Request::Close(0), Request::Exposure],
+        requests: &[START, Ask::Close(0), Ask::Exposure],
         replies: &[
             Ok((0, FIRST, true)),
             Err(Refusal::Disk),
@@ -190,7 +190,7 @@ fn replies<R: Abort>(rt: &R, answered: &Answered, at: usize, told: Told) {
 }
 
 // Each request is made twice.
-const TWICE: [Request; 5] = [START, START, FIRST_ANSWER, FIRST_ANSWER, Request::Look(0)];
+const TWICE: [Ask; 5] = [START, START, FIRST_ANSWER, FIRST_ANSWER, Ask::Look(0)];
 
 // Where this call of the disk fails, its request is refused, and in the end all is as without a
 // fault.
@@ -213,7 +213,7 @@ fn a_halted_request_is_asked_again(rt: HostRuntime) -> Result<(), Fail> {
     Ok(())
 }
 
-const FILLING: [Request; 3] = [START, START, Request::Look(0)];
+const FILLING: [Ask; 3] = [START, START, Ask::Look(0)];
 
 const FULL: [Told; 3] = [
     Err(Refusal::JournalFull(92)),

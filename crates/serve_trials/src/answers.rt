@@ -6,11 +6,11 @@ ghost use Rattle.exam_edge.specs.MemoryDisk.{accounts_of};
 ghost use Rattle.form_model.specs.Validity.{IsPlanFor};
 
 use crate::office::{Numbers, opened, planned};
-use crate::requests::{Told, told};
+use crate::requests::{Ask, Told, request_of, told};
 use bank_tables::Bank;
 use constraint_model::Spec;
 use exam_edge::MemoryDisk;
-use exam_office::{Alone, Office, Reply, Request};
+use exam_office::{Alone, Office, Reply};
 use std::alloc::Global;
 use std::test::Fail;
 
@@ -40,11 +40,11 @@ fn note(answered: &mut Answered, reply: &Reply) -> Result<(), Fail> {
 fn ask_all(
     alloc: Global,
     alone: &mut Alone<MemoryDisk>,
-    requests: &[Request],
+    requests: &[Ask],
     answered: &mut Answered,
 ) -> Result<(), Fail> {
     for request in requests {
-        note(answered, &alone.ask(alloc, request))?;
+        note(answered, &alone.ask(alloc, &request_of(request)))?;
     }
     Ok(())
 }
@@ -52,7 +52,7 @@ fn ask_all(
 fn answers_in(
     alloc: Global,
     office: Office<MemoryDisk>,
-    requests: &[Request],
+    requests: &[Ask],
 ) -> Result<Answered, Fail> {
     let mut alone = Alone { office };
     let mut answered = Answered {
@@ -82,7 +82,7 @@ fn answers_on(
     bank: &Bank,
     spec: &Spec,
     disk: MemoryDisk,
-    requests: &[Request],
+    requests: &[Ask],
 ) -> Result<Answered, Fail>
     requires plan { IsPlanFor bank.now spec.now }
     requires left { IsAsLeft (accounts_of disk) }
@@ -99,7 +99,7 @@ fn answers_over(
     bank: &Bank,
     spec: &Spec,
     fails: &[u64],
-    requests: &[Request],
+    requests: &[Ask],
 ) -> Result<Answered, Fail>
     requires { IsPlanFor bank.now spec.now }
 {
@@ -114,7 +114,7 @@ pub(crate) fn answers(
     alloc: Global,
     numbers: &Numbers,
     fails: &[u64],
-    requests: &[Request],
+    requests: &[Ask],
 ) -> Result<Answered, Fail> {
     match planned(alloc, numbers) {
         Ok((bank, spec)) => answers_over(alloc, &bank, &spec, fails, requests),

@@ -1,7 +1,8 @@
 //! Messages and the responses to them.
 
 use crate::responses::{
-    BAD_JSON, BAD_RESPONSE, CREATED, FOUND, NO_COUNTS, NO_LENGTH, NO_METHOD, NO_SESSION, TOO_LONG,
+    BAD_BODY, BAD_JSON, BAD_RESPONSE, CREATED, FOUND, LISTED, LISTED_FOUND, NO_COUNTS, NO_FORM,
+    NO_ITEM, NO_LENGTH, NO_METHOD, NO_SESSION, OTHER_LIST, TOO_LONG,
 };
 use exam_http::Ended;
 use std::alloc::Global;
@@ -75,6 +76,71 @@ pub(crate) const A_MESSAGE_OF_VERSION_1_0: Exchange = Exchange {
     messages: &[
         (LAST, 0, NO_COUNTS),
         ("GET /exposure HTTP/1.1\r\n\r\n", 0, ""),
+    ],
+    ended: Ended::Done,
+};
+
+/// A session with a list, the ways to ask for it again, each refusal of a list but one, and bodies that
+/// have no list: of two members the last counts, and a misspelt one is ignored.
+pub(crate) const LISTS: Exchange = Exchange {
+    messages: &[
+        (START, 0, CREATED),
+        (
+            "POST /sessions HTTP/1.1\r\nContent-Length: 28\r\n\r\n{\"booking\":71,\"without\":[2]}",
+            0,
+            LISTED,
+        ),
+        (
+            "POST /sessions HTTP/1.1\r\nContent-Length: 30\r\n\r\n{\"without\":[2,2],\"booking\":71}",
+            0,
+            LISTED_FOUND,
+        ),
+        (
+            "POST /sessions HTTP/1.1\r\nContent-Length: 28\r\n\r\n{\"booking\":71,\"without\":[1]}",
+            0,
+            OTHER_LIST,
+        ),
+        (
+            "POST /sessions HTTP/1.1\r\nContent-Length: 27\r\n\r\n{\"booking\":71,\"without\":[]}",
+            0,
+            LISTED_FOUND,
+        ),
+        (
+            "POST /sessions HTTP/1.1\r\nContent-Length: 43\r\n\r\n{\"booking\":71,\"without\":null,\"without\":[2]}",
+            0,
+            LISTED_FOUND,
+        ),
+        (
+            "POST /sessions HTTP/1.1\r\nContent-Length: 30\r\n\r\n{\"booking\":72,\"without\":[1,0]}",
+            0,
+            NO_FORM,
+        ),
+        (
+            "POST /sessions HTTP/1.1\r\nContent-Length: 30\r\n\r\n{\"booking\":72,\"without\":[0,6]}",
+            0,
+            NO_ITEM,
+        ),
+        (
+            "POST /sessions HTTP/1.1\r\nContent-Length: 43\r\n\r\n{\"booking\":72,\"without\":[2],\"without\":null}",
+            0,
+            BAD_BODY,
+        ),
+        (
+            "POST /sessions HTTP/1.1\r\nContent-Length: 30\r\n\r\n{\"booking\":72,\"without\":[2.0]}",
+            0,
+            BAD_BODY,
+        ),
+        (
+            "POST /sessions HTTP/1.1\r\nContent-Length: 30\r\n\r\n{\"booking\":72,\"without\":[512]}",
+            0,
+            BAD_BODY,
+        ),
+        (
+            "POST /sessions HTTP/1.1\r\nContent-Length: 28\r\n\r\n{\"booking\":70,\"Without\":[2]}",
+            0,
+            FOUND,
+        ),
+        (LAST, 0, NO_COUNTS),
     ],
     ended: Ended::Done,
 };

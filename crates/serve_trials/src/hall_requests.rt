@@ -8,7 +8,7 @@ use crate::equal::is_equal;
 use crate::halls::{ask_all, hall_on};
 use crate::office::{EVEN, Numbers, RARE, planned};
 use crate::requests::{
-    FIRST, FIRST_ANSWER, LATER_FIRST, LATER_FIRST_ANSWER, LATER_SECOND, LATER_SECOND_ANSWER,
+    Ask, FIRST, FIRST_ANSWER, LATER_FIRST, LATER_FIRST_ANSWER, LATER_SECOND, LATER_SECOND_ANSWER,
     LATER_THIRD, LATER_THIRD_ANSWER, OTHER_ANSWER, SECOND, SECOND_ANSWER, THIRD, THIRD_ANSWER,
     Told,
 };
@@ -16,7 +16,7 @@ use bank_tables::Bank;
 use constraint_model::Spec;
 use exam_edge::{MemoryDisk, OpenGate};
 use exam_hall::Hall;
-use exam_office::{Office, Place, Refusal, Request};
+use exam_office::{Office, Place, Refusal};
 use std::alloc::Global;
 use std::process::Abort;
 use std::sync::Wait;
@@ -26,7 +26,7 @@ use turn_lock::Pass;
 // Requests, and their replies.
 struct Case {
     numbers: Numbers,
-    requests: &'static [Request],
+    requests: &'static [Ask],
     replies: &'static [Told],
 }
 
@@ -36,17 +36,17 @@ const CASES: [Case; 2] = [
     Case {
         numbers: EVEN,
         requests: &[
-            Request::Begin(70),
+            Ask::Begin(70),
             FIRST_ANSWER,
             FIRST_ANSWER,
             OTHER_ANSWER,
             SECOND_ANSWER,
-            Request::Look(0),
-            Request::Begin(70),
+            Ask::Look(0),
+            Ask::Begin(70),
             THIRD_ANSWER,
-            Request::Close(0),
-            Request::Look(1),
-            Request::Exposure,
+            Ask::Close(0),
+            Ask::Look(1),
+            Ask::Exposure,
         ],
         replies: &[
             Ok((0, FIRST, true)),
@@ -67,16 +67,16 @@ const CASES: [Case; 2] = [
     Case {
         numbers: RARE,
         requests: &[
-            Request::Begin(70),
+            Ask::Begin(70),
             FIRST_ANSWER,
             SECOND_ANSWER,
             THIRD_ANSWER,
-            Request::Begin(71),
+            Ask::Begin(71),
             LATER_FIRST_ANSWER,
             LATER_SECOND_ANSWER,
             LATER_THIRD_ANSWER,
-            Request::Begin(72),
-            Request::Close(2),
+            Ask::Begin(72),
+            Ask::Close(2),
         ],
         replies: &[
             Ok((0, FIRST, true)),
@@ -98,7 +98,7 @@ fn replies_in<'a, R: Wait + Sync>(
     alloc: Global,
     hall: Hall<'a, MemoryDisk>,
     pass: Pass<Office<'a, MemoryDisk>>,
-    requests: &[Request],
+    requests: &[Ask],
 ) -> Vec<Told>
     requires { IsOf pass hall }
 {
@@ -112,7 +112,7 @@ fn replies_over<'a, R: Wait + Sync>(
     alloc: Global,
     bank: &'a Bank,
     spec: &'a Spec,
-    requests: &[Request],
+    requests: &[Ask],
 ) -> Result<Vec<Told>, Fail>
     requires { IsPlanFor bank.now spec.now }
 {

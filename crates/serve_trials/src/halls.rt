@@ -7,13 +7,13 @@ ghost use Rattle.form_model.specs.Validity.{IsPlanFor};
 ghost use Rattle.exam_hall.specs.Known.{IsOf};
 
 use crate::office::{empty_disk, opened};
-use crate::requests::{Told, told};
+use crate::requests::{Ask, Told, request_of, told};
 use bank_tables::Bank;
 use constraint_model::Spec;
 use exam_edge::{Gate, MemoryDisk};
 use exam_hall::{Caller, Hall};
 use exam_handler::{Handler, Observer};
-use exam_office::{Office, Request};
+use exam_office::Office;
 use std::alloc::Global;
 use std::sync::Wait;
 use std::test::Fail;
@@ -66,7 +66,7 @@ pub(crate) fn ask_all<'a, G: Gate + Observer, R: Wait + Sync>(
     hall: &Hall<'a, MemoryDisk>,
     gate: &G,
     pass: Pass<Office<'a, MemoryDisk>>,
-    requests: &[Request],
+    requests: &[Ask],
 ) -> (Pass<Office<'a, MemoryDisk>>, Vec<Told>)
     requires { IsOf pass hall.now }
     ensures { IsOf result.0 hall.now }
@@ -74,7 +74,7 @@ pub(crate) fn ask_all<'a, G: Gate + Observer, R: Wait + Sync>(
     let mut caller = Caller::new(hall, gate, pass);
     let mut replies = Vec::new(alloc);
     for request in requests {
-        let reply = caller.handle(rt, alloc, request);
+        let reply = caller.handle(rt, alloc, &request_of(request));
         let _ = replies.push(told(&reply));
     }
     (caller.into_pass(), replies)

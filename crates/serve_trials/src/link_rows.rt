@@ -2,8 +2,8 @@
 
 use crate::equal::is_equal;
 use crate::exchanges::{
-    A_BODY_TOO_LONG, A_HEAD_CUT_OFF, A_MESSAGE_OF_VERSION_1_0, EIGHT_MESSAGES, Exchange, Whole,
-    whole_of,
+    A_BODY_TOO_LONG, A_HEAD_CUT_OFF, A_MESSAGE_OF_VERSION_1_0, EIGHT_MESSAGES, Exchange, LISTS,
+    Whole, whole_of,
 };
 use crate::link_office::{Cutting, Heard, gets, is_heard, serve_bytes};
 use exam_http::Ended;
@@ -50,6 +50,7 @@ fn expect<R: Wait + Sync + Abort>(rt: &R, alloc: Global, exchange: &Exchange) ->
 #[test]
 fn exchanges_in_any_pieces(rt: HostRuntime) -> Result<(), Fail> {
     expect(&rt, rt.alloc(), &EIGHT_MESSAGES)?;
+    expect(&rt, rt.alloc(), &LISTS)?;
     expect(&rt, rt.alloc(), &A_BODY_TOO_LONG)?;
     expect(&rt, rt.alloc(), &A_HEAD_CUT_OFF)?;
     expect(&rt, rt.alloc(), &A_MESSAGE_OF_VERSION_1_0)

@@ -1,6 +1,45 @@
 //! Requests on bank A, and what the trials compare of their replies.
 
 use exam_office::{Place, Refusal, Reply, Request};
+use trial_cases::set_of;
+
+/// A request of the trials. A constant can't hold a set of items, so a list is named by its items.
+#[derive(Clone, Copy)]
+pub(crate) enum Ask {
+    Begin(u64),
+    BeginWithout(u64, &'static [u16]),
+    Answer {
+        session: u32,
+        step: u16,
+        response: u8,
+    },
+    Close(u32),
+    Look(u32),
+    Exposure,
+}
+
+/// The request.
+pub(crate) fn request_of(ask: &Ask) -> Request {
+    match *ask {
+        Ask::Begin(booking) => Request::Begin(booking),
+        Ask::BeginWithout(booking, items) => Request::BeginWithout {
+            booking,
+            items: set_of(items),
+        },
+        Ask::Answer {
+            session,
+            step,
+            response,
+        } => Request::Answer {
+            session,
+            step,
+            response,
+        },
+        Ask::Close(session) => Request::Close(session),
+        Ask::Look(session) => Request::Look(session),
+        Ask::Exposure => Request::Exposure,
+    }
+}
 
 /// A reply without its exposure counts: the session, its place, and whether the session was
 /// started; or a refusal. An exposure has the number of finished sessions in place of the session.
@@ -20,49 +59,49 @@ pub(crate) fn told(reply: &Reply) -> Told {
 }
 
 /// The right answer to the first item of session 0.
-pub(crate) const FIRST_ANSWER: Request = Request::Answer {
+pub(crate) const FIRST_ANSWER: Ask = Ask::Answer {
     session: 0,
     step: 0,
     response: 1,
 };
 
 /// The wrong answer to the second item of session 0.
-pub(crate) const SECOND_ANSWER: Request = Request::Answer {
+pub(crate) const SECOND_ANSWER: Ask = Ask::Answer {
     session: 0,
     step: 1,
     response: 0,
 };
 
 /// The right answer to the third item of session 0.
-pub(crate) const THIRD_ANSWER: Request = Request::Answer {
+pub(crate) const THIRD_ANSWER: Ask = Ask::Answer {
     session: 0,
     step: 2,
     response: 1,
 };
 
 /// The wrong answer to the first item of session 0.
-pub(crate) const OTHER_ANSWER: Request = Request::Answer {
+pub(crate) const OTHER_ANSWER: Ask = Ask::Answer {
     session: 0,
     step: 0,
     response: 0,
 };
 
 /// The wrong answer to the first item of session 1.
-pub(crate) const LATER_FIRST_ANSWER: Request = Request::Answer {
+pub(crate) const LATER_FIRST_ANSWER: Ask = Ask::Answer {
     session: 1,
     step: 0,
     response: 0,
 };
 
 /// The wrong answer to the second item of session 1.
-pub(crate) const LATER_SECOND_ANSWER: Request = Request::Answer {
+pub(crate) const LATER_SECOND_ANSWER: Ask = Ask::Answer {
     session: 1,
     step: 1,
     response: 0,
 };
 
 /// The wrong answer to the third item of session 1.
-pub(crate) const LATER_THIRD_ANSWER: Request = Request::Answer {
+pub(crate) const LATER_THIRD_ANSWER: Ask = Ask::Answer {
     session: 1,
     step: 2,
     response: 0,

@@ -15,6 +15,31 @@ pub(crate) const FOUND: &str = "HTTP/1.1 200 OK\r\n\
     Content-Type: application/json\r\nContent-Length: 63\r\n\r\n\
     {\"item\":2,\"proved\":true,\"session\":0,\"state\":\"waiting\",\"step\":0}";
 
+/// Session 1 is started without item 2: the best form is then {1, 3, 5}, and item 1 its best item.
+pub(crate) const LISTED: &str = "HTTP/1.1 201 Created\r\n\
+    Content-Type: application/json\r\nContent-Length: 63\r\n\r\n\
+    {\"item\":1,\"proved\":true,\"session\":1,\"state\":\"waiting\",\"step\":0}";
+
+/// It was started before.
+pub(crate) const LISTED_FOUND: &str = "HTTP/1.1 200 OK\r\n\
+    Content-Type: application/json\r\nContent-Length: 63\r\n\r\n\
+    {\"item\":1,\"proved\":true,\"session\":1,\"state\":\"waiting\",\"step\":0}";
+
+/// Session 1 has another list.
+pub(crate) const OTHER_LIST: &str = "HTTP/1.1 409 Conflict\r\n\
+    Content-Type: application/json\r\nContent-Length: 32\r\n\r\n\
+    {\"error\":\"other-list\",\"value\":1}";
+
+/// The bank has six items.
+pub(crate) const NO_ITEM: &str = "HTTP/1.1 422 Unprocessable Entity\r\n\
+    Content-Type: application/json\r\nContent-Length: 29\r\n\r\n\
+    {\"error\":\"no-item\",\"value\":6}";
+
+/// Each form has the item 0 or the item 1.
+pub(crate) const NO_FORM: &str = "HTTP/1.1 422 Unprocessable Entity\r\n\
+    Content-Type: application/json\r\nContent-Length: 19\r\n\r\n\
+    {\"error\":\"no-form\"}";
+
 /// The session does not exist. The office has one session.
 pub(crate) const NO_SESSION: &str = "HTTP/1.1 404 Not Found\r\n\
     Content-Type: application/json\r\nContent-Length: 32\r\n\r\n\

@@ -19,7 +19,7 @@ use Rattle.spec_reader.specs.Plans.{SaidPlan, row_said, plan_said}
 use Rattle.spec_reader.specs.Canonical.{words_text, line_text, band_rules, setting_rules, bounds_below, base_rules, canonical_rules, canonical}
 
 -- words with a space between each two are the first one, and each other one after a space
-spaced_flat : (w : List ℕ) (ws : List (List ℕ)) → spaced (w ∷ ws) ≡ w ++ flat_map (λ v. 32 ∷ v) ws
+pub spaced_flat : (w : List ℕ) (ws : List (List ℕ)) → spaced (w ∷ ws) ≡ w ++ flat_map (λ v. 32 ∷ v) ws
 spaced_flat w [] = sym (append-nil w)
 spaced_flat w (v ∷ vs) = ap (λ (rest : List ℕ). w ++ 32 ∷ rest) (spaced_flat v vs)
 

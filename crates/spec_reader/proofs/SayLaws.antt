@@ -51,11 +51,11 @@ pub any_same : (n : ℕ) (p q : ℕ → Bool) → ((i : ℕ) → i < n → p i �
 any_same zero p q h = refl
 any_same (suc n) p q h = rw (any_same n p q (λ i lt. h i (omega (arith, lt))), h n (omega arith)) refl
 
-runs_are_set : (rs : List Run) → AreRuns rs → is_set (map run_word rs) ≡ true
+pub runs_are_set : (rs : List Run) → AreRuns rs → is_set (map run_word rs) ≡ true
 unfolding is_set
 runs_are_set rs h = rw (length-map rs run_word) (and_from _ _ (lt-ltb _ _ h.some) (all_from (length rs) (fits (map run_word rs)) (run_fits rs h)))
 
-runs_items : (rs : List Run) → AreRuns rs → (x : ℕ) → in_set (map run_word rs) x ≡ in_runs rs x
+pub runs_items : (rs : List Run) → AreRuns rs → (x : ℕ) → in_set (map run_word rs) x ≡ in_runs rs x
 unfolding in_set
 runs_items rs h x = rw (length-map rs run_word) (any_same (length rs) (λ i. in_run x (run_of (word (map run_word rs) i))) (λ i. in_run x (Some (run rs i))) (λ i lt. ap (in_run x) (word_read rs h i lt)))
 

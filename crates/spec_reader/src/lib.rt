@@ -2,7 +2,8 @@
 //!
 //! Upward it promises that a text is read as the plan that it means, valid for the bank, or refused
 //! for its first fault, with its line and kind; that what is printed is the canonical text of the
-//! plan; and that this text means the same plan. It opens no file, decides nothing about a plan's
+//! plan; and that this text means the same plan. The sets of items of other texts are read and
+//! printed by it too. It opens no file, decides nothing about a plan's
 //! rules (`constraint_model` does), and never takes a text for another one.
 #![tactic(auto)]
 
@@ -22,5 +23,6 @@ mod sets;
 
 pub use line_fault::Kind;
 pub use plan_fault::{Name, PlanFault};
-pub use print::print_plan;
+pub use print::{print_plan, push_set};
 pub use read::read_plan;
+pub use sets::set_of;

@@ -69,8 +69,8 @@ fn push_runs(alloc: Global, out: &mut Vec<u8>, runs: &[Run]) -> Result<(), Alloc
     Ok(())
 }
 
-/// A set as its maximal runs, a space before each.
-fn push_set(alloc: Global, out: &mut Vec<u8>, set: &ItemSet) -> Result<(), AllocError>
+/// Writes a set of items at the end: its maximal runs, a space before each.
+pub fn push_set(alloc: Global, out: &mut Vec<u8>, set: &ItemSet) -> Result<(), AllocError>
     ensures { OnOk result (out.new.items
         ≡ out.old.items ++ flat_map (λ r. 32 ∷ run_word r) (runs_of (has set.now))) }
 {

@@ -21,7 +21,8 @@ fn with_run(set: ItemSet, low: u16, high: u16) -> ItemSet
     all
 }
 
-/// The set that the words write: one or more runs, ascending and apart.
+/// The set of items that the words write: one or more runs, ascending and apart. Two runs may be
+/// next to each other. None where the words write no set.
 #[tactic(auto, using(exam_text::proofs::Firsts::all_fails), unfolding(exam_text::specs::Runs::is_set, crate::specs::Sets::in_set))]
 pub fn set_of(words: &[&[u8]]) -> Option<ItemSet>
     ensures found { is_some result ≡ is_set (map (λ w. w.now) words.now) }

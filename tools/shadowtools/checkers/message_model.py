@@ -162,10 +162,23 @@ def value_of(body):
         raise ValueError("deep") from fault
 
 
-def member(value, name, most):
-    found = value.get(name) if isinstance(value, dict) else None
+MOST_ITEM = 511
+
+
+def number_of(found, most):
     fits = isinstance(found, Digits) and re.fullmatch("[0-9]+", found) and int(found) <= most
     return int(found) if fits else None
+
+
+def member(value, name, most):
+    return number_of(value.get(name) if isinstance(value, dict) else None, most)
+
+
+def items_of(value):
+    """The items of the member `without`: none where it is not there, and None where it is no list."""
+    found = value.get("without", []) if isinstance(value, dict) else []
+    items = [number_of(one, MOST_ITEM) for one in found] if isinstance(found, list) else [None]
+    return None if None in items else frozenset(items)
 
 
 ROUTES = [(rb"/sessions", b"POST", "begin", {"booking": 2**64 - 1}),
@@ -200,5 +213,7 @@ def asked(message, token=b""):
             except ValueError:
                 return "bad-json"
             numbers += [member(value, name, most) for name, most in members.items()]
+            listed = items_of(value)
+            numbers += [listed] if kind == "begin" and listed != frozenset() else []
         return "bad-body" if None in numbers else Request(kind, numbers)
     return "no-route"

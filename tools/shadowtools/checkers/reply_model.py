@@ -7,6 +7,7 @@ program's choice within the rules, and all else follows from the records.
 """
 import io
 import json
+import math
 from collections import namedtuple
 
 from shadowtools.checkers import audit
@@ -17,6 +18,7 @@ from shadowtools.command import Refused
 VERSION = audit.VERSIONS[audit.HEADER]
 EMPTY = audit.HEADER + b"\0"
 ENDED = ("complete", "closed")
+ENUMERATED = 20000  # so many sets of items are looked at the most
 
 # The place of a session after a request; `fresh` where the request started it.
 At = namedtuple("At", "session state step item proved fresh")
@@ -108,19 +110,20 @@ class Model:
         while self.taken < count:
             self.take()
 
-    def need(self, kind, *wanted):
-        """Takes a record of this kind whose first fields are these."""
+    def need(self, kind, *wanted, without=frozenset()):
+        """Takes a record of this kind whose first fields are these; a start has this list."""
         exact = kind not in (audit.ASIDE, audit.SERVED)
         next_one = self.records[self.taken] if self.kind() == kind else None
         fields = next_one and audit.read_record(next_one.payload, next_one.version)[1]
-        if not fields or fields[:len(wanted)] != wanted:
-            raise Missing(kind, self.least_size(kind), exact)
+        listed = fields and kind == audit.STARTED and fields[3:4] != ((without,) if without else ())
+        if not fields or fields[:len(wanted)] != wanted or listed:
+            raise Missing(kind, self.least_size(kind, without), exact)
         self.take()
 
-    def least_size(self, kind):
+    def least_size(self, kind, without):
         """How many bytes a payload of this kind has at the least, as the program writes it. The
-        least tree has two bytes."""
-        started = 77 if VERSION == 1 else 14 + 64 * (len(self.rules.bands) + 1)
+        least tree has two bytes. A list and its form have 64 bytes each."""
+        started = 77 if VERSION == 1 else 14 + 64 * (len(self.rules.bands) + 1 + 2 * bool(without))
         return {audit.STARTED: started, audit.ASIDE: 10 if VERSION == 1 else 13, audit.SERVED: 78,
                 audit.ANSWERED: 8, audit.CLOSED: 5}[kind]
 
@@ -155,14 +158,27 @@ class Model:
         journal lacks one."""
         return getattr(self, request.kind)(*request.numbers)
 
-    def begin(self, booking):
-        if booking in self.bookings:
-            return self.advance(self.bookings[booking])
-        count = len(self.history.sessions)
+    def begin(self, booking, without=frozenset()):
+        number = self.bookings.get(booking)
+        if number is not None:
+            other = without and self.history.sessions[number].without != without
+            return Refusal("other-list", number) if other else self.advance(number)
+        count, size = len(self.history.sessions), len(self.rules.bank.items)
+        if any(item >= size for item in without):
+            return Refusal("no-item", size)
         if count >= self.rules.sessions:
             return Refusal("sessions-full", count)
-        self.need(audit.STARTED, count, booking)
+        if without and self.lacks_form(without):
+            return Refusal("no-form", None)
+        self.need(audit.STARTED, count, booking, without=without)
         return self.advance(count, True)
+
+    def lacks_form(self, without):
+        """Whether all sets of items show that the plan has no form without these. A bank with too
+        many sets is taken to have one: its records show it, or a start that is missing."""
+        problem = self.history.whole_without(without)
+        few = math.comb(len(problem.bank.items), problem.plan.length) <= ENUMERATED
+        return few and check_tree.best_of_all(problem) is None
 
     def answer(self, number, step, response):
         at = self.find(number)
@@ -215,7 +231,7 @@ def lines_of(reply, rules):
     if isinstance(reply, Refusal):
         if reply.word == "sessions-full":
             return [f"limit sessions {reply.value} of {rules.sessions}"]
-        return [f"refused {reply.word} {reply.value}"]
+        return [" ".join(["refused", reply.word, *([] if reply.value is None else [str(reply.value)])])]
     if reply.state == "waiting":
         mark = "proved" if reply.proved else "unproved"
         return [f"session {reply.session} step {reply.step} item {reply.item} {mark}"]
@@ -223,7 +239,7 @@ def lines_of(reply, rules):
 
 
 STATUS = {"no-session": 404, "other": 409, "is-closed": 409, "wrong-step": 409, "bad-response": 422,
-          "sessions-full": 507,
+          "other-list": 409, "no-item": 422, "no-form": 422, "sessions-full": 507,
           "journal-full": 507, "disk": 503, "memory": 500}
 
 

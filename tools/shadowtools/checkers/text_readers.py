@@ -36,7 +36,8 @@ MOST = {b"count": 512, b"quantity": 33553920, b"stimuli": 64}
 # `lines` has the values of each line that occurs once, `bounds` those of stimuli by number, `rows`
 # are lines as (word, numbers, set).
 Plan = namedtuple("Plan", "lines bounds rows")
-# `kind` is the first word of a line of a script, `numbers` are the others.
+# `kind` is the first word of a line of a script, `numbers` are the others. After the booking of a
+# beginning with a list comes the set of its items.
 Request = namedtuple("Request", "kind numbers")
 
 
@@ -228,9 +229,20 @@ REQUESTS = {b"begin": [2**64 - 1], b"answer": [2**32 - 1, 65535, 255], b"close":
             b"look": [2**32 - 1], b"exposure": []}
 
 
+def begin_with_list(booking: bytes, words: Sequence[bytes]) -> Optional[Request]:
+    """The beginning of a session with a list that these words spell, or None. A list has an item,
+    and one spelling: its maximal runs."""
+    first, items = request_of(b"begin " + booking), set_of(words)
+    if first is None or not items or runs(items).encode() != b" ".join(words):
+        return None
+    return Request("begin", first.numbers + [items])
+
+
 def request_of(line: bytes) -> Optional[Request]:
     """The request of a line, or None."""
     word, *rest = line.split(b" ")
+    if word == b"begin" and rest[1:2] == [b"without"]:
+        return begin_with_list(rest[0], rest[2:])
     greatest = REQUESTS.get(word)
     if greatest is None or len(rest) != len(greatest):
         return None

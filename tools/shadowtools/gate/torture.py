@@ -109,7 +109,7 @@ def moves(case):
     draw = case.draw
     exam = Exam(case, *draws.any_exam(draw, 0.02))
     exam.assemble()
-    exam.replay(script_of(draws.requests(draw, draw.randrange(1, 25), exam.problem.plan.length)))
+    exam.replay(script_of(draws.requests(draw, draw.randrange(1, 25), exam.problem.plan.length, lists=False)))
     if case.read("journal") is None:
         return
     old = journal_move.as_version_1(exam.rules, case.read("journal"))

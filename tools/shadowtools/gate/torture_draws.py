@@ -211,11 +211,12 @@ def at_a_limit(draw, bank, plan, script):
 
 # ---------------------------------------------------------------- requests
 
-def requests(draw, number, length, begun=0):
+def requests(draw, number, length, begun=0, lists=True):
     """So many requests as the lines of a script: sessions that go on, and requests that are refused
     or say something again.
 
-    `begun` sessions are there already. Responses of 0 and 1 are in each item's range."""
+    `begun` sessions are there already. Responses of 0 and 1 are in each item's range. Sessions have lists of items that the
+    examinee must not get, unless `lists` is false: version 1 of a journal has none."""
     steps = [0] * begun
     for _ in range(number):
         chance, open_ones = draw.random(), [s for s, step in enumerate(steps) if step < length]
@@ -223,23 +224,33 @@ def requests(draw, number, length, begun=0):
             steps.append(0)
             count = len(steps)
             old, far = draw.randrange(1, count + 1), 2**64 - count
-            yield f"begin {draw.choice([count, count, far, old])}"
+            yield f"begin {draw.choice([count, count, far, old])}{listed(draw) if lists else ''}"
         elif chance < 0.75 and open_ones:
             session = draw.choice(open_ones)
             yield f"answer {session} {steps[session]} {draw.randrange(2)}"
             steps[session] += 1
         else:
-            yield odd_request(draw, len(steps), length)
+            yield odd_request(draw, len(steps), length, lists)
 
 
-def odd_request(draw, sessions, length):
+def odd_request(draw, sessions, length, lists):
     """A request that is often refused, or one that asks and adds nothing."""
     session = draw.choice([draw.randrange(sessions), draw.randrange(sessions), sessions, 2**32 - 1])
     step = draw.choice([draw.randrange(length + 1), draw.randrange(length + 1), 65535])
     return draw.choice([f"answer {session} {step} {draw.choice([0, 1, 2, 3, 255])}",
                         f"answer {session} {step} {draw.randrange(2)}",
                         f"look {session}", f"look {session}", f"close {session}", "exposure",
-                        f"begin {draw.randrange(2**64)}"])
+                        f"begin {draw.randrange(2**64)}",
+                        f"begin {draw.randrange(1, sessions + 1)}{listed(draw) if lists else ''}"])
+
+
+def listed(draw):
+    """The words of a list of items that the examinee must not get, or most often none. Few items, so
+    that two lists of a booking are often the same, and of small numbers, so that a bank has them."""
+    if draw.random() < 0.6:
+        return ""
+    items = draw.sample(range(draw.choice([3, 6, 10])), draw.choice([1, 1, 1, 2, 3]))
+    return f" without {runs(items + [511] * (draw.random() < 0.03))}"
 
 
 # ---------------------------------------------------------------- messages
@@ -250,6 +261,8 @@ def json_of(draw, members):
     if draw.random() < 0.15:
         pairs.insert(draw.randrange(len(pairs) + 1), draw.choice(
             ['"note":[1,{"a":null}]', '"step":"7"', '"booking":1.5', '"response":-1', '"x":1e400',
+             '"without":null', '"without":[]', '"without":[1,1.0]', '"without":[[1]]', '"without":"1"',
+             '"without":[512]', '"without":[0,0]', '"Without":[1]', '"without":{"0":1}', '"without":1',
              '"x":"\\n"', '"deep":' + "[" * 126 + "]" * 126, '"deep":' + "[" * 127 + "]" * 127]))
     space = draw.choice(["", "", " ", "\n\t"])
     return (space + "{" + ("," + space).join(pairs) + space + "}").encode("ascii")
@@ -289,7 +302,7 @@ def message(draw, line, right=b""):
     kind, *numbers = line.split(" ")
     method, path, body = "GET", "/exposure", b""
     if kind == "begin":
-        method, path, body = "POST", "/sessions", json_of(draw, {"booking": numbers[0]})
+        method, path, body = "POST", "/sessions", json_of(draw, begin_members(draw, numbers))
     elif kind == "answer":
         method, path = "POST", f"/sessions/{numbers[0]}/answers"
         body = json_of(draw, {"step": numbers[1], "response": numbers[2]})
@@ -303,6 +316,17 @@ def message(draw, line, right=b""):
         path = draw.choice(["/", "/sessions/", path + "/", "/sessions/01", "/sessions/4294967296",
                             "/exposure?a=1?b", "*", "//exposure", path.upper()])
     return head_of(draw, method, path, len(body), authorization(draw, right)) + body
+
+
+def begin_members(draw, words):
+    """The members of a beginning with these words: a list in any order, some items of it twice."""
+    members = {"booking": words[0]}
+    if words[1:]:
+        items = sorted(text_readers.set_of([word.encode() for word in words[2:]]))
+        items += draw.choice([[], [], items[:1], items])
+        draw.shuffle(items)
+        members["without"] = "[" + draw.choice([",", ", "]).join(map(str, items)) + "]"
+    return members
 
 
 def head_of(draw, method, path, size, bearers=()):

@@ -360,7 +360,8 @@ class Facts:
         if request.kind == "begin":
             if status == 201:
                 self.started.append(number)
-            right = self.model.bookings.get(request.numbers[0]) == number
+            booking, *listed = request.numbers
+            right = self.model.bookings.get(booking) == number and listed in ([], [self.sessions[number].without])
         else:
             right = status == 200 and request.numbers[0] == number
         if request.kind == "answer":
@@ -390,6 +391,8 @@ class Facts:
             return value > self.model.rules.journal
         if word == "no-session":
             return value <= min(request.numbers[0], len(self.sessions))
+        if request.kind == "begin":
+            return self.list_refused(*request.numbers, word, value)
         session = self.sessions[request.numbers[0]]
         if word == "is-closed":
             return self.model.place(request.numbers[0]).state == value
@@ -399,6 +402,14 @@ class Facts:
         if word == "bad-response":
             return self.model.rules.categories[session.shown[step]] == value <= response
         return word == "wrong-step" and value <= min(step, len(session.responses))
+
+    def list_refused(self, booking, listed, word, value):
+        """Whether the refusal of a list was right."""
+        if word == "other-list":
+            return self.model.bookings.get(booking) == value and self.sessions[value].without != listed
+        if word == "no-item":
+            return value == self.items and any(item >= value for item in listed)
+        return word == "no-form" and value is None and self.model.lacks_form(listed)
 
     def is_healthy(self, body):
         """Whether the numbers are those of a beginning of the journal."""

@@ -1,4 +1,4 @@
-use Rattle.std.proofs.Common.{◌≡◌, ◌+◌, ◌-◌, arith}
+use Rattle.std.proofs.Common.{◌+◌, ◌-◌, arith}
 use Rattle.bank_maker.specs.declared.act.Act.TheVariants.{Begins}
 use Rattle.bank_maker.proofs.TextLaws.{step_map}
 use Rattle.bank_maker.proofs.act.push_beginnings.Goals as goal

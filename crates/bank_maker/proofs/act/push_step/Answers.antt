@@ -1,4 +1,4 @@
-use Rattle.std.proofs.Common.{◌≡◌, ◌+◌, ◌-◌, ◌++◌, ◌∙◌, Option, ap, arith}
+use Rattle.std.proofs.Common.{◌+◌, ◌-◌, ◌++◌, ◌∙◌, Option, ap, arith}
 use Rattle.std.specs.Option.{option_to_list}
 use Rattle.bank_maker.specs.declared.act.Act.{Act}
 use Rattle.bank_maker.specs.Scripts.{act_of}

@@ -1,8 +1,8 @@
-use Rattle.std.proofs.Common.{◌∙◌, ◌≡◌, length, map, arith, refl, ap, List}
+use Rattle.std.proofs.Common.{◌∙◌, ◌≡◌, length, arith, refl, ap, List}
 use Rattle.std.proofs.lemmas.List.FromFn.{length-map-range_with_len}
 use Rattle.bank_maker.specs.declared.item.DrawnItem.{DrawnItem}
 use Rattle.bank_maker.specs.Draws.{state_after}
-use Rattle.bank_maker.specs.Items.{items, drawn, item_count}
+use Rattle.bank_maker.specs.Items.{items, drawn}
 use Rattle.bank_maker.proofs.DrawLaws.{after_item, one_item, more_items}
 use Rattle.bank_maker.proofs.item.draw_items.Goals as goal
 

@@ -1,4 +1,4 @@
-use Rattle.std.proofs.Common.{◌≡◌, ◌+◌, ◌∙◌, ℕ, ap}
+use Rattle.std.proofs.Common.{◌+◌, ◌∙◌, ℕ, ap}
 use Rattle.bank_maker.proofs.PlanLaws.{plan_from}
 use Rattle.bank_maker.proofs.plan.plan_text.Goals as goal
 

@@ -2,7 +2,6 @@ use Rattle.std.proofs.Common.{◌≡◌, ◌++◌, ◌+◌}
 use Rattle.std.specs.List.{flat_map, range_with_len}
 use Rattle.spec_reader.specs.Canonical.{line_text}
 use Rattle.spec_reader.specs.Rules.{Stimulus}
-use Rattle.bank_maker.specs.Plans.{category_row, pair}
 use Rattle.bank_maker.proofs.plan.push_bounds.Given as goal
 
 abbrev pub invariant-loop-k : goal.invariant-loop-k

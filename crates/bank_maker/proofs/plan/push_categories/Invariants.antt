@@ -1,8 +1,7 @@
-use Rattle.std.proofs.Common.{◌≡◌, ◌++◌, ◌+◌}
+use Rattle.std.proofs.Common.{◌≡◌, ◌++◌}
 use Rattle.std.specs.List.{flat_map, range_with_len}
 use Rattle.spec_reader.specs.Canonical.{line_text}
-use Rattle.spec_reader.specs.Rules.{Stimulus}
-use Rattle.bank_maker.specs.Plans.{category_row, pair}
+use Rattle.bank_maker.specs.Plans.{category_row}
 use Rattle.bank_maker.proofs.plan.push_categories.Given as goal
 
 abbrev pub invariant-loop-category : goal.invariant-loop-category

@@ -1,7 +1,6 @@
 use Rattle.std.proofs.Common.{◌+◌, arith, refl}
 use Rattle.spec_reader.specs.Canonical.{line_text}
-use Rattle.spec_reader.specs.Rules.{Stimulus}
-use Rattle.bank_maker.specs.Plans.{category_row, pair}
+use Rattle.bank_maker.specs.Plans.{pair}
 use Rattle.bank_maker.proofs.TextLaws.{step}
 use Rattle.bank_maker.proofs.plan.push_pairs.Goals as goal
 

@@ -1,9 +1,10 @@
-use Rattle.std.proofs.Common.{◌≡◌, length, refl, arith}
+use Rattle.std.proofs.Common.{◌≡◌, length, refl, subst, arith}
 use Rattle.bank_tables.specs.Tables.{Tables}
 use Rattle.form_model.specs.Plan.{Plan}
+use Rattle.history_model.specs.declared.request.Request.{Request}
 use Rattle.exam_office.specs.Asking.{IsDurable}
 use Rattle.exam_office.specs.Marks.{history}
-use Rattle.exam_drill.specs.Leading.{none}
+use Rattle.exam_drill.specs.Leading.{none, IsDoneBy, IsCutShort}
 use Rattle.exam_drill.proofs.AskingLaws.{as_first, as_now, same_on, next_leads, next_stops, all_led}
 use Rattle.exam_drill.proofs.asking.ask_all.Goals as goal
 
@@ -22,7 +23,10 @@ ask-requires c =
 pub returns-in-Err-clause-err : goal.returns-in-Err-clause-err
 returns-in-Err-clause-err c =
     let inv = c.loop-request.invariant in
-    next_stops c.args.requests.now c.loop-request.request-index c.args.alone.now.office c.loop-request.alone.office c.ask.new.alone.office inv.same _ c.loop-request-test.true inv.leads c.in-Err.fault c.in-Err.ensures.err
+    let cur = c.loop-request.alone.office in
+    let d : Request = c.request-item.result in
+    let short = subst (λ (r : Request). IsCutShort cur.bank cur.plan (history cur.marks) r c.in-Err.fault) c.request-item.is c.in-Err.ensures.err in
+    next_stops c.args.requests.now c.loop-request.request-index c.args.alone.now.office cur c.ask.new.alone.office inv.same d c.loop-request-test.true inv.leads c.in-Err.fault short
 
 pub returns-in-Err-clause-same : goal.returns-in-Err-clause-same
 returns-in-Err-clause-same c = same_on c.args.alone.now.office c.loop-request.alone.office c.ask.new.alone.office c.loop-request.invariant.same c.ask.ensures.same
@@ -33,8 +37,10 @@ loop-request-preserved c =
     let old = c.args.alone.now.office in
     let cur = c.loop-request.alone.office in
     let new = c.ask.new.alone.office in
+    let d : Request = c.request-item.result in
     record {
-      leads = next_leads c.args.requests.now c.loop-request.request-index old cur new inv.same _ c.loop-request-test.true inv.leads c.in-Ok.ensures.ok;
+      leads = next_leads c.args.requests.now c.loop-request.request-index old cur new inv.same d c.loop-request-test.true inv.leads
+          (subst (λ (r : Request). IsDoneBy cur.bank cur.plan (history cur.marks) r (history new.marks)) c.request-item.is c.in-Ok.ensures.ok);
       same = same_on old cur new inv.same c.ask.ensures.same;
       durable = as_first (λ (b : Tables) (p : Plan). IsDurable b p new) old cur inv.same c.in-Ok.ensures.durable;
     }

@@ -16,7 +16,7 @@ loop-request-init g c =
 pub returns-in-Err-clause-err : goal.returns-in-Err-clause-err
 returns-in-Err-clause-err g c =
     let inv = c.loop-request.invariant in
-    next_stops c.args.requests.now c.loop-request.request-index c.args.alone.now.office c.loop-request.alone.office c.do_request.new.alone.office (g.O.Sink.tells c.args.out.now) (g.O.Sink.written c.args.out.now) (g.O.Sink.written c.loop-request.out) (g.O.Sink.written c.do_request.new.out) inv.so_far _ c.loop-request-test.true inv.same (g.O.Sink.tells c.loop-request.out) inv.tells c.do_request.ensures.each inv.disk c.do_request.ensures.disk c.in-Err.halt c.in-Err.ensures.err
+    next_stops c.args.requests.now c.loop-request.request-index c.args.alone.now.office c.loop-request.alone.office c.do_request.new.alone.office (g.O.Sink.tells c.args.out.now) (g.O.Sink.written c.args.out.now) (g.O.Sink.written c.loop-request.out) (g.O.Sink.written c.do_request.new.out) inv.so_far c.request-item.result c.loop-request-test.true c.request-item.is inv.same (g.O.Sink.tells c.loop-request.out) inv.tells c.do_request.ensures.each inv.disk c.do_request.ensures.disk c.in-Err.halt c.in-Err.ensures.err
 
 pub loop-request-preserved : goal.loop-request-preserved
 loop-request-preserved g c =
@@ -25,7 +25,7 @@ loop-request-preserved g c =
     let cur = c.loop-request.alone.office in
     let new = c.do_request.new.alone.office in
     record {
-      so_far = next_so_far c.args.requests.now c.loop-request.request-index old cur new (g.O.Sink.tells c.args.out.now) (g.O.Sink.written c.args.out.now) (g.O.Sink.written c.loop-request.out) (g.O.Sink.written c.do_request.new.out) inv.so_far _ c.loop-request-test.true inv.same (g.O.Sink.tells c.loop-request.out) inv.tells c.do_request.ensures.each inv.disk c.in-Ok.ensures.ok;
+      so_far = next_so_far c.args.requests.now c.loop-request.request-index old cur new (g.O.Sink.tells c.args.out.now) (g.O.Sink.written c.args.out.now) (g.O.Sink.written c.loop-request.out) (g.O.Sink.written c.do_request.new.out) inv.so_far c.request-item.result c.loop-request-test.true c.request-item.is inv.same (g.O.Sink.tells c.loop-request.out) inv.tells c.do_request.ensures.each inv.disk c.in-Ok.ensures.ok;
       same = same_on old cur new inv.same c.do_request.ensures.same;
       disk = lent_on old.journal cur.journal new.journal inv.disk c.do_request.ensures.disk;
       grows = omega (arith, inv.grows, c.do_request.ensures.grows);

@@ -1,4 +1,4 @@
-use Rattle.exam_hall.proofs.Turning.{grows_by, first_made, placed_reply}
+use Rattle.exam_hall.proofs.Turning.{grows_by, first_made, placed_reply, sought_now}
 use Rattle.exam_hall.proofs.asking.FirstTurnMoveOffice.make.Goals as goal
 
 pub returns-clause-grows : goal.returns-clause-grows
@@ -9,3 +9,6 @@ returns-clause-makes g c = first_made c.args.value.now c.lead-reply.new.office c
 
 pub begun_by-requires : goal.begun_by-requires
 begun_by-requires g c = placed_reply c.args.value.now c.lead-reply.new.office c.args.self.now.request c.lead-reply.result c.lead-reply.ensures
+
+pub lead-reply-requires : goal.lead-reply-requires
+lead-reply-requires g c = sought_now c.args.value.now c.args.self.now.request c.args.self.now.witness c.requires

@@ -18,4 +18,4 @@ returns-clause-assembled g c =
     subst
     (λ (x : HallKnown). IfOk c.assemble_from.result (λ (a : Assembly). (H : List Entry) → LegalRun x.bank x.plan H → IsProblemOf x.bank x.plan H p.session p.step (problem_of p) → IsAssembledFor x.bank x.plan x.base H p.session a))
     c.self.view_is
-    (assembled_result h c.self.invariant p c.again.result c.again.ensures c.budget.result c.budget.ensures c.assemble_from.result e.problem e.budget e.assembly)
+    (assembled_result h c.self.invariant.0 p c.again.result c.again.ensures c.budget.result c.budget.ensures c.assemble_from.result e.problem e.budget e.assembly)

@@ -2,7 +2,7 @@ use Rattle.std.proofs.Common.{Option, IfSome, sym, subst}
 use Rattle.certificate_model.specs.Relaxed.{Multipliers}
 use Rattle.exam_office.specs.Warm.{FitsPlan}
 use Rattle.exam_hall.specs.Known.{marked}
-use Rattle.exam_hall.proofs.Seen.{sees_done, sees_served, sees_failed}
+use Rattle.exam_hall.proofs.Seen.{sees_done, sees_served, sees_failed, reply_is}
 use Rattle.exam_hall.proofs.hall.Hall.handle.Goals as goal
 
 pub returns-in-Done-clause-sees : goal.returns-in-Done-clause-sees
@@ -20,3 +20,8 @@ returns-clause-sees g c =
 pub assemble_twice-requires-clause-fits : goal.assemble_twice-requires-clause-fits
 assemble_twice-requires-clause-fits g c =
     subst (λ (warm : Option Multipliers). IfSome warm (FitsPlan c.args.self.now.bank c.args.self.now.plan)) (sym c.as_ref.ensures.value) c.in-Waits.ensures.begun.begins.2
+
+pub returns-in-Done-clause-reply : goal.returns-in-Done-clause-reply
+returns-in-Done-clause-reply g c =
+    reply_is c.args.self.now (marked c.args.pass.now) (marked c.begin.new.pass) c.args.request.now c.in-Done.reply
+    (sees_done c.args.self.now (marked c.args.pass.now) (marked c.begin.new.pass) c.args.request.now c.in-Done.reply c.in-Done.ensures.begun)
