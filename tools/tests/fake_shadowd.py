@@ -5,7 +5,7 @@ usage: fake_shadowd.py check BANK PLAN | assemble BANK PLAN | replay BANK PLAN S
 
 Environment: SHADOWD_JOURNAL, SHADOWD_LISTEN and SHADOWD_CONNECTIONS as shadowd has them; FAKE makes it faulty:
 `rules` leaves the plan's rules out, `refuse` refuses the answer of step 1, `status` ends with 9, `end` the same after it has an address, `count` counts an
-exposure wrong, `answer` records another response, `garbled` serves an item that the bank does not have.
+exposure wrong, `answer` records another response, `garbled` serves an item that the bank does not have, `list` forgets the list of a booking.
 """
 import json
 import os
@@ -17,6 +17,7 @@ import check_tree  # noqa: E402
 import data_of_bank_a as bytes_of  # noqa: E402
 from examination import read_bank, read_journal, read_plan, sessions_of  # noqa: E402
 from shadowtools.formats.exposure import exposure_of  # noqa: E402
+from shadowtools.formats.tables import members  # noqa: E402
 
 FAULT = os.environ.get("FAKE", "")
 PATH = os.environ.get("SHADOWD_JOURNAL", "shadowd.journal")
@@ -54,7 +55,7 @@ class Office:
         form = check_tree.best_of_all(problem)
         if form is None:
             self.add(bytes_of.set_aside(number, step, counts.band_now(seat), 0, 1, bytes.fromhex("0006")))
-            form = check_tree.best_of_all(problem._replace(barred=frozenset()))
+            form = check_tree.best_of_all(problem._replace(barred=session.without))
         item = max(sorted(form - given), key=lambda i: self.bank[i].information[problem.theta])
         self.add(bytes_of.served(number, step, item, form))
         session.items.append(item)
@@ -63,13 +64,21 @@ class Office:
         """The exposure so far, with the seats of the sessions."""
         return exposure_of(read_journal(PATH) if os.path.exists(PATH) else [], self.bank, self.plan)
 
-    def begin(self, booking):
+    def begin(self, booking, without=frozenset()):
+        """The number of the booking's session, or None where there is no form without the items of its list."""
         for number, session in enumerate(self.sessions):
             if session.booking == booking:
                 return number
         number = len(self.sessions)
         counts = self.counts()
-        self.add(bytes_of.started(number, booking, [counts.draw(number, band) for band in range(self.plan.bands)]))
+        sets = [counts.draw(number, band) for band in range(self.plan.bands)]
+        if without and FAULT != "list":
+            form = check_tree.best_of_all(self.problem._replace(barred=without))
+            if form is None:
+                return None
+            self.add(bytes_of.started_without(number, booking, without, form, sets))
+        else:
+            self.add(bytes_of.started(number, booking, sets))
         self.sessions = sessions_of(read_journal(PATH))
         self.serve(number)
         return number
@@ -113,7 +122,8 @@ def replay(office, requests):
     for request in requests:
         words = request.split()
         if words[0] == "begin":
-            print(office.line(office.begin(int(words[1]))))
+            begun = office.begin(int(words[1]), frozenset(members(words[3:])))
+            print("refused no-form" if begun is None else office.line(begun))
         elif words[0] == "exposure":
             finished, rows = office.exposure()
             print("exposure finished", finished)
@@ -158,7 +168,8 @@ def handler(office):
             body = json.loads(self.rfile.read(int(self.headers["Content-Length"])))
             with office.lock:
                 if self.path == "/sessions":
-                    self.told(201, office.place(office.begin(body["booking"])))
+                    begun = office.begin(body["booking"], frozenset(body.get("without", ())))
+                    self.told(*((422, {"error": "no-form"}) if begun is None else (201, office.place(begun))))
                     return
                 number = int(self.path.split("/")[2])
                 if office.answer(number, body["step"], body["response"]):

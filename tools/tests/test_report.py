@@ -14,7 +14,7 @@ from common import PAGE, Folder, needs_page
 from shadowtools.command import Refused
 from shadowtools.formats.examination import BankItem, Session, plan_of
 from shadowtools.needs import is_there
-from test_simulate import ATTRIBUTES, Examination, ExaminationWithBands
+from test_simulate import ATTRIBUTES, Examination, ExaminationWithBands, ExaminationWithRetakers
 
 if is_there(*PAGE):
     import numpy as np
@@ -380,6 +380,56 @@ class PagesWithBands(ExaminationWithBands):
         self.assertIn("does not steer these rates", page)
         status, _, errors = self.tool("report", "e", "--run", "run", "--to", "page.html", "--watch", "9")
         self.assertEqual((status, errors.count("\n"), "--watch" in errors), (1, 1, True), errors)
+
+
+@needs_page
+class PagesWithRetakers(ExaminationWithRetakers):
+    LINE = r"overlap ([\d.]+), at most ([\d.]+); RMSE of the mean ([\d.]+) and ([\d.]+), of the mode ([\d.]+) and ([\d.]+);"
+
+    def page_of(self, *words):
+        """The page of two examinees of four that sit twice, and the numbers that simulate.py printed of them."""
+        _, said, errors = self.simulate("--retakers", "0.5", *words)
+        status, _, more = self.tool("report", "e", "--run", "run", "--to", "page.html")
+        self.assertEqual((status, more), (0, ""), errors)
+        return self.read("page.html"), re.search(self.LINE, said)
+
+    def assert_section(self, page, numbers):
+        self.assertIn(">Second sittings</h2>", page)
+        self.assertIn("<dt>Examinees that sat twice</dt><dd>2 of 4</dd>", page)
+        self.assertIn(f"<dt>Overlap of the two tests of a person, mean and greatest</dt><dd>{numbers[1]}, {numbers[2]}</dd>", page)
+        for place, name in enumerate(("first", "second")):
+            self.assertRegex(page, rf'<td class="text">{name}</td><td class="">2</td><td class="">[^<]*</td><td class="">{numbers[3 + place]}</td>'
+                                   rf'<td class="">{numbers[5 + place]}</td>')
+        self.assertIn("4 sessions", self.tool("report", "e", "--run", "run", "--to", "page.html")[1])
+
+    def test_with_lists(self):
+        page, numbers = self.page_of()
+        self.assert_section(page, numbers)
+        self.assertIn("<dt>Second sittings begun</dt><dd>2, without the items of the first</dd>", page)
+        self.assertIn("<b>met</b><span>2 of 2 second sittings found a form. A second test shares no item with the first of the same person; its "
+                      f"RMSE is {numbers[4]}, that of the first {numbers[3]} (EAP).", page)
+        self.assertIn(json.loads(self.read("run.run.json"))["sha256"]["second"], page)
+
+    def test_with_no_lists(self):
+        page, numbers = self.page_of("--no-lists")
+        self.assert_section(page, numbers)
+        self.assertIn("<dt>Second sittings begun</dt><dd>2, with no list</dd>", page)
+        self.assertIn(f"<b>measured</b><span>2 of 2 second sittings found a form. A second test shares {float(numbers[1]):.1%} of its items", page)
+
+    def test_without_a_form(self):
+        self.write("constraints", self.read("constraints").replace("2,2", "1,1"))
+        self.tool("irt_bank", "--items", "items", "--attributes", "attributes", "--constraints", "constraints", "--out", "e", "--grid", "-3", "3", "7")
+        page, _ = self.page_of()
+        self.assertIn("<b>not met</b><span>0 of 2 second sittings found a form.</span>", page)
+        self.assertIn("<dt>No form is left</dt><dd>2</dd>", page)
+
+    def test_a_journal_that_is_none(self):
+        self.page_of()
+        with open(self.path("run.second.journal"), "ab") as file:
+            file.write(b"more")
+        status, _, errors = self.tool("report", "e", "--run", "run", "--to", "page.html")
+        self.assertEqual((status, errors), (1, "run.second.journal is not the journal of the run, by its SHA-256; use the files that simulate.py wrote "
+                                               "together\n"))
 
 
 if __name__ == "__main__":

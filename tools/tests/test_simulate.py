@@ -203,6 +203,128 @@ class Tails(Examination):
         self.assertEqual([booking for booking, _, _ in self.sessions("run.tails.journal")], [0, 1, 2, 3, 4])
 
 
+class ExaminationWithRetakers(Examination):
+    """Half of the items of a test have an even number. So a second test without the items of the first has all others."""
+    evens = 2
+
+    def setUp(self):
+        super().setUp()
+        self.write("constraints", RULES.replace("1,1", f"{self.evens},{self.evens}"))
+        status, _, errors = self.tool("irt_bank", "--items", "items", "--attributes", "attributes", "--constraints", "constraints", "--out",
+                                      "e", "--grid", "-3", "3", "7")
+        self.assertEqual(status, 0, errors)
+
+    def both(self, name="run.second.journal"):
+        """By retaker the first and the second session."""
+        found = {booking: (items, responses) for booking, items, responses in self.sessions(name)}
+        run = json.loads(self.read("run.run.json"))
+        return [(found[examinee], found.get(booking)) for booking, examinee in enumerate(run["retakers"], len(run["true"]))]
+
+
+@needs_numpy
+class Retakers(ExaminationWithRetakers):
+    def assert_without(self, status, said, errors):
+        """Both second sittings were begun, and have the items that the first had not."""
+        self.assertEqual(status, 0, errors)
+        self.assertIn("second sittings 2, without the items of the first: 2 begun, 0 refused no-form, 0 refused none-found\n", said)
+        self.assertIn("two sittings of a person: overlap 0.000, at most 0.000; ", said)
+        self.assertIn("; forms proved 8 of 8 in the second; eligibility set aside in ", said)
+        self.assertEqual([sorted(first[0] + second[0]) for first, second in self.both()], [list(range(8))] * 2)
+
+    def test_without_the_items_of_the_first(self):
+        self.simulate()
+        alone = self.sessions()
+        self.assertFalse(os.path.exists(self.path("run.second.journal")))
+        self.assert_without(*self.simulate("--retakers", "0.5"))
+        by_replay = self.sessions("run.second.journal")
+        self.assertEqual((self.sessions(), by_replay[:4]), (alone, alone))
+        self.assert_without(*self.simulate("--retakers", "0.5", "--through", "serve", "--clients", "2"))
+        self.assertEqual((self.sessions(), self.sessions("run.second.journal")), (alone, by_replay))
+
+    def test_with_no_lists(self):
+        """The overlap and the error counted from the sessions; the answers to the same items are those of the run with lists."""
+        self.simulate("--retakers", "0.5")
+        with_lists = [dict(zip(*second)) for _, second in self.both()]
+        status, said, errors = self.simulate("--retakers", "0.5", "--no-lists")
+        self.assertEqual(status, 0, errors)
+        self.assertIn("second sittings 2, with no list: 2 begun, ", said)
+        pairs = self.both()
+        shares = [len(set(first[0]) & set(second[0])) / 4 for first, second in pairs]
+        self.assertGreater(min(shares), 0)
+        self.assertIn(f"overlap {sum(shares) / 2:.3f}, at most {max(shares):.3f}; RMSE of the mean {self.error(pairs, 0):.3f} and "
+                      f"{self.error(pairs, 1):.3f}, ", said)
+        for second, other in zip((second for _, second in pairs), with_lists):
+            for item, response in zip(*second):
+                self.assertEqual(response, other.get(item, response))
+        self.assertTrue(any(item in other for (_, second), other in zip(pairs, with_lists) for item in second[0]))
+
+    def error(self, pairs, place):
+        """The RMSE of the posterior means, by a sum over points of the ability."""
+        run, scaling = json.loads(self.read("run.run.json")), json.loads(self.read("e.map.json"))["D"]
+        points, squares = [k / 100 for k in range(-600, 601)], []
+        for examinee, pair in zip(run["retakers"], pairs):
+            weights = [math.exp(-point ** 2 / 2) for point in points]
+            for item, response in zip(*pair[place]):
+                chances = [1 / (1 + math.exp(-scaling * 1.2 * (point - (item - 3) / 2))) for point in points]
+                weights = [weight * (chance if response else 1 - chance) for weight, chance in zip(weights, chances)]
+            mean = sum(weight * point for weight, point in zip(weights, points)) / sum(weights)
+            squares.append((mean - run["true"][examinee]) ** 2)
+        return math.sqrt(sum(squares) / len(squares))
+
+    def test_who_sits_twice(self):
+        few, many = simulation.retakers_of(10, 0.3, 5), simulation.retakers_of(10, 0.6, 5)
+        self.assertEqual((len(few), len(many), set(few) <= set(many), many == sorted(many)), (3, 6, True, True))
+        self.assertEqual((simulation.retakers_of(7, 0, 5), len(simulation.retakers_of(7, 0.01, 5))), ([], 1))
+        self.assertEqual(simulation.retakers_of(3, 1, 5), [0, 1, 2])
+
+    def test_with_a_rate_and_tails(self):
+        """Both go on with the journal of the sample, and the tails without the second sittings."""
+        self.tool("irt_bank", "--items", "items", "--attributes", "attributes", "--constraints", "constraints", "--out", "e", "--grid", "-3", "3",
+                  "7", "--rate", "2", "3", "--key", "07" * 32)
+        self.simulate("--tails", "-2", "--each", "1", "--group", "3")
+        tails = self.sessions("run.tails.journal")
+        status, said, errors = self.simulate("--tails", "-2", "--each", "1", "--group", "3", "--retakers", "0.5")
+        self.assert_without(status, said, errors)
+        self.assertEqual(self.sessions("run.tails.journal"), tails)
+        self.assertEqual([booking for booking, _, _ in self.sessions("run.second.journal")], [0, 1, 2, 3, 5, 6])
+
+    def test_a_list_that_is_forgotten(self):
+        for through in ("replay", "serve"):
+            with self.subTest(through):
+                status, _, errors = self.simulate("--retakers", "0.5", "--through", through, "--clients", "1", fake="list")
+                self.assertEqual((status, errors), (1, "session 4: the journal's list is not that of booking 4\n"))
+
+    @needs_program
+    def test_the_program(self):
+        self.assert_without(*self.simulate("--retakers", "0.5", program=PROGRAM))
+        by_replay = self.sessions("run.second.journal")
+        status, said, _ = self.tool("audit", "e.bank.csv", "e.plan.txt", "run.second.journal")
+        self.assertEqual((status, said.splitlines()[0].split()[:10]), (0, "entries 54 sessions 6 finished 6 proved 24 unproved 0".split()))
+        self.assert_without(*self.simulate("--retakers", "0.5", "--through", "serve", "--clients", "2", program=PROGRAM))
+        self.assertEqual(self.sessions("run.second.journal"), by_replay)
+
+
+@needs_numpy
+class RetakersWithoutForm(ExaminationWithRetakers):
+    """Three items of a test have an odd number, of four in the bank: a second test without them lacks two."""
+    evens = 1
+
+    def assert_refused(self, program=None):
+        for through in ("replay", "serve"):
+            status, said, errors = self.simulate("--retakers", "0.5", "--through", through, program=program)
+            self.assertEqual(status, 0, errors)
+            self.assertTrue(said.endswith("second sittings 2, without the items of the first: 0 begun, 2 refused no-form, 0 refused none-found\n"))
+            self.assertEqual([second for _, second in self.both()], [None, None])
+            self.assertEqual(json.loads(self.read("run.run.json"))["refused"], {"4": "no-form", "5": "no-form"})
+
+    def test_each_is_refused(self):
+        self.assert_refused()
+
+    @needs_program
+    def test_the_program(self):
+        self.assert_refused(program=PROGRAM)
+
+
 class ExaminationWithBands(Examination):
     """The same examination with a rate and three bands, whose points are -3 to -1, 0, and 1 to 3."""
 
@@ -279,7 +401,9 @@ class Refusals(Examination):
                 (["--seed", "-1"], 2, "--seed: '-1' is not a whole number from 0"), (["--seed", "1_0"], 2, "--seed: '1_0'"),
                 (["--true", "normal", "nan", "1"], 1, "--true normal nan 1"), (["--true", "uniform", "1", "0"], 1, "--true uniform 1 0"),
                 (["--group", "0"], 2, "--group: '0'"), (["--clients", "17"], 2, "--clients: '17'"), (["--examinees", "65537"], 2, "--examinees"),
-                (["--rules", "none"], 1, "none: No such file")):
+                (["--rules", "none"], 1, "none: No such file"), (["--retakers", "1.5"], 2, "--retakers: 1.5 is not from 0 to 1"),
+                (["--retakers", "nan"], 2, "--retakers: 'nan'"), (["--no-lists"], 1, "--no-lists is for second sittings"),
+                (["--examinees", "65536", "--retakers", "0.1"], 1, "6554 second sittings are more than 65536")):
             with self.subTest(words):
                 found, _, errors = self.simulate(*words)
                 self.assertEqual((found, said in errors.splitlines()[-1]), (status, True), errors)
@@ -314,6 +438,7 @@ class Refusals(Examination):
         self.simulate()
         run = json.loads(self.read("run.run.json"))
         for text in ("", "[]", "{}", json.dumps(dict(run, true=["x"])), json.dumps(dict(run, examinees=0)), json.dumps(dict(run, tails=[1])),
+                     json.dumps(dict(run, retakers=[4])), json.dumps(dict(run, retakers=[1, 0])), json.dumps(dict(run, refused={"4": "no-form"})),
                      json.dumps(dict(run, seconds=[])), json.dumps(dict(run, seconds=[[0, 1]])), json.dumps(dict(run, of=[1])),
                      json.dumps({name: value for name, value in run.items() if name != "sha256"})):
             with self.subTest(text[:40]), self.assertRaises(Refused):

@@ -12,12 +12,16 @@ import socket
 import subprocess
 import threading
 import time
-from typing import Any, Callable, List, Optional, Sequence, Tuple
+from dataclasses import dataclass, field
+from typing import Any, Callable, Dict, FrozenSet, List, Mapping, Optional, Sequence, Tuple
 
 from shadowtools.command import Refused
+from shadowtools.formats.tables import runs
 
 WAITING = re.compile(r"session (\d+) step (\d+) item (\d+) (?:proved|unproved)")
 COMPLETE = re.compile(r"session (\d+) complete")
+# What a booking with a list is refused, where there is no form without the items of the list, or none was found within the budget.
+WITHOUT_FORM = ("no-form", "none-found")
 LISTENING = re.compile(r"listening on ([0-9.]+):(\d+)")
 
 
@@ -37,6 +41,33 @@ class Progress:
         if now - self.told >= self.pause:
             self.told = now
             self.tell(f"{given} of {self.answers} answers, {now - self.begun:.0f} s")
+
+
+@dataclass
+class Sittings:
+    """Bookings that are taken through, the responses of each to all items of the bank, and the lists of items that some of them must
+    not get. `refused` is filled in: by booking the refusal, where no form without the items of the list was found."""
+    bookings: Sequence[int]
+    responses: Mapping[int, Sequence[int]]
+    lists: Mapping[int, FrozenSet[int]] = field(default_factory=dict)
+    refused: Dict[int, str] = field(default_factory=dict)
+
+    def line(self, booking: int) -> str:
+        """The request of a script that begins a booking."""
+        without = self.lists.get(booking)
+        return f"begin {booking} without {runs(without)}" if without else f"begin {booking}"
+
+    def body(self, booking: int) -> dict:
+        """The body of the same over HTTP."""
+        without = self.lists.get(booking)
+        return {"booking": booking, "without": sorted(without)} if without else {"booking": booking}
+
+    def refuse(self, booking: int, word: str) -> bool:
+        """Notes a refusal that a booking with a list may have; whether it is one."""
+        if booking not in self.lists or word not in WITHOUT_FORM:
+            return False
+        self.refused[booking] = word
+        return True
 
 
 # ---------------------------------------------------------------- replay
@@ -64,30 +95,30 @@ class Replay:
         return lines
 
 
-def next_request(examinee: int, request: str, reply: str, responses) -> Optional[str]:
-    """The request after a reply, or None where the session is complete."""
+def next_request(sittings: Sittings, booking: int, request: str, reply: str) -> Optional[str]:
+    """The request after a reply, or None where the session is complete, or where the booking found no form."""
     waiting = WAITING.fullmatch(reply)
     if waiting:
         session, step, item = map(int, waiting.groups())
-        if item >= len(responses[examinee]):
-            raise Stopped(f"examinee {examinee}: {reply!r}, the bank has {len(responses[examinee])} items")
-        return f"answer {session} {step} {responses[examinee][item]}"
-    if COMPLETE.fullmatch(reply):
+        if item >= len(sittings.responses[booking]):
+            raise Stopped(f"examinee {booking}: {reply!r}, the bank has {len(sittings.responses[booking])} items")
+        return f"answer {session} {step} {sittings.responses[booking][item]}"
+    begun = request.startswith("begin ") and reply.startswith("refused ")
+    if COMPLETE.fullmatch(reply) or begun and sittings.refuse(booking, reply.partition(" ")[2]):
         return None
-    raise Stopped(f"examinee {examinee}: {request!r} was answered {reply!r}")
+    raise Stopped(f"examinee {booking}: {request!r} was answered {reply!r}")
 
 
-def by_replay(replay, responses, group, progress, examinees=None):
-    """Takes the examinees (default all) through their sessions, `group` at a time; the seconds of each round."""
+def by_replay(replay: Replay, sittings: Sittings, group: int, progress: Progress) -> List[Tuple[int, float]]:
+    """Takes the bookings through their sessions, `group` at a time; the seconds of each round."""
     seconds, given = [], 0
-    examinees = range(len(responses)) if examinees is None else examinees
-    for first in range(0, len(examinees), group):
-        asked = [(k, f"begin {k}") for k in examinees[first:first + group]]
+    for first in range(0, len(sittings.bookings), group):
+        asked = [(k, sittings.line(k)) for k in sittings.bookings[first:first + group]]
         while asked:
             begun = time.perf_counter()
             replies = replay.replies([request for _, request in asked])
             seconds.append((len(asked), time.perf_counter() - begun))
-            after = [(k, next_request(k, request, reply, responses)) for (k, request), reply in zip(asked, replies)]
+            after = [(k, next_request(sittings, k, request, reply)) for (k, request), reply in zip(asked, replies)]
             asked = [(k, request) for k, request in after if request is not None]
             given += len(asked)
             progress.note(given)
@@ -169,8 +200,8 @@ class Client:
     def __init__(self, connection: http.client.HTTPConnection) -> None:
         self.connection, self.seconds, self.answers = connection, [], 0
 
-    def asked(self, method: str, path: str, body: Any = None) -> Any:
-        """The JSON of a response; refusals are exceptions."""
+    def exchanged(self, method: str, path: str, body: Any) -> Tuple[int, bytes]:
+        """The status and the body of a response."""
         begun = time.perf_counter()
         try:
             self.connection.request(method, path, None if body is None else json.dumps(body))
@@ -179,33 +210,46 @@ class Client:
         except (OSError, http.client.HTTPException) as error:
             raise Lost(f"{method} {path}: {error!r}")
         self.seconds.append(time.perf_counter() - begun)
-        if response.status not in (200, 201):
-            raise Stopped(f"{method} {path}: status {response.status}: {text.decode()[:80]}")
+        return response.status, text
+
+    def asked(self, method: str, path: str, body: Any = None) -> Any:
+        """The JSON of a response; refusals are exceptions."""
+        status, text = self.exchanged(method, path, body)
+        if status not in (200, 201):
+            raise Stopped(f"{method} {path}: status {status}: {text.decode()[:80]}")
         return json.loads(text)
 
-    def examinee(self, k: int, responses) -> None:
-        """One whole session."""
-        told = self.asked("POST", "/sessions", {"booking": k})
-        while told["state"] == "waiting":
-            answer = {"step": told["step"], "response": int(responses[k][told["item"]])}
+    def begun(self, booking: int, sittings: Sittings) -> Any:
+        """The place of a booking's session, or None where no form without the items of its list was found."""
+        status, text = self.exchanged("POST", "/sessions", sittings.body(booking))
+        if status == 422 and sittings.refuse(booking, json.loads(text)["error"]):
+            return None
+        if status not in (200, 201):
+            raise Stopped(f"POST /sessions: status {status}: {text.decode()[:80]}")
+        return json.loads(text)
+
+    def examinee(self, k: int, sittings: Sittings) -> None:
+        """One whole session, if the booking finds a form."""
+        told = self.begun(k, sittings)
+        while told is not None and told["state"] == "waiting":
+            answer = {"step": told["step"], "response": int(sittings.responses[k][told["item"]])}
             told = self.asked("POST", f"/sessions/{told['session']}/answers", answer)
             self.answers += 1
-        if told["state"] != "complete":
+        if told is not None and told["state"] != "complete":
             raise Stopped(f"examinee {k}, session {told['session']}: {told['state']}")
 
 
-def by_http(server, responses, clients, progress, examinees=None):
-    """Takes the examinees (default all) through their sessions, `clients` at once; the seconds of each request, and the
-    exposure."""
+def by_http(server, sittings, clients, progress):
+    """Takes the bookings through their sessions, `clients` at once; the seconds of each request, and the exposure."""
     waiting, faults = queue.SimpleQueue(), []
-    for k in range(len(responses)) if examinees is None else examinees:
+    for k in sittings.bookings:
         waiting.put(k)
     made = [Client(server.connection()) for _ in range(clients)]
 
     def work(client):
         try:
             while not faults:
-                client.examinee(waiting.get_nowait(), responses)
+                client.examinee(waiting.get_nowait(), sittings)
         except queue.Empty:
             pass
         except Stopped as stopped:

@@ -14,8 +14,8 @@ usage: report.py PREFIX --run OUT --to REPORT.html [options]
   --template FILE                another template for jinja2 than report.html of these tools
   --picture FILE.png             a picture for another page: the forms of an examinee, and the standard error
 
-PREFIX.bank.csv, PREFIX.plan.txt, PREFIX.map.json are irt_bank.py's; OUT.run.json, OUT.journal and OUT.tails.journal are
-simulate.py's. Their SHA-256 are those that the map and the run have. Beside the page are written REPORT.sessions.csv, a line
+PREFIX.bank.csv, PREFIX.plan.txt, PREFIX.map.json are irt_bank.py's; OUT.run.json, OUT.journal, OUT.second.journal and
+OUT.tails.journal are simulate.py's. Their SHA-256 are those that the map and the run have. Beside the page are written REPORT.sessions.csv, a line
 for each examinee; REPORT.answers.csv, a line for each answer; and REPORT.items.csv, a line for each item. Exit status: 0; 1
 where the files are refused or a rule is broken.
 """
@@ -33,6 +33,7 @@ import numpy as np  # noqa: E402
 import pandas as pd  # noqa: E402
 
 from shadowtools.agency.custody import sha256_of  # noqa: E402
+from shadowtools.agency.retakers import Retakes, retakes_of  # noqa: E402
 from shadowtools.agency.simulation import Examination, load, parted, read_run  # noqa: E402
 from shadowtools.command import Refused, as_command  # noqa: E402
 from shadowtools.formats.examination import Session, read_journal, read_plan, require_points  # noqa: E402
@@ -94,6 +95,18 @@ def sessions_of_run(given: argparse.Namespace, run: dict,
     return whole[0], whole[1], counts
 
 
+def retakes(given: argparse.Namespace, run: dict, examination: Examination, sample: Sequence[Session]) -> Optional[Retakes]:
+    """The second sittings of the run, if it has any. Refused are a journal that is not the run's, and one that lacks a whole session."""
+    if not run["retakers"]:
+        return None
+    path = given.run + ".second.journal"
+    second = journal_of(path, run, "second", examination).sessions
+    found = retakes_of(run, sample, second)
+    if found.number != len(run["retakers"]) or any(len(one.responses) != examination.plan.length for one in second):
+        raise Refused(f"{path} has not the whole session of each second sitting; simulate again")
+    return found
+
+
 def journal_of(path: str, run: dict, name: str, examination: Examination, watch: Optional[List[int]] = None) -> Exposure:
     if run["sha256"].get(name) != sha256_of(path):
         raise Refused(f"{path} is not the journal of the run, by its SHA-256; use the files that simulate.py wrote together")
@@ -130,7 +143,7 @@ def main(words: Sequence[str]) -> int:
     examination, run = load(given.prefix), read_run(given.run + ".run.json")
     rules = (read_plan(given.rules) if given.rules else examination.plan).rules
     sample, tails, counts = sessions_of_run(given, run, examination)
-    study = Study(examination, run, sample, tails, rules, asked, counts)
+    study = Study(examination, run, sample, tails, rules, asked, counts, retakes(given, run, examination, sample))
     text = page(study, given.template)
     try:
         with open(given.to, "w", encoding="utf-8") as file:
@@ -143,8 +156,9 @@ def main(words: Sequence[str]) -> int:
     except OSError as error:
         raise Refused(f"{error.filename}: {error.strerror}")
     errors = study.people.eap[study.sample] - study.people.true[study.sample]
-    print(f"{given.to}: {len(study.sessions)} sessions, {len(study.broken)} broken rules, RMSE {np.sqrt((errors ** 2).mean()):.4f} (EAP)")
-    return 1 if study.broken else 0
+    broken = len(study.broken) + len(study.broken_second)
+    print(f"{given.to}: {len(study.sessions)} sessions, {broken} broken rules, RMSE {np.sqrt((errors ** 2).mean()):.4f} (EAP)")
+    return 1 if broken else 0
 
 
 command = as_command(main)

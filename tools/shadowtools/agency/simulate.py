@@ -12,6 +12,9 @@ usage: simulate.py PREFIX --out OUT [options]      PREFIX.bank.csv, PREFIX.plan.
   --tails T T ..    abilities at which more examinees are taken through after the others; default -3 -2.5 -2 2 2.5 3, none
                     where --true names points. They show the ends of the scale, and count in no total. `--tails none`
   --each N          how many at each of them; default 1 for each 40 examinees
+  --retakers SHARE  a share of the examinees, from 0 to 1, that sit twice; default 0. Each second sitting is begun without the items
+                    of the first, after all first sittings. Its answers are drawn anew: nobody remembers an item, or has learnt
+  --no-lists        begins the second sittings with no list, for the same persons with the same answers
   --through WAY     replay (default) or serve: rounds of `shadowd replay`, or HTTP against `shadowd serve`
   --group N         examinees at once through replay; default all, and 25 where the plan has an exposure rate, since
                     the draws of a session see only sessions that are finished
@@ -19,13 +22,15 @@ usage: simulate.py PREFIX --out OUT [options]      PREFIX.bank.csv, PREFIX.plan.
   --rules PLAN      the rules that are counted; default those of the plan
   --program SHADOWD default $SHADOWD, else crates/shadowd/out/shadowd
 
-Written: OUT.journal, the journal; OUT.tails.journal, that of the tails, which goes on with the first where the plan has an
-exposure rate; OUT.run.json, the examinees, how they were taken through, and the SHA-256 of bank, plan, map, program and
-journals. report.py reads all. The journal is kept in memory (/dev/shm, where there is one) until the end, so that no disk is
-waited for. The answers of an examinee are drawn beforehand for every item. At the end the journals are read, the items of
-each session are held against every rule of the plan by a reader that shares nothing with the product, and the program's
-exposure counts against those of the journal: in all, and where the plan has bands also those of the bands, which are printed. Each
-draw of eligible items is made anew for that. Exit status: 0; 1 with the place of a broken rule, a refusal or another status.
+Written: OUT.journal, the journal; OUT.second.journal, which goes on with it by the second sittings; OUT.tails.journal, that of
+the tails, which goes on with the first where the plan has an exposure rate; OUT.run.json, the examinees, how they were taken
+through, and the SHA-256 of bank, plan, map, program and journals. report.py reads all. The journal is kept in memory (/dev/shm,
+where there is one) until the end, so that no disk is waited for. The answers of an examinee are drawn beforehand for every item.
+At the end the journals are read, the items of each session are held against every rule of the plan by a reader that shares
+nothing with the product, and the program's exposure counts against those of the journal: in all, and where the plan has bands
+also those of the bands, which are printed. Each draw of eligible items is made anew for that. Of retakers two lines are printed:
+how many found no form, and the overlap and the error of the two sittings of a person. Exit status: 0; 1 with the place of a
+broken rule, a refusal or another status.
 """
 import argparse
 import datetime
@@ -38,7 +43,7 @@ import sys
 import tempfile
 import time
 from dataclasses import dataclass, field
-from typing import List, Optional, Sequence, Tuple
+from typing import Dict, FrozenSet, List, Optional, Sequence, Tuple
 
 from shadowtools.needs import require
 
@@ -48,15 +53,17 @@ import numpy as np  # noqa: E402
 
 from shadowtools.agency.custody import said_by, sha256_of  # noqa: E402
 from shadowtools.agency.drivers import (  # noqa: E402
-    Progress, Replay, Server, Stopped, by_http, by_replay, replay_exposure)
+    Progress, Replay, Server, Sittings, Stopped, by_http, by_replay, replay_exposure)
 from shadowtools.agency.program import form_of, run  # noqa: E402
+from shadowtools.agency.retakers import retakes_of, summary  # noqa: E402
 from shadowtools.agency.simulation import (  # noqa: E402
-    MOST_SEED, Examination, abilities, abilities_of, band_names, broken_rules, drawn_responses, load, middles)
+    MOST_SEED, SECOND_SITTING, Examination, abilities, abilities_of, band_names, broken_rules, drawn_responses, load, middles,
+    retakers_of)
 from shadowtools.command import Refused, as_command  # noqa: E402
 from shadowtools.formats.examination import Session, read_journal, read_plan, require_points  # noqa: E402
 from shadowtools.formats.exposure import Exposure, differs, exposure_of  # noqa: E402
 from shadowtools.formats.tables import runs  # noqa: E402
-from shadowtools.options import Options, require_folder, whole  # noqa: E402
+from shadowtools.options import Options, between, require_folder, whole  # noqa: E402
 from shadowtools.places import BUILT, TOP  # noqa: E402
 
 MOST_SESSIONS, MOST_BYTES = 65_536, 536_870_912
@@ -75,6 +82,8 @@ def options(words: Sequence[str]) -> argparse.Namespace:
     parser.add_argument("--watch", nargs="+", type=whole(0, 60))
     parser.add_argument("--tails", nargs="+")
     parser.add_argument("--each", type=whole(1, MOST_SESSIONS))
+    parser.add_argument("--retakers", type=between(0, 1), default=0)
+    parser.add_argument("--no-lists", action="store_true")
     parser.add_argument("--through", choices=("replay", "serve"), default="replay")
     parser.add_argument("--group", type=whole(1, MOST_SESSIONS))
     parser.add_argument("--clients", type=whole(1, 16), default=4)
@@ -116,31 +125,40 @@ def with_base(program: str, files: Sequence[str], text: str) -> str:
 
 @dataclass
 class Stage:
-    """Examinees that are taken through over one journal: the sample, or the tails. What is found is filled in later."""
-    bookings: range
+    """Sessions that are taken through over one journal: of the sample, of the second sittings, or of the tails. A stage may go on with
+    the journal of another. What is found is filled in later."""
+    name: str       # of its journal's SHA-256 in OUT.run.json
+    sittings: Sittings
     journal: str
+    after: Optional["Stage"] = None
     seconds: List[Tuple[int, float]] = field(default_factory=list)
     exposure: Tuple[int, list] = (0, [])
     said: str = ""
     sessions: List[Session] = field(default_factory=list)
     counts: Optional[Exposure] = None
 
+    def bookings(self) -> List[int]:
+        """The bookings that have a session in its journal, in order."""
+        own = [booking for booking in self.sittings.bookings if booking not in self.sittings.refused]
+        return sorted(own + (self.after.bookings() if self.after else []))
 
-def taken_through(given: argparse.Namespace, examination: Examination, responses: np.ndarray, stage: Stage, folder: str) -> None:
-    """Takes the examinees of a stage through; plan and journal are in the folder."""
+
+def taken_through(given: argparse.Namespace, examination: Examination, stage: Stage, folder: str) -> None:
+    """Takes the sessions of a stage through; plan and journal are in the folder."""
     bank, plan, journal = examination.files()[0], os.path.join(folder, "plan.txt"), os.path.join(folder, "journal")
-    progress = Progress(len(stage.bookings) * examination.plan.length,
+    sittings = stage.sittings
+    progress = Progress(len(sittings.bookings) * examination.plan.length,
                         lambda text: print(text, file=sys.stderr, flush=True))
     if given.through == "replay":
         replay = Replay(os.path.abspath(given.program), bank, plan, journal, folder)
-        group = given.group or (25 if controlled(examination) else len(stage.bookings))
-        stage.seconds = by_replay(replay, responses, group, progress, stage.bookings)
+        group = given.group or (25 if controlled(examination) else len(sittings.bookings))
+        stage.seconds = by_replay(replay, sittings, group, progress)
         stage.exposure, stage.said = replay_exposure(replay, len(examination.items)), f"{replay.runs} runs of replay"
         return
-    clients = min(given.clients, len(stage.bookings))
+    clients = min(given.clients, len(sittings.bookings))
     server = Server(os.path.abspath(given.program), bank, plan, journal, clients)
     try:
-        stage.seconds, stage.exposure = by_http(server, responses, clients, progress, stage.bookings)
+        stage.seconds, stage.exposure = by_http(server, sittings, clients, progress)
         stage.said = server.end()
     finally:
         server.process.kill()
@@ -161,10 +179,32 @@ def keep(journal: str, path: str) -> None:
         raise Refused(f"{path}: {error.strerror}")
 
 
-def take(given: argparse.Namespace, examination: Examination, responses: np.ndarray, stages: Sequence[Stage]) -> None:
-    """Takes all stages through, and keeps and reads the journal of each.
+def stages_of(given: argparse.Namespace, examination: Examination, theta: np.ndarray, retakers: Sequence[int]) -> List[Stage]:
+    """The sample, the second sittings of its retakers, and the tails. The draws of the tails see the counts of the sample."""
+    def own(bookings: Sequence[int], responses: np.ndarray) -> Sittings:
+        return Sittings(bookings, dict(zip(bookings, responses)))
 
-    Where the plan has an exposure rate, a stage goes on over the journal of the one before: the draws see its counts."""
+    items, scaling, number = examination.items, examination.scaling, given.examinees
+    responses = drawn_responses(items, theta, scaling, given.seed)
+    sample = Stage("journal", own(range(number), responses), given.out + ".journal")
+    found = [sample]
+    if retakers:
+        again = drawn_responses(items, theta[:number], scaling, given.seed, SECOND_SITTING)[retakers]
+        found.append(Stage("second", own(range(len(theta), len(theta) + len(retakers)), again), given.out + ".second.journal", sample))
+    if len(theta) > number:
+        tails = own(range(number, len(theta)), responses[number:])
+        found.append(Stage("tails", tails, given.out + ".tails.journal", sample if controlled(examination) else None))
+    return found
+
+
+def lists_of(first: Stage, second: Sittings, retakers: Sequence[int]) -> Dict[int, FrozenSet[int]]:
+    """By booking of a second sitting the items of the first sitting of the same examinee."""
+    items = {session.booking: frozenset(session.items) for session in first.sessions}
+    return {booking: items[examinee] for booking, examinee in zip(second.bookings, retakers) if examinee in items}
+
+
+def take(given: argparse.Namespace, examination: Examination, stages: Sequence[Stage], retakers: Sequence[int]) -> None:
+    """Takes all stages through, and keeps and reads the journal of each."""
     with tempfile.TemporaryDirectory(dir=MEMORY if os.access(MEMORY, os.W_OK) else None) as folder:
         with open(examination.files()[1], encoding="utf-8") as file:
             text = with_base(given.program, examination.files(), roomy(file.read()))
@@ -172,10 +212,14 @@ def take(given: argparse.Namespace, examination: Examination, responses: np.ndar
             file.write(text)
         journal = os.path.join(folder, "journal")
         for stage in stages:
-            if os.path.exists(journal) and not controlled(examination):
+            if os.path.exists(journal):
                 os.unlink(journal)
+            if stage.after:
+                shutil.copyfile(stage.after.journal, journal)
+            if stage.name == "second" and not given.no_lists:
+                stage.sittings.lists = lists_of(stages[0], stage.sittings, retakers)
             try:
-                taken_through(given, examination, responses, stage, folder)
+                taken_through(given, examination, stage, folder)
             finally:
                 keep(journal, stage.journal)
             stage.counts = exposure_of(read_journal(stage.journal), examination.bank, examination.plan, given.watch)
@@ -184,21 +228,26 @@ def take(given: argparse.Namespace, examination: Examination, responses: np.ndar
 
 # ---------------------------------------------------------------- what is tested at the end
 
-def answers_kept(stage: Stage, responses: np.ndarray) -> Optional[str]:
-    """The first fault of a journal that does not have each examinee's whole session with the drawn answers."""
+def answers_kept(stage: Stage) -> Optional[str]:
+    """The first fault of a journal that does not have each examinee's whole session with its list and the drawn answers."""
     bookings = sorted(session.booking for session in stage.sessions)
-    if bookings not in (list(stage.bookings), list(range(stage.bookings.stop))):
+    if bookings != stage.bookings():
         return f"the journal has {len(bookings)} bookings, and not each examinee once"
+    sittings = stage.sittings
     for number, session in enumerate(stage.sessions):
-        wanted = [int(responses[session.booking][item]) for item in session.items]
+        if session.booking not in sittings.responses:
+            continue
+        wanted = [int(sittings.responses[session.booking][item]) for item in session.items]
         if session.responses != wanted or session.closed:
             return f"session {number}: the journal's answers are not those of examinee {session.booking}"
+        if session.without != sittings.lists.get(session.booking, frozenset()):
+            return f"session {number}: the journal's list is not that of booking {session.booking}"
     return None
 
 
-def verdict(examination: Examination, rules, stage: Stage, responses: np.ndarray) -> Optional[str]:
+def verdict(examination: Examination, rules, stage: Stage) -> Optional[str]:
     """The first fault, or None."""
-    fault = answers_kept(stage, responses) or differs(stage.counts, stage.exposure)
+    fault = answers_kept(stage) or differs(stage.counts, stage.exposure)
     if fault:
         return fault
     broken = broken_rules(rules, stage.sessions, examination.bank)
@@ -224,22 +273,25 @@ def revision() -> str:
     return done.stdout.strip() if done.returncode == 0 else "not known"
 
 
-def write_run(given: argparse.Namespace, examination: Examination, theta: np.ndarray, line: str, stages: Sequence[Stage],
-              wall: float) -> None:
-    """OUT.run.json. `examinees` is the number of the sample; the abilities of the tails follow in `true`."""
+def write_run(given: argparse.Namespace, examination: Examination, theta: np.ndarray, retakers: Sequence[int], line: str,
+              stages: Sequence[Stage], wall: float) -> dict:
+    """OUT.run.json. `examinees` is the number of the sample; the abilities of the tails follow in `true`. `refused` has by booking what
+    the second sittings were refused that found no form."""
     digests = dict(examination.sha256, program=sha256_of(given.program))
-    digests.update((("journal", "tails")[k], sha256_of(stage.journal)) for k, stage in enumerate(stages))
+    digests.update((stage.name, sha256_of(stage.journal)) for stage in stages)
     found = {"prefix": given.prefix, "true": theta.tolist(), "examinees": given.examinees, "of": given.true,
            "tails": theta[given.examinees:].tolist(), "seed": given.seed, "bank": line, "through": given.through,
            "said": stages[0].said, "wall": wall, "seconds": stages[0].seconds,
            "clients": given.clients if given.through == "serve" else None,
            "date": datetime.datetime.now(datetime.timezone.utc).strftime("%Y-%m-%d %H:%M UTC"), "revision": revision(),
-           "sha256": digests}
+           "sha256": digests, "retakers": list(retakers), "lists": not given.no_lists,
+           "refused": {booking: word for stage in stages for booking, word in sorted(stage.sittings.refused.items())}}
     try:
         with open(given.out + ".run.json", "w", encoding="utf-8") as file:
             json.dump(found, file)
     except OSError as error:
         raise Refused(f"{given.out}.run.json: {error.strerror}")
+    return found
 
 
 def print_bands(examination: Examination, counts: Exposure) -> None:
@@ -255,8 +307,12 @@ def print_bands(examination: Examination, counts: Exposure) -> None:
 
 def main(words: Sequence[str]) -> int:
     given = options(words)
-    tails = tails_of(given)
-    for end in (".journal", ".tails.journal", ".run.json"):
+    tails, retakers = tails_of(given), retakers_of(given.examinees, given.retakers, given.seed)
+    if given.no_lists and not retakers:
+        raise Refused("--no-lists is for second sittings: give --retakers")
+    if given.examinees + len(retakers) > MOST_SESSIONS:
+        raise Refused(f"{given.examinees} examinees and {len(retakers)} second sittings are more than {MOST_SESSIONS}")
+    for end in (".journal", ".second.journal", ".tails.journal", ".run.json"):
         require_folder("--out", given.out + end)
     examination = load(given.prefix)
     rules = read_plan(given.rules).rules if given.rules else examination.plan.rules
@@ -264,18 +320,16 @@ def main(words: Sequence[str]) -> int:
     if given.true == ["bands"]:
         given.true = ["turns", *(f"{point:.4g}" for point in middles(examination, given.watch or examination.plan.points))]
     theta = np.concatenate([abilities(given.true, given.examinees, given.seed), tails])
-    responses = drawn_responses(examination.items, theta, examination.scaling, given.seed)
     line = said_by(given.program, "check", *examination.files())[0]
-    stages = [Stage(range(given.examinees), given.out + ".journal")]
-    if tails:
-        stages.append(Stage(range(given.examinees, len(theta)), given.out + ".tails.journal"))
-    elif os.path.exists(given.out + ".tails.journal"):
-        os.unlink(given.out + ".tails.journal")
+    stages = stages_of(given, examination, theta, retakers)
+    for end in (".second.journal", ".tails.journal"):
+        if os.path.exists(given.out + end):
+            os.unlink(given.out + end)
     begun = time.perf_counter()
-    take(given, examination, responses, stages)
+    take(given, examination, stages, retakers)
     wall = time.perf_counter() - begun
-    fault = next(filter(None, (verdict(examination, rules, stage, responses) for stage in stages)), None)
-    write_run(given, examination, theta, line, stages, wall)
+    fault = next(filter(None, (verdict(examination, rules, stage) for stage in stages)), None)
+    found = write_run(given, examination, theta, retakers, line, stages, wall)
     if fault:
         print(fault, file=sys.stderr)
         return 1
@@ -284,6 +338,8 @@ def main(words: Sequence[str]) -> int:
           f"is broken; {wall:.1f} s; {stages[0].said}")
     if stages[0].counts.points:
         print_bands(examination, stages[0].counts)
+    if retakers:
+        print(summary(retakes_of(found, stages[0].sessions, stages[1].sessions), examination))
     return 0
 
 

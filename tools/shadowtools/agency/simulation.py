@@ -4,6 +4,7 @@ Examinees are drawn beforehand: an ability each, and for each item of the bank o
 or versions of the program can be compared on the same answers. Responses follow the exact parameters of the map, not
 the rounded tables of the bank.
 """
+import math
 from dataclasses import dataclass
 from typing import Dict, List, Sequence, Tuple
 
@@ -101,14 +102,23 @@ def middles(examination: Examination, points: Sequence[int]) -> List[float]:
     return found
 
 
-def drawn_responses(items: Sequence[Item], theta: np.ndarray, scaling: float, seed: int) -> np.ndarray:
-    """By examinee and item the response, drawn by the item's model at the examinee's ability.
+FIRST_SITTING, SECOND_SITTING = 2, 3    # streams of answers
+
+
+def drawn_responses(items: Sequence[Item], theta: np.ndarray, scaling: float, seed: int, sitting: int = FIRST_SITTING) -> np.ndarray:
+    """By examinee and item the response, drawn by the item's model at the examinee's ability, for each sitting anew.
 
     The first examinees have the same answers however many follow them."""
-    uniform = np.random.default_rng([seed, 2]).random((len(theta), len(items)))
+    uniform = np.random.default_rng([seed, sitting]).random((len(theta), len(items)))
     columns = [(uniform[:, k] > np.cumsum(item.probabilities(theta, scaling), 0)[:-1]).sum(0)
                for k, item in enumerate(items)]
     return np.stack(columns, 1)
+
+
+def retakers_of(examinees: int, share: float, seed: int) -> List[int]:
+    """The examinees that sit twice: at random, at least one where the share is above 0. Those of a share are also of a greater one."""
+    order = np.random.default_rng([seed, 4]).permutation(examinees)
+    return sorted(order[:math.ceil(share * examinees - 1e-9)].tolist())
 
 
 # ---------------------------------------------------------------- estimates
@@ -179,7 +189,8 @@ def parted(sessions: Sequence[Session], examinees: int) -> Tuple[List[Session], 
 
 # The fields of a run and their types in JSON.
 FIELDS = {"true": list, "examinees": int, "of": list, "tails": list, "seed": int, "bank": str, "through": str, "said": str,
-          "wall": float, "seconds": list, "clients": (int, type(None)), "date": str, "revision": str, "sha256": dict}
+          "wall": float, "seconds": list, "clients": (int, type(None)), "date": str, "revision": str, "sha256": dict,
+          "retakers": list, "lists": bool, "refused": dict}
 
 
 def read_run(path: str) -> dict:
@@ -196,4 +207,8 @@ def read_run(path: str) -> dict:
     if not (pairs and run["seconds"] and run["tails"] == run["true"][run["examinees"]:]
             and all(isinstance(word, str) for word in [*run["of"], *run["sha256"].values()])):
         raise Refused(f"{path}: no run of this simulate.py: its tails, its times or its words are none; simulate again")
+    examinees, words = range(run["examinees"]), run["refused"].values()
+    if not (all(type(one) is int and one in examinees for one in run["retakers"]) and all(isinstance(word, str) for word in words)
+            and sorted(set(run["retakers"])) == run["retakers"] and len(words) <= len(run["retakers"])):
+        raise Refused(f"{path}: no run of this simulate.py: its retakers are none; simulate again")
     return run

@@ -7,10 +7,10 @@ import numpy as np
 
 from shadowtools.agency.irt import FIELD
 from shadowtools.formats.examination import Rule
-from shadowtools.page import conditional, pictures
+from shadowtools.page import conditional, pictures, retakers
 from shadowtools.page.measures import accuracy, consistency, level_chances, levels, marginal_reliability, standard_error
 from shadowtools.page.parts import Facts, Note, Pictures, Section, Table, Text
-from shadowtools.page.study import Study, interval_names, plain, table_by_band, table_by_item
+from shadowtools.page.study import Study, fixed, interval_names, plain, signed, table_by_band, table_by_item
 
 ESTIMATES = {"mode": "mode on the grid (shadowd)", "map": "continuous mode", "eap": "mean (EAP)",
              "mle": "maximum likelihood, on the grid's range"}
@@ -20,16 +20,9 @@ MOST_NAMED = 12
 def sections(study: Study) -> List[Section]:
     """All sections, in the order of a committee's questions."""
     bands = [conditional.section(study)] if study.counts.points else []
+    second = [retakers.section(study)] if study.retakes else []
     return [identity(study), rules(study), precision(study), recovery(study), classification(study), exposure(study), *bands,
-            eligibility(study), examinees(study), forms(study), certificates(study), items(study), plan(study)]
-
-
-def signed(value: float, places: int = 3) -> str:
-    return f"{value:+.{places}f}".replace("-", "\N{MINUS SIGN}") if np.isfinite(value) else "–"
-
-
-def fixed(value: float, places: int = 3) -> str:
-    return f"{value:.{places}f}".replace("-", "\N{MINUS SIGN}") if np.isfinite(value) else "–"
+            *second, eligibility(study), examinees(study), forms(study), certificates(study), items(study), plan(study)]
 
 
 # ---------------------------------------------------------------- what was simulated
@@ -55,7 +48,8 @@ def identity(study: Study) -> Section:
 
 
 def digests_of(run: dict):
-    names = {"bank": "bank", "plan": "plan", "map": "map", "program": "program", "journal": "journal", "tails": "journal of tails"}
+    names = {"bank": "bank", "plan": "plan", "map": "map", "program": "program", "journal": "journal", "second": "journal of second sittings",
+             "tails": "journal of tails"}
     return [(name, run["sha256"][key]) for key, name in names.items() if key in run["sha256"]]
 
 

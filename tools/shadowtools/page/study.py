@@ -7,6 +7,7 @@ import numpy as np
 import pandas as pd
 
 from shadowtools.agency.irt import FIELD
+from shadowtools.agency.retakers import Retakes
 from shadowtools.agency.simulation import Broken, Examination, Estimates, band_names, broken_rules, estimates
 from shadowtools.command import Refused
 from shadowtools.formats.examination import Rule, Session
@@ -106,6 +107,16 @@ def plain(value: float) -> str:
     return f"{value:g}".replace("-", "\N{MINUS SIGN}")
 
 
+def signed(value: float, places: int = 3) -> str:
+    """A number with its sign, or a dash where it is none."""
+    return f"{value:+.{places}f}".replace("-", "\N{MINUS SIGN}") if np.isfinite(value) else "–"
+
+
+def fixed(value: float, places: int = 3) -> str:
+    """A number with these places, or a dash where it is none."""
+    return f"{value:.{places}f}".replace("-", "\N{MINUS SIGN}") if np.isfinite(value) else "–"
+
+
 # ---------------------------------------------------------------- the study
 
 class Study:
@@ -113,10 +124,11 @@ class Study:
 
     `counts` has the exposure of the sample by its journal, in all and in each band of the estimate that is watched.
     `people` has a row for each session: booking, true ability, estimates, information at the true ability and its standard
-    error. `shown` and `eligible` are arrays [session, item]. `sample` has the rows that count in the totals."""
+    error. `shown` and `eligible` are arrays [session, item]. `sample` has the rows that count in the totals. Second sittings are none of
+    the sessions: `retakes` has them, if there are any, and `broken_second` the rules that they break."""
 
     def __init__(self, examination: Examination, run: dict, sample: List[Session], tails: List[Session],
-                 rules: List[Rule], questions: Questions, counts: Exposure) -> None:
+                 rules: List[Rule], questions: Questions, counts: Exposure, retakes: Optional[Retakes] = None) -> None:
         self.examination, self.run, self.rules, self.questions, self.counts = examination, run, rules, questions, counts
         self.sessions = sample + tails
         self.items, self.length = examination.items, examination.plan.length
@@ -125,6 +137,8 @@ class Study:
         self.shown, self.eligible = self.tables_of_items()
         self.people = self.table_of_people(estimates(examination, self.sessions))
         self.broken: List[Broken] = broken_rules(rules, self.sessions, examination.bank)
+        self.retakes = retakes
+        self.broken_second = broken_rules(rules, [second for _, second in retakes.pairs], examination.bank) if retakes else []
         self.rate = examination.plan.rate[0] / examination.plan.rate[1]
         self.controlled = self.rate < 1
         self.bands = self.bands_by(self.people.eap if questions.by_estimate else self.people.true)

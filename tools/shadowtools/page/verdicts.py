@@ -12,8 +12,8 @@ MET, NOT_MET, MEASURED = "met", "not met", "measured"
 
 def verdicts(study: Study) -> List[Verdict]:
     """All verdicts, the blueprint first."""
-    return [rules(study), precision(study), *target(study), *exposure(study), overlap(study), reliability(study),
-            *classification(study), *tails(study), certificates(study)]
+    return [rules(study), precision(study), *target(study), *exposure(study), overlap(study), *retakers(study),
+            reliability(study), *classification(study), *tails(study), certificates(study)]
 
 
 def rules(study: Study) -> Verdict:
@@ -102,6 +102,23 @@ def overlap(study: Study) -> Verdict:
     worst = bands[int(np.argmax(shares))]
     of = "estimate" if study.questions.by_estimate else "true ability"
     return Verdict(MEASURED, f"{text}; of like ability up to {max(shares):.1%} ({of} {worst.label}).")
+
+
+def retakers(study: Study) -> Iterator[Verdict]:
+    """Whether a second test has an item of the person's first, where it was begun without them; and whether each found a form."""
+    found = study.retakes
+    if not found:
+        return
+    refused = sum(found.refused.values())
+    text = f"{len(found.pairs):,} of {found.number:,} second sittings found a form"
+    if not found.pairs:
+        yield Verdict(NOT_MET, text + ".")
+        return
+    common, (first, second) = found.common(), (found.sitting(study.examination, place).rmse for place in (0, 1))
+    shared = "no item" if common.max() == 0 else f"{common.mean():.1%} of its items in the mean"
+    text += f". A second test shares {shared} with the first of the same person; its RMSE is {second:.3f}, that of the first {first:.3f} (EAP)."
+    bad = refused or study.broken_second or found.has_lists and common.max() > 0
+    yield Verdict(NOT_MET if bad else MET if found.has_lists else MEASURED, text)
 
 
 def reliability(study: Study) -> Verdict:
