@@ -103,10 +103,11 @@ class Results(Folder):
                 a.answered(0, 1, 0), a.served(0, 2, 1, form), a.started(1, 71), a.served(1, 0, 2, {1, 2, 3}),
                 a.answered(0, 2, 1)]))
         by_lines = self.rows("--lines", "lines", "--script", "script", "--answers", "answers")
-        self.assertEqual(by_lines, self.rows("--journal", "j", "--unaudited"))
+        self.assertEqual(by_lines, self.rows("--journal", "j", "--unaudited", "--shown", "shown"))
         self.assertEqual([(r["booking"], r["state"], r["answered"], r["mode"], r["remark"]) for r in by_lines],
                          [("70", "complete", "3", "0.0000", ""), ("71", "open", "0", "", "too few answers")])
         self.assertEqual(self.read("answers").splitlines()[1:], ["0,70,0,I2,1", "0,70,1,I4,0", "0,70,2,I1,1"])
+        self.assertEqual(self.read("shown").splitlines(), ["session,booking,items", "0,70,1-2 4", "1,71,2"])
 
     def test_numbers(self):
         """After all answers of session 0 the sums are -47, -23, -38: mean (e^-15 - e^-24) / (1 + e^-15 + e^-24)."""
@@ -123,6 +124,8 @@ class Results(Folder):
         self.write("map", json.dumps(dict(a.scale_map(), theta=[0, 1])))
         status, _, errors = self.tool("score", "bank", "plan", "map", "--lines", "lines", "--script", "script")
         self.assertEqual((status, "is not the map of" in errors), (1, True))
+        status, _, errors = self.tool("score", "bank", "plan", "map", "--lines", "told", "--script", "more", "--shown", "shown")
+        self.assertEqual((status, errors), (1, "--shown needs a journal\n"))
 
     def test_an_answer_that_is_sent_again_counts_once(self):
         self.write("script", "begin 70\nanswer 0 0 1\nanswer 0 0 1\nlook 0\n")

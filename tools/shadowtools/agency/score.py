@@ -27,6 +27,8 @@ empty journal on; it can't be audited. The result is CSV on standard output, one
   --open            scores open sessions too; without it a journal that has one is refused
   --unaudited       does not audit the journal, and the column audit is `unaudited`
   --answers FILE    also writes the answers, one line each: session, booking, step, item, response
+  --shown FILE      also writes the items that each session was shown, answered or not: session, booking, and their numbers in the bank
+                    as a set such as `0 2-4`. That is the list with which another sitting of the person is begun
   --record FILE     also writes what the scores were made of, as JSON: digests, options, the line of the audit, numbers of sessions
   --program SHADOWD the program that audits; default $SHADOWD, else crates/shadowd/out/shadowd; without one tools/audit.py audits
 
@@ -47,7 +49,7 @@ from typing import Dict, Iterator, List, NamedTuple, Optional, Sequence, Tuple
 from shadowtools.agency.custody import Documents, audited, read_documents, sha256_of
 from shadowtools.command import Refused, as_command
 from shadowtools.formats.examination import BankItem, Session, read_journal, sessions_of
-from shadowtools.formats.tables import text_of
+from shadowtools.formats.tables import runs, text_of
 from shadowtools.needs import require
 from shadowtools.options import Options, between, finite, require_folder, whole
 from shadowtools.places import BUILT
@@ -61,7 +63,7 @@ def options(words: Sequence[str]) -> argparse.Namespace:
     parser = Options(__doc__)
     for name in ("bank", "plan", "map"):
         parser.add_argument(name, nargs="?")
-    for name in ("journal", "lines", "script", "answers", "record"):
+    for name in ("journal", "lines", "script", "answers", "shown", "record"):
         parser.add_argument("--" + name)
     parser.add_argument("--program", default=BUILT)
     parser.add_argument("--estimate", choices=ESTIMATES, default="eap")
@@ -75,11 +77,13 @@ def options(words: Sequence[str]) -> argparse.Namespace:
     found = parser.read(words, lambda given: bool(given.map) and bool(given.journal) != bool(given.lines and given.script))
     if found.journal and (found.lines or found.script):
         raise Refused("--lines and --script are not used beside --journal")
+    if found.shown and not found.journal:
+        raise Refused("--shown needs a journal")
     if not 1e-9 <= found.scale[1] <= 1e9 or abs(found.scale[0]) > 1e9:
         raise Refused(f"--scale {found.scale[0]:g} {found.scale[1]:g}: B is above 0, and neither is above 1e9")
     if sorted(set(found.cuts)) != found.cuts or found.levels and len(found.levels) != len(found.cuts) + 1:
         raise Refused("--cuts ascend, and --levels has one name more than there are cuts")
-    for option, path in (("--answers", found.answers), ("--record", found.record)):
+    for option, path in (("--answers", found.answers), ("--shown", found.shown), ("--record", found.record)):
         if path:
             require_folder(option, path)
     return found
@@ -315,6 +319,12 @@ def answers_text(sessions: Sequence[Session], documents: Documents) -> str:
     return table_text(rows)
 
 
+def shown_text(sessions: Sequence[Session]) -> str:
+    rows = [["session", "booking", "items"]]
+    rows += [[number, session.booking, runs(session.items)] for number, session in enumerate(sessions)]
+    return table_text(rows)
+
+
 def record_text(given: argparse.Namespace, documents: Documents, audit: Optional[str], rows: Sequence[Sequence[str]], result: str) -> str:
     """What the scores were made of, as JSON."""
     sources = {"journal": given.journal, "lines": given.lines, "script": given.script}
@@ -350,6 +360,8 @@ def main(words: Sequence[str]) -> int:
     result = table_text([COLUMNS, *rows])
     if given.answers:
         write(given.answers, answers_text(sessions, documents))
+    if given.shown:
+        write(given.shown, shown_text(sessions))
     if given.record:
         write(given.record, record_text(given, documents, audit, rows, result))
     sys.stdout.write(result)
