@@ -8,9 +8,11 @@ import subprocess
 import unittest
 
 import audit
+import check_tree
 import data_of_bank_a as a
 import drill_texts
 from common import PROGRAM, Folder, needs_program
+from shadowtools.command import Refused
 from shadowtools.formats import examination, exposure
 
 EMPTY = b"SHADOWJ1\0"
@@ -120,6 +122,8 @@ class Lists(Files):
         at = len(a.journal(payloads)) - 1
         served = a.served(1, 0, 2, {1, 2, 3}, tree=bytes.fromhex("0100010003000000410300"))
         self.assertEqual(self.lines([*payloads, served]), (6, [f"journal: illegal at {at}"]))
+        with self.assertRaisesRegex(Refused, "session 1: item 2 is served at step 0 in band 0, where it is not eligible"):
+            exposure.exposure_of(examination.read_journal(self.path("journal")), examination.read_bank(self.bank), examination.read_plan(self.plan))
 
     def test_a_later_step(self):
         """The estimate stays point 1. With item 1 given, {1, 2, 3} has 23; without item 2 {1, 3, 5} is best with 21, and item 5 has most of it."""
@@ -171,6 +175,31 @@ class Lists(Files):
                               text=True, env={"SHADOWD_JOURNAL": self.path("journal")})
         self.assertEqual((done.returncode, done.stdout.splitlines()), (0, [
             "session 2 step 0 item 1 proved", "session 2 step 1 item 5 proved", "session 2 step 2 item 3 proved"]))
+
+    @needs_program
+    def test_requests_with_lists(self):
+        """By enumeration of the forms: without item 2 the best of session 1 is {1, 3, 5}; each form has one of the items 0 and 1, and one
+        or more of the items 3, 4 and 5. The journal is judged by audit.py and by the program."""
+        script = self.write("script", "begin 70\nbegin 71 without 2\nbegin 71 without 1\nbegin 71\nbegin 72 without 0-1\n"
+                                      "begin 72 without 3-5\nbegin 72 without 6\nclose 1\nexposure\n")
+        counts = ["exposure finished 1", "item 0 shown 0 eligible 1", "item 1 shown 1 eligible 1", "item 2 shown 0 eligible 0",
+                  *(f"item {k} shown 0 eligible 1" for k in (3, 4, 5))]
+
+        def ran(*words):
+            done = subprocess.run([PROGRAM, *words], stdin=subprocess.DEVNULL, capture_output=True, text=True,
+                                  env={"SHADOWD_JOURNAL": self.path("journal")})
+            return done.returncode, done.stdout.splitlines()
+
+        self.assertEqual(ran("replay", self.bank, self.plan, script), (0, [
+            "session 0 step 0 item 2 proved", "session 1 step 0 item 1 proved", "refused other-list 1", "session 1 step 0 item 1 proved",
+            "refused no-form", "refused no-form", "refused no-item 6", "session 1 closed", *counts]))
+        started = examination.read_journal(self.path("journal"))[2]
+        rules = audit.read_rules(self.bank, self.plan)
+        self.assertEqual((started.session, started.booking, started.without), (1, 71, {2}))
+        self.assertTrue(check_tree.is_form(audit.History(rules).whole_without(started.without), started.form))
+        status, said, _ = self.tool("audit", self.bank, self.plan, self.path("journal"))
+        self.assertEqual((status, said.split()[:6], said.splitlines()[1:]), (0, "entries 5 sessions 2 finished 1".split(), counts))
+        self.assertEqual(ran("audit", self.bank, self.plan), (status, said.splitlines()))
 
     def test_version_1_has_none(self):
         payload = a.started_without(0, 70, {2}, {1, 3, 5})

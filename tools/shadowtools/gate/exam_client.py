@@ -31,8 +31,8 @@ def bearing(message: bytes, token: str) -> bytes:
     return message.replace(b"Host: exam\r\n", b"Host: exam\r\n" + field, 1)
 
 
-def begin(booking: int) -> bytes:
-    return request_bytes("POST", "/sessions", {"booking": booking})
+def begin(booking: int, without: Sequence[int] = ()) -> bytes:
+    return request_bytes("POST", "/sessions", {"booking": booking, **({"without": list(without)} if without else {})})
 
 
 def answer(session: int, step: int, response: int) -> bytes:
