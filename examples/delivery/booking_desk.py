@@ -1,7 +1,9 @@
 #!/usr/bin/env python3
 """The application's own file: one-time codes, who has the seat of a booking, and what was shown and answered when.
 
-usage: booking_desk.py SETTINGS BOOKING ..      prints a new code for each booking
+usage: booking_desk.py SETTINGS BOOKING .. [without BOOKING ..]      prints a new code for each booking
+
+After `without` are earlier bookings of the same person. The test of each booking before it leaves out the items that those were shown.
 
 An answer is written here before it is sent to shadowd, and marked after shadowd has acknowledged it. So it survives that
 either of the two ends. Codes are kept as keyed digests. They are looked up by the digest, so the time shows nothing of a code.
@@ -25,6 +27,7 @@ CREATE TABLE IF NOT EXISTS codes (digest TEXT PRIMARY KEY, booking INTEGER NOT N
 CREATE TABLE IF NOT EXISTS seats (booking INTEGER PRIMARY KEY, seat TEXT NOT NULL, begun_at TEXT);
 CREATE TABLE IF NOT EXISTS answers (booking INTEGER, step INTEGER, item INTEGER NOT NULL, shown_at TEXT NOT NULL,
     option INTEGER, response INTEGER, given_at TEXT, kept_at TEXT, PRIMARY KEY (booking, step));
+CREATE TABLE IF NOT EXISTS lists (booking INTEGER, item INTEGER, PRIMARY KEY (booking, item));
 """
 NOW = "strftime('%Y-%m-%dT%H:%M:%fZ')"
 
@@ -122,6 +125,18 @@ class Desk:
                                 "AND (kept_at IS NOT NULL) = ? ORDER BY step", (booking, acknowledged))
             return [Given(*row) for row in rows]
 
+    def withhold(self, booking, earlier):
+        """The test of a booking leaves out the items that earlier bookings were shown; how many items its list has then."""
+        with self.opened() as file:
+            for one in earlier:
+                file.execute("INSERT OR IGNORE INTO lists SELECT ?, item FROM answers WHERE booking = ?", (booking, one))
+        return len(self.withheld(booking))
+
+    def withheld(self, booking):
+        """The items that the test of a booking leaves out."""
+        with self.opened() as file:
+            return [item for item, in file.execute("SELECT item FROM lists WHERE booking = ? ORDER BY item", (booking,))]
+
     def counts(self):
         """How many codes were issued, how many of them used, and how many answers are on their way."""
         with self.opened() as file:
@@ -130,7 +145,10 @@ class Desk:
 
 
 def main(words):
-    if len(words) < 2 or not all(word.isascii() and word.isdigit() and int(word) < 2**63 for word in words[1:]):
+    at = words.index("without") if "without" in words else len(words)
+    bookings, earlier = words[1:at], words[at + 1:]
+    numbers = all(word.isascii() and word.isdigit() and int(word) < 2**63 for word in bookings + earlier)
+    if not bookings or not numbers or at < len(words) and not earlier:
         print(__doc__.split("\n\n")[1], file=sys.stderr)
         return 2
     try:
@@ -139,8 +157,11 @@ def main(words):
     except (BadInput, OSError) as error:
         print(error, file=sys.stderr)
         return 1
-    for booking in words[1:]:
-        print(booking, desk.issue(int(booking)))
+    for booking in map(int, bookings):
+        if earlier and not desk.withhold(booking, map(int, earlier)):
+            print(f"{booking}: the bookings {' '.join(earlier)} were shown no item", file=sys.stderr)
+            return 1
+        print(booking, desk.issue(booking))
     return 0
 
 

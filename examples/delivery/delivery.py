@@ -119,7 +119,7 @@ class Delivery:
 
     def go_on(self, booking):
         """The place of the booking's session, after an answer that is on its way was sent, if need be once more."""
-        place = self.server.begin(booking)
+        place = self.server.begin(booking, self.desk.withheld(booking))
         for given in self.desk.given(booking, False):
             recorded = given.response
             try:

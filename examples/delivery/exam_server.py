@@ -35,9 +35,9 @@ class ExamServer:
         self.address, self.room, self.patience = address, threading.BoundedSemaphore(connections), patience
         self.fields = {"Connection": "close", **({"Authorization": f"Bearer {token}"} if token else {})}
 
-    def begin(self, booking):
-        """Starts the session of a booking, or finds it."""
-        return self.place("/sessions", {"booking": booking})
+    def begin(self, booking, without=()):
+        """Starts the session of a booking, or finds it. Its examinee never gets the items of `without`."""
+        return self.place("/sessions", {"booking": booking, **({"without": list(without)} if without else {})})
 
     def answer(self, session, step, response):
         """Records the response to the item of a step. If it is recorded already, the reply is the place now."""

@@ -144,6 +144,7 @@ class StandIn:
 
     def __init__(self, length=20):
         self.length, self.sessions, self.recorded, self.lost, self.closed, self.asked = length, {}, {}, [], set(), 0
+        self.lists = {}
 
     def place(self, session):
         from exam_server import Place
@@ -152,9 +153,10 @@ class StandIn:
             return Place(session, "closed")
         return Place(session, "waiting", step, step) if step < self.length else Place(session, "complete")
 
-    def begin(self, booking):
+    def begin(self, booking, without=()):
         self.asked += 1
         session = self.sessions.setdefault(booking, len(self.sessions))
+        self.lists.setdefault(session, list(without))
         self.recorded.setdefault(session, [])
         return self.place(session)
 

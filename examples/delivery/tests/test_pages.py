@@ -323,6 +323,38 @@ class Answers(WithStandIn):
 
 
 @needs_flask
+class Retakers(WithStandIn):
+    """A booking whose test leaves out what earlier bookings of the person were shown."""
+
+    def issue(self, *words):
+        """Status and output of the command that issues codes."""
+        import booking_desk
+        said, errors = io.StringIO(), io.StringIO()
+        with contextlib.redirect_stdout(said), contextlib.redirect_stderr(errors):
+            status = booking_desk.main([self.settings_path, *words])
+        return status, said.getvalue() or errors.getvalue()
+
+    def test_the_list_goes_with_each_request_that_begins(self):
+        """Three answers: four items were shown. The stand-in has the items in order."""
+        client = self.begun(70)
+        for _ in range(3):
+            client.answer(0)
+        status, said = self.issue("80", "without", "70")
+        self.assertEqual(status, 0)
+        Client(self.app).begin(said.split()[1])
+        self.assertEqual(self.server.lists[self.server.sessions[80]], [0, 1, 2, 3])
+        self.assertEqual(self.server.lists[self.server.sessions[70]], [])
+        Client(self.make_app()).begin(self.desk().issue(80))
+        self.assertEqual(self.desk().withheld(80), [0, 1, 2, 3])
+
+    def test_words_that_are_none(self):
+        self.assertEqual(self.issue("80", "without", "71"), (1, "80: the bookings 71 were shown no item\n"))
+        for words in (["80", "without"], ["without", "70"], ["80", "without", "x"], ["80", "without", "70", "without", "71"]):
+            with self.subTest(words):
+                self.assertEqual(self.issue(*words)[0], 2)
+
+
+@needs_flask
 class Texts(WithStandIn):
     BAD = '<script>alert(1)</script> "quoted" & <img src=x onerror=alert(1)>'
 
@@ -482,6 +514,22 @@ class WithProgram(Examination):
         self.assertIsNotNone(row, done.stderr)
         self.assertAlmostEqual(float(shown.group(1)), float(row["scale"]), delta=0.006)
         self.assertAlmostEqual(float(shown.group(2)), 100 * float(row["posterior_sd"]), delta=0.011)
+
+    def test_a_person_that_sits_twice(self):
+        """The second test has another first item, and its record has the four items that the first was shown."""
+        self.start_server()
+        first, second = Client(self.app()), Client(self.app())
+        first.begin(self.desk().issue(70))
+        for _ in range(3):
+            first.answer(0)
+        self.assertEqual(self.desk().withhold(80, [70]), 4)
+        second.begin(self.desk().issue(80))
+        self.assertEqual(second.place(), 1)
+        before, after = self.journal_sessions()
+        self.assertEqual((len(before.items), after.without), (4, set(before.items)))
+        self.assertFalse(set(after.items) & set(before.items))
+        second.get()
+        self.assertEqual((second.place(), len(self.journal_sessions())), (1, 2))
 
     def test_a_server_that_is_away(self):
         client = Client(self.app())
