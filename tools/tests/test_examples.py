@@ -72,14 +72,16 @@ class Guide(Folder):
         """All commands of the guide, in order, with 30 examinees; the results agree with those of the report."""
         with open(os.path.join(ROOT, "docs", "GUIDE.md"), encoding="utf-8") as file:
             blocks = re.findall(r"^```\n((?:python3|mkdir) .*?)^```$", file.read(), re.M | re.S)
-        script = "".join(blocks).replace("/tmp/exam", self.folder).replace("--examinees 1000", "--examinees 30")
-        self.assertEqual([script.count(f"tools/{tool}.py") for tool in ("irt_bank", "explain", "simulate", "report", "score")], [2, 1, 2, 2, 1])
+        script = re.sub(r"--examinees \d+", "--examinees 30", "".join(blocks).replace("/tmp/exam", self.folder))
+        self.assertEqual([script.count(f"tools/{tool}.py") for tool in ("irt_bank", "explain", "simulate", "report", "score")], [2, 1, 3, 3, 1])
         done = subprocess.run(["bash", "-e", "-c", script.replace("python3 ", sys.executable + " ")], cwd=ROOT, capture_output=True,
                               text=True, env=dict(os.environ, SHADOWD=os.path.abspath(PROGRAM)))
         self.assertEqual(done.returncode, 0, done.stderr)
         self.assertIn("check: bank items 45 grid 41 quantities 1 stimuli 0", done.stdout)
         self.assertIn("30 sessions of 20 items through replay, and 6 in the tails: no rule of 14 is broken", done.stdout)
         self.assertIn("30 sessions of 12 items through serve: no rule of 0 is broken", done.stdout)
+        self.assertIn("second sittings 15, without the items of the first: 15 begun, 0 refused no-form, 0 refused none-found", done.stdout)
+        self.assertIn("two sittings of a person: overlap 0.000, at most 0.000; ", done.stdout)
         self.assertEqual(re.findall(r"(?m)^(band \d, .*): visits", done.stdout),
                          ["band 0, -4 to -1", "band 1, -0.8 to -0.4", "band 2, -0.2 to 0.2", "band 3, 0.4 to 0.8", "band 4, 1 to 4"])
         with open(self.path("results.csv")) as one, open(self.path("report.sessions.csv")) as other:
