@@ -1,0 +1,12 @@
+-- The journal's file, which its server writes meanwhile.
+use Rattle.std.proofs.Common.{ℕ, [], inr, refl, arith}
+use Rattle.journal_stream.specs.Served.{IsServed}
+use Rattle.host_stream.specs.declared.journal.HostJournal.{HostJournal}
+
+-- how many of its calls failed
+abbrev pub faults_of : HostJournal → ℕ
+faults_of journal = journal.faults
+
+-- no bytes are the file of no records, as an object has it that reports nothing
+pub none_served : IsServed [] []
+none_served = inr (omega arith, refl)

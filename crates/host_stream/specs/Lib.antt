@@ -1,0 +1,2 @@
+pub mod HostJournal
+pub mod HostFollower

@@ -1,0 +1,4 @@
+pub mod Served
+pub mod Look
+pub mod Tail
+pub mod Doors

@@ -1,0 +1,233 @@
+//! The settled records of a journal's file, as a log that grows.
+ghost use Rattle.std.specs.Prelude.{◌≡◌, ◌≤◌, ◌+◌, None, Some, IsTrue, IfOk, IfErr, length, slice_get};
+ghost use Rattle.std.specs.Option.{ForSome};
+ghost use Rattle.exam_edge.specs.Faults.{Rose};
+ghost use Rattle.record_links.specs.Streaming.{Gives, IsAnswer, IsGrown};
+ghost use Rattle.journal_stream.specs.Tail.{Finds, IsFitting, number_after};
+
+use crate::look::{Look, look_at};
+use crate::{GrowingFile, Waited};
+use record_links::{AskFault, Asked, GrowingLog};
+use std::alloc::Global;
+use std::marker::Model;
+
+/// The first bytes of a journal of the second version.
+const HEADER: [u8; 8] = [b'S', b'H', b'A', b'D', b'O', b'W', b'J', b'2'];
+
+/// The place of the first gate.
+const FIRST: u64 = 8;
+
+/// The greatest length of a journal, in bytes.
+const LONGEST: u64 = 536_870_912;
+
+/// The settled records of a journal's file, with the place of the one that is read next. A record counts as settled where a
+/// later one begins after its gate, since its server writes there only once it is; or where the server says so by its count.
+pub struct JournalTail<F: GrowingFile> {
+    file: F,
+    /// Whether the header was read.
+    begun: bool,
+    /// The number of the record that is read next, and the place of its gate.
+    number: u64,
+    at: u64,
+    /// The place of the gate of the record before it, if that is known.
+    last: Option<u64>,
+    /// So many records are settled for sure.
+    told: u64,
+    /// Whether the record that is read next is there, and not known to be settled.
+    unsettled: bool,
+}
+
+impl<F: GrowingFile> Model for JournalTail<F> {
+    ghost use Rattle.std.specs.Prelude.{◌<◌, ◌≤◌, ◌+◌, ◌-◌, ◌^◌, IsTrue, length};
+    ghost use Rattle.std.specs.Option.{ForSome};
+    ghost use Rattle.journal_stream.specs.Tail.{TailState, IsGateOf};
+
+    ghost Value = { TailState F };
+
+    ghost view = { λ t. record { file = t.file; number = t.number; at = t.at; told = t.told } };
+
+    ghost invariant = { λ t. (t.at < 2 ^ 61) × (t.number ≤ t.at)
+        × (IsTrue (F.tells t.file) → IsGateOf (F.settled t.file) t.number t.at
+        × (t.told ≤ length (F.settled t.file)))
+        × ForSome t.last (λ place. (place < 2 ^ 61) × (t.number ≤ place + 1)
+        × (IsTrue (F.tells t.file) → IsGateOf (F.settled t.file) (t.number - 1) place)) };
+}
+
+impl<F: GrowingFile> JournalTail<F> {
+    ghost use Rattle.std.specs.Prelude.{◌≡◌};
+
+    /// The records of a file, of which none was read yet.
+    pub fn new(file: F) -> JournalTail<F>
+        ensures { result.file ≡ file }
+    {
+        JournalTail {
+            file,
+            begun: false,
+            number: 0,
+            at: FIRST,
+            last: None,
+            told: 0,
+            unsettled: false,
+        }
+    }
+
+    /// The file, as the records have it now.
+    pub fn into_file(self) -> F
+        ensures { result ≡ self.file }
+    {
+        let JournalTail {
+            file,
+            begun: _,
+            number: _,
+            at: _,
+            last: _,
+            told: _,
+            unsettled: _,
+        } = self;
+        file
+    }
+
+    // Whether the header is there. A file that begins with another one is refused.
+    fn begin(&mut self) -> Result<bool, AskFault>
+        ensures grown { IsTrue (F.tells self.old.file)
+            → IsGrown (F.settled self.old.file) (F.settled self.new.file) }
+        ensures tells { F.tells self.new.file ≡ F.tells self.old.file }
+        ensures failed { IfErr result (λ e. e ≡ AskFault.Disk
+            → Rose (F.faults self.old.file) (F.faults self.new.file)) }
+        ensures grows { F.faults self.old.file ≤ F.faults self.new.file }
+    {
+        if self.begun {
+            return Ok(true);
+        }
+        let mut header = [0u8; 8];
+        let Ok(count) = self.file.read(0, &mut header) else {
+            return Err(AskFault::Disk);
+        };
+        if count < 8 {
+            return Ok(false);
+        }
+        if header != HEADER {
+            self.file.refuse(0);
+            return Err(AskFault::Disk);
+        }
+        self.begun = true;
+        Ok(true)
+    }
+
+    // Goes on after the next record, which is settled.
+    fn advance(&mut self, payload: &[u8])
+        requires at { self.old.at ≤ 536870912 }
+        requires few { length payload.now ≤ 131072 }
+        requires record { IsTrue (F.tells self.old.file)
+            → slice_get (F.settled self.old.file) self.old.number ≡ Some payload.now }
+        ensures number { self.new.number ≡ self.old.number + 1 }
+        ensures file { self.new.file ≡ self.old.file }
+    {
+        self.last = Some(self.at);
+        self.at += 5 + payload.len() as u64;
+        self.number += 1;
+    }
+
+    // Looks at the next record, and goes on after it where it is settled.
+    fn step(&mut self, alloc: Global) -> Result<Look, AskFault>
+        ensures finds { IfOk result (λ found. IsTrue (F.tells self.old.file)
+            → Finds (F.settled self.new.file) self.old.number found) }
+        ensures fits { IfOk result IsFitting }
+        ensures number { IfOk result
+            (λ found. self.new.number ≡ number_after self.old.number found) }
+        ensures grown { IsTrue (F.tells self.old.file)
+            → IsGrown (F.settled self.old.file) (F.settled self.new.file) }
+        ensures tells { F.tells self.new.file ≡ F.tells self.old.file }
+        ensures failed { IfErr result (λ e. e ≡ AskFault.Disk
+            → Rose (F.faults self.old.file) (F.faults self.new.file)) }
+        ensures grows { F.faults self.old.file ≤ F.faults self.new.file }
+    {
+        if LONGEST < self.at {
+            self.file.refuse(self.at);
+            return Err(AskFault::Disk);
+        }
+        let is_told = self.number < self.told;
+        let found = look_at(alloc, &mut self.file, self.at, is_told)?;
+        self.unsettled = matches!(&found, Look::Unsettled);
+        if let Look::Record(payload) = &found {
+            self.advance(payload);
+        }
+        Ok(found)
+    }
+
+    // Goes back, where the next record is past the one of a number: by one record, where that is enough and its place is known;
+    // else to the first one.
+    fn go_back(&mut self, number: u64)
+        ensures number { self.new.number ≤ number }
+        ensures file { self.new.file ≡ self.old.file }
+    {
+        if self.number <= number {
+            return;
+        }
+        match self.last.take() {
+            Some(last) if number + 1 == self.number => {
+                self.number = number;
+                self.at = last;
+            }
+            _ => {
+                self.number = 0;
+                self.at = FIRST;
+            }
+        }
+    }
+
+    // Goes on to the record of a number, if each before it is settled. Otherwise the answer to that number.
+    fn go_to(&mut self, alloc: Global, number: u64) -> Result<Option<Asked>, AskFault>
+        ensures gives { IfOk result (λ found. ForSome found (λ asked.
+            IsTrue (F.tells self.old.file)
+            → Gives (F.settled self.new.file) number asked)) }
+        ensures fits { IfOk result (λ found. ForSome found IsAnswer) }
+        ensures there { IfOk result (λ found. found ≡ None → self.new.number ≡ number) }
+        ensures grown { IsTrue (F.tells self.old.file)
+            → IsGrown (F.settled self.old.file) (F.settled self.new.file) }
+        ensures tells { F.tells self.new.file ≡ F.tells self.old.file }
+        ensures failed { IfErr result (λ e. e ≡ AskFault.Disk
+            → Rose (F.faults self.old.file) (F.faults self.new.file)) }
+        ensures grows { F.faults self.old.file ≤ F.faults self.new.file }
+    {
+        self.go_back(number);
+        'records: while self.number < number {
+            match self.step(alloc)? {
+                Look::Record(_) => {}
+                Look::Closed => return Ok(Some(Asked::Above)),
+                Look::Unsettled => return Ok(Some(Asked::NotYet)),
+            }
+        }
+        Ok(None)
+    }
+}
+
+impl<F: GrowingFile> GrowingLog for JournalTail<F> {
+    ghost tells = { λ t. F.tells t.file };
+
+    ghost records = { λ t. F.settled t.file };
+
+    ghost faults = { λ t. F.faults t.file };
+
+    fn ask(&mut self, alloc: Global, number: u64) -> Result<Asked, AskFault> {
+        self.file.note(number);
+        if !self.begin()? {
+            return Ok(Asked::NotYet);
+        }
+        if let Some(asked) = self.go_to(alloc, number)? {
+            return Ok(asked);
+        }
+        match self.step(alloc)? {
+            Look::Record(payload) => Ok(Asked::Record(payload)),
+            _ => Ok(Asked::NotYet),
+        }
+    }
+
+    fn wait(&mut self) -> bool {
+        let Waited { told, is_long } = self.file.wait(self.unsettled);
+        if self.told < told {
+            self.told = told;
+        }
+        is_long
+    }
+}
