@@ -1,7 +1,8 @@
 -- The definition, computed on command lines.
 use Rattle.std.proofs.Common.{◌≡◌, ℕ, List, [], ◌∷◌, Some, None, refl, codes}
 use Rattle.exam_text.specs.Numbers.{number_of}
-use Rattle.command_line.specs.Commands.{Check, Assemble, Replay, Serve, Audit, Drill, Migrate, command_of, table, of_two, drill_of}
+use Rattle.command_line.specs.Commands.{Check, Assemble, Replay, Serve, Audit, Drill, Migrate, Series, Follow, Ship, command_of, table, of_two, drill_of, series_of}
+use Rattle.command_line.specs.Weights.{weights_of}
 
 -- ---- the words of the table
 a_check : command_of (codes "check" ∷ codes "b" ∷ codes "p" ∷ []) ≡ Some (Check (codes "b") (codes "p"))
@@ -27,6 +28,22 @@ an_audit = refl
 a_migration : command_of (codes "migrate" ∷ codes "b" ∷ codes "p" ∷ []) ≡ Some (Migrate (codes "b") (codes "p"))
 unfolding command_of table of_two
 a_migration = refl
+
+a_series : command_of (codes "series" ∷ codes "b" ∷ codes "p" ∷ codes "2" ∷ codes "0,1,1000" ∷ []) ≡ Some (Series (codes "b") (codes "p") 2 (codes "0,1,1000"))
+unfolding command_of table series_of number_of
+a_series = refl
+
+its_weights : weights_of (codes "0,1,1000") ≡ 0 ∷ 1 ∷ 1000 ∷ []
+unfolding number_of
+its_weights = refl
+
+a_follower : command_of (codes "follow" ∷ codes "b" ∷ codes "p" ∷ []) ≡ Some (Follow (codes "b") (codes "p"))
+unfolding command_of table of_two
+a_follower = refl
+
+a_shipper : command_of (codes "ship" ∷ codes "b" ∷ codes "p" ∷ []) ≡ Some (Ship (codes "b") (codes "p"))
+unfolding command_of table of_two
+a_shipper = refl
 
 a_drill : command_of (codes "drill" ∷ codes "7" ∷ codes "2" ∷ []) ≡ Some (Drill 7 2)
 unfolding command_of table of_two drill_of number_of
@@ -88,3 +105,31 @@ a_leading_zero = refl
 a_sign : NoDrill (codes "+7" ∷ codes "2" ∷ [])
 unfolding command_of table of_two drill_of number_of
 a_sign = refl
+
+-- ---- series of no number of forms, and words that are no weights
+abbrev NoSeries : List ℕ → List ℕ → Type 0
+NoSeries forms weights = command_of (codes "series" ∷ codes "b" ∷ codes "p" ∷ forms ∷ weights ∷ []) ≡ None
+
+no_forms : NoSeries (codes "0") (codes "1")
+unfolding command_of table series_of number_of
+no_forms = refl
+
+five_forms : NoSeries (codes "5") (codes "1")
+unfolding command_of table series_of number_of
+five_forms = refl
+
+too_heavy : NoSeries (codes "2") (codes "0,1001,0")
+unfolding command_of table series_of number_of
+too_heavy = refl
+
+a_weight_missing : NoSeries (codes "2") (codes "0,,1")
+unfolding command_of table series_of number_of
+a_weight_missing = refl
+
+a_comma_at_the_end : NoSeries (codes "2") (codes "0,1,")
+unfolding command_of table series_of number_of
+a_comma_at_the_end = refl
+
+a_zero_in_front : NoSeries (codes "2") (codes "01")
+unfolding command_of table series_of number_of
+a_zero_in_front = refl

@@ -1,15 +1,16 @@
 -- A command is asked for by its words, and by no others.
 use Rattle.std.proofs.Common.{◌≡◌, ℕ, zero, suc, ◌<◌, ◌≤◌, ◌^◌, Bool, true, false, cond, eqb, ◌||◌, List, [], ◌∷◌, length, get_or, Option, Some, None, refl, ap, ap₂, ◌∙◌, subst, arith, codes}
 use Rattle.std.specs.Fmt.{decimal}
-use Rattle.std.specs.List.{list_any}
+use Rattle.std.specs.List.{list_any, list_all, slice_split, onto_first}
 use Rattle.std.specs.Option.{option_map, option_and_then}
 use Rattle.std.specs.Str.{bytes_eq}
-use Rattle.std.proofs.lemmas.Bool.{ne_eqb, or_parts, or_from}
+use Rattle.std.proofs.lemmas.Bool.{false≢true, ne_eqb, or_parts, or_from}
 use Rattle.std.proofs.lemmas.Fmt.{decimal_nonempty, first_decimal, decimal_digit}
 use Rattle.std.proofs.lemmas.Slice.Eq.{bytes_eq-Decides}
 use Rattle.exam_text.specs.Numbers.{number_of}
 use Rattle.exam_text.proofs.Numerals.{number_is, number_again}
-use Rattle.command_line.specs.Commands.{Command, Check, Assemble, Replay, Serve, Audit, Drill, Migrate, IsCommand, is_no_name, sessions_of, drill_of, of_two, table, command_of, words_of}
+use Rattle.command_line.specs.Commands.{Command, Check, Assemble, Replay, Serve, Audit, Drill, Migrate, Series, Follow, Ship, IsCommand, is_no_name, sessions_of, drill_of, forms_of, series_of, of_two, table, command_of, words_of}
+use Rattle.command_line.specs.Weights.{is_weight, are_weights}
 
 -- ---- the words of a command ask for it
 
@@ -39,6 +40,32 @@ drill_again n s small some few =
     ap (option_and_then (λ (k : ℕ). option_map (λ (r : ℕ). Drill k r) (sessions_of (decimal s)))) (number_again 4294967295 n (omega arith) (omega (arith, small)))
     ∙ ap (option_map (λ (r : ℕ). Drill n r)) (some_sessions s some few)
 
+-- the number of forms of a series, and its weights
+some_forms : (k : ℕ) → 0 < k → k ≤ 4 → forms_of (decimal k) ≡ Some k
+some_forms k some few =
+    ap (option_and_then (λ (n : ℕ). cond (eqb n 0) None (Some n))) (number_again 4 k (omega arith) few)
+    ∙ ap (λ (b : Bool). cond b None (Some k)) (ne_eqb k 0 (λ e. omega (arith, some, e)))
+
+series_again : (bank plan : List ℕ) (k : ℕ) (weights : List ℕ) → 0 < k → k ≤ 4 → are_weights weights ≡ true → series_of bank plan (decimal k) weights ≡ Some (Series bank plan k weights)
+unfolding series_of
+series_again bank plan k weights some few are =
+    ap (option_and_then (λ (n : ℕ). cond (are_weights weights) (Some (Series bank plan n weights)) None)) (some_forms k some few)
+    ∙ ap (λ (b : Bool). cond b (Some (Series bank plan k weights)) None) are
+
+-- weights begin with a digit
+no_hyphen : (parts : List (List ℕ)) → list_all is_weight (onto_first 45 parts) ≡ true → ⊥
+unfolding number_of
+no_hyphen [] are = false≢true are
+no_hyphen (part ∷ parts) are = false≢true are
+
+weights_named : (weights : List ℕ) → are_weights weights ≡ true → is_no_name weights ≡ false
+unfolding number_of
+weights_named [] are = absurd (false≢true are)
+weights_named (b ∷ bs) are =
+    let parts = slice_split (λ c. eqb c 44) bs in
+    or_from (eqb (length (b ∷ bs)) 0) (eqb b 45) (ne_eqb _ _ (λ e. omega (arith, e)))
+    (ne_eqb b 45 (λ e. no_hyphen parts (subst (λ (n : ℕ). list_all is_weight (cond (eqb n 44) ([] ∷ parts) (onto_first n parts)) ≡ true) e are)))
+
 pub answered : (c : Command) → IsCommand c → command_of (words_of c) ≡ Some c
 unfolding table of_two
 answered (Check bank plan) h = named (words_of (Check bank plan)) (Check bank plan) (two_names bank plan h.0 h.1) refl
@@ -46,12 +73,20 @@ answered (Assemble bank plan) h = named (words_of (Assemble bank plan)) (Assembl
 answered (Serve bank plan) h = named (words_of (Serve bank plan)) (Serve bank plan) (two_names bank plan h.0 h.1) refl
 answered (Audit bank plan) h = named (words_of (Audit bank plan)) (Audit bank plan) (two_names bank plan h.0 h.1) refl
 answered (Migrate bank plan) h = named (words_of (Migrate bank plan)) (Migrate bank plan) (two_names bank plan h.0 h.1) refl
+answered (Follow bank plan) h = named (words_of (Follow bank plan)) (Follow bank plan) (two_names bank plan h.0 h.1) refl
+answered (Ship bank plan) h = named (words_of (Ship bank plan)) (Ship bank plan) (two_names bank plan h.0 h.1) refl
 answered (Replay bank plan script) h =
     named (words_of (Replay bank plan script)) (Replay bank plan script) (or_from (is_no_name bank) _ h.0 (two_names plan script h.1 h.2)) refl
 answered (Drill n s) h =
     named (words_of (Drill n s)) (Drill n s)
     (two_names (decimal n) (decimal s) (number_named n (omega (arith, h.0))) (number_named s (omega (arith, h.2))))
     (drill_again n s h.0 h.1 h.2)
+answered (Series bank plan k weights) h =
+    named (words_of (Series bank plan k weights)) (Series bank plan k weights)
+    (or_from (is_no_name bank) _ h.0
+    (or_from (is_no_name plan) _ h.1
+    (two_names (decimal k) weights (number_named k (omega (arith, h.3))) (weights_named weights h.4))))
+    (series_again bank plan k weights h.2 h.3 h.4)
 
 -- ---- and no others do
 
@@ -105,7 +140,28 @@ two_asked word first second c a b e =
     (λ _ e4. either (P c) c (bytes_eq word (codes "drill")) _ _ e4
     (λ h f. (let d = drill_asked first second c f in (d.0, ap front (same_word word (codes "drill") h) ∙ d.1)))
     (λ _ e5. either (P c) c (bytes_eq word (codes "migrate")) _ _ e5 (λ h f. at P (Migrate first second) c f ((a, b), ap front (same_word word (codes "migrate") h)))
-    (λ _ e6. absurd (none_is c e6)))))))
+    (λ _ e6. either (P c) c (bytes_eq word (codes "follow")) _ _ e6 (λ h f. at P (Follow first second) c f ((a, b), ap front (same_word word (codes "follow") h)))
+    (λ _ e7. either (P c) c (bytes_eq word (codes "ship")) _ _ e7 (λ h f. at P (Ship first second) c f ((a, b), ap front (same_word word (codes "ship") h)))
+    (λ _ e8. absurd (none_is c e8)))))))))
+
+-- the words of a series
+series_is : (o : Option ℕ) (bank plan weights : List ℕ) (are : Bool) (c : Command)
+    → option_and_then (λ k. cond are (Some (Series bank plan k weights)) None) (option_and_then (λ n. cond (eqb n 0) None (Some n)) o) ≡ Some c
+    → (k : ℕ) × (o ≡ Some k) × (0 < k) × (are ≡ true) × (Series bank plan k weights ≡ c)
+series_is None bank plan weights are c e = absurd cc
+series_is (Some zero) bank plan weights are c e = absurd cc
+series_is (Some (suc k)) bank plan weights are c e =
+    let f : cond are (Some (Series bank plan (suc k) weights)) None ≡ Some c = rw (ne_eqb (suc k) 0 (λ h. omega (arith, h))) at e in
+    (suc k, refl, omega arith, either (are ≡ true) c are _ _ f (λ t g. t) (λ t g. absurd (none_is c g)), either (Series bank plan (suc k) weights ≡ c) c are _ _ f (λ t g. cc) (λ t g. absurd (none_is c g)))
+
+series_asked : (bank plan forms weights : List ℕ) (c : Command) → is_no_name bank ≡ false → is_no_name plan ≡ false
+    → series_of bank plan forms weights ≡ Some c → IsAsked (codes "series" ∷ bank ∷ plan ∷ forms ∷ weights ∷ []) c
+unfolding series_of
+series_asked bank plan forms weights c a b e =
+    let (k, number, some, are, is) = series_is (number_of 4 forms) bank plan weights (are_weights weights) c e in
+    let k_is = number_is 4 forms k (omega arith) number in
+    subst (IsAsked (codes "series" ∷ bank ∷ plan ∷ forms ∷ weights ∷ [])) is
+    ((a, b, some, k_is.0, are), ap (λ (w : List ℕ). codes "series" ∷ bank ∷ plan ∷ w ∷ weights ∷ []) k_is.1)
 
 table_asked : (words : List (List ℕ)) (c : Command) → list_any is_no_name words ≡ false → table words ≡ Some c → IsAsked words c
 unfolding table
@@ -126,7 +182,15 @@ table_asked (word ∷ x ∷ y ∷ z ∷ []) c h e =
     either (P c) c (bytes_eq word (codes "replay")) _ _ e
     (λ t f. at P (Replay x y z) c f ((q.0, r.0, s.0), ap (λ (w : List ℕ). w ∷ x ∷ y ∷ z ∷ []) (same_word word (codes "replay") t)))
     (λ _ g. absurd (none_is c g))
-table_asked (word ∷ x ∷ y ∷ z ∷ more ∷ rest) c h e = absurd (none_is c e)
+table_asked (word ∷ x ∷ y ∷ z ∷ u ∷ []) c h e =
+    let p = or_parts (is_no_name word) _ h in
+    let q = or_parts (is_no_name x) _ p.1 in
+    let r = or_parts (is_no_name y) _ q.1 in
+    let P = IsAsked (word ∷ x ∷ y ∷ z ∷ u ∷ []) in
+    either (P c) c (bytes_eq word (codes "series")) _ _ e
+    (λ t f. (let is = series_asked x y z u c q.0 r.0 f in (is.0, ap (λ (w : List ℕ). w ∷ x ∷ y ∷ z ∷ u ∷ []) (same_word word (codes "series") t) ∙ is.1)))
+    (λ _ g. absurd (none_is c g))
+table_asked (word ∷ x ∷ y ∷ z ∷ u ∷ more ∷ rest) c h e = absurd (none_is c e)
 
 pub asked : (words : List (List ℕ)) (c : Command) → command_of words ≡ Some c → IsAsked words c
 unfolding command_of

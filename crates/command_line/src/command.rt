@@ -2,7 +2,9 @@
 
 ghost use Rattle.std.specs.Prelude.{◌≡◌, map};
 ghost use Rattle.std.specs.Option.{option_map};
-ghost use Rattle.command_line.specs.Commands.{AreInRange, drill_of, of_two, table, said};
+ghost use Rattle.command_line.specs.Commands.{AreInRange, drill_of, of_two, series_of, table, said};
+
+use crate::weights::are_weights;
 
 /// What the words ask for.
 #[derive(Clone, Copy, Debug)]
@@ -44,6 +46,23 @@ pub enum Command<'a> {
         bank: &'a str,
         plan: &'a str,
     },
+    /// Assemble 1 to 4 forms of one plan without common items, by weights of the grid points, and print them with their tree.
+    Series {
+        bank: &'a str,
+        plan: &'a str,
+        forms: u8,
+        weights: &'a str,
+    },
+    /// Take the records that a leader ships into the journal.
+    Follow {
+        bank: &'a str,
+        plan: &'a str,
+    },
+    /// Ship the records of the journal to a follower.
+    Ship {
+        bank: &'a str,
+        plan: &'a str,
+    },
 }
 
 #[tactic(auto, unfolding(crate::specs::Commands::drill_of))]
@@ -59,6 +78,25 @@ fn drill_of<'a>(number: &str, sessions: &str) -> Option<Command<'a>>
     Some(Command::Drill {
         number: number as u32,
         sessions: sessions as u32,
+    })
+}
+
+/// A series, where its words are a number of forms and weights.
+#[tactic(auto, unfolding(crate::specs::Commands::series_of))]
+fn series_of<'a>(bank: &'a str, plan: &'a str, forms: &str, weights: &'a str) -> Option<Command<'a>>
+    ensures command { option_map said result
+        ≡ series_of bank.now plan.now forms.now weights.now }
+    ensures range { AreInRange (option_map said result) }
+{
+    let forms = exam_text::number(forms.as_bytes(), 4)?;
+    if forms == 0 || !are_weights(weights) {
+        return None;
+    }
+    Some(Command::Series {
+        bank,
+        plan,
+        forms: forms as u8,
+        weights,
     })
 }
 
@@ -89,6 +127,14 @@ fn of_two<'a>(word: &str, first: &'a str, second: &'a str) -> Option<Command<'a>
             bank: first,
             plan: second,
         }),
+        "follow" => Some(Command::Follow {
+            bank: first,
+            plan: second,
+        }),
+        "ship" => Some(Command::Ship {
+            bank: first,
+            plan: second,
+        }),
         _ => None,
     }
 }
@@ -106,6 +152,9 @@ pub(crate) fn in_table<'a>(words: &[&'a str]) -> Option<Command<'a>>
             plan: *plan,
             script: *script,
         }),
+        [word, bank, plan, forms, weights] if *word == "series" => {
+            series_of(*bank, *plan, *forms, *weights)
+        }
         _ => None,
     }
 }

@@ -6,10 +6,12 @@
 
 mod command;
 pub mod laws;
+mod weights;
 mod words;
 
 /// The version of the program.
-pub const VERSION: &str = "0.6.0";
+pub const VERSION: &str = "0.7.0";
 
 pub use command::Command;
+pub use weights::weights_of;
 pub use words::command_of;

@@ -21,14 +21,18 @@ use Rattle.replay_cli.specs.declared.script_fault.ScriptFault.TheVariants as scr
 use Rattle.replay_cli.specs.Reading.{IsScriptFault, IsOfText as IsOfScript}
 use Rattle.replay_cli.proofs.ReadLaws.{no_fault}
 use Rattle.exam_program.specs.Bases.{ShowsNoForm, ShowsNoBase}
-use Rattle.command_line.specs.Commands.{Command, Check, Assemble, Replay, Serve, Audit, Drill, Migrate, HasJournal, IsServe, command_of, files_of}
+use Rattle.command_line.specs.Commands.{Command, Check, Assemble, Replay, Serve, Audit, Drill, Migrate, Series, Follow, Ship, HasJournal, IsServe, IsLinked, UsesDoors, command_of, files_of}
+use Rattle.command_line.specs.Weights.{weights_of}
+use Rattle.form_lines.specs.Answers.{AreWeightsFor}
+use Rattle.exam_program.specs.Series.{AnswersSeries, series_told, weights_not_taken, without_series, series_not_found}
 use Rattle.exam_program.specs.Halts.{IsPlanIn, IsOfText, Reads, IsScriptIn}
-use Rattle.exam_program.specs.Laws.{CheckIsComplete, AssembleIsComplete, ReplayIsComplete, ServeIsComplete, AuditIsComplete, MigrateIsComplete, MeetsLimit, of_sessions, of_journal}
+use Rattle.exam_program.specs.Laws.{CheckIsComplete, AssembleIsComplete, ReplayIsComplete, ServeIsComplete, FollowIsComplete, ShipIsComplete, AuditIsComplete, MigrateIsComplete, SeriesIsComplete, MeetsLimit, of_sessions, of_journal}
 use Rattle.exam_program.specs.Outside.{Outside}
 use Rattle.exam_program.specs.Replays.{IsOfFile, IsJournalRefused, IsReadingRefused}
 use Rattle.exam_program.proofs.BaseLaws.{whole_form}
 use Rattle.exam_program.proofs.OnePlan.{one_plan_in}
-use Rattle.exam_program.specs.Outcomes.{IsOver, IsReady, IsReplayOf, Outcome, faulty_words, bank_refused, plan_refused, script_refused, checked, form_found, without_form, without_base_form, journal_refused, replayed, sessions_full, journal_full, without_files, without_journal, without_disk, without_memory, without_more_memory, server_refused, server_without_journal, server_without_memory, IsAuditOf, audited, audit_refused, without_audit, drilled, drill_full, IsMigrationOf, migrated, migration_refused, migration_full, without_migration, migration_without_memory, migrated_without_line}
+use Rattle.exam_program.specs.Outcomes.{IsOver, IsReady, IsReplayOf, Outcome, faulty_words, bank_refused, plan_refused, script_refused, checked, form_found, without_form, without_base_form, journal_refused, replayed, sessions_full, journal_full, without_files, without_journal, without_disk, without_memory, without_more_memory, server_refused, server_without_journal, server_without_memory, IsAuditOf, audited, audit_refused, without_audit, drilled, drill_full, IsMigrationOf, migrated, migration_refused, migration_full, without_migration, migration_without_memory, migrated_without_line, series_answered, link_refused, link_without_journal}
+use Rattle.exam_program.specs.LinkWords.{IsLinkOf}
 use Rattle.exam_program.specs.Serves.{IsServeOf}
 
 -- ---- a reading is one
@@ -41,7 +45,7 @@ ok_err r x e a b = cc
 command_same : (o : Option Command) (c d : Command) → o ≡ Some c → o ≡ Some d → c ≡ d
 command_same o c d e f = cc
 
-pair_same : (x y z w : List ℕ) → ◌≡◌ {A = Option (List ℕ × List ℕ)} (Some (x, y)) (Some (z, w)) → (x ≡ z) × (y ≡ w)
+pub pair_same : (x y z w : List ℕ) → ◌≡◌ {A = Option (List ℕ × List ℕ)} (Some (x, y)) (Some (z, w)) → (x ≡ z) × (y ≡ w)
 pair_same x y z w e = (ap (first_or x) e, ap (second_or y) e)
   where
     first_or : List ℕ → Option (List ℕ × List ℕ) → List ℕ
@@ -124,6 +128,9 @@ NoScript o (Serve bank plan) = ⊥
 NoScript o (Audit bank plan) = ⊥
 NoScript o (Drill number sessions) = ⊥
 NoScript o (Migrate bank plan) = ⊥
+NoScript o (Series bank plan forms word) = ⊥
+NoScript o (Follow bank plan) = ⊥
+NoScript o (Ship bank plan) = ⊥
 NoScript o (Replay bank plan name) = (f : ScriptFault) × IsOfScript f × IsScriptFault (o.content name) f
 
 -- its journal is refused
@@ -134,6 +141,9 @@ NoJournal o (Replay bank plan name) = (b : Tables) × (p : Plan) × (f : OpenFau
 NoJournal o (Serve bank plan) = (b : Tables) × (p : Plan) × (f : OpenFault) × Reads o.named o.content bank plan b p × IsJournalRefused b p o.disk f
 NoJournal o (Audit bank plan) = (b : Tables) × (p : Plan) × (f : OpenFault) × Reads o.named o.content bank plan b p × IsReadingRefused b p o.disk f
 NoJournal o (Drill number sessions) = ⊥
+NoJournal o (Series bank plan forms word) = ⊥
+NoJournal o (Follow bank plan) = (b : Tables) × (p : Plan) × (f : OpenFault) × Reads o.named o.content bank plan b p × IsJournalRefused b p o.disk f
+NoJournal o (Ship bank plan) = (b : Tables) × (p : Plan) × (f : OpenFault) × Reads o.named o.content bank plan b p × IsJournalRefused b p o.disk f
 NoJournal o (Migrate bank plan) = (b : Tables) × (p : Plan) × (f : OpenFault) × Reads o.named o.content bank plan b p × IsReadingRefused b p o.disk f
 
 -- the plan's limit has no room: for a request of a replay, or for the records of a migration
@@ -144,7 +154,15 @@ NoRoom words o (Replay bank plan name) = MeetsLimit words o
 NoRoom words o (Serve bank plan) = ⊥
 NoRoom words o (Audit bank plan) = ⊥
 NoRoom words o (Drill number sessions) = ⊥
+NoRoom words o (Series bank plan forms word) = ⊥
+NoRoom words o (Follow bank plan) = ⊥
+NoRoom words o (Ship bank plan) = ⊥
 NoRoom words o (Migrate bank plan) = (b : Tables) × (p : Plan) × (size : ℕ) × Reads o.named o.content bank plan b p × (IsTrue o.disk.told → IsTooLongMoved b p o.disk.found size)
+
+-- its series is answered
+abbrev AnswersOne : Outside → ℕ → Command → Type 0
+AnswersOne o status (Series bank plan forms word) = (b : Tables) × (p : Plan) × (text : List ℕ) × Reads o.named o.content bank plan b p × AnswersSeries b p forms (weights_of word) status text
+AnswersOne o status command = ⊥
 
 data Left (words : List (List ℕ)) (o : Outside) (command : Command) : ℕ → Type 0 where
   done : Left words o command 0
@@ -155,6 +173,38 @@ data Left (words : List (List ℕ)) (o : Outside) (command : Command) : ℕ → 
   no_journal : NoJournal o command → Left words o command 6
   limit : NoRoom words o command → Left words o command 13
   disk : HasJournal command → Rose o.disk.before o.disk.after → Left words o command 9
+  series : (status : ℕ) → AnswersOne o status command → Left words o command status
+
+-- to follow and to ship open the journal
+linked_has_journal : (c : Command) → IsLinked c → HasJournal c
+linked_has_journal (Follow bank plan) linked = tt
+linked_has_journal (Ship bank plan) linked = tt
+linked_has_journal (Check bank plan) linked = absurd linked
+linked_has_journal (Assemble bank plan) linked = absurd linked
+linked_has_journal (Replay bank plan script) linked = absurd linked
+linked_has_journal (Serve bank plan) linked = absurd linked
+linked_has_journal (Audit bank plan) linked = absurd linked
+linked_has_journal (Drill number sessions) linked = absurd linked
+linked_has_journal (Migrate bank plan) linked = absurd linked
+linked_has_journal (Series bank plan forms weights) linked = absurd linked
+
+-- the journal of one of them is refused
+no_link_journal : (o : Outside) (c : Command) → IsLinked c → (bank plan : List ℕ) → files_of c ≡ Some (bank, plan) → (b : Tables) (p : Plan) (f : OpenFault)
+    → Reads o.named o.content bank plan b p → IsJournalRefused b p o.disk f → NoJournal o c
+no_link_journal o (Follow x y) linked bank plan names b p f reads refusal =
+    let same = pair_same x y bank plan names in
+    (b, p, f, subst (λ (n : List ℕ). Reads o.named o.content n y b p) (sym same.0) (subst (λ (n : List ℕ). Reads o.named o.content bank n b p) (sym same.1) reads), refusal)
+no_link_journal o (Ship x y) linked bank plan names b p f reads refusal =
+    let same = pair_same x y bank plan names in
+    (b, p, f, subst (λ (n : List ℕ). Reads o.named o.content n y b p) (sym same.0) (subst (λ (n : List ℕ). Reads o.named o.content bank n b p) (sym same.1) reads), refusal)
+no_link_journal o (Check x y) linked bank plan names b p f reads refusal = absurd linked
+no_link_journal o (Assemble x y) linked bank plan names b p f reads refusal = absurd linked
+no_link_journal o (Replay x y z) linked bank plan names b p f reads refusal = absurd linked
+no_link_journal o (Serve x y) linked bank plan names b p f reads refusal = absurd linked
+no_link_journal o (Audit x y) linked bank plan names b p f reads refusal = absurd linked
+no_link_journal o (Drill x y) linked bank plan names b p f reads refusal = absurd linked
+no_link_journal o (Migrate x y) linked bank plan names b p f reads refusal = absurd linked
+no_link_journal o (Series x y forms weights) linked bank plan names b p f reads refusal = absurd linked
 
 module _ (words : List (List ℕ)) (o : Outside) (command : Command) (e : command_of words ≡ Some command) where
   same_command : (other : Command) → command_of words ≡ Some other → other ≡ command
@@ -174,6 +224,9 @@ module _ (words : List (List ℕ)) (o : Outside) (command : Command) (e : comman
 
   moves_journal : (b : Tables) (p : Plan) → IsMigrationOf words o b p → HasJournal command
   moves_journal b p is = subst HasJournal (same_command (Migrate is.bank is.plan) is.asked) tt
+
+  links_journal : (b : Tables) (p : Plan) (base : List ℕ) → IsLinkOf words o b p base → HasJournal command
+  links_journal b p base is = subst HasJournal (same_command is.command is.asked) (linked_has_journal is.command is.is_linked)
 
   -- the bank of the files that are read
   module _ (bank plan : List ℕ) (names : files_of command ≡ Some (bank, plan)) where
@@ -243,11 +296,17 @@ module _ (words : List (List ℕ)) (o : Outside) (command : Command) (e : comman
   left bank plan names b p _ _ reads quiet (without_migration c q is rose cut) = disk (moves_journal c q is) rose
   left bank plan names b p _ _ reads quiet (migration_without_memory c q is cut still) = memory
   left bank plan names b p _ _ reads quiet (migrated_without_line c q moved is so) = memory
+  left bank plan names b p _ _ reads quiet (series_answered c q forms weights status text is answers untouched) =
+      series status (subst (AnswersOne o status) (same_command (Series is.bank is.plan forms is.word) is.asked)
+      (c, q, text, is.reads, subst (λ (ws : List ℕ). AnswersSeries c q forms ws status text) is.weights_are answers))
+  left bank plan names b p _ _ reads quiet (link_refused c q base why is refusal) =
+      no_journal (subst (NoJournal o) (same_command is.command is.asked) (no_link_journal o is.command is.is_linked is.bank is.plan is.names c q why is.reads refusal))
+  left bank plan names b p _ _ reads quiet (link_without_journal c q base is so) = disk (links_journal c q base is) so.rose
 
--- a server that served no connection was not done
-module _ (words : List (List ℕ)) (o : Outside) (command : Command) (e : command_of words ≡ Some command) (server : IsServe command) where
-  no_server : (other : Command) → command_of words ≡ Some other → (IsServe other → ⊥) → ⊥
-  no_server other f none = none (subst IsServe (command_same (command_of words) command other e f) server)
+-- a server, a follower or a shipper that took no link was not done
+module _ (words : List (List ℕ)) (o : Outside) (command : Command) (e : command_of words ≡ Some command) (uses : UsesDoors command) where
+  no_server : (other : Command) → command_of words ≡ Some other → (UsesDoors other → ⊥) → ⊥
+  no_server other f none = none (subst UsesDoors (command_same (command_of words) command other e f) uses)
 
   not_done : (status : ℕ) (text : List ℕ) → Outcome words o status text → status ≡ 0 → ⊥
   not_done _ _ (checked bank plan c q f there untouched) zero = no_server (Check bank plan) f (λ x. x)
@@ -279,8 +338,11 @@ module _ (words : List (List ℕ)) (o : Outside) (command : Command) (e : comman
   not_done _ _ (without_migration c q is rose cut) zero = omega (arith, zero)
   not_done _ _ (migration_without_memory c q is cut still) zero = omega (arith, zero)
   not_done _ _ (migrated_without_line c q moved is so) zero = omega (arith, zero)
+  not_done _ _ (series_answered c q forms weights status text is answers untouched) zero = no_server (Series is.bank is.plan forms is.word) is.asked (λ x. x)
   not_done _ _ (drilled number sessions s f is untouched) zero = no_server (Drill number sessions) f (λ x. x)
   not_done _ _ (drill_full number sessions size most f is untouched) zero = omega (arith, zero)
+  not_done _ _ (link_refused c q base why is refusal) zero = omega (arith, zero)
+  not_done _ _ (link_without_journal c q base is so) zero = omega (arith, zero)
 
 -- ---- the laws
 pub check_is_complete : CheckIsComplete
@@ -295,6 +357,7 @@ check_is_complete words o bank plan b p status text e reads quiet outcome = of s
     of _ (no_journal none) = absurd none
     of _ (limit none) = absurd none
     of _ (disk none rose) = absurd none
+    of _ (series s none) = absurd none
 
 pub assemble_is_complete : AssembleIsComplete
 assemble_is_complete words o bank plan base b p status text e reads with_base quiet outcome = of status (left words o (Assemble bank plan) e bank plan refl b p status text reads quiet outcome)
@@ -308,6 +371,7 @@ assemble_is_complete words o bank plan base b p status text e reads with_base qu
     of _ (no_journal none) = absurd none
     of _ (limit none) = absurd none
     of _ (disk none rose) = absurd none
+    of _ (series s none) = absurd none
 
 -- a journal of the files that are read is not refused
 module _ (o : Outside) (bank plan : List ℕ) (b : Tables) (p : Plan) (H : List Entry) (reads : Reads o.named o.content bank plan b p)
@@ -347,6 +411,7 @@ replay_is_complete words o bank plan name base b p script H status text e reads 
     of _ (no_journal none) = absurd (not_refused o bank plan b p H reads told short stands none.0 none.1 none.2 none.3 none.4)
     of _ (limit met) = absurd (within met)
     of _ (disk has rose) = absurd (disk_quiet rose)
+    of _ (series s none) = absurd none
 
 pub serve_is_complete : ServeIsComplete
 serve_is_complete words o bank plan base b p H status text e reads with_base told stands short quiet disk_quiet outcome =
@@ -361,6 +426,37 @@ serve_is_complete words o bank plan base b p H status text e reads with_base tol
     of _ (no_journal none) not = absurd (not_refused o bank plan b p H reads told short stands none.0 none.1 none.2 none.3 none.4)
     of _ (limit none) not = absurd none
     of _ (disk has rose) not = absurd (disk_quiet rose)
+    of _ (series s none) not = absurd none
+
+pub follow_is_complete : FollowIsComplete
+follow_is_complete words o bank plan base b p H status text e reads with_base told stands short quiet disk_quiet outcome =
+    of status (left words o (Follow bank plan) e bank plan refl b p status text reads quiet outcome) (not_done words o (Follow bank plan) e tt status text outcome)
+  where
+    of : (s : ℕ) → Left words o (Follow bank plan) s → (s ≡ 0 → ⊥) → s ≡ 10
+    of _ done not = absurd (not refl)
+    of _ memory not = refl
+    of _ (no_form c q T ready shows) not = absurd (form_there o.named o.content bank plan base b c p q T reads with_base ready shows)
+    of _ (no_base c q T ready shows) not = absurd (no_base_there o.named o.content bank plan base b c p q T reads with_base ready shows)
+    of _ (no_script none) not = absurd none
+    of _ (no_journal none) not = absurd (not_refused o bank plan b p H reads told short stands none.0 none.1 none.2 none.3 none.4)
+    of _ (limit none) not = absurd none
+    of _ (disk has rose) not = absurd (disk_quiet rose)
+    of _ (series s none) not = absurd none
+
+pub ship_is_complete : ShipIsComplete
+ship_is_complete words o bank plan base b p H status text e reads with_base told stands short quiet disk_quiet outcome =
+    of status (left words o (Ship bank plan) e bank plan refl b p status text reads quiet outcome) (not_done words o (Ship bank plan) e tt status text outcome)
+  where
+    of : (s : ℕ) → Left words o (Ship bank plan) s → (s ≡ 0 → ⊥) → s ≡ 10
+    of _ done not = absurd (not refl)
+    of _ memory not = refl
+    of _ (no_form c q T ready shows) not = absurd (form_there o.named o.content bank plan base b c p q T reads with_base ready shows)
+    of _ (no_base c q T ready shows) not = absurd (no_base_there o.named o.content bank plan base b c p q T reads with_base ready shows)
+    of _ (no_script none) not = absurd none
+    of _ (no_journal none) not = absurd (not_refused o bank plan b p H reads told short stands none.0 none.1 none.2 none.3 none.4)
+    of _ (limit none) not = absurd none
+    of _ (disk has rose) not = absurd (disk_quiet rose)
+    of _ (series s none) not = absurd none
 
 pub audit_is_complete : AuditIsComplete
 audit_is_complete words o bank plan b p H status text e reads told stands short quiet disk_quiet outcome =
@@ -375,6 +471,7 @@ audit_is_complete words o bank plan b p H status text e reads told stands short 
     of _ (no_journal none) = absurd (read_so o bank plan b p H reads told short stands none.0 none.1 none.2 none.3 none.4)
     of _ (limit none) = absurd none
     of _ (disk has rose) = absurd (disk_quiet rose)
+    of _ (series s none) = absurd none
 
 pub migrate_is_complete : MigrateIsComplete
 migrate_is_complete words o bank plan b p H status text e reads told stands short room quiet disk_quiet outcome =
@@ -389,3 +486,29 @@ migrate_is_complete words o bank plan b p H status text e reads told stands shor
     of _ (no_journal none) = absurd (read_so o bank plan b p H reads told short stands none.0 none.1 none.2 none.3 none.4)
     of _ (limit full) = absurd (room_so o bank plan b p H reads told short room full.0 full.1 full.2 full.3 (full.4 told))
     of _ (disk has rose) = absurd (disk_quiet rose)
+    of _ (series s none) = absurd none
+
+-- the weights that are the grid's are taken
+series_status : (b c : Tables) (p q : Plan) (forms : ℕ) (weights : List ℕ) (status : ℕ) (text : List ℕ) → c ≡ b → AreWeightsFor b weights → AnswersSeries c q forms weights status text
+    → (status ≡ 0) ⊎ ((status ≡ 17) ⊎ ((status ≡ 18) ⊎ (status ≡ 10)))
+series_status b c p q forms weights _ _ same are (series_told text tells) = inl refl
+series_status b c p q forms weights _ _ same are (weights_not_taken refused) = absurd (refused (subst (λ (t : Tables). AreWeightsFor t weights) (sym same) are))
+series_status b c p q forms weights _ _ same are (without_series T fit shows) = inr (inl refl)
+series_status b c p q forms weights _ _ same are (series_not_found T fit shows) = inr (inr (inl refl))
+
+pub series_is_complete : SeriesIsComplete
+series_is_complete words o bank plan forms word b p status text e reads are quiet outcome =
+    of status (left words o (Series bank plan forms word) e bank plan refl b p status text reads quiet outcome)
+  where
+    of : (s : ℕ) → Left words o (Series bank plan forms word) s → (s ≡ 0) ⊎ ((s ≡ 17) ⊎ ((s ≡ 18) ⊎ (s ≡ 10)))
+    of _ done = inl refl
+    of _ memory = inr (inr (inr refl))
+    of _ (no_form c q T ready shows) = absurd ready
+    of _ (no_base c q T ready shows) = absurd ready
+    of _ (no_script none) = absurd none
+    of _ (no_journal none) = absurd none
+    of _ (limit none) = absurd none
+    of _ (disk none rose) = absurd none
+    of _ (series s is) =
+        series_status b is.0 p is.1 forms (weights_of word) s is.2
+        (bank_same (bank_of (o.content bank)) is.0 b is.3.says_bank reads.says_bank) are is.4

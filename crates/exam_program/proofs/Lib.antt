@@ -7,6 +7,8 @@ pub mod RequestLaws
 pub mod RunLaws
 pub mod ScriptLaws
 pub mod ServeLaws
+pub mod Lending
+pub mod LinkLaws
 pub mod SessionLaws
 pub mod StatusLaws
 pub mod TreeTexts

@@ -1,5 +1,5 @@
 -- The outcome of a command, from the outcomes of its parts.
-use Rattle.std.proofs.Common.{◌≡◌, ℕ, ◌≤◌, Bool, List, [], ◌∷◌, ◌++◌, IsTrue, inl, inr, Option, Some, None, arith, refl, sym, ◌∙◌, ap, subst, append_assoc, length-append}
+use Rattle.std.proofs.Common.{◌≡◌, ℕ, ◌≤◌, Bool, List, [], ◌∷◌, ◌++◌, IsTrue, inl, inr, Some, None, arith, refl, sym, ◌∙◌, ap, subst, append_assoc, length-append}
 use Rattle.std.proofs.lemmas.List.{append-nil}
 use Rattle.bank_tables.specs.Tables.{Tables}
 use Rattle.spec_reader.specs.Canonical.{canonical}
@@ -13,7 +13,8 @@ use Rattle.replay_cli.specs.Replies.{lines_of}
 use Rattle.exam_program.specs.declared.halt.Halt.{Halt}
 use Rattle.exam_program.specs.declared.halt.Halt.TheVariants as halt
 use Rattle.exam_program.specs.Bases.{TellsForm}
-use Rattle.command_line.specs.Commands.{Command, Check, Assemble, Replay, Serve, Drill, command_of, files_of}
+use Rattle.command_line.specs.Commands.{Command, Check, Assemble, Replay, Drill, command_of}
+use Rattle.exam_program.specs.Series.{IsSeriesOf, TellsSeriesOf, series_told, weights_not_taken, without_series, series_not_found, HaltsAtSeries}
 use Rattle.exam_program.specs.Drilling.{HaltsAtDrill}
 use Rattle.exam_program.specs.Halts.{HaltsAtExam, HaltsAtScript, HaltsAtBase, Reads, IsBeforeJournal}
 use Rattle.exam_program.specs.Outside.{Outside, DiskSeen, disk_seen, IsUntouched}
@@ -25,11 +26,11 @@ use Rattle.exam_office.specs.declared.migrating.MigrateFault.TheVariants as migr
 use Rattle.exam_office.specs.Migrating.{IsMigrateAnswer, IsOfContent, migrate_fault as migrate_fault_of}
 use Rattle.exam_office.specs.Opening.{IsReadAnswer}
 use Rattle.exam_program.specs.Migrations.{IsMigrationCutOff, IsMigrationDone, IsStillUnmoved, migration_halt}
-use Rattle.exam_program.specs.Replays.{IsLeftAt, IsReadingRefused, IsOfFile}
+use Rattle.exam_program.specs.Replays.{IsLeftAt, IsReadingRefused}
 use Rattle.exam_program.specs.Stopping.{opening_halt, IsUnprinted, IsUnopened, refused, failed, out_of_memory, Stops, by_sessions, by_journal, by_disk, by_memory, by_sink, Finishes, IsReplayed, Halted}
 use Rattle.exam_program.specs.Texts.{bank_line, journal_text, usage}
 use Rattle.exam_program.specs.Writing.{IsWritten, WritesPart}
-use Rattle.exam_program.specs.Outcomes.{IsOver, IsReady, IsReplayOf, Outcome, faulty_words, bank_refused, plan_refused, script_refused, checked, form_found, without_form, without_base_form, journal_refused, replayed, sessions_full, journal_full, without_files, without_journal, without_disk, without_memory, without_more_memory, server_refused, server_without_journal, server_without_memory, IsAuditOf, audited, audit_refused, without_audit, drilled, drill_full, IsMigrationOf, migrated, migration_refused, migration_full, without_migration, migration_without_memory, migrated_without_line, Prints, PrintsPart, PrintsBefore, PrintsBeforeText, Ends, LeavesJournal, as_found, at_opening, after_requests, server_at_opening, after_opening, after_migration, at_migration, Halts, EndsBy, IsStatus}
+use Rattle.exam_program.specs.Outcomes.{series_answered, IsOver, IsReady, IsReplayOf, Outcome, faulty_words, bank_refused, plan_refused, script_refused, checked, form_found, without_form, without_base_form, journal_refused, replayed, sessions_full, journal_full, without_files, without_journal, without_disk, without_memory, without_more_memory, server_refused, server_without_journal, server_without_memory, IsAuditOf, audited, audit_refused, without_audit, drilled, drill_full, IsMigrationOf, migrated, migration_refused, migration_full, without_migration, migration_without_memory, migrated_without_line, link_refused, link_without_journal, Prints, PrintsPart, PrintsBefore, PrintsBeforeText, Ends, LeavesJournal, as_found, at_opening, after_requests, server_at_opening, after_opening, after_migration, at_migration, link_at_opening, Halts, EndsBy, IsStatus}
 
 -- a count that rose later, rose
 pub rose_later : (before now after : ℕ) → before ≤ now → Rose now after → Rose before after
@@ -159,6 +160,17 @@ module _ (words : List (List ℕ)) (o : Outside) (told : Bool) (old : List ℕ) 
   halts_moved new b p moved halt.Sink is so part = prints_part new (migrated_text moved.records moved.length) (migrated b p moved is so) part
   halts_moved new b p moved h is so unprinted = absurd unprinted
 
+  -- ---- a series
+  module _ (b : Tables) (p : Plan) (forms : ℕ) (weights : List ℕ) (is : IsSeriesOf words o b p forms weights) (untouched : IsUntouched o.disk) where
+    pub halts_at_series : (h : Halt) → HaltsAtSeries b p forms weights h → Halts words o told old old h
+    halts_at_series halt.Weights none = nothing_before 16 _ (series_answered b p forms weights 16 _ is (weights_not_taken none) untouched)
+    halts_at_series (halt.NoSeries text) shows =
+        nothing_before 17 text.items (subst (λ (t : List ℕ). Outcome words o 17 t) (sym shows.1.2) (series_answered b p forms weights 17 _ is (without_series shows.1.0 shows.0 shows.1.1) untouched))
+    halts_at_series (halt.NoSeriesFound text) shows =
+        nothing_before 18 text.items (subst (λ (t : List ℕ). Outcome words o 18 t) (sym shows.1.2) (series_answered b p forms weights 18 _ is (series_not_found shows.1.0 shows.0 shows.1.1) untouched))
+    halts_at_series halt.Memory shows = nothing_before 10 _ (without_memory untouched)
+    halts_at_series h shows = absurd shows
+
   -- ---- a drill
   module _ (number sessions : ℕ) (e : command_of words ≡ Some (Drill number sessions)) (untouched : IsUntouched o.disk) where
     pub halts_at_drill : (h : Halt) → HaltsAtDrill number sessions h → Halts words o told old old h
@@ -222,6 +234,10 @@ pub outcome_assembled : (words : List (List ℕ)) (o : Outside) (text bank plan 
 outcome_assembled words o text bank plan b p e reads untouched tells =
     subst (λ (t : List ℕ). Outcome words o 0 t) (sym tells.is) (form_found bank plan b p tells.problem tells.form tells.proved tells.tree e reads tells.finds untouched)
 
+pub outcome_series : (words : List (List ℕ)) (o : Outside) (text : List ℕ) (b : Tables) (p : Plan) (forms : ℕ) (weights : List ℕ)
+    → IsSeriesOf words o b p forms weights → IsUntouched o.disk → TellsSeriesOf b p forms weights text → Outcome words o 0 text
+outcome_series words o text b p forms weights is untouched tells = series_answered b p forms weights 0 text is (series_told text tells) untouched
+
 -- ---- what is left of the journal
 module _ (words : List (List ℕ)) (o : Outside) where
   leaves : (status : ℕ) (text : List ℕ) → Outcome words o status text → LeavesJournal words o
@@ -256,6 +272,9 @@ module _ (words : List (List ℕ)) (o : Outside) where
   leaves _ _ (without_migration b p is rose cut) = at_migration b p is cut
   leaves _ _ (migration_without_memory b p is cut still) = at_migration b p is cut
   leaves _ _ (migrated_without_line b p done is so) = after_migration b p done is so
+  leaves _ _ (series_answered b p forms weights status text is answers untouched) = as_found untouched
+  leaves _ _ (link_refused b p base fault is so) = as_found so.untouched
+  leaves _ _ (link_without_journal b p base is so) = link_at_opening b p base is so
 
   pub leaves_journal : (told : Bool) (old new : List ℕ) (status : ℕ) → Ends words o told old new status → LeavesJournal words o
   leaves_journal told old new status (inl prints) = leaves status prints.text prints.outcome
@@ -293,6 +312,9 @@ ends_by (halt.Sessions count most) status (inl e) = also 13 status e is_13
 ends_by (halt.Sessions count most) status (inr e) = also 10 status e is_10
 ends_by (halt.JournalFull size most) status (inl e) = also 13 status e is_13
 ends_by (halt.JournalFull size most) status (inr e) = also 10 status e is_10
+ends_by halt.Weights status e = also 16 status e (13, omega arith, refl)
+ends_by (halt.NoSeries text) status e = also 17 status e (14, omega arith, refl)
+ends_by (halt.NoSeriesFound text) status e = also 18 status e (15, omega arith, refl)
 ends_by halt.Files status e = also 7 status e (6, omega arith, refl)
 ends_by halt.Disk status e = also 9 status e (8, omega arith, refl)
 ends_by halt.Sink status e = also 8 status e is_8

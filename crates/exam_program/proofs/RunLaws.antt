@@ -6,11 +6,6 @@ use Rattle.exam_program.specs.Outside.{Outside}
 use Rattle.exam_program.specs.Runs.{RunEnds, idle, busy, RunLeaves, left_idle, left_busy}
 use Rattle.exam_program.proofs.OutcomeLaws.{leaves_journal}
 
--- no connection was served
-pub none_served : {Serves : List NotedMark → List NotedMark → Bool → Type 0} {Unused : Type 0} {words : List (List ℕ)} {o : Outside} {told : Bool} {old new : List ℕ} {result : ℕ}
-    → Unused → Ends words o told old new result → RunEnds Serves Unused words o told old new result
-none_served unused ends = idle unused ends
-
 -- what is left of the journal
 pub run_leaves : (Serves : List NotedMark → List NotedMark → Bool → Type 0) (Unused : Type 0) (words : List (List ℕ)) (o : Outside) (told : Bool) (old new : List ℕ) (result : ℕ)
     → RunEnds Serves Unused words o told old new result → RunLeaves Serves Unused words o

@@ -1,14 +1,12 @@
 -- A server over a disk, from its office.
 use Rattle.std.proofs.Common.{◌≡◌, ℕ, ◌≤◌, ◌⊎◌, Bool, true, false, List, [], ◌∷◌, ◌++◌, length, inl, inr, map, Option, Some, None, IsTrue, refl, sym, ◌∙◌, ap, subst, arith}
 use Rattle.std.proofs.lemmas.List.{append-nil}
-use Rattle.std.proofs.lemmas.List.Elements.{filter_map-append}
 use Rattle.std.specs.Prelude.{Result, Ok, Err, IfOk, IfErr}
 use Rattle.std.specs.declared.alloc.AllocError.{AllocError}
 use Rattle.bank_tables.specs.Tables.{Tables}
 use Rattle.exam_edge.specs.Images.{AllImages}
 use Rattle.form_model.specs.Plan.{Plan}
 use Rattle.exam_text.specs.Texts.{no_memory}
-use Rattle.turn_lock.specs.Histories.{StartsWith}
 use Rattle.history_model.specs.declared.entry.Entry.{Entry}
 use Rattle.history_model.specs.declared.summary.Summary.{Summary}
 use Rattle.history_model.specs.Legality.{LegalRun}
@@ -19,7 +17,7 @@ use Rattle.exam_office.specs.declared.fault.OpenFault.{OpenFault}
 use Rattle.exam_office.specs.declared.fault.OpenFault.TheVariants as fault
 use Rattle.exam_office.specs.declared.mark.Mark.{Mark}
 use Rattle.exam_office.specs.declared.mark.Mark.TheVariants.{Old, Opened}
-use Rattle.exam_office.specs.Marks.{entry_of, history, reach, AreMarks, AreCounted}
+use Rattle.exam_office.specs.Marks.{history, reach, AreMarks, AreCounted}
 use Rattle.exam_office.specs.Moments.{AreMoments}
 use Rattle.exam_office.specs.Noting.{OpenedWith, NotedMark, noted, marks_of, opened_with, IsDoubtOf}
 use Rattle.exam_office.specs.Running.{Running}
@@ -65,7 +63,8 @@ pub record IsClosed {D : Type 0} (b : Tables) (p : Plan) (base : List ℕ) (disk
   pub short : IsTrue disk.told → length disk.found ≤ p.journal
   pub marks : old.marks ≡ map Old (history old.marks) ++ Opened (reach old.marks) ∷ []
   pub same : opened_with new ≡ opened_with old
-  pub begins : StartsWith new.marks old.marks
+  pub added : List Entry
+  pub extends : history new.marks ≡ history old.marks ++ added
   pub legal : LegalRun new.bank new.plan (history new.marks)
   pub doubt : IsDoubtOf new.marks new.doubt
   pub marks_are : AreMarks new.marks
@@ -101,8 +100,8 @@ module _ {D : Type 0} (b : Tables) (p : Plan) (base : List ℕ) (disk : DiskSeen
         same_office = ap (λ (w : OpenedWith). noted w new.marks) k.same ∙ ap (noted office) (sym noted_so);
         history_is = ap history (sym noted_so);
         legal = so (λ (x : Tables) (y : Plan). LegalRun x y (history new.marks)) k.legal;
-        added = history k.begins.0;
-        extends = ap history k.begins.1 ∙ filter_map-append entry_of old.marks k.begins.0;
+        added = k.added;
+        extends = k.extends;
         doubt = new.doubt;
         doubt_is = subst (λ (m : List Mark). IsDoubtOf m new.doubt) (sym noted_so) k.doubt;
         marks_are = subst AreMarks (sym noted_so) k.marks_are;

@@ -15,7 +15,8 @@ use Rattle.history_model.proofs.CompleteLaws.{complete_meets}
 use Rattle.history_model.specs.Places.{place}
 use Rattle.history_model.specs.Refusals.{refusal_of}
 use Rattle.history_model.specs.Requests.{Begins, BeginsWithout, RecordsAnswer, Leads, by_begin, by_begin_without, by_answer, by_look, Serves, at_once, after_setting_aside, AdvancesFrom, IsServedBy, DoesUnrefused, DoesUnless}
-use Rattle.exam_program.specs.Laws.{CompleteSessionsMeet, CompleteServedSessionsMeet}
+use Rattle.history_model.proofs.ListLaws.{none_shown_of_list}
+use Rattle.exam_program.specs.Laws.{CompleteSessionsMeet, CompleteServedSessionsMeet, ListsAreKept, ServedListsAreKept}
 use Rattle.exam_program.specs.Replays.{AreDone, none, one_more}
 
 -- the first entry of a request
@@ -74,3 +75,10 @@ complete_sessions_meet b plan base disk script H G rest replies s some way compl
 
 pub complete_served_sessions_meet : CompleteServedSessionsMeet
 complete_served_sessions_meet b plan base disk opened closed H s some examined complete = complete_meets b plan H s some examined.legal complete
+
+pub lists_are_kept : ListsAreKept
+lists_are_kept b plan base disk script H G rest replies s item list way e h =
+    none_shown_of_list b plan G s item list (done_legal b plan H way.going_on.done G replies way.legal way.going_on.are_done) e h
+
+pub served_lists_are_kept : ServedListsAreKept
+served_lists_are_kept b plan base disk opened closed H s item list examined e h = none_shown_of_list b plan H s item list examined.legal e h

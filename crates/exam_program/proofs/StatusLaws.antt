@@ -11,7 +11,7 @@ use Rattle.exam_serve.specs.declared.serve.End.TheVariants.{Done, DoorFailed, Me
 use Rattle.exam_program.specs.declared.halt.Halt.{Halt}
 use Rattle.exam_program.specs.declared.halt.Halt.TheVariants as halt
 use Rattle.exam_program.specs.Halts.{IsBeforeJournal}
-use Rattle.exam_program.specs.Outcomes.{EndsBy, IsStatus, IsStatusBefore}
+use Rattle.exam_program.specs.Outcomes.{EndsBy, IsStatus, IsStatusBefore, IsStatusOfRun}
 use Rattle.exam_program.specs.Runs.{IsStatusOfEnding, IsStatusOfServing}
 use Rattle.exam_program.specs.Stopping.{opening_halt}
 
@@ -25,6 +25,9 @@ own (halt.NoBaseForm text) = 12
 own (halt.Journal fault) = 6
 own (halt.Sessions count most) = 13
 own (halt.JournalFull size most) = 13
+own halt.Weights = 16
+own (halt.NoSeries text) = 17
+own (halt.NoSeriesFound text) = 18
 own halt.Files = 7
 own halt.Disk = 9
 own halt.Memory = 10
@@ -39,6 +42,9 @@ own_or_10 (halt.NoBaseForm text) status ends = inl ends
 own_or_10 (halt.Journal fault) status ends = ends
 own_or_10 (halt.Sessions count most) status ends = ends
 own_or_10 (halt.JournalFull size most) status ends = ends
+own_or_10 halt.Weights status ends = inl ends
+own_or_10 (halt.NoSeries text) status ends = inl ends
+own_or_10 (halt.NoSeriesFound text) status ends = inl ends
 own_or_10 halt.Files status ends = inl ends
 own_or_10 halt.Disk status ends = inl ends
 own_or_10 halt.Memory status ends = inl ends
@@ -54,6 +60,9 @@ own_files (halt.NoBaseForm text) is = absurd (omega (arith, is))
 own_files (halt.Journal fault) is = absurd (omega (arith, is))
 own_files (halt.Sessions count most) is = absurd (omega (arith, is))
 own_files (halt.JournalFull size most) is = absurd (omega (arith, is))
+own_files halt.Weights is = absurd (omega (arith, is))
+own_files (halt.NoSeries text) is = absurd (omega (arith, is))
+own_files (halt.NoSeriesFound text) is = absurd (omega (arith, is))
 own_files halt.Files is = refl
 own_files halt.Disk is = absurd (omega (arith, is))
 own_files halt.Memory is = absurd (omega (arith, is))
@@ -72,6 +81,9 @@ own_sink (halt.NoBaseForm text) is = absurd (omega (arith, is))
 own_sink (halt.Journal fault) is = absurd (omega (arith, is))
 own_sink (halt.Sessions count most) is = absurd (omega (arith, is))
 own_sink (halt.JournalFull size most) is = absurd (omega (arith, is))
+own_sink halt.Weights is = absurd (omega (arith, is))
+own_sink (halt.NoSeries text) is = absurd (omega (arith, is))
+own_sink (halt.NoSeriesFound text) is = absurd (omega (arith, is))
 own_sink halt.Files is = absurd (omega (arith, is))
 own_sink halt.Disk is = absurd (omega (arith, is))
 own_sink halt.Memory is = absurd (omega (arith, is))
@@ -90,6 +102,9 @@ own_disk (halt.NoBaseForm text) is = absurd (omega (arith, is))
 own_disk (halt.Journal fault) is = absurd (omega (arith, is))
 own_disk (halt.Sessions count most) is = absurd (omega (arith, is))
 own_disk (halt.JournalFull size most) is = absurd (omega (arith, is))
+own_disk halt.Weights is = absurd (omega (arith, is))
+own_disk (halt.NoSeries text) is = absurd (omega (arith, is))
+own_disk (halt.NoSeriesFound text) is = absurd (omega (arith, is))
 own_disk halt.Files is = absurd (omega (arith, is))
 own_disk halt.Disk is = refl
 own_disk halt.Memory is = absurd (omega (arith, is))
@@ -108,6 +123,9 @@ own_before (halt.NoBaseForm text) before = tt
 own_before (halt.Journal fault) before = absurd (false≢true before)
 own_before (halt.Sessions count most) before = absurd (false≢true before)
 own_before (halt.JournalFull size most) before = absurd (false≢true before)
+own_before halt.Weights before = tt
+own_before (halt.NoSeries text) before = tt
+own_before (halt.NoSeriesFound text) before = tt
 own_before halt.Files before = tt
 own_before halt.Disk before = absurd (false≢true before)
 own_before halt.Memory before = absurd (false≢true before)
@@ -119,36 +137,50 @@ before_so h status ends before = elim (own_or_10 h status ends) [
   | inr e ↦ absurd (false≢true (subst (λ (s : ℕ). IsStatusBefore s) e before))
 ]
 
--- no halt has the status of faulty words, or that of a door that failed
-own_within : (h : Halt) → (2 < own h) × (own h < 14)
-own_within (halt.Bank fault) = (omega arith, omega arith)
-own_within (halt.Plan fault) = (omega arith, omega arith)
-own_within (halt.Script fault) = (omega arith, omega arith)
-own_within (halt.NoForm text) = (omega arith, omega arith)
-own_within (halt.NoBaseForm text) = (omega arith, omega arith)
-own_within (halt.Journal fault) = (omega arith, omega arith)
-own_within (halt.Sessions count most) = (omega arith, omega arith)
-own_within (halt.JournalFull size most) = (omega arith, omega arith)
-own_within halt.Files = (omega arith, omega arith)
-own_within halt.Disk = (omega arith, omega arith)
-own_within halt.Memory = (omega arith, omega arith)
-own_within halt.Sink = (omega arith, omega arith)
+-- no halt has the status of faulty words, that of a door that failed, or one that only a link has
+own_within : (h : Halt) → (2 < own h) × (own h ≡ 14 → ⊥) × (own h < 19)
+own_within (halt.Bank fault) = (omega arith, λ is. omega (arith, is), omega arith)
+own_within (halt.Plan fault) = (omega arith, λ is. omega (arith, is), omega arith)
+own_within (halt.Script fault) = (omega arith, λ is. omega (arith, is), omega arith)
+own_within (halt.NoForm text) = (omega arith, λ is. omega (arith, is), omega arith)
+own_within (halt.NoBaseForm text) = (omega arith, λ is. omega (arith, is), omega arith)
+own_within (halt.Journal fault) = (omega arith, λ is. omega (arith, is), omega arith)
+own_within (halt.Sessions count most) = (omega arith, λ is. omega (arith, is), omega arith)
+own_within (halt.JournalFull size most) = (omega arith, λ is. omega (arith, is), omega arith)
+own_within halt.Weights = (omega arith, λ is. omega (arith, is), omega arith)
+own_within (halt.NoSeries text) = (omega arith, λ is. omega (arith, is), omega arith)
+own_within (halt.NoSeriesFound text) = (omega arith, λ is. omega (arith, is), omega arith)
+own_within halt.Files = (omega arith, λ is. omega (arith, is), omega arith)
+own_within halt.Disk = (omega arith, λ is. omega (arith, is), omega arith)
+own_within halt.Memory = (omega arith, λ is. omega (arith, is), omega arith)
+own_within halt.Sink = (omega arith, λ is. omega (arith, is), omega arith)
 
-within : (h : Halt) (status : ℕ) → EndsBy h status → (2 < status) × (status < 14)
+within : (h : Halt) (status : ℕ) → EndsBy h status → (2 < status) × (status ≡ 14 → ⊥) × (status < 19)
 within h status ends = elim (own_or_10 h status ends) [
-  | inl e ↦ subst (λ (s : ℕ). (2 < s) × (s < 14)) (sym e) (own_within h)
-  | inr e ↦ subst (λ (s : ℕ). (2 < s) × (s < 14)) (sym e) (omega arith, omega arith)
+  | inl e ↦ subst (λ (s : ℕ). (2 < s) × (s ≡ 14 → ⊥) × (s < 19)) (sym e) (own_within h)
+  | inr e ↦ subst (λ (s : ℕ). (2 < s) × (s ≡ 14 → ⊥) × (s < 19)) (sym e) (omega arith, λ is. omega (arith, is), omega arith)
 ]
 
--- a command that waits for nobody has no status above 13
-below_14 : (status : ℕ) → IsStatus status → status < 14
-below_14 status is = All-contains (λ (s : ℕ). s < 14) (0 ∷ 2 ∷ 3 ∷ 4 ∷ 5 ∷ 6 ∷ 7 ∷ 8 ∷ 9 ∷ 10 ∷ 11 ∷ 12 ∷ 13 ∷ []) status here is
+-- a command that waits for nobody has not the status of a door that failed
+pub not_14 : (status : ℕ) → IsStatus status → status ≡ 14 → ⊥
+not_14 status is = All-contains (λ (s : ℕ). s ≡ 14 → ⊥) (0 ∷ 2 ∷ 3 ∷ 4 ∷ 5 ∷ 6 ∷ 7 ∷ 8 ∷ 9 ∷ 10 ∷ 11 ∷ 12 ∷ 13 ∷ 16 ∷ 17 ∷ 18 ∷ []) status here is
   where
-    here : All (λ (s : ℕ). s < 14) (0 ∷ 2 ∷ 3 ∷ 4 ∷ 5 ∷ 6 ∷ 7 ∷ 8 ∷ 9 ∷ 10 ∷ 11 ∷ 12 ∷ 13 ∷ [])
+    here : All (λ (s : ℕ). s ≡ 14 → ⊥) (0 ∷ 2 ∷ 3 ∷ 4 ∷ 5 ∷ 6 ∷ 7 ∷ 8 ∷ 9 ∷ 10 ∷ 11 ∷ 12 ∷ 13 ∷ 16 ∷ 17 ∷ 18 ∷ [])
     here = search rules
 
-pub not_14 : (status : ℕ) → IsStatus status → status ≡ 14 → ⊥
-not_14 status status_is is = let below = below_14 status status_is in omega (arith, below, is)
+-- nor one above 18
+below_19 : (status : ℕ) → IsStatus status → status < 19
+below_19 status is = All-contains (λ (s : ℕ). s < 19) (0 ∷ 2 ∷ 3 ∷ 4 ∷ 5 ∷ 6 ∷ 7 ∷ 8 ∷ 9 ∷ 10 ∷ 11 ∷ 12 ∷ 13 ∷ 16 ∷ 17 ∷ 18 ∷ []) status here is
+  where
+    here : All (λ (s : ℕ). s < 19) (0 ∷ 2 ∷ 3 ∷ 4 ∷ 5 ∷ 6 ∷ 7 ∷ 8 ∷ 9 ∷ 10 ∷ 11 ∷ 12 ∷ 13 ∷ 16 ∷ 17 ∷ 18 ∷ [])
+    here = search rules
+
+pub not_19 : (status : ℕ) → IsStatus status → status ≡ 19 → ⊥
+not_19 status status_is is = let below = below_19 status status_is in omega (arith, below, is)
+
+pub run_not_19 : (status : ℕ) → IsStatusOfRun status → status ≡ 19 → ⊥
+run_not_19 status (inl e) is = not_19 status e is
+run_not_19 status (inr e) is = omega (arith, e, is)
 
 -- ---- the status that was reported: that of the halt, or 8 where the sink failed
 module _ {R : Type 0} (h : Halt) (status : ℕ) where
@@ -173,8 +205,13 @@ module _ {R : Type 0} (h : Halt) (status : ℕ) where
   not_usage (inr e) is = let is_8 : status ≡ 8 = e.0 in omega (arith, is_8, is)
 
   pub not_door : (EndsBy h status) ⊎ ((status ≡ 8) × R) → status ≡ 14 → ⊥
-  not_door (inl e) is = let below = (within h status e).1 in omega (arith, below, is)
+  not_door (inl e) is = (within h status e).1 is
   not_door (inr e) is = let is_8 : status ≡ 8 = e.0 in omega (arith, is_8, is)
+
+  -- no halt has a status that only a link has
+  pub not_link : (EndsBy h status) ⊎ ((status ≡ 8) × R) → status ≡ 19 → ⊥
+  not_link (inl e) is = let below = (within h status e).2 in omega (arith, below, is)
+  not_link (inr e) is = let is_8 : status ≡ 8 = e.0 in omega (arith, is_8, is)
 
 -- ---- the status of a text that was printed: its own, or 8 where the sink failed
 module _ {R : Type 0} (status n : ℕ) where

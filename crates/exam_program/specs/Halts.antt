@@ -12,7 +12,7 @@ use Rattle.history_model.specs.declared.request.Request.{Request}
 use Rattle.replay_cli.specs.Scripts.{IsScript}
 use Rattle.replay_cli.specs.Reading.{IsScriptFault, most_bytes as longest_script, IsOfText as IsOfScript}
 use Rattle.exam_program.specs.declared.halt.Halt.{Halt}
-use Rattle.exam_program.specs.declared.halt.Halt.TheVariants.{Bank, Plan, Script, NoForm, NoBaseForm, Files, Sink, Memory}
+use Rattle.exam_program.specs.declared.halt.Halt.TheVariants.{Bank, Plan, Script, NoForm, NoBaseForm, Weights, NoSeries, NoSeriesFound, Files, Sink, Memory}
 use Rattle.exam_program.specs.Bases.{ShowsNoForm, ShowsNoBase}
 use Rattle.exam_program.specs.ItemSets.{HasItemSets}
 use Rattle.exam_program.specs.Texts.{no_form, no_base_form}
@@ -94,6 +94,9 @@ IsBeforeJournal (Plan fault) = Unit {0}
 IsBeforeJournal (Script fault) = Unit {0}
 IsBeforeJournal (NoForm text) = Unit {0}
 IsBeforeJournal (NoBaseForm text) = Unit {0}
+IsBeforeJournal Weights = Unit {0}
+IsBeforeJournal (NoSeries text) = Unit {0}
+IsBeforeJournal (NoSeriesFound text) = Unit {0}
 IsBeforeJournal Files = Unit {0}
 IsBeforeJournal halt = ⊥
 

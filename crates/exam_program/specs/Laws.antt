@@ -1,6 +1,7 @@
 -- What the definitions imply, as the public laws state it.
-use Rattle.std.specs.Prelude.{◌≡◌, ℕ, ◌⊎◌, ◌<◌, ◌≤◌, IsTrue, List, ◌∷◌, Some, Ok, length}
+use Rattle.std.specs.Prelude.{◌≡◌, ℕ, ◌⊎◌, ◌<◌, ◌≤◌, IsTrue, IsFalse, List, ◌∷◌, Some, Ok, length}
 use Rattle.hex.specs.Hex.{decode_of, encode_lower}
+use Rattle.bank_tables.specs.Items.{has}
 use Rattle.bank_tables.specs.Tables.{Tables}
 use Rattle.exam_edge.specs.Faults.{Rose}
 use Rattle.form_model.specs.Forms.{Meets}
@@ -10,7 +11,8 @@ use Rattle.history_model.specs.declared.place.Place.TheVariants.{Complete}
 use Rattle.history_model.specs.declared.refusal.Refusal.TheVariants.{SessionsFull}
 use Rattle.history_model.specs.declared.request.Reply.{Reply}
 use Rattle.history_model.specs.declared.request.Request.{Request}
-use Rattle.history_model.specs.Entries.{seat_of}
+use Rattle.history_model.specs.declared.entry.Without.{Without}
+use Rattle.history_model.specs.Entries.{list_of, seat_of}
 use Rattle.history_model.specs.Places.{place}
 use Rattle.history_model.specs.Refusals.{refusal_of}
 use Rattle.exam_office.specs.Files.{Stands, StandsSecond}
@@ -21,7 +23,9 @@ use Rattle.certificate_model.specs.ProofTrees.{ProofTree}
 use Rattle.proof_tree.specs.Shape.{IsTree}
 use Rattle.proof_tree.specs.Spelling.{bytes_of}
 use Rattle.proof_tree.specs.Reading.{read}
-use Rattle.command_line.specs.Commands.{Check, Assemble, Replay, Serve, Audit, Migrate, command_of}
+use Rattle.command_line.specs.Commands.{Check, Assemble, Replay, Serve, Audit, Migrate, Series, Follow, Ship, command_of}
+use Rattle.command_line.specs.Weights.{weights_of}
+use Rattle.form_lines.specs.Answers.{AreWeightsFor}
 use Rattle.exam_program.specs.Halts.{IsPlanIn, Reads, IsScriptIn}
 use Rattle.exam_program.specs.Outcomes.{IsReplayOf, Outcome}
 use Rattle.exam_program.specs.Outside.{Outside, DiskSeen}
@@ -126,6 +130,37 @@ ServeIsComplete =
     → Outcome words o status text
     → status ≡ 10
 
+-- the same of follow and of ship: if the journal was not opened, it ends with 10
+abbrev pub FollowIsComplete : Type 0
+FollowIsComplete =
+    (words : List (List ℕ)) (o : Outside) (bank plan base : List ℕ) (b : Tables) (p : Plan)
+    (H : List Entry) (status : ℕ) (text : List ℕ)
+    → command_of words ≡ Some (Follow bank plan)
+    → Reads o.named o.content bank plan b p
+    → p.base ≡ Some base
+    → IsTrue o.disk.told
+    → StandsSecond b p H o.disk.found
+    → length o.disk.found ≤ p.journal
+    → (Rose o.files_before o.files_after → ⊥)
+    → (Rose o.disk.before o.disk.after → ⊥)
+    → Outcome words o status text
+    → status ≡ 10
+
+abbrev pub ShipIsComplete : Type 0
+ShipIsComplete =
+    (words : List (List ℕ)) (o : Outside) (bank plan base : List ℕ) (b : Tables) (p : Plan)
+    (H : List Entry) (status : ℕ) (text : List ℕ)
+    → command_of words ≡ Some (Ship bank plan)
+    → Reads o.named o.content bank plan b p
+    → p.base ≡ Some base
+    → IsTrue o.disk.told
+    → StandsSecond b p H o.disk.found
+    → length o.disk.found ≤ p.journal
+    → (Rose o.files_before o.files_after → ⊥)
+    → (Rose o.disk.before o.disk.after → ⊥)
+    → Outcome words o status text
+    → status ≡ 10
+
 -- and so does audit, where the file represents a history within the journal's limit, by records of
 -- either version, and no fault of the disk was counted
 abbrev pub AuditIsComplete : Type 0
@@ -158,6 +193,19 @@ MigrateIsComplete =
     → Outcome words o status text
     → (status ≡ 0) ⊎ (status ≡ 10)
 
+-- series, where the weights are the grid's, prints a series or shows that there is none, or has spent
+-- the base budget with none found, or memory ran out
+abbrev pub SeriesIsComplete : Type 0
+SeriesIsComplete =
+    (words : List (List ℕ)) (o : Outside) (bank plan : List ℕ) (forms : ℕ) (word : List ℕ)
+    (b : Tables) (p : Plan) (status : ℕ) (text : List ℕ)
+    → command_of words ≡ Some (Series bank plan forms word)
+    → Reads o.named o.content bank plan b p
+    → AreWeightsFor b (weights_of word)
+    → (Rose o.files_before o.files_after → ⊥)
+    → Outcome words o status text
+    → (status ≡ 0) ⊎ ((status ≡ 17) ⊎ ((status ≡ 18) ⊎ (status ≡ 10)))
+
 -- ---- what a replay leaves
 -- the items shown in each complete session meet the plan
 abbrev pub CompleteSessionsMeet : Type 0
@@ -178,3 +226,20 @@ CompleteServedSessionsMeet =
     → IsExamined b plan base disk opened closed H
     → place plan H s ≡ Some Complete
     → Meets b plan (is_shown (seat_of H s))
+
+-- no item of the list with which a session was started is shown in it: of a replay, and of a server
+abbrev pub ListsAreKept : Type 0
+ListsAreKept =
+    (b : Tables) (plan : Plan) (base : List ℕ) (disk : DiskSeen) (script : List Request)
+    (H G : List Entry) (rest : List Request) (replies : List Reply) (s item : ℕ) (list : Without)
+    → IsUnderWay b plan base disk script H G rest replies
+    → list_of G s ≡ Some list → IsTrue (has list.items item)
+    → IsFalse (is_shown (seat_of G s) item)
+
+abbrev pub ServedListsAreKept : Type 0
+ServedListsAreKept =
+    (b : Tables) (plan : Plan) (base : List ℕ) (disk : DiskSeen) (opened closed : List NotedMark)
+    (H : List Entry) (s item : ℕ) (list : Without)
+    → IsExamined b plan base disk opened closed H
+    → list_of H s ≡ Some list → IsTrue (has list.items item)
+    → IsFalse (is_shown (seat_of H s) item)

@@ -9,6 +9,12 @@ pub mod Halts
 pub mod Drilling
 pub mod Serves
 pub mod Migrations
+pub mod Series
+pub mod LinkWords
 pub mod Outcomes
 pub mod Runs
+pub mod Linked
+pub mod Links
+pub mod Follows
+pub mod Ships
 pub mod Laws

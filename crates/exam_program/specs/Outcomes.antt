@@ -25,6 +25,7 @@ use Rattle.exam_drill.specs.declared.fault.DrillFault.TheVariants as drill
 use Rattle.exam_drill.specs.Drills.{IsSummaryOfDrill, IsDrillFault}
 use Rattle.exam_drill.specs.Texts.{drill_text}
 use Rattle.exam_lines.specs.Texts.{summary_text, migrated_text}
+use Rattle.form_lines.specs.Texts.{weights_refused}
 use Rattle.journal_audit.specs.Audit.{IsAudit}
 use Rattle.exam_office.specs.Noting.{NotedMark}
 use Rattle.exam_office.specs.declared.fault.OpenFault.{OpenFault}
@@ -36,12 +37,14 @@ use Rattle.replay_cli.specs.Texts.{script_text}
 use Rattle.exam_program.specs.declared.halt.Halt.{Halt}
 use Rattle.exam_program.specs.declared.halt.Halt.TheVariants as halt
 use Rattle.exam_program.specs.Bases.{FindsForm, ShowsNoForm, ShowsNoBase, IsBaseForm}
-use Rattle.command_line.specs.Commands.{Command, Check, Assemble, Replay, Serve, Audit, Drill, Migrate, command_of, files_of}
+use Rattle.command_line.specs.Commands.{Command, Check, Assemble, Replay, Serve, Audit, Drill, Migrate, Series, Follow, Ship, command_of, files_of}
 use Rattle.exam_program.specs.Halts.{Reads, IsOfText, IsScriptIn}
 use Rattle.exam_program.specs.Outside.{Outside, IsUntouched}
 use Rattle.exam_program.specs.Migrations.{IsMigrationDone, IsMigrationCutOff, IsStillUnmoved, IsMigrationFull}
 use Rattle.exam_program.specs.Replays.{IsUnderWay, IsJournalRefused, IsReadingRefused, IsOpeningFailed, IsFullAt, IsLeftAt}
+use Rattle.exam_program.specs.Series.{IsSeriesOf, AnswersSeries}
 use Rattle.exam_program.specs.Serves.{IsServeOf, IsExamined}
+use Rattle.exam_program.specs.LinkWords.{IsLinkOf}
 use Rattle.exam_program.specs.Writing.{IsWritten}
 use Rattle.exam_program.specs.Texts.{usage, disk_failed, journal_text, sessions_limit, journal_limit, no_form, no_base_form, bank_line, form_text, audit_text}
 
@@ -71,6 +74,9 @@ IsReady named content (Serve bank plan) b p = Reads named content bank plan b p
 IsReady named content (Audit bank plan) b p = ⊥
 IsReady named content (Drill number sessions) b p = ⊥
 IsReady named content (Migrate bank plan) b p = ⊥
+IsReady named content (Series bank plan forms weights) b p = ⊥
+IsReady named content (Follow bank plan) b p = Reads named content bank plan b p
+IsReady named content (Ship bank plan) b p = Reads named content bank plan b p
 
 -- the words ask for a replay; its files are read, and this is the base form
 pub record IsReplayOf (words : List (List ℕ)) (o : Outside) (b : Tables) (p : Plan)
@@ -226,6 +232,18 @@ pub data Outcome (words : List (List ℕ)) (o : Outside) : ℕ → List ℕ → 
   -- or for the line of one that was done
   migrated_without_line : (b : Tables) (p : Plan) (done : Moved) → IsMigrationOf words o b p
       → IsMigrationDone b p o.disk done → Outcome words o 10 no_memory
+  -- a series was asked for, and its files are read: its lines, or why there are none
+  series_answered : (b : Tables) (p : Plan) (forms : ℕ) (weights : List ℕ) (status : ℕ)
+      (text : List ℕ) → IsSeriesOf words o b p forms weights
+      → AnswersSeries b p forms weights status text → IsUntouched o.disk
+      → Outcome words o status text
+  -- the journal of a follower or a shipper is refused
+  link_refused : (b : Tables) (p : Plan) (base : List ℕ) (fault : OpenFault)
+      → IsLinkOf words o b p base → IsJournalRefused b p o.disk fault
+      → Outcome words o 6 (journal_text fault)
+  -- the disk failed while that journal was opened; a settled file keeps its history
+  link_without_journal : (b : Tables) (p : Plan) (base : List ℕ) → IsLinkOf words o b p base
+      → IsOpeningFailed b p o.disk → Outcome words o 9 disk_failed
 
 -- this was printed
 pub record Prints (words : List (List ℕ)) (o : Outside) (told : Bool) (old new : List ℕ)
@@ -254,7 +272,8 @@ Ends words o told old new status =
 -- file kept its history; or the first requests of the script were done, and the file that is left,
 -- and each that a crash may leave, represents the history that they lead to, or that with the first
 -- entries of the next; or a server's journal was opened, and memory ran out before any connection
--- was accepted; or a migration was done; or one ended early, and the file keeps its history
+-- was accepted; or a migration was done; or one ended early, and the file keeps its history; or the
+-- disk failed while the journal of a follower or a shipper was opened
 pub data LeavesJournal (words : List (List ℕ)) (o : Outside) : Type 0 where
   as_found : IsUntouched o.disk → LeavesJournal words o
   at_opening : (b : Tables) (p : Plan) (script : List Request) (base : List ℕ)
@@ -272,6 +291,8 @@ pub data LeavesJournal (words : List (List ℕ)) (o : Outside) : Type 0 where
       → IsMigrationDone b p o.disk done → LeavesJournal words o
   at_migration : (b : Tables) (p : Plan) → IsMigrationOf words o b p
       → IsMigrationCutOff b p o.disk → LeavesJournal words o
+  link_at_opening : (b : Tables) (p : Plan) (base : List ℕ) → IsLinkOf words o b p base
+      → IsOpeningFailed b p o.disk → LeavesJournal words o
 
 -- ---- what a command has printed when it halts, before the text of its halt
 pub record PrintsBefore (words : List (List ℕ)) (o : Outside) (told : Bool) (old new : List ℕ)
@@ -300,6 +321,10 @@ Halts words o told old new (halt.Sessions count most) =
     PrintsBeforeText words o told old new 13 (sessions_limit count most)
 Halts words o told old new (halt.JournalFull size most) =
     PrintsBeforeText words o told old new 13 (journal_limit size most)
+Halts words o told old new halt.Weights = PrintsBefore words o told old new 16 weights_refused
+Halts words o told old new (halt.NoSeries text) = PrintsBefore words o told old new 17 text.items
+Halts words o told old new (halt.NoSeriesFound text) =
+    PrintsBefore words o told old new 18 text.items
 Halts words o told old new halt.Files = PrintsBefore words o told old new 7 files_failed
 Halts words o told old new halt.Disk = PrintsBefore words o told old new 9 disk_failed
 Halts words o told old new halt.Memory = PrintsBefore words o told old new 10 no_memory
@@ -315,6 +340,9 @@ EndsBy (halt.NoBaseForm text) status = status ≡ 12
 EndsBy (halt.Journal fault) status = (status ≡ 6) ⊎ (status ≡ 10)
 EndsBy (halt.Sessions count most) status = (status ≡ 13) ⊎ (status ≡ 10)
 EndsBy (halt.JournalFull size most) status = (status ≡ 13) ⊎ (status ≡ 10)
+EndsBy halt.Weights status = status ≡ 16
+EndsBy (halt.NoSeries text) status = status ≡ 17
+EndsBy (halt.NoSeriesFound text) status = status ≡ 18
 EndsBy halt.Files status = status ≡ 7
 EndsBy halt.Disk status = status ≡ 9
 EndsBy halt.Memory status = status ≡ 10
@@ -322,7 +350,8 @@ EndsBy halt.Sink status = status ≡ 8
 
 -- the statuses that there are
 abbrev pub IsStatus : ℕ → Type 0
-IsStatus status = Contains (0 ∷ 2 ∷ 3 ∷ 4 ∷ 5 ∷ 6 ∷ 7 ∷ 8 ∷ 9 ∷ 10 ∷ 11 ∷ 12 ∷ 13 ∷ []) status
+IsStatus status = Contains
+    (0 ∷ 2 ∷ 3 ∷ 4 ∷ 5 ∷ 6 ∷ 7 ∷ 8 ∷ 9 ∷ 10 ∷ 11 ∷ 12 ∷ 13 ∷ 16 ∷ 17 ∷ 18 ∷ []) status
 
 -- those of a run that may serve connections
 abbrev pub IsStatusOfRun : ℕ → Type 0
@@ -330,4 +359,5 @@ IsStatusOfRun status = IsStatus status ⊎ (status ≡ 14)
 
 -- those of a run that ends before the journal is opened
 abbrev pub IsStatusBefore : ℕ → Type 0
-IsStatusBefore status = IsTrue (list_any (λ s. s == status) (2 ∷ 3 ∷ 4 ∷ 5 ∷ 7 ∷ 11 ∷ 12 ∷ []))
+IsStatusBefore status = IsTrue (list_any (λ s. s == status)
+    (2 ∷ 3 ∷ 4 ∷ 5 ∷ 7 ∷ 11 ∷ 12 ∷ 16 ∷ 17 ∷ 18 ∷ []))

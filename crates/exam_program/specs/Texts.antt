@@ -1,8 +1,8 @@
 -- The texts of the statuses, of a bank, of forms and of an audit.
-use Rattle.std.specs.Prelude.{ℕ, zero, suc, ◌++◌, ◌∷◌, List, [], Bool, true, false, codes, length, nat_lt, if◌then◌else◌}
+use Rattle.std.specs.Prelude.{ℕ, ◌++◌, List, [], Bool, codes, length, nat_lt, if◌then◌else◌}
 use Rattle.std.specs.Fmt.{decimal}
 use Rattle.hex.specs.Hex.{encode_lower}
-use Rattle.bank_tables.specs.Items.{Set, has}
+use Rattle.bank_tables.specs.Items.{has}
 use Rattle.bank_tables.specs.Tables.{Tables, size}
 use Rattle.form_model.specs.Plan.{Plan, bands_of}
 use Rattle.form_model.specs.Problem.{Problem}
@@ -11,6 +11,7 @@ use Rattle.certificate_model.specs.ProofTrees.{ProofTree}
 use Rattle.proof_tree.specs.Spelling.{bytes_of}
 use Rattle.exam_text.specs.Texts.{no_memory}
 use Rattle.exam_lines.specs.Texts.{summary_text, bands_text}
+use Rattle.form_lines.specs.Texts.{items_text, mark_text}
 use Rattle.history_model.specs.declared.request.Exposure.{Exposure}
 use Rattle.history_model.specs.declared.request.Reply.TheVariants.{Exposure as Exposed}
 use Rattle.history_model.specs.declared.summary.Summary.{Summary}
@@ -20,7 +21,7 @@ use Rattle.exam_office.specs.declared.fault.OpenFault.{OpenFault}
 use Rattle.exam_office.specs.declared.fault.OpenFault.TheVariants.{Journal, Version, BadRecord, BadTree, Illegal, Disk, Memory}
 
 unfoldable pub usage : List ℕ
-usage = codes "usage: shadowd check BANK PLAN | assemble BANK PLAN | replay BANK PLAN SCRIPT | serve BANK PLAN | audit BANK PLAN | drill NUMBER SESSIONS | migrate BANK PLAN\n"
+usage = codes "usage: shadowd check BANK PLAN | assemble BANK PLAN | replay BANK PLAN SCRIPT | serve BANK PLAN | audit BANK PLAN | drill NUMBER SESSIONS | migrate BANK PLAN | series BANK PLAN K WEIGHTS | follow BANK PLAN | ship BANK PLAN\n"
 
 unfoldable pub disk_failed : List ℕ
 disk_failed = codes "disk failed\n"
@@ -74,16 +75,6 @@ bank_line b =
     codes "bank items " ++ (decimal (size b) ++ (codes " grid "
     ++ (decimal b.grid ++ (codes " quantities " ++ (decimal b.quantities
     ++ (codes " stimuli " ++ (decimal (stimuli_of b) ++ codes "\n")))))))
-
--- the items of X below n, ascending, a space before each
-abbrev pub items_text : ℕ → Set → List ℕ
-items_text zero X = []
-items_text (suc n) X = items_text n X ++ (if X n then 32 ∷ decimal n else [])
-
--- whether a form is proved best
-abbrev pub mark_text : Bool → List ℕ
-mark_text true = codes "proved"
-mark_text false = codes "unproved"
 
 -- the line of a form's objective, with its mark and the number of the tree's nodes
 unfoldable pub objective_line : ℕ → Bool → ℕ → List ℕ

@@ -29,6 +29,12 @@ pub enum Halt {
     Sessions { count: u32, most: u32 },
     /// The journal would be longer than the plan allows: the length that it would have, and the plan's limit, in bytes.
     JournalFull { size: u64, most: u64 },
+    /// The weights of a series are not those of the grid's points.
+    Weights,
+    /// There is no series: the text to print, with the tree that shows it.
+    NoSeries(Vec<u8>),
+    /// No series was found within the base budget: the text to print, with the tree that spends it.
+    NoSeriesFound(Vec<u8>),
     /// A call of the files failed.
     Files,
     /// A call of the sink failed.

@@ -1,6 +1,6 @@
 //! What the definitions imply, for all words and all files.
 
-ghost use Rattle.exam_program.specs.Laws.{PrintedTreeIsReadBack, OneTreeOfText, OnePlanOfText, CheckIsComplete, AssembleIsComplete, ReplayIsComplete, ServeIsComplete, AuditIsComplete, MigrateIsComplete, CompleteSessionsMeet, CompleteServedSessionsMeet};
+ghost use Rattle.exam_program.specs.Laws.{PrintedTreeIsReadBack, OneTreeOfText, OnePlanOfText, CheckIsComplete, AssembleIsComplete, ReplayIsComplete, ServeIsComplete, FollowIsComplete, ShipIsComplete, AuditIsComplete, MigrateIsComplete, SeriesIsComplete, CompleteSessionsMeet, CompleteServedSessionsMeet, ListsAreKept, ServedListsAreKept};
 
 /// A tree that is printed can be read: its digits give its bytes, and these give the tree.
 pub fn a_printed_tree_is_read_back()
@@ -38,6 +38,16 @@ pub fn serve_is_complete()
     ensures { ServeIsComplete }
 {}
 
+/// `follow` of a plan with a base over such a journal opens it, or ends with status 10.
+pub fn follow_is_complete()
+    ensures { FollowIsComplete }
+{}
+
+/// And so does `ship`.
+pub fn ship_is_complete()
+    ensures { ShipIsComplete }
+{}
+
 /// `audit` over a journal of the plan, of either version, ends so too.
 pub fn audit_is_complete()
     ensures { AuditIsComplete }
@@ -48,6 +58,11 @@ pub fn migrate_is_complete()
     ensures { MigrateIsComplete }
 {}
 
+/// `series` by weights of the grid's points prints a series, or shows that there is none, or has spent the base budget.
+pub fn series_is_complete()
+    ensures { SeriesIsComplete }
+{}
+
 /// The items shown in each complete session of a replay meet the plan.
 pub fn complete_sessions_meet()
     ensures { CompleteSessionsMeet }
@@ -56,4 +71,14 @@ pub fn complete_sessions_meet()
 /// And so do those of each complete session that a server leaves.
 pub fn complete_served_sessions_meet()
     ensures { CompleteServedSessionsMeet }
+{}
+
+/// No item of the list with which a session was started is shown in it, whatever a replay did.
+pub fn lists_are_kept()
+    ensures { ListsAreKept }
+{}
+
+/// And so it is in the history that a server leaves.
+pub fn served_lists_are_kept()
+    ensures { ServedListsAreKept }
 {}

@@ -1,19 +1,12 @@
 //! The lines that are printed.
 
 ghost use Rattle.std.specs.Prelude.{◌≡◌, IfOk, string_bytes};
-ghost use Rattle.exam_program.specs.Texts.{bank_line, mark_text, journal_text, sessions_limit, journal_limit};
+ghost use Rattle.exam_program.specs.Texts.{bank_line, journal_text, sessions_limit, journal_limit};
 
 use answer_journal::OpenFault as JournalFault;
 use bank_tables::Bank;
 use exam_office::OpenFault;
 use std::alloc::{AllocError, Global};
-
-/// The word of a form's mark.
-pub(crate) fn mark_text(proved: bool) -> &'static str
-    ensures { result.now ≡ mark_text proved }
-{
-    if proved { "proved" } else { "unproved" }
-}
 
 /// What was understood of a bank: its numbers of items, grid points, quantities and stimuli.
 #[tactic(auto, unfolding(crate::specs::Texts::bank_line))]

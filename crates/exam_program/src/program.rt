@@ -6,18 +6,24 @@ ghost use Rattle.exam_edge.specs.Faults.{Rose};
 ghost use Rattle.exam_edge.specs.Lent.{IsLent};
 ghost use Rattle.answer_journal.specs.Standing.{IsAsLeft};
 ghost use Rattle.exam_serve.specs.Doors.{AreLent, AreServed, HasFailedDoor};
-ghost use Rattle.command_line.specs.Commands.{HasJournal, IsOfJournal, IsServe, IsOfServe, IsInRange, AreInRange, command_of, said};
+ghost use Rattle.command_line.specs.Commands.{HasJournal, IsOfJournal, IsOfLinked, UsesDoors, IsOfDoors, IsInRange, AreInRange, command_of, said};
 ghost use Rattle.exam_program.specs.Halts.{IsBeforeJournal};
 ghost use Rattle.exam_program.specs.Outcomes.{Ends, Prints, Halts, LeavesJournal, IsStatus, IsStatusBefore, IsStatusOfRun};
+ghost use Rattle.exam_program.specs.Follows.{AreFollowed, FollowEnds};
+ghost use Rattle.exam_program.specs.Linked.{HasFailedFirst, IsStatusOfAny, LinkLeaves};
 ghost use Rattle.exam_program.specs.Outside.{outside, disk_seen};
 ghost use Rattle.exam_program.specs.Runs.{RunEnds, RunLeaves};
+ghost use Rattle.exam_program.specs.Ships.{AreShipped, ShipEnds};
 
 use crate::auditing::audit_journal;
 use crate::drilling::drill;
+use crate::following::follow;
 use crate::halt::Halt;
 use crate::migrating::migrate_journal;
 use crate::report::{print, report};
+use crate::series::series;
 use crate::serving::{Left, serve};
+use crate::shipping::ship;
 use crate::work::{assemble, check, replay_script};
 use crate::world::{Finish, Tools, World};
 use command_line::{Command, command_of};
@@ -36,7 +42,7 @@ fn work<F: Files, O: Sink, D: Disk>(
     out: &mut O,
     disk: D,
 ) -> (D, Result<(), Halt>)
-    requires alone { IsServe (said command) → ⊥ }
+    requires alone { UsesDoors (said command) → ⊥ }
     requires range { IsInRange (said command) }
     requires left { IsTrue (D.tells disk) → IsAsLeft (D.accounts disk) }
     ensures ok { OnOk result.1 (IsTrue (F.tells files.old) → (words : List (List ℕ))
@@ -76,11 +82,22 @@ fn work<F: Files, O: Sink, D: Disk>(
         ),
         Command::Audit { bank, plan } => audit_journal(alloc, files, out, disk, bank, plan),
         Command::Migrate { bank, plan } => migrate_journal(alloc, files, out, disk, bank, plan),
+        Command::Series {
+            bank,
+            plan,
+            forms,
+            weights,
+        } => {
+            let done = series(alloc, files, out, bank, plan, forms, weights);
+            (disk, done)
+        }
         Command::Drill { number, sessions } => {
             let done = drill(alloc, out, number, sessions);
             (disk, done)
         }
         Command::Serve { .. } => unreachable!(),
+        Command::Follow { .. } => unreachable!(),
+        Command::Ship { .. } => unreachable!(),
     }
 }
 
@@ -92,7 +109,7 @@ fn status_of<F: Files, O: Sink, D: Disk>(
     out: &mut O,
     disk: D,
 ) -> (D, u8)
-    requires alone { IsOfServe (option_map said command) → ⊥ }
+    requires alone { IsOfDoors (option_map said command) → ⊥ }
     requires range { AreInRange (option_map said command) }
     requires left { IsTrue (D.tells disk) → IsAsLeft (D.accounts disk) }
     ensures answers { IsTrue (F.tells files.old) → (words : List (List ℕ))
@@ -118,7 +135,7 @@ fn status_of<F: Files, O: Sink, D: Disk>(
     let Some(command) = command else {
         let status = print(
             out,
-            b"usage: shadowd check BANK PLAN | assemble BANK PLAN | replay BANK PLAN SCRIPT | serve BANK PLAN | audit BANK PLAN | drill NUMBER SESSIONS | migrate BANK PLAN\n",
+            b"usage: shadowd check BANK PLAN | assemble BANK PLAN | replay BANK PLAN SCRIPT | serve BANK PLAN | audit BANK PLAN | drill NUMBER SESSIONS | migrate BANK PLAN | series BANK PLAN K WEIGHTS | follow BANK PLAN | ship BANK PLAN\n",
             2,
         );
         return (disk, status);
@@ -131,18 +148,19 @@ fn status_of<F: Files, O: Sink, D: Disk>(
 }
 
 /// Does what the words ask for, which are those after the program's name, and waits for nobody. The words do not ask for a
-/// server. The journal's disk is as a reboot or a journal left it.
+/// server, to follow or to ship. The journal's disk is as a reboot or a journal left it.
 /// It gives the status to end with: 0 the work was done, 2 the words are not in the table,
 /// 3, 4 and 5 the bank, the plan or the script is refused, 6 the journal represents no history of the bank and the plan, or, in
 /// a replay, is of the first version and was not moved, 7, 8 and 9 a call of the files, the sink or the disk failed, 10 out of
 /// memory, 11 no set of items is a form, 12 the plan has no base and none was found within the base budget, 13 a limit of the
-/// plan is met.
+/// plan is met, 16 the weights of a series are not the grid's, 17 there is no series, 18 no series was found within the base
+/// budget.
 pub fn run_alone<F: Files, O: Sink, D: Disk>(
     alloc: Global,
     words: &[String],
     tools: Tools<F, O, D>,
 ) -> (u8, Tools<F, O, D>)
-    requires alone { IsOfServe (command_of (map (λ w. string_bytes w) words.now)) → ⊥ }
+    requires alone { IsOfDoors (command_of (map (λ w. string_bytes w) words.now)) → ⊥ }
     requires left { IsTrue (D.tells tools.disk) → IsAsLeft (D.accounts tools.disk) }
     // If the files report their content: what is printed, and with which status. If the sink reports its content too: that this
     // is written. If the disk reports its content too: what the journal holds, and what a crash may leave of it.
@@ -204,7 +222,7 @@ fn bytes_of(token: &Option<Vec<u8>>) -> Option<&[u8]>
 }
 
 /// Does what the words ask for, and gives the status to end with, the disk and the doors.
-#[tactic(auto, using(crate::proofs::RunLaws::none_served))]
+#[tactic(auto, using(crate::proofs::LinkLaws::none_served))]
 fn left_of<R, F, O, D, L, G>(
     rt: &R,
     alloc: Global,
@@ -233,7 +251,21 @@ where
         (map (λ w. string_bytes w) words.now)
         (outside (F.has files.old) (F.content files.old) (F.faults files.old) (F.faults files.new)
         (disk_seen D.tells D.content D.accounts D.faults disk result.disk))
-        (O.tells out.old) (O.written out.old) (O.written out.new) result.status }
+        (O.tells out.old) (O.written out.old) (O.written out.new) result.status
+        ⊎ (FollowEnds (AreFollowed
+        L.tells L.coming L.returned L.is_out L.faults L.identity L.Link.tells L.Link.left L.Link.written L.Link.faults L.Link.identity
+        doors.items result.doors.items)
+        (map (λ w. string_bytes w) words.now)
+        (outside (F.has files.old) (F.content files.old) (F.faults files.old) (F.faults files.new)
+        (disk_seen D.tells D.content D.accounts D.faults disk result.disk))
+        (O.tells out.old) (O.written out.old) (O.written out.new) result.status
+        ⊎ ShipEnds (AreShipped
+        L.tells L.coming L.returned L.is_out L.faults L.identity L.Link.tells L.Link.left L.Link.written L.Link.faults L.Link.identity
+        doors.items result.doors.items)
+        (map (λ w. string_bytes w) words.now)
+        (outside (F.has files.old) (F.content files.old) (F.faults files.old) (F.faults files.new)
+        (disk_seen D.tells D.content D.accounts D.faults disk result.disk))
+        (O.tells out.old) (O.written out.old) (O.written out.new) result.status) }
     ensures faulty { command_of (map (λ w. string_bytes w) words.now) ≡ None
         → (result.status ≡ 2) ⊎ ((result.status ≡ 8) ⊎ (result.status ≡ 10)) }
     ensures usage { result.status ≡ 2 → command_of (map (λ w. string_bytes w) words.now) ≡ None }
@@ -241,12 +273,16 @@ where
     ensures sink { result.status ≡ 8 → Rose (O.faults out.old) (O.faults out.new) }
     ensures failed { result.status ≡ 9 → Rose (D.faults disk) (D.faults result.disk) }
     ensures door { result.status ≡ 14 → HasFailedDoor L.faults doors.items result.doors.items }
+    ensures link { result.status ≡ 19 → HasFailedFirst L.tells L.coming L.returned L.is_out
+        L.faults L.identity L.Link.faults doors.items result.doors.items }
     ensures kept { IsStatusBefore result.status → result.disk ≡ disk }
     ensures unused { (IsOfJournal (command_of (map (λ w. string_bytes w) words.now)) → ⊥)
         → result.disk ≡ disk }
-    ensures idle { (IsOfServe (command_of (map (λ w. string_bytes w) words.now)) → ⊥)
+    ensures idle { (IsOfDoors (command_of (map (λ w. string_bytes w) words.now)) → ⊥)
         → result.doors ≡ doors }
-    ensures status { IsStatusOfRun result.status }
+    ensures status { IsStatusOfAny result.status }
+    ensures unlinked { (IsOfLinked (command_of (map (λ w. string_bytes w) words.now)) → ⊥)
+        → IsStatusOfRun result.status }
     ensures files_grow { F.faults files.old ≤ F.faults files.new }
     ensures sink_grows { O.faults out.old ≤ O.faults out.new }
     ensures files_tell { F.tells files.new ≡ F.tells files.old }
@@ -258,6 +294,10 @@ where
         Ok(Some(Command::Serve { bank, plan })) => serve(
             rt, alloc, files, out, disk, doors, gate, token, bank, plan,
         ),
+        Ok(Some(Command::Follow { bank, plan })) => {
+            follow(rt, alloc, files, out, disk, doors, bank, plan)
+        }
+        Ok(Some(Command::Ship { bank, plan })) => ship(alloc, files, out, disk, doors, bank, plan),
         Ok(command) => {
             let (disk, status) = status_of(alloc, command, files, out, disk);
             Left {
@@ -274,17 +314,18 @@ where
     }
 }
 
-/// Does what the words ask for, which are those after the program's name. At most 65,535 doors are given, and no link of
-/// theirs is out. Only a server uses the doors, the gate and the token; it may wait, and ends where each door ends. Where
-/// there is a token, a message that does not bear it does nothing, but for a look at the health.
-/// The gate is the observer, too: a server tells it how the examination is once the journal was
-/// opened, after each response, and at the end.
-/// The journal's disk is as a reboot or a journal left it.
-/// It gives the status to end with: 0 the work was done, 2 the words are not in the table,
-/// 3, 4 and 5 the bank, the plan or the script is refused, 6 the journal represents no history of the bank and the plan, or, in
-/// a replay and a server, is of the first version and was not moved, 7, 8 and 9 a call of the files, the sink or the disk
-/// failed, 10 out of memory, 11 no set of items is a form, 12 the plan has no base and none was found within the base budget,
-/// 13 a limit of the plan is met in a replay, a drill or a migration, 14 a door failed.
+/// Does what the words ask for, which are those after the program's name. At most 65,535 doors are given, and no link of theirs
+/// is out. Only a server uses all doors, the gate and the token; it may wait, and ends where each door ends. A follower and a
+/// shipper use the first door; a follower may wait, and ends where the door ends or at the first fault. Where there is a token,
+/// a message that does not bear it does nothing, but for a look at the health. The gate is the observer, too: a server tells it
+/// how the examination is once the journal was opened, after each response, and at the end. The journal's disk is as a reboot
+/// or a journal left it. It gives the status to end with: 0 the work was done, 2 the words are not in the table, 3, 4 and 5 the
+/// bank, the plan or the script is refused, 6 the journal represents no history of the bank and the plan, or, in a replay, a
+/// server, a follower and a shipper, is of the first version and was not moved, 7, 8 and 9 a call of the files, the sink or the
+/// disk failed, 10 out of memory, 11 no set of items is a form, 12 the plan has no base and none was found within the base
+/// budget, 13 a limit of the plan is met in a replay, a drill, a migration or a follower, 14 a door failed; of a series, 16 the
+/// weights are not the grid's, 17 there is none, 18 none was found within the base budget; of a follower and a shipper, 19 a link failed, 20 the other side of it sent what no peer may send, 21 the record that it offered may not follow,
+/// 22 there was no link to ship over.
 pub fn run<
     R: Threads + Wait + Sync,
     F: Files,
@@ -307,13 +348,33 @@ pub fn run<
         (outside (F.has world.files) (F.content world.files) (F.faults world.files)
         (F.faults result.files)
         (disk_seen D.tells D.content D.accounts D.faults world.disk result.disk))
-        (O.tells world.out) (O.written world.out) (O.written result.out) result.status }
+        (O.tells world.out) (O.written world.out) (O.written result.out) result.status
+        ⊎ (FollowEnds (AreFollowed
+        L.tells L.coming L.returned L.is_out L.faults L.identity L.Link.tells L.Link.left L.Link.written L.Link.faults L.Link.identity
+        world.doors.items result.doors.items)
+        (map (λ w. string_bytes w) words.now)
+        (outside (F.has world.files) (F.content world.files) (F.faults world.files)
+        (F.faults result.files)
+        (disk_seen D.tells D.content D.accounts D.faults world.disk result.disk))
+        (O.tells world.out) (O.written world.out) (O.written result.out) result.status
+        ⊎ ShipEnds (AreShipped
+        L.tells L.coming L.returned L.is_out L.faults L.identity L.Link.tells L.Link.left L.Link.written L.Link.faults L.Link.identity
+        world.doors.items result.doors.items)
+        (map (λ w. string_bytes w) words.now)
+        (outside (F.has world.files) (F.content world.files) (F.faults world.files)
+        (F.faults result.files)
+        (disk_seen D.tells D.content D.accounts D.faults world.disk result.disk))
+        (O.tells world.out) (O.written world.out) (O.written result.out) result.status) }
     // What is left of the journal, whatever the status.
     ensures journal { IsTrue (F.tells world.files)
         → RunLeaves (λ opened closed failed. AreServed (option_map (λ t. t.items) world.token)
         L.tells L.coming L.returned L.is_out L.faults L.identity L.Link.tells L.Link.left L.Link.written L.Link.faults L.Link.identity
         opened closed world.doors.items result.doors.items failed) (result.doors ≡ world.doors)
         (map (λ w. string_bytes w) words.now)
+        (outside (F.has world.files) (F.content world.files) (F.faults world.files)
+        (F.faults result.files)
+        (disk_seen D.tells D.content D.accounts D.faults world.disk result.disk))
+        ⊎ LinkLeaves (map (λ w. string_bytes w) words.now)
         (outside (F.has world.files) (F.content world.files) (F.faults world.files)
         (F.faults result.files)
         (disk_seen D.tells D.content D.accounts D.faults world.disk result.disk)) }
@@ -326,12 +387,16 @@ pub fn run<
     ensures failed { result.status ≡ 9 → Rose (D.faults world.disk) (D.faults result.disk) }
     ensures door { result.status ≡ 14
         → HasFailedDoor L.faults world.doors.items result.doors.items }
+    ensures link { result.status ≡ 19 → HasFailedFirst L.tells L.coming L.returned L.is_out
+        L.faults L.identity L.Link.faults world.doors.items result.doors.items }
     ensures kept { IsStatusBefore result.status → result.disk ≡ world.disk }
     ensures unused { (IsOfJournal (command_of (map (λ w. string_bytes w) words.now)) → ⊥)
         → result.disk ≡ world.disk }
-    ensures idle { (IsOfServe (command_of (map (λ w. string_bytes w) words.now)) → ⊥)
+    ensures idle { (IsOfDoors (command_of (map (λ w. string_bytes w) words.now)) → ⊥)
         → result.doors ≡ world.doors }
-    ensures status { IsStatusOfRun result.status }
+    ensures status { IsStatusOfAny result.status }
+    ensures unlinked { (IsOfLinked (command_of (map (λ w. string_bytes w) words.now)) → ⊥)
+        → IsStatusOfRun result.status }
 
     ensures files_grow { F.faults world.files ≤ F.faults result.files }
     ensures sink_grows { O.faults world.out ≤ O.faults result.out }

@@ -56,7 +56,7 @@ pub(crate) fn print_text<O: Sink>(out: &mut O, text: Result<String, AllocError>,
 }
 
 /// Ends a command that met a fault.
-#[tactic(auto, unfolding(crate::specs::Texts::disk_failed, exam_text::specs::Texts::files_failed, exam_text::specs::Texts::no_memory))]
+#[tactic(auto, unfolding(crate::specs::Texts::disk_failed, exam_text::specs::Texts::files_failed, exam_text::specs::Texts::no_memory, form_lines::specs::Texts::weights_refused))]
 pub(crate) fn report<O: Sink>(alloc: Global, out: &mut O, halt: Halt) -> u8
     ensures answers { (words : List (List ℕ)) (o : Outside) (first : List ℕ)
         → Halts words o (O.tells out.old) first (O.written out.old) halt
@@ -75,6 +75,9 @@ pub(crate) fn report<O: Sink>(alloc: Global, out: &mut O, halt: Halt) -> u8
         Halt::JournalFull { size, most } => print_text(out, journal_limit(alloc, size, most), 13),
         Halt::NoForm(text) => print(out, &text, 11),
         Halt::NoBaseForm(text) => print(out, &text, 12),
+        Halt::Weights => print(out, b"series: weights\n", 16),
+        Halt::NoSeries(text) => print(out, &text, 17),
+        Halt::NoSeriesFound(text) => print(out, &text, 18),
         Halt::Files => print(out, b"files failed\n", 7),
         Halt::Disk => print(out, b"disk failed\n", 9),
         Halt::Memory => print(out, b"no memory\n", 10),

@@ -1,16 +1,14 @@
 //! The texts that have a proof tree.
 
 ghost use Rattle.std.specs.Prelude.{◌≡◌, ◌++◌, OnOk, IfOk, string_bytes};
-ghost use Rattle.bank_tables.specs.Items.{has};
 ghost use Rattle.constraint_model.specs.Views.{problem_of};
 ghost use Rattle.form_model.specs.Validity.{IsWellMade};
-ghost use Rattle.exam_program.specs.Texts.{tree_text, no_form, no_base_form, items_text, objective_line, form_text};
+ghost use Rattle.exam_program.specs.Texts.{tree_text, no_form, no_base_form, objective_line, form_text};
 
-use crate::lines::mark_text;
 use crate::marked_form::MarkedForm;
-use bank_tables::ItemSet;
 use constraint_model::{Problem, objective};
 use exam_text::{push_hex, push_number};
+use form_lines::{mark_text, push_items};
 use proof_tree::{Memory, Tree, encode};
 use std::alloc::{AllocError, Global};
 
@@ -47,24 +45,6 @@ pub(crate) fn no_base_form_text(alloc: Global, budget: u32, tree: &Tree) -> Resu
     text.extend_from_slice(b" nodes ")?;
     push_tree(alloc, &mut text, tree)?;
     Ok(text)
-}
-
-/// Writes the items of a form below a number, ascending, a space before each.
-fn push_items(
-    alloc: Global,
-    out: &mut Vec<u8>,
-    items: u16,
-    form: &ItemSet,
-) -> Result<(), AllocError>
-    ensures { OnOk result (out.new.items ≡ out.old.items ++ items_text items (has form.now)) }
-{
-    for item in 0..items {
-        if form.has(item) {
-            out.push(b' ')?;
-            push_number(alloc, out, item as u64)?;
-        }
-    }
-    Ok(())
 }
 
 /// The line of a form's objective, with its mark and the number of the tree's nodes.

@@ -211,7 +211,7 @@ fn a_server_with_two_doors(rt: HostRuntime) {
     }
 }
 
-/// The call that waits for nobody takes words that ask for no server.
+/// The call that waits for nobody takes words that ask for no server, and neither to follow nor to ship.
 #[test]
 fn a_session_of_bank_a_alone(rt: HostRuntime) {
     let alloc = rt.alloc();
@@ -219,6 +219,8 @@ fn a_session_of_bank_a_alone(rt: HostRuntime) {
     let tools = tools_of(&rt, alloc, &[BANK_A, PLAN_A, SCRIPT_A], &CALM);
     match command_of(alloc, &words) {
         Ok(Some(Command::Serve { .. })) => panic!(&rt; "a server"),
+        Ok(Some(Command::Follow { .. })) => panic!(&rt; "a follower"),
+        Ok(Some(Command::Ship { .. })) => panic!(&rt; "a shipper"),
         Ok(_) => {}
         Err(_) => panic!(&rt; "no command"),
     }

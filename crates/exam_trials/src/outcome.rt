@@ -23,6 +23,10 @@ pub const ASSEMBLE: [&str; 3] = ["assemble", "bank", "plan"];
 
 pub const SERVE: [&str; 3] = ["serve", "bank", "plan"];
 
+pub const FOLLOW: [&str; 3] = ["follow", "bank", "plan"];
+
+pub const SHIP: [&str; 3] = ["ship", "bank", "plan"];
+
 /// The journal that the program finds, and the numbers of the calls that fail.
 #[derive(Clone, Copy)]
 pub struct Given<'a> {

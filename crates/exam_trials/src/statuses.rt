@@ -57,12 +57,19 @@ const FAULTY: [[&str; 3]; 3] = [
 ];
 
 const USAGE: &str =
-    "usage: shadowd check BANK PLAN | assemble BANK PLAN | replay BANK PLAN SCRIPT | serve BANK PLAN | audit BANK PLAN | drill NUMBER SESSIONS | migrate BANK PLAN\n";
+    "usage: shadowd check BANK PLAN | assemble BANK PLAN | replay BANK PLAN SCRIPT | serve BANK PLAN | audit BANK PLAN | drill NUMBER SESSIONS | migrate BANK PLAN | series BANK PLAN K WEIGHTS | follow BANK PLAN | ship BANK PLAN\n";
 
 #[test]
 fn faulty_words(rt: HostRuntime) {
     let texts = [BANK_A, PLAN_A, SCRIPT_A];
     prints(&rt, &["replay", "a"], &texts, 2, USAGE);
+    prints(
+        &rt,
+        &["series", "bank", "plan", "5", "0,1,0"],
+        &texts,
+        2,
+        USAGE,
+    );
     for words in &FAULTY {
         prints(&rt, words, &texts, 2, USAGE);
     }

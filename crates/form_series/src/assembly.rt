@@ -6,14 +6,26 @@ ghost use Rattle.form_model.specs.Validity.{IsBudget};
 ghost use Rattle.series_model.specs.Series.{IsSeriesProblem, weight_of};
 ghost use Rattle.series_check.specs.Cuts.{problem_of};
 ghost use Rattle.series_outcome.specs.Assemblies.{IsShown, IsTrueOutcome, IsDecided, IsBestForm};
+ghost use Rattle.form_series.specs.Orders.{IsInOrder};
+ghost use Rattle.form_series.specs.SeriesBounds.{IsBoundOf};
 
-use bank_tables::Bank;
+use crate::bound::{SeriesBound, bound_shown};
+use crate::order::in_order;
+use bank_tables::{Bank, ItemSet, List};
 use constraint_model::Spec;
 use series_check::Setting;
 use series_outcome::{Series, SeriesOutcome, outcome_shown, search_fallback};
 use series_search::{Kinds, Searched, search};
-use series_tree::Memory;
+use series_tree::{Memory, SeriesTree};
 use std::alloc::Global;
+
+/// An outcome, the tree that shows it, and, beside a series that is not proved best, a bound of all series, if one was shown.
+#[derive(Debug, Drop)]
+pub struct AssembledSeries {
+    pub outcome: SeriesOutcome,
+    pub tree: SeriesTree,
+    pub bound: Option<SeriesBound>,
+}
 
 /// Whether the search went to its end.
 fn is_decided(outcome: &SeriesOutcome) -> bool
@@ -26,24 +38,52 @@ fn is_decided(outcome: &SeriesOutcome) -> bool
     }
 }
 
-/// Whether the bank has so few items that a budget may be enough for a branch on each of them in each form.
-fn has_few_items(setting: &Setting) -> bool
-    requires { IsSeriesProblem (problem_of setting.now) }
-    ensures { (budget : ℕ) → 2 ^ (setting.now.forms * size setting.now.bank.now + 1) ≤ budget + 1
-        → budget ≤ 4095 → IsTrue result }
+/// Whether the budget is enough for a branch on each item in each form, so that the fallback search decides.
+fn is_enough(setting: &Setting, budget: u16) -> bool
+    requires problem { IsSeriesProblem (problem_of setting.now) }
+    requires budget { IsBudget budget }
+    ensures { 2 ^ (setting.now.forms * size setting.now.bank.now + 1) ≤ budget + 1 → IsTrue result }
 {
-    setting.bank.items() < 12
+    let branches = setting.forms as u32 * setting.bank.items() as u32;
+    branches < 12 && 2u32.pow(branches + 1) <= budget as u32 + 1
 }
 
-/// Searches, and where what the search gave fails a test, or decides nothing where the bank has few items, falls back.
-fn make(alloc: Global, setting: &Setting, budget: u16) -> Result<Series, Memory>
+/// What a search gave, if it passes every test and either decides or the budget is too small for a sure decision; else what the
+/// fallback search gives.
+fn tested(
+    alloc: Global,
+    setting: &Setting,
+    forms: Option<List<ItemSet>>,
+    tree: Option<SeriesTree>,
+    budget: u16,
+) -> Result<Series, Memory>
     requires problem { IsSeriesProblem (problem_of setting.now) }
     requires budget { IsBudget budget }
     ensures shown { IfOk result (λ s. IsShown (problem_of setting.now) s.tree budget s.outcome) }
     ensures decided { IfOk result (λ s. 2 ^ (setting.now.forms * size setting.now.bank.now + 1)
         ≤ budget + 1 → IsDecided s.outcome) }
 {
-    let Searched { forms, tree, .. } = search(
+    if let Some(tree) = tree {
+        if let Some(outcome) = outcome_shown(setting, forms, &tree, budget) {
+            if is_decided(&outcome) || !is_enough(setting, budget) {
+                return Ok(Series { outcome, tree });
+            }
+        }
+    }
+    search_fallback(alloc, setting, budget)
+}
+
+/// A search, its outcome with the forms in order, and the bound where the series is not proved best.
+fn make(alloc: Global, setting: &Setting, budget: u16) -> Result<AssembledSeries, Memory>
+    requires problem { IsSeriesProblem (problem_of setting.now) }
+    requires budget { IsBudget budget }
+    ensures shown { IfOk result (λ s. IsShown (problem_of setting.now) s.tree budget s.outcome) }
+    ensures order { IfOk result (λ s. IsInOrder (problem_of setting.now) s.outcome) }
+    ensures bound { IfOk result (λ s. IsBoundOf (problem_of setting.now) s.outcome s.bound) }
+    ensures decided { IfOk result (λ s. 2 ^ (setting.now.forms * size setting.now.bank.now + 1)
+        ≤ budget + 1 → IsDecided s.outcome) }
+{
+    let Searched { forms, tree, bound } = search(
         alloc,
         setting.bank,
         setting.spec,
@@ -52,14 +92,14 @@ fn make(alloc: Global, setting: &Setting, budget: u16) -> Result<Series, Memory>
         budget,
         Kinds::judged(),
     )?;
-    if let Some(tree) = tree {
-        if let Some(outcome) = outcome_shown(setting, forms, &tree, budget) {
-            if is_decided(&outcome) || !has_few_items(setting) {
-                return Ok(Series { outcome, tree });
-            }
-        }
-    }
-    search_fallback(alloc, setting, budget)
+    let Series { outcome, tree } = tested(alloc, setting, forms, tree, budget)?;
+    let outcome = in_order(alloc, outcome)?;
+    let bound = bound_shown(setting, &outcome, bound);
+    Ok(AssembledSeries {
+        outcome,
+        tree,
+        bound,
+    })
 }
 
 /// Assembles a series of so many forms of the plan, 1 to 4, within a budget of nodes, and the tree that shows it. `weights` has the
@@ -71,7 +111,7 @@ pub fn assemble_series(
     weights: &[u32],
     forms: u8,
     budget: u16,
-) -> Result<Series, Memory>
+) -> Result<AssembledSeries, Memory>
     requires problem { IsSeriesProblem
         (record { bank = bank.now; plan = spec.now; weights = weights.now; forms = forms }) }
     requires budget { IsBudget budget }
@@ -83,6 +123,14 @@ pub fn assemble_series(
     ensures is_true { IfOk result (λ s. IsTrueOutcome
         (record { bank = bank.now; plan = spec.now; weights = weights.now; forms = forms })
         s.outcome) }
+    // The forms are in ascending order of their lowest item.
+    ensures order { IfOk result (λ s. IsInOrder
+        (record { bank = bank.now; plan = spec.now; weights = weights.now; forms = forms })
+        s.outcome) }
+    // Beside a series that is not proved best, and nowhere else, there may be a number that the value of no series exceeds.
+    ensures bound { IfOk result (λ s. IsBoundOf
+        (record { bank = bank.now; plan = spec.now; weights = weights.now; forms = forms })
+        s.outcome s.bound) }
     // With enough nodes it decides.
     ensures decided { IfOk result (λ s. 2 ^ (forms * size bank.now + 1) ≤ budget + 1
         → IsDecided s.outcome) }

@@ -1,28 +1,34 @@
 //! The program `shadowd`: it hands the host's files, standard output, the journal's file and, to
-//! serve, the doors of a listener to `run`, and ends with its status. Standard error has lines on
-//! the journal and the address before connections are served, lines on how far a server is, a line
-//! on each object of the host of which a call failed, and why, and a line on a journal that is to be
-//! migrated first.
+//! serve or to follow, the doors of a listener, or, to ship, a door that connects once, to `run`, and
+//! ends with its status. Standard error has lines on the journal and the address before connections
+//! are served, lines on how far a server is, the count and the digest of the records before they are
+//! followed or shipped, a line on each object of the host of which a call failed, and why, and a line
+//! on a journal that is to be migrated first.
 #![tactic(auto)]
 
 ghost use Rattle.std.specs.Prelude.{◌≡◌, ◌≤◌, All, false, vec_len, IfOk};
 ghost use Rattle.std.specs.Process.{exit_status};
 ghost use Rattle.host_edge.specs.HostDoor.{out_of};
 
+mod records;
 mod settings;
+mod streaming;
 mod watch;
 
 use answer_journal::Journal;
 use command_line::VERSION;
 use exam_program::{Finish, World, run};
 use host_edge::{Closing, HostDisk, HostDoor, HostFiles, HostSink};
+use records::{LONGEST, tell_records};
 use settings::{Settings, SettingsFault};
 use std::alloc::AllocError;
 use std::io::ErrorKind;
 use std::net::TcpListener;
 use std::process::ExitCode;
+use std::sync::Wait;
 use std::time::Duration;
 use std::{env, io};
+use streaming::stream_journal;
 use watch::Watch;
 
 /// The status of a server whose token no message can bear.
@@ -36,9 +42,6 @@ const NO_OUTPUT: u8 = 8;
 
 /// The status of a program whose journal is refused.
 const NO_JOURNAL: u8 = 6;
-
-/// The greatest length of a journal, in bytes, whatever the plan.
-const LONGEST: u64 = 536_870_912;
 
 /// The outside of the host.
 type HostWorld = World<HostFiles, HostSink, HostDisk, HostDoor, Watch>;
@@ -61,9 +64,21 @@ fn ask_for_connections(words: &[String]) -> bool {
     words.first().is_some_and(|word| word.as_str() == "serve")
 }
 
-/// Whether the words ask for sessions, of a script or of connections.
+/// Whether the words ask to follow a leader.
+fn ask_to_follow(words: &[String]) -> bool {
+    words.first().is_some_and(|word| word.as_str() == "follow")
+}
+
+/// Whether the words ask to ship to a follower.
+fn ask_to_ship(words: &[String]) -> bool {
+    words.first().is_some_and(|word| word.as_str() == "ship")
+}
+
+/// Whether the words ask for sessions, of a script or of connections, or for records of sessions.
 fn ask_for_sessions(words: &[String]) -> bool {
     words.first().is_some_and(|word| word.as_str() == "replay" || word.as_str() == "serve")
+        || ask_to_follow(words)
+        || ask_to_ship(words)
 }
 
 /// Whether the words ask for an audit.
@@ -81,6 +96,11 @@ fn ask_for_version(words: &[String]) -> bool {
     words.len() == 1 && words[0].as_str() == "version"
 }
 
+/// Whether the words ask to stream the journal of a server: the names of a bank and a plan follow, which are not read.
+fn ask_for_stream(words: &[String]) -> bool {
+    words.len() == 3 && words[0].as_str() == "stream"
+}
+
 /// Prints the version, and gives the status to end with.
 fn print_version(rt: &HostRuntime) -> ExitCode {
     match println!(rt; "shadowd {VERSION}") {
@@ -89,7 +109,7 @@ fn print_version(rt: &HostRuntime) -> ExitCode {
     }
 }
 
-/// The journal's file. An audit only reads it, a server that loses it ends by the flag, and a move makes none.
+/// The journal's file. An audit only reads it, a server that loses it ends by the flag, and a move and a shipper make none.
 fn disk_of(
     rt: &HostRuntime,
     words: &[String],
@@ -99,7 +119,7 @@ fn disk_of(
     let path = settings.journal.clone()?;
     if ask_for_audit(words) {
         Ok(HostDisk::to_read(rt.clone()?, path))
-    } else if ask_for_move(words) {
+    } else if ask_for_move(words) || ask_to_ship(words) {
         Ok(HostDisk::to_change(rt.clone()?, path))
     } else if ask_for_connections(words) {
         Ok(HostDisk::to_serve(rt.clone()?, path, closing.share()?))
@@ -120,14 +140,14 @@ fn address_of(
     }
 }
 
-/// The listener, if the words ask for connections, and where it listens. If the address can't be
-/// had, there is neither, and a line on standard error says why.
+/// The listener, if the words ask for connections or to follow, and where it listens. If the address
+/// can't be had, there is neither, and a line on standard error says why.
 fn listener_of(
     rt: &HostRuntime,
     words: &[String],
     settings: &Settings,
 ) -> Result<(Option<TcpListener>, Option<String>), AllocError> {
-    if !ask_for_connections(words) {
+    if !ask_for_connections(words) && !ask_to_follow(words) {
         return Ok((None, None));
     }
     let listen = settings.listen.as_str();
@@ -143,8 +163,20 @@ fn listener_of(
     }
 }
 
+/// One door alone.
+fn one(rt: &HostRuntime, door: HostDoor) -> Result<Vec<HostDoor>, AllocError>
+    requires { out_of door ≡ false }
+    ensures few { IfOk result (λ doors. vec_len doors ≤ 255) }
+    ensures home { IfOk result (λ doors. All (λ d. out_of d ≡ false) doors.items) }
+{
+    let mut doors = Vec::new(rt.alloc());
+    doors.push(door)?;
+    Ok(doors)
+}
+
 /// The doors of the workers, if the words ask for connections. They share the listener, if there is
-/// one. Each ends by the flag.
+/// one. Each ends by the flag. To follow there is one door of the listener, and to ship one that
+/// connects once.
 fn doors_of(
     rt: &HostRuntime,
     words: &[String],
@@ -155,6 +187,13 @@ fn doors_of(
     ensures few { IfOk result (λ doors. vec_len doors ≤ 255) }
     ensures home { IfOk result (λ doors. All (λ d. out_of d ≡ false) doors.items) }
 {
+    if ask_to_follow(words) {
+        let own = listener.and_then(|listener| listener.try_clone().ok());
+        return one(rt, HostDoor::to_follow(*rt, own));
+    }
+    if ask_to_ship(words) {
+        return one(rt, HostDoor::to_ship(*rt, settings.follower.clone()?));
+    }
     if !ask_for_connections(words) {
         return Ok(Vec::new(rt.alloc()));
     }
@@ -201,15 +240,32 @@ fn begin(rt: &HostRuntime) -> Result<(Settings, Vec<String>, HostWorld, Watch), 
     let closing = Closing::new(rt.alloc())?;
     let (listener, address) = listener_of(rt, &words, &settings)?;
     let doors = doors_of(rt, &words, &settings, &closing, listener.as_ref())?;
+    tell_links(rt, &words, &settings, address.as_ref());
     let watch = Watch::new(rt, settings.journal.clone()?, address)?;
     let world = world_of(rt, &words, &mut settings, &closing, doors, watch.share()?)?;
     Ok((settings, words, world, watch))
 }
 
+/// Writes where a follower listens, if the words ask to follow, and the count and the digest of the
+/// records so far, if they ask to follow or to ship.
+fn tell_links(rt: &HostRuntime, words: &[String], settings: &Settings, address: Option<&String>) {
+    if ask_to_follow(words) || ask_to_ship(words) {
+        tell_records(rt, settings.journal.as_str());
+    }
+    if let (true, Some(address)) = (ask_to_follow(words), address) {
+        let journal = settings.journal.as_str();
+        let _ = eprintln!(rt; "shadowd: following on {address}, journal {journal}");
+    }
+}
+
 /// Writes a line to standard error for each object of the host of which a call failed, and one for
 /// all doors. The journal's file has written its own.
-fn explain(rt: &HostRuntime, settings: &Settings, finish: &HostFinish) {
-    let listen = settings.listen.as_str();
+fn explain(rt: &HostRuntime, words: &[String], settings: &Settings, finish: &HostFinish) {
+    let place = if ask_to_ship(words) {
+        settings.follower.as_str()
+    } else {
+        settings.listen.as_str()
+    };
     if let Some(cause) = finish.files.cause() {
         let name = finish.files.refused().unwrap_or("a file");
         let _ = eprintln!(rt; "shadowd: {name}: {cause}");
@@ -218,7 +274,7 @@ fn explain(rt: &HostRuntime, settings: &Settings, finish: &HostFinish) {
         let _ = eprintln!(rt; "shadowd: standard output: {cause}");
     }
     if let Some(cause) = finish.doors.iter().find_map(|door| door.cause()) {
-        let _ = eprintln!(rt; "shadowd: connections at {listen}: {cause}");
+        let _ = eprintln!(rt; "shadowd: connections at {place}: {cause}");
     }
 }
 
@@ -280,6 +336,23 @@ fn end_before(rt: &HostRuntime, fault: SettingsFault) -> ExitCode {
     }
 }
 
+/// Streams the journal, and gives the status to end with.
+fn stream<R: Wait>(waiting: &R, rt: &HostRuntime, settings: Settings) -> ExitCode {
+    let Settings {
+        journal,
+        listen,
+        follower,
+        workers: _,
+        idle: _,
+        connections: _,
+        token: _,
+    } = settings;
+    match stream_journal(waiting, rt, journal, listen, follower) {
+        Ok(code) => code,
+        Err(_) => ExitCode::from(NO_MEMORY),
+    }
+}
+
 fn main(rt: HostRuntime) -> ExitCode {
     let (settings, words, world, watch) = match begin(&rt) {
         Ok(begun) => begun,
@@ -288,9 +361,12 @@ fn main(rt: HostRuntime) -> ExitCode {
     if ask_for_version(&words) {
         return print_version(&rt);
     }
+    if ask_for_stream(&words) {
+        return stream(&rt, &rt, settings);
+    }
     let mut finish = run(&rt, rt.alloc(), &words, world);
     watch.tell_end();
-    explain(&rt, &settings, &finish);
+    explain(&rt, &words, &settings, &finish);
     explain_version(&rt, &words, &settings, &mut finish);
     exit_code(finish)
 }

@@ -6,13 +6,15 @@ use std::alloc::AllocError;
 use std::env;
 use std::env::VarError;
 
-/// Where the journal is, and how `serve` listens.
+/// Where the journal is, how `serve` and `follow` listen, and where `ship` finds its follower.
 #[derive(Drop)]
 pub struct Settings {
     /// The path of the journal's file.
     pub journal: String,
     /// The address and port to listen at.
     pub listen: String,
+    /// The address and port of the follower that records are shipped to.
+    pub follower: String,
     /// How many connections are served at a time.
     pub workers: u8,
     /// How many seconds a connection waits for the first byte of a message.
@@ -140,13 +142,14 @@ fn token_of(rt: &HostRuntime) -> Result<Option<Vec<u8>>, SettingsFault> {
 }
 
 impl Settings {
-    /// The values of SHADOWD_JOURNAL, SHADOWD_LISTEN, SHADOWD_WORKERS, SHADOWD_IDLE and
-    /// SHADOWD_CONNECTIONS, or what stands for them. To serve, a number that counts as not set has a
+    /// The values of SHADOWD_JOURNAL, SHADOWD_LISTEN, SHADOWD_FOLLOWER, SHADOWD_WORKERS, SHADOWD_IDLE
+    /// and SHADOWD_CONNECTIONS, or what stands for them. To serve, a number that counts as not set has a
     /// line on standard error, and there is the token of SHADOWD_TOKEN.
     pub fn of(rt: &HostRuntime, serves: bool) -> Result<Settings, SettingsFault> {
         Ok(Settings {
             journal: value_or(rt, "SHADOWD_JOURNAL", "shadowd.journal")?,
             listen: value_or(rt, "SHADOWD_LISTEN", "127.0.0.1:4710")?,
+            follower: value_or(rt, "SHADOWD_FOLLOWER", "127.0.0.1:4711")?,
             workers: number_or(rt, "SHADOWD_WORKERS", &WORKERS, serves)? as u8,
             idle: number_or(rt, "SHADOWD_IDLE", &IDLE, serves)?,
             connections: connections_of(rt, serves)?,

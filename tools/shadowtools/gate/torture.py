@@ -172,7 +172,8 @@ def stops(case):
 
 
 USAGE = ("usage: shadowd check BANK PLAN | assemble BANK PLAN | replay BANK PLAN SCRIPT | "
-         "serve BANK PLAN | audit BANK PLAN | drill NUMBER SESSIONS | migrate BANK PLAN")
+         "serve BANK PLAN | audit BANK PLAN | drill NUMBER SESSIONS | migrate BANK PLAN | "
+         "series BANK PLAN K WEIGHTS | follow BANK PLAN | ship BANK PLAN")
 COMMANDS = {"check": 2, "assemble": 2, "replay": 3, "serve": 2, "audit": 2, "migrate": 2}
 OF_A_JOURNAL, WITHOUT_BASE = ("replay", "audit", "serve", "migrate"), ("audit", "migrate")
 ODD_WORDS = ["", "0", "-1", "01", "200", "201", "4294967296", "check", "Check", "--help", "\u00e9"]

@@ -392,7 +392,8 @@ class Facts:
         if word == "no-session":
             return value <= min(request.numbers[0], len(self.sessions))
         if request.kind == "begin":
-            return self.list_refused(*request.numbers, word, value)
+            booking, *listed = request.numbers
+            return bool(listed) and self.list_refused(booking, *listed, word, value)
         session = self.sessions[request.numbers[0]]
         if word == "is-closed":
             return self.model.place(request.numbers[0]).state == value

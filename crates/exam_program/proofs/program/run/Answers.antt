@@ -1,11 +1,11 @@
 use Rattle.std.proofs.Common.{ℕ, Bool, List}
 use Rattle.std.specs.Prelude.{map, string_bytes}
 use Rattle.exam_program.specs.Outside.{outside, disk_seen}
-use Rattle.exam_program.proofs.RunLaws.{run_leaves}
+use Rattle.exam_program.proofs.LinkLaws.{any_leaves}
 use Rattle.exam_program.proofs.program.run.Goals as goal
 
 pub returns-clause-answers : goal.returns-clause-answers
 returns-clause-answers g c = λ told. rw (← c.bytes_of-token.ensures) (c.left_of-left.ensures.answers told)
 
 pub returns-clause-journal : goal.returns-clause-journal
-returns-clause-journal g c = λ told. rw (← c.bytes_of-token.ensures) (run_leaves _ _ _ _ _ _ _ _ (c.left_of-left.ensures.answers told))
+returns-clause-journal g c = λ told. rw (← c.bytes_of-token.ensures) (any_leaves _ _ _ _ _ _ _ _ _ _ (c.left_of-left.ensures.answers told))

@@ -1,5 +1,5 @@
 use Rattle.std.proofs.Common.{◌≡◌, ℕ, List, IsTrue, Some, refl}
-use Rattle.command_line.specs.Commands.{Check, Assemble, command_of}
+use Rattle.command_line.specs.Commands.{Check, Assemble, Series, command_of}
 use Rattle.exam_program.specs.declared.halt.Halt.{Halt}
 use Rattle.exam_program.specs.declared.halt.Halt.TheVariants.{Disk}
 use Rattle.exam_program.specs.Halts.{IsOfNoDisk}
@@ -130,4 +130,39 @@ returns-in-Migrate g c =
       files_tell = c.migrate_journal.ensures.files_tell;
       sink_tells = c.migrate_journal.ensures.sink_tells;
       disk = c.migrate_journal.ensures.disk;
+    }
+
+pub returns-in-Series : goal.returns-in-Series
+returns-in-Series g c =
+    record {
+      ok = let o = λ (disk : DiskSeen). outside (g.F.Files.has c.args.files.now) (g.F.Files.content c.args.files.now) (g.F.Files.faults c.args.files.now) (g.F.Files.faults c.series-done.new.files) disk in
+          let seen = disk_seen g.D.Disk.tells g.D.Disk.content g.D.Disk.accounts g.D.Disk.faults c.args.disk c.args.disk in
+          let untouched = as_it_is g.D.Disk.tells g.D.Disk.content g.D.Disk.accounts g.D.Disk.faults c.args.disk in
+          let told_out = g.O.Sink.tells c.args.out.now in
+          let was = g.O.Sink.written c.args.out.now in
+          let now = g.O.Sink.written c.series-done.new.out in
+          rw c.in-Series.is
+          (on_ok (IsTrue (g.F.Files.tells c.args.files.now) → (words : List (List ℕ)) (disk : DiskSeen) → command_of words ≡ Some (Series c.in-Series.bank.now c.in-Series.plan.now c.in-Series.forms c.in-Series.weights.now) → IsUntouched disk → Prints words (o disk) told_out was now 0)
+          (IsTrue (g.F.Files.tells c.args.files.now) → (words : List (List ℕ)) → command_of words ≡ Some (Series c.in-Series.bank.now c.in-Series.plan.now c.in-Series.forms c.in-Series.weights.now) → Prints words (o seen) told_out was now 0)
+          c.series-done.result (λ printed told words e. printed told words seen e untouched) c.series-done.ensures.ok);
+      err = let o = λ (disk : DiskSeen). outside (g.F.Files.has c.args.files.now) (g.F.Files.content c.args.files.now) (g.F.Files.faults c.args.files.now) (g.F.Files.faults c.series-done.new.files) disk in
+          let seen = disk_seen g.D.Disk.tells g.D.Disk.content g.D.Disk.accounts g.D.Disk.faults c.args.disk c.args.disk in
+          let untouched = as_it_is g.D.Disk.tells g.D.Disk.content g.D.Disk.accounts g.D.Disk.faults c.args.disk in
+          let told_out = g.O.Sink.tells c.args.out.now in
+          let was = g.O.Sink.written c.args.out.now in
+          let now = g.O.Sink.written c.series-done.new.out in
+          rw c.in-Series.is
+          (if_err (λ (h : Halt). IsTrue (g.F.Files.tells c.args.files.now) → (words : List (List ℕ)) (disk : DiskSeen) → command_of words ≡ Some (Series c.in-Series.bank.now c.in-Series.plan.now c.in-Series.forms c.in-Series.weights.now) → IsUntouched disk → Halts words (o disk) told_out was now h)
+          (λ (h : Halt). IsTrue (g.F.Files.tells c.args.files.now) → (words : List (List ℕ)) → command_of words ≡ Some (Series c.in-Series.bank.now c.in-Series.plan.now c.in-Series.forms c.in-Series.weights.now) → Halts words (o seen) told_out was now h)
+          c.series-done.result (λ h halts told words e. halts told words seen e untouched) c.series-done.ensures.err);
+      files = c.series-done.ensures.files;
+      sink = c.series-done.ensures.sink;
+      failed = λ is. absurd (at_err IsOfNoDisk c.series-done.result Disk is c.series-done.ensures.alone);
+      kept = if_err IsOfNoDisk _ c.series-done.result (λ h alone before. refl) c.series-done.ensures.alone;
+      unused = λ _. refl;
+      files_grow = c.series-done.ensures.files_grow;
+      sink_grows = c.series-done.ensures.sink_grows;
+      files_tell = c.series-done.ensures.files_tell;
+      sink_tells = c.series-done.ensures.sink_tells;
+      disk = lent_still g.D.Disk.tells g.D.Disk.identity g.D.Disk.faults c.args.disk;
     }

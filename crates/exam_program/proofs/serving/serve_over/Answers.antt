@@ -1,10 +1,11 @@
 use Rattle.std.proofs.Common.{◌≡◌, ◌∙◌, ℕ, List, length, true, refl, sym, ap, subst, arith}
 use Rattle.std.specs.Option.{option_copied}
+use Rattle.std.proofs.lemmas.List.Elements.{filter_map-append}
 use Rattle.exam_edge.specs.Images.{Account, AllImages, IsSettled, latest}
 use Rattle.form_model.specs.Plan.{Plan}
 use Rattle.history_model.specs.Summaries.{summary}
 use Rattle.exam_office.specs.declared.fault.OpenFault.TheVariants.{Disk as FailedDisk}
-use Rattle.exam_office.specs.Marks.{history, AreCounted}
+use Rattle.exam_office.specs.Marks.{entry_of, history, AreCounted}
 use Rattle.answer_journal.specs.Journal.{accounts_of, faults_of}
 use Rattle.exam_office.specs.Moments.{AreMoments}
 use Rattle.exam_office.specs.Noting.{OpenedWith}
@@ -83,7 +84,8 @@ returns-clause-answers g c = λ words o is same.
       short = opened.short;
       marks = opened.marks;
       same = done.same;
-      begins = done.begins;
+      added = history done.begins.0;
+      extends = ap history done.begins.1 ∙ filter_map-append entry_of old.marks done.begins.0;
       legal = c.keeps.ensures.run;
       doubt = c.keeps.ensures.doubt;
       marks_are = c.keeps.ensures.marks;

@@ -1,11 +1,10 @@
-use Rattle.std.proofs.Common.{sym, ◌∙◌}
-use Rattle.std.proofs.Math.Bool.{true≢false}
+use Rattle.series_check.specs.Cuts.{problem_of}
 use Rattle.form_series.proofs.assembly.make.Goals as goal
-use Rattle.form_series.proofs.assembly.make.Goals.{then-is_decided-via-then-is_decided, then-is_decided-via-else-is_decided+then-not-has_few_items}
 
-pub returns-then-is_decided-clause-decided : goal.returns-then-is_decided-clause-decided
-returns-then-is_decided-clause-decided c large =
-    elim c.then-is_decided.branch [
-      | then-is_decided-via-then-is_decided w ↦ c.is_decided.ensures w.if-is_decided.true
-      | then-is_decided-via-else-is_decided+then-not-has_few_items w ↦ absurd (true≢false (sym (w.has_few_items.ensures c.args.budget large c.requires.budget.high) ∙ w.if-not-has_few_items.true))
-    ]
+pub returns-clause-shown : goal.returns-clause-shown
+returns-clause-shown c =
+    c.in_ok-outcome-2.ensures.shown (problem_of c.args.setting.now) c.in_ok-outcome.field-0.tree c.args.budget c.in_ok-outcome.ensures.shown
+
+pub returns-clause-order : goal.returns-clause-order
+returns-clause-order c =
+    c.in_ok-outcome-2.ensures.order (problem_of c.args.setting.now) c.in_ok-outcome.field-0.tree c.args.budget c.requires.problem.bank c.in_ok-outcome.ensures.shown

@@ -1,0 +1,161 @@
+//! The command `follow`: the records of links into the journal.
+
+ghost use Rattle.std.specs.Prelude.{◌≡◌, ℕ, ◌≤◌, ◌⊎◌, List, All, Some, false, IsTrue};
+ghost use Rattle.answer_journal.specs.Standing.{IsAsLeft};
+ghost use Rattle.bank_tables.specs.Items.{has};
+ghost use Rattle.command_line.specs.Commands.{Follow, command_of};
+ghost use Rattle.exam_edge.specs.Faults.{Rose};
+ghost use Rattle.exam_edge.specs.Lent.{IsLent};
+ghost use Rattle.exam_program.specs.Follows.{AreFollowed, FollowEnds, IsFollowOf};
+ghost use Rattle.exam_program.specs.Linked.{HasFailedFirst, IsStatusOfAny};
+ghost use Rattle.exam_program.specs.Outcomes.{Ends, IsStatusBefore};
+ghost use Rattle.exam_program.specs.Outside.{Outside, disk_seen, outside};
+ghost use Rattle.exam_serve.specs.Doors.{AreLent, HasFailedDoor};
+ghost use Rattle.form_model.specs.Forms.{Meets};
+ghost use Rattle.form_model.specs.Validity.{IsPlanFor};
+
+use crate::link_ends::end_following;
+use crate::linking::ready_in;
+use crate::replay::halt_of_opening;
+use crate::report::report;
+use crate::serving::Left;
+use bank_tables::{Bank, ItemSet};
+use constraint_model::Spec;
+use exam_edge::{Disk, Door, Files, Sink};
+use exam_follower::Follower;
+use record_doors::follow_first;
+use std::alloc::Global;
+use std::sync::Wait;
+
+/// Opens a follower on a disk, takes the records of the links of the first door into it, and prints how that ended.
+fn follow_over<'a, R: Wait, O: Sink, D: Disk, L: Door>(
+    rt: &R,
+    alloc: Global,
+    bank: &'a Bank,
+    spec: &'a Spec,
+    base: &ItemSet,
+    out: &mut O,
+    disk: D,
+    doors: Vec<L>,
+) -> Left<D, L>
+    requires plan { IsPlanFor bank.now spec.now }
+    requires base { Meets bank.now spec.now (has base.now) }
+    requires home { All (λ d. L.is_out d ≡ false) doors.items }
+    requires left { IsTrue (D.tells disk) → IsAsLeft (D.accounts disk) }
+    ensures answers { (words : List (List ℕ)) (o : Outside)
+        → IsFollowOf words o bank.now spec.now base.now
+        → o.disk ≡ disk_seen D.tells D.content D.accounts D.faults disk result.disk
+        → ((result.doors ≡ doors)
+        × Ends words o (O.tells out.old) (O.written out.old) (O.written out.new) result.status)
+        ⊎ FollowEnds (AreFollowed L.tells L.coming L.returned L.is_out L.faults L.identity
+        L.Link.tells L.Link.left L.Link.written L.Link.faults L.Link.identity doors.items
+        result.doors.items)
+        words o (O.tells out.old) (O.written out.old) (O.written out.new) result.status }
+    ensures door { result.status ≡ 14 → HasFailedDoor L.faults doors.items result.doors.items }
+    ensures link { result.status ≡ 19 → HasFailedFirst L.tells L.coming L.returned L.is_out
+        L.faults L.identity L.Link.faults doors.items result.doors.items }
+    ensures sink { result.status ≡ 8 → Rose (O.faults out.old) (O.faults out.new) }
+    ensures failed { result.status ≡ 9 → Rose (D.faults disk) (D.faults result.disk) }
+    ensures opened { IsStatusBefore result.status → ⊥ }
+    ensures status { IsStatusOfAny result.status }
+    ensures grows { O.faults out.old ≤ O.faults out.new }
+    ensures tells { O.tells out.new ≡ O.tells out.old }
+    ensures disk { IsLent D.tells D.identity D.faults disk result.disk }
+    ensures doors { AreLent L.tells L.identity L.faults L.is_out doors.items result.doors.items }
+{
+    let follower = match Follower::open(alloc, bank, spec, *base, disk) {
+        Ok(follower) => follower,
+        Err((disk, fault)) => {
+            let status = report(alloc, out, halt_of_opening(fault));
+            return Left {
+                disk,
+                doors,
+                status,
+            };
+        }
+    };
+    let mut follower = follower;
+    let mut doors = doors;
+    let end = follow_first(rt, alloc, &mut follower, &mut doors);
+    // What the types of a follower and of its office keep.
+    follower.keeps();
+    let office = follower.promote();
+    office.keeps();
+    let count = office.records();
+    let summary = office.summary();
+    let disk = office.into_disk();
+    let status = end_following(alloc, out, spec.journal(), end, count, &summary);
+    Left {
+        disk,
+        doors,
+        status,
+    }
+}
+
+/// Takes the records of the links of the first door into the journal on a disk, and prints how that ended. It gives the disk
+/// and the doors back.
+pub(crate) fn follow<R: Wait, F: Files, O: Sink, D: Disk, L: Door>(
+    rt: &R,
+    alloc: Global,
+    files: &mut F,
+    out: &mut O,
+    disk: D,
+    doors: Vec<L>,
+    bank: &str,
+    plan: &str,
+) -> Left<D, L>
+    requires home { All (λ d. L.is_out d ≡ false) doors.items }
+    requires left { IsTrue (D.tells disk) → IsAsLeft (D.accounts disk) }
+    ensures answers { IsTrue (F.tells files.old) → (words : List (List ℕ))
+        → command_of words ≡ Some (Follow bank.now plan.now)
+        → ((result.doors ≡ doors)
+        × Ends words (outside (F.has files.old) (F.content files.old) (F.faults files.old)
+        (F.faults files.new)
+        (disk_seen D.tells D.content D.accounts D.faults disk result.disk))
+        (O.tells out.old) (O.written out.old) (O.written out.new) result.status)
+        ⊎ FollowEnds (AreFollowed L.tells L.coming L.returned L.is_out L.faults L.identity
+        L.Link.tells L.Link.left L.Link.written L.Link.faults L.Link.identity doors.items
+        result.doors.items)
+        words (outside (F.has files.old) (F.content files.old) (F.faults files.old)
+        (F.faults files.new)
+        (disk_seen D.tells D.content D.accounts D.faults disk result.disk))
+        (O.tells out.old) (O.written out.old) (O.written out.new) result.status }
+    ensures door { result.status ≡ 14 → HasFailedDoor L.faults doors.items result.doors.items }
+    ensures link { result.status ≡ 19 → HasFailedFirst L.tells L.coming L.returned L.is_out
+        L.faults L.identity L.Link.faults doors.items result.doors.items }
+    ensures files { result.status ≡ 7 → Rose (F.faults files.old) (F.faults files.new) }
+    ensures sink { result.status ≡ 8 → Rose (O.faults out.old) (O.faults out.new) }
+    ensures failed { result.status ≡ 9 → Rose (D.faults disk) (D.faults result.disk) }
+    ensures kept { IsStatusBefore result.status → result.disk ≡ disk }
+    ensures usage { result.status ≡ 2 → ⊥ }
+    ensures status { IsStatusOfAny result.status }
+    ensures files_grow { F.faults files.old ≤ F.faults files.new }
+    ensures sink_grows { O.faults out.old ≤ O.faults out.new }
+    ensures files_tell { F.tells files.new ≡ F.tells files.old }
+    ensures sink_tells { O.tells out.new ≡ O.tells out.old }
+    ensures disk { IsLent D.tells D.identity D.faults disk result.disk }
+    ensures doors { AreLent L.tells L.identity L.faults L.is_out doors.items result.doors.items }
+{
+    let ready = match ready_in(alloc, files, bank, plan) {
+        Ok(ready) => ready,
+        Err(halt) => {
+            let status = report(alloc, out, halt);
+            return Left {
+                disk,
+                doors,
+                status,
+            };
+        }
+    };
+    let exam = &ready.exam;
+    follow_over(
+        rt,
+        alloc,
+        &exam.bank,
+        &exam.spec,
+        &ready.base,
+        out,
+        disk,
+        doors,
+    )
+}

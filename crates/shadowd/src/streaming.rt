@@ -1,0 +1,84 @@
+//! The stream of a journal that a server writes meanwhile.
+
+use host_stream::{HostFollower, HostJournal};
+use journal_stream::{JournalTail, stream_door};
+use record_doors::DoorEnd;
+use record_links::{Followed, PeerFault};
+use std::alloc::AllocError;
+use std::process::ExitCode;
+use std::sync::Wait;
+
+/// The text and the status of a stream that ended.
+#[derive(Clone, Copy)]
+struct Ended {
+    text: &'static str,
+    status: u8,
+}
+
+const NO_DISK: Ended = Ended {
+    text: "disk failed",
+    status: 9,
+};
+
+const NO_LINK: Ended = Ended {
+    text: "link failed",
+    status: 19,
+};
+
+const NO_PEER: Ended = Ended {
+    text: "peer message",
+    status: 20,
+};
+
+/// The status of a program whose standard output failed.
+const NO_OUTPUT: u8 = 8;
+
+/// How a stream ended.
+fn ended_of(end: DoorEnd) -> Ended {
+    match end {
+        DoorEnd::Ended(Followed::Disk) => NO_DISK,
+        DoorEnd::Ended(Followed::Memory) => Ended {
+            text: "no memory",
+            status: 10,
+        },
+        DoorEnd::Ended(Followed::Peer(_)) => NO_PEER,
+        _ => NO_LINK,
+    }
+}
+
+/// Writes a line to standard error on what the follower did.
+fn explain_peer(rt: &HostRuntime, end: DoorEnd) {
+    let DoorEnd::Ended(Followed::Peer(fault)) = end else {
+        return;
+    };
+    let _ = match fault {
+        PeerFault::Above(count) => {
+            eprintln!(rt; "shadowd: the follower has {count} records, more than this journal")
+        }
+        PeerFault::Kind(kind) => {
+            eprintln!(rt; "shadowd: the follower sent a message of kind {kind}, and no count")
+        }
+        _ => eprintln!(rt; "shadowd: the follower sent no count"),
+    };
+}
+
+/// Streams the journal of the server at an address to a follower at another, until it fails.
+pub fn stream_journal<R: Wait>(
+    waiting: &R,
+    rt: &HostRuntime,
+    journal: String,
+    server: String,
+    follower: String,
+) -> Result<ExitCode, AllocError> {
+    let file = HostJournal::of(rt.clone()?, journal, server);
+    let mut door = HostFollower::of(rt.clone()?, follower);
+    let mut log = JournalTail::new(file);
+    let end = stream_door(waiting, rt.alloc(), &mut log, &mut door);
+    let _ = log.into_file();
+    explain_peer(rt, end);
+    let Ended { text, status } = ended_of(end);
+    match println!(rt; "{text}") {
+        Ok(()) => Ok(ExitCode::from(status)),
+        Err(_) => Ok(ExitCode::from(NO_OUTPUT)),
+    }
+}
