@@ -46,20 +46,25 @@ def records_of(data):
     return count
 
 
-def front_of(data):
-    """The bytes of a journal up to its first closed gate."""
+def end_of(data):
+    """The place of the first closed gate of a journal; it is after the end of a file whose last record is cut."""
     at = HEADER
     while at < len(data) and data[at] == 1:
         at += 5 + int.from_bytes(data[at + 1:at + 5], "big")
-    return data[:at]
+    return at
+
+
+def front_of(data):
+    """The bytes of a journal up to its first closed gate."""
+    return data[:end_of(data)]
 
 
 class Relay:
-    """Carries the bytes between a shipper and the follower at a port, and notes the greatest have."""
+    """Carries the bytes between a shipper, or a stream, and the follower at a port, and notes the greatest have."""
 
     def __init__(self):
         self.listener = socket.create_server(("127.0.0.1", 0))
-        self.port, self.target, self.most, self.haves = self.listener.getsockname()[1], None, 0, 0
+        self.port, self.target, self.most, self.haves, self.fault = self.listener.getsockname()[1], None, 0, 0, None
         threading.Thread(target=self.serve, daemon=True).start()
 
     def serve(self):
@@ -92,24 +97,22 @@ class Relay:
     def note(self, haves):
         while len(haves) >= HAVE:
             if haves[0] != 2:
-                raise Wrong(f"the follower wrote {bytes(haves[:HAVE]).hex()}, which is no have")
+                self.fault = f"the follower wrote {bytes(haves[:HAVE]).hex()}, which is no have"
+                raise Wrong(self.fault)
             self.most, self.haves = max(self.most, int.from_bytes(haves[1:HAVE], "big")), self.haves + 1
             del haves[:HAVE]
 
 
-class Pair:
+class Sides:
     """A leader's journal and a follower's, in a folder with their bank and plan."""
 
-    def __init__(self, program, folder, sessions, draw):
+    def __init__(self, program, folder, draw):
         self.program, self.folder, self.draw, self.seen = program, folder, draw, collections.Counter()
         self.texts = [os.path.join(folder, name) for name in ("bank.csv", "plan.txt")]
         for path in self.texts:
             shutil.copy(os.path.join(DATA, os.path.basename(path)), path)
         self.leader, self.follower = (os.path.join(folder, name) for name in ("leader.journal", "follower.journal"))
-        status, _ = run(program, folder, script_of(sessions, draw), self.leader)
-        if status != 0:
-            raise Wrong(f"the leader's examination ended with status {status}")
-        self.whole, self.relay, self.following = self.data(self.leader), Relay(), None
+        self.relay, self.following = Relay(), None
 
     def data(self, path):
         if not os.path.exists(path):
@@ -132,26 +135,12 @@ class Pair:
                 return
         raise Wrong(f"the follower ended with {self.following.wait(LIMIT)} before it listened")
 
-    def ship(self):
-        return self.start("ship", self.leader, SHADOWD_FOLLOWER=f"127.0.0.1:{self.relay.port}")
-
     def end(self, process, name, statuses):
         """Waits for the end of a process, which has to have one of these statuses."""
         printed, told = process.communicate(timeout=LIMIT)
         if process.returncode not in statuses:
             raise Wrong(f"{name} ended with {process.returncode}: {printed!r}, {told[-300:]!r}")
         return printed
-
-    def compare(self, when):
-        """Demands that the follower's file is a beginning of the leader's, and has each record below a have."""
-        if self.data(self.leader) != self.whole:
-            raise Wrong(f"{when}: the leader's file has changed")
-        found = self.data(self.follower)
-        front = front_of(found) if found else b""
-        if not self.whole.startswith(front):
-            raise Wrong(f"{when}: the follower's file is no beginning of the leader's")
-        if records_of(found) < self.relay.most:
-            raise Wrong(f"{when}: the follower answered {self.relay.most} and has {records_of(found)} records")
 
     def take_over(self, when):
         """Goes on with a copy of the follower's file, as its operator would after the leader is lost."""
@@ -173,6 +162,31 @@ class Pair:
         done = subprocess.run([self.program, "audit", *self.texts], env=dict(os.environ, SHADOWD_JOURNAL=journal),
                               stdin=subprocess.DEVNULL, stdout=subprocess.PIPE, stderr=subprocess.PIPE, timeout=LIMIT, check=False)
         return done.returncode, done.stdout.decode("ascii")
+
+
+class Pair(Sides):
+    """The leader's journal is that of an examination that has ended, and is shipped."""
+
+    def __init__(self, program, folder, sessions, draw):
+        super().__init__(program, folder, draw)
+        status, _ = run(program, folder, script_of(sessions, draw), self.leader)
+        if status != 0:
+            raise Wrong(f"the leader's examination ended with status {status}")
+        self.whole = self.data(self.leader)
+
+    def ship(self):
+        return self.start("ship", self.leader, SHADOWD_FOLLOWER=f"127.0.0.1:{self.relay.port}")
+
+    def compare(self, when):
+        """Demands that the follower's file is a beginning of the leader's, and has each record below a have."""
+        if self.data(self.leader) != self.whole:
+            raise Wrong(f"{when}: the leader's file has changed")
+        found = self.data(self.follower)
+        front = front_of(found) if found else b""
+        if not self.whole.startswith(front):
+            raise Wrong(f"{when}: the follower's file is no beginning of the leader's")
+        if records_of(found) < self.relay.most:
+            raise Wrong(f"{when}: the follower answered {self.relay.most} and has {records_of(found)} records")
 
     def run_whole(self):
         """A shipment that nobody kills."""
