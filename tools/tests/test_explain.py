@@ -1,4 +1,4 @@
-"""Why a plan has no form, beside all sets of items; and the gap of an unproved form."""
+"""Why a plan has no form, or no series, beside all sets of items; and the gap of an unproved form."""
 import itertools
 import os
 import random
@@ -7,20 +7,29 @@ import subprocess
 import sys
 import unittest
 
+import check_series
 import check_tree
 import data_of_bank_a as a
 from common import PROGRAM, TOOLS, Folder, needs_program
 from examination import BankItem, plan_of
-from explain import Program, clash, greatest_bound, without
+from explain import Program, clash, greatest_bound, used_by_series, without
 from shadowtools.agency.clash_distance import distance
+from shadowtools.agency.program import alike
+from shadowtools.command import Refused
 
-# A program that has `assemble` alone: it tries all sets of items.
+# A program that has `assemble` and `series` alone: it tries all sets of items. Its tree of no series names nothing.
 BY_ALL_SETS = """import sys
 sys.path.insert(0, %r)
 import check_tree
 bank = check_tree.read_bank(sys.argv[2])
 plan = check_tree.read_plan(sys.argv[3], bank)
 problem = check_tree.Problem(bank, plan, 0, frozenset(), frozenset(), None)
+if sys.argv[1] == "series":
+    import check_series
+    of = check_series.Problem(bank, plan, *check_series.numbers_of(sys.argv[5], sys.argv[4], bank))
+    best = check_series.best_value(of)
+    print("no series 0005" if best is None else f"series {of.count} value {best} proved nodes 1")
+    sys.exit(17 if best is None else 0)
 best = check_tree.best_of_all(problem)
 if best is None:
     print("no form 0006")
@@ -34,6 +43,18 @@ CLASHES = [
     ("count 0 1 0-2\ncount 0 1 3-5\nenemies 0 5\n", ["count 0 1 0-2", "count 0 1 3-5"]),
     ("count 1 2 0\ncount 1 2 1\nenemies 0-1\ncount 0 9 0-5\n", ["count 1 2 0", "count 1 2 1", "enemies 0-1"]),
     ("count 3 3 5\ncount 1 1 0-1\n", ["count 3 3 5"]),
+]
+# Numbers of forms of two items of the same six, rules, those that can't be met together, and what a count shows of them.
+TIMES = "{0} forms have {0} times the length and {0} times the bounds of one. "
+SERIES_CLASHES = [
+    (3, "count 1 2 0-1\ncount 0 2 3-5\n", ["count 1 2 0-1"], TIMES.format(3) + "The set of line 3 has 2 items, its low bound is 3."),
+    (3, "count 0 1 0-3\ncount 0 2 4-5\n", ["count 0 1 0-3"],
+     TIMES.format(3) + "Only 2 items are outside of the set of line 3: a test of 6 has at least 4 of it, its high bound is 3."),
+    (2, "count 1 2 0-1\ncount 1 2 2-3\ncount 0 1 0-3\n", ["count 1 2 0-1", "count 1 2 2-3", "count 0 1 0-3"],
+     "The low bounds of lines 3 and 4 ask for at least 2 items of the set of line 5, whose high bound is 1."),
+    (4, "count 0 2 0-1\n", [], "The bank has 6 items, 4 forms of 2 items have 8."),
+    (2, "count 1 1 0-2\nenemies 0 3\nenemies 0 4\nenemies 0 5\ncount 1 2 0\n", ["count 1 2 0"],
+     TIMES.format(2) + "The set of line 7 has 1 items, its low bound is 2."),
 ]
 
 
@@ -88,6 +109,51 @@ class Clash(Folder):
         self.write("plan", a.PLAN)
         status, said, _ = self.tool("explain", "bank", "plan", "--program", self.path("all_sets"))
         self.assertEqual((status, said[:24]), (0, "This form is proved best"))
+
+    def test_no_series(self):
+        """By all sets: what is kept has no series, and has one without any rule of it."""
+        self.series_explained(self.path("all_sets"))
+
+    @needs_program
+    def test_no_series_with_the_program(self):
+        self.series_explained(PROGRAM)
+
+    def series_explained(self, path):
+        program = Program(path, self.path("bank"))
+        for count, rules, wanted, far in SERIES_CLASHES:
+            with self.subTest(rules):
+                text = "length 2\nprior -10 0 -10\n" + rules
+                self.write("plan", text)
+                status, said, errors = self.tool("explain", "bank", "plan", "--series", str(count), "--program", path)
+                self.assertEqual((status, errors), (17, ""))
+                self.assertEqual(re.findall(r"(?m)^  line \d+: (.*)$", said), wanted)
+                self.assertIn(far + "\n", said)
+                kept = [rule for rule in plan_of(text).rules if rule.text in wanted]
+                for fewer in itertools.combinations(kept, len(kept) - 1) if kept else ():
+                    self.assertEqual(program.series(without(text, plan_of(text).rules, fewer), count)[0], 0)
+
+    def test_a_series_that_is_there(self):
+        self.write("plan", "length 2\nprior -10 0 -10\ncount 1 2 0-2\n")
+        status, said, _ = self.tool("explain", "bank", "plan", "--series", "3", "--program", self.path("all_sets"))
+        self.assertEqual((status, said[:49]), (0, "The plan has 3 forms without common items. shadow"))
+        self.assertEqual(self.tool("explain", "bank", "plan", "--series", "5")[0], 2)
+
+    def test_the_bank_of_equal_items(self):
+        """It has the grid and all else of the bank, and the information 1."""
+        text, points = alike(a.BANK)
+        self.assertEqual((text.splitlines()[:2], points), ([a.BANK.splitlines()[0], "0,0,2,1,1,1,-7,-7,-7,-7,-7,-7"], 3))
+
+    def test_rules_that_a_series_tree_names(self):
+        """A ray of two forms names the sides 3 and 4 of rows, in the second form 9, and the length; a count names the fourth row; a bound names none."""
+        rules = plan_of("count 0 1 0\ncount 0 1 1\nstimulus 1 1 2\ncount 0 1 2\ncount 0 1 3\ncount 0 1 4\n").rules
+        first, second = check_series.ROWS, check_series.ROWS + 384
+        vectors = [{0: 5, first: 1}, {first + 3: 1, first + 4: 2, second + 9: 1, check_series.LENGTHS: 3}]
+        nodes = [(check_series.USE, 0), (check_series.RAY, 1), (check_series.TWIN, 0, 1), (check_series.BOUND, 0), (check_series.COUNT, 1, 4)]
+        tree = check_series.write_tree(vectors, nodes).hex()
+        self.assertEqual([rule.line for rule in used_by_series(tree, rules, False)], [2, 4, 5, 6])
+        self.assertEqual([rule.line for rule in used_by_series(tree, rules, True)], [2, 3, 4, 5, 6])
+        with self.assertRaises(Refused):
+            used_by_series("00", rules, False)
 
     def test_a_program_that_is_not_there(self):
         self.write("plan", a.PLAN)
@@ -144,6 +210,20 @@ class Distance(unittest.TestCase):
                 values = [rule.value(one, BANK_OF_SEVEN) for one in tests]
                 self.assertEqual(int(re.search(r"at \w+ (\d+)", found).group(1)), min(values) if "least" in found else max(values))
         self.assertGreater(said, 500)
+
+    def test_series_beside_all_sets(self):
+        """Of 1,500 drawn plans and numbers of forms, one with a sentence has no such forms without common items."""
+        rng, said = random.Random(18), [0] * 5
+        for _ in range(1500):
+            length, forms = rng.randint(1, 3), rng.randint(2, 4)
+            rules = plan_of("".join(self.rule(rng) for _ in range(rng.randint(1, 3)))).rules
+            if not distance(rules, BANK_OF_SEVEN, length, forms) or distance(rules, BANK_OF_SEVEN, length):
+                continue
+            said[forms] += forms * length <= 7
+            tests = [one for one in itertools.combinations(range(7), length) if all(rule.met(one, BANK_OF_SEVEN) for rule in rules)]
+            found = [some for some in itertools.combinations(tests, forms) if len(set().union(*some)) == forms * length]
+            self.assertFalse(found, (distance(rules, BANK_OF_SEVEN, length, forms), rules))
+        self.assertGreater(min(said[2:]), 20)
 
     def rule(self, rng):
         items = " ".join(map(str, sorted(rng.sample(range(7), rng.randint(1, 5)))))

@@ -1,9 +1,11 @@
 """How far rules that cannot be met together are from a form, where a count shows it: a sentence, or nothing.
 
 Each sentence is a proof by itself that no set of items meets the rules. A clash that takes more than such a count has none.
+Forms without common items have together so many times the length, and so many times the bounds of each rule on items.
 """
-from dataclasses import dataclass
-from typing import Collection, FrozenSet, List, Optional, Sequence
+from collections import Counter
+from dataclasses import dataclass, replace
+from typing import Collection, FrozenSet, Iterator, List, Optional, Sequence
 
 from shadowtools.formats.examination import BankItem, Rule
 
@@ -17,18 +19,31 @@ class Count:
     line: int = 0
 
 
-def distance(rules: Sequence[Rule], bank: Sequence[BankItem], length: int) -> Optional[str]:
-    """The first sentence that shows that no test of this length meets all rules."""
+def distance(rules: Sequence[Rule], bank: Sequence[BankItem], length: int, forms: int = 1) -> Optional[str]:
+    """The first sentence that shows that no test of this length meets all rules, or no so many forms without common items."""
+    alone = next(filter(None, sentences(rules, bank, length)), None) or passages_out_of_reach(rules, bank, length)
+    if alone or forms == 1:
+        return alone
+    if len(bank) < forms * length:
+        return f"The bank has {len(bank)} items, {forms} forms of {length} items have {forms * length}."
+    of_all = [replace(rule, low=forms * rule.low, high=forms * rule.high) for rule in rules]
+    found = next(filter(None, sentences(of_all, bank, forms * length)), None)
+    if found:
+        return f"{forms} forms have {forms} times the length and {forms} times the bounds of one. {found}"
+    return passages_shared(rules, bank, forms)
+
+
+def sentences(rules: Sequence[Rule], bank: Sequence[BankItem], length: int) -> Iterator[Optional[str]]:
+    """What sums and counts of items show, in order."""
     whole = Count(frozenset(range(len(bank))), length, length)
     counts = [Count(rule.members, rule.low, rule.high, rule.line) for rule in rules if rule.kind in ("count", "enemies")]
-    said = [sum_out_of_reach(rule, bank, length) for rule in rules if rule.kind == "quantity"]
-    said += [count_out_of_reach(count, len(bank), length) for count in counts]
+    yield from (sum_out_of_reach(rule, bank, length) for rule in rules if rule.kind == "quantity")
+    yield from (count_out_of_reach(count, len(bank), length) for count in counts)
     for one in [whole] + counts:
         others = [other for other in counts if other is not one]
         if are_disjoint(others):
-            said += [lows_above(one, others), highs_below(one, others)]
-    said.append(passages_out_of_reach(rules, bank, length))
-    return next(filter(None, said), None)
+            yield lows_above(one, others)
+            yield highs_below(one, others)
 
 
 def are_disjoint(counts: Sequence[Count]) -> bool:
@@ -97,6 +112,18 @@ def passages_out_of_reach(rules: Sequence[Rule], bank: Sequence[BankItem], lengt
         most = sum(highs[len(highs) - min(rule.high, len(highs)):]) + free
         if most < length:
             return f"{rule.high} passages and the {free} items without one are at most {most} items, the length is {length}."
+    return None
+
+
+def passages_shared(rules: Sequence[Rule], bank: Sequence[BankItem], forms: int) -> Optional[str]:
+    """A number of passages that so many forms without common items cannot have: each form needs items of its own of a passage."""
+    bounds = {rule.number: max(1, rule.low) for rule in rules if rule.kind == "stimulus"}
+    sizes = Counter(item.passage for item in bank if item.passage)
+    most = sum(min(forms, size // bounds.get(passage, 1)) for passage, size in sizes.items())
+    for rule in (rule for rule in rules if rule.kind == "stimuli"):
+        if most < forms * rule.low:
+            return (f"The passages have items for {most} choices of a passage, {forms} forms choose at least "
+                    f"{forms * rule.low} by line {rule.line}.")
     return None
 
 

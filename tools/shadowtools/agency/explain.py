@@ -1,6 +1,6 @@
-"""Why a plan has no form; and how far from the best an unproved form can be.
+"""Why a plan has no form, or no series of forms; and how far from the best an unproved form can be.
 
-usage: explain.py BANK PLAN [--map MAP] [--program SHADOWD]      default $SHADOWD, else crates/shadowd/out/shadowd
+usage: explain.py BANK PLAN [--series K] [--map MAP] [--program SHADOWD]      default $SHADOWD, else crates/shadowd/out/shadowd
 
 It runs `shadowd assemble`. Where no set of items meets the plan (status 11), it leaves out one rule after the
 other for as long as there is still no form. The rules that stay cannot be met together, and without any one of them
@@ -9,22 +9,28 @@ sentence has how far the rules are from a form ("the low bounds add up to 21, th
 Where a form is unproved, it reads the proof tree. Each open leaf has a bound; the greatest of them bounds all forms.
 The gap is what the best form can inform more than this one.
 
+With --series it does the first for K forms without common items (status 17 of `shadowd series`): it begins with the rules that the
+rays and counts of the series tree name. Each step is a proved `no series`. The weights and the information play no part, so it asks
+with a bank whose items inform alike.
+
 Rules are named by the remark above them in the plan, as irt_bank.py writes it. With --map the gap is in units of
-information. Exit status: 0 where there is a form, 11 where there is none, 12 where none was found, 1 where the files
-are refused.
+information. Exit status: 0 where there is a form or a series, 11 where there is no form, 12 where none was found, 17 where there is
+no series, 18 where none was found, 1 where the files are refused.
 """
 import argparse
 import sys
-from typing import List, Optional, Sequence, TextIO, Tuple
+from typing import Callable, Iterable, List, Optional, Sequence, Set, TextIO, Tuple
 
 from shadowtools.agency.clash_distance import distance
-from shadowtools.agency.program import DONE, NO_FORM, NOT_FOUND, Form, Program, form_of
-from shadowtools.checkers import check_tree
+from shadowtools.agency.program import DONE, NO_FORM, NO_SERIES, NO_SERIES_FOUND, NOT_FOUND, Form, Program, form_of
+from shadowtools.checkers import check_series, check_tree
 from shadowtools.command import Refused, as_command
 from shadowtools.formats.examination import BankItem, Rule, plan_of, read_bank, read_map
 from shadowtools.formats.tables import text_of
-from shadowtools.options import Options
+from shadowtools.options import Options, whole
 from shadowtools.places import BUILT
+
+SIDES_OF_A_FORM = 384   # the sides of rows and passages that a series tree numbers for each form
 
 
 # ---------------------------------------------------------------- no form
@@ -43,43 +49,76 @@ def used_by(tree: str, rules: Sequence[Rule], passages: bool) -> List[Rule]:
         vectors, nodes, _ = check_tree.read_tree(bytes.fromhex(tree))
     except (check_tree.Fault, ValueError) as fault:
         raise Refused(f"shadowd assemble printed no proof tree: {fault}")
-    rows = [rule for rule in rules if rule.kind != "stimulus"]
-    found = {rule.line for rule in rules if rule.kind == "stimulus" and passages}
     numbers = {side // 2 + 1 for kind, value in nodes if kind == check_tree.RAY for side in vectors[value]}
     numbers |= {value for kind, value in nodes if kind == check_tree.COUNT}
+    return named_by(numbers, rules, passages)
+
+
+def named_by(numbers: Iterable[int], rules: Sequence[Rule], passages: bool) -> List[Rule]:
+    """The rules whose rows have these numbers, from 1, and those of all passages where `passages`."""
+    rows = [rule for rule in rules if rule.kind != "stimulus"]
+    found = {rule.line for rule in rules if rule.kind == "stimulus" and passages}
     found |= {rows[number - 1].line for number in numbers if 1 <= number <= len(rows)}
     return [rule for rule in rules if rule.line in found]
 
 
+def used_by_series(tree: str, rules: Sequence[Rule], passages: bool) -> List[Rule]:
+    """The rules that the rays and the counts of a series tree name, in any form."""
+    try:
+        vectors, nodes, _ = check_series.read_tree(bytes.fromhex(tree))
+    except (check_tree.Fault, ValueError) as fault:
+        raise Refused(f"shadowd series printed no series tree: {fault}")
+    numbers: Set[int] = set()
+    for kind, *fields in nodes:
+        if kind == check_series.COUNT:
+            numbers.add(fields[1])
+        if kind == check_series.RAY:
+            sides = [side - check_series.ROWS for side in vectors[fields[0]] if check_series.ROWS <= side < check_series.LENGTHS]
+            numbers |= {side % SIDES_OF_A_FORM // 2 + 1 for side in sides}
+    return named_by(numbers, rules, passages)
+
+
 def clash(program: Program, text: str, tree: str) -> Tuple[List[Rule], int]:
-    """An irreducible set of rules that cannot be met together, by leaving out one after the other; and the number of all rules."""
+    """An irreducible set of rules that no form meets together, and the number of all rules."""
+    return irreducible(text, lambda rules, passages: used_by(tree, rules, passages), lambda plan: program.assemble(plan)[0] == NO_FORM)
+
+
+def series_clash(program: Program, text: str, tree: str, count: int) -> Tuple[List[Rule], int]:
+    """An irreducible set of rules that so many forms without common items don't meet, and the number of all rules."""
+    return irreducible(text, lambda rules, passages: used_by_series(tree, rules, passages),
+                       lambda plan: program.series(plan, count)[0] == NO_SERIES)
+
+
+def irreducible(text: str, named: Callable[[Sequence[Rule], bool], List[Rule]], has_none: Callable[[str], bool]) -> Tuple[List[Rule], int]:
+    """The rules that stay where one after the other is left out for as long as the plan `has_none`; and the number of all rules."""
     rules = plan_of(text).rules
     kept = list(rules)
-    guess = used_by(tree, rules, any(rule.kind == "stimulus" for rule in rules))
-    if len(guess) < len(kept) and program.assemble(without(text, rules, guess))[0] == NO_FORM:
+    guess = named(rules, any(rule.kind == "stimulus" for rule in rules))
+    if len(guess) < len(kept) and has_none(without(text, rules, guess)):
         kept = guess
     for rule in reversed(list(kept)):
         fewer = [one for one in kept if one is not rule]
-        if program.assemble(without(text, rules, fewer))[0] == NO_FORM:
+        if has_none(without(text, rules, fewer)):
             kept = fewer
     return kept, len(rules)
 
 
-def print_clash(kept: Sequence[Rule], of: int, length: int, bank: Sequence[BankItem], out: Optional[TextIO] = None) -> None:
-    """The rules that clash, and how far they are from a form, where a count shows it."""
-    if not kept:
-        print(f"No set of {length} items is a form by the length alone.", file=out)
-        return
-    print(f"These {len(kept)} of {of} rules cannot be met together in a test of {length} items:", file=out)
+def print_clash(kept: Sequence[Rule], of: int, length: int, bank: Sequence[BankItem], out: Optional[TextIO] = None, forms: int = 1) -> None:
+    """The rules that clash, and how far they are from a form, or from so many forms, where a count shows it."""
+    of_what = f"a test of {length} items" if forms == 1 else f"{forms} forms of {length} items without common items"
+    far = distance(kept, bank, length, forms)
+    if kept:
+        print(f"These {len(kept)} of {of} rules cannot be met together in {of_what}:", file=out)
+    else:
+        print(f"No set of {length} items is a form by the length alone." if forms == 1 else f"The length alone rules out {of_what}.", file=out)
     for rule in kept:
         extra = "" if rule.label == rule.text else f"   {rule.label}"
         text = rule.text if len(rule.text) <= 60 else rule.text[:57] + "..."
         print(f"  line {rule.line}: {text}{extra}", file=out)
-    far = distance(kept, bank, length)
     if far:
         print(far, file=out)
     if len(kept) > 1:
-        print("Without any one of them there is a form, or none was found within the base budget.", file=out)
+        print(f"Without any one of them there is a {'form' if forms == 1 else 'series'}, or none was found within the base budget.", file=out)
 
 
 # ---------------------------------------------------------------- the gap of an unproved form
@@ -133,6 +172,7 @@ def options(words: Sequence[str]) -> argparse.Namespace:
     parser.add_argument("bank", nargs="?")
     parser.add_argument("plan", nargs="?")
     parser.add_argument("--map")
+    parser.add_argument("--series", type=whole(1, 4))
     parser.add_argument("--program", default=BUILT)
     return parser.read(words, lambda given: bool(given.plan))
 
@@ -142,6 +182,27 @@ def main(words: Sequence[str]) -> int:
     unit = read_map(given.map)["information_unit"] if given.map else None
     text = text_of(given.plan)
     program = Program(given.program, given.bank)
+    return on_series(program, text, given.series) if given.series else on_form(program, text, given, unit)
+
+
+def on_series(program: Program, text: str, count: int) -> int:
+    """Explains why there are no such forms. The status of `shadowd series`."""
+    status, said = program.series(text, count)
+    if status == NO_SERIES:
+        kept, of = series_clash(program, text, said.split()[-1], count)
+        print_clash(kept, of, plan_of(text).length, read_bank(program.bank), forms=count)
+    elif status == NO_SERIES_FOUND:
+        print(" ".join(said.split()[:5]))
+        print(f"It is open whether the plan has {count} forms without common items. Raise base-budget (to 4095), or loosen rules.")
+    elif status == DONE:
+        print(f"The plan has {count} forms without common items. shadowd series has how far from the best they are.")
+    else:
+        raise Refused(f"shadowd series, status {status}: {said[:200]}")
+    return status
+
+
+def on_form(program: Program, text: str, given: argparse.Namespace, unit: Optional[float]) -> int:
+    """Explains why there is no form, or how far from the best one it is. The status of `shadowd assemble`."""
     status, said = program.assemble(text)
     if status == NO_FORM:
         kept, of = clash(program, text, said.split()[-1])

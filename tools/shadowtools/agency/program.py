@@ -1,14 +1,17 @@
 """shadowd as the tools of agencies run it."""
+import csv
+import io
 import os
 import re
 import subprocess
 import tempfile
 from dataclasses import dataclass
-from typing import List, Optional, Tuple
+from typing import List, Optional, Sequence, Tuple
 
 from shadowtools.command import Refused
+from shadowtools.formats.tables import text_of
 
-DONE, NO_FORM, NOT_FOUND = 0, 11, 12
+DONE, NO_FORM, NOT_FOUND, NO_SERIES, NO_SERIES_FOUND = 0, 11, 12, 17, 18
 ASSEMBLED = re.compile(r"form((?: \d+)+)\nobjective (\d+) (proved|unproved) nodes (\d+)\ntree ([0-9a-f]+)")
 
 
@@ -39,19 +42,44 @@ class Program:
     def assemble(self, plan: str) -> Tuple[int, str]:
         """Status and output for the text of a plan."""
         self.runs += 1
-        with tempfile.NamedTemporaryFile("w", suffix=".txt", delete=False, encoding="utf-8", newline="\n") as file:
-            file.write(plan)
-        try:
-            return run(self.path, "assemble", self.bank, file.name)
-        finally:
-            os.unlink(file.name)
+        with tempfile.TemporaryDirectory() as folder:
+            return run(self.path, "assemble", self.bank, written(folder, "plan", plan))
+
+    def series(self, plan: str, count: int) -> Tuple[int, str]:
+        """Status and output of `series` for the text of a plan and so many forms, in a bank whose items all inform alike.
+
+        Whether there is a series does not depend on the information. With equal information any series is best, so the search
+        ends with the first that it finds. A tree that shows that there is none is one for the bank itself, too."""
+        self.runs += 1
+        bank, points = alike(text_of(self.bank))
+        with tempfile.TemporaryDirectory() as folder:
+            weights = ",".join(["1"] + ["0"] * (points - 1))
+            files = written(folder, "bank", bank), written(folder, "plan", plan)
+            return run(self.path, "series", *files, more=(str(count), weights))
 
 
-def run(program: str, command: str, bank: str, plan: str, journal: Optional[str] = None) -> Tuple[int, str]:
-    """Status and output of a command of shadowd."""
+def written(folder: str, name: str, text: str) -> str:
+    """The path of a file with this text."""
+    path = os.path.join(folder, name)
+    with open(path, "w", encoding="utf-8", newline="\n") as file:
+        file.write(text)
+    return path
+
+
+def alike(bank: str) -> Tuple[str, int]:
+    """The text of a bank in which each item has the information 1 at each point, and the number of points."""
+    rows = list(csv.reader(io.StringIO(bank, newline="")))
+    columns = [k for k, name in enumerate(rows[0] if rows else []) if re.fullmatch(r"i\d+", name)]
+    for row in rows[1:]:
+        row[:] = ["1" if k in columns else cell for k, cell in enumerate(row)]
+    return "".join(",".join(row) + "\n" for row in rows), len(columns)
+
+
+def run(program: str, command: str, bank: str, plan: str, journal: Optional[str] = None, more: Sequence[str] = ()) -> Tuple[int, str]:
+    """Status and output of a command of shadowd; `more` are its words after bank and plan."""
     environment = dict(os.environ, SHADOWD_JOURNAL=journal) if journal else None
     try:
-        done = subprocess.run([program, command, bank, plan], env=environment, stdin=subprocess.DEVNULL, capture_output=True)
+        done = subprocess.run([program, command, bank, plan, *more], env=environment, stdin=subprocess.DEVNULL, capture_output=True)
     except (OSError, ValueError) as error:
         raise Refused(f"{program}: {getattr(error, 'strerror', None) or error}")
     return done.returncode, done.stdout.decode("utf-8", "replace").strip()
