@@ -67,6 +67,52 @@ class Clashes(Folder):
 
 @needs_page
 @needs_program
+class FixedForms(Folder):
+    """The commands of docs/SERIES.md as the page has them, from item parameters to the page."""
+
+    def setUp(self):
+        super().setUp()
+        with open(os.path.join(ROOT, "docs", "SERIES.md"), encoding="utf-8") as file:
+            self.page = file.read()
+        os.symlink(os.path.abspath(PROGRAM), self.path("shadowd"))
+
+    def run_in(self, script):
+        """Status, standard output and errors of commands of the page, with their files in the test's folder."""
+        words = re.sub(r"(?m)^python3 ", sys.executable + " ", script.replace("/tmp/forms", self.folder))
+        environment = dict(os.environ, SHADOWD=os.path.abspath(PROGRAM), PATH=self.folder + os.pathsep + os.environ["PATH"])
+        done = subprocess.run(["bash", "-e", "-c", words], cwd=ROOT, capture_output=True, text=True, env=environment)
+        return done.returncode, done.stdout, done.stderr
+
+    def test_commands(self):
+        """That 7,780 is the best value was found by HiGHS, too."""
+        blocks = re.findall(r"(?m)^```\n(.*?)^```$", self.page, re.S)
+        self.assertEqual([block.split()[0] for block in blocks], ["mkdir", "shadowd", "python3", "python3"])
+        status, said, errors = self.run_in("".join(blocks[:3]))
+        self.assertEqual(status, 0, errors)
+        self.assertIn("\nweights: 5 at -1, 3 at 0, 3 at 1\n", said)
+        self.assertIn("\nagreed\n", said)
+        self.assertRegex(self.read("series.txt"), r"\Aseries 2 value 7780 proved nodes \d+\nform ")
+        self.assertIn(f"{self.path('series.html')}: 2 forms, value 7780, proved, 0 broken rules\n", said)
+        with open(self.path("series.forms.csv")) as file:
+            forms = [row["form"] for row in csv.DictReader(file)]
+        self.assertEqual((forms.count("1"), forms.count("2"), forms.count("")), (20, 20, 5))
+        self.assertEqual(self.run_in(blocks[3]), (17, self.shown("The length alone"), ""))
+
+    def shown(self, begin):
+        """The lines of the page that begin with these words, as far as they are indented."""
+        lines = self.page[self.page.index("    " + begin):].split("\n\n")[0]
+        return re.sub(r"(?m)^    ", "", lines) + "\n"
+
+    def test_a_rule_that_clashes(self):
+        with open(os.path.join(ROOT, "examples", "knowledge", "knowledge.plan.txt"), encoding="utf-8") as file:
+            text, times = re.subn(r"(?m)^count 3 7 13 ", "count 4 7 13 ", file.read())
+        self.assertEqual(times, 1)
+        words = os.path.join(ROOT, "examples", "knowledge", "knowledge.bank.csv"), self.write("plan", text), "--series", "2", "--program", PROGRAM
+        self.assertEqual(self.tool("explain", *words), (17, self.shown("One of 14 rules"), ""))
+
+
+@needs_page
+@needs_program
 class Guide(Folder):
     def test_commands(self):
         """All commands of the guide, in order, with 30 examinees; the results agree with those of the report."""

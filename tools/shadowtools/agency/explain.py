@@ -108,7 +108,8 @@ def print_clash(kept: Sequence[Rule], of: int, length: int, bank: Sequence[BankI
     of_what = f"a test of {length} items" if forms == 1 else f"{forms} forms of {length} items without common items"
     far = distance(kept, bank, length, forms)
     if kept:
-        print(f"These {len(kept)} of {of} rules cannot be met together in {of_what}:", file=out)
+        begin = f"These {len(kept)} of {of} rules cannot be met together" if len(kept) > 1 else f"One of {of} rules cannot be met"
+        print(f"{begin} in {of_what}:", file=out)
     else:
         print(f"No set of {length} items is a form by the length alone." if forms == 1 else f"The length alone rules out {of_what}.", file=out)
     for rule in kept:

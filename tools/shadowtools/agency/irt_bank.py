@@ -18,6 +18,8 @@ usage: irt_bank.py --items ITEMS.csv [--attributes ATTRIBUTES.csv] [--constraint
   --rate NUM DEN --key HEX                                 exposure control
   --bands N            2 to 8, with a rate: the control is for each of N bands of abilities with equal shares of the expected
                        examinees, or of fewer where one would be narrower than the standard error half way through the test
+  --weights WEIGHT@ABILITY ..   the weights of a series of fixed forms, as 1@-1 2@0 1@1: whole numbers to 1,000, each at the grid point
+                       nearest to its ability; PREFIX.weights.txt has the word WEIGHTS of `shadowd series` then
   --program SHADOWD    the program that checks what is written; default $SHADOWD, else crates/shadowd/out/shadowd if it is there
 
 ATTRIBUTES has a line for each item: ID, perhaps STID (the name of its passage), and any other columns. An item
@@ -53,6 +55,7 @@ from shadowtools.agency.blueprint import MOST_PASSAGES, Blueprint, compile_bluep
 from shadowtools.agency.explain import clash, print_clash  # noqa: E402
 from shadowtools.agency.irt import Item  # noqa: E402
 from shadowtools.agency.program import DONE, NO_FORM, NOT_FOUND, Program, form_of, run  # noqa: E402
+from shadowtools.agency.series_weights import weights_of, word_of  # noqa: E402
 from shadowtools.command import Refused, as_command  # noqa: E402
 from shadowtools.formats.examination import plan_of, read_bank  # noqa: E402
 from shadowtools.formats.tables import ABSENT, SEPARATORS, Dialect, read_table  # noqa: E402
@@ -82,6 +85,7 @@ def options(words: Sequence[str]) -> argparse.Namespace:
     parser.add_argument("--rate", nargs=2, type=whole(1, 65_535))
     parser.add_argument("--bands", type=whole(band_points.FEWEST_BANDS, band_points.MOST_BANDS))
     parser.add_argument("--length", type=whole(1, 512))
+    parser.add_argument("--weights", nargs="+")
     found = parser.read(words, lambda given: bool(given.items and given.out and (given.constraints or given.length)))
     if found.constraints and found.length:
         raise Refused("--length: the table of --constraints has the length; leave one of the two out")
@@ -298,10 +302,15 @@ def main(words: Sequence[str]) -> int:
     bank, plan = tables.text(), plan_text(given, tables, blueprint, bands.points)
     warnings = blueprint.warnings + item_warnings(items, theta) + grid_warnings(given.prior, tables, blueprint.length)
     warnings += ([] if bands.points else rate_warnings(given.rate, blueprint.length, len(items))) + bands.warnings
+    weights = weights_of(given.weights, theta) if given.weights else []
     written = map_text(given, tables, blueprint, bank, plan)
     for end, text in ((".bank.csv", bank), (".plan.txt", plan), (".map.json", written)):
         write(given.out + end, text)
+    if weights:
+        write(given.out + ".weights.txt", word_of(weights) + "\n")
     print_made(given, form, tables, blueprint)
+    if weights:
+        print("weights: " + ", ".join(f"{weight} at {theta[g]:g}" for g, weight in enumerate(weights) if weight))
     for line in band_points.sentences(bands, theta, given.rate):
         print(line)
     for warning in warnings:

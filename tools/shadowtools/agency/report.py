@@ -1,6 +1,8 @@
-"""A simulation as one page of HTML for those who sign it, with its pictures inside; it needs no network and no script.
+"""A simulation, or a series of fixed forms, as one page of HTML for those who sign it, with its pictures inside; it needs no network
+and no script.
 
 usage: report.py PREFIX --run OUT --to REPORT.html [options]
+       report.py PREFIX --series LINES --to REPORT.html [--target ..] [--template FILE]
 
   --target FILE                  what a test is to measure: a CSV table with the columns ability and information, or ability and
                                  se (standard error, in logits); or --target LOW HIGH INFORMATION
@@ -16,10 +18,15 @@ usage: report.py PREFIX --run OUT --to REPORT.html [options]
 
 PREFIX.bank.csv, PREFIX.plan.txt, PREFIX.map.json are irt_bank.py's; OUT.run.json, OUT.journal, OUT.second.journal and
 OUT.tails.journal are simulate.py's. Their SHA-256 are those that the map and the run have. Beside the page are written REPORT.sessions.csv, a line
-for each examinee; REPORT.answers.csv, a line for each answer; and REPORT.items.csv, a line for each item. Exit status: 0; 1
-where the files are refused or a rule is broken.
+for each examinee; REPORT.answers.csv, a line for each answer; and REPORT.items.csv, a line for each item.
+
+With --series LINES is a file with what `shadowd series` printed for the weights of PREFIX.weights.txt, which irt_bank.py --weights
+writes. check_series.py judges the lines and their trees. Beside the page is written REPORT.forms.csv, a line for each item with its
+form. Exit status: 0; 1 where the files are refused or a rule is broken.
 """
 import argparse
+import csv
+import datetime
 import os
 import sys
 from typing import List, Optional, Sequence, Tuple
@@ -34,24 +41,30 @@ import pandas as pd  # noqa: E402
 
 from shadowtools.agency.custody import sha256_of  # noqa: E402
 from shadowtools.agency.retakers import Retakes, retakes_of  # noqa: E402
+from shadowtools.agency.series_weights import read_weights  # noqa: E402
+from shadowtools.agency.simulate import revision  # noqa: E402
 from shadowtools.agency.simulation import Examination, load, parted, read_run  # noqa: E402
 from shadowtools.command import Refused, as_command  # noqa: E402
 from shadowtools.formats.examination import Session, read_journal, read_plan, require_points  # noqa: E402
 from shadowtools.formats.exposure import Exposure, exposure_of  # noqa: E402
 from shadowtools.formats.tables import text_of  # noqa: E402
 from shadowtools.options import Options, finite, require_folder, whole  # noqa: E402
+from shadowtools.page import series as series_page  # noqa: E402
+from shadowtools.page.parts import Section, Verdict  # noqa: E402
 from shadowtools.page.pictures import at_a_glance  # noqa: E402
 from shadowtools.page.sections import chosen, sections  # noqa: E402
 from shadowtools.page.study import Questions, Study, answers, table_by_item, target_of  # noqa: E402
 from shadowtools.page.verdicts import verdicts  # noqa: E402
 
 TEMPLATE = os.path.join(os.path.dirname(os.path.dirname(os.path.abspath(__file__))), "page", "report.html")
+# The options that are about a simulation alone, with what they are where they are not given.
+OF_A_RUN = {"cuts": [], "bands": None, "watch": None, "by": "truth", "between": [-1.0, 1.0], "rules": None, "picture": None}
 
 
 def options(words: Sequence[str]) -> argparse.Namespace:
     parser = Options(__doc__)
     parser.add_argument("prefix", nargs="?")
-    for name in ("run", "to", "rules", "picture"):
+    for name in ("run", "series", "to", "rules", "picture"):
         parser.add_argument("--" + name)
     parser.add_argument("--target", nargs="+")
     parser.add_argument("--cuts", nargs="+", type=finite, default=[])
@@ -60,7 +73,11 @@ def options(words: Sequence[str]) -> argparse.Namespace:
     parser.add_argument("--by", choices=("truth", "estimate"), default="truth")
     parser.add_argument("--between", nargs=2, type=finite, default=[-1.0, 1.0])
     parser.add_argument("--template", default=TEMPLATE)
-    return parser.read(words, lambda found: bool(found.prefix and found.run and found.to))
+    found = parser.read(words, lambda found: bool(found.prefix and found.to and (found.run or found.series)))
+    if found.series:
+        for name in ["run"] * bool(found.run) + [name for name, default in OF_A_RUN.items() if getattr(found, name) != default]:
+            raise Refused(f"--{name} is about a simulation; it is not used with --series")
+    return found
 
 
 def questions(given: argparse.Namespace) -> Questions:
@@ -115,28 +132,71 @@ def journal_of(path: str, run: dict, name: str, examination: Examination, watch:
 
 # ---------------------------------------------------------------- what is written
 
-def page(study: Study, template: str) -> str:
+def page(template: str, title: str, lead: str, said: Sequence[Verdict], parts: Sequence[Section]) -> str:
     """The page. The template escapes every value."""
     environment = jinja2.Environment(autoescape=True, undefined=jinja2.StrictUndefined, trim_blocks=False)
     try:
         made = environment.from_string(text_of(template))
     except jinja2.TemplateSyntaxError as error:
         raise Refused(f"{template}: line {error.lineno}: {error.message}")
-    name = os.path.basename(study.examination.prefix)
-    lead = (f"A simulation of {len(study.sample):,} examinees, each with a test of {study.length} items"
-            + (f", and of {len(study.tails):,} more at the ends of the scale" if len(study.tails) else "") + f". {study.run['date']}.")
     try:
-        return made.render(title=f"Simulated examination: {name}", lead=lead, verdicts=verdicts(study), sections=sections(study)) + "\n"
+        return made.render(title=title, lead=lead, verdicts=said, sections=parts) + "\n"
     except jinja2.TemplateError as error:
         raise Refused(f"{template}: {error.message}")
+
+
+def page_of_run(study: Study, template: str) -> str:
+    lead = (f"A simulation of {len(study.sample):,} examinees, each with a test of {study.length} items"
+            + (f", and of {len(study.tails):,} more at the ends of the scale" if len(study.tails) else "") + f". {study.run['date']}.")
+    return page(template, f"Simulated examination: {os.path.basename(study.examination.prefix)}", lead, verdicts(study), sections(study))
 
 
 def write_table(path: str, table: pd.DataFrame) -> None:
     table.to_csv(path, index=False, lineterminator="\n", float_format="%.4f")
 
 
+def now() -> str:
+    return datetime.datetime.now(datetime.timezone.utc).strftime("%Y-%m-%d %H:%M UTC")
+
+
+def page_of_series(given: argparse.Namespace) -> int:
+    """Writes the page of a series and its table. The exit status."""
+    table = os.path.splitext(given.to)[0] + ".forms.csv"
+    for path in (given.to, table):
+        require_folder("--to", path)
+    examination, target = load(given.prefix), target_of(given.target)
+    weights = given.prefix + ".weights.txt"
+    series = series_page.Series(examination, read_weights(weights, len(examination.theta)), text_of(given.series), target)
+    facts = [("Target asked", f"{'standard error' if target.is_error else 'information'}: {target.name}")] if target else []
+    date = now()
+    facts += [("Page made", date), ("Revision of the tools", revision())]
+    digests = [(name, examination.sha256[name]) for name in ("bank", "plan", "map")]
+    digests += [("weights", sha256_of(weights)), ("printed series", sha256_of(given.series))]
+    forms = f"{len(series.forms)} fixed forms" if len(series.forms) > 1 else "One fixed form"
+    lead = f"{forms} of {series.length} items{' each, without common items' if len(series.forms) > 1 else ''}, assembled for the " \
+           f"{series_page.abilities(series)}. {date}."
+    text = page(given.template, f"Fixed forms: {os.path.basename(given.prefix)}", lead, series_page.verdicts(series),
+                series_page.sections(series, facts, digests))
+    head, rows = series_page.table_by_item(series)
+    try:
+        with open(given.to, "w", encoding="utf-8") as file:
+            file.write(text)
+        with open(table, "w", encoding="utf-8", newline="") as file:
+            csv.writer(file, lineterminator="\n").writerows([head, *rows])
+    except OSError as error:
+        raise Refused(f"{error.filename}: {error.strerror}")
+    bad = series_page.broken(series)
+    print(f"{given.to}: {len(series.forms)} forms, value {series.value}, {'proved' if series.is_proved else 'unproved'}, {len(bad)} broken rules")
+    return 1 if bad else 0
+
+
 def main(words: Sequence[str]) -> int:
     given = options(words)
+    return page_of_series(given) if given.series else report_of_run(given)
+
+
+def report_of_run(given: argparse.Namespace) -> int:
+    """Writes the page of a simulation and its tables. The exit status."""
     asked, begin = questions(given), os.path.splitext(given.to)[0]
     for path in (given.to, begin + ".sessions.csv", begin + ".answers.csv", begin + ".items.csv", given.picture or given.to):
         require_folder("--to" if path != given.picture else "--picture", path)
@@ -144,7 +204,7 @@ def main(words: Sequence[str]) -> int:
     rules = (read_plan(given.rules) if given.rules else examination.plan).rules
     sample, tails, counts = sessions_of_run(given, run, examination)
     study = Study(examination, run, sample, tails, rules, asked, counts, retakes(given, run, examination, sample))
-    text = page(study, given.template)
+    text = page_of_run(study, given.template)
     try:
         with open(given.to, "w", encoding="utf-8") as file:
             file.write(text)

@@ -1,4 +1,0 @@
-#!/usr/bin/env python3
-from shadowtools.door import leads_to
-
-leads_to("agency.series_report", __name__)
