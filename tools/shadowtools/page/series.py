@@ -161,10 +161,10 @@ def alike_verdict(series: Series) -> Verdict:
 
 
 def most_points(series: Series) -> str:
-    """The greatest number of points of each form, once where they are the same."""
+    """The greatest number of points of a form: one number, or the least and the greatest over the forms."""
     each = [item.categories - 1 if item.model != FIELD else 0 for item in series.examination.items]
-    found = sorted({sum(each[item] for item in form) for form in series.forms})
-    return " or ".join(map(str, found))
+    found = [sum(each[item] for item in form) for form in series.forms]
+    return str(found[0]) if min(found) == max(found) else f"{min(found)} to {max(found)}"
 
 
 def target_verdict(series: Series) -> Iterator[Verdict]:
