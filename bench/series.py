@@ -8,8 +8,9 @@ PROGRAM is the built shadowd or series_bench. The problems are those of problems
 banks, the drill's, larger banks, and passages, with one, three or five points of equal weight. Each peer that is installed solves
 the same 0-1 model (a column for each item and form, one for the value) for at most N seconds (default 60), and may stop below one
 unit of the value: GLPK (`glpsol`), CBC (`cbc`) and SYMPHONY (`symphony`) on a file in the LP format, HiGHS by
-`scipy.optimize.milp`. Seconds are those of a processor; where the clock had more than 1.1 times as many, these follow in brackets.
-A peer's have the reading of its file.
+`scipy.optimize.milp`. All seconds are those of a processor, also the N: a peer is shown a clock that goes with its own work (a small
+library made by gcc), so that it has N seconds on a busy machine, too. A peer's seconds have the reading of its file. Where ours took
+more than 1.1 times as many by the clock, these follow in brackets.
 
 FILE keeps what peers found, by the digest of the model. With --peers they alone run, so that both need not run at the same time.
 --only takes the problems whose name has the word. Every tree is judged by tools/check_series.py. Exit status: 0, or 1 where a tree
@@ -89,10 +90,56 @@ def lp_text(model):
 
 # ---------------------------------------------------------------- the peers
 
-def child(words, seconds):
-    """Standard output of a command, and the seconds that it took of a processor and by the clock."""
+# A clock that goes with the process's own work, for peers that count their limit by the clock.
+CLOCK = r"""
+#define _GNU_SOURCE
+#include <sys/resource.h>
+#include <sys/time.h>
+#include <time.h>
+static void used(struct timeval *at) {
+  struct rusage u;
+  getrusage(RUSAGE_SELF, &u);
+  timeradd(&u.ru_utime, &u.ru_stime, at);
+  at->tv_sec += 1700000000;
+}
+int clock_gettime(clockid_t clock, struct timespec *at) {
+  struct timeval now;
+  (void)clock;
+  used(&now);
+  at->tv_sec = now.tv_sec;
+  at->tv_nsec = now.tv_usec * 1000;
+  return 0;
+}
+int gettimeofday(struct timeval *at, void *zone) {
+  (void)zone;
+  used(at);
+  return 0;
+}
+time_t time(time_t *at) {
+  struct timeval now;
+  used(&now);
+  if (at) *at = now.tv_sec;
+  return now.tv_sec;
+}
+"""
+
+
+def made_clock(folder):
+    """The path of the library with the clock."""
+    path = os.path.join(folder, "clock.so")
+    subprocess.run(["gcc", "-shared", "-fPIC", "-O1", "-xc", "-", "-o", path], input=CLOCK, text=True, check=True)
+    return path
+
+
+def child(words, limit, clock=None):
+    """Standard output of a command, and the seconds that it took of a processor and by the clock. A peer ends at the latest after so
+    many seconds of a processor; others after so many by the clock."""
     before, begin = resource.getrusage(resource.RUSAGE_CHILDREN), time.monotonic()
-    done = subprocess.run(["timeout", "-s", "INT", str(seconds), *words], stdin=subprocess.DEVNULL, capture_output=True, text=True)
+    if clock:
+        words = ["prlimit", f"--cpu={limit}", "env", f"LD_PRELOAD={clock}", *words]
+    else:
+        words = ["timeout", "-s", "INT", str(limit), *words]
+    done = subprocess.run(words, stdin=subprocess.DEVNULL, capture_output=True, text=True)
     after, end = resource.getrusage(resource.RUSAGE_CHILDREN), time.monotonic()
     return done.stdout, (after.ru_utime + after.ru_stime - before.ru_utime - before.ru_stime, end - begin)
 
@@ -103,28 +150,28 @@ def number_in(pattern, text):
     return round(abs(float(found[-1]))) if found else None
 
 
-def glpk(path, seconds, gap):
-    text, took = child(["glpsol", "--lp", path, "--tmlim", str(seconds), "--mipgap", f"{gap:.9f}"], seconds + 60)
+def glpk(path, seconds, gap, clock):
+    text, took = child(["glpsol", "--lp", path, "--tmlim", str(seconds), "--mipgap", f"{gap:.9f}"], seconds + 60, clock)
     value = number_in(r">>>>>\s+(\S+)\s+<=", text) or number_in(r"mip =\s+([0-9.e+]+)\s+<=", text)
     none = re.search(r"HAS NO (INTEGER |PRIMAL )?FEASIBLE SOLUTION", text) is not None
     return Found(value, "INTEGER OPTIMAL" in text or "GAP TOLERANCE REACHED" in text or none, *took)
 
 
-def cbc(path, seconds, gap):
-    text, took = child(["cbc", path, "ratioGap", "0", "allowableGap", "0.999", "sec", str(seconds), "solve"], seconds + 240)
+def cbc(path, seconds, gap, clock):
+    text, took = child(["cbc", path, "ratioGap", "0", "allowableGap", "0.999", "sec", str(seconds), "solve"], seconds + 60, clock)
     none = re.search(r"^(Result - )?Problem (proven )?(is )?infeasible", text, re.M) is not None
     value = None if none or "No feasible solution found" in text else number_in(r"^Objective value:\s+(\S+)", text)
     return Found(value, "Optimal solution found" in text or none, *took)
 
 
-def symphony(path, seconds, gap):
-    text, took = child(["symphony", "-L", path, "-t", str(seconds), "-p", "0"], seconds + 60)
+def symphony(path, seconds, gap, clock):
+    text, took = child(["symphony", "-L", path, "-t", str(seconds), "-p", "0"], seconds + 60, clock)
     none = "Problem Infeasible" in text or "Problem Found Infeasible" in text
     return Found(None if none else number_in(r"Solution Cost:\s+(\S+)", text), "Optimal Solution Found" in text or none, *took)
 
 
 HIGHS = """
-import json, sys, time
+import json, resource, sys
 import numpy as np
 from scipy.optimize import Bounds, LinearConstraint, milp
 from scipy.sparse import csr_matrix
@@ -135,17 +182,18 @@ low = np.array([-np.inf if row[0] is None else row[0] for row in rows])
 high = np.array([np.inf if row[1] is None else row[1] for row in rows])
 cost, upper, whole = np.zeros(columns), np.ones(columns), np.ones(columns)
 cost[value], upper[value], whole[value] = -1, np.inf, 0
-begin, clock = time.process_time(), time.monotonic()
+begin = resource.getrusage(resource.RUSAGE_SELF)
 got = milp(cost, integrality=whole, bounds=Bounds(np.zeros(columns), upper), constraints=LinearConstraint(matrix, low, high),
            options=dict(time_limit=seconds, mip_rel_gap=gap))
-value = None if got.x is None else round(-got.fun)
-print(json.dumps([value, got.status in (0, 2), time.process_time() - begin, time.monotonic() - clock]))
+end, value = resource.getrusage(resource.RUSAGE_SELF), None if got.x is None else round(-got.fun)
+print(json.dumps([value, got.status in (0, 2), end.ru_utime + end.ru_stime - begin.ru_utime - begin.ru_stime]))
 """
 
 
-def highs(path, seconds, gap):
-    done = subprocess.run(["/usr/bin/python3", "-c", HIGHS, path + ".json"], capture_output=True, text=True, timeout=seconds + 240)
-    return Found(*json.loads(done.stdout)) if done.returncode == 0 else None
+def highs(path, seconds, gap, clock):
+    text, took = child(["/usr/bin/python3", "-c", HIGHS, path + ".json"], seconds + 120, clock)
+    value, proved, seconds = json.loads(text)
+    return Found(value, proved, seconds, took[1])
 
 
 PEERS = {"GLPK": glpk, "CBC": cbc, "SYMPHONY": symphony, "HiGHS": highs}
@@ -166,7 +214,7 @@ def solved(P, names, seconds, kept, folder):
                 file.write(text)
             with open(path + ".json", "w", encoding="ascii") as file:
                 json.dump([model.columns, model.value, model.rows, seconds, gap], file)
-            kept[key] = PEERS[name](path, seconds, gap)
+            kept[key] = PEERS[name](path, seconds, gap, made_clock(folder))
         found[name] = Found(*kept[key]) if kept.get(key) else None
     return found
 
@@ -290,12 +338,12 @@ def cases(short):
 
 # ---------------------------------------------------------------- the table
 
-def cell(found):
-    """Value and seconds."""
+def cell(found, has_clock=False):
+    """Value and seconds of a processor, and perhaps by the clock."""
     if found is None:
         return "-"
     mark = "p " if found.proved else ""
-    clock = f" ({found.clock:.1f})" if found.clock > 1.1 * found.seconds + 0.1 else ""
+    clock = f" ({found.clock:.1f})" if has_clock and found.clock > 1.1 * found.seconds + 0.1 else ""
     return f"{mark}{'none' if found.value is None else found.value}, {found.seconds:.2f}{clock}"
 
 
@@ -317,7 +365,7 @@ def row_of(program, folder, case, found):
     except (ValueError, IndexError, check_tree.Fault) as fault:
         return f"| {case.name} | {case.count} | {fault} |", str(fault)
     bad = [name for name, peer in found.items() if contradicts(mine, most, peer)]
-    cells = [case.name, str(case.count), cell(mine), str(nodes), "-" if most is None else str(most)]
+    cells = [case.name, str(case.count), cell(mine, True), str(nodes), "-" if most is None else str(most)]
     return "| " + " | ".join(cells + [cell(found.get(name)) for name in PEERS]) + " |", ", ".join(bad)
 
 
