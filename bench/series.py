@@ -1,7 +1,7 @@
 #!/usr/bin/env python3
 """Times the search for series of forms beside free solvers on the same models.
 
-usage: series.py PROGRAM [--short] [--seconds N] [--kept FILE] [--only WORD]
+usage: series.py PROGRAM [--plain] [--short] [--seconds N] [--kept FILE] [--only WORD]
        series.py --peers [--short] [--seconds N] --kept FILE [--only WORD]
 
 PROGRAM is the built shadowd or series_bench. The problems are those of problems.py and of examples/ with one to four forms: small
@@ -11,6 +11,8 @@ unit of the value: GLPK (`glpsol`), CBC (`cbc`) and SYMPHONY (`symphony`) on a f
 `scipy.optimize.milp`. All seconds are those of a processor, also the N: a peer is shown a clock that goes with its own work (a small
 library made by gcc), so that it has N seconds on a busy machine, too. A peer's seconds have the reading of its file. Where ours took
 more than 1.1 times as many by the clock, these follow in brackets.
+
+With --plain series_bench makes trees of the kinds alone that the proved checker takes, as shadowd does.
 
 FILE keeps what peers found, by the digest of the model. With --peers they alone run, so that both need not run at the same time.
 --only takes the problems whose name has the word. Every tree is judged by tools/check_series.py. Exit status: 0, or 1 where a tree
@@ -234,15 +236,24 @@ def most_of_each(P):
 def ours(program, folder, P):
     """What the program found, its nodes, and its bound; a tree that is wrong raises ValueError."""
     bank, plan = os.path.join(folder, "bank"), os.path.join(folder, "plan")
-    command = [program] + ["series"] * (os.path.basename(program) == "shadowd")
-    text, took = child([*command, bank, plan, str(P.count), ",".join(map(str, P.weights))], 900)
-    check_series.printed(P, text, check_series.base_budget(plan))
+    text, took = child([*program, bank, plan, str(P.count), ",".join(map(str, P.weights))], 900)
+    check_series.printed(P, in_order(text), check_series.base_budget(plan))
     words = text.split("\n")[0].split(" ")
     if words[0] != "series":
         return Found(None, "in" not in words, *took), int(words[3]) if "in" in words else 0, None
     most = re.search(r"^at most (\d+)", text, re.M)
     bound = int(most[1]) if most else int(words[3]) if words[4] == "proved" else None
     return Found(int(words[3]), words[4] == "proved", *took), int(words[6]), bound
+
+
+def in_order(text):
+    """The lines with the forms in the order that shadowd prints them in; series_bench has that of its search."""
+    lines = text.splitlines()
+    places = [k for k, line in enumerate(lines) if line.startswith("form ")]
+    forms = sorted((lines[k] for k in places), key=lambda line: [int(word) for word in line.split(" ")[1:]])
+    for k, form in zip(places, forms):
+        lines[k] = form
+    return "\n".join(lines) + "\n"
 
 
 def contradicts(mine, most, peer):
@@ -402,6 +413,7 @@ def main(words):
         return 2
     wrong, kept = 0, read_kept(given["--kept"])
     if not alone:
+        program = [os.path.abspath(plain[0])] + ["series"] * (os.path.basename(plain[0]) == "shadowd") + ["plain"] * ("--plain" in words)
         print(f"| Problem | K | {os.path.basename(plain[0])}: value, s | nodes | at most | " + " | ".join(PEERS) + " |")
         print("|---" * (5 + len(PEERS)) + "|")
     with tempfile.TemporaryDirectory() as folder:
@@ -411,7 +423,7 @@ def main(words):
             if alone:
                 print(case.name, case.count, *(f"{name}: {cell(found[name])};" for name in found), flush=True)
                 continue
-            line, bad = row_of(os.path.abspath(plain[0]), folder, case, found)
+            line, bad = row_of(program, folder, case, found)
             print(line, flush=True)
             if bad:
                 print(f"wrong: {case.name}, K {case.count}: {bad}", file=sys.stderr)
