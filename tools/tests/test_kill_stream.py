@@ -97,10 +97,30 @@ class Processes(unittest.TestCase):
             kill_stream.Streaming.until_at(sides, 5, "here")
 
     def test_kills_that_come_too_late(self):
-        """It fails where each kill found all records at the follower."""
+        """It fails where each kill found all records at the follower, and the further ones too."""
         sides = mock.Mock(seen=kill_stream.collections.Counter(), draw=random.Random(7))
         with self.assertRaisesRegex(kill_stream.Wrong, "no kill of the follower"):
             kill_stream.kill_often(sides, 1, 0)
+        self.assertEqual(sides.trial.call_count, 1 + kill_stream.FURTHER)
+
+    def test_a_further_kill(self):
+        """If none of the asked kills of the follower came while it lacked records, it is killed until one does."""
+        sides = mock.Mock(seen=kill_stream.collections.Counter(), draw=random.Random(7))
+        sides.trial.side_effect = lambda victim, when: sides.seen.update(behind=when == "further kill 2, of the follower")
+        kill_stream.kill_often(sides, 2, 1)
+        self.assertEqual(sorted(call[0][0] for call in sides.trial.call_args_list), ["follower"] * 5 + ["leader"])
+
+    def test_a_port_that_is_taken(self):
+        """The server is started again as long as its port is taken, and after no other failure."""
+        sides, started = mock.Mock(program="program", texts=("bank", "plan")), mock.Mock()
+        taken = RuntimeError("the server ended with status 14: shadowd: cannot listen on 127.0.0.1:20000: in use")
+        with mock.patch.object(kill_stream, "Server", side_effect=[taken, taken, started]) as server:
+            self.assertIs(kill_stream.Streaming.serve(sides, "journal", ("127.0.0.1", 20000)), started)
+        self.assertEqual([call[1]["listen"] for call in server.call_args_list], ["127.0.0.1:20000"] * 3)
+        for faults, limit in (([RuntimeError("the server ended with status 6")], 60), ([taken], 0)):
+            with mock.patch.object(kill_stream, "Server", side_effect=faults), mock.patch.object(kill_stream, "LIMIT", limit), \
+                    self.assertRaisesRegex(kill_stream.Wrong, "serve on journal: the server ended"):
+                kill_stream.Streaming.serve(sides, "journal")
 
 
 if __name__ == "__main__":

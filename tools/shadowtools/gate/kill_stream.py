@@ -10,8 +10,10 @@ has to be a beginning of the leader's, with at least as many records as the grea
 all records that it had. The stream must never end by itself, and must go on at each follower. In about every sixth kill of the follower the
 examination is taken over with a copy of its file: `audit` finds its records, `replay` begins the next session, and `serve` has the last answers that
 these records count. At the end the clients stop, the follower gets all records, and the server is killed for good. The two files are equal then, and
-`serve` over the follower's has each answer that a client had a reply to. Of the kills of the follower some have to come while it lacks records of
-the leader; else it fails. The last line is 'N passed, M failed', of the kills; it stops at the first failure.
+`serve` over the follower's has each answer that a client had a reply to. Of the kills of the follower one at least has to come while it lacks records
+of the leader: if none of the N did, it is killed on, at most 20 times more, and if none of these did, the run fails. Where another program has taken
+the server's port while the server was down, the server is started again until that port is free. The last line is 'N passed, M failed', of the kills;
+it stops at the first failure.
 """
 import argparse
 import collections
@@ -34,6 +36,7 @@ PAUSE = 0.05  # seconds at most between two answers of a client
 LAST = 1000  # how many answers are asked for in a copy of the follower's file
 SESSIONS = 65535  # the limit of the plan
 KILLED = -9  # the status of a process that was killed
+FURTHER = 20  # kills of the follower at most, after the asked ones, until one comes while it lacks records
 
 Answer = collections.namedtuple("Answer", "entries session step response")  # `entries`: so many the server had after it
 
@@ -110,10 +113,14 @@ class Streaming(Sides):
         self.clients = [Client(self.address, number, random.Random(draw.random())) for number in range(clients)]
 
     def serve(self, journal, address=("127.0.0.1", 0)):
-        try:
-            return Server([self.program], *self.texts, journal, wait=LIMIT, listen=f"{address[0]}:{address[1]}")
-        except RuntimeError as fault:
-            raise Wrong(f"serve on {os.path.basename(journal)}: {fault}") from fault
+        limit = time.monotonic() + LIMIT
+        while True:
+            try:
+                return Server([self.program], *self.texts, journal, wait=LIMIT, listen=f"{address[0]}:{address[1]}")
+            except RuntimeError as fault:
+                if "cannot listen on" not in str(fault) or time.monotonic() > limit:
+                    raise Wrong(f"serve on {os.path.basename(journal)}: {fault}") from fault
+            time.sleep(0.1)
 
     def stream(self):
         """Starts the stream; its lines go to a file."""
@@ -313,6 +320,9 @@ def kill_often(sides, follower, leader):
     sides.draw.shuffle(victims)
     for number, victim in enumerate(victims):
         sides.trial(victim, f"kill {number}, of the {victim}")
+    for number in range(FURTHER):
+        if follower and not sides.seen["behind"]:
+            sides.trial("follower", f"further kill {number}, of the follower")
     sides.finish()
     if follower and not sides.seen["behind"]:
         raise Wrong("no kill of the follower came while it lacked records")
