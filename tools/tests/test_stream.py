@@ -11,14 +11,16 @@ import threading
 import time
 import unittest
 
+import journal_maker as made
 from common import PROGRAM, ROOT, Folder, needs_program
 from exam_client import children_of
-from fake_follower import Follower, frames, is_beginning, records
+from fake_follower import HEADER, Follower, frames, is_beginning, records
 
 DATA = os.path.join(ROOT, "crates", "shadowd", "data")
 FILES = [os.path.join(DATA, name) for name in ("bank.csv", "plan.txt")]
 LIMIT = 60  # seconds for each wait
 ANSWERS = (1, 0, 1)
+MARK = b"\1\0\0\0\1\x08"  # the mark's frame
 
 
 def free_port():
@@ -187,6 +189,58 @@ class Streams(Beside):
 
 
 @needs_program
+class Moved(Beside):
+    """A journal that was moved from version 1: the records after the mark are streamed."""
+
+    def counting(self):
+        """The records of the journal that count."""
+        payloads = records(HEADER + self.bytes()[8:])
+        return payloads[payloads.index(b"\x08") + 1:]
+
+    def test_a_journal_that_migrate_moved(self):
+        """The follower gets the records after the mark, then those that the server adds; its file is that of version 2."""
+        texts = []
+        for path in FILES:
+            with open(path, encoding="ascii") as file:
+                texts.append(file.read())
+        maker = made.Maker(*texts).run("begin 70\nanswer 0 0 1\nanswer 0 1 0\nbegin 71\nclose 1")
+        old, new, moved = maker.files()
+        with open(self.journal, "wb") as file:
+            file.write(old)
+        self.assertEqual(self.run_program(["migrate", *FILES], {}).wait(LIMIT), 0)
+        self.assertEqual(self.bytes(), moved)
+        follower = self.follow()
+        stream = self.stream()
+        self.until(lambda: follower.links == 1)
+        time.sleep(0.5)
+        self.assertEqual(follower.payloads, [])  # no server has opened it
+        self.serve()
+        self.until(lambda: len(follower.payloads) == len(maker.new), 10)
+        self.assertEqual(follower.journal(), new)
+        self.session(72)
+        self.until(lambda: len(follower.payloads) == self.entries(), 10)
+        self.assertEqual(follower.payloads, self.counting())
+        self.end(stream)
+        self.stream()
+        self.session(73)
+        self.until(lambda: len(follower.payloads) == self.entries(), 10)
+        self.assertEqual(follower.payloads, self.counting())
+
+    def test_a_move_that_is_cut_off(self):
+        """A journal whose old records no mark follows, or whose mark's gate is closed, is of version 1."""
+        old = made.file_of(made.ONE, [b"\7" * 8, b"\5" * 300])
+        for data, at in ((old, len(old) - 1), (old[:-1] + b"\0" + MARK[1:] + frames([b"\6"])[8:], len(old) - 1), (old[:-40], len(old) - 1), (made.ONE + b"\0", 8)):
+            with self.subTest(size=len(data)):
+                with open(self.journal, "wb") as file:
+                    file.write(data)
+                self.follow()
+                stream = self.stream()
+                self.assertEqual((stream.communicate(timeout=LIMIT)[0], stream.returncode), ("disk failed\n", 9))
+                self.assertIn(f"no journal of the second version, by its bytes at {at}\n", self.read("stream.log"))
+                self.assertEqual(self.follower.payloads, [])
+
+
+@needs_program
 class Files(Beside):
     """What the stream reads, and that it leaves it alone."""
 
@@ -215,8 +269,8 @@ class Files(Beside):
         os.mkdir(self.journal)
         self.ends(None, "it is a folder")
 
-    def test_a_journal_of_the_first_version(self):
-        self.ends(b"SHADOWJ1\0", "no journal of the second version, by its bytes at 0")
+    def test_another_header(self):
+        self.ends(b"SHADOWJ3\0", "no journal of the second version, by its bytes at 0")
 
     def test_a_length_that_no_payload_has(self):
         self.ends(frames([b"\7" * 8])[:-1] + b"\1\0\0\0\0\0", "by its bytes at 21")

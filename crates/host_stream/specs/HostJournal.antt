@@ -1,5 +1,5 @@
 -- The journal's file, which its server writes meanwhile.
-use Rattle.std.proofs.Common.{ℕ, [], inr, refl, arith}
+use Rattle.std.proofs.Common.{ℕ, [], None, inr, refl, arith}
 use Rattle.journal_stream.specs.Served.{IsServed}
 use Rattle.host_stream.specs.declared.journal.HostJournal.{HostJournal}
 
@@ -8,5 +8,5 @@ abbrev pub faults_of : HostJournal → ℕ
 faults_of journal = journal.faults
 
 -- no bytes are the file of no records, as an object has it that reports nothing
-pub none_served : IsServed [] []
-none_served = inr (omega arith, refl)
+pub none_served : IsServed None [] []
+none_served = inr (inr (omega arith, refl))

@@ -1,6 +1,6 @@
 //! The journal's file, which its server writes meanwhile.
 
-ghost use Rattle.std.specs.Prelude.{◌≡◌, ◌≤◌, [], false, length, IfOk, OnErr};
+ghost use Rattle.std.specs.Prelude.{◌≡◌, ◌≤◌, [], false, None, length, IfOk, OnErr};
 ghost use Rattle.exam_edge.specs.Faults.{Rose};
 ghost use Rattle.host_stream.specs.HostJournal.{faults_of, none_served};
 
@@ -19,12 +19,14 @@ const LINES: u64 = 10;
 
 /// A journal's file by its path, which is opened at the first read after it is there, without a lock, and never written; and the address of
 /// its server, which is asked for its count of entries where a record is there that is not known to be settled. It does not
-/// report its content. Standard error has a line at each fault, and now and then one on how many records the follower has.
+/// report its content. Standard error has a line at each fault, and now and then one on how many records the follower has;
+/// or it is quiet, and has none of them.
 #[derive(Drop)]
 pub struct HostJournal {
     rt: HostRuntime,
     path: String,
     server: String,
+    is_quiet: bool,
     file: Option<File>,
     pace: Pace,
     /// How many records the follower has, and those of the last line.
@@ -71,10 +73,24 @@ impl HostJournal {
     pub fn of(rt: HostRuntime, path: String, server: String) -> HostJournal
         ensures { faults_of result ≡ 0 }
     {
+        HostJournal::over(rt, path, server, false)
+    }
+
+    /// The same, and no line is written.
+    pub fn quiet(rt: HostRuntime, path: String, server: String) -> HostJournal
+        ensures { faults_of result ≡ 0 }
+    {
+        HostJournal::over(rt, path, server, true)
+    }
+
+    fn over(rt: HostRuntime, path: String, server: String, is_quiet: bool) -> HostJournal
+        ensures { faults_of result ≡ 0 }
+    {
         HostJournal {
             rt,
             path,
             server,
+            is_quiet,
             file: None,
             pace: Pace::new(),
             noted: 0,
@@ -91,8 +107,10 @@ impl HostJournal {
         ensures rose { Rose (faults_of self.old) (faults_of self.new) }
         ensures grows { faults_of self.old ≤ faults_of self.new }
     {
-        let path = self.path.as_str();
-        let _ = eprintln!(self.rt; "shadowd: journal {path}: {cause}");
+        if !self.is_quiet {
+            let path = self.path.as_str();
+            let _ = eprintln!(self.rt; "shadowd: journal {path}: {cause}");
+        }
         self.faults = self.faults.saturating_add(1);
         Failed
     }
@@ -135,7 +153,7 @@ impl HostJournal {
     fn tell_awaited(&mut self)
         ensures { faults_of self.new ≡ faults_of self.old }
     {
-        if !self.is_awaited {
+        if !self.is_awaited && !self.is_quiet {
             let path = self.path.as_str();
             let _ = eprintln!(self.rt; "shadowd: journal {path}: not there yet");
         }
@@ -155,7 +173,7 @@ impl HostJournal {
     fn tell(&mut self)
         ensures { faults_of self.new ≡ faults_of self.old }
     {
-        if self.written == Some(self.noted) {
+        if self.is_quiet || self.written == Some(self.noted) {
             return;
         }
         self.written = Some(self.noted);
@@ -197,6 +215,8 @@ impl HostJournal {
 impl GrowingFile for HostJournal {
     ghost tells = { λ _. false };
 
+    ghost moved = { λ _. None };
+
     ghost settled = { λ _. [] };
 
     ghost content = { λ _. [] };
@@ -213,10 +233,12 @@ impl GrowingFile for HostJournal {
     }
 
     fn refuse(&mut self, at: u64) -> Failed {
-        let path = self.path.as_str();
-        let _ = eprintln!(self.rt;
-            "shadowd: journal {path}: no journal of the second version, by its bytes at {at}"
-        );
+        if !self.is_quiet {
+            let path = self.path.as_str();
+            let _ = eprintln!(self.rt;
+                "shadowd: journal {path}: no journal of the second version, by its bytes at {at}"
+            );
+        }
         self.faults = self.faults.saturating_add(1);
         Failed
     }

@@ -1,3 +1,5 @@
 pub mod Placed
 pub mod Settled
+pub mod Marked
+pub mod Moved
 pub mod Chained

@@ -1,5 +1,5 @@
 -- Where the frames of records are.
-use Rattle.std.proofs.Common.{◌≡◌, ℕ, zero, suc, ◌+◌, ◌<◌, ◌≤◌, List, [], ◌∷◌, ◌++◌, length, take, drop, Some, refl, sym, ◌∙◌, ap, arith, w32, append_assoc, length-append}
+use Rattle.std.proofs.Common.{◌≡◌, ℕ, zero, suc, ◌+◌, ◌<◌, ◌≤◌, List, [], ◌∷◌, ◌++◌, length, take, drop, Option, Some, None, is_some, true, false, inl, inr, ⊎_elim, refl, sym, ◌∙◌, ap, subst, arith, w32, append_assoc, length-append}
 use Rattle.std.specs.Prelude.{slice_get}
 use Rattle.std.specs.Int.{to_be_bytes}
 use Rattle.std.proofs.lemmas.List.{drop_at, take-append-le}
@@ -7,6 +7,7 @@ use Rattle.std.proofs.lemmas.Option.{slice_get_within}
 use Rattle.answer_journal.specs.Frames.{frames}
 use Rattle.answer_journal.specs.Payload.{end_of}
 use Rattle.record_links.specs.Streaming.{IsGrown}
+use Rattle.journal_stream.specs.Served.{first_of}
 use Rattle.journal_stream.specs.Tail.{IsGateOf}
 
 shift : (h b q f r : List ℕ) → h ++ ((1 ∷ (b ++ q ++ f)) ++ r) ≡ (h ++ (1 ∷ (b ++ q))) ++ (f ++ r)
@@ -51,20 +52,54 @@ end_after a (q ∷ ps) (suc k) p is =
     one_on : (n : ℕ) → suc n + 1 ≡ suc (n + 1)
     one_on n = omega arith
 
--- a gate stays where it is while records are added
-pub gate_stays : (old new : List (List ℕ)) (number at : ℕ) → IsGrown old new → IsGateOf old number at → IsGateOf new number at
-gate_stays old new number at grown gate = record {
-  some = omega (arith, gate.some, ap length grown.is, length-append old grown.more);
-  place = gate.place ∙ ap (end_of 8) (sym (take-append-le number old grown.more gate.some) ∙ ap (take number) (sym grown.is));
-}
-
 pub longer : (old new : List (List ℕ)) (n : ℕ) → IsGrown old new → n ≤ length old → n ≤ length new
 longer old new n grown le = omega (arith, le, ap length grown.is, length-append old grown.more)
 
+pub end_is_after : (a : ℕ) (ps : List (List ℕ)) → end_of a ps ≡ a + length (frames ps)
+end_is_after a [] = omega arith
+end_is_after a (p ∷ ps) =
+    omega (arith, end_is_after (a + 5 + length p) ps, length-append (to_be_bytes w32 (length p) ++ p) (frames ps), length-append (to_be_bytes w32 (length p)) p)
+
+pub end_of-append : (a : ℕ) (ps qs : List (List ℕ)) → end_of a (ps ++ qs) ≡ end_of (end_of a ps) qs
+end_of-append a [] qs = refl
+end_of-append a (p ∷ ps) qs = end_of-append (a + 5 + length p) ps qs
+
+pub frames-append : (ps qs : List (List ℕ)) → frames (ps ++ qs) ≡ frames ps ++ frames qs
+frames-append [] qs = refl
+frames-append (p ∷ ps) qs =
+    ap (λ (l : List ℕ). 1 ∷ l)
+    (ap (λ (l : List ℕ). to_be_bytes w32 (length p) ++ p ++ l) (frames-append ps qs)
+    ∙ sym (append_assoc (to_be_bytes w32 (length p) ++ p) (frames ps) (frames qs)))
+
+pub some_of : (o : Option ℕ) → is_some o ≡ true → (x : ℕ) × (o ≡ Some x)
+some_of (Some x) is = (x, refl)
+some_of None is = absurd cc
+
+pub some_not : (o : Option ℕ) → is_some o ≡ true → o ≡ None → ⊥
+some_not (Some x) is none = absurd cc
+some_not None is none = absurd cc
+
+pub none_of : (o : Option ℕ) → is_some o ≡ false → o ≡ None
+none_of (Some x) is = absurd cc
+none_of None is = refl
+
+-- a gate stays where it is while records are added
+pub gate_stays : (moved : Option (List (List ℕ))) (old new : List (List ℕ)) (number at : ℕ) → IsGrown old new → IsGateOf moved old number at → IsGateOf moved new number at
+gate_stays moved old new number at grown gate = record {
+  some = omega (arith, gate.some, ap length grown.is, length-append old grown.more);
+  place = gate.place ∙ ap (end_of (first_of moved)) (sym (take-append-le number old grown.more gate.some) ∙ ap (take number) (sym grown.is));
+  sure = ⊎_elim (λ none. inl none) (λ some. inr (longer old new 1 grown some)) gate.sure;
+}
+
+-- the same, where the old payloads are the same
+pub gate_on : (was moved : Option (List (List ℕ))) (old new : List (List ℕ)) (number at : ℕ) → moved ≡ was → IsGrown old new → IsGateOf was old number at → IsGateOf moved new number at
+gate_on was moved old new number at same grown gate = subst (λ (m : Option (List (List ℕ))). IsGateOf m new number at) (sym same) (gate_stays was old new number at grown gate)
+
 -- the gate after a record
-pub gate_after : (settled : List (List ℕ)) (number at : ℕ) (p : List ℕ) → IsGateOf settled number at → slice_get settled number ≡ Some p
-    → IsGateOf settled (number + 1) (at + (5 + length p))
-gate_after settled number at p gate is = record {
+pub gate_after : (moved : Option (List (List ℕ))) (settled : List (List ℕ)) (number at : ℕ) (p : List ℕ) → IsGateOf moved settled number at → slice_get settled number ≡ Some p
+    → IsGateOf moved settled (number + 1) (at + (5 + length p))
+gate_after moved settled number at p gate is = record {
   some = (let lt = slice_get_within settled number p is in omega (arith, lt));
-  place = (let e : at + (5 + length p) ≡ end_of 8 (take number settled) + 5 + length p = omega (arith, gate.place) in e ∙ sym (end_after 8 settled number p is));
+  place = (let e : at + (5 + length p) ≡ end_of (first_of moved) (take number settled) + 5 + length p = omega (arith, gate.place) in e ∙ sym (end_after (first_of moved) settled number p is));
+  sure = gate.sure;
 }

@@ -2,6 +2,7 @@
 use Rattle.std.specs.Prelude.{◌≡◌, ◌≢◌, ℕ, ◌+◌, ◌≤◌, List, ◌∷◌, ◌++◌, length, take, get_or, ⊤}
 use Rattle.std.specs.Int.{to_be_bytes, w32}
 use Rattle.answer_journal.specs.Frames.{IsPayload}
+use Rattle.answer_journal.specs.Reading.{length_at}
 use Rattle.journal_stream.specs.declared.look.Head.{Head}
 use Rattle.journal_stream.specs.declared.look.Head.TheVariants.{Closed, Payload, Unknown}
 use Rattle.journal_stream.specs.declared.look.Look.{Look}
@@ -10,7 +11,8 @@ use Rattle.journal_stream.specs.declared.look.Look.TheVariants as look
 -- what the first bytes from a gate on begin
 abbrev pub IsHead : List ℕ → Head → Type 0
 IsHead head Closed = get_or head 0 0 ≢ 1
-IsHead head (Payload size) = (1 ≤ size) × (size ≤ 131072)
+IsHead head (Payload size) =
+    (get_or head 0 0 ≡ 1) × (1 ≤ size) × (size ≤ 131072) × (size ≡ length_at head 0)
 IsHead head Unknown = ⊤
 
 -- bytes from a gate on begin with an open gate, this payload's length and the payload, and are at

@@ -15,13 +15,16 @@ pub struct Waited {
     pub is_long: bool,
 }
 
-/// The file of a journal of the second version, which its server writes meanwhile. It is only read, and no read waits for the
-/// server. A read gives the bytes of one moment.
+/// The file of a journal of the second version, or of one that was moved to it, which its server writes meanwhile. It is only
+/// read, and no read waits for the server. A read gives the bytes of one moment.
 pub trait GrowingFile {
-    ghost use Rattle.std.specs.Prelude.{ℕ, List, Bool};
+    ghost use Rattle.std.specs.Prelude.{ℕ, List, Bool, Option};
 
     /// Whether the object reports its file. Clauses on the file hold if it does.
     ghost tells: { Self → Bool };
+
+    /// The payloads of the first version, if the journal was moved from it. They never change.
+    ghost moved: { Self → Option (List (List ℕ)) };
 
     /// The payloads of the records that the server has settled: each is on the disk for good.
     ghost settled: { Self → List (List ℕ) };
@@ -41,6 +44,7 @@ pub trait GrowingFile {
         ensures all { IfOk result (λ k. IsTrue (tells self.old) → k < length buffer.old
             → length (content self.new) ≤ at + k) }
         ensures grown { IsTrue (tells self.old) → IsGrown (settled self.old) (settled self.new) }
+        ensures moved { moved self.new ≡ moved self.old }
         ensures tells { tells self.new ≡ tells self.old }
         ensures failed { OnErr result (Rose (faults self.old) (faults self.new)) }
         ensures grows { faults self.old ≤ faults self.new };
@@ -48,6 +52,7 @@ pub trait GrowingFile {
     /// Counts that the bytes at a place are none of such a journal.
     fn refuse(&mut self, at: u64) -> Failed
         ensures grown { IsTrue (tells self.old) → IsGrown (settled self.old) (settled self.new) }
+        ensures moved { moved self.new ≡ moved self.old }
         ensures tells { tells self.new ≡ tells self.old }
         ensures failed { Rose (faults self.old) (faults self.new) }
         ensures grows { faults self.old ≤ faults self.new };
@@ -55,6 +60,7 @@ pub trait GrowingFile {
     /// Notes that the follower has so many records.
     fn note(&mut self, count: u64)
         ensures grown { IsTrue (tells self.old) → IsGrown (settled self.old) (settled self.new) }
+        ensures moved { moved self.new ≡ moved self.old }
         ensures tells { tells self.new ≡ tells self.old }
         ensures grows { faults self.old ≤ faults self.new };
 
@@ -62,9 +68,11 @@ pub trait GrowingFile {
     fn wait(&mut self, is_unsettled: bool) -> Waited
         ensures told { IsTrue (tells self.old) → result.told ≤ length (settled self.new) }
         ensures grown { IsTrue (tells self.old) → IsGrown (settled self.old) (settled self.new) }
+        ensures moved { moved self.new ≡ moved self.old }
         ensures tells { tells self.new ≡ tells self.old }
         ensures grows { faults self.old ≤ faults self.new };
 
     /// What a read gives is the file of its settled records, as a server writes it.
-    ghost served: { (s : Self) → IsTrue (tells s) → IsServed (settled s) (content s) };
+    ghost served: { (s : Self) → IsTrue (tells s)
+        → IsServed (moved s) (settled s) (content s) };
 }

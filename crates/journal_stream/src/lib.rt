@@ -3,6 +3,7 @@
 #![tactic(auto)]
 
 mod door;
+mod first;
 mod growing_file;
 mod journal_tail;
 pub mod laws;

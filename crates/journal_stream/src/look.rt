@@ -27,19 +27,19 @@ pub enum Look {
     Unsettled,
 }
 
-// What the first bytes from a gate on begin.
+/// What the first bytes from a gate on begin.
 #[derive(Clone, Copy)]
-enum Head {
-    // No record: the gate is closed, or lacks.
+pub enum Head {
+    /// No record: the gate is closed, or lacks.
     Closed,
-    // A payload of so many bytes.
+    /// A payload of so many bytes.
     Payload(usize),
-    // Nothing that a journal has.
+    /// Nothing that a journal has.
     Unknown,
 }
 
-// What a gate and the four bytes after it begin, as far as they are there.
-fn head_in(head: &[u8]) -> Head
+/// What a gate and the four bytes after it begin, as far as they are there.
+pub fn head_in(head: &[u8]) -> Head
     ensures { IsHead head.now result }
 {
     if head.is_empty() || head[0] != OPEN {
@@ -100,12 +100,13 @@ fn read_frame<F: GrowingFile>(
     requires some { 1 ≤ size }
     requires size { size ≤ 131072 }
     ensures finds { IfOk result (λ look. IsTrue (F.tells file.old) → (number : ℕ)
-        → IsGateOf (F.settled file.old) number at
+        → IsGateOf (F.moved file.old) (F.settled file.old) number at
         → (is_told ≡ true → number < length (F.settled file.old))
         → Finds (F.settled file.new) number look) }
     ensures fits { IfOk result IsFitting }
     ensures grown { IsTrue (F.tells file.old)
         → IsGrown (F.settled file.old) (F.settled file.new) }
+    ensures moved { F.moved file.new ≡ F.moved file.old }
     ensures tells { F.tells file.new ≡ F.tells file.old }
     ensures failed { IfErr result (λ e. e ≡ AskFault.Disk
         → Rose (F.faults file.old) (F.faults file.new)) }
@@ -131,12 +132,13 @@ fn read_record<F: GrowingFile>(
     requires some { 1 ≤ size }
     requires size { size ≤ 131072 }
     ensures finds { IfOk result (λ look. IsTrue (F.tells file.old) → (number : ℕ)
-        → IsGateOf (F.settled file.old) number at
+        → IsGateOf (F.moved file.old) (F.settled file.old) number at
         → (is_told ≡ true → number < length (F.settled file.old))
         → Finds (F.settled file.new) number look) }
     ensures fits { IfOk result IsFitting }
     ensures grown { IsTrue (F.tells file.old)
         → IsGrown (F.settled file.old) (F.settled file.new) }
+    ensures moved { F.moved file.new ≡ F.moved file.old }
     ensures tells { F.tells file.new ≡ F.tells file.old }
     ensures failed { IfErr result (λ e. e ≡ AskFault.Disk
         → Rose (F.faults file.old) (F.faults file.new)) }
@@ -159,12 +161,13 @@ pub fn look_at<F: GrowingFile>(
     is_told: bool,
 ) -> Result<Look, AskFault>
     ensures finds { IfOk result (λ look. IsTrue (F.tells file.old) → (number : ℕ)
-        → IsGateOf (F.settled file.old) number at
+        → IsGateOf (F.moved file.old) (F.settled file.old) number at
         → (is_told ≡ true → number < length (F.settled file.old))
         → Finds (F.settled file.new) number look) }
     ensures fits { IfOk result IsFitting }
     ensures grown { IsTrue (F.tells file.old)
         → IsGrown (F.settled file.old) (F.settled file.new) }
+    ensures moved { F.moved file.new ≡ F.moved file.old }
     ensures tells { F.tells file.new ≡ F.tells file.old }
     ensures failed { IfErr result (λ e. e ≡ AskFault.Disk
         → Rose (F.faults file.old) (F.faults file.new)) }
