@@ -63,6 +63,7 @@ module _ (m n : List (List ℕ) → List ℕ → Type 0) (s t : List (List ℕ) 
     base = base;
     mended = mended;
     delivers = delivers_from o w.base new.records (none_left mid base w.base mid_is w.mended) w.delivers;
+    added = subst (λ (B : List (List ℕ)). o.number ≡ length B → new.records ≡ B ++ o.content ∷ []) (none_left mid base w.base mid_is w.mended) w.added;
     settled = w.settled;
   }
 
@@ -85,4 +86,4 @@ module _ (m n : List (List ℕ) → List ℕ → Type 0) (s t : List (List ℕ) 
 
 -- an offer with another number leaves the mended records
 pub left_alone : (m : List (List ℕ) → List ℕ → Type 0) (old new : Held) (o : Numbered (List ℕ)) → IsMended old new.records → new.doubt ≡ None → (o.number ≡ length new.records → ⊥) → Takes m old o new
-left_alone m old new o mended none other = record { base = new.records; mended = mended; delivers = ignored (λ next may. other next); settled = none }
+left_alone m old new o mended none other = record { base = new.records; mended = mended; delivers = ignored (λ next may. other next); added = λ next. absurd (other next); settled = none }

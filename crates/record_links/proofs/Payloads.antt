@@ -23,12 +23,12 @@ fit_push xs x false all fits = all
 
 module _ (may : List (List ℕ) → List ℕ → Type 0) (F : List (List ℕ)) (o : Numbered (List ℕ)) where
   pub passed : (o.number ≢ length F) → Takes may (sure F) o (sure F)
-  passed other = record { base = F; mended = as_they_are; delivers = ignored (λ next m. other next); settled = refl }
+  passed other = record { base = F; mended = as_they_are; delivers = ignored (λ next m. other next); added = λ next. absurd (other next); settled = refl }
 
   pub taken : (G : List (List ℕ)) → o.number ≡ length F → may F o.content → G ≡ F ++ o.content ∷ [] → Takes may (sure F) o (sure G)
   taken G next m is =
       subst (λ (H : List (List ℕ)). Takes may (sure F) o (sure H)) (sym is)
-      (record { base = F; mended = as_they_are; delivers = appended next m; settled = refl })
+      (record { base = F; mended = as_they_are; delivers = appended next m; added = λ e. refl; settled = refl })
 
   pub due : o.number ≡ length F → may F o.content → IsDue may (sure F) F o
   due next m = record { mended = as_they_are; next = next; follows = m }

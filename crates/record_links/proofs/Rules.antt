@@ -30,7 +30,7 @@ module _ (m n : List (List ℕ) → List ℕ → Type 0) (s t : List (List ℕ) 
 
   pub takes_then : (old : Held) (o : Numbered (List ℕ)) (new : Held) → Takes n old o new → Takes m old o new
   takes_then old o new w =
-      record { base = w.base; mended = w.mended; delivers = delivers_then w.base o new.records w.delivers; settled = w.settled }
+      record { base = w.base; mended = w.mended; delivers = delivers_then w.base o new.records w.delivers; added = w.added; settled = w.settled }
 
   due_then : (old : Held) (base : List (List ℕ)) (o : Numbered (List ℕ)) → IsDue n old base o → IsDue m old base o
   due_then old base o w = record { mended = w.mended; next = w.next; follows = same.back base o.content w.follows }

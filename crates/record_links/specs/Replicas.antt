@@ -34,11 +34,13 @@ pub record IsSameRule (may may_then : List (List ℕ) → List ℕ → Type 0)
   pub same_limit : limit_then ≡ limit
 
 module _ (may : List (List ℕ) → List ℕ → Type 0) where
-  -- an offer was delivered to the mended records, and none is in doubt after it
+  -- an offer was delivered to the mended records, and none is in doubt after it. With the next
+  -- number its record is there; so one that may not follow is not taken
   pub record Takes (old : Held) (offer : Numbered (List ℕ)) (new : Held) : Type 0 where
     pub base : List (List ℕ)
     pub mended : IsMended old base
     pub delivers : Delivers may base offer new.records
+    pub added : offer.number ≡ length base → new.records ≡ base ++ offer.content ∷ []
     pub settled : new.doubt ≡ None
 
   -- an offer has the next number after the mended records, and may follow them

@@ -50,7 +50,7 @@ pub trait Replica {
         ensures { result ≡ length (held self.now).records };
 
     /// Delivers an offer, and answers how many records it has then, each on its disk for sure. It mends first where a record
-    /// is in doubt. An offer with another number than the count leaves the records.
+    /// is in doubt. An offer with the number of the count is added, or refused; one with another number leaves the records.
     fn take(&mut self, alloc: Global, number: u64, payload: &[u8]) -> Result<u64, TakeFault>
         requires { IsPayload payload.now }
         ensures taken { IfOk result (λ _. Takes (may_follow self.old) (held self.old)

@@ -50,6 +50,7 @@ returns-in-Ok-append-clause-taken g c =
       base = records_of mid;
       mended = as_they_are;
       delivers = subst (λ (G : List (List ℕ)). Delivers (may_follow mid) (records_of mid) o G) (sym c.in-Ok-append.ensures.appended) (appended next c.in-Ok-append.ensures.follows);
+      added = λ e. c.in-Ok-append.ensures.appended;
       settled = ap (option_map payload_of) c.in-Ok-append.ensures.sure;
     } in
     takes_from (may_follow old) (may_follow mid) (size_with old) (size_with mid) (limit_of old) (limit_of mid) (same_rule_of old mid c.mend.ensures.later) (held_of old) (held_of mid) (records_of mid)
