@@ -6,7 +6,7 @@ use Rattle.record_links.specs.declared.followed.Followed.{Followed}
 use Rattle.record_links.specs.declared.followed.Followed.TheVariants.{Done, Link, Lost}
 use Rattle.record_links.specs.Following.{IsMoved, IsFollowed}
 use Rattle.record_links.specs.Replicas.{Held}
-use Rattle.record_links.specs.Shipping.{IsShipped}
+use Rattle.record_links.specs.Shipping.{IsShipped, IsShipperEnd}
 
 module _ {K : Type 0} (tells : K → Bool) (left written : K → List ℕ)
     (faults identity : K → ℕ) where
@@ -23,9 +23,11 @@ module _ {K : Type 0} (tells : K → Bool) (left written : K → List ℕ)
     pub frame : IsLent tells identity faults link back
 
   -- records were shipped over a link, and it ended so. Done, it has all of them. If the records and
-  -- the link are reported, the offers of the records that were asked for were written
+  -- the link are reported, the offers of the records that were asked for were written. It took no
+  -- offer, so none ended it
   pub record IsShippedLink (told : Bool) (records : List (List ℕ)) (followed : Followed)
       (link back : K) : Type 0 where
+    pub ends : IsShipperEnd followed
     pub done : (count : ℕ) → followed ≡ Done count → count ≡ length records
     pub shipped : IsTrue told → IsTrue (tells link) → (text : List ℕ)
         × (written back ≡ written link ++ text) × IsShipped records (left link) text followed

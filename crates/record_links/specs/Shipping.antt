@@ -1,5 +1,5 @@
 -- What the side of a leader that ships its records does with the bytes of a link.
-use Rattle.std.specs.Prelude.{◌≡◌, ◌⊎◌, ℕ, ◌+◌, ◌*◌, ◌<◌, ◌≤◌}
+use Rattle.std.specs.Prelude.{◌≡◌, ◌⊎◌, ℕ, ◌+◌, ◌*◌, ◌<◌, ◌≤◌, ⊤}
 use Rattle.std.specs.Prelude.{List, [], ◌++◌, length, slice_get, Some}
 use Rattle.record_links.specs.declared.fault.PeerFault.{PeerFault}
 use Rattle.record_links.specs.declared.fault.PeerFault.TheVariants.{Above, TooManyHaves}
@@ -8,6 +8,17 @@ use Rattle.record_links.specs.declared.followed.Followed.TheVariants.{Done, Link
 use Rattle.record_links.specs.declared.followed.Turn.{Turn}
 use Rattle.record_links.specs.declared.followed.Turn.TheVariants.{GoesOn, Over}
 use Rattle.record_links.specs.Messages.{IsCutOff, offer_text, end_text, IsHave, IsNoHave}
+
+-- an end that a shipper has, whatever is reported: it takes no offers
+abbrev pub IsShipperEnd : Followed → Type 0
+IsShipperEnd (Offer n) = ⊥
+IsShipperEnd (Full n) = ⊥
+IsShipperEnd other = ⊤
+
+-- an end that one have may bring
+abbrev pub IsTurnEnd : Turn → Type 0
+IsTurnEnd GoesOn = ⊤
+IsTurnEnd (Over followed) = IsShipperEnd followed
 
 -- of the leader's records, those of an office or of a journal that grows
 module _ (records : List (List ℕ)) where

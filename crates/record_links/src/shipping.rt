@@ -3,7 +3,7 @@ ghost use Rattle.std.specs.Prelude.{◌≡◌, ◌≢◌, ◌<◌, ◌≤◌, �
 ghost use Rattle.exam_edge.specs.Faults.{Rose};
 ghost use Rattle.exam_edge.specs.Lent.{IsLent};
 ghost use Rattle.record_links.specs.Messages.{bytes_of};
-ghost use Rattle.record_links.specs.Shipping.{Sends, Turns, IsShipped};
+ghost use Rattle.record_links.specs.Shipping.{Sends, Turns, IsShipped, IsShipperEnd, IsTurnEnd};
 
 use crate::fault::MessageFault;
 use crate::followed::Turn;
@@ -20,6 +20,7 @@ fn send_offer<S: RecordLog, K: Link>(alloc: Global, log: &mut S, link: &mut K, n
     ensures sends { IsTrue (S.tells log.old) → IsTrue (K.tells link.old) → (text : List ℕ)
         × (K.written link.new ≡ K.written link.old ++ text)
         × Sends (S.records log.old) number text result }
+    ensures ends { IsTurnEnd result }
     ensures goes_on { (count : ℕ) → result ≢ Turn.Over (Followed.Done count) }
     ensures left { IsTrue (K.tells link.old) → K.left link.new ≡ K.left link.old }
     ensures same { S.records log.new ≡ S.records log.old }
@@ -59,6 +60,7 @@ fn ship_message<S: RecordLog, K: Link>(
         × (K.written link.new ≡ K.written link.old ++ text)
         × Turns (S.records log.old) (bytes_of kept.old ++ K.left link.old) text
         (bytes_of kept.new ++ K.left link.new) result }
+    ensures ends { IsTurnEnd result }
     ensures done { (count : ℕ) → result ≡ Turn.Over (Followed.Done count)
         → count ≡ length (S.records log.old) }
     ensures same { S.records log.new ≡ S.records log.old }
@@ -98,7 +100,8 @@ pub fn ship_link<S: RecordLog, K: Link>(alloc: Global, log: &mut S, link: &mut K
     ensures shipped { IsTrue (S.tells log.old) → IsTrue (K.tells link.old) → (text : List ℕ)
         × (K.written link.new ≡ K.written link.old ++ text)
         × IsShipped (S.records log.old) (K.left link.old) text result }
-    // Whether the link tells its bytes or not.
+    // Whether the log and the link tell or not.
+    ensures ends { IsShipperEnd result }
     ensures done { (count : ℕ) → result ≡ Followed.Done count
         → count ≡ length (S.records log.old) }
     ensures same { S.records log.new ≡ S.records log.old }
