@@ -7,7 +7,7 @@ use Rattle.record_links.specs.Following.{Serves, begun, and_then}
 use Rattle.record_links.specs.Replicas.{Held, sure, IsMended, as_they_are, with_doubt, Takes}
 use Rattle.record_links.specs.World.{Numbered, World, Delivers, answers, delivers, HappensAlong, nothing, and_then as and_then_event}
 
-split_last : {A : Type 0} (P : A → Type 0) (xs : List A) (x : A) → AllByRecursion P (xs ++ x ∷ []) → AllByRecursion P xs × P x
+pub split_last : {A : Type 0} (P : A → Type 0) (xs : List A) (x : A) → AllByRecursion P (xs ++ x ∷ []) → AllByRecursion P xs × P x
 split_last P [] x all = (tt, all.0)
 split_last P (y ∷ ys) x all = let rest = split_last P ys x all.1 in ((all.0, rest.0), rest.1)
 

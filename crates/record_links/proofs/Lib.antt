@@ -6,5 +6,6 @@ pub mod Taking
 pub mod Sending
 pub mod Payloads
 pub mod EventLaws
+pub mod CallLaws
 pub mod ReadingLaws
 pub mod Growing

@@ -1,7 +1,7 @@
 //! What the definitions mean: functions that do nothing, and whose clauses are laws.
 ghost use Rattle.std.specs.Prelude.{◌≡◌, ◌<◌, ◌^◌, ◌++◌, ℕ, List};
 ghost use Rattle.record_links.specs.declared.fault.PeerFault.{PeerFault};
-ghost use Rattle.record_links.specs.Events.{LinksAreEvents};
+ghost use Rattle.record_links.specs.Events.{LinksAreEvents, TakesAreEvents, FaultsAreEvents, StopsAreEvents, LinksGoOn, EventsJoin, OffersAreEvents};
 ghost use Rattle.record_links.specs.Messages.{IsPayload, offer_of, offer_text, have_text, IsOffer, IsEnd, IsNoOffer, IsHave, IsNoHave};
 ghost use Rattle.record_links.specs.World.{Numbered, FollowsAlong};
 
@@ -17,6 +17,24 @@ pub fn a_follower_follows<F: Replica>(_replica: &F)
 pub fn links_are_events<F: Replica>(_replica: &F)
     ensures { LinksAreEvents (F.may_follow _replica.now) (F.size _replica.now)
         (F.limit _replica.now) }
+{}
+
+/// A replica with an offer that was sent in hand goes on within the world of a leader, whether the call takes the offer, fails,
+/// or is cut off by a stop. Only an offer that is taken is answered.
+pub fn calls_are_events<F: Replica>(_replica: &F)
+    ensures taken { TakesAreEvents (F.may_follow _replica.now) }
+    ensures fault { FaultsAreEvents (F.may_follow _replica.now) (F.size _replica.now)
+        (F.limit _replica.now) }
+    ensures stops { StopsAreEvents (F.may_follow _replica.now) }
+    // A link is these calls, one after another.
+    ensures links { LinksGoOn (F.may_follow _replica.now) (F.size _replica.now)
+        (F.limit _replica.now) }
+    ensures joined { EventsJoin (F.may_follow _replica.now) }
+{}
+
+/// What a shipper of the leader's records writes for haves are offers of the world.
+pub fn offers_are_events<F: Replica>(_replica: &F)
+    ensures { OffersAreEvents (F.may_follow _replica.now) }
 {}
 
 /// Bytes begin with at most one message of a shipper, or have one fault.
