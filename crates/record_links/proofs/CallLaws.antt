@@ -1,7 +1,6 @@
 -- What a call does to a replica, and what a shipper writes, is events of the world.
 use Rattle.std.proofs.Common.{◌≡◌, ⊎_elim, inr, ℕ, ◌+◌, max, List, [], ◌∷◌, ◌++◌, length, Some, None, refl, sym, ap, ◌∙◌, subst, arith, append_assoc, append-nil, length-append}
 use Rattle.std.specs.Prelude.{Contains}
-use Rattle.record_links.specs.declared.replica.TakeFault.{TakeFault}
 use Rattle.record_links.specs.declared.replica.TakeFault.TheVariants.{Refused, Full, Disk, Memory}
 use Rattle.record_links.specs.Events.{IsFollowerOf, LeadsTo, TakesAreEvents, FaultsAreEvents, StopsAreEvents, LinksGoOn, EventsJoin, texts_of, OffersAreEvents}
 use Rattle.record_links.specs.Following.{Serves, begun as serves_none, and_then as serves_more}
