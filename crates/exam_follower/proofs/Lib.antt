@@ -6,3 +6,4 @@ pub mod Stops
 pub mod Steps
 pub mod Appends
 pub mod Takeover
+pub mod Openings

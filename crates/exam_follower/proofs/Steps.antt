@@ -18,6 +18,7 @@ use Rattle.exam_office.specs.declared.mark.Mark.TheVariants.{Own, Adopted, Fault
 use Rattle.exam_office.specs.Marks.{history, reach}
 use Rattle.exam_office.specs.Payloads.{IsResolved}
 use Rattle.exam_office.specs.Running.{Running}
+use Rattle.exam_office.proofs.Moments.{in_doubt_images}
 use Rattle.exam_office.specs.Writing.{IsSameOffice, IsMended, IsUnmended, with_record}
 use Rattle.record_links.specs.Replicas.{sure, IsMended as Mends, as_they_are, with_doubt}
 use Rattle.exam_follower.specs.Delivering.{HasRecords}
@@ -89,6 +90,19 @@ module _ {D : Type 0} (f : FollowerState D) (is : IsFollower f) where
   images_none none images told =
       let s = sure_none f.office (records_of f) f.doubt is.sure none in
       subst (λ (ps : List (List ℕ)). AllImages (λ file. contents file ≡ Some (second ps)) (latest (accounts_of f.office.journal))) (s.1 told) (images s.0 told)
+
+  -- what a crash may leave has the mended records
+  images_held_by : (d : Option Record) → f.doubt ≡ d → (f.office.doubt ≡ None → IsTrue (tells_of f.office.journal) → AllImages (λ file. contents file ≡ Some (second (payloads_of f.office.journal))) (latest (accounts_of f.office.journal)))
+      → IsTrue (tells_of f.office.journal) → AllImages (HasRecords (Mends (held_of f))) (latest (accounts_of f.office.journal))
+  images_held_by None none images told = λ file i. (records_of f, as_they_are, images_none none images told file i)
+  images_held_by (Some last) some images told = λ file i.
+      let doubt = (sure_some f.office (records_of f) f.doubt is.sure last some).2 in
+      let mends : Mends (held_of f) (records_of f ++ payload_of last ∷ []) = with_doubt (payload_of last) (ap (option_map payload_of) some) in
+      ⊎_elim (λ e. (records_of f, as_they_are, e)) (λ e. (records_of f ++ payload_of last ∷ [], mends, e)) (in_doubt_images f.office.journal (records_of f) (payload_of last) doubt told file i)
+
+  pub images_held : (f.office.doubt ≡ None → IsTrue (tells_of f.office.journal) → AllImages (λ file. contents file ≡ Some (second (payloads_of f.office.journal))) (latest (accounts_of f.office.journal)))
+      → IsTrue (tells_of f.office.journal) → AllImages (HasRecords (Mends (held_of f))) (latest (accounts_of f.office.journal))
+  images_held = images_held_by f.doubt refl
 
   pub stops_none : f.doubt ≡ None → (f.office.doubt ≡ None → IsTrue (tells_of f.office.journal) → AllImages (λ file. contents file ≡ Some (second (payloads_of f.office.journal))) (latest (accounts_of f.office.journal)))
       → IsTrue (tells_of f.office.journal) → AtEachMoment (accounts_of f.office.journal) (accounts_of f.office.journal) (HasRecords (Mends (held_of f)))

@@ -8,8 +8,8 @@ use Rattle.exam_records.specs.Spelling.{payload_of}
 use Rattle.answer_journal.specs.Journal.{tells_of}
 use Rattle.exam_office.specs.Marks.{history}
 use Rattle.record_links.proofs.WorldLaws.{follows}
-use Rattle.exam_follower.specs.Followers.{FollowerState, records_of, may_follow, AreSpelled, IsFollower}
-use Rattle.exam_follower.specs.Takeover.{IsKeptByTakeover}
+use Rattle.exam_follower.specs.Followers.{FollowerState, records_of, AreSpelled, IsFollower}
+use Rattle.exam_follower.specs.Takeover.{KeepsAnswered}
 use Rattle.exam_follower.proofs.Marked.{all-append, same_entry}
 
 pub spelled_all : {D : Type 0} (f : FollowerState D) → IsFollower f → IsTrue (tells_of f.office.journal) → AreSpelled (records_of f) (history f.office.marks)
@@ -24,9 +24,9 @@ spelled_all f is told =
           ∙ (ap (λ (H : List Entry). H ++ entries_of f.taken) s.entries ∙ sym is.entries);
     }
 
-pub kept_by_takeover : {D : Type 0} (f : FollowerState D) (H : List Entry) → AreSpelled (records_of f) H → IsKeptByTakeover f H
-kept_by_takeover f H s start w is_start along same records spell leader k lt =
-    let all = follows (may_follow f) start w is_start along in
+pub keeps_answered : (may : List (List ℕ) → List ℕ → Type 0) (held : List (List ℕ)) (H : List Entry) → AreSpelled held H → KeepsAnswered may held H
+keeps_answered may held H s start w is_start along same records spell leader k lt =
+    let all = follows may start w is_start along in
     let here : slice_get (map payload_of s.records) k ≡ slice_get w.follower k = ap (λ (l : List (List ℕ)). slice_get l k) (sym s.payloads ∙ sym same) in
     let there : slice_get w.leader k ≡ slice_get (map payload_of records) k = ap (λ (l : List (List ℕ)). slice_get l k) leader in
     ap (λ (G : List Entry). slice_get G k) (sym s.entries)

@@ -1,5 +1,5 @@
 -- A follower over an office: the records that it has, and the rule by which one may follow them.
-use Rattle.std.specs.Prelude.{◌≡◌, ℕ, if◌then◌else◌, List, ◌++◌, fold, length, drop, map, IsTrue, Option, Some, None}
+use Rattle.std.specs.Prelude.{◌≡◌, ℕ, if◌then◌else◌, List, [], ◌++◌, fold, length, drop, map, IsTrue, Option, Some, None}
 use Rattle.std.specs.List.{AllByRecursion, filter_map}
 use Rattle.std.specs.Option.{option_map}
 use Rattle.bank_tables.specs.Tables.{Tables}
@@ -84,6 +84,11 @@ pub record IsFollowing (b : Tables) (plan : Plan) (first : List (List ℕ)) (H :
 abbrev pub may_follow : {D : Type 0} → FollowerState D → List (List ℕ) → List ℕ → Type 0
 may_follow f =
     IsFollowing f.office.bank f.office.plan (found_payloads f.office) (found f.office.marks)
+
+-- the rule of all openings, which is of the bank and the plan alone: the records spell entries, and
+-- the payload a record that may follow these
+abbrev pub lasting_rule : {D : Type 0} → FollowerState D → List (List ℕ) → List ℕ → Type 0
+lasting_rule f = IsFollowing f.office.bank f.office.plan [] []
 
 -- the length of the journal with these records, of which the first were found
 abbrev pub size_with : {D : Type 0} → FollowerState D → List (List ℕ) → ℕ

@@ -55,7 +55,7 @@ impl<'a, D: Disk> Model for Follower<'a, D> {
 
 impl<'a, D: Disk> Follower<'a, D> {
     ghost use Rattle.exam_follower.specs.Followers.{records_of, found, AreSpelled};
-    ghost use Rattle.exam_follower.specs.Takeover.{IsKeptByTakeover};
+    ghost use Rattle.exam_follower.specs.Takeover.{IsKeptByTakeover, IsKeptOverOpenings};
 
     /// Opens a follower over a disk, as an office is opened there: its records are those in the file. The base is a form of
     /// the plan alone. The disk is as a reboot or a journal left it. A refusal gives the disk back.
@@ -164,6 +164,9 @@ impl<'a, D: Disk> Follower<'a, D> {
         // Whatever happened to a leader and this follower of it, by its rule: each record that is numbered below a have
         // which the follower answered has its entry, the leader's, in the history.
         ensures answered { IsTrue (tells_of result.journal) → IsKeptByTakeover self.entry
+            (history result.marks) }
+        // So it is of the haves of all openings, which are events by one rule: `laws::all_in_one_world`.
+        ensures ever { IsTrue (tells_of result.journal) → IsKeptOverOpenings self.entry
             (history result.marks) }
     {
         let Follower {

@@ -7,6 +7,7 @@
 mod delivering;
 mod fault;
 mod follower;
+pub mod laws;
 mod office_log;
 mod replica;
 
