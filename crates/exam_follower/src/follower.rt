@@ -20,6 +20,7 @@ ghost use Rattle.exam_office.specs.Files.{Stands, StandsSecond};
 ghost use Rattle.exam_office.specs.Marks.{history, reach};
 ghost use Rattle.exam_office.specs.Opening.{IsOpenAnswer};
 ghost use Rattle.exam_office.specs.Running.{handed};
+ghost use Rattle.record_links.specs.Replicas.{IsMended};
 
 use bank_tables::{Bank, ItemSet};
 use constraint_model::Spec;
@@ -54,7 +55,8 @@ impl<'a, D: Disk> Model for Follower<'a, D> {
 }
 
 impl<'a, D: Disk> Follower<'a, D> {
-    ghost use Rattle.exam_follower.specs.Followers.{records_of, found, AreSpelled};
+    ghost use Rattle.exam_follower.specs.Delivering.{HasRecords};
+    ghost use Rattle.exam_follower.specs.Followers.{held_of, records_of, found, AreSpelled};
     ghost use Rattle.exam_follower.specs.Takeover.{IsKeptByTakeover, IsKeptOverOpenings};
 
     /// Opens a follower over a disk, as an office is opened there: its records are those in the file. The base is a form of
@@ -140,8 +142,8 @@ impl<'a, D: Disk> Follower<'a, D> {
     }
 
     /// What its type keeps, as a law. The entries of the history are those that were found and those of the records that it
-    /// took. Of a disk that reports its content, its records spell the history; with none in doubt the journal has them, and
-    /// each file that a crash may leave.
+    /// took. Of a disk that reports its content, its records spell the history, and with none in doubt the journal has them.
+    /// Each file that a crash may leave has them, or these with the one in doubt.
     pub fn keeps(&self)
         ensures history { history self.now.office.marks
             ≡ found self.now.office.marks ++ entries_of self.now.taken }
@@ -151,8 +153,11 @@ impl<'a, D: Disk> Follower<'a, D> {
             × (self.now.office.doubt ≡ None → self.now.doubt ≡ None) }
         ensures journal { self.now.doubt ≡ None → IsTrue (tells_of self.now.office.journal)
             → payloads_of self.now.office.journal ≡ records_of self.now }
+        ensures images { IsTrue (tells_of self.now.office.journal)
+            → AllImages (HasRecords (IsMended (held_of self.now)))
+            (latest (accounts_of self.now.office.journal)) }
     {
-        let _ = &self.office;
+        self.office.holds();
     }
 
     /// The office of it, which goes on where it is: a takeover. Its history is the entries of the follower, and it has each
