@@ -1,5 +1,5 @@
 -- The rule of an opening is that of all openings, for records that begin with those that were found.
-use Rattle.std.proofs.Common.{◌≡◌, ⊎_elim, ◌⊎◌, ℕ, ◌≤◌, max, List, [], ◌∷◌, ◌++◌, length, map, Some, None, IsTrue, refl, sym, ap, ◌∙◌, subst, append_assoc}
+use Rattle.std.proofs.Common.{◌≡◌, ⊎_elim, ◌⊎◌, ℕ, List, [], ◌∷◌, ◌++◌, map, IsTrue, refl, sym, ap, ◌∙◌, subst, append_assoc}
 use Rattle.std.specs.Prelude.{Contains}
 use Rattle.std.specs.List.{AllByRecursion}
 use Rattle.std.proofs.lemmas.List.{map-append}
@@ -11,14 +11,13 @@ use Rattle.exam_records.specs.Shape.{IsRecord}
 use Rattle.exam_records.specs.Spelling.{payload_of}
 use Rattle.exam_records.proofs.SecondLaws.{no_two_records}
 use Rattle.answer_journal.specs.Journal.{tells_of}
-use Rattle.answer_journal.specs.Versions.{contents, second}
 use Rattle.record_links.specs.Events.{IsFollowerOf, LeadsTo}
 use Rattle.record_links.specs.Replicas.{Held, sure, IsMended, StopLeaves}
 use Rattle.record_links.specs.World.{Numbered, World, Delivers, appended, ignored, Happens, grows, sends, delivers, stops_with, stops_without, answers, HappensAlong, nothing, and_then}
 use Rattle.record_links.proofs.CallLaws.{mends, takes_are_events, faults_are_events, links_go_on, stops_are_events}
 use Rattle.exam_follower.specs.Delivering.{HasRecords}
 use Rattle.exam_follower.specs.Followers.{FollowerState, found, found_payloads, records_of, held_of, may_follow, lasting_rule, size_with, limit_of, AreSpelled, IsFollowing, IsFollower}
-use Rattle.exam_follower.specs.Openings.{IsInWorld, TakesInWorld, FailsInWorld, LinksInWorld, IsLeftByStop, OpensInWorld}
+use Rattle.exam_follower.specs.Openings.{IsInWorld, TakesInWorld, FailsInWorld, LinksInWorld, OpensInWorld}
 use Rattle.exam_follower.proofs.Marked.{all-append}
 use Rattle.exam_follower.proofs.Steps.{held_none}
 use Rattle.exam_follower.proofs.Stops.{records_there}

@@ -1,6 +1,6 @@
 -- What happens to a follower over any number of openings of its file: events of one world, by one
 -- rule.
-use Rattle.std.specs.Prelude.{◌≡◌, ◌⊎◌, ℕ, ◌≤◌, max, List, [], length, Contains, Some, None}
+use Rattle.std.specs.Prelude.{◌≡◌, ◌⊎◌, ℕ, ◌≤◌, max, List, length, Contains, Some, None}
 use Rattle.std.specs.List.{AllByRecursion}
 use Rattle.answer_journal.specs.Versions.{contents, second}
 use Rattle.record_links.specs.declared.replica.TakeFault.{TakeFault}

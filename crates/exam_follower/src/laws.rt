@@ -19,10 +19,7 @@ pub fn all_in_one_world<'a, D: Disk>(follower: &Follower<'a, D>)
 
 /// A follower that is opened over the file that a stop left is in the world of the one before: it has a beginning of the
 /// leader's records, and each record that any opening of the file answered for.
-pub fn openings_in_one_world<'a, 'b, D: Disk>(
-    earlier: &Follower<'a, D>,
-    _later: &Follower<'b, D>,
-)
+pub fn openings_in_one_world<'a, 'b, D: Disk>(earlier: &Follower<'a, D>, _later: &Follower<'b, D>)
     ensures { IsTrue (tells_of earlier.now.office.journal)
         → OpensInWorld earlier.now _later.now }
 {
