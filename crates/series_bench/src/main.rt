@@ -158,7 +158,17 @@ fn print_found<R: Print + AllocGlobal>(
 fn main(rt: HostRuntime) -> Result<()> {
     let words: Vec<String> = env::args(&rt)?.skip(1).collect(rt.alloc())?;
     let (words, kinds, is_quiet) = match words.as_slice() {
-        [word, rest @ ..] if word.as_str() == "plain" => (rest, Kinds::judged(), false),
+        [word, rest @ ..] if word.as_str() == "judged" => (rest, Kinds::judged(), false),
+        [word, rest @ ..] if word.as_str() == "plain" => (
+            rest,
+            Kinds {
+                pool: false,
+                thresholds: false,
+                uses: false,
+                twins: true,
+            },
+            false,
+        ),
         [word, rest @ ..] if word.as_str() == "quiet" => (rest, Kinds::all(), true),
         all => (all, Kinds::all(), false),
     };

@@ -7,5 +7,9 @@ pub mod UsedLaws
 pub mod SideLaws
 pub mod LinearLaws
 pub mod MaximumLaws
+pub mod ApartSums
+pub mod PoolMaximumLaws
+pub mod PoolStepLaws
+pub mod LeafLaws
 pub mod WalkLaws
 pub mod RowsOfA

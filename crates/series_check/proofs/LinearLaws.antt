@@ -95,11 +95,11 @@ module _ (P : Problem) (v : Multipliers) where
       omega (arith, ints)
 
 -- ---- the greatest value of a linear form over relaxed pairs
-total_z-le : (n : ℕ) (f g : ℕ → ℤ) → ((i : ℕ) → i < n → f i ≤ℤ g i) → total_z n f ≤ℤ total_z n g
+pub total_z-le : (n : ℕ) (f g : ℕ → ℤ) → ((i : ℕ) → i < n → f i ≤ℤ g i) → total_z n f ≤ℤ total_z n g
 total_z-le zero f g h = omega (arith, ints)
 total_z-le (suc n) f g h = let rest = total_z-le n f g (λ i w. h i (omega arith)) in let last = h n (omega arith) in omega (arith, ints)
 
-sum_in_z-split : (n : ℕ) (X A B : Set) (f : ℕ → ℤ) → ((i : ℕ) → i < n → (X i ≡ (A i || B i)) × ((A i && B i) ≡ false)) → sum_in_z n X f ≡ sum_in_z n A f +ℤ sum_in_z n B f
+pub sum_in_z-split : (n : ℕ) (X A B : Set) (f : ℕ → ℤ) → ((i : ℕ) → i < n → (X i ≡ (A i || B i)) × ((A i && B i) ≡ false)) → sum_in_z n X f ≡ sum_in_z n A f +ℤ sum_in_z n B f
 sum_in_z-split zero X A B f h = omega (arith, ints)
 sum_in_z-split (suc n) X A B f h =
     let rest = sum_in_z-split n X A B f (λ i w. h i (omega arith)) in
@@ -112,25 +112,25 @@ sum_in_z-split (suc n) X A B f h =
     term x false true m e d = rw e (omega (arith, ints))
     term x false false m e d = rw e (omega (arith, ints))
 
-apart : (a b : Bool) → (b ≡ true → a ≡ false) → (a && b) ≡ false
+pub apart : (a b : Bool) → (b ≡ true → a ≡ false) → (a && b) ≡ false
 apart true true h = h refl
 apart true false h = refl
 apart false b h = refl
 
 -- a stimulus is taken if it is chosen, or open and of a weight that is not negative
-picked : (c o : Bool) (u : ℤ) → cond (c || (o && not (int_lt u (pos 0)))) u (pos 0) ≡ cond c u (cond o (int_max (pos 0) u) (pos 0))
+pub picked : (c o : Bool) (u : ℤ) → cond (c || (o && not (int_lt u (pos 0)))) u (pos 0) ≡ cond c u (cond o (int_max (pos 0) u) (pos 0))
 picked true o u = refl
 picked false true u = elim (either (int_lt u (pos 0))) [ inl low ↦ rw low refl | inr high ↦ rw high refl ]
 picked false false u = refl
 
-at_most_gain : (c o z : Bool) (u : ℤ) → (c ≡ true → z ≡ true) → (z ≡ true → (c ≡ true) ⊎ (o ≡ true)) → cond z u (pos 0) ≤ℤ cond c u (cond o (int_max (pos 0) u) (pos 0))
+pub at_most_gain : (c o z : Bool) (u : ℤ) → (c ≡ true → z ≡ true) → (z ≡ true → (c ≡ true) ⊎ (o ≡ true)) → cond z u (pos 0) ≤ℤ cond c u (cond o (int_max (pos 0) u) (pos 0))
 at_most_gain true o z u h k = rw (h refl) (omega (arith, ints))
 at_most_gain false true true u h k = elim (either (int_lt u (pos 0))) [ inl low ↦ rw low (omega (arith, ints)) | inr high ↦ rw high (omega (arith, ints)) ]
 at_most_gain false true false u h k = elim (either (int_lt u (pos 0))) [ inl low ↦ rw low (omega (arith, ints)) | inr high ↦ rw high (omega (arith, ints)) ]
 at_most_gain false false true u h k = elim (k refl) [ inl e ↦ absurd (true≢false (sym e)) | inr e ↦ absurd (true≢false (sym e)) ]
 at_most_gain false false false u h k = omega (arith, ints)
 
-not_true : (b : Bool) → not b ≡ true → b ≡ false
+pub not_true : (b : Bool) → not b ≡ true → b ≡ false
 not_true true h = absurd (true≢false (sym h))
 not_true false h = refl
 

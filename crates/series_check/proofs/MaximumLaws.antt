@@ -44,7 +44,7 @@ value_of_top P p N weights T k constant taken free stimuli top fills e f g h =
 
 module _ (Q : SeriesProblem) (p : SeriesPath) (v : Multipliers) (ray : Bool) (f : ℕ) where
   -- the Lagrangian of a form is linear, with these weights
-  form_linear : (X Z : Set) → form_lagrangian Q v ray f X Z ≡ linear (form_problem Q) (multiplier (multipliers_of f v)) (weight_at Q (multiplier v) (multiplier (multipliers_of f v)) ray f) X Z
+  pub form_linear : (X Z : Set) → form_lagrangian Q v ray f X Z ≡ linear (form_problem Q) (multiplier (multipliers_of f v)) (weight_at Q (multiplier v) (multiplier (multipliers_of f v)) ray f) X Z
   form_linear X Z =
       let rows = lagrangian_linear (form_problem Q) (multipliers_of f v) X Z in
       let both = sum_in_z-plus (size Q.bank) X (item_gain Q v ray f) (item_weight (form_problem Q) (multiplier (multipliers_of f v)) true) in

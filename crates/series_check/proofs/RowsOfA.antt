@@ -19,7 +19,8 @@ use Rattle.series_model.specs.declared.verdict.SeriesVerdict.TheVariants.{Optima
 use Rattle.series_model.specs.Series.{SeriesProblem, weight_of, weighted_information, IsSeriesList, IsValue, BestSeries, HasNoSeries, forms_of}
 use Rattle.series_model.specs.SeriesBounds.{points, multipliers_of, IsSeriesMaximum}
 use Rattle.series_model.specs.SeriesPaths.{root, form_problem, form_path}
-use Rattle.series_model.specs.SeriesTrees.{Certificate}
+use Rattle.series_model.specs.SeriesPools.{IsMaximumBy}
+use Rattle.series_model.specs.SeriesTrees.{Certificate, names_pool}
 use Rattle.series_model.specs.SeriesVerdicts.{NamesOnlySides, ClosesByBound, IsSeriesVerdict}
 use Rattle.series_model.proofs.SeriesTreeLaws.{optimal_is_best_series, no_series_is_none}
 use Rattle.series_check.specs.Maximum.{weight_at, IsFormMaximum}
@@ -101,6 +102,11 @@ minus_two =
     (one_more_form (two_forms 4) root common_uses true 0 (pos 6) (negsuc 3) (no_forms (two_forms 4) root common_uses true (pos 6) refl) (four_minus_ones 0 (omega arith)))
     (four_minus_ones 1 (omega arith)))
 
+-- it is no vector of the pool
+pub minus_two_by : IsMaximumBy (names_pool common_uses) (two_forms 4) root common_uses true (negsuc 1)
+unfolding common_uses
+minus_two_by = minus_two
+
 names_uses : NamesOnlySides (two_forms 4) common_uses
 unfolding two_forms bank_a common_uses
 names_uses zero d w = inr (inl (0, omega arith, refl))
@@ -116,7 +122,7 @@ one_ray = record { vectors = common_uses ∷ []; nodes = Ray 0 ∷ [] }
 
 pub no_series_of_four : IsSeriesVerdict (two_forms 4) None None one_ray NoSeries
 unfolding one_ray
-no_series_of_four = inl (tt, (None, refl, inl ((omega arith, names_uses, record { maximum = negsuc 1; is_maximum = minus_two; below = omega (arith, ints) }), refl)))
+no_series_of_four = inl (tt, (None, refl, inl ((omega arith, names_uses, record { maximum = negsuc 1; is_maximum = minus_two_by; below = omega (arith, ints) }), refl)))
 
 pub none_of_four : HasNoSeries (two_forms 4)
 none_of_four = no_series_is_none (two_forms 4) None one_ray no_series_of_four

@@ -3,6 +3,7 @@ pub mod Points
 pub mod Gains
 pub mod Tops
 pub mod Maximum
+pub mod Pools
 pub mod Values
 pub mod Walks
 pub mod Answers

@@ -9,7 +9,8 @@ use Rattle.form_model.specs.Problem.{Problem}
 use Rattle.certificate_model.specs.Relaxed.{Multipliers, multiplier, IsRelaxedPair}
 use Rattle.certificate_model.specs.Weights.{item_weight, stimulus_weight, rows_constant}
 use Rattle.series_model.specs.Series.{SeriesProblem}
-use Rattle.series_model.specs.SeriesBounds.{use_side, counts, form_lagrangian, IsSeriesMaximum}
+use Rattle.series_model.specs.SeriesBounds.{use_side, counts, form_lagrangian}
+use Rattle.series_model.specs.SeriesPools.{IsMaximumBy}
 use Rattle.series_model.specs.SeriesPaths.{SeriesPath, form_problem, form_path}
 use Rattle.series_check.specs.Points.{point_term}
 
@@ -48,7 +49,7 @@ abbrev pub IsFormAnswer : SeriesProblem → SeriesPath → Multipliers → Bool 
 IsFormAnswer Q p v ray f (Some r) = IsFormMaximum Q p v ray f r
 IsFormAnswer Q p v ray f None = (X Z : Set) → IsRelaxedPair (form_problem Q) (form_path Q p f) X Z → ⊥
 
--- the number is the relaxed maximum of all forms, or there is none
-abbrev pub IsAnswer : SeriesProblem → SeriesPath → Multipliers → Bool → Option ℤ → Type 0
-IsAnswer Q p v ray (Some r) = IsSeriesMaximum Q p v ray r
-IsAnswer Q p v ray None = (r : ℤ) → IsSeriesMaximum Q p v ray r → ⊥
+-- the number is the relaxed maximum of all forms by the rule of the pool, or of each form for itself, or there is none
+abbrev pub IsAnswer : Bool → SeriesProblem → SeriesPath → Multipliers → Bool → Option ℤ → Type 0
+IsAnswer pool Q p v ray (Some r) = IsMaximumBy pool Q p v ray r
+IsAnswer pool Q p v ray None = (r : ℤ) → IsMaximumBy pool Q p v ray r → ⊥

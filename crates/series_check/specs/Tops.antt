@@ -3,6 +3,10 @@ use Rattle.std.specs.Prelude.{◌≡◌, ℕ, ◌⊎◌, List, ℤ, ◌≤ℤ◌
 use Rattle.certificate_model.specs.Ranges.{at}
 
 -- no weight of an item is further from 0
+abbrev pub weight_top : ℕ
+weight_top = 299000000000000000000
+
+-- nor, less the price of its form's length
 abbrev pub item_top : ℕ
 item_top = 300000000000000000000
 

@@ -11,6 +11,7 @@ mod gains;
 mod information;
 mod leaf;
 mod node;
+mod pool;
 mod relaxed;
 mod rows;
 mod setting;

@@ -1,6 +1,6 @@
 //! The relaxed maximum: an upper bound on the weighted information of each series on a path.
 
-ghost use Rattle.std.specs.Prelude.{◌≡◌, ℕ, ◌+◌, ◌*◌, ◌<◌, ◌≤◌, ◌≤ℤ◌, pos, IfSome, slice_index};
+ghost use Rattle.std.specs.Prelude.{◌≡◌, ℕ, ◌+◌, ◌*◌, ◌<◌, ◌≤◌, ◌≤ℤ◌, pos, false, IfSome, slice_index};
 ghost use Rattle.bank_tables.specs.Items.{has};
 ghost use Rattle.bank_tables.specs.Tables.{size};
 ghost use Rattle.form_model.specs.Forms.{size_in};
@@ -9,7 +9,7 @@ ghost use Rattle.certificate_model.specs.Relaxed.{Multipliers};
 ghost use Rattle.series_model.specs.Series.{IsSeriesProblem};
 ghost use Rattle.series_check.specs.Cuts.{problem_of, one_form, path_of, form_path_of, IsStanding};
 ghost use Rattle.series_check.specs.Maximum.{information_at, weight_at, maximum_top, IsValueOf, IsSides, IsFormAnswer, IsAnswer};
-ghost use Rattle.series_check.specs.Tops.{item_top};
+ghost use Rattle.series_check.specs.Tops.{item_top, weight_top};
 
 use crate::cut::SeriesCut;
 use crate::gains::gains;
@@ -57,7 +57,7 @@ fn weight(
     requires item { item < size setting.now.bank.now }
     ensures value { result ≡ weight_at (problem_of setting.now) (slice_index sides.now)
         (slice_index own.now) ray form item }
-    ensures within { IsWithin item_top result }
+    ensures within { IsWithin weight_top result }
 {
     let price = sides[256 + item as usize] as i128;
     let gain = information_or_none(setting, sides, form, ray, item) - price;
@@ -65,7 +65,7 @@ fn weight(
 }
 
 /// What each item of the bank weighs in a form.
-fn weights(
+pub fn weights(
     setting: &Setting,
     sides: &[u32; 2315],
     own: &[u32; 384],
@@ -77,7 +77,7 @@ fn weights(
     ensures value { (i : ℕ) → i < size setting.now.bank.now
         → at result i ≡ weight_at (problem_of setting.now) (slice_index sides.now)
         (slice_index own.now) ray form i }
-    ensures within { (i : ℕ) → i < size setting.now.bank.now → IsWithin item_top (at result i) }
+    ensures within { (i : ℕ) → i < size setting.now.bank.now → IsWithin weight_top (at result i) }
 {
     let mut weights = [0i128; 512];
     for i in 0..setting.bank.items() {
@@ -147,7 +147,7 @@ pub fn relaxed_maximum(
 ) -> Option<i128>
     requires { IsSeriesProblem (problem_of setting.now) }
     ensures { (v : Multipliers) → IsSides v sides.now
-        → IsAnswer (problem_of setting.now) (path_of cut.now) v ray result }
+        → IsAnswer false (problem_of setting.now) (path_of cut.now) v ray result }
 {
     let mut sum = uses(setting, sides) as i128;
     for f in 0..setting.forms {

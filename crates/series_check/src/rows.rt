@@ -27,7 +27,7 @@ fn price(sides: &[u32; 384], side: usize) -> i128
 }
 
 /// A multiplier less another, times a number.
-fn scaled(low: u32, high: u32, times: u32) -> i128
+pub fn scaled(low: u32, high: u32, times: u32) -> i128
     requires { times ≤ 65535 }
     ensures value { result ≡ (pos low -ℤ pos high) *ℤ pos times }
     ensures within { IsWithin (4294967295 * 65535) result }

@@ -16,7 +16,7 @@ use bank_tables::{Bank, ItemSet};
 use constraint_model::counts::size_in;
 
 /// The items that are in some form.
-fn placed(setting: &Setting, cut: &SeriesCut) -> ItemSet
+pub fn placed(setting: &Setting, cut: &SeriesCut) -> ItemSet
     requires { setting.now.forms ≤ 4 }
     ensures { (i : ℕ) → has result i ≡ is_placed (problem_of setting.now) (path_of cut.now) i }
 {
@@ -60,7 +60,7 @@ fn has_some(bank: &Bank, items: &ItemSet) -> bool
 }
 
 /// Whether a used item is in no form and free in none.
-fn is_use_lost(setting: &Setting, cut: &SeriesCut, placed: &ItemSet) -> bool
+pub fn is_use_lost(setting: &Setting, cut: &SeriesCut, placed: &ItemSet) -> bool
     requires few { setting.now.forms ≤ 4 }
     requires placed { (i : ℕ) → has placed.now i
         ≡ is_placed (problem_of setting.now) (path_of cut.now) i }

@@ -37,7 +37,7 @@ fn all_meet(setting: &Setting, sets: &[ItemSet]) -> bool
 }
 
 /// Whether no item is in two of the first sets.
-fn are_apart(forms: u8, sets: &[ItemSet]) -> bool
+pub fn are_apart(forms: u8, sets: &[ItemSet]) -> bool
     requires { forms ≤ length sets.now }
     ensures { IsTrue result ↔ AreApart forms (forms_of sets.now) }
 {

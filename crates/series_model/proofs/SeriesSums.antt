@@ -73,7 +73,7 @@ one_form (suc k) n S c h =
       | inr other ↦ let rest = one_form k n S c (λ f g w v. h f g (omega arith) (omega arith)) in rw other (omega arith)
     ]
 
-by_items : (k n : ℕ) (S : ℕ → Set) (u : ℕ → ℕ) → sum_in k every (λ f. sum_in n (S f) u) ≡ sum_in n every (λ i. sum_in k (λ f. S f i) (λ _. u i))
+pub by_items : (k n : ℕ) (S : ℕ → Set) (u : ℕ → ℕ) → sum_in k every (λ f. sum_in n (S f) u) ≡ sum_in n every (λ i. sum_in k (λ f. S f i) (λ _. u i))
 by_items k zero S u = sum_in-none k every
 by_items k (suc n) S u =
     let rest = by_items k n S u in

@@ -1,5 +1,5 @@
 -- Sound nodes leave no series with a value above the number, or none at all.
-use Rattle.std.proofs.Common.{◌≡◌, ℕ, zero, suc, ◌+◌, ◌*◌, ◌≤◌, ◌<◌, ◌⊎◌, inl, inr, true, false, ◌&&◌, ◌==◌, List, [], ◌∷◌, ◌++◌, pos, refl, sym, ap, ◌∙◌, subst, arith, Option, Some, None}
+use Rattle.std.proofs.Common.{◌≡◌, ℕ, zero, suc, ◌+◌, ◌*◌, ◌≤◌, ◌<◌, ◌⊎◌, inl, inr, Bool, true, false, cond, ◌&&◌, ◌==◌, List, [], ◌∷◌, ◌++◌, ℤ, pos, ◌≤ℤ◌, ◌<ℤ◌, refl, sym, ap, ◌∙◌, subst, arith, Option, Some, None}
 use Rattle.std.proofs.lemmas.Int.{ints}
 use Rattle.std.proofs.lemmas.Bool.{and_parts, eqb-true}
 use Rattle.std.proofs.Math.Bool.{true≢false}
@@ -14,15 +14,17 @@ use Rattle.series_model.specs.declared.node.SeriesNode.TheVariants.{Branch, Boun
 use Rattle.series_model.specs.declared.verdict.SeriesVerdict.{SeriesVerdict}
 use Rattle.series_model.specs.declared.verdict.SeriesVerdict.TheVariants.{Optimal, NoSeries, Bad}
 use Rattle.series_model.specs.Series.{SeriesProblem, Forms, IsSeries, IsValue, weighted_information, forms_of}
-use Rattle.series_model.specs.SeriesTrees.{Certificate, vector_at}
+use Rattle.series_model.specs.SeriesTrees.{Certificate, vector_at, names_pool}
 use Rattle.series_model.specs.SeriesPaths.{SeriesPath, root, form_problem, form_path, with_form, with_use, OnPath}
 use Rattle.series_model.specs.SeriesBounds.{points}
+use Rattle.series_model.specs.SeriesPools.{least_of_pool, IsMaximumBy}
 use Rattle.series_model.specs.SeriesLaws.{OptimalIsBestSeries, OptimalIsAtMost, NoSeriesIsNone}
 use Rattle.series_model.specs.SeriesVerdicts.{MaximumIsBelow, ClosesByBound, IsWholePath, IsSettled, IsCountedOut, IsSound, below, open_leaf, verdict_of, GivesFrom}
 use Rattle.series_model.specs.SeriesTwins.{without_twins}
 use Rattle.series_model.proofs.SeriesSums.{times-le}
 use Rattle.series_model.proofs.TwinLaws.{exchanged, exchanged_settled, some_twin_or_out, twin_exchanged}
 use Rattle.series_model.proofs.SeriesDualityLaws.{form_under, series_duality, series_ray, series_counting}
+use Rattle.series_model.proofs.PoolLaws.{pool_duality, pool_ray}
 use Rattle.series_model.proofs.UseLaws.{series_uses, some_form_or_out, use_in}
 
 -- no series on the path has a value above U; without U, there is none on it
@@ -30,26 +32,34 @@ abbrev pub Closed : SeriesProblem → Option ℕ → SeriesPath → Type 0
 Closed Q U p = (S : Forms) → OnPath Q p S → IsSettled Q U S
 
 -- ---- leaves
+less_or : (v u : ℕ) → (v ≤ u) ⊎ (u + 1 ≤ v)
+less_or v u = grind arith
+
 module _ (Q : SeriesProblem) (p : SeriesPath) where
   low_enough : (m u v : ℕ) → m * v < m * (u + 1) → v ≤ u
   low_enough m u v h = elim (less_or v u) [ inl le ↦ le | inr gt ↦ absurd (let e : m * (u + 1) ≤ m * v = times-le m (u + 1) v gt in omega arith) ]
-    where
-      less_or : (v u : ℕ) → (v ≤ u) ⊎ (u + 1 ≤ v)
-      less_or v u = grind arith
+
+  -- by the rule of the pool and by that of each form, what is below the goal of U closes
+  at_most_by : (pool : Bool) (U : ℕ) (v : Multipliers) (r : ℤ) → IsMaximumBy pool Q p v false r → r <ℤ pos (cond pool (least_of_pool Q v U) (points Q v * (U + 1))) → (S : Forms) → OnPath Q p S → (V : ℕ) → IsValue Q S V → V ≤ U
+  at_most_by true U v r is low S on V value = elim (less_or V U) [ inl le ↦ le | inr gt ↦ absurd (let reached = pool_duality Q p v r S U V is on value (omega arith) in omega (arith, ints)) ]
+  at_most_by false U v r is low S on V value =
+      let weak = series_duality Q p v r S V is on value in
+      low_enough (points Q v) U V (omega (arith, ints))
 
   pub bound_closed : (U : Option ℕ) (v : Multipliers) → ClosesByBound Q U p v → Closed Q U p
   bound_closed None v closes = absurd closes
-  bound_closed (Some U) v closes = λ S on V series value.
-      let weak = series_duality Q p v closes.1.maximum S V closes.1.is_maximum on value in
-      let top = closes.1.below in
-      low_enough (points Q v) U V (omega (arith, ints))
+  bound_closed (Some U) v closes = λ S on V series value. at_most_by (names_pool v) U v closes.1.maximum closes.1.is_maximum closes.1.below S on V value
 
   settled_from_none : (U : Option ℕ) (S : Forms) → ⊥ → IsSettled Q U S
   settled_from_none U S none = absurd none
 
+  not_below_by : (pool : Bool) (v : Multipliers) (r : ℤ) → IsMaximumBy pool Q p v true r → (S : Forms) → OnPath Q p S → pos 0 ≤ℤ r
+  not_below_by true v r is S on = pool_ray Q p v r S is on
+  not_below_by false v r is S on = series_ray Q p v r S is on
+
   pub ray_closed : (U : Option ℕ) (v : Multipliers) → MaximumIsBelow Q p v true (pos 0) → Closed Q U p
   ray_closed U v low S on =
-      let weak = series_ray Q p v low.maximum S low.is_maximum on in
+      let weak = not_below_by (names_pool v) v low.maximum low.is_maximum S on in
       let top = low.below in
       settled_from_none U S (omega (arith, ints))
 

@@ -62,7 +62,7 @@ either_counts true b = omega arith
 either_counts false true = omega arith
 either_counts false false = omega arith
 
-union_counts : (n : ℕ) (X Y : Set) → count_in n (λ i. X i || Y i) every ≤ count_in n X every + count_in n Y every
+pub union_counts : (n : ℕ) (X Y : Set) → count_in n (λ i. X i || Y i) every ≤ count_in n X every + count_in n Y every
 union_counts zero X Y = omega arith
 union_counts (suc n) X Y = let rest = union_counts n X Y in let last = either_counts (X n) (Y n) in omega arith
 

@@ -16,6 +16,10 @@ use Rattle.series_model.specs.SeriesBounds.{point_side, counts, points, series_l
 abbrev pub length_side : ℕ → ℕ
 length_side f = 2304 + 2 * f
 
+-- the side that only marks a vector of the pool
+abbrev pub pool_mark : ℕ
+pool_mark = 2314
+
 -- how many items the forms have together
 abbrev pub pool_size : SeriesProblem → Forms → ℕ
 pool_size Q X = sum_in Q.forms (λ _. true) (λ f. size_in Q.bank (X f))

@@ -9,32 +9,38 @@ use Rattle.series_model.specs.declared.node.SeriesNode.TheVariants.{Branch, Boun
 use Rattle.series_model.specs.declared.verdict.SeriesVerdict.{SeriesVerdict}
 use Rattle.series_model.specs.declared.verdict.SeriesVerdict.TheVariants.{Optimal, NoSeries, Partial, Bad}
 use Rattle.series_model.specs.Series.{SeriesProblem, Forms, IsSeries, IsValue, forms_of, IsSeriesList}
-use Rattle.series_model.specs.SeriesTrees.{Certificate, vector_at}
+use Rattle.series_model.specs.SeriesTrees.{Certificate, vector_at, names_pool}
 use Rattle.series_model.specs.SeriesPaths.{SeriesPath, root, form_problem, form_path, is_free_in, with_form, is_placed, is_live, with_use, is_use_lost, are_uses_many}
 use Rattle.series_model.specs.SeriesTwins.{without_twins}
-use Rattle.series_model.specs.SeriesBounds.{point_side, use_side, first_side, points, IsSeriesMaximum}
+use Rattle.series_model.specs.SeriesBounds.{point_side, use_side, first_side, points}
+use Rattle.series_model.specs.SeriesPools.{length_side, pool_mark, IsMaximumBy, goal_of}
 
--- the side is one of a form of the series at a grid point, of the common use of an item, or of a form's rows and stimuli
-abbrev pub IsSide : SeriesProblem → ℕ → Type 0
-IsSide Q side =
+-- the side is one of the common use of an item; by the rule of the pool, one of a form's length, or the mark
+abbrev pub IsCommonSide : SeriesProblem → Bool → ℕ → Type 0
+IsCommonSide Q false side = (i : ℕ) × (i < size Q.bank) × (side ≡ use_side i)
+IsCommonSide Q true side = ((s : ℕ) × (s < 2 * Q.forms) × (side ≡ length_side 0 + s)) ⊎ (side ≡ pool_mark)
+
+-- the side is one of a form of the series at a grid point, one that the forms have in common, or one of a form's rows and stimuli
+abbrev pub IsSide : SeriesProblem → Bool → ℕ → Type 0
+IsSide Q pool side =
     ((f : ℕ) × (g : ℕ) × (f < Q.forms) × (g < Q.bank.grid) × (side ≡ point_side f g))
-    ⊎ ((i : ℕ) × (i < size Q.bank) × (side ≡ use_side i))
+    ⊎ IsCommonSide Q pool side
     ⊎ ((f : ℕ) × (s : ℕ) × (f < Q.forms) × (s < 2 * length Q.plan.rows + 2 * stimuli_of Q.bank) × (side ≡ first_side f + s))
 
--- each side named is one of these
+-- each side named is one of these; the vector is one of the pool where it names a side of the pool
 abbrev pub NamesOnlySides : SeriesProblem → Multipliers → Type 0
-NamesOnlySides Q v = All (λ pair. IsSide Q pair.0) v
+NamesOnlySides Q v = All (λ pair. IsSide Q (names_pool v) pair.0) v
 
 -- the relaxed maximum is defined, and below a number
 pub record MaximumIsBelow (Q : SeriesProblem) (p : SeriesPath) (v : Multipliers) (ray : Bool) (top : ℤ) : Type 0 where
   pub maximum : ℤ
-  pub is_maximum : IsSeriesMaximum Q p v ray maximum
+  pub is_maximum : IsMaximumBy (names_pool v) Q p v ray maximum
   pub below : maximum <ℤ top
 
 -- some point that counts has a multiplier, and the relaxed maximum is too low for a series whose value is above U
 abbrev pub ClosesByBound : SeriesProblem → Option ℕ → SeriesPath → Multipliers → Type 0
 ClosesByBound Q None p v = ⊥
-ClosesByBound Q (Some U) p v = (0 < points Q v) × MaximumIsBelow Q p v false (pos (points Q v * (U + 1)))
+ClosesByBound Q (Some U) p v = (0 < points Q v) × MaximumIsBelow Q p v false (pos (goal_of Q v U))
 
 -- no item is free in a form
 abbrev pub IsWholePath : SeriesProblem → SeriesPath → Type 0

@@ -5,6 +5,8 @@
 pub struct Kinds {
     /// Whether vectors are judged by the rule of the pool; else each form alone, with multipliers of common use.
     pub pool: bool,
+    /// Whether a vector of the pool may have a threshold, so that the items of each stimulus are counted with it.
+    pub thresholds: bool,
     /// Whether a branch may be on the use of an item.
     pub uses: bool,
     /// Whether a branch may count forms of one state as one.
@@ -16,16 +18,18 @@ impl Kinds {
     pub fn all() -> Kinds {
         Kinds {
             pool: true,
+            thresholds: true,
             uses: true,
             twins: true,
         }
     }
 
-    /// Twins alone. `series_check` judges these, and uses, but no vector of the pool.
+    /// All but thresholds, which `series_check` does not judge.
     pub fn judged() -> Kinds {
         Kinds {
-            pool: false,
-            uses: false,
+            pool: true,
+            thresholds: false,
+            uses: true,
             twins: true,
         }
     }

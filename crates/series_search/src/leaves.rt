@@ -158,7 +158,7 @@ pub fn leaf_by(
     multipliers: &Multipliers,
 ) -> Result<Option<SeriesNode>, Memory> {
     let mut priced = Priced::of(alloc, table, multipliers)?;
-    if table.kinds.pool && !table.bounds.is_empty() {
+    if table.has_thresholds() {
         priced.set_threshold(table, path, &mut kept.room)?;
     }
     kept.keep(alloc, table, best, path, priced, multipliers)

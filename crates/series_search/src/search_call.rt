@@ -64,7 +64,7 @@ fn bound_of(
     let mut room = Room::new(alloc);
     let path = Path::root(table);
     let mut priced = Priced::of(alloc, table, multipliers)?;
-    if table.kinds.pool && !table.bounds.is_empty() {
+    if table.has_thresholds() {
         priced.set_threshold(table, &path, &mut room)?;
     }
     let value = match priced.maximum(table, &path, &mut room)? {

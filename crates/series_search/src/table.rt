@@ -106,6 +106,11 @@ fn info_of(bank: &Bank, item: u16, point: u8) -> i64 {
 }
 
 impl Table {
+    /// Whether a vector of the pool has a threshold.
+    pub fn has_thresholds(&self) -> bool {
+        self.kinds.pool && self.kinds.thresholds && !self.bounds.is_empty()
+    }
+
     /// The table with nothing in it.
     fn empty(alloc: Global, bank: &Bank, spec: &Spec, forms: usize, kinds: Kinds) -> Table {
         Table {

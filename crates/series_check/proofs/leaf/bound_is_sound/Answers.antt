@@ -27,7 +27,7 @@ returns-in-Some c =
     let same : c.pairs-vector.result.now ≡ v = c.pairs-vector.ensures.pairs ∙ vector_read c.args.tree.now c.vectors-vectors.result.now c.args.which c.index-vectors-which.result c.vectors-vectors.ensures.vectors c.index-vectors-which.is within in
     let low : c.args.which < length c.args.tree.now.vectors = omega (arith, within, ap (λ (vs : List Multipliers). length vs) c.vectors-vectors.ensures.vectors) in
     let names : NamesOnlySides Q v = subst (NamesOnlySides Q) same (c.names_only_sides.ensures.0 c.if-not-names_only_sides.false) in
-    let closes = c.closes.ensures c.pairs-vector.result.now c.sides_of.ensures in (
+    let closes = c.closes.ensures c.pairs-vector.result.now c.sides_of.ensures c.names_pool-pool.ensures in (
       λ h. (low, names, subst (λ (u : Option ℕ). ClosesByBound Q u p v) (sym c.in-Some.is) (subst (ClosesByBound Q (Some c.in-Some.bar) p) same (closes.0 h))),
       λ sound. closes.1 (subst (ClosesByBound Q (Some c.in-Some.bar) p) (sym same) (subst (λ (u : Option ℕ). ClosesByBound Q u p v) c.in-Some.is sound.2)),
     )

@@ -27,7 +27,7 @@ returns c =
     let same : c.pairs-vector.result.now ≡ v = c.pairs-vector.ensures.pairs ∙ vector_read c.args.tree.now c.vectors-vectors.result.now c.args.which c.index-vectors-which.result c.vectors-vectors.ensures.vectors c.index-vectors-which.is within in
     let low : c.args.which < length c.args.tree.now.vectors = omega (arith, within, ap (λ (vs : List Multipliers). length vs) c.vectors-vectors.ensures.vectors) in
     let names : NamesOnlySides Q v = subst (NamesOnlySides Q) same (c.names_only_sides.ensures.0 c.if-not-names_only_sides.false) in
-    let below = c.maximum_is_below.ensures c.pairs-vector.result.now c.sides_of.ensures in (
+    let below = c.maximum_is_below.ensures c.pairs-vector.result.now c.sides_of.ensures c.names_pool-pool.ensures in (
       λ h. (low, names, subst (λ (u : Multipliers). MaximumIsBelow Q p u true (pos 0)) same (below.0 h)),
       λ sound. below.1 (subst (λ (u : Multipliers). MaximumIsBelow Q p u true (pos 0)) (sym same) sound.2),
     )

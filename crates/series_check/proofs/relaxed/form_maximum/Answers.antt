@@ -15,6 +15,7 @@ use Rattle.series_check.specs.Cuts.{problem_of, one_form, path_of, form_path_of}
 use Rattle.series_check.specs.Maximum.{weight_at, maximum_top, IsValueOf, IsFormMaximum}
 use Rattle.series_check.proofs.MaximumLaws.{form_maximum_is, no_pair}
 use Rattle.series_check.proofs.Wide.{wide_top, nearer, read_back}
+use Rattle.series_check.specs.Tops.{item_top, weight_top}
 use Rattle.series_check.proofs.relaxed.form_maximum.Goals as goal
 use Rattle.series_check.proofs.relaxed.form_maximum.Goals.{then-length-taken-via-then-length-taken, then-length-taken-via-else-length-taken+then-taken-free}
 
@@ -48,3 +49,6 @@ returns-clause-maximum c v are =
     subst (λ (path : Path). IsValueOf P path (multiplier (multipliers_of f v)) (at weights) r) c.standing_on-standing.ensures.path
     (subst (λ (N : ℕ → ℕ). IsValueOf P q N (at weights) r) own c.form_value.ensures.maximum) in
     subst (IsFormMaximum Q p v c.args.ray f) (sym (read_back r (nearer maximum_top wide_top r (omega arith) c.form_value.ensures.within))) (form_maximum_is Q p v c.args.ray f weights r weighed value)
+
+pub form_value-requires-clause-within : goal.form_value-requires-clause-within
+form_value-requires-clause-within c i w = nearer weight_top item_top (at c.weights-weights.result i) (omega arith) (c.weights-weights.ensures.within i w)
