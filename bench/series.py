@@ -1,7 +1,7 @@
 #!/usr/bin/env python3
 """Times the search for series of forms beside free solvers on the same models.
 
-usage: series.py PROGRAM [--plain] [--short] [--seconds N] [--kept FILE] [--only WORD]
+usage: series.py PROGRAM [--plain] [--short] [--seconds N] [--kept FILE] [--alone] [--only WORD]
        series.py --peers [--short] [--seconds N] --kept FILE [--only WORD]
 
 PROGRAM is the built shadowd or series_bench. The problems are those of problems.py and of examples/ with one to four forms: small
@@ -14,7 +14,8 @@ more than 1.1 times as many by the clock, these follow in brackets.
 
 With --plain series_bench makes trees of the kinds alone that the proved checker takes, as shadowd does.
 
-FILE keeps what peers found, by the digest of the model. With --peers they alone run, so that both need not run at the same time.
+FILE keeps what peers found, by the digest of the model. With --peers they alone run, and with --alone
+none of them, so that both need not run at the same time.
 --only takes the problems whose name has the word. Every tree is judged by tools/check_series.py. Exit status: 0, or 1 where a tree
 or a value is wrong.
 """
@@ -203,15 +204,15 @@ COMMANDS = {"GLPK": "glpsol", "CBC": "cbc", "SYMPHONY": "symphony", "HiGHS": "/u
 ALL, BEST_TWO = tuple(PEERS), ("CBC", "HiGHS")
 
 
-def solved(P, names, seconds, kept, folder):
-    """What each of these peers finds; what FILE has of the same model and the same seconds isn't tried again."""
+def solved(P, names, seconds, kept, folder, is_tried=True):
+    """What each of these peers finds, or what FILE has of the same model and the same seconds; no other is tried unless `is_tried`."""
     model, found = model_of(P), {}
     text = lp_text(model)
     digest = hashlib.sha256(text.encode("ascii")).hexdigest()[:16]
     path, gap = os.path.join(folder, "model.lp"), 0.999 / max(1, most_of_each(P))
     for name in names:
         key = f"{name} {seconds} {digest}"
-        if key not in kept and shutil.which(COMMANDS[name]):
+        if is_tried and key not in kept and shutil.which(COMMANDS[name]):
             with open(path, "w", encoding="ascii") as file:
                 file.write(text)
             with open(path + ".json", "w", encoding="ascii") as file:
@@ -418,7 +419,7 @@ def main(words):
         print("|---" * (5 + len(PEERS)) + "|")
     with tempfile.TemporaryDirectory() as folder:
         for case in (one for one in cases("--short" in words) if given["--only"] in one.name):
-            found = solved(problem_of(case, folder), case.peers, int(given["--seconds"]), kept, folder)
+            found = solved(problem_of(case, folder), case.peers, int(given["--seconds"]), kept, folder, "--alone" not in words)
             write_kept(given["--kept"], kept)
             if alone:
                 print(case.name, case.count, *(f"{name}: {cell(found[name])};" for name in found), flush=True)
