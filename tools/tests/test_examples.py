@@ -84,15 +84,15 @@ class FixedForms(Folder):
         return done.returncode, done.stdout, done.stderr
 
     def test_commands(self):
-        """That 2,780 is the best value was found by HiGHS, too."""
+        """That 1,556 is the best value was found by three solvers, too."""
         blocks = re.findall(r"(?m)^```\n(.*?)^```$", self.page, re.S)
         self.assertEqual([block.split()[0] for block in blocks], ["mkdir", "shadowd", "python3", "python3"])
         status, said, errors = self.run_in("".join(blocks[:3]))
         self.assertEqual(status, 0, errors)
-        self.assertIn("\nweights: 2 at -1, 1 at 0, 1 at 1\n", said)
+        self.assertIn("\nweights: 1 at -1, 1 at 0, 1 at 1\n", said)
         self.assertIn("\nagreed\n", said)
-        self.assertRegex(self.read("series.txt"), r"\Aseries 2 value 2780 proved nodes \d+\nform ")
-        self.assertIn(f"{self.path('series.html')}: 2 forms, value 2780, proved, 0 broken rules\n", said)
+        self.assertRegex(self.read("series.txt"), r"\Aseries 2 value 1556 proved nodes \d+\nform ")
+        self.assertIn(f"{self.path('series.html')}: 2 forms, value 1556, proved, 0 broken rules\n", said)
         with open(self.path("series.forms.csv")) as file:
             forms = [row["form"] for row in csv.DictReader(file)]
         self.assertEqual((forms.count("1"), forms.count("2"), forms.count("")), (20, 20, 5))

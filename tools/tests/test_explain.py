@@ -139,9 +139,9 @@ class Clash(Folder):
         self.assertEqual(self.tool("explain", "bank", "plan", "--series", "5")[0], 2)
 
     def test_the_bank_of_equal_items(self):
-        """It has the grid and all else of the bank, and the information 1."""
+        """It has the grid and all else of the bank, and the information 1,000."""
         text, points = alike(a.BANK)
-        self.assertEqual((text.splitlines()[:2], points), ([a.BANK.splitlines()[0], "0,0,2,1,1,1,-7,-7,-7,-7,-7,-7"], 3))
+        self.assertEqual((text.splitlines()[:2], points), ([a.BANK.splitlines()[0], "0,0,2,1000,1000,1000,-7,-7,-7,-7,-7,-7"], 3))
 
     def test_rules_that_a_series_tree_names(self):
         """A ray of two forms names the sides 3 and 4 of rows, in the second form 9, and the length; a count names the fourth row; a bound names none."""

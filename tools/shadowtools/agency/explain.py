@@ -10,7 +10,7 @@ Where a form is unproved, it reads the proof tree. Each open leaf has a bound; t
 The gap is what the best form can inform more than this one.
 
 With --series it does the first for K forms without common items (status 17 of `shadowd series`): it begins with the rules that the
-rays and counts of the series tree name. Each step is a proved `no series`. The weights and the information play no part, so it asks
+rays and counts of the series tree name. Each step is a proved `no series`, but where the bank has too few items for K forms. The weights and the information play no part, so it asks
 with a bank whose items inform alike.
 
 Rules are named by the remark above them in the plan, as irt_bank.py writes it. With --map the gap is in units of
@@ -187,11 +187,15 @@ def main(words: Sequence[str]) -> int:
 
 
 def on_series(program: Program, text: str, count: int) -> int:
-    """Explains why there are no such forms. The status of `shadowd series`."""
+    """Explains why there are no such forms. The status of `shadowd series`, or 17 where the bank has too few items for them."""
+    length, bank = plan_of(text).length, read_bank(program.bank)
+    if len(bank) < count * length:
+        print_clash([], 0, length, bank, forms=count)
+        return NO_SERIES
     status, said = program.series(text, count)
     if status == NO_SERIES:
         kept, of = series_clash(program, text, said.split()[-1], count)
-        print_clash(kept, of, plan_of(text).length, read_bank(program.bank), forms=count)
+        print_clash(kept, of, length, bank, forms=count)
     elif status == NO_SERIES_FOUND:
         print(" ".join(said.split()[:5]))
         print(f"It is open whether the plan has {count} forms without common items. Raise base-budget (to 4095), or loosen rules.")

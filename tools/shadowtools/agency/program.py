@@ -67,11 +67,11 @@ def written(folder: str, name: str, text: str) -> str:
 
 
 def alike(bank: str) -> Tuple[str, int]:
-    """The text of a bank in which each item has the information 1 at each point, and the number of points."""
+    """The text of a bank in which each item has the information 1,000 at each point, and the number of points."""
     rows = list(csv.reader(io.StringIO(bank, newline="")))
     columns = [k for k, name in enumerate(rows[0] if rows else []) if re.fullmatch(r"i\d+", name)]
     for row in rows[1:]:
-        row[:] = ["1" if k in columns else cell for k, cell in enumerate(row)]
+        row[:] = ["1000" if k in columns else cell for k, cell in enumerate(row)]
     return "".join(",".join(row) + "\n" for row in rows), len(columns)
 
 
