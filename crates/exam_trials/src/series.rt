@@ -40,13 +40,7 @@ fn the_weaker_form_is_as_strong_as_can_be(rt: HostRuntime) {
 /// Six items are too few for two forms of four.
 #[test]
 fn no_two_forms(rt: HostRuntime) {
-    begins(
-        &rt,
-        &OF_TWO,
-        &[BANK_A, PLAN_OF_FOUR, ""],
-        17,
-        "no series 01",
-    );
+    begins(&rt, &OF_TWO, &[BANK_A, PLAN_OF_FOUR, ""], 17, "no series 0");
 }
 
 /// Weights of two points for a grid of three, and weights that are all 0.
