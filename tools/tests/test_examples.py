@@ -78,7 +78,7 @@ class FixedForms(Folder):
 
     def run_in(self, script):
         """Status, standard output and errors of commands of the page, with their files in the test's folder."""
-        words = re.sub(r"(?m)^python3 ", sys.executable + " ", script.replace("/tmp/forms", self.folder))
+        words = re.sub(r"(?m)^python3 ", sys.executable + " ", script.replace("out/forms", self.folder))
         environment = dict(os.environ, SHADOWD=os.path.abspath(PROGRAM), PATH=self.folder + os.pathsep + os.environ["PATH"])
         done = subprocess.run(["bash", "-e", "-c", words], cwd=ROOT, capture_output=True, text=True, env=environment)
         return done.returncode, done.stdout, done.stderr
