@@ -113,7 +113,7 @@ module _ (tells : Bool) (content : List ℕ) (accounts : List Account) (extent :
     these : all ≡ ps
     these = unmarked_all.1
 
-    same_unmoved : (file : List ℕ) → payloads (header extent.version) file ≡ payloads (header extent.version) content → IsUnmoved (counted_in content).payloads file
+    pub same_unmoved : (file : List ℕ) → payloads (header extent.version) file ≡ payloads (header extent.version) content → IsUnmoved (counted_in content).payloads file
     same_unmoved file gives =
         let is : payloads shadowj1 file ≡ Some ps =
         subst (λ (h : FileHeader). payloads h file ≡ Some ps) is_first (gives ∙ extent_gives tells content accounts extent x told ∙ ap Some these) in

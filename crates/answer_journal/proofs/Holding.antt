@@ -1,14 +1,15 @@
 -- What counts while a record is added, and while one in doubt is resolved.
 use Rattle.std.proofs.Common.{◌≡◌, inl, inr, refl, ◌+◌, ◌-◌, ℕ, List, [], ◌∷◌, ◌++◌, length, take, Some, sym, ◌∙◌, ap, arith, length-append}
 use Rattle.std.proofs.lemmas.List.{take_at}
-use Rattle.exam_edge.specs.Images.{Account, AllImages, AtEachMoment, IsImage, latest}
+use Rattle.exam_edge.specs.Images.{Account, AllImages, Allows, AtEachMoment, IsImage, latest}
 use Rattle.exam_edge.specs.ImageLaws.{only, started, weaker}
 use Rattle.answer_journal.specs.Frames.{FileHeader, IsPayload, frame_of, front, payloads}
 use Rattle.answer_journal.specs.FrameLaws.{front-push}
 use Rattle.answer_journal.specs.Journal.{CountsSecond, IsInDoubtAfter}
 use Rattle.answer_journal.specs.Outcome.{payloads_after}
-use Rattle.answer_journal.specs.Standing.{payload_list, IsAtRest, IsBeforeOrWith, IsEither, IsStage}
-use Rattle.answer_journal.specs.Versions.{header, contents, counted_in, second, HoldsOrOneMore}
+use Rattle.answer_journal.specs.Standing.{payload_list, IsAtRest, IsBeforeOrWith, IsEither, IsStage, Unopened}
+use Rattle.answer_journal.specs.StandingLaws.{either_gives, unopened_gives}
+use Rattle.answer_journal.specs.Versions.{header, contents, counted_in, second, HoldsJust, HoldsOrOneMore}
 use Rattle.answer_journal.specs.declared.journal.Adopted.{Adopted}
 use Rattle.answer_journal.specs.declared.journal.Adopted.TheVariants.{Kept, Dropped}
 use Rattle.answer_journal.proofs.Counting.{counts_in, either_holds, holds, kept, one_more}
@@ -63,6 +64,10 @@ module _ (version start : ℕ) (content : List ℕ) (a0 : List Account) (size : 
   pub adding : (a1 : List Account) → IsPayload p → AtEachMoment a0 a1 (IsEither h all p) → AtEachMoment a0 a1 (HoldsOrOneMore (counted_in content).payloads p)
   adding a1 one moments = by_counts a1 (lasting h content a0 size rest p a1 one moments)
 
+  pub allowed : (R : List ℕ → List ℕ → Type 0) → IsPayload p → Allows R (HoldsJust (counted_in content).payloads) (HoldsOrOneMore (counted_in content).payloads p) → Allows R (Unopened (header version) (payload_list (header version) content)) (IsEither (header version) (payload_list (header version) content) p)
+  allowed R one allows before file u either =
+      allows before file (holds version start all ps c before (unopened_gives h all before rest.fits u)) (either_holds version start all ps c p file (either_gives h all p file rest.fits one either))
+
   pub doubting : (a1 : List Account) (with_it : ℕ) → IsPayload p → with_it ≡ size + 5 + length p → AtEachMoment a0 a1 (IsEither h all p) → IsStage h all p a1 size → IsInDoubtAfter version start (counted_in content).payloads p a1 size with_it
   doubting a1 with_it one with_is moments stage = record {
     all = all;
@@ -96,6 +101,11 @@ module _ (version start : ℕ) (ps : List (List ℕ)) (p : List ℕ) (a0 : List 
   mending a1 moments =
       weaker (IsBeforeOrWith (header version) d.all p) (HoldsOrOneMore ps p) (λ file either. either_holds version start d.all ps d.counts p file either) a0 a1
       (doubtful_lasting (header version) d.all p a0 a1 size with_it d.doubt moments)
+
+  pub allowed_again : (R : List ℕ → List ℕ → Type 0) → Allows R (HoldsJust ps) (HoldsJust ps) → Allows R (Unopened (header version) d.all) (Unopened (header version) d.all)
+  allowed_again R allows before file u v =
+      let all_hold : (f : List ℕ) → Unopened (header version) d.all f → HoldsJust ps f = λ f x. holds version start d.all ps d.counts f (unopened_gives (header version) d.all f d.doubt.fits x) in
+      allows before file (all_hold before u) (all_hold file v)
 
   pub mending_before : (content : List ℕ) → IsImage (latest a0) content → (a1 : List Account) → AtEachMoment a0 a1 (IsEither (header version) d.all p) → AtEachMoment a0 a1 (λ file. take (size - 1) file ≡ take (size - 1) content)
   mending_before content image a1 moments =

@@ -69,6 +69,10 @@ uncounted version ps = length ps - length (counted version ps).payloads
 abbrev pub first_place : ℕ → List (List ℕ) → ℕ
 first_place version ps = end_of 8 (take (uncounted version ps) ps)
 
+-- the file gives these payloads of the second version
+abbrev pub HoldsJust : List (List ℕ) → List ℕ → Type 0
+HoldsJust ps file = contents file ≡ Some (second ps)
+
 -- the file gives these payloads of the second version, or one more
 abbrev pub HoldsOrOneMore : List (List ℕ) → List ℕ → List ℕ → Type 0
 HoldsOrOneMore ps payload file =

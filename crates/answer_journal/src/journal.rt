@@ -4,14 +4,14 @@ ghost use Rattle.std.specs.Prelude.{◌≡◌, ◌≢◌, ◌≤◌, ◌<◌, �
 ghost use Rattle.std.specs.Option.{ForSome};
 ghost use Rattle.exam_edge.specs.Faults.{Rose};
 ghost use Rattle.exam_edge.specs.Lent.{IsLent, FailsOnly};
-ghost use Rattle.exam_edge.specs.Images.{AllImages, AtEachMoment, IsClean, IsImage, IsSettled, latest};
+ghost use Rattle.exam_edge.specs.Images.{AllImages, Allows, AtEachMoment, IsClean, IsImage, IsSettled, latest};
 ghost use Rattle.answer_journal.specs.Frames.{frame_of};
 ghost use Rattle.answer_journal.specs.OpenFault.{IsOpenAnswer, IsWalkAnswer, fault_in};
-ghost use Rattle.answer_journal.specs.Versions.{HoldsOrOneMore, contents, counted_in, second};
+ghost use Rattle.answer_journal.specs.Versions.{HoldsJust, HoldsOrOneMore, contents, counted_in, second};
 ghost use Rattle.answer_journal.specs.Versions.{version_of as named_version};
 ghost use Rattle.answer_journal.specs.Reading.{IsRoomFor};
 ghost use Rattle.answer_journal.specs.Walk.{IsJust, first_gate};
-ghost use Rattle.answer_journal.specs.Opening.{PutsTailAside, tail_gates};
+ghost use Rattle.answer_journal.specs.Opening.{AllowsSame, PutsTailAside, tail_gates};
 ghost use Rattle.answer_journal.specs.Outcome.{OnFull, OnDisk, payloads_after, size_after};
 ghost use Rattle.answer_journal.specs.Payload.{bytes_of, at_of, end_of, places_of};
 ghost use Rattle.answer_journal.specs.Standing.{IsAsLeft, IsBeingSwitched, IsImageOrHolds, opened_file};
@@ -187,6 +187,8 @@ impl<D: Disk> Journal<D> {
     ) -> Result<(Journal<D>, Vec<Payload>), (D, OpenFault)>
         requires limit { limit ≤ 536870912 }
         requires left { IsTrue (D.tells disk) → IsAsLeft (D.accounts disk) }
+        requires comes { IsTrue (D.tells disk)
+            → AllowsSame D.may_become contents (D.content disk) }
         ensures ready { IfOk result (λ opened. IsReady opened.0) }
         ensures limit { IfOk result (λ opened. limit_of opened.0 ≡ limit) }
         ensures gives { IfOk result (λ opened. IsTrue (D.tells disk)
@@ -264,7 +266,10 @@ impl<D: Disk> Journal<D> {
     /// `Ok` it is on the disk. `Full` exactly where the new length, 5 bytes and the payload more, exceeds the limit. At
     /// `Disk` the record is in doubt. It takes no memory.
     pub fn append(&mut self, frame: &Frame) -> Result<(), AppendFault>
-        requires { IsReady self.old }
+        requires ready { IsReady self.old }
+        requires comes { IsTrue (tells_of self.old)
+            → Allows D.may_become (HoldsJust (payloads_of self.old))
+            (HoldsOrOneMore (payloads_of self.old) frame.now) }
         ensures ready { OnOk result (IsReady self.new) }
         ensures length { OnOk result (length_of self.new
             ≡ length_of self.old + 5 + length frame.now) }
@@ -332,7 +337,9 @@ impl<D: Disk> Journal<D> {
     /// the gate reads open, and else cuts it off and syncs. At `Failed` the record stays in doubt, and the disk has counted a
     /// fault. It takes no memory.
     pub fn mend(&mut self) -> Result<Adopted, Failed>
-        requires { (ps : _) × (payload : _) × IsDoubtful ps payload self.old }
+        requires { (ps : _) × (payload : _) × IsDoubtful ps payload self.old
+            × (IsTrue (tells_of self.old)
+            → Allows D.may_become (HoldsJust ps) (HoldsJust ps)) }
         ensures ready { OnOk result (IsReady self.new) }
         ensures mended { IfOk result (λ adopted. IsTrue (tells_of self.old) → (ps : _) (payload : _)
             → IsDoubtful ps payload self.old

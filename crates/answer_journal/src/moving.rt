@@ -6,7 +6,7 @@ ghost use Rattle.std.specs.Int.{to_be_bytes, w32};
 ghost use Rattle.std.specs.Option.{ForSome};
 ghost use Rattle.exam_edge.specs.Faults.{Rose};
 ghost use Rattle.exam_edge.specs.Lent.{IsLent, FailsOnly};
-ghost use Rattle.exam_edge.specs.Images.{AtEachMoment, IsSettled};
+ghost use Rattle.exam_edge.specs.Images.{Allows, AtEachMoment, IsSettled};
 ghost use Rattle.answer_journal.specs.Frames.{IsPayload, shadowj1, front};
 ghost use Rattle.answer_journal.specs.Moving.{GivesEither, IsMoving, IsMovingWith, IsUnmoved, IsWritten};
 ghost use Rattle.answer_journal.specs.Outcome.{OnMoveFull};
@@ -75,6 +75,9 @@ pub fn write_mark<D: Disk>(disk: &mut D, gate: u64) -> Result<(), Failed>
     requires rest { IsTrue (D.tells disk.old)
         → IsAtRest shadowj1 (D.content disk.old) (D.accounts disk.old) (gate + 1)
         × (after_mark (payload_list shadowj1 (D.content disk.old)) ≡ None) }
+    requires comes { IsTrue (D.tells disk.old)
+        → Allows D.may_become (IsUnmoved (payload_list shadowj1 (D.content disk.old)))
+        (IsUnmoved (payload_list shadowj1 (D.content disk.old))) }
     ensures moving { OnOk result (IsTrue (D.tells disk.old)
         → IsMoving (payload_list shadowj1 (D.content disk.old)) [] (D.content disk.new)
         (D.accounts disk.new) gate (gate + 6)) }
@@ -109,7 +112,8 @@ fn put_record(waiting: &mut Vec<u8>, payload: &[u8]) -> Result<(), Memory>
 fn write_waiting<D: Disk>(disk: &mut D, end: u64, waiting: &[u8]) -> Result<(), Failed>
     requires within { length waiting.now ≤ end }
     requires moving { IsTrue (D.tells disk.old) → (ps qs : List (List ℕ)) × (gate : ℕ)
-        × IsMovingWith ps qs (D.content disk.old) waiting.now (D.accounts disk.old) gate end }
+        × IsMovingWith ps qs (D.content disk.old) waiting.now (D.accounts disk.old) gate end
+        × Allows D.may_become (IsUnmoved ps) (IsUnmoved ps) }
     ensures moving { OnOk result (IsTrue (D.tells disk.old) → (ps qs : List (List ℕ)) (gate : ℕ)
         → IsMovingWith ps qs (D.content disk.old) waiting.now (D.accounts disk.old) gate end
         → IsMoving ps qs (D.content disk.new) (D.accounts disk.new) gate end) }
@@ -133,7 +137,7 @@ fn write_batch<D: Disk>(disk: &mut D, end: u64, waiting: &mut Vec<u8>) -> Result
     requires within { length waiting.old.items ≤ end }
     requires moving { IsTrue (D.tells disk.old) → (ps qs : List (List ℕ)) × (gate : ℕ)
         × IsMovingWith ps qs (D.content disk.old) waiting.old.items (D.accounts disk.old) gate
-        end }
+        end × Allows D.may_become (IsUnmoved ps) (IsUnmoved ps) }
     ensures moving { OnOk result (IsTrue (D.tells disk.old) → (ps qs : List (List ℕ)) (gate : ℕ)
         → IsMovingWith ps qs (D.content disk.old) waiting.old.items (D.accounts disk.old) gate end
         → IsMovingWith ps qs (D.content disk.new) waiting.new.items (D.accounts disk.new) gate
@@ -158,7 +162,8 @@ fn write_batch<D: Disk>(disk: &mut D, end: u64, waiting: &mut Vec<u8>) -> Result
 // Writes the closed gate at the end, and syncs: then all of the file is on the disk.
 fn close_after<D: Disk>(disk: &mut D, end: u64) -> Result<(), Failed>
     requires moving { IsTrue (D.tells disk.old) → (ps qs : List (List ℕ)) × (gate : ℕ)
-        × IsMoving ps qs (D.content disk.old) (D.accounts disk.old) gate end }
+        × IsMoving ps qs (D.content disk.old) (D.accounts disk.old) gate end
+        × Allows D.may_become (IsUnmoved ps) (IsUnmoved ps) }
     ensures content { OnOk result (IsTrue (D.tells disk.old)
         → D.content disk.new ≡ D.content disk.old ++ 0 ∷ []) }
     ensures settled { OnOk result (IsTrue (D.tells disk.old)
@@ -179,7 +184,8 @@ fn close_after<D: Disk>(disk: &mut D, end: u64) -> Result<(), Failed>
 fn write_rest<D: Disk>(disk: &mut D, end: u64, last: &[u8]) -> Result<(), Failed>
     requires within { length last.now ≤ end }
     requires moving { IsTrue (D.tells disk.old) → (ps qs : List (List ℕ)) × (gate : ℕ)
-        × IsMovingWith ps qs (D.content disk.old) last.now (D.accounts disk.old) gate end }
+        × IsMovingWith ps qs (D.content disk.old) last.now (D.accounts disk.old) gate end
+        × Allows D.may_become (IsUnmoved ps) (IsUnmoved ps) }
     ensures whole { OnOk result (IsTrue (D.tells disk.old) → (ps qs : List (List ℕ)) (gate : ℕ)
         → IsMovingWith ps qs (D.content disk.old) last.now (D.accounts disk.old) gate end
         → IsWritten ps qs (D.content disk.new) (D.accounts disk.new) gate) }
@@ -199,7 +205,8 @@ fn write_rest<D: Disk>(disk: &mut D, end: u64, last: &[u8]) -> Result<(), Failed
 // Opens the closed gate before the mark and the records of the second version, once all of the file is on the disk.
 fn open_switch<D: Disk>(disk: &mut D, gate: u64) -> Result<(), Failed>
     requires whole { IsTrue (D.tells disk.old) → (ps qs : List (List ℕ))
-        × IsWritten ps qs (D.content disk.old) (D.accounts disk.old) gate }
+        × IsWritten ps qs (D.content disk.old) (D.accounts disk.old) gate
+        × Allows D.may_become (IsUnmoved ps) (GivesEither ps qs) }
     ensures content { OnOk result (IsTrue (D.tells disk.old) → (ps qs : List (List ℕ))
         → IsWritten ps qs (D.content disk.old) (D.accounts disk.old) gate
         → D.content disk.new ≡ front shadowj1 (ps ++ mark ∷ qs) ++ 0 ∷ []) }
@@ -256,7 +263,8 @@ impl<D: Disk> Moving<D> {
         requires fits { IsPayload payload.now }
         requires moving { IsTrue (D.tells self.old.disk) → (ps qs : List (List ℕ))
             × IsMovingWith ps qs (D.content self.old.disk) self.old.waiting
-            (D.accounts self.old.disk) self.old.gate self.old.end }
+            (D.accounts self.old.disk) self.old.gate self.old.end
+            × Allows D.may_become (IsUnmoved ps) (IsUnmoved ps) }
         ensures added { OnOk result (IsTrue (D.tells self.old.disk) → (ps qs : List (List ℕ))
             → IsMovingWith ps qs (D.content self.old.disk) self.old.waiting
             (D.accounts self.old.disk) self.old.gate self.old.end
@@ -303,7 +311,7 @@ impl<D: Disk> Moving<D> {
     pub fn switch(self) -> Result<D, D>
         requires { IsTrue (D.tells self.disk) → (ps qs : List (List ℕ))
             × IsMovingWith ps qs (D.content self.disk) self.waiting (D.accounts self.disk)
-            self.gate self.end }
+            self.gate self.end × Allows D.may_become (IsUnmoved ps) (GivesEither ps qs) }
         ensures moved { IfOk result (λ disk. IsTrue (D.tells self.disk)
             → (ps qs : List (List ℕ)) → IsMovingWith ps qs (D.content self.disk)
             self.waiting (D.accounts self.disk) self.gate self.end

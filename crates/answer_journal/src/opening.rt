@@ -7,7 +7,7 @@ ghost use Rattle.exam_edge.specs.Lent.{IsLent, FailsOnly};
 ghost use Rattle.exam_edge.specs.Images.{AtEachMoment, Grows, IsClean, IsImage, IsSettled, IsWithin, dropped, latest, renewed};
 ghost use Rattle.answer_journal.specs.Frames.{shadowj2, payloads};
 ghost use Rattle.answer_journal.specs.Versions.{header, contents, counted_in};
-ghost use Rattle.answer_journal.specs.Opening.{AreGatesSettled, IsExtent, PutsTailAside};
+ghost use Rattle.answer_journal.specs.Opening.{AllowsSame, AreGatesSettled, IsExtent, PutsTailAside};
 ghost use Rattle.answer_journal.specs.Opening.{gate_of_tail, last_gate, tail_gates};
 ghost use Rattle.answer_journal.specs.OpenFault.{IsWalkAnswer, fault_in};
 ghost use Rattle.answer_journal.specs.Standing.{payload_list, IsAsLeft, IsAtRest, IsBeingMade, IsBeingSwitched};
@@ -131,6 +131,8 @@ fn write_header<D: Disk>(disk: &mut D) -> Result<(), Failed>
     requires left { IsTrue (D.tells disk.old)
         → IsSettled (D.content disk.old) (D.accounts disk.old)
         ⊎ IsBeingMade (D.accounts disk.old) }
+    requires comes { IsTrue (D.tells disk.old)
+        → AllowsSame D.may_become (payloads shadowj2) (D.content disk.old) }
     ensures rest { OnOk result (IsTrue (D.tells disk.old)
         → IsAtRest shadowj2 (D.content disk.new) (D.accounts disk.new) 9) }
     ensures keeps { OnOk result (IsTrue (D.tells disk.old)
@@ -246,6 +248,8 @@ fn cut_file<D: Disk>(disk: &mut D, extent: Extent) -> Result<(), Failed>
     requires gates { IsTrue (D.tells disk.old)
         → AreGatesSettled (header extent.version) (D.content disk.old) (D.accounts disk.old)
         extent.end }
+    requires comes { IsTrue (D.tells disk.old)
+        → AllowsSame D.may_become (payloads (header extent.version)) (D.content disk.old) }
     ensures rest { OnOk result (IsTrue (D.tells disk.old)
         → IsAtRest (header extent.version) (D.content disk.new) (D.accounts disk.new)
         (extent.end + 1)) }
@@ -273,6 +277,8 @@ pub fn finish_file<D: Disk>(disk: &mut D, extent: Extent, last: u64) -> Result<(
         (D.accounts disk.old) extent }
     requires last { IsTrue (D.tells disk.old)
         → last ≡ last_gate (payload_list (header extent.version) (D.content disk.old)) }
+    requires comes { IsTrue (D.tells disk.old)
+        → AllowsSame D.may_become (payloads (header extent.version)) (D.content disk.old) }
     ensures rest { OnOk result (IsTrue (D.tells disk.old)
         → IsAtRest (header extent.version) (D.content disk.new) (D.accounts disk.new)
         (extent.end + 1)) }

@@ -4,12 +4,12 @@ ghost use Rattle.std.specs.Prelude.{◌≡◌, ◌≢◌, ◌≤◌, ◌<◌, �
 ghost use Rattle.std.specs.Option.{ForSome};
 ghost use Rattle.exam_edge.specs.Faults.{Rose};
 ghost use Rattle.exam_edge.specs.Lent.{IsLent, FailsOnly};
-ghost use Rattle.exam_edge.specs.Images.{AllImages, AtEachMoment, IsImage, IsSettled, latest};
+ghost use Rattle.exam_edge.specs.Images.{AllImages, Allows, AtEachMoment, IsImage, IsSettled, latest};
 ghost use Rattle.answer_journal.specs.Frames.{IsPayload};
 ghost use Rattle.answer_journal.specs.Moving.{IsImageOrUnmoved, IsMovingWith, IsUnmoved};
 ghost use Rattle.answer_journal.specs.Versions.{contents, counted_in, second};
 ghost use Rattle.answer_journal.specs.OpenFault.{IsOfDevice};
-ghost use Rattle.answer_journal.specs.Opening.{PutsTailAside, tail_gates};
+ghost use Rattle.answer_journal.specs.Opening.{AllowsSame, PutsTailAside, tail_gates};
 ghost use Rattle.answer_journal.specs.Payload.{at_of, bytes_of, places_of};
 ghost use Rattle.answer_journal.specs.Reading.{IsRoomFor};
 ghost use Rattle.answer_journal.specs.Standing.{IsBeingSwitched, IsImageOrHolds, IsSettledOrInterrupted, opened_file};
@@ -382,6 +382,8 @@ impl<D: Disk> Walk<D> {
         requires all { IsTrue (D.tells self.disk)
             → first_payloads self.given (D.content self.disk)
             ≡ (counted_in (D.content self.disk)).payloads }
+        requires comes { IsTrue (D.tells self.disk)
+            → AllowsSame D.may_become contents (D.content self.disk) }
         ensures ready { IfOk result IsReady }
         ensures limit { IfOk result (λ journal. limit_of journal ≡ self.limit) }
         ensures length { IfOk result (λ journal. length_of journal ≡ self.size) }
@@ -470,6 +472,9 @@ impl<D: Disk> Walk<D> {
         requires all { IsTrue (D.tells self.disk)
             → first_payloads self.given (D.content self.disk)
             ≡ (counted_in (D.content self.disk)).payloads }
+        requires comes { IsTrue (D.tells self.disk)
+            → Allows D.may_become (IsUnmoved (counted_in (D.content self.disk)).payloads)
+            (IsUnmoved (counted_in (D.content self.disk)).payloads) }
         ensures moving { IfOk result (λ moving. IsTrue (D.tells self.disk)
             → IsMovingWith (counted_in (D.content self.disk)).payloads [] (D.content moving.disk)
             moving.waiting (D.accounts moving.disk) moving.gate moving.end) }

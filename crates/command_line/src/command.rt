@@ -1,8 +1,8 @@
 //! The commands, and the table of their words.
 
-ghost use Rattle.std.specs.Prelude.{◌≡◌, map};
+ghost use Rattle.std.specs.Prelude.{◌≡◌, map, MatchBool};
 ghost use Rattle.std.specs.Option.{option_map};
-ghost use Rattle.command_line.specs.Commands.{AreInRange, drill_of, of_two, series_of, table, said};
+ghost use Rattle.command_line.specs.Commands.{AreInRange, UsesDoors, drill_of, of_two, series_of, table, said};
 
 use crate::weights::are_weights;
 
@@ -63,6 +63,24 @@ pub enum Command<'a> {
         bank: &'a str,
         plan: &'a str,
     },
+}
+
+impl Command<'_> {
+    /// Whether it takes links of the doors: to serve, to follow or to ship. Each other command waits for nobody.
+    pub fn uses_doors(&self) -> bool
+        ensures { MatchBool result (UsesDoors (said self.now)) (UsesDoors (said self.now) → ⊥) }
+    {
+        match self {
+            Command::Serve { .. } | Command::Follow { .. } | Command::Ship { .. } => true,
+            Command::Check { .. }
+            | Command::Assemble { .. }
+            | Command::Replay { .. }
+            | Command::Audit { .. }
+            | Command::Drill { .. }
+            | Command::Migrate { .. }
+            | Command::Series { .. } => false,
+        }
+    }
 }
 
 #[tactic(auto, unfolding(crate::specs::Commands::drill_of))]

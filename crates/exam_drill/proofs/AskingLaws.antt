@@ -1,7 +1,7 @@
 -- One request of a drill: how it ends.
 use Rattle.std.specs.Prelude.{⊤}
-use Rattle.std.proofs.Common.{◌≡◌, inl, inr, ℕ, suc, ◌+◌, ◌<◌, Bool, true, false, cond, List, ◌++◌, length, get_or, take, drop, Option, Some, None, nat_lt, ◌==◌, refl, sym, ap, ◌∙◌, subst, drop-cons}
-use Rattle.std.proofs.lemmas.List.{take_more, take-append-drop}
+use Rattle.std.proofs.Common.{◌≡◌, inl, inr, ℕ, suc, ◌+◌, ◌<◌, Bool, true, false, cond, List, [], ◌∷◌, ◌++◌, length, map, get_or, take, drop, Option, Some, None, nat_lt, ◌==◌, refl, sym, ap, ◌∙◌, subst, drop-cons, arith}
+use Rattle.std.proofs.lemmas.List.{map-append, take_more, take-append-drop}
 use Rattle.std.proofs.Math.Seq.{take-length}
 use Rattle.bank_tables.specs.Items.{Set, has}
 use Rattle.bank_tables.specs.Tables.{Tables, categories, size}
@@ -21,6 +21,14 @@ use Rattle.history_model.specs.Refusals.{recorded, refusal_of, refusal_of_new, r
 use Rattle.history_model.specs.Entries.{holder}
 use Rattle.history_model.specs.Places.{place}
 use Rattle.history_model.specs.Requests.{Does, DoesUnless, DoesUnrefused}
+use Rattle.answer_journal.specs.Frames.{payloads}
+use Rattle.answer_journal.specs.Payload.{end_of}
+use Rattle.answer_journal.specs.Versions.{version_of}
+use Rattle.answer_journal.specs.Walk.{first_gate}
+use Rattle.exam_records.specs.Spelling.{payload_of}
+use Rattle.history_model.specs.Judging.{Record}
+use Rattle.exam_office.proofs.Opened.{end-push}
+use Rattle.exam_office.specs.Files.{AreRecordsOf}
 use Rattle.exam_office.specs.Asking.{IsStoppedBy, Halts, IsDurable, Becomes, done, halted, IsAsked}
 use Rattle.exam_office.specs.Marks.{history, reach}
 use Rattle.exam_office.specs.Running.{Running}
@@ -156,25 +164,51 @@ module _ {D : Type 0} (request : Request) (old new : Running D) where
         let same : h.why ≡ r = cc in
         subst (λ (x : Refusal). IsStoppedBy b plan (history new.marks) (IsNextOf b plan (history old.marks) request (history new.marks)) old new x) same h.because
 
-    full_so : (size : ℕ) → Becomes b plan (history old.marks) request old new (Refused (why.JournalFull size)) → IsCutShort b plan (history old.marks) request (JournalFull size plan.journal)
-    full_so size (done does durable) = absurd (refused_so b plan (history old.marks) request (history new.marks) (why.JournalFull size) does)
-    full_so size (halted h) =
+    -- while nothing is in doubt, the journal has records of the history, and no bytes but theirs
+    abbrev pub HasFrames : Type 0
+    HasFrames = new.doubt ≡ None → (R : List Record) × AreRecordsOf b plan 2 (history new.marks) R × (end_of 8 (map payload_of R) + 1 ≡ reach new.marks)
+
+    full_so : HasFrames → (size : ℕ) → Becomes b plan (history old.marks) request old new (Refused (why.JournalFull size)) → IsCutShort b plan (history old.marks) request (JournalFull size plan.journal)
+    full_so frames size (done does durable) = absurd (refused_so b plan (history old.marks) request (history new.marks) (why.JournalFull size) does)
+    full_so frames size (halted h) =
         let t = stopped_by (why.JournalFull size) h in
-        (record { G = history new.marks; cut_off = h.cut_off; last = t.last; next = t.next; spells = t.spells; may = t.may; reached = reach new.marks; size_is = t.size_is; above = t.above }, refl)
+        let found = frames t.sure in
+        let R = found.0 in
+        let with_last : end_of 8 (map payload_of (R ++ t.last ∷ [])) ≡ end_of 8 (map payload_of R) + 5 + length (payload_of t.last) =
+        ap (end_of 8) (map-append payload_of R (t.last ∷ [])) ∙ end-push 8 (map payload_of R) (payload_of t.last) in (
+          record {
+            G = history new.marks;
+            cut_off = h.cut_off;
+            last = t.last;
+            next = t.next;
+            spells = t.spells;
+            may = t.may;
+            records = R;
+            are = found.1;
+            size_is = omega (arith, t.size_is, with_last, found.2);
+            above = t.above;
+          },
+          refl,
+        )
 
     at_same : (x y : DrillFault) → Some x ≡ Some y → IsCutShort b plan (history old.marks) request x → IsCutShort b plan (history old.marks) request y
     at_same x y e short = let same : x ≡ y = cc in subst (λ (f : DrillFault). IsCutShort b plan (history old.marks) request f) same short
 
-    refused_short : (r : Refusal) (f : DrillFault) → fault_of plan (Refused r) ≡ Some f → Becomes b plan (history old.marks) request old new (Refused r) → IsCutShort b plan (history old.marks) request f
-    refused_short (why.JournalFull size) f e becomes = at_same (JournalFull size plan.journal) f e (full_so size becomes)
-    refused_short why.Disk f e becomes = at_same Memory f e tt
-    refused_short why.Memory f e becomes = at_same Memory f e tt
-    refused_short r f e becomes = cc
+    refused_short : HasFrames → (r : Refusal) (f : DrillFault) → fault_of plan (Refused r) ≡ Some f → Becomes b plan (history old.marks) request old new (Refused r) → IsCutShort b plan (history old.marks) request f
+    refused_short frames (why.JournalFull size) f e becomes = at_same (JournalFull size plan.journal) f e (full_so frames size becomes)
+    refused_short frames why.Disk f e becomes = at_same Memory f e tt
+    refused_short frames why.Memory f e becomes = at_same Memory f e tt
+    refused_short frames r f e becomes = cc
 
-    pub short_so : (reply : Reply) (f : DrillFault) → fault_of plan reply ≡ Some f → Becomes b plan (history old.marks) request old new reply → IsCutShort b plan (history old.marks) request f
-    short_so (At session place fresh) f e becomes = cc
-    short_so (Exposed exposure) f e becomes = cc
-    short_so (Refused r) f e becomes = refused_short r f e becomes
+    pub short_so : HasFrames → (reply : Reply) (f : DrillFault) → fault_of plan reply ≡ Some f → Becomes b plan (history old.marks) request old new reply → IsCutShort b plan (history old.marks) request f
+    short_so frames (At session place fresh) f e becomes = cc
+    short_so frames (Exposed exposure) f e becomes = cc
+    short_so frames (Refused r) f e becomes = refused_short frames r f e becomes
+
+-- the first gate of a journal that was begun over an empty file
+pub first_of_empty : first_gate [] ≡ 8
+unfolding payloads version_of
+first_of_empty = refl
 
 -- ---- requests one after another
 pub same_on : {D : Type 0} (old cur new : Running D) → IsSameOffice old cur → IsSameOffice cur new → IsSameOffice old new

@@ -1,5 +1,7 @@
 -- What the parts of a drill give together.
-use Rattle.std.proofs.Common.{◌≡◌, ◌∙◌, ℕ, List, [], Option, Some, None, refl, ap, subst, sym}
+use Rattle.std.proofs.Common.{◌≡◌, ◌∙◌, ℕ, ◌+◌, ◌*◌, ◌≤◌, List, [], ◌∷◌, ◌++◌, length, map, Option, Some, None, Result, Ok, Err, IfErr, refl, ap, subst, sym, arith}
+use Rattle.std.proofs.lemmas.List.{map-append}
+use Rattle.std.specs.List.{AllByRecursion}
 use Rattle.std.specs.Option.{option_map}
 use Rattle.bank_tables.specs.Items.{Set, has}
 use Rattle.bank_tables.specs.Tables.{Tables}
@@ -12,7 +14,15 @@ use Rattle.spec_reader.specs.Reading.{IsPlanText}
 use Rattle.history_model.specs.declared.entry.Entry.{Entry}
 use Rattle.history_model.specs.declared.request.Request.{Request}
 use Rattle.history_model.specs.declared.summary.Summary.{Summary}
-use Rattle.history_model.specs.Judging.{empty}
+use Rattle.history_model.specs.Judging.{Record, empty}
+use Rattle.history_model.specs.declared.entry.Entry.TheVariants.{Started, SetAside, Served, Answered, Closed}
+use Rattle.exam_records.specs.Shape.{IsRecord}
+use Rattle.exam_records.specs.Spelling.{payload_of}
+use Rattle.answer_journal.specs.Payload.{end_of}
+use Rattle.exam_office.proofs.Opened.{end-push}
+use Rattle.exam_drill.proofs.LengthLaws.{frames_are_short, journals_are_short}
+use Rattle.exam_drill.specs.Drills.{IsDrillFault}
+use Rattle.exam_drill.specs.Lengths.{most_of, most_of_session, with_tree, without_tree}
 use Rattle.replay_cli.specs.Scripts.{IsScript}
 use Rattle.bank_maker.specs.declared.drill.Made.{Made}
 use Rattle.bank_maker.specs.Drills.{IsDrill, bank_of_drill, tables_of_drill, plan_of_drill, script_of_drill, requests_of_drill}
@@ -22,7 +32,7 @@ use Rattle.bank_maker.specs.Plans.{between, plan}
 use Rattle.history_model.specs.Summaries.{summary}
 use Rattle.answer_journal.specs.Frames.{payloads}
 use Rattle.answer_journal.specs.Versions.{contents, version_of}
-use Rattle.exam_office.specs.Files.{Stands}
+use Rattle.exam_office.specs.Files.{IsRecordIn, Stands}
 use Rattle.exam_office.specs.Marks.{history}
 use Rattle.exam_office.specs.Running.{Running}
 use Rattle.exam_office.specs.Writing.{IsSameOffice}
@@ -78,14 +88,48 @@ module _ (number sessions : ℕ) (made : Made) (drill : IsDrill number sessions 
     subst (λ (x : Tables). IsPlanFor x found.0) bank_is found.1.valid,
   )
 
+  pub said_so : (p : Plan) → IsPlanText b made.plan.items p
+      → (IsPlanText (tables_of_drill number) (plan_of_drill number sessions) p → plan_said p ≡ plan number sessions (items number)) → plan_said p ≡ plan number sessions (items number)
+  said_so p text one = one (subst (λ (x : Tables). IsPlanText x (plan_of_drill number sessions) p) (sym bank_is) (subst (λ (bytes : List ℕ). IsPlanText b bytes p) drill.plan text))
+
   pub has_base : (p : Plan) → IsPlanText b made.plan.items p
       → (IsPlanText (tables_of_drill number) (plan_of_drill number sessions) p → plan_said p ≡ plan number sessions (items number)) → p.base ≡ None → ⊥
   has_base p text one none =
-      let of_text : IsPlanText (tables_of_drill number) (plan_of_drill number sessions) p =
-      subst (λ (x : Tables). IsPlanText x (plan_of_drill number sessions) p) (sym bank_is) (subst (λ (bytes : List ℕ). IsPlanText b bytes p) drill.plan text) in
-      let stated : option_map has p.base ≡ Some (between 30 49) = ap (λ (said : SaidPlan). said.base) (one of_text) in
+      let stated : option_map has p.base ≡ Some (between 30 49) = ap (λ (said : SaidPlan). said.base) (said_so p text one) in
       let lost : option_map has p.base ≡ None = ap (λ (words : Option (List ℕ)). option_map has words) none in
       apart (option_map has p.base) stated lost
     where
       apart : (o : Option Set) → o ≡ Some (between 30 49) → o ≡ None → ⊥
       apart o some none = cc
+
+-- ---- the journal of a drill has room for each record
+pub if_err : {A E : Type 0} (P Q : E → Type 0) (r : Result A E) → ((e : E) → P e → Q e) → IfErr r P → IfErr r Q
+if_err P Q (Ok x) leads is = is
+if_err P Q (Err e) leads is = leads e is
+
+are_records : (R : List Record) → AllByRecursion (IsRecordIn 2) R → AllByRecursion IsRecord R
+are_records [] is = tt
+are_records (r ∷ R) is = (is.0.is_record, are_records R is.1)
+
+most_few : (entry : Entry) → most_of entry ≤ 86605
+most_few (Started session booking eligible without) = omega arith
+most_few (SetAside session step band cause nodes) = omega arith
+most_few (Served session step item form proved nodes) = omega arith
+most_few (Answered session step response) = omega arith
+most_few (Closed session) = omega arith
+
+pub has_room : (number sessions : ℕ) (p : Plan) (b : Tables) (requests : List Request) (f : DrillFault) → sessions ≤ 200
+    → plan_said p ≡ plan number sessions (items number) → IsExamFault b p requests f → IsDrillFault f
+has_room number sessions p b requests Memory few said stopped = tt
+has_room number sessions p b requests (JournalFull size most) few said stopped =
+    let t = stopped.cut_short.0 in
+    let one_band : p.bands ≡ [] = ap (λ (s : SaidPlan). s.bands) said in
+    let items_is : p.length ≡ 20 = ap (λ (s : SaidPlan). s.length) said in
+    let sessions_is : p.sessions ≡ sessions = ap (λ (s : SaidPlan). s.sessions) said in
+    let journal_is : p.journal ≡ 536870912 = ap (λ (s : SaidPlan). s.journal) said in
+    let session_is : most_of_session p ≡ 1833203 = ap (λ (n : ℕ). with_tree * (n + 1) + without_tree * (n + 2)) items_is in
+    let all_is : p.sessions * most_of_session p ≡ sessions * 1833203 = ap (λ (n : ℕ). n * most_of_session p) sessions_is ∙ ap (λ (n : ℕ). sessions * n) session_is in
+    let short = journals_are_short b p t.records one_band (are_records t.records t.are.spell) t.are.backed in
+    let with_last : end_of 8 (map payload_of (t.records ++ t.last ∷ [])) ≡ end_of 8 (map payload_of t.records) + 5 + length (payload_of t.last) =
+    ap (end_of 8) (map-append payload_of t.records (t.last ∷ [])) ∙ end-push 8 (map payload_of t.records) (payload_of t.last) in
+    omega (arith, short, all_is, journal_is, with_last, frames_are_short t.last t.spells, most_few t.last.entry, t.size_is, t.above, few)

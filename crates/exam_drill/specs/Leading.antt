@@ -1,5 +1,6 @@
 -- Requests that lead from one history to another.
-use Rattle.std.specs.Prelude.{◌≡◌, ⊤, ℕ, ◌+◌, ◌<◌, List, [], ◌∷◌, ◌++◌, length, Option, Some, None}
+use Rattle.std.specs.Prelude.{◌≡◌, ⊤, ℕ, ◌+◌, ◌<◌, List, [], ◌∷◌, ◌++◌, map, Option, Some, None}
+use Rattle.answer_journal.specs.Payload.{end_of}
 use Rattle.bank_tables.specs.Tables.{Tables}
 use Rattle.form_model.specs.Plan.{Plan}
 use Rattle.history_model.specs.declared.entry.Entry.{Entry}
@@ -12,6 +13,7 @@ use Rattle.history_model.specs.Halting.{IsCutOff, IsNextOf}
 use Rattle.history_model.specs.Judging.{Record, MayFollow}
 use Rattle.history_model.specs.Requests.{Does}
 use Rattle.history_model.specs.Summaries.{summary}
+use Rattle.exam_office.specs.Files.{AreRecordsOf}
 use Rattle.exam_records.specs.Shape.{IsRecord}
 use Rattle.exam_records.specs.Spelling.{payload_of}
 use Rattle.exam_drill.specs.declared.fault.DrillFault.{DrillFault}
@@ -39,7 +41,8 @@ pub data LeadsTo (b : Tables) (plan : Plan) (H : List Entry) : List Request → 
       → LeadsTo b plan H done G
       → IsDoneBy b plan G request K → LeadsTo b plan H (done ++ request ∷ []) K
 
--- the journal would have this length with the next record of the request, which is above its limit
+-- the journal would have this length with the next record of the request, which is above its limit:
+-- a header of eight bytes, the frames of the history's records and of that one, and a closed gate
 pub record IsTooLong (b : Tables) (plan : Plan) (H : List Entry) (request : Request)
     (size : ℕ) : Type 0 where
   pub G : List Entry
@@ -48,8 +51,9 @@ pub record IsTooLong (b : Tables) (plan : Plan) (H : List Entry) (request : Requ
   pub next : IsNextOf b plan H request G last.entry
   pub spells : IsRecord last
   pub may : MayFollow b plan G last.entry last.tree
-  pub reached : ℕ
-  pub size_is : size ≡ reached + 5 + length (payload_of last)
+  pub records : List Record
+  pub are : AreRecordsOf b plan 2 G records
+  pub size_is : size ≡ end_of 8 (map payload_of (records ++ last ∷ [])) + 1
   pub above : plan.journal < size
 
 -- why a request was not done: the limit of the journal, or lack of memory

@@ -1,3 +1,4 @@
 pub mod Leading
 pub mod Drills
 pub mod Texts
+pub mod Lengths

@@ -1,6 +1,7 @@
 //! The requests of a script, over an office with a disk in memory.
 
-ghost use Rattle.std.specs.Prelude.{◌≡◌, IfErr, OnOk};
+ghost use Rattle.std.specs.Prelude.{◌≡◌, [], IsTrue, IfErr, OnOk};
+ghost use Rattle.answer_journal.specs.Journal.{tells_of};
 ghost use Rattle.exam_office.specs.Asking.{IsDurable};
 ghost use Rattle.exam_office.specs.Marks.{history};
 ghost use Rattle.exam_office.specs.Writing.{IsSameOffice};
@@ -27,13 +28,15 @@ fn fault_of(spec: &Spec, reply: &Reply) -> Option<DrillFault>
     }
 }
 
-/// Does a request.
+/// Does a request. The journal was begun over an empty file.
 fn ask<'a>(
     alloc: Global,
     alone: &mut Alone<'a, MemoryDisk>,
     request: &Request,
 ) -> Result<(), DrillFault>
-    requires { IsDurable alone.old.office.bank alone.old.office.plan alone.old.office }
+    requires durable { IsDurable alone.old.office.bank alone.old.office.plan alone.old.office }
+    requires told { IsTrue (tells_of alone.old.office.journal) }
+    requires empty { alone.old.office.opened.content ≡ [] }
     ensures ok { OnOk result
         (IsDoneBy alone.old.office.bank alone.old.office.plan (history alone.old.office.marks)
         request.now (history alone.new.office.marks)) }
@@ -43,21 +46,29 @@ fn ask<'a>(
         (IsCutShort alone.old.office.bank alone.old.office.plan (history alone.old.office.marks)
         request.now) }
     ensures same { IsSameOffice alone.old.office alone.new.office }
+    ensures tells { tells_of alone.new.office.journal ≡ tells_of alone.old.office.journal }
 {
     let reply = alone.ask(alloc, request);
     match fault_of(alone.office.spec(), &reply) {
-        Some(fault) => Err(fault),
+        Some(fault) => {
+            // How long the journal is now.
+            alone.office.keeps();
+            alone.office.holds();
+            Err(fault)
+        }
         None => Ok(()),
     }
 }
 
-/// Does requests one after another.
+/// Does requests one after another, on a journal that was begun over an empty file.
 pub fn ask_all<'a>(
     alloc: Global,
     alone: &mut Alone<'a, MemoryDisk>,
     requests: &[Request],
 ) -> Result<(), DrillFault>
-    requires { IsDurable alone.old.office.bank alone.old.office.plan alone.old.office }
+    requires durable { IsDurable alone.old.office.bank alone.old.office.plan alone.old.office }
+    requires told { IsTrue (tells_of alone.old.office.journal) }
+    requires empty { alone.old.office.opened.content ≡ [] }
     ensures ok { OnOk result
         (LeadsTo alone.old.office.bank alone.old.office.plan (history alone.old.office.marks)
         requests.now (history alone.new.office.marks)) }

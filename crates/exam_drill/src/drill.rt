@@ -50,12 +50,13 @@ fn examine(
 }
 
 /// Makes the texts of a drill of so many sessions from a number, reads them, does the requests of its
-/// script over a disk in memory, and gives the summary of the history that they lead to.
+/// script over a disk in memory, and gives the summary of the history that they lead to. Only memory
+/// may run out.
 pub fn run_drill(alloc: Global, number: u32, sessions: u32) -> Result<Summary, DrillFault>
     requires some { 1 ≤ sessions }
     requires few { sessions ≤ 200 }
     ensures ok { IfOk result (IsSummaryOfDrill number sessions) }
-    ensures err { IfErr result (IsDrillFault number sessions) }
+    ensures err { IfErr result IsDrillFault }
 {
     a_bank_is_read();
     a_plan_is_read();

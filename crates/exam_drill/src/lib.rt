@@ -7,6 +7,7 @@
 mod asking;
 mod drill;
 mod fault;
+pub mod laws;
 mod lines;
 mod reading;
 

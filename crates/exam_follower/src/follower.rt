@@ -14,10 +14,12 @@ ghost use Rattle.answer_journal.specs.Standing.{IsAsLeft};
 ghost use Rattle.answer_journal.specs.Versions.{contents, second};
 ghost use Rattle.answer_journal.specs.Journal.{tells_of, accounts_of, aside_of, faults_of, identity_of, payloads_of};
 ghost use Rattle.answer_journal.specs.Opening.{PutsTailAside, tail_gates};
+ghost use Rattle.exam_office.specs.Allowing.{AllowsHistories};
 ghost use Rattle.exam_office.specs.declared.mark.Mark.TheVariants.{Old, Opened};
 ghost use Rattle.exam_office.specs.declared.fault.OpenFault.TheVariants.{Disk as OfDisk};
-ghost use Rattle.exam_office.specs.Files.{Stands, StandsSecond};
+ghost use Rattle.exam_office.specs.Files.{IsImageOrStands, Stands, StandsSecond};
 ghost use Rattle.exam_office.specs.Marks.{history, reach};
+ghost use Rattle.exam_office.specs.Moments.{AreOpeningMoments};
 ghost use Rattle.exam_office.specs.Opening.{IsOpenAnswer};
 ghost use Rattle.exam_office.specs.Running.{handed};
 ghost use Rattle.record_links.specs.Replicas.{IsMended};
@@ -71,6 +73,7 @@ impl<'a, D: Disk> Follower<'a, D> {
         requires plan { IsPlanFor bank.now spec.now }
         requires base { Meets bank.now spec.now (has base) }
         requires left { IsTrue (D.tells disk) → IsAsLeft (D.accounts disk) }
+        requires allows { AllowsHistories bank.now spec.now D.may_become }
         ensures bank { IfOk result (λ f. f.office.bank ≡ bank.now) }
         ensures plan { IfOk result (λ f. f.office.plan ≡ spec.now) }
         ensures base { IfOk result (λ f. f.office.base ≡ base) }
@@ -93,6 +96,11 @@ impl<'a, D: Disk> Follower<'a, D> {
         ensures images { IfOk result (λ f. IsTrue (D.tells disk)
             → AllImages (StandsSecond bank.now spec.now (history f.office.marks))
             (latest (accounts_of f.office.journal))) }
+        // While it was opened, each such file represented the history, or is one that a crash might have left before.
+        ensures moments { IfOk result (λ f. IsTrue (D.tells disk)
+            → AreOpeningMoments bank.now spec.now (history f.office.marks)
+            (latest (D.accounts disk)) (D.accounts disk) (accounts_of f.office.journal)) }
+        // On a settled disk each represented it.
         ensures settled { IfOk result (λ f. IsTrue (D.tells disk)
             → IsSettled (D.content disk) (D.accounts disk)
             → AtEachMoment (D.accounts disk) (accounts_of f.office.journal)
@@ -107,6 +115,10 @@ impl<'a, D: Disk> Follower<'a, D> {
         ensures unwritten { IfErr result (λ e. e.1 ≢ OfDisk → IsTrue (D.tells disk)
             → AtEachMoment (D.accounts disk) (D.accounts e.0)
             (IsImage (latest (D.accounts disk)))) }
+        ensures moments_err { IfErr result (λ e. IsTrue (D.tells disk) → (H : List Entry)
+            → Stands bank.now spec.now H (D.content disk)
+            → AtEachMoment (D.accounts disk) (D.accounts e.0)
+            (IsImageOrStands bank.now spec.now H (latest (D.accounts disk)))) }
         ensures settled_err { IfErr result (λ e. IsTrue (D.tells disk)
             → IsSettled (D.content disk) (D.accounts disk) → (H : List Entry)
             → Stands bank.now spec.now H (D.content disk)

@@ -56,6 +56,8 @@ turn_marked a b before t =
       turn = t.turn;
       number = t.number;
       splits = t.splits;
+      start = t.start;
+      joined = t.joined;
       begins = marks_start before a.seen t.begins;
       grows = (marks_of t.grows.0, ap marks_of t.grows.1 ∙ marks_append before t.grows.0, (let k = marks_number t.grows.0 in let l = t.grows.2 in omega arith));
       mine = t.mine ∙ ap (λ k. a.mine ++ places k (length b.seen - k)) (sym n) ∙ ap (λ k. a.mine ++ places (length (marks_of before)) (k - length (marks_of before))) (sym m);
@@ -75,8 +77,8 @@ opening_later S F h begins o = record {
 pub opening_office : (office : OpenedWith) (M : List Mark) (h : HallKnown) → HasOpening (noted office M) h → IsOfficeOf office h
 opening_office office M h o = subst (λ x. IsOfficeOf x h) (noted_with office M (record { mark = Opened o.size; office = o.office }) o.noted) o.is_of
 
-pub of_new : (h : HallKnown) (n : ℕ) (seen : List NotedMark) → HasOpening seen h → IsOf (new_pass h.lock n seen) h
-of_new h n seen o = record { lock = refl; opening = o }
+pub of_new : (h : HallKnown) (n start : ℕ) (seen : List NotedMark) → HasOpening seen h → IsOf (new_pass h.lock n start seen) h
+of_new h n start seen o = record { lock = refl; opening = o }
 
 pub of_joined : (old other new : Known NotedMark) (h : HallKnown) → TakesIn old other new → IsOf old h → IsOf other h → IsOf new h
 of_joined old other new h j is also = record {
@@ -106,9 +108,9 @@ has_opening office M h marks is =
     record { size = o.0; office = office; noted = noted_contains office M (Opened o.0) o.1; is_of = is }
 
 -- the first pass of a hall over an office
-pub first_of : (lock : LockId) (b : Tables) (plan : Plan) (base : List ℕ) (office : OpenedWith) (M : List Mark) (p : Known NotedMark) → AreMarks M → p ≡ new_pass lock 0 (noted office M)
+pub first_of : (lock : LockId) (b : Tables) (plan : Plan) (base : List ℕ) (office : OpenedWith) (M : List Mark) (p : Known NotedMark) → AreMarks M → p ≡ new_pass lock 0 (length (noted office M)) (noted office M)
     → b ≡ office.bank → plan ≡ office.plan → base ≡ office.base → IsOf p (record { lock = lock; bank = b; plan = plan; base = base })
 first_of lock b plan base office M p marks new bank_is plan_is base_is =
     let h : HallKnown = record { lock = lock; bank = b; plan = plan; base = base } in
     subst (λ (x : Known NotedMark). IsOf x h) (sym new)
-    (of_new h 0 (noted office M) (has_opening office M h marks (record { bank = sym bank_is; plan = sym plan_is; base = sym base_is })))
+    (of_new h 0 (length (noted office M)) (noted office M) (has_opening office M h marks (record { bank = sym bank_is; plan = sym plan_is; base = sym base_is })))

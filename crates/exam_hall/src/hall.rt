@@ -1,13 +1,13 @@
 //! The hall.
 
-ghost use Rattle.std.specs.Prelude.{◌≡◌, ◌<◌, ◌+◌, List, IfOk, IfErr, IfSome};
+ghost use Rattle.std.specs.Prelude.{◌≡◌, ◌<◌, ◌+◌, List, length, IfOk, IfErr, IfSome};
 ghost use Rattle.std.specs.Option.{option_copied};
 ghost use Rattle.bank_tables.specs.Items.{has};
 ghost use Rattle.form_model.specs.Validity.{IsWellMade};
 ghost use Rattle.certificate_model.specs.Verdicts.{NamesOnlySides};
 ghost use Rattle.constraint_model.specs.Views.{problem_of};
 ghost use Rattle.turn_lock.specs.Histories.{StartsWith};
-ghost use Rattle.turn_lock.specs.Passes.{TakesIn, new_pass};
+ghost use Rattle.turn_lock.specs.Passes.{KnowsAll, TakesIn, new_pass};
 ghost use Rattle.history_model.specs.declared.entry.Entry.{Entry};
 ghost use Rattle.history_model.specs.Legality.{LegalRun};
 ghost use Rattle.history_model.specs.Lists.{IsListFor};
@@ -78,6 +78,7 @@ impl<'a, D: Disk> Hall<'a, D> {
     ) -> Result<(Hall<'a, D>, Pass<Office<'a, D>>), Office<'a, D>>
         ensures pass { IfOk result (λ r. r.1
             ≡ new_pass r.0.lock 0
+            (length (noted (opened_with office.entry) office.entry.marks))
             (noted (opened_with office.entry) office.entry.marks)) }
         ensures office { IfOk result (λ r. IsOfficeOf (opened_with office.entry) r.0) }
         ensures of { IfOk result (λ r. IsOf r.1 r.0) }
@@ -107,7 +108,8 @@ impl<'a, D: Disk> Hall<'a, D> {
         requires of { IsOf pass.old self.now }
         requires first { (pass.old.number ≡ 0) × (pass.old.splits < 65535) }
         ensures pass { pass.new ≡ record pass.old { splits = pass.old.splits + 1 } }
-        ensures new { result ≡ new_pass self.now.lock (pass.old.splits + 1) pass.old.seen }
+        ensures new { result ≡ new_pass self.now.lock (pass.old.splits + 1) pass.old.start
+            pass.old.seen }
         ensures of { IsOf pass.new self.now }
         ensures new_of { IsOf result self.now }
     {
@@ -126,11 +128,13 @@ impl<'a, D: Disk> Hall<'a, D> {
     }
 
     /// Waits for a last turn, and gives the office that is found then. Its marks begin with all that the pass has seen.
-    /// Nothing is promised of marks that only other passes have seen: join every pass first.
+    /// If the pass is the first one, and each pass that was split from it was joined into it, it has seen all marks, and
+    /// each mark since the hall was made is its own. Else nothing is promised of marks that only other passes have seen.
     pub fn close<R: Wait>(self, rt: &R, pass: Pass<Office<'a, D>>) -> Office<'a, D>
         requires of { IsOf pass self }
         ensures begins { StartsWith (noted (opened_with result) result.marks)
             pass.entry.seen }
+        ensures all { KnowsAll (noted (opened_with result) result.marks) pass.entry }
     {
         let Hall {
             turn,

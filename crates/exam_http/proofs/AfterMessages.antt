@@ -1,15 +1,16 @@
 -- What is after one message, and the loop over messages.
-use Rattle.std.proofs.Common.{◌≡◌, ℕ, ◌+◌, ◌≤◌, Bool, List, ◌++◌, Option, length, take, drop, refl, sym, ap, subst, ◌∙◌, inl, inr, append_assoc}
+use Rattle.std.proofs.Common.{◌≡◌, ℕ, ◌+◌, ◌≤◌, ◌⊎◌, Bool, List, [], ◌++◌, Option, length, take, drop, arith, refl, sym, ap, subst, ◌∙◌, inl, inr, append_assoc}
 use Rattle.std.specs.Prelude.{Result, Ok, Err, OnErr}
 use Rattle.std.proofs.Math.Seq.{take-append-add}
-use Rattle.std.proofs.lemmas.List.{take-append-drop, length-take-le}
+use Rattle.std.proofs.lemmas.List.{take-append-drop, length-take-le, take_all}
+use Rattle.exam_edge.specs.Allowing.{MayWrite}
 use Rattle.exam_handler.specs.declared.health.Health.{Health}
 use Rattle.history_model.specs.declared.refusal.Refusal.{Refusal}
 use Rattle.history_model.specs.declared.request.Request.{Request}
 use Rattle.history_model.specs.declared.request.Reply.{Reply}
 use Rattle.wire_http.specs.declared.message.Message.{Message}
 use Rattle.wire_http.specs.declared.message.WireFault.{WireFault}
-use Rattle.wire_http.specs.Messages.{IsMessage, IsFault}
+use Rattle.wire_http.specs.Messages.{IsMessage, IsFault, IsFree}
 use Rattle.exam_http.specs.declared.ended.Ended.TheVariants.{Done, BadInput, Link, Memory}
 use Rattle.exam_http.specs.declared.ended.AfterMessage.{AfterMessage}
 use Rattle.exam_http.specs.declared.ended.AfterMessage.TheVariants.{Answered, Over}
@@ -19,7 +20,7 @@ use Rattle.exam_http.specs.declared.asked.Asked.{Asked}
 use Rattle.exam_http.specs.declared.asked.Asked.TheVariants as ask
 use Rattle.exam_http.specs.declared.message_fault.MessageFault.{MessageFault}
 use Rattle.exam_http.specs.Serving as serving
-use Rattle.exam_http.specs.Serving.{IsCutOff, IsAfter, Becomes, IsPartOfResponse, Refuses, Gets, IsResponse, LeadsTo, unchanged, then_asked, then_probed}
+use Rattle.exam_http.specs.Serving.{AllowsNext, AllowsResponse, AllowsServed, Begins, Serves, IsServed, IsCutOff, IsAfter, Becomes, IsPartOfResponse, Refuses, Gets, IsResponse, LeadsTo, unchanged, then_asked, then_probed}
 
 pub on_err : {T E : Type 0} (r : Result T E) (P : Type 0) → P → OnErr r P
 on_err (Ok x) P p = tt
@@ -36,6 +37,18 @@ piece_more text d k le =
     sym (take-append-add (take d text) (drop d text) k)
     ∙ ap (λ (x : List ℕ). take (length (take d text) + k) x) (take-append-drop d text)
     ∙ ap (λ n. take (n + k) text) (length-take-le d text le)
+
+-- what a piece adds to what was written of a text
+pub written_more : (first now text piece : List ℕ) (d k : ℕ) → now ≡ first ++ take d text → piece ≡ drop d text → d ≤ length text
+    → now ++ take k piece ≡ first ++ take (d + k) text
+written_more first now text piece d k is back le =
+    ap (λ (x : List ℕ). x ++ take k piece) is ∙ append_assoc first (take d text) (take k piece)
+    ∙ ap (λ (x : List ℕ). first ++ (take d text ++ take k x)) back
+    ∙ ap (λ (x : List ℕ). first ++ x) (piece_more text d k le)
+
+-- the first bytes of a text begin it
+pub begins_by : (text : List ℕ) (k : ℕ) → Begins (take k text) text
+begins_by text k = (drop k text, sym (take-append-drop k text))
 
 module _ {H : Type 0} (does : H → Request → Reply → H → Type 0)
     (probes : H → Result Health Refusal → H → Type 0) (idles : H → H → Type 0) where
@@ -63,7 +76,7 @@ module _ {H : Type 0} (token : Option (List ℕ)) (does : H → Request → Repl
   refused_after bytes text left old fault (Over Link) f r = inr (inr (refl, fault, f, r))
   refused_after bytes text left old fault (Over Memory) f r = (r, inl (refl, r))
 
-  part_cut : (bytes text left : List ℕ) (old new : H) (m : Message) → IsMessage bytes m left
+  pub part_cut : (bytes text left : List ℕ) (old new : H) (m : Message) → IsMessage bytes m left
       → IsPartOfResponse token does probes old m text new → IsCutOff token does probes old bytes text new
   part_cut bytes text left old new m reads (inl x) = inl x
   part_cut bytes text left old new m reads (inr x) =
@@ -93,3 +106,50 @@ module _ {H : Type 0} (token : Option (List ℕ)) (does : H → Request → Repl
 pub joined : (first middle last texts text : List ℕ) → middle ≡ first ++ texts → last ≡ middle ++ text
     → last ≡ first ++ (texts ++ text)
 joined first middle last texts text a b = b ∙ ap (λ (x : List ℕ). x ++ text) a ∙ append_assoc first texts text
+
+-- ---- what a link allows
+
+-- a fault of no bytes has no response
+nothing_of : (fault : WireFault) → IsFree fault → (k : ℕ) → take k (wire_fault_text fault) ≡ []
+nothing_of fault (inl is) k = ap (λ (f : WireFault). take k (wire_fault_text f)) is ∙ take_all k [] (omega arith)
+nothing_of fault (inr is) k = ap (λ (f : WireFault). take k (wire_fault_text f)) is ∙ take_all k [] (omega arith)
+
+module _ {H : Type 0} (token : Option (List ℕ)) (does : H → Request → Reply → H → Type 0)
+    (probes : H → Result Health Refusal → H → Type 0) (idles : H → H → Type 0) where
+  -- of a whole response each beginning
+  pub may_respond : (allowed : List ℕ → Type 0) (old : H) (m : Message) (written text : List ℕ) (new : H)
+      → AllowsResponse token does probes allowed old m written → IsResponse token does probes old m text new
+      → MayWrite allowed written text
+  may_respond allowed old m written text new h r k = h (take k text) new (inr (text, begins_by text k, r))
+
+  -- of the response to the message that was read
+  pub may_answer : (allowed later : List ℕ → Type 0) (old : H) (bytes left was now : List ℕ) (m : Message)
+      → AllowsNext token does probes allowed old bytes was → ((text : List ℕ) → allowed text → later text) → now ≡ was
+      → IsMessage bytes m left → AllowsResponse token does probes later old m now
+  may_answer allowed later old bytes left was now m h still same reads text new part =
+      subst (λ (x : List ℕ). later (x ++ text)) (sym same)
+      (still (was ++ text) (h text new (part_cut token does probes idles bytes text left old new m reads part)))
+
+  -- of the response of the fault that was read
+  pub may_refuse : (allowed later : List ℕ → Type 0) (old : H) (bytes was now : List ℕ) (fault : WireFault)
+      → AllowsNext token does probes allowed old bytes was → ((text : List ℕ) → allowed text → later text) → now ≡ was
+      → IsFree fault ⊎ IsFault bytes fault → MayWrite later now (wire_fault_text fault)
+  may_refuse allowed later old bytes was now fault h still same (inl free) k =
+      let text = take k (wire_fault_text fault) in
+      subst (λ (x : List ℕ). later (x ++ text)) (sym same)
+      (still (was ++ text) (h text old (inl (refl, nothing_of fault free k))))
+  may_refuse allowed later old bytes was now fault h still same (inr is) k =
+      let text = take k (wire_fault_text fault) in
+      subst (λ (x : List ℕ). later (x ++ text)) (sym same)
+      (still (was ++ text) (h text old (inr (inr (refl, fault, is, begins_by (wire_fault_text fault) k)))))
+
+  -- of the message that follows those that were answered
+  pub may_go_on : (allowed later : List ℕ → Type 0) (start old : H) (bytes texts rest was now : List ℕ)
+      → AllowsServed token does probes idles allowed start bytes was → ((text : List ℕ) → allowed text → later text)
+      → now ≡ was ++ texts → Serves token does probes idles start bytes texts rest old
+      → AllowsNext token does probes later old rest now
+  may_go_on allowed later start old bytes texts rest was now h still is serves text new cut =
+      let more : now ++ text ≡ was ++ (texts ++ text) = ap (λ (x : List ℕ). x ++ text) is ∙ append_assoc was texts text in
+      subst (λ (x : List ℕ). later x) (sym more)
+      (still (was ++ (texts ++ text))
+      (h (texts ++ text) new (record { state = old; rest = rest; texts = texts; last = text; serves = serves; ends = cut; whole = refl })))

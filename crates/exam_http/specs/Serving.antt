@@ -74,6 +74,17 @@ module _ {H : Type 0} (token : Option (List ℕ)) (does : H → Request → Repl
       ((new ≡ old) × (text ≡ [])) ⊎ ((whole : List ℕ) × Begins text whole
       × IsResponse old m whole new)
 
+  -- after what was written, whatever may be written of the response to a message is allowed
+  abbrev pub AllowsResponse : (List ℕ → Type 0) → H → Message → List ℕ → Type 0
+  AllowsResponse allowed old m written =
+      (text : List ℕ) (new : H) → IsPartOfResponse old m text new → allowed (written ++ text)
+
+  -- after what was written, whatever may be written of the response to the message or the fault
+  -- that the bytes begin with is allowed
+  abbrev pub AllowsNext : (List ℕ → Type 0) → H → List ℕ → List ℕ → Type 0
+  AllowsNext allowed old bytes written =
+      (text : List ℕ) (new : H) → IsCutOff old bytes text new → allowed (written ++ text)
+
   module _ (idles : H → H → Type 0) where
     -- the text is the response to a message, and idle time followed it
     pub record IsAnswer (old : H) (m : Message) (text : List ℕ) (new : H) : Type 0 where
@@ -115,6 +126,13 @@ module _ {H : Type 0} (token : Option (List ℕ)) (does : H → Request → Repl
       pub serves : Serves start bytes texts rest state
       pub ends : Ends state rest last final ended
       pub whole : text ≡ texts ++ last
+
+    -- after what was written, whatever a connection that its link cuts off at any byte may have
+    -- had written is allowed: the responses to some messages, in order, and then a beginning of the
+    -- next response, or of a fault's
+    abbrev pub AllowsServed : (List ℕ → Type 0) → H → List ℕ → List ℕ → Type 0
+    AllowsServed allowed start bytes written = (text : List ℕ) (final : H)
+        → IsServed start bytes text final Link → allowed (written ++ text)
 
     -- ---- one message of the loop
 

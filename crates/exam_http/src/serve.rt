@@ -1,10 +1,12 @@
 //! One connection.
 ghost use Rattle.std.specs.Prelude.{◌≡◌, ◌≢◌, ◌++◌, ◌⊎◌, List, ℕ, IsTrue, IfOk, OnErr, OnOk};
 ghost use Rattle.std.specs.Option.{option_copied};
+ghost use Rattle.exam_edge.specs.Allowing.{MayWrite, StillAllows};
 ghost use Rattle.exam_edge.specs.Faults.{Rose};
 ghost use Rattle.exam_edge.specs.Lent.{IsLent, FailsOnly};
 ghost use Rattle.wire_http.specs.Messages.{bytes_of};
-ghost use Rattle.exam_http.specs.Serving.{Begins, IsResponse, Becomes, Refuses, IsAfter, IsServed, LeadsTo};
+ghost use Rattle.exam_http.specs.Replies.{wire_fault_text};
+ghost use Rattle.exam_http.specs.Serving.{AllowsNext, AllowsResponse, AllowsServed, Begins, IsResponse, Becomes, Refuses, IsAfter, IsServed, LeadsTo};
 ghost use Rattle.exam_http.specs.Table.{table};
 
 use crate::asking::asked_of;
@@ -21,12 +23,15 @@ use wire_http::{Kept, Message, WireFault, read_request};
 
 // Writes a whole text.
 fn write_all<K: Link>(link: &mut K, text: &[u8]) -> Result<(), Failed>
+    requires { IsTrue (K.tells link.old)
+        → MayWrite (K.allows link.old) (K.written link.old) text.now }
     ensures whole { OnOk result (IsTrue (K.tells link.old)
         → K.written link.new ≡ K.written link.old ++ text.now) }
     ensures part { OnErr result (IsTrue (K.tells link.old) → (part : List ℕ)
         × Begins part text.now × (K.written link.new ≡ K.written link.old ++ part)) }
     ensures left { IsTrue (K.tells link.old) → K.left link.new ≡ K.left link.old }
     ensures failed { FailsOnly K.faults link.old link.new result }
+    ensures allows { StillAllows K.allows link.old link.new }
     ensures frame { IsLent K.tells K.identity K.faults link.old link.new }
 {
     let mut done = 0;
@@ -80,7 +85,10 @@ fn answer<R: Wait + Sync, H: Handler, K: Link>(
     link: &mut K,
     message: &Message,
 ) -> AfterMessage
-    requires { terms.now.router ≡ table }
+    requires router { terms.now.router ≡ table }
+    requires allowed { IsTrue (K.tells link.old)
+        → AllowsResponse (option_copied terms.now.token) H.does H.probes
+        (K.allows link.old) handler.old message.now (K.written link.old) }
     ensures leads { LeadsTo H.does H.probes H.idles handler.old handler.new }
     ensures becomes { IsTrue (K.tells link.old) → (text : List ℕ)
         × (K.written link.new ≡ K.written link.old ++ text)
@@ -88,6 +96,7 @@ fn answer<R: Wait + Sync, H: Handler, K: Link>(
     ensures left { IsTrue (K.tells link.old) → K.left link.new ≡ K.left link.old }
     ensures failed { result ≡ AfterMessage.Over Ended.Link
         → Rose (K.faults link.old) (K.faults link.new) }
+    ensures allows { StillAllows K.allows link.old link.new }
     ensures frame { IsLent K.tells K.identity K.faults link.old link.new }
 {
     match respond(rt, alloc, terms, handler, message) {
@@ -108,12 +117,15 @@ fn answer<R: Wait + Sync, H: Handler, K: Link>(
 
 // Writes the response of a fault.
 fn refuse<K: Link>(alloc: Global, link: &mut K, fault: WireFault) -> AfterMessage
+    requires { IsTrue (K.tells link.old)
+        → MayWrite (K.allows link.old) (K.written link.old) (wire_fault_text fault) }
     ensures refuses { IsTrue (K.tells link.old) → (text : List ℕ)
         × (K.written link.new ≡ K.written link.old ++ text) × Refuses fault text result }
     ensures left { IsTrue (K.tells link.old) → K.left link.new ≡ K.left link.old }
     ensures over { result ≢ AfterMessage.Answered }
     ensures failed { result ≡ AfterMessage.Over Ended.Link
         → Rose (K.faults link.old) (K.faults link.new) }
+    ensures allows { StillAllows K.allows link.old link.new }
     ensures frame { IsLent K.tells K.identity K.faults link.old link.new }
 {
     match wire_fault_text(alloc, fault) {
@@ -135,7 +147,10 @@ fn serve_message<R: Wait + Sync, H: Handler, K: Link>(
     link: &mut K,
     kept: &mut Kept,
 ) -> AfterMessage
-    requires { terms.now.router ≡ table }
+    requires router { terms.now.router ≡ table }
+    requires allowed { IsTrue (K.tells link.old)
+        → AllowsNext (option_copied terms.now.token) H.does H.probes (K.allows link.old)
+        handler.old (bytes_of kept.old ++ K.left link.old) (K.written link.old) }
     ensures leads { LeadsTo H.does H.probes H.idles handler.old handler.new }
     ensures after { IsTrue (K.tells link.old) → (text : List ℕ)
         × (K.written link.new ≡ K.written link.old ++ text)
@@ -143,6 +158,7 @@ fn serve_message<R: Wait + Sync, H: Handler, K: Link>(
         (bytes_of kept.new ++ K.left link.new) handler.new result }
     ensures failed { result ≡ AfterMessage.Over Ended.Link
         → Rose (K.faults link.old) (K.faults link.new) }
+    ensures allows { StillAllows K.allows link.old link.new }
     ensures frame { IsLent K.tells K.identity K.faults link.old link.new }
 {
     match read_request(alloc, link, kept) {
@@ -163,7 +179,10 @@ fn serve_all<R: Wait + Sync, H: Handler, K: Link>(
     link: &mut K,
     kept: &mut Kept,
 ) -> Ended
-    requires { terms.now.router ≡ table }
+    requires router { terms.now.router ≡ table }
+    requires allowed { IsTrue (K.tells link.old)
+        → AllowsServed (option_copied terms.now.token) H.does H.probes H.idles (K.allows link.old)
+        handler.old (bytes_of kept.old ++ K.left link.old) (K.written link.old) }
     ensures leads { LeadsTo H.does H.probes H.idles handler.old handler.new }
     ensures served { IsTrue (K.tells link.old) → (text : List ℕ)
         × (K.written link.new ≡ K.written link.old ++ text)
@@ -194,6 +213,11 @@ pub fn serve_connection<R: Wait + Sync, H: Handler, K: Link>(
     token: Option<&[u8]>,
     busy: &AtomicU32,
 ) -> Ended
+    // At each moment, also of a connection that never ends, what was written is the responses to the messages that came,
+    // in order, and a beginning of the next response: a link need allow nothing else.
+    requires { IsTrue (K.tells link.old)
+        → AllowsServed (option_copied token) H.does H.probes H.idles (K.allows link.old)
+        handler.old (K.left link.old) (K.written link.old) }
     ensures leads { LeadsTo H.does H.probes H.idles handler.old handler.new }
     ensures served { IsTrue (K.tells link.old) → (text : List ℕ)
         × (K.written link.new ≡ K.written link.old ++ text)

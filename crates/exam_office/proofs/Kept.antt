@@ -4,11 +4,11 @@ use Rattle.std.proofs.lemmas.List.{map-append}
 use Rattle.bank_tables.specs.Tables.{Tables}
 use Rattle.form_model.specs.Plan.{Plan}
 use Rattle.exam_edge.specs.Faults.{Rose}
-use Rattle.exam_edge.specs.Images.{AtEachMoment, IsSettled}
+use Rattle.exam_edge.specs.Images.{AtEachMoment}
 use Rattle.history_model.specs.declared.entry.Entry.{Entry}
 use Rattle.history_model.specs.Judging.{MayFollow, Record}
 use Rattle.exam_session.specs.Ledgers.{Ledger}
-use Rattle.answer_journal.specs.Journal.{JournalState, length_of, limit_of, tells_of, accounts_of, payloads_of, IsReady, IsDoubtful, faults_of}
+use Rattle.answer_journal.specs.Journal.{JournalState, length_of, limit_of, start_of, tells_of, accounts_of, payloads_of, IsReady, IsDoubtful, faults_of}
 use Rattle.answer_journal.specs.Journal.{IsInDoubtAfter as OfJournal}
 use Rattle.exam_records.specs.Shape.{IsRecord}
 use Rattle.exam_records.specs.Spelling.{payload_of}
@@ -42,19 +42,19 @@ module _ {D : Type 0} (b : Tables) (plan : Plan) (base : List ℕ) (was : Handed
   -- an entry was in hand
   moments_more : (doubt : Option Entry) → IsKept b plan base book j M doubt was → tells_of j1 ≡ tells_of j → (entry : Entry) (N : List Mark) → IsInHand entry M N
       → (IsTrue (tells_of j) → AtEachMoment (accounts_of j) (accounts_of j1) (IsWriting b plan (history M) entry))
-      → IsTrue (tells_of j1) → IsSettled was.content was.accounts → AreMoments b plan was.accounts N (accounts_of j1)
-  moments_more doubt kept tells entry N hand writing told1 settled =
+      → IsTrue (tells_of j1) → AreMoments b plan was.accounts N (accounts_of j1)
+  moments_more doubt kept tells entry N hand writing told1 =
       let told = sym tells ∙ told1 in
-      one_more entry M N (accounts_of j) (accounts_of j1) (kept.moments told settled) hand (writing told)
+      one_more entry M N (accounts_of j) (accounts_of j1) (kept.moments told) hand (writing told)
 
   -- an entry of its own was written
   pub kept_own : (kept : IsKept b plan base book j M None was) (r : Record) → IsRecord r → MayFollow b plan (history M) r.entry r.tree
       → book1.bank ≡ book.bank → book1.plan ≡ book.plan → book1.entries ≡ book.entries ++ r.entry ∷ []
-      → IsReady j1 → limit_of j1 ≡ limit_of j → faults_of j ≤ faults_of j1 → tells_of j1 ≡ tells_of j
+      → IsReady j1 → limit_of j1 ≡ limit_of j → start_of j1 ≡ start_of j → faults_of j ≤ faults_of j1 → tells_of j1 ≡ tells_of j
       → (IsTrue (tells_of j) → payloads_of j1 ≡ payloads_of j ++ payload_of r ∷ [])
       → (IsTrue (tells_of j) → AtEachMoment (accounts_of j) (accounts_of j1) (IsWriting b plan (history M) r.entry))
       → IsKept b plan base book1 j1 (M ++ Own r.entry (length_of j1) ∷ []) None was
-  kept_own kept r spells may bank plan_is entries ready limit grows tells added writing =
+  kept_own kept r spells may bank plan_is entries ready limit start grows tells added writing =
       let e : history (M ++ Own r.entry (length_of j1) ∷ []) ≡ history M ++ r.entry ∷ [] = history-own M r.entry (length_of j1) in
       record {
         bank = bank ∙ kept.bank;
@@ -62,6 +62,7 @@ module _ {D : Type 0} (b : Tables) (plan : Plan) (base : List ℕ) (was : Handed
         entries = entries ∙ (ap (λ (H : List Entry). H ++ r.entry ∷ []) kept.entries ∙ sym e);
         size = sym (reach-push M (Own r.entry (length_of j1)));
         limit = limit ∙ kept.limit;
+        start = λ told1. start ∙ kept.start (sym tells ∙ told1);
         marks_are = own M r.entry (length_of j1) kept.marks_are;
         counted = counted-own M was.faults (faults_of j) (faults_of j1) kept.counted r.entry (length_of j1) grows;
         grows = omega (arith, kept.grows, grows);
@@ -81,10 +82,10 @@ module _ {D : Type 0} (b : Tables) (plan : Plan) (base : List ℕ) (was : Handed
   -- the disk failed while an entry was written
   pub kept_fault : (kept : IsKept b plan base book j M None was) (r : Record) → IsRecord r → MayFollow b plan (history M) r.entry r.tree
       → book1.bank ≡ book.bank → book1.plan ≡ book.plan → book1.entries ≡ book.entries → 0 < book1.room
-      → IsDoubtful (payloads_of j) (payload_of r) j1 → length_of j1 ≡ length_of j → limit_of j1 ≡ limit_of j → Rose (faults_of j) (faults_of j1) → faults_of j ≤ faults_of j1 → tells_of j1 ≡ tells_of j
+      → IsDoubtful (payloads_of j) (payload_of r) j1 → length_of j1 ≡ length_of j → limit_of j1 ≡ limit_of j → start_of j1 ≡ start_of j → Rose (faults_of j) (faults_of j1) → faults_of j ≤ faults_of j1 → tells_of j1 ≡ tells_of j
       → (IsTrue (tells_of j) → AtEachMoment (accounts_of j) (accounts_of j1) (IsWriting b plan (history M) r.entry))
       → IsKept b plan base book1 j1 (M ++ Fault r.entry ∷ []) (Some r.entry) was
-  kept_fault kept r spells may bank plan_is entries room doubtful size limit rose grows tells writing =
+  kept_fault kept r spells may bank plan_is entries room doubtful size limit start rose grows tells writing =
       let e : history (M ++ Fault r.entry ∷ []) ≡ history M = history-fault M r.entry in
       let s : IsSure b plan (history M) j = kept.backed in
       record {
@@ -93,6 +94,7 @@ module _ {D : Type 0} (b : Tables) (plan : Plan) (base : List ℕ) (was : Handed
         entries = entries ∙ (kept.entries ∙ sym e);
         size = size ∙ (kept.size ∙ sym (reach-push M (Fault r.entry)));
         limit = limit ∙ kept.limit;
+        start = λ told1. start ∙ kept.start (sym tells ∙ told1);
         marks_are = fault M r.entry kept.marks_are;
         counted = counted-fault M was.faults (faults_of j) (faults_of j1) kept.counted r.entry rose;
         grows = omega (arith, kept.grows, grows);
@@ -115,11 +117,11 @@ module _ {D : Type 0} (b : Tables) (plan : Plan) (base : List ℕ) (was : Handed
   -- the entry in doubt was kept
   pub kept_adopted : (entry : Entry) (kept : IsKept b plan base book j M (Some entry) was)
       → book1.bank ≡ book.bank → book1.plan ≡ book.plan → book1.entries ≡ book.entries ++ entry ∷ []
-      → IsReady j1 → limit_of j1 ≡ limit_of j → faults_of j ≤ faults_of j1 → tells_of j1 ≡ tells_of j
+      → IsReady j1 → limit_of j1 ≡ limit_of j → start_of j1 ≡ start_of j → faults_of j ≤ faults_of j1 → tells_of j1 ≡ tells_of j
       → (IsTrue (tells_of j) → (ps : List (List ℕ)) (payload : List ℕ) → IsDoubtful ps payload j → payloads_of j1 ≡ ps ++ payload ∷ [])
       → (IsTrue (tells_of j) → AtEachMoment (accounts_of j) (accounts_of j1) (IsWriting b plan (history M) entry))
       → IsKept b plan base book1 j1 (M ++ Adopted entry (length_of j1) ∷ []) None was
-  kept_adopted entry kept bank plan_is entries ready limit grows tells mended writing =
+  kept_adopted entry kept bank plan_is entries ready limit start grows tells mended writing =
       let u : IsUnsure b plan M entry book.room j = kept.backed in
       let H = history M in
       let size = length_of j1 in
@@ -136,6 +138,7 @@ module _ {D : Type 0} (b : Tables) (plan : Plan) (base : List ℕ) (was : Handed
         entries = entries ∙ (ap (λ (G : List Entry). G ++ entry ∷ []) kept.entries ∙ sym e);
         size = sym (reach-push M (Adopted entry size));
         limit = limit ∙ kept.limit;
+        start = λ told1. start ∙ kept.start (sym tells ∙ told1);
         marks_are = subst (λ (N : List Mark). AreMarks (N ++ Adopted entry size ∷ [])) (sym u.fault) (adopted u.before entry size (subst AreMarks u.fault kept.marks_are));
         counted = counted-adopted M was.faults (faults_of j) (faults_of j1) kept.counted entry size grows;
         grows = omega (arith, kept.grows, grows);
@@ -149,11 +152,11 @@ module _ {D : Type 0} (b : Tables) (plan : Plan) (base : List ℕ) (was : Handed
   -- the entry in doubt was dropped
   pub kept_dropped : (entry : Entry) (kept : IsKept b plan base book j M (Some entry) was)
       → book1.bank ≡ book.bank → book1.plan ≡ book.plan → book1.entries ≡ book.entries
-      → IsReady j1 → length_of j1 ≡ length_of j → limit_of j1 ≡ limit_of j → faults_of j ≤ faults_of j1 → tells_of j1 ≡ tells_of j
+      → IsReady j1 → length_of j1 ≡ length_of j → limit_of j1 ≡ limit_of j → start_of j1 ≡ start_of j → faults_of j ≤ faults_of j1 → tells_of j1 ≡ tells_of j
       → (IsTrue (tells_of j) → (ps : List (List ℕ)) (payload : List ℕ) → IsDoubtful ps payload j → payloads_of j1 ≡ ps)
       → (IsTrue (tells_of j) → AtEachMoment (accounts_of j) (accounts_of j1) (IsWriting b plan (history M) entry))
       → IsKept b plan base book1 j1 M None was
-  kept_dropped entry kept bank plan_is entries ready size limit grows tells mended writing =
+  kept_dropped entry kept bank plan_is entries ready size limit start grows tells mended writing =
       let u : IsUnsure b plan M entry book.room j = kept.backed in
       record {
         bank = bank ∙ kept.bank;
@@ -161,6 +164,7 @@ module _ {D : Type 0} (b : Tables) (plan : Plan) (base : List ℕ) (was : Handed
         entries = entries ∙ kept.entries;
         size = size ∙ kept.size;
         limit = limit ∙ kept.limit;
+        start = λ told1. start ∙ kept.start (sym tells ∙ told1);
         marks_are = kept.marks_are;
         counted = counted-still M was.faults (faults_of j) (faults_of j1) kept.counted grows;
         grows = omega (arith, kept.grows, grows);
@@ -172,11 +176,11 @@ module _ {D : Type 0} (b : Tables) (plan : Plan) (base : List ℕ) (was : Handed
   -- the disk failed once more, and the entry stays in doubt
   pub kept_unmended : (entry : Entry) (kept : IsKept b plan base book j M (Some entry) was)
       → book1.bank ≡ book.bank → book1.plan ≡ book.plan → book1.entries ≡ book.entries → book1.room ≡ book.room
-      → length_of j1 ≡ length_of j → limit_of j1 ≡ limit_of j → Rose (faults_of j) (faults_of j1) → faults_of j ≤ faults_of j1 → tells_of j1 ≡ tells_of j
+      → length_of j1 ≡ length_of j → limit_of j1 ≡ limit_of j → start_of j1 ≡ start_of j → Rose (faults_of j) (faults_of j1) → faults_of j ≤ faults_of j1 → tells_of j1 ≡ tells_of j
       → ((ps : List (List ℕ)) (payload : List ℕ) → IsDoubtful ps payload j → IsDoubtful ps payload j1)
       → (IsTrue (tells_of j) → AtEachMoment (accounts_of j) (accounts_of j1) (IsWriting b plan (history M) entry))
       → IsKept b plan base book1 j1 (M ++ Fault entry ∷ []) (Some entry) was
-  kept_unmended entry kept bank plan_is entries room size limit rose grows tells still writing =
+  kept_unmended entry kept bank plan_is entries room size limit start rose grows tells still writing =
       let u : IsUnsure b plan M entry book.room j = kept.backed in
       let e : history (M ++ Fault entry ∷ []) ≡ history M = history-fault M entry in
       record {
@@ -185,6 +189,7 @@ module _ {D : Type 0} (b : Tables) (plan : Plan) (base : List ℕ) (was : Handed
         entries = entries ∙ (kept.entries ∙ sym e);
         size = size ∙ (kept.size ∙ sym (reach-push M (Fault entry)));
         limit = limit ∙ kept.limit;
+        start = λ told1. start ∙ kept.start (sym tells ∙ told1);
         marks_are = fault M entry kept.marks_are;
         counted = counted-fault M was.faults (faults_of j) (faults_of j1) kept.counted entry rose;
         grows = omega (arith, kept.grows, grows);

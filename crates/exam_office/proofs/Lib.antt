@@ -42,3 +42,4 @@ pub mod PayloadLaws
 pub mod ReadingLaws
 pub mod AppendingLaws
 pub mod Witnesses
+pub mod Allowing

@@ -19,8 +19,8 @@ use Rattle.answer_journal.specs.Versions.{Counted, contents, counted_in, header,
 use Rattle.exam_office.specs.declared.fault.OpenFault.{OpenFault}
 use Rattle.exam_office.specs.declared.fault.OpenFault.TheVariants.{Journal, Version, BadRecord, BadTree, Illegal, Disk as OfDisk, Memory as OfMemory}
 use Rattle.exam_office.specs.declared.migrating.MigrateFault.{MigrateFault}
-use Rattle.exam_office.specs.Files.{payload_in, AreRecordsOf, Stands, StandsSecond}
-use Rattle.exam_office.specs.Migrating.{IsImageOrStands, IsLeft, IsMigrateAnswer, IsMovedUpTo, IsOldFile, migrate_fault}
+use Rattle.exam_office.specs.Files.{payload_in, AreRecordsOf, IsImageOrStands, Stands, StandsSecond}
+use Rattle.exam_office.specs.Migrating.{IsLeft, IsMigrateAnswer, IsMovedUpTo, IsOldFile, migrate_fault}
 use Rattle.exam_office.specs.declared.migrating.Moved.{Moved}
 use Rattle.exam_office.specs.Opening.{IsReadAnswer, journal_fault}
 use Rattle.exam_office.proofs.Opened.{version_is, stands_second}

@@ -15,12 +15,12 @@ use Rattle.answer_journal.specs.FrameLaws.{payloads-front}
 use Rattle.answer_journal.specs.Moving.{GivesEither, IsImageOrUnmoved, IsMovingWith, IsUnmoved, first}
 use Rattle.answer_journal.specs.Standing.{moved_records}
 use Rattle.answer_journal.specs.Versions.{mark, contents, counted, counted_from, second, version_of}
-use Rattle.exam_office.specs.Files.{payload_in, AreRecordsOf, Stands, StandsSecond}
+use Rattle.exam_office.specs.Files.{payload_in, AreRecordsOf, IsImageOrStands, Stands, StandsSecond}
 use Rattle.exam_office.specs.declared.fault.OpenFault.{OpenFault}
 use Rattle.exam_office.specs.declared.fault.OpenFault.TheVariants.{Disk as OfDisk, Memory as OfMemory}
 use Rattle.exam_office.specs.declared.migrating.MigrateFault.{MigrateFault}
 use Rattle.exam_office.specs.declared.migrating.MigrateFault.TheVariants.{Disk, Memory}
-use Rattle.exam_office.specs.Migrating.{IsImageOrStands, migrate_fault}
+use Rattle.exam_office.specs.Migrating.{migrate_fault}
 use Rattle.exam_office.proofs.Records.{as_second}
 
 module _ (b : Tables) (plan : Plan) (H : List Entry) (R : List Record) (are : AreRecordsOf b plan 1 H R) where

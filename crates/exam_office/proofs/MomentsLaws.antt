@@ -2,16 +2,16 @@
 use Rattle.std.proofs.Common.{◌≡◌, ◌⊎◌, inl, inr, ℕ, List, [], ◌∷◌, ◌++◌, map, Option, Some, None, refl, sym, ◌∙◌, ap, subst, append_assoc}
 use Rattle.std.proofs.lemmas.List.{append-nil}
 use Rattle.bank_tables.specs.Tables.{Tables}
-use Rattle.exam_edge.specs.Images.{Account, AtEachMoment}
-use Rattle.exam_edge.specs.ImageLaws.{joined, weaker}
+use Rattle.exam_edge.specs.Images.{Account, latest}
+use Rattle.exam_edge.specs.ImageLaws.{joined, only, started, weaker}
 use Rattle.form_model.specs.Plan.{Plan}
 use Rattle.history_model.specs.declared.entry.Entry.{Entry}
 use Rattle.exam_office.specs.declared.mark.Mark.{Mark}
 use Rattle.exam_office.specs.declared.mark.Mark.TheVariants.{Old, Opened, Own, Adopted, Fault}
-use Rattle.exam_office.specs.Files.{StandsSecond}
-use Rattle.exam_office.specs.Laws.{EachMomentStands}
+use Rattle.exam_office.specs.Files.{IsImageOrStandsSecond, StandsSecond}
+use Rattle.exam_office.specs.Laws.{EachMomentStands, SettledMomentStands}
 use Rattle.exam_office.specs.Marks.{history, AreMarks, opened, own, fault, adopted}
-use Rattle.exam_office.specs.Moments.{IsInHand, written, failed, kept, dropped, AreMoments, opening, one_more, IsLeftOnTheWay}
+use Rattle.exam_office.specs.Moments.{IsInHand, written, failed, kept, dropped, AreMoments, opening, one_more, AreOnTheWay, IsLeftOnTheWay}
 use Rattle.exam_office.specs.Noting.{IsDoubtOf}
 use Rattle.exam_office.specs.Writing.{as_before, with_doubt, IsMending, IsWriting}
 use Rattle.exam_office.proofs.Marking.{history-own, history-fault}
@@ -91,16 +91,40 @@ module _ (b : Tables) (plan : Plan) where
     moments_marks marks now (opening H size last at) = opened H size
     moments_marks marks now (one_more entry M N mid later so_far hand at) = are_marks-in_hand entry M N hand (moments_marks M mid so_far)
 
-    each_moment : (marks : List Mark) (now : List Account) → AreMoments b plan before marks now → AtEachMoment before now (IsLeftOnTheWay b plan marks)
+    each_moment : (marks : List Mark) (now : List Account) → AreMoments b plan before marks now → AreOnTheWay b plan before marks now
     each_moment marks now (opening H size last at) =
         let M = map Old H ++ Opened size ∷ [] in
-        weaker (StandsSecond b plan H) (IsLeftOnTheWay b plan M)
-        (λ file s. whole M file (sure_at M [] H file (opened H size) (history-opened H size) s)) before last at
+        record {
+          found = H;
+          size = size;
+          more = [];
+          begins = sym (append-nil M);
+          opened = last;
+          opening = at;
+          since = started (IsLeftOnTheWay b plan M) last (λ file i. whole M file (sure_at M [] H file (opened H size) (history-opened H size) (at.opened file i)));
+        }
     each_moment marks now (one_more entry M N mid later so_far hand at) =
+        let way = each_moment M mid so_far in
         let more = added entry M N hand in
-        joined (IsLeftOnTheWay b plan N) before mid later
-        (weaker (IsLeftOnTheWay b plan M) (IsLeftOnTheWay b plan N) (λ file left. left_longer M N more.0 file more.1 left) before mid (each_moment M mid so_far))
-        (weaker (IsWriting b plan (history M) entry) (IsLeftOnTheWay b plan N) (λ file either. in_hand_so entry M N file hand (moments_marks M mid so_far) either) mid later at)
+        record {
+          found = way.found;
+          size = way.size;
+          more = way.more ++ more.0;
+          begins =
+              more.1 ∙ (ap (λ (K : List Mark). K ++ more.0) way.begins ∙ append_assoc (map Old way.found ++ Opened way.size ∷ []) way.more more.0);
+          opened = way.opened;
+          opening = way.opening;
+          since =
+              joined (IsLeftOnTheWay b plan N) way.opened mid later
+              (weaker (IsLeftOnTheWay b plan M) (IsLeftOnTheWay b plan N) (λ file left. left_longer M N more.0 file more.1 left) way.opened mid way.since)
+              (weaker (IsWriting b plan (history M) entry) (IsLeftOnTheWay b plan N) (λ file either. in_hand_so entry M N file hand (moments_marks M mid so_far) either) mid later at);
+        }
 
 pub each_moment_stands : EachMomentStands
 each_moment_stands b plan before marks now moments = each_moment b plan before marks now moments
+
+-- what a crash might have left of a settled disk is its content
+pub settled_moment_stands : SettledMomentStands
+settled_moment_stands b plan H content before now settled s moments =
+    weaker (IsImageOrStandsSecond b plan H (latest before)) (StandsSecond b plan H)
+    (λ file here. elim here [ inl i ↦ subst (StandsSecond b plan H) (sym (only (latest before) content file settled i)) s | inr stands ↦ stands ]) before now moments.each

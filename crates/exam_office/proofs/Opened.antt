@@ -7,13 +7,14 @@ use Rattle.bank_tables.specs.Items.{has}
 use Rattle.bank_tables.specs.Tables.{Tables}
 use Rattle.form_model.specs.Plan.{Plan}
 use Rattle.form_model.specs.Forms.{Meets}
-use Rattle.exam_edge.specs.Images.{Account, AllImages, AtEachMoment, IsImage, IsSettled, latest}
+use Rattle.exam_edge.specs.Images.{Account, AllImages, AtEachMoment, IsImage, latest}
 use Rattle.exam_edge.specs.ImageLaws.{joined, weaker, at_end}
 use Rattle.history_model.specs.declared.entry.Entry.{Entry}
 use Rattle.history_model.specs.Judging.{empty}
 use Rattle.exam_session.specs.Ledgers.{Ledger}
-use Rattle.answer_journal.specs.Journal.{JournalState, length_of, limit_of, tells_of, accounts_of, payloads_of, IsReady, faults_of}
+use Rattle.answer_journal.specs.Journal.{JournalState, length_of, limit_of, start_of, tells_of, accounts_of, payloads_of, IsReady, faults_of}
 use Rattle.answer_journal.specs.OpenFault.{first_fault, fault_in}
+use Rattle.answer_journal.specs.Standing.{IsImageOrHolds}
 use Rattle.answer_journal.specs.Versions.{Counted, contents, counted_in, second}
 use Rattle.answer_journal.specs.declared.open_fault.OpenFault.TheVariants.{TooLong}
 use Rattle.std.proofs.lemmas.Bool.{ltb-false}
@@ -28,7 +29,7 @@ use Rattle.exam_office.specs.declared.fault.OpenFault.TheVariants.{Journal as Of
 use Rattle.exam_office.specs.Files.{payload_in, counted_of, AreRecordsOf, Stands, StandsSecond}
 use Rattle.exam_office.specs.Marks.{entry_of, history, reach, is_fault, AreMarks, opened}
 use Rattle.exam_office.specs.Keeping.{IsSure, IsKept}
-use Rattle.exam_office.specs.Moments.{AreMoments, opening}
+use Rattle.exam_office.specs.Moments.{AreMoments, AreOpeningMoments, opening}
 use Rattle.exam_office.specs.Running.{HandedDisk}
 use Rattle.exam_office.specs.Opening.{IsTaken, AreTaken, IsNotTaken, IsRefusedFile, IsReadAnswer, IsOpenAnswer}
 use Rattle.exam_office.specs.declared.vectors.Vectors.{Vectors}
@@ -158,22 +159,23 @@ module _ (marks : List Mark) (H : List Entry) (size : ℕ) (is : marks ≡ map O
   marks_told = is ∙ (ap (λ (G : List Entry). map Old G ++ Opened size ∷ []) (sym history_is) ∙ ap (λ (n : ℕ). map Old (history marks) ++ Opened n ∷ []) (sym reach_is))
 
   pub kept_open : {D : Type 0} (b : Tables) (plan : Plan) (base : List ℕ) (was : HandedDisk) (book : Ledger) (j : JournalState D) (file : List ℕ) (start given at : ℕ) → AreTaken b plan 2 start (tells_of j) file given at H
-      → book.bank ≡ b → book.plan ≡ plan → book.entries ≡ H → IsReady j → limit_of j ≡ plan.journal → length_of j ≡ size
+      → book.bank ≡ b → book.plan ≡ plan → book.entries ≡ H → IsReady j → limit_of j ≡ plan.journal → (IsTrue (tells_of j) → start_of j ≡ first_gate was.content) → length_of j ≡ size
       → (IsTrue (tells_of j) → payloads_of j ≡ first_payloads given file) → was.faults ≤ faults_of j → Meets b plan (has base)
-      → (IsTrue (tells_of j) → IsSettled was.content was.accounts → AtEachMoment was.accounts (accounts_of j) (StandsSecond b plan H))
+      → (IsTrue (tells_of j) → AreOpeningMoments b plan H (latest was.accounts) was.accounts (accounts_of j))
       → IsKept b plan base book j marks None was
-  kept_open b plan base was book j file start given at taken bank plan_is entries ready limit size_is keeps grows base_is stands = record {
+  kept_open b plan base was book j file start given at taken bank plan_is entries ready limit start_is size_is keeps grows base_is moments = record {
     bank = bank;
     plan_is = plan_is;
     entries = entries ∙ sym history_is;
     size = size_is ∙ sym reach_is;
     limit = limit;
+    start = start_is;
     marks_are = subst AreMarks (sym is) (opened H size);
     counted = let none : count_by is_fault marks ≡ 0 = ap (count_by is_fault) is ∙ no_faults-opened H size in omega arith;
     grows = grows;
     backed = subst (λ (G : List Entry). IsSure b plan G j) (sym history_is) (record { records = taken.records; are = taken.are; ready = ready; holds = λ told. keeps told ∙ sym (taken.bytes told) });
     base_is = base_is;
-    moments = λ told settled. subst (λ (ms : List Mark). AreMoments b plan was.accounts ms (accounts_of j)) (sym is) (opening H size (accounts_of j) (stands told settled));
+    moments = λ told. subst (λ (ms : List Mark). AreMoments b plan was.accounts ms (accounts_of j)) (sym is) (opening H size (accounts_of j) (moments told));
   }
 
   pub vectors_open : {D : Type 0} (b : Tables) (plan : Plan) (j : JournalState D) (file : List ℕ) (start given at : ℕ) (v : Vectors) → AreTakenWith b plan 2 start (tells_of j) file given at H (Some v)
@@ -231,6 +233,24 @@ second_while_opened b plan H content between a0 a1 a2 s reading same finishing =
     (weaker (λ (file : List ℕ). file ≡ content) (StandsSecond b plan H) (λ file e. subst (StandsSecond b plan H) (sym e) s) a0 a1 reading)
     (weaker (λ (file : List ℕ). contents file ≡ contents between) (StandsSecond b plan H) (λ file e. second_too b plan H content file s (e ∙ ap contents same)) a1 a2
     (finishing (λ file i. at_end (λ f. f ≡ content) a0 a1 reading file i ∙ sym same)))
+
+-- while it is read and finished, a crash leaves what it might have left before, or the same contents
+pub while_opened : (P : List ℕ → Type 0) (content between : List ℕ) (a0 a1 a2 : List Account) → ((file : List ℕ) → contents file ≡ contents content → P file)
+    → AtEachMoment a0 a1 (IsImage (latest a0)) → between ≡ content → AtEachMoment a1 a2 (IsImageOrHolds (latest a1) between) → AtEachMoment a0 a2 (λ file. IsImage (latest a0) file ⊎ P file)
+while_opened P content between a0 a1 a2 so reading same finishing =
+    let Q : List ℕ → Type 0 = λ (file : List ℕ). IsImage (latest a0) file ⊎ P file in
+    joined Q a0 a1 a2 (weaker (IsImage (latest a0)) Q (λ file i. inl i) a0 a1 reading)
+    (weaker (IsImageOrHolds (latest a1) between) Q
+    (λ file here. elim here [ inl i ↦ inl (at_end (IsImage (latest a0)) a0 a1 reading file i) | inr e ↦ inr (so file (e ∙ ap contents same)) ]) a1 a2 finishing)
+
+-- a file that represents a history is opened
+pub opening_moments : (b : Tables) (plan : Plan) (H : List Entry) (content between : List ℕ) (a0 a1 a2 : List Account) → StandsSecond b plan H content
+    → AtEachMoment a0 a1 (IsImage (latest a0)) → between ≡ content → AtEachMoment a1 a2 (IsImageOrHolds (latest a1) between)
+    → AllImages (λ file. contents file ≡ contents between) (latest a2) → AreOpeningMoments b plan H (latest a0) a0 a2
+opening_moments b plan H content between a0 a1 a2 s reading same finishing images = record {
+  each = while_opened (StandsSecond b plan H) content between a0 a1 a2 (λ file. second_too b plan H content file s) reading same finishing;
+  opened = λ file i. second_too b plan H content file s (images file i ∙ ap contents same);
+}
 
 -- a file was only read, and then finished in part: its tail was put aside first
 pub aside_on : (before between now : List ℕ) (a0 a1 a2 : List Account) (x0 x1 x2 : List ℕ) → between ≡ before → AtEachMoment a0 a1 (IsImage (latest a0)) → x1 ≡ x0 → PutsTailAside between now a1 a2 x1 x2 → PutsTailAside before now a0 a2 x0 x2

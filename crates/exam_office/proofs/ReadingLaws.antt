@@ -113,10 +113,10 @@ module _ {D : Type 0} (b : Tables) (plan : Plan) (j j1 : JournalState D) (tells 
   payloads_same told = ap (λ (file : List ℕ). (counted_in file).payloads) (content told)
 
   pub kept_read : (base : List ℕ) (was : HandedDisk) (book : Ledger) (M : List Mark) (doubt : Option Entry) → doubt ≡ None → IsKept b plan base book j M doubt was
-      → IsReady j1 → length_of j1 ≡ length_of j → limit_of j1 ≡ limit_of j → faults_of j ≤ faults_of j1
+      → IsReady j1 → length_of j1 ≡ length_of j → limit_of j1 ≡ limit_of j → start_of j1 ≡ start_of j → faults_of j ≤ faults_of j1
       → (IsTrue (tells_of j) → accounts_of j1 ≡ accounts_of j)
       → IsKept b plan base book j1 M doubt was
-  kept_read base was book M doubt none kept ready size limit grows accounts =
+  kept_read base was book M doubt none kept ready size limit start grows accounts =
       let k : IsKept b plan base book j M None was = subst (λ (d : Option Entry). IsKept b plan base book j M d was) none kept in
       let s : IsSure b plan (history M) j = k.backed in
       subst (λ (d : Option Entry). IsKept b plan base book j1 M d was) (sym none) (record {
@@ -125,12 +125,13 @@ module _ {D : Type 0} (b : Tables) (plan : Plan) (j j1 : JournalState D) (tells 
         entries = k.entries;
         size = size ∙ k.size;
         limit = limit ∙ k.limit;
+        start = λ told1. start ∙ k.start (sym tells ∙ told1);
         marks_are = k.marks_are;
         counted = counted-still M was.faults (faults_of j) (faults_of j1) k.counted grows;
         grows = omega (arith, k.grows, grows);
         backed = record { records = s.records; are = s.are; ready = ready; holds = λ told1. payloads_same (sym tells ∙ told1) ∙ s.holds (sym tells ∙ told1) };
         base_is = k.base_is;
-        moments = λ told1 settled. subst (AreMoments b plan was.accounts M) (sym (accounts (sym tells ∙ told1))) (k.moments (sym tells ∙ told1) settled);
+        moments = λ told1. subst (AreMoments b plan was.accounts M) (sym (accounts (sym tells ∙ told1))) (k.moments (sym tells ∙ told1));
       })
 
   held_read : (H : List Entry) (R : List Record) (last : Option Record) → Holds b plan H j R None last → Holds b plan H j1 R None last

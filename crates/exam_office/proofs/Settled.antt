@@ -8,7 +8,7 @@ use Rattle.history_model.specs.declared.entry.Entry.{Entry}
 use Rattle.history_model.specs.Legality.{Legal}
 use Rattle.history_model.specs.Laws.{MayIsLegal}
 use Rattle.exam_session.specs.Ledgers.{Ledger}
-use Rattle.answer_journal.specs.Journal.{JournalState, length_of, limit_of, tells_of, accounts_of, payloads_of, IsReady, IsDoubtful, faults_of}
+use Rattle.answer_journal.specs.Journal.{JournalState, length_of, limit_of, start_of, tells_of, accounts_of, payloads_of, IsReady, IsDoubtful, faults_of}
 use Rattle.answer_journal.specs.Versions.{HoldsOrOneMore}
 use Rattle.exam_office.specs.declared.mark.Mark.{Mark}
 use Rattle.exam_office.specs.declared.mark.Mark.TheVariants.{Adopted, Fault}
@@ -61,7 +61,7 @@ module _ {D : Type 0} (b : Tables) (plan : Plan) (base : List ℕ) (book : Ledge
     kept_some : IsKept b plan base book j M (Some entry) was
     kept_some = subst (λ (d : Option Entry). IsKept b plan base book j M d was) is all
 
-    unsure : IsUnsure b plan M entry book.room j
+    pub unsure : IsUnsure b plan M entry book.room j
     unsure = kept_some.backed
 
     pub has_doubt : (ps : List (List ℕ)) × (payload : List ℕ) × IsDoubtful ps payload j
@@ -100,29 +100,29 @@ module _ {D : Type 0} (b : Tables) (plan : Plan) (base : List ℕ) (book : Ledge
 
     module _ (book1 : Ledger) (j1 : JournalState D) where
       pub kept_so : book1.bank ≡ book.bank → book1.plan ≡ book.plan → book1.entries ≡ book.entries ++ entry ∷ []
-          → IsReady j1 → limit_of j1 ≡ limit_of j → faults_of j ≤ faults_of j1 → tells_of j1 ≡ tells_of j
+          → IsReady j1 → limit_of j1 ≡ limit_of j → start_of j1 ≡ start_of j → faults_of j ≤ faults_of j1 → tells_of j1 ≡ tells_of j
           → (IsTrue (tells_of j) → (ps : List (List ℕ)) (payload : List ℕ) → IsDoubtful ps payload j → payloads_of j1 ≡ ps ++ payload ∷ [])
           → (IsTrue (tells_of j) → (ps : List (List ℕ)) (payload : List ℕ) → IsDoubtful ps payload j → AtEachMoment (accounts_of j) (accounts_of j1) (HoldsOrOneMore ps payload))
           → IsKept b plan base book1 j1 (M ++ Adopted entry (length_of j1) ∷ []) None was
-      kept_so bank plan_is entries ready limit grows tells mended moments =
-          kept_adopted b plan base was book book1 j j1 M entry kept_some bank plan_is entries ready limit grows tells mended (in_hand j1 moments)
+      kept_so bank plan_is entries ready limit start grows tells mended moments =
+          kept_adopted b plan base was book book1 j j1 M entry kept_some bank plan_is entries ready limit start grows tells mended (in_hand j1 moments)
 
       pub dropped_so : book1.bank ≡ book.bank → book1.plan ≡ book.plan → book1.entries ≡ book.entries
-          → IsReady j1 → length_of j1 ≡ length_of j → limit_of j1 ≡ limit_of j → faults_of j ≤ faults_of j1 → tells_of j1 ≡ tells_of j
+          → IsReady j1 → length_of j1 ≡ length_of j → limit_of j1 ≡ limit_of j → start_of j1 ≡ start_of j → faults_of j ≤ faults_of j1 → tells_of j1 ≡ tells_of j
           → (IsTrue (tells_of j) → (ps : List (List ℕ)) (payload : List ℕ) → IsDoubtful ps payload j → payloads_of j1 ≡ ps)
           → (IsTrue (tells_of j) → (ps : List (List ℕ)) (payload : List ℕ) → IsDoubtful ps payload j → AtEachMoment (accounts_of j) (accounts_of j1) (HoldsOrOneMore ps payload))
           → IsKept b plan base book1 j1 M None was
-      dropped_so bank plan_is entries ready size limit grows tells mended moments =
-          kept_dropped b plan base was book book1 j j1 M entry kept_some bank plan_is entries ready size limit grows tells mended (in_hand j1 moments)
+      dropped_so bank plan_is entries ready size limit start grows tells mended moments =
+          kept_dropped b plan base was book book1 j j1 M entry kept_some bank plan_is entries ready size limit start grows tells mended (in_hand j1 moments)
 
       pub still_so : book1.bank ≡ book.bank → book1.plan ≡ book.plan → book1.entries ≡ book.entries → book1.room ≡ book.room
-          → length_of j1 ≡ length_of j → limit_of j1 ≡ limit_of j → Rose (faults_of j) (faults_of j1) → faults_of j ≤ faults_of j1 → tells_of j1 ≡ tells_of j
+          → length_of j1 ≡ length_of j → limit_of j1 ≡ limit_of j → start_of j1 ≡ start_of j → Rose (faults_of j) (faults_of j1) → faults_of j ≤ faults_of j1 → tells_of j1 ≡ tells_of j
           → ((ps : List (List ℕ)) (payload : List ℕ) → IsDoubtful ps payload j → IsDoubtful ps payload j1)
           → (IsTrue (tells_of j) → (ps : List (List ℕ)) (payload : List ℕ) → IsDoubtful ps payload j → AtEachMoment (accounts_of j) (accounts_of j1) (HoldsOrOneMore ps payload))
           → IsKept b plan base book1 j1 (M ++ Fault entry ∷ []) doubt was
-      still_so bank plan_is entries room size limit rose grows tells still moments =
+      still_so bank plan_is entries room size limit start rose grows tells still moments =
           subst (λ (d : Option Entry). IsKept b plan base book1 j1 (M ++ Fault entry ∷ []) d was) (sym is)
-          (kept_unmended b plan base was book book1 j j1 M entry kept_some bank plan_is entries room size limit rose grows tells still (in_hand j1 moments))
+          (kept_unmended b plan base was book book1 j j1 M entry kept_some bank plan_is entries room size limit start rose grows tells still (in_hand j1 moments))
 
     -- the vectors
     module _ (each : List (Option Multipliers)) (new : Option NewVector) (vectors : AreKeptVectors b plan (history M) j doubt each new) where

@@ -7,7 +7,7 @@ use Rattle.exam_edge.specs.Images.{Account, latest, AllImages, AtEachMoment}
 use Rattle.history_model.specs.declared.entry.Entry.{Entry}
 use Rattle.history_model.specs.Judging.{MayFollow, Record}
 use Rattle.exam_session.specs.Ledgers.{Ledger}
-use Rattle.answer_journal.specs.Journal.{JournalState, length_of, limit_of, tells_of, accounts_of, payloads_of, IsReady, IsDoubtful, faults_of}
+use Rattle.answer_journal.specs.Journal.{JournalState, length_of, limit_of, start_of, tells_of, accounts_of, payloads_of, IsReady, IsDoubtful, faults_of}
 use Rattle.answer_journal.specs.Versions.{HoldsOrOneMore}
 use Rattle.exam_records.specs.Shape.{IsRecord}
 use Rattle.exam_records.specs.Spelling.{payload_of}
@@ -32,10 +32,10 @@ module _ {D : Type 0} (b : Tables) (plan : Plan) (base : List ℕ) (book : Ledge
   none : doubt ≡ None
   none = ap (λ (o : Running D). o.doubt) view ∙ sure
 
-  kept_sure : IsKept b plan base book j M None was
+  pub kept_sure : IsKept b plan base book j M None was
   kept_sure = subst (λ (d : Option Entry). IsKept b plan base book j M d was) none kept
 
-  may_here : MayFollow b plan (history M) r.entry r.tree
+  pub may_here : MayFollow b plan (history M) r.entry r.tree
   may_here = subst (λ (o : Running D). MayFollow o.bank o.plan (history o.marks) r.entry r.tree) (sym view) may
 
   told_here : IsTrue (tells_of now.journal) → IsTrue (tells_of j)
@@ -67,6 +67,7 @@ module _ {D : Type 0} (b : Tables) (plan : Plan) (base : List ℕ) (book : Ledge
     entries = entries ∙ kept.entries;
     size = kept.size;
     limit = kept.limit;
+    start = kept.start;
     marks_are = kept.marks_are;
     counted = kept.counted;
     grows = kept.grows;
@@ -78,13 +79,13 @@ module _ {D : Type 0} (b : Tables) (plan : Plan) (base : List ℕ) (book : Ledge
   -- it was written
   pub kept_written : (book1 : Ledger) (j1 : JournalState D) (payload : List ℕ) → payload ≡ payload_of r → IsRecord r
       → book1.bank ≡ book.bank → book1.plan ≡ book.plan → book1.entries ≡ book.entries ++ r.entry ∷ []
-      → IsReady j1 → limit_of j1 ≡ limit_of j → faults_of j ≤ faults_of j1 → tells_of j1 ≡ tells_of j
+      → IsReady j1 → limit_of j1 ≡ limit_of j → start_of j1 ≡ start_of j → faults_of j ≤ faults_of j1 → tells_of j1 ≡ tells_of j
       → (IsTrue (tells_of j) → payloads_of j1 ≡ payloads_of j ++ payload ∷ [])
       → (IsTrue (tells_of j) → AtEachMoment (accounts_of j) (accounts_of j1) (HoldsOrOneMore (payloads_of j) payload))
       → IsKept b plan base book1 j1 (M ++ Own r.entry (length_of j1) ∷ []) doubt was
-  kept_written book1 j1 payload is spells bank plan_is entries ready limit grows tells added moments =
+  kept_written book1 j1 payload is spells bank plan_is entries ready limit start grows tells added moments =
       subst (λ (d : Option Entry). IsKept b plan base book1 j1 (M ++ Own r.entry (length_of j1) ∷ []) d was) (sym none)
-      (kept_own b plan base was book book1 j j1 M kept_sure r spells may_here bank plan_is entries ready limit grows tells (λ told. added told ∙ ap (λ (p : List ℕ). payloads_of j ++ p ∷ []) is)
+      (kept_own b plan base was book book1 j j1 M kept_sure r spells may_here bank plan_is entries ready limit start grows tells (λ told. added told ∙ ap (λ (p : List ℕ). payloads_of j ++ p ∷ []) is)
       (in_hand (accounts_of j1) payload is spells moments))
 
   pub images_written : (j1 : JournalState D) (M1 : List Mark) (book1 : Ledger) → IsKept b plan base book1 j1 M1 doubt was → tells_of j1 ≡ tells_of j → IsTrue (tells_of now.journal) → AllImages (StandsSecond now.bank now.plan (history M1)) (latest (accounts_of j1))
@@ -96,11 +97,11 @@ module _ {D : Type 0} (b : Tables) (plan : Plan) (base : List ℕ) (book : Ledge
   -- the disk failed
   pub kept_faulted : (book1 : Ledger) (j1 : JournalState D) (payload : List ℕ) → payload ≡ payload_of r → IsRecord r
       → book1.bank ≡ book.bank → book1.plan ≡ book.plan → book1.entries ≡ book.entries → 0 < book1.room
-      → IsDoubtful (payloads_of j) payload j1 → length_of j1 ≡ length_of j → limit_of j1 ≡ limit_of j → Rose (faults_of j) (faults_of j1) → faults_of j ≤ faults_of j1 → tells_of j1 ≡ tells_of j
+      → IsDoubtful (payloads_of j) payload j1 → length_of j1 ≡ length_of j → limit_of j1 ≡ limit_of j → start_of j1 ≡ start_of j → Rose (faults_of j) (faults_of j1) → faults_of j ≤ faults_of j1 → tells_of j1 ≡ tells_of j
       → (IsTrue (tells_of j) → AtEachMoment (accounts_of j) (accounts_of j1) (HoldsOrOneMore (payloads_of j) payload))
       → IsKept b plan base book1 j1 (M ++ Fault r.entry ∷ []) (Some r.entry) was
-  kept_faulted book1 j1 payload is spells bank plan_is entries room doubtful size limit rose grows tells moments =
-      kept_fault b plan base was book book1 j j1 M kept_sure r spells may_here bank plan_is entries room (subst (λ (p : List ℕ). IsDoubtful (payloads_of j) p j1) is doubtful) size limit rose grows tells
+  kept_faulted book1 j1 payload is spells bank plan_is entries room doubtful size limit start rose grows tells moments =
+      kept_fault b plan base was book book1 j j1 M kept_sure r spells may_here bank plan_is entries room (subst (λ (p : List ℕ). IsDoubtful (payloads_of j) p j1) is doubtful) size limit start rose grows tells
       (in_hand (accounts_of j1) payload is spells moments)
 
   -- the vectors: room was taken

@@ -1,7 +1,8 @@
 -- The history that the bytes of a file represent.
-use Rattle.std.specs.Prelude.{◌≡◌, ℕ, ◌==◌, if◌then◌else◌, List, map, Some}
+use Rattle.std.specs.Prelude.{◌≡◌, ◌⊎◌, ℕ, ◌==◌, if◌then◌else◌, List, map, Some}
 use Rattle.std.specs.List.{AllByRecursion}
 use Rattle.bank_tables.specs.Tables.{Tables}
+use Rattle.exam_edge.specs.Images.{Account, IsImage}
 use Rattle.form_model.specs.Plan.{Plan}
 use Rattle.serving_model.specs.Seats.{first_band}
 use Rattle.history_model.specs.declared.entry.Entry.{Entry}
@@ -47,3 +48,11 @@ pub record Stands (b : Tables) (plan : Plan) (H : List Entry) (file : List ℕ) 
 pub record StandsSecond (b : Tables) (plan : Plan) (H : List Entry) (file : List ℕ) : Type 0 where
   pub stands : Stands b plan H file
   pub second : stands.version ≡ 2
+
+-- a file that a crash might have left before, or one that represents the history
+abbrev pub IsImageOrStands : Tables → Plan → List Entry → Account → List ℕ → Type 0
+IsImageOrStands b plan H before file = IsImage before file ⊎ Stands b plan H file
+
+-- the same, by records of the second version
+abbrev pub IsImageOrStandsSecond : Tables → Plan → List Entry → Account → List ℕ → Type 0
+IsImageOrStandsSecond b plan H before file = IsImage before file ⊎ StandsSecond b plan H file

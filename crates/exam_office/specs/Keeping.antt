@@ -2,13 +2,13 @@
 use Rattle.std.specs.Prelude.{◌≡◌, ℕ, ◌<◌, ◌≤◌, List, [], ◌∷◌, ◌++◌, map, Option, Some, None, IsTrue}
 use Rattle.bank_tables.specs.Items.{has}
 use Rattle.bank_tables.specs.Tables.{Tables}
-use Rattle.exam_edge.specs.Images.{IsSettled}
 use Rattle.form_model.specs.Plan.{Plan}
 use Rattle.form_model.specs.Forms.{Meets}
 use Rattle.history_model.specs.declared.entry.Entry.{Entry}
 use Rattle.history_model.specs.Judging.{Record, MayFollow}
 use Rattle.exam_session.specs.Ledgers.{Ledger}
-use Rattle.answer_journal.specs.Journal.{JournalState, length_of, limit_of, tells_of, payloads_of, IsReady, IsDoubtful, accounts_of, faults_of}
+use Rattle.answer_journal.specs.Journal.{JournalState, length_of, limit_of, start_of, tells_of, payloads_of, IsReady, IsDoubtful, accounts_of, faults_of}
+use Rattle.answer_journal.specs.Walk.{first_gate}
 use Rattle.exam_records.specs.Shape.{IsRecord}
 use Rattle.exam_records.specs.Spelling.{payload_of}
 use Rattle.exam_office.specs.declared.mark.Mark.{Mark}
@@ -55,10 +55,11 @@ pub record IsKept {D : Type 0} (b : Tables) (plan : Plan) (base : List ℕ) (boo
   pub entries : book.entries ≡ history marks
   pub size : length_of journal ≡ reach marks
   pub limit : limit_of journal ≡ plan.journal
+  pub start : IsTrue (tells_of journal) → start_of journal ≡ first_gate opened.content
   pub marks_are : AreMarks marks
   pub counted : AreCounted marks opened.faults (faults_of journal)
   pub grows : opened.faults ≤ faults_of journal
   pub backed : IsBacked b plan marks book.room journal doubt
   pub base_is : Meets b plan (has base)
-  pub moments : IsTrue (tells_of journal) → IsSettled opened.content opened.accounts
+  pub moments : IsTrue (tells_of journal)
       → AreMoments b plan opened.accounts marks (accounts_of journal)

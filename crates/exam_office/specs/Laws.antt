@@ -8,7 +8,7 @@ use Rattle.constraint_model.specs.Views.{problem_of}
 use Rattle.history_model.specs.SessionProblems.{IsProblemOf}
 use Rattle.branch_bound.specs.Assembled.{Assembly}
 use Rattle.exam_edge.specs.Faults.{Rose}
-use Rattle.exam_edge.specs.Images.{Account, AtEachMoment}
+use Rattle.exam_edge.specs.Images.{Account, AtEachMoment, latest, IsSettled as IsDiskSettled}
 use Rattle.history_model.specs.declared.refusal.Refusal.{Refusal}
 use Rattle.history_model.specs.declared.refusal.Refusal.TheVariants.{Memory as OutOfMemory}
 use Rattle.history_model.specs.declared.request.Request.{Request}
@@ -25,11 +25,11 @@ use Rattle.exam_office.specs.Commits.{IsOfStart, MayBeCommitted}
 use Rattle.exam_office.specs.declared.fault.OpenFault.{OpenFault}
 use Rattle.exam_office.specs.declared.fault.OpenFault.TheVariants.{Disk, Memory}
 use Rattle.exam_office.specs.declared.mark.Mark.{Mark}
-use Rattle.exam_office.specs.Files.{Stands}
+use Rattle.exam_office.specs.Files.{Stands, StandsSecond}
 use Rattle.exam_office.specs.declared.migrating.MigrateFault.{MigrateFault}
 use Rattle.exam_office.specs.Marks.{history}
 use Rattle.exam_office.specs.Migrating.{IsMigrateAnswer, IsRefusedMove}
-use Rattle.exam_office.specs.Moments.{AreMoments, IsLeftOnTheWay}
+use Rattle.exam_office.specs.Moments.{AreMoments, AreOnTheWay, AreOpeningMoments}
 use Rattle.exam_office.specs.Opening.{IsOpenAnswer, IsReadAnswer}
 use Rattle.exam_office.specs.Running.{Running}
 
@@ -58,12 +58,23 @@ StandingIsRead = (b : Tables) (plan : Plan) (H : List Entry) (file : List ℕ) (
     → length file ≤ plan.journal → IsReadAnswer b plan file fault → (fault ≡ Disk)
     ⊎ (fault ≡ Memory)
 
--- at each moment since the disk was handed in, each file that a crash may leave represents the
--- history of the office's marks at some moment, or that with the one entry in doubt then
+-- at each moment since an office was opened, each file that a crash may leave represents the
+-- history of the office's marks at some moment, or that with the one entry in doubt then. While it
+-- was opened, such a file represents the history that was found, or is one that a crash might have
+-- left before
 abbrev pub EachMomentStands : Type 0
 EachMomentStands =
     (b : Tables) (plan : Plan) (before : List Account) (marks : List Mark) (now : List Account)
-    → AreMoments b plan before marks now → AtEachMoment before now (IsLeftOnTheWay b plan marks)
+    → AreMoments b plan before marks now → AreOnTheWay b plan before marks now
+
+-- of a disk that was settled when it was handed in, with a file that represents the history found,
+-- each such file represents the history found while the office was opened, too
+abbrev pub SettledMomentStands : Type 0
+SettledMomentStands =
+    (b : Tables) (plan : Plan) (H : List Entry) (file : List ℕ) (before now : List Account)
+    → IsDiskSettled file before → StandsSecond b plan H file
+    → AreOpeningMoments b plan H (latest before) before now
+    → AtEachMoment before now (StandsSecond b plan H)
 
 -- what was assembled within the plan's budget for a session that waits for its item may be
 -- committed

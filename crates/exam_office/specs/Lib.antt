@@ -17,3 +17,4 @@ pub mod KeptVectors
 pub mod Health
 pub mod Payloads
 pub mod Appending
+pub mod Allowing

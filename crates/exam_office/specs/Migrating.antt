@@ -2,7 +2,7 @@
 use Rattle.std.specs.Prelude.{◌≡◌, ◌⊎◌, ◌==◌, if◌then◌else◌, ℕ, ◌+◌, ◌<◌, Bool, IsTrue, List, [], ◌∷◌, ◌++◌, length, map, Some}
 use Rattle.bank_tables.specs.Tables.{Tables}
 use Rattle.form_model.specs.Plan.{Plan}
-use Rattle.exam_edge.specs.Images.{Account, IsImage, IsSettled}
+use Rattle.exam_edge.specs.Images.{Account, IsSettled}
 use Rattle.history_model.specs.declared.entry.Entry.{Entry}
 use Rattle.history_model.specs.Judging.{Record, MayFollow, entries_of}
 use Rattle.exam_records.specs.Spelling.{payload_of}
@@ -17,7 +17,7 @@ use Rattle.exam_office.specs.declared.migrating.Moved.{Moved}
 use Rattle.exam_office.specs.declared.migrating.MigrateFault.{MigrateFault}
 use Rattle.exam_office.specs.declared.migrating.MigrateFault.TheVariants.{Open, Full, Disk, Memory}
 use Rattle.exam_records.specs.Shape.{HasNoList, IsRecord}
-use Rattle.exam_office.specs.Files.{payload_in, counted_of, AreRecordsOf, Stands, StandsSecond}
+use Rattle.exam_office.specs.Files.{payload_in, counted_of, AreRecordsOf, StandsSecond}
 use Rattle.exam_office.specs.Opening.{AreTaken, IsReadAnswer}
 
 -- a file represents a history by records of the first version: a journal that was not moved
@@ -101,10 +101,6 @@ migrate_fault fault = Open fault
 -- a fault of opening is none of the disk and of memory
 abbrev pub IsOpenOfFile : MigrateFault → Type 0
 IsOpenOfFile e = (fault : OpenFault) → e ≡ Open fault → migrate_fault fault ≡ Open fault
-
--- a file that a crash might have left before, or one that represents the history
-abbrev pub IsImageOrStands : Tables → Plan → List Entry → Account → List ℕ → Type 0
-IsImageOrStands b plan H before file = IsImage before file ⊎ Stands b plan H file
 
 -- the gates whose tails a migration puts aside: the first closed one, where anything follows it in
 -- a file of the first version

@@ -1,12 +1,21 @@
 //! What the definitions imply, for every file, bank and plan.
 
-ghost use Rattle.exam_office.specs.Laws.{OneHistory, StandsForLegalRun, StandingIsOpened, StandingIsRead, EachMomentStands, MayBeCommittedNow, AskedIsAnswered, MigrateIsComplete};
+ghost use Rattle.exam_office.specs.Laws.{OneHistory, StandsForLegalRun, StandingIsOpened, StandingIsRead, EachMomentStands, SettledMomentStands, MayBeCommittedNow, AskedIsAnswered, MigrateIsComplete};
+ghost use Rattle.bank_tables.specs.Tables.{Tables};
+ghost use Rattle.form_model.specs.Plan.{Plan};
+ghost use Rattle.exam_office.specs.Allowing.{HistoriesGoOn};
 
 use exam_edge::Disk;
 
 /// A file represents at most one history.
 pub fn one_history()
     ensures { OneHistory }
+{}
+
+/// A disk may allow just that a file comes of another whose history it represents, with or without further entries. Then it
+/// allows what an office asks at its opening.
+pub fn histories_go_on()
+    ensures { (b : Tables) (plan : Plan) → HistoriesGoOn b plan }
 {}
 
 /// The history that a file represents is a legal run.
@@ -26,10 +35,18 @@ pub fn standing_is_read()
     ensures { StandingIsRead }
 {}
 
-/// At each moment since the disk was handed in, each file that a crash may leave represents the
-/// history of the office's marks at some moment, or that with the one entry in doubt then.
+/// At each moment since an office was opened, each file that a crash may leave represents the
+/// history of the office's marks at some moment, or that with the one entry in doubt then. While it
+/// was opened, such a file represents the history that was found, or is one that a crash might have
+/// left before.
 pub fn each_moment_stands()
     ensures { EachMomentStands }
+{}
+
+/// If the disk was settled when it was handed in, each such file represents the history found also
+/// while the office was opened.
+pub fn settled_moment_stands()
+    ensures { SettledMomentStands }
 {}
 
 /// What was assembled within the plan's budget for a session that waits for its item may be

@@ -4,7 +4,7 @@
 ghost use Rattle.std.specs.Prelude.{◌≡◌, ◌≢◌, ◌⊎◌, ◌+◌, ◌<◌, ◌≤◌, ◌^◌, ℕ, List, [], ◌∷◌, ◌++◌, length, map, Some, None, IsTrue, IfOk, IfErr, OnOk};
 ghost use Rattle.exam_edge.specs.Faults.{Rose};
 ghost use Rattle.exam_edge.specs.Lent.{IsLent};
-ghost use Rattle.exam_edge.specs.Images.{AllImages, AtEachMoment, IsClean, IsImage, IsSettled, latest};
+ghost use Rattle.exam_edge.specs.Images.{AllImages, Allows, AtEachMoment, IsClean, IsImage, IsSettled, latest};
 ghost use Rattle.form_model.specs.Validity.{IsPlanFor};
 ghost use Rattle.history_model.specs.declared.entry.Entry.{Entry};
 ghost use Rattle.history_model.specs.Judging.{Record, MayFollow};
@@ -18,9 +18,10 @@ ghost use Rattle.answer_journal.specs.Walk.{first_gate, first_payloads};
 ghost use Rattle.exam_office.specs.declared.fault.OpenFault.TheVariants.{Disk as OfDisk, Memory as OfMemory};
 ghost use Rattle.exam_office.specs.declared.migrating.MigrateFault.TheVariants.{Disk as NoDisk, Memory as NoMemory};
 ghost use Rattle.exam_records.specs.Shape.{HasNoList, IsRecord};
-ghost use Rattle.exam_office.specs.Files.{payload_in, Stands, StandsSecond};
+ghost use Rattle.exam_office.specs.Files.{payload_in, IsImageOrStands, Stands, StandsSecond};
+ghost use Rattle.exam_office.specs.Allowing.{AllowsHistories};
 ghost use Rattle.exam_office.specs.Opening.{IsNotTaken, IsReadAnswer};
-ghost use Rattle.exam_office.specs.Migrating.{AreMeasured, IsImageOrStands, IsLeft, IsMigrateAnswer, IsMigrated, IsMoved, IsMovedUpTo, IsOfContent, IsOldFile, IsOpenOfFile, IsTakenOver, moved_file, moved_tail};
+ghost use Rattle.exam_office.specs.Migrating.{AreMeasured, IsLeft, IsMigrateAnswer, IsMigrated, IsMoved, IsMovedUpTo, IsOfContent, IsOldFile, IsOpenOfFile, IsTakenOver, moved_file, moved_tail};
 
 use crate::fault::OpenFault;
 use crate::taking::{follow, journal_fault, read_record, take_history};
@@ -280,7 +281,8 @@ fn add_record<D: Disk>(moving: &mut Moving<D>, payload: &[u8]) -> Result<(), Mig
     requires fits { IsPayload payload.now }
     requires moving { IsTrue (D.tells moving.old.disk) → (ps qs : List (List ℕ))
         × IsMovingWith ps qs (D.content moving.old.disk) moving.old.waiting
-        (D.accounts moving.old.disk) moving.old.gate moving.old.end }
+        (D.accounts moving.old.disk) moving.old.gate moving.old.end
+        × Allows D.may_become (IsUnmoved ps) (IsUnmoved ps) }
     ensures added { OnOk result (IsTrue (D.tells moving.old.disk) → (ps qs : List (List ℕ))
         → IsMovingWith ps qs (D.content moving.old.disk) moving.old.waiting
         (D.accounts moving.old.disk) moving.old.gate moving.old.end
@@ -327,6 +329,7 @@ fn move_record<D: Disk>(
         × IsMovedUpTo book.old.bank book.old.plan R done (D.content moving.old.disk)
         moving.old.waiting (D.accounts moving.old.disk) moving.old.gate moving.old.end
         book.old.entries at }
+    requires allows { AllowsHistories book.old.bank book.old.plan D.may_become }
     ensures bank { book.new.bank ≡ book.old.bank }
     ensures plan { book.new.plan ≡ book.old.plan }
     ensures moved { IfOk result (λ next. IsTrue (D.tells moving.old.disk)
@@ -390,6 +393,7 @@ fn move_records<D: Disk>(
         × IsMovedUpTo book.old.bank book.old.plan R [] (D.content moving.old.disk)
         moving.old.waiting (D.accounts moving.old.disk) moving.old.gate moving.old.end
         book.old.entries 8 }
+    requires allows { AllowsHistories book.old.bank book.old.plan D.may_become }
     ensures moved { OnOk result (IsTrue (D.tells moving.old.disk) → (R : List Record)
         → IsMovedUpTo book.old.bank book.old.plan R [] (D.content moving.old.disk)
         moving.old.waiting (D.accounts moving.old.disk) moving.old.gate moving.old.end
@@ -450,6 +454,7 @@ fn move_judged<D: Disk>(
     requires old { IsTrue (D.tells walk.disk)
         → (old : IsOldFile bank.now spec.now (D.content walk.disk))
         × (length (moved_file bank.now spec.now old.records) ≤ walk.limit) }
+    requires allows { AllowsHistories bank.now spec.now D.may_become }
     ensures moved { IfOk result (λ done. IsTrue (D.tells walk.disk)
         → IsMoved bank.now spec.now (D.content walk.disk) (D.content done.1)
         (D.accounts done.1) done.0) }
@@ -523,6 +528,7 @@ fn move_old<D: Disk>(
     requires first { IsTrue (D.tells walk.disk) → (counted_in (D.content walk.disk)).version ≡ 1 }
     requires gives { IsTrue (D.tells walk.disk)
         → contents (D.content walk.disk) ≡ Some (counted_in (D.content walk.disk)) }
+    requires allows { AllowsHistories bank.now spec.now D.may_become }
     ensures moved { IfOk result (λ done. IsTrue (D.tells walk.disk)
         → IsMoved bank.now spec.now (D.content walk.disk) (D.content done.1)
         (D.accounts done.1) done.0) }
@@ -651,6 +657,7 @@ pub fn migrate<D: Disk>(
 ) -> Result<(Moved, D), (D, MigrateFault)>
     requires plan { IsPlanFor bank.now spec.now }
     requires left { IsTrue (D.tells disk) → IsAsLeft (D.accounts disk) }
+    requires allows { AllowsHistories bank.now spec.now D.may_become }
     // The file represented a history. If that was by the first version, it has the same records by
     // the second now, and these count; else it is as it was.
     ensures migrated { IfOk result (λ done. IsTrue (D.tells disk)

@@ -34,6 +34,7 @@ impl<'a, D: Disk> Model for Office<'a, D> {
     ghost use Rattle.exam_office.specs.Running.{Running, handed};
     ghost use Rattle.exam_office.specs.Keeping.{IsKept};
     ghost use Rattle.exam_office.specs.KeptVectors.{AreKeptVectors};
+    ghost use Rattle.exam_office.specs.Allowing.{AllowsHistories};
     ghost use Rattle.exam_office.specs.Marks.{history};
 
     ghost Value = { Running D };
@@ -51,5 +52,6 @@ impl<'a, D: Disk> Model for Office<'a, D> {
     ghost invariant = { λ o. IsKept o.bank.now o.spec.now o.base o.book o.journal o.marks o.doubt
         (handed D.content D.accounts D.faults o.opened.value)
         × AreKeptVectors o.bank.now o.spec.now (history o.marks) o.journal o.doubt
-        o.vectors.each.items o.vectors.doubt };
+        o.vectors.each.items o.vectors.doubt
+        × AllowsHistories o.bank.now o.spec.now D.may_become };
 }

@@ -16,10 +16,12 @@ ghost use Rattle.answer_journal.specs.Versions.{contents, counted_in, second};
 ghost use Rattle.answer_journal.specs.Journal.{disk_of, tells_of, accounts_of, aside_of, faults_of, identity_of, payloads_of};
 ghost use Rattle.answer_journal.specs.Opening.{PutsTailAside, tail_gates};
 ghost use Rattle.exam_office.specs.Writing.{IsMending};
-ghost use Rattle.exam_office.specs.Files.{Stands, StandsSecond};
+ghost use Rattle.exam_office.specs.Files.{IsImageOrStands, Stands, StandsSecond};
+ghost use Rattle.exam_office.specs.Moments.{AreOpeningMoments};
 ghost use Rattle.exam_office.specs.Marks.{history, reach};
 ghost use Rattle.exam_office.specs.Running.{handed};
 ghost use Rattle.exam_office.specs.Opening.{IsOpenAnswer};
+ghost use Rattle.exam_office.specs.Allowing.{AllowsHistories};
 
 use crate::fault::OpenFault;
 use crate::handed_in::HandedIn;
@@ -47,6 +49,7 @@ impl<'a, D: Disk> Office<'a, D> {
         requires plan { IsPlanFor bank.now spec.now }
         requires base { Meets bank.now spec.now (has base) }
         requires left { IsTrue (D.tells disk) → IsAsLeft (D.accounts disk) }
+        requires allows { AllowsHistories bank.now spec.now D.may_become }
         ensures bank { IfOk result (λ office. office.bank ≡ bank.now) }
         ensures plan { IfOk result (λ office. office.plan ≡ spec.now) }
         ensures base { IfOk result (λ office. office.base ≡ base) }
@@ -71,6 +74,15 @@ impl<'a, D: Disk> Office<'a, D> {
         ensures images { IfOk result (λ office. IsTrue (D.tells disk)
             → AllImages (StandsSecond bank.now spec.now (history office.marks))
             (latest (accounts_of office.journal))) }
+        // While it was opened, each such file represented the history, or is one that a crash might have left before.
+        ensures moments { IfOk result (λ office. IsTrue (D.tells disk)
+            → AreOpeningMoments bank.now spec.now (history office.marks)
+            (latest (D.accounts disk)) (D.accounts disk) (accounts_of office.journal)) }
+        ensures moments_err { IfErr result (λ e. IsTrue (D.tells disk) → (H : List Entry)
+            → Stands bank.now spec.now H (D.content disk)
+            → AtEachMoment (D.accounts disk) (D.accounts e.0)
+            (IsImageOrStands bank.now spec.now H (latest (D.accounts disk)))) }
+        // On a settled disk each represented it.
         ensures settled { IfOk result (λ office. IsTrue (D.tells disk)
             → IsSettled (D.content disk) (D.accounts disk)
             → AtEachMoment (D.accounts disk) (accounts_of office.journal)

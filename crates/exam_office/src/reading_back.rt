@@ -4,7 +4,8 @@ ghost use Rattle.std.specs.Prelude.{◌≡◌, ◌+◌, ◌≤◌, length, slice
 ghost use Rattle.std.specs.Option.{option_map};
 ghost use Rattle.exam_edge.specs.Lent.{IsLent};
 ghost use Rattle.exam_edge.specs.Images.{AllImages, latest};
-ghost use Rattle.answer_journal.specs.Journal.{tells_of, accounts_of, faults_of, identity_of, length_of, limit_of, payloads_of};
+ghost use Rattle.answer_journal.specs.Journal.{tells_of, accounts_of, faults_of, identity_of, length_of, limit_of, payloads_of, start_of};
+ghost use Rattle.answer_journal.specs.Payload.{end_of};
 ghost use Rattle.answer_journal.specs.Versions.{contents, second};
 ghost use Rattle.exam_office.specs.Marks.{history, reach};
 ghost use Rattle.exam_office.specs.Payloads.{HoldsRecords, IsCursorOf, IsOnlyRead, IsPayloadLong, IsUnread};
@@ -33,6 +34,10 @@ impl<'a, D: Disk> Office<'a, D> {
             → AllImages (λ file. contents file ≡ Some (second (payloads_of self.now.journal)))
             (latest (accounts_of self.now.journal)) }
         ensures length { length_of self.now.journal ≡ reach self.now.marks }
+        // Its file ends with the closed gate after the last record.
+        ensures frames { self.now.doubt ≡ None → IsTrue (tells_of self.now.journal)
+            → end_of (start_of self.now.journal) (payloads_of self.now.journal) + 1
+            ≡ length_of self.now.journal }
         ensures limit { limit_of self.now.journal ≡ self.now.plan.journal }
         ensures short { length_of self.now.journal ≤ 536870912 }
     {

@@ -14,9 +14,9 @@ ghost use Rattle.exam_office.specs.Noting.{IsDoubtOf};
 ghost use Rattle.form_model.specs.Forms.{Meets};
 ghost use Rattle.bank_tables.specs.Items.{has};
 ghost use Rattle.history_model.specs.Legality.{LegalRun};
-ghost use Rattle.exam_edge.specs.Images.{IsSettled};
 ghost use Rattle.exam_office.specs.Moments.{AreMoments};
-ghost use Rattle.answer_journal.specs.Journal.{tells_of, accounts_of, faults_of};
+ghost use Rattle.answer_journal.specs.Journal.{tells_of, accounts_of, faults_of, start_of};
+ghost use Rattle.answer_journal.specs.Walk.{first_gate};
 
 use crate::office::Office;
 use bank_tables::{Bank, ItemSet, List};
@@ -98,9 +98,9 @@ impl<'a, D: Disk> Office<'a, D> {
 
     /// What the type keeps, as a law: the plan is valid for the bank; the history is a legal run; the marks are in order;
     /// there are no more faults among them than the disk's count rose since it was handed in, and that count is no lower; an
-    /// entry in doubt is that of the last mark, a fault. The base is a form of the plan alone. If the disk was settled when
-    /// it was handed in, then at each moment since, each file that a crash may leave represents the history of the marks so
-    /// far, or that with the one entry in hand.
+    /// entry in doubt is that of the last mark, a fault. The base is a form of the plan alone. While the office was opened,
+    /// each file that a crash may leave represents the history that was found, or is one that a crash might have left
+    /// before. At each moment since, it represents the history of the marks so far, or that with the one entry in hand.
     pub fn keeps(&self)
         ensures plan { IsPlanFor self.now.bank self.now.plan }
         ensures run { LegalRun self.now.bank self.now.plan (history self.now.marks) }
@@ -110,8 +110,10 @@ impl<'a, D: Disk> Office<'a, D> {
         ensures grows { self.now.opened.faults ≤ faults_of self.now.journal }
         ensures doubt { IsDoubtOf self.now.marks self.now.doubt }
         ensures base { Meets self.now.bank self.now.plan (has self.now.base) }
+        // The first record that counts is where it was in the file that was handed in.
+        ensures start { IsTrue (tells_of self.now.journal)
+            → start_of self.now.journal ≡ first_gate self.now.opened.content }
         ensures moments { IsTrue (tells_of self.now.journal)
-            → IsSettled self.now.opened.content self.now.opened.accounts
             → AreMoments self.now.bank self.now.plan self.now.opened.accounts self.now.marks
             (accounts_of self.now.journal) }
     {

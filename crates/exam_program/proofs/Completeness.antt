@@ -21,17 +21,17 @@ use Rattle.replay_cli.specs.declared.script_fault.ScriptFault.TheVariants as scr
 use Rattle.replay_cli.specs.Reading.{IsScriptFault, IsOfText as IsOfScript}
 use Rattle.replay_cli.proofs.ReadLaws.{no_fault}
 use Rattle.exam_program.specs.Bases.{ShowsNoForm, ShowsNoBase}
-use Rattle.command_line.specs.Commands.{Command, Check, Assemble, Replay, Serve, Audit, Drill, Migrate, Series, Follow, Ship, HasJournal, IsServe, IsLinked, UsesDoors, command_of, files_of}
+use Rattle.command_line.specs.Commands.{Command, Check, Assemble, Replay, Serve, Audit, Drill, Migrate, Series, Follow, Ship, HasJournal, IsLinked, UsesDoors, command_of, files_of}
 use Rattle.command_line.specs.Weights.{weights_of}
 use Rattle.form_lines.specs.Answers.{AreWeightsFor}
 use Rattle.exam_program.specs.Series.{AnswersSeries, series_told, weights_not_taken, without_series, series_not_found}
 use Rattle.exam_program.specs.Halts.{IsPlanIn, IsOfText, Reads, IsScriptIn}
-use Rattle.exam_program.specs.Laws.{CheckIsComplete, AssembleIsComplete, ReplayIsComplete, ServeIsComplete, FollowIsComplete, ShipIsComplete, AuditIsComplete, MigrateIsComplete, SeriesIsComplete, MeetsLimit, of_sessions, of_journal}
+use Rattle.exam_program.specs.Laws.{CheckIsComplete, AssembleIsComplete, ReplayIsComplete, ServeIsComplete, FollowIsComplete, ShipIsComplete, AuditIsComplete, MigrateIsComplete, SeriesIsComplete, DrillIsComplete, MeetsLimit, of_sessions, of_journal}
 use Rattle.exam_program.specs.Outside.{Outside}
 use Rattle.exam_program.specs.Replays.{IsOfFile, IsJournalRefused, IsReadingRefused}
 use Rattle.exam_program.proofs.BaseLaws.{whole_form}
 use Rattle.exam_program.proofs.OnePlan.{one_plan_in}
-use Rattle.exam_program.specs.Outcomes.{IsOver, IsReady, IsReplayOf, Outcome, faulty_words, bank_refused, plan_refused, script_refused, checked, form_found, without_form, without_base_form, journal_refused, replayed, sessions_full, journal_full, without_files, without_journal, without_disk, without_memory, without_more_memory, server_refused, server_without_journal, server_without_memory, IsAuditOf, audited, audit_refused, without_audit, drilled, drill_full, IsMigrationOf, migrated, migration_refused, migration_full, without_migration, migration_without_memory, migrated_without_line, series_answered, link_refused, link_without_journal}
+use Rattle.exam_program.specs.Outcomes.{IsOver, IsReady, IsReplayOf, Outcome, faulty_words, bank_refused, plan_refused, script_refused, checked, form_found, without_form, without_base_form, journal_refused, replayed, sessions_full, journal_full, without_files, without_journal, without_disk, without_memory, without_more_memory, server_refused, server_without_journal, server_without_memory, IsAuditOf, audited, audit_refused, without_audit, drilled, IsMigrationOf, migrated, migration_refused, migration_full, without_migration, migration_without_memory, migrated_without_line, series_answered, link_refused, link_without_journal}
 use Rattle.exam_program.specs.LinkWords.{IsLinkOf}
 use Rattle.exam_program.specs.Serves.{IsServeOf}
 
@@ -287,7 +287,6 @@ module _ (words : List (List ℕ)) (o : Outside) (command : Command) (e : comman
       no_journal (subst (NoJournal o) (same_command (Audit is.bank is.plan) is.asked) (c, q, why, is.reads, refusal))
   left bank plan names b p _ _ reads quiet (without_audit c q is rose untouched) = disk (audits_journal c q is) rose
   left bank plan names b p _ _ reads quiet (drilled number sessions s f is untouched) = absurd (no_drill bank plan names number sessions f)
-  left bank plan names b p _ _ reads quiet (drill_full number sessions size most f is untouched) = absurd (no_drill bank plan names number sessions f)
   left bank plan names b p _ _ reads quiet (migrated c q moved is so) = done
   left bank plan names b p _ _ reads quiet (migration_refused c q why is refusal) =
       no_journal (subst (NoJournal o) (same_command (Migrate is.bank is.plan) is.asked) (c, q, why, is.reads, refusal))
@@ -340,11 +339,75 @@ module _ (words : List (List ℕ)) (o : Outside) (command : Command) (e : comman
   not_done _ _ (migrated_without_line c q moved is so) zero = omega (arith, zero)
   not_done _ _ (series_answered c q forms weights status text is answers untouched) zero = no_server (Series is.bank is.plan forms is.word) is.asked (λ x. x)
   not_done _ _ (drilled number sessions s f is untouched) zero = no_server (Drill number sessions) f (λ x. x)
-  not_done _ _ (drill_full number sessions size most f is untouched) zero = omega (arith, zero)
   not_done _ _ (link_refused c q base why is refusal) zero = omega (arith, zero)
   not_done _ _ (link_without_journal c q base is so) zero = omega (arith, zero)
 
+-- a drill reads no files
+module _ (words : List (List ℕ)) (o : Outside) (number sessions : ℕ) (e : command_of words ≡ Some (Drill number sessions)) where
+  no_other : (other : Command) → command_of words ≡ Some other → (bank plan : List ℕ) → files_of other ≡ Some (bank, plan) → ⊥
+  no_other other f bank plan names =
+      none_some (files_of other) (bank, plan) names (ap files_of (command_same (command_of words) other (Drill number sessions) f e))
+
+  not_over : (bank plan : List ℕ) → IsOver words bank plan → ⊥
+  not_over bank plan over = no_other over.command over.asked bank plan over.names
+
+  not_ready : (other : Command) → command_of words ≡ Some other → (b : Tables) (p : Plan) → IsReady o.named o.content other b p → ⊥
+  not_ready other f b p ready = subst (λ (c : Command). IsReady o.named o.content c b p) (command_same (command_of words) other (Drill number sessions) f e) ready
+
+  not_replay : (b : Tables) (p : Plan) (script : List Request) (base : List ℕ) → IsReplayOf words o b p script base → ⊥
+  not_replay b p script base is = no_other (Replay is.bank is.plan is.name) is.asked is.bank is.plan refl
+
+  not_serve : (b : Tables) (p : Plan) (base : List ℕ) → IsServeOf words o b p base → ⊥
+  not_serve b p base is = no_other (Serve is.bank is.plan) is.asked is.bank is.plan refl
+
+  not_audit : (b : Tables) (p : Plan) → IsAuditOf words o b p → ⊥
+  not_audit b p is = no_other (Audit is.bank is.plan) is.asked is.bank is.plan refl
+
+  not_moved : (b : Tables) (p : Plan) → IsMigrationOf words o b p → ⊥
+  not_moved b p is = no_other (Migrate is.bank is.plan) is.asked is.bank is.plan refl
+
+  not_linked : (b : Tables) (p : Plan) (base : List ℕ) → IsLinkOf words o b p base → ⊥
+  not_linked b p base is = no_other is.command is.asked is.bank is.plan is.names
+
+  drill_done : (status : ℕ) (text : List ℕ) → Outcome words o status text → (status ≡ 0) ⊎ (status ≡ 10)
+  drill_done _ _ (drilled m n s f is untouched) = inl refl
+  drill_done _ _ (without_memory untouched) = inr refl
+  drill_done _ _ (faulty_words f untouched) = absurd (none_some (command_of words) (Drill number sessions) e f)
+  drill_done _ _ (bank_refused bank plan why over found is untouched) = absurd (not_over bank plan over)
+  drill_done _ _ (plan_refused bank plan c why over found plan_found is of_text refusal untouched) = absurd (not_over bank plan over)
+  drill_done _ _ (script_refused bank plan name c q why f there found of_script refusal untouched) = absurd (no_other (Replay bank plan name) f bank plan refl)
+  drill_done _ _ (checked bank plan c q f there untouched) = absurd (no_other (Check bank plan) f bank plan refl)
+  drill_done _ _ (form_found bank plan c q P form proved T f there finds untouched) = absurd (no_other (Assemble bank plan) f bank plan refl)
+  drill_done _ _ (without_form other c q T f ready shows untouched) = absurd (not_ready other f c q ready)
+  drill_done _ _ (without_base_form other c q T f ready shows untouched) = absurd (not_ready other f c q ready)
+  drill_done _ _ (journal_refused c q script base why is refusal) = absurd (not_replay c q script base is)
+  drill_done _ _ (replayed c q script base H G replies is way) = absurd (not_replay c q script base is)
+  drill_done _ _ (sessions_full c q script base H G request rest replies count is way why) = absurd (not_replay c q script base is)
+  drill_done _ _ (journal_full c q script base H G request rest replies K now size is way full at) = absurd (not_replay c q script base is)
+  drill_done _ _ (without_files bank plan over rose untouched) = absurd (not_over bank plan over)
+  drill_done _ _ (without_journal c q script base is so) = absurd (not_replay c q script base is)
+  drill_done _ _ (without_disk c q script base H G rest replies is way rose) = absurd (not_replay c q script base is)
+  drill_done _ _ (without_more_memory c q script base H G rest replies is way) = absurd (not_replay c q script base is)
+  drill_done _ _ (server_refused c q base why is refusal) = absurd (not_serve c q base is)
+  drill_done _ _ (server_without_journal c q base is so) = absurd (not_serve c q base is)
+  drill_done _ _ (server_without_memory c q base opened H is examined) = absurd (not_serve c q base is)
+  drill_done _ _ (audited c q s exposure bands is found untouched) = absurd (not_audit c q is)
+  drill_done _ _ (audit_refused c q why is refusal) = absurd (not_audit c q is)
+  drill_done _ _ (without_audit c q is rose untouched) = absurd (not_audit c q is)
+  drill_done _ _ (migrated c q moved is so) = absurd (not_moved c q is)
+  drill_done _ _ (migration_refused c q why is refusal) = absurd (not_moved c q is)
+  drill_done _ _ (migration_full c q size is full) = absurd (not_moved c q is)
+  drill_done _ _ (without_migration c q is rose cut) = absurd (not_moved c q is)
+  drill_done _ _ (migration_without_memory c q is cut still) = absurd (not_moved c q is)
+  drill_done _ _ (migrated_without_line c q moved is so) = absurd (not_moved c q is)
+  drill_done _ _ (series_answered c q forms weights status text is answers untouched) = absurd (no_other (Series is.bank is.plan forms is.word) is.asked is.bank is.plan refl)
+  drill_done _ _ (link_refused c q base why is refusal) = absurd (not_linked c q base is)
+  drill_done _ _ (link_without_journal c q base is so) = absurd (not_linked c q base is)
+
 -- ---- the laws
+pub drill_is_complete : DrillIsComplete
+drill_is_complete words o number sessions status text e outcome = drill_done words o number sessions e status text outcome
+
 pub check_is_complete : CheckIsComplete
 check_is_complete words o bank plan b p status text e reads quiet outcome = of status (left words o (Check bank plan) e bank plan refl b p status text reads quiet outcome)
   where

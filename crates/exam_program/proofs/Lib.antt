@@ -10,6 +10,7 @@ pub mod ServeLaws
 pub mod Lending
 pub mod LinkLaws
 pub mod SessionLaws
+pub mod SettledLaws
 pub mod StatusLaws
 pub mod TreeTexts
 mod RowsOfA

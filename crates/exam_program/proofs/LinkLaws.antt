@@ -21,7 +21,6 @@ use Rattle.exam_office.specs.Payloads.{HoldsRecords}
 use Rattle.exam_office.specs.Noting.{opened_with}
 use Rattle.exam_office.specs.Running.{HandedDisk, Running}
 use Rattle.exam_office.specs.Writing.{IsSameOffice}
-use Rattle.exam_office.specs.declared.fault.OpenFault.{OpenFault}
 use Rattle.exam_program.specs.declared.halt.Halt.{Halt}
 use Rattle.exam_program.specs.declared.halt.Halt.TheVariants as halt
 use Rattle.exam_program.specs.Follows.{FollowSeen, FollowEnds, IsFollowOf}
@@ -41,6 +40,7 @@ use Rattle.exam_program.proofs.RunLaws.{run_leaves}
 use Rattle.exam_office.specs.Noting.{NotedMark}
 use Rattle.exam_records.specs.Shape.{IsRecord}
 use Rattle.exam_records.specs.Spelling.{payload_of}
+use Rattle.exam_serve.specs.declared.serve.End.{End}
 use Rattle.exam_serve.specs.Doors.{AreLent, HasFailedDoor}
 use Rattle.exam_serve.proofs.Left.{still_lent}
 use Rattle.form_model.specs.Plan.{Plan}
@@ -50,7 +50,7 @@ use Rattle.history_model.specs.Judging.{Record}
 use Rattle.history_model.specs.Summaries.{summary}
 use Rattle.record_doors.specs.declared.door_end.DoorEnd.{DoorEnd}
 use Rattle.record_doors.specs.declared.door_end.DoorEnd.TheVariants.{NoLink, DoorFailed, Ended}
-use Rattle.record_doors.specs.Doors.{Gives, IsFirstOnly, IsFollowedDoor, IsShippedDoor, StopsAt}
+use Rattle.record_doors.specs.Doors.{Gives, IsFirstOnly, IsFollowedDoor, IsShippedDoor}
 use Rattle.record_links.specs.declared.followed.Followed.{Followed}
 use Rattle.record_links.specs.declared.followed.Followed.TheVariants.{Done, Link, Peer, Offer, Full, Lost, Disk, Memory}
 use Rattle.record_links.specs.Replicas.{Held}
@@ -357,14 +357,14 @@ module _ {D K : Type 0} (tells : D → Bool) (coming returned : D → List K) (i
       ship_link_failed end doors back first is = first_link (Shipped_by end) _ doors back first (shipped_link end is) (λ none. (let e : Ended Link ≡ NoLink = sym is ∙ none in cc))
 
 -- ---- a run that took no link
-pub none_served : {Serves : List NotedMark → List NotedMark → Bool → Type 0} {Unused : Type 0} {Follows : FollowSeen → Type 0} {Ships : ShipSeen → Type 0}
+pub none_served : {Serves : List NotedMark → List NotedMark → End → Type 0} {Unused : Type 0} {Follows : FollowSeen → Type 0} {Ships : ShipSeen → Type 0}
     {words : List (List ℕ)} {o : Outside} {told : Bool} {old new : List ℕ} {result : ℕ}
     → Unused → Ends words o told old new result
     → RunEnds Serves Unused words o told old new result ⊎ (FollowEnds Follows words o told old new result ⊎ ShipEnds Ships words o told old new result)
 none_served unused ends = inl (idle unused ends)
 
 -- ---- what is left of the journal
-pub any_leaves : (Serves : List NotedMark → List NotedMark → Bool → Type 0) (Unused : Type 0) (Follows : FollowSeen → Type 0) (Ships : ShipSeen → Type 0)
+pub any_leaves : (Serves : List NotedMark → List NotedMark → End → Type 0) (Unused : Type 0) (Follows : FollowSeen → Type 0) (Ships : ShipSeen → Type 0)
     (words : List (List ℕ)) (o : Outside) (told : Bool) (old new : List ℕ) (result : ℕ)
     → RunEnds Serves Unused words o told old new result ⊎ (FollowEnds Follows words o told old new result ⊎ ShipEnds Ships words o told old new result)
     → RunLeaves Serves Unused words o ⊎ LinkLeaves words o

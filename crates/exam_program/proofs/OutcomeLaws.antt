@@ -13,7 +13,7 @@ use Rattle.replay_cli.specs.Replies.{lines_of}
 use Rattle.exam_program.specs.declared.halt.Halt.{Halt}
 use Rattle.exam_program.specs.declared.halt.Halt.TheVariants as halt
 use Rattle.exam_program.specs.Bases.{TellsForm}
-use Rattle.command_line.specs.Commands.{Command, Check, Assemble, Replay, Drill, command_of}
+use Rattle.command_line.specs.Commands.{Command, Check, Assemble, Replay, command_of}
 use Rattle.exam_program.specs.Series.{IsSeriesOf, TellsSeriesOf, series_told, weights_not_taken, without_series, series_not_found, HaltsAtSeries}
 use Rattle.exam_program.specs.Drilling.{HaltsAtDrill}
 use Rattle.exam_program.specs.Halts.{HaltsAtExam, HaltsAtScript, HaltsAtBase, Reads, IsBeforeJournal}
@@ -30,7 +30,7 @@ use Rattle.exam_program.specs.Replays.{IsLeftAt, IsReadingRefused}
 use Rattle.exam_program.specs.Stopping.{opening_halt, IsUnprinted, IsUnopened, refused, failed, out_of_memory, Stops, by_sessions, by_journal, by_disk, by_memory, by_sink, Finishes, IsReplayed, Halted}
 use Rattle.exam_program.specs.Texts.{bank_line, journal_text, usage}
 use Rattle.exam_program.specs.Writing.{IsWritten, WritesPart}
-use Rattle.exam_program.specs.Outcomes.{series_answered, IsOver, IsReady, IsReplayOf, Outcome, faulty_words, bank_refused, plan_refused, script_refused, checked, form_found, without_form, without_base_form, journal_refused, replayed, sessions_full, journal_full, without_files, without_journal, without_disk, without_memory, without_more_memory, server_refused, server_without_journal, server_without_memory, IsAuditOf, audited, audit_refused, without_audit, drilled, drill_full, IsMigrationOf, migrated, migration_refused, migration_full, without_migration, migration_without_memory, migrated_without_line, link_refused, link_without_journal, Prints, PrintsPart, PrintsBefore, PrintsBeforeText, Ends, LeavesJournal, as_found, at_opening, after_requests, server_at_opening, after_opening, after_migration, at_migration, link_at_opening, Halts, EndsBy, IsStatus}
+use Rattle.exam_program.specs.Outcomes.{series_answered, IsOver, IsReady, IsReplayOf, Outcome, faulty_words, bank_refused, plan_refused, script_refused, checked, form_found, without_form, without_base_form, journal_refused, replayed, sessions_full, journal_full, without_files, without_journal, without_disk, without_memory, without_more_memory, server_refused, server_without_journal, server_without_memory, IsAuditOf, audited, audit_refused, without_audit, drilled, IsMigrationOf, migrated, migration_refused, migration_full, without_migration, migration_without_memory, migrated_without_line, link_refused, link_without_journal, Prints, PrintsPart, PrintsBefore, PrintsBeforeText, Ends, LeavesJournal, as_found, at_opening, after_requests, server_at_opening, after_opening, after_migration, at_migration, link_at_opening, Halts, EndsBy, IsStatus}
 
 -- a count that rose later, rose
 pub rose_later : (before now after : ℕ) → before ≤ now → Rose now after → Rose before after
@@ -172,10 +172,8 @@ module _ (words : List (List ℕ)) (o : Outside) (told : Bool) (old : List ℕ) 
     halts_at_series h shows = absurd shows
 
   -- ---- a drill
-  module _ (number sessions : ℕ) (e : command_of words ≡ Some (Drill number sessions)) (untouched : IsUntouched o.disk) where
-    pub halts_at_drill : (h : Halt) → HaltsAtDrill number sessions h → Halts words o told old old h
-    halts_at_drill (halt.JournalFull size most) is =
-        (nothing_before 13 _ (drill_full number sessions size most e is untouched), nothing_before 10 _ (without_memory untouched))
+  module _ (untouched : IsUntouched o.disk) where
+    pub halts_at_drill : (h : Halt) → HaltsAtDrill h → Halts words o told old old h
     halts_at_drill halt.Memory is = nothing_before 10 _ (without_memory untouched)
     halts_at_drill h is = absurd is
 
@@ -265,7 +263,6 @@ module _ (words : List (List ℕ)) (o : Outside) where
   leaves _ _ (audit_refused b p fault is so) = as_found so.untouched
   leaves _ _ (without_audit b p is rose untouched) = as_found untouched
   leaves _ _ (drilled number sessions s e is untouched) = as_found untouched
-  leaves _ _ (drill_full number sessions size most e is untouched) = as_found untouched
   leaves _ _ (migrated b p done is so) = after_migration b p done is so
   leaves _ _ (migration_refused b p fault is so) = as_found so.untouched
   leaves _ _ (migration_full b p size is so) = as_found so.untouched

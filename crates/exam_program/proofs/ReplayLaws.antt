@@ -3,8 +3,8 @@ use Rattle.std.proofs.Common.{◌≡◌, ℕ, ◌≤◌, inr, Bool, List, [], le
 use Rattle.std.specs.Option.{unwrap_or}
 use Rattle.bank_tables.specs.Tables.{Tables}
 use Rattle.exam_edge.specs.Faults.{Rose}
-use Rattle.exam_edge.specs.Images.{Account, IsImage, AtEachMoment, IsSettled, latest}
-use Rattle.exam_edge.specs.ImageLaws.{at_end, joined, weaker}
+use Rattle.exam_edge.specs.Images.{Account, IsImage, AtEachMoment, latest}
+use Rattle.exam_edge.specs.ImageLaws.{at_end}
 use Rattle.form_model.specs.Plan.{Plan}
 use Rattle.history_model.specs.declared.entry.Entry.{Entry}
 use Rattle.history_model.specs.declared.request.Reply.{Reply}
@@ -12,8 +12,8 @@ use Rattle.history_model.specs.declared.request.Request.{Request}
 use Rattle.history_model.specs.Legality.{LegalRun}
 use Rattle.exam_office.specs.declared.fault.OpenFault.{OpenFault}
 use Rattle.exam_office.specs.declared.fault.OpenFault.TheVariants as fault
-use Rattle.exam_office.specs.Files.{counted_of, Stands, StandsSecond}
-use Rattle.exam_office.specs.Migrating.{IsImageOrStands}
+use Rattle.exam_office.specs.Files.{counted_of, IsImageOrStands, Stands, StandsSecond}
+use Rattle.exam_office.specs.Moments.{AreOpeningMoments}
 use Rattle.exam_office.specs.Marks.{history, reach}
 use Rattle.exam_office.specs.Opening.{IsOpenAnswer}
 use Rattle.exam_office.specs.Running.{Running}
@@ -22,36 +22,26 @@ use Rattle.answer_journal.specs.Journal.{tells_of, accounts_of, faults_of}
 use Rattle.answer_journal.specs.Versions.{Counted, counted_in, second}
 use Rattle.exam_program.specs.declared.halt.Halt.{Halt}
 use Rattle.exam_program.specs.declared.halt.Halt.TheVariants as halt
-use Rattle.exam_program.specs.Migrations.{KeepsHistory}
-use Rattle.exam_program.specs.Outside.{DiskSeen, disk_seen, IsUntouched, WasSettled}
-use Rattle.exam_program.specs.Replays.{none, IsGoingOn, IsReached, IsFileOnTheWay, IsLeftAt, IsOpeningFailed}
-use Rattle.exam_office.specs.Asking.{no_more}
-use Rattle.exam_program.proofs.ScriptLaws.{not_yet}
+use Rattle.exam_program.specs.Outside.{DiskSeen, disk_seen, IsUntouched, KeepsHistory}
+use Rattle.exam_program.specs.Replays.{IsGoingOn, IsFileOnTheWay, IsLeftAt, IsOpeningFailed}
 use Rattle.exam_program.specs.Stopping.{IsUnopened, refused, failed, out_of_memory, opening_halt, Stops, by_sessions, by_journal, by_disk, by_memory, by_sink, Finishes, GoesOn, IsOfficeAt, IsServed, IsUnserved, IsReplayed, Halted}
 
 -- ---- a journal that was not opened
 -- what a disk says of the moments of a call, said of the last one
 module _ {D : Type 0} (tells : D → Bool) (content : D → List ℕ) (accounts : D → List Account) (faults : D → ℕ) (old new : D) where
-  pub failing_so : (b : Tables) (plan : Plan) → Rose (faults old) (faults new) → (IsTrue (tells old) → IsImage (latest (accounts new)) (content new))
-      → (IsTrue (tells old) → IsSettled (content old) (accounts old) → (H : List Entry) → Stands b plan H (content old) → AtEachMoment (accounts old) (accounts new) (Stands b plan H))
-      → IsOpeningFailed b plan (disk_seen tells content accounts faults old new)
-  failing_so b plan rose image each = record {
-    rose = rose;
-    left = λ t settled H stands. at_end (Stands b plan H) (accounts old) (accounts new) (each t settled H stands) (content new) (image t);
-    images = λ t settled H stands. at_end (Stands b plan H) (accounts old) (accounts new) (each t settled H stands);
+  pub keeps_so : (b : Tables) (plan : Plan) → (IsTrue (tells old) → IsImage (latest (accounts new)) (content new))
+      → (IsTrue (tells old) → (H : List Entry) → Stands b plan H (content old) → AtEachMoment (accounts old) (accounts new) (IsImageOrStands b plan H (latest (accounts old))))
+      → KeepsHistory b plan (disk_seen tells content accounts faults old new)
+  keeps_so b plan image each = record {
+    left = λ t H stands. at_end (IsImageOrStands b plan H (latest (accounts old))) (accounts old) (accounts new) (each t H stands) (content new) (image t);
+    images = λ t H stands. at_end (IsImageOrStands b plan H (latest (accounts old))) (accounts old) (accounts new) (each t H stands);
     moments = each;
   }
 
-  pub keeps_so : (b : Tables) (plan : Plan) → (IsTrue (tells old) → IsImage (latest (accounts new)) (content new))
-      → (IsTrue (tells old) → IsSettled (content old) (accounts old) → (H : List Entry) → Stands b plan H (content old) → AtEachMoment (accounts old) (accounts new) (Stands b plan H))
+  pub failing_so : (b : Tables) (plan : Plan) → Rose (faults old) (faults new) → (IsTrue (tells old) → IsImage (latest (accounts new)) (content new))
       → (IsTrue (tells old) → (H : List Entry) → Stands b plan H (content old) → AtEachMoment (accounts old) (accounts new) (IsImageOrStands b plan H (latest (accounts old))))
-      → KeepsHistory b plan (disk_seen tells content accounts faults old new)
-  keeps_so b plan image each others = record {
-    left = λ t settled H stands. at_end (Stands b plan H) (accounts old) (accounts new) (each t settled H stands) (content new) (image t);
-    images = λ t settled H stands. at_end (Stands b plan H) (accounts old) (accounts new) (each t settled H stands);
-    moments = each;
-    others = others;
-  }
+      → IsOpeningFailed b plan (disk_seen tells content accounts faults old new)
+  failing_so b plan rose image each = record { rose = rose; keeps = keeps_so b plan image each }
 
   pub unwritten_so : (IsTrue (tells old) → content new ≡ content old) → (IsTrue (tells old) → AtEachMoment (accounts old) (accounts new) (IsImage (latest (accounts old))))
       → IsUntouched (disk_seen tells content accounts faults old new)
@@ -98,8 +88,7 @@ pub record IsHandedBack {D : Type 0} (b : Tables) (plan : Plan) (disk : DiskSeen
   pub told : tells_of old.journal ≡ disk.told
   pub images : latest (accounts_of new.journal) ≡ disk.images
   pub moments : accounts_of new.journal ≡ disk.moments
-  pub opening : IsTrue disk.told → WasSettled disk
-      → AtEachMoment disk.moments_before (accounts_of old.journal) (StandsSecond b plan (history old.marks))
+  pub opening : IsTrue disk.told → AreOpeningMoments b plan (history old.marks) disk.images_before disk.moments_before (accounts_of old.journal)
   pub left : IsTrue disk.told → IsImage disk.images disk.left
   pub content : IsTrue disk.told → IsMending b plan (history new.marks) new.doubt disk.left
   pub length_is : IsTrue disk.told → new.doubt ≡ None → length disk.left ≡ reach new.marks
@@ -111,7 +100,6 @@ module _ {D : Type 0} (b : Tables) (plan : Plan) (base : List ℕ) (disk : DiskS
   way_so G rest replies going =
       let going_on = subst (λ (t : Bool). IsGoingOn b plan base script t disk.images (history old.marks) G rest replies) back.told
       (subst (λ (a : Account). IsGoingOn b plan base script (tells_of old.journal) a (history old.marks) G rest replies) back.images going.going) in
-      let on_the_way = IsFileOnTheWay b plan base script (history old.marks) in
       record {
         H = history old.marks;
         under_way = record {
@@ -119,24 +107,14 @@ module _ {D : Type 0} (b : Tables) (plan : Plan) (base : List ℕ) (disk : DiskS
           found = back.found;
           left = λ t. going_on.each t disk.left (back.left t);
           going_on = going_on;
-          moments = λ t settled.
-              joined on_the_way disk.moments_before (accounts_of old.journal) disk.moments
-              (weaker (StandsSecond b plan (history old.marks)) on_the_way (λ file stands. record { so_far = history old.marks; is_one = reached_first; stands = stands })
-              disk.moments_before (accounts_of old.journal) (back.opening t settled))
-              (subst (λ (m : List Account). AtEachMoment (accounts_of old.journal) m on_the_way) back.moments (going.moments (back.told ∙ t)));
+          moments = λ t. record {
+            opened = accounts_of old.journal;
+            opening = back.opening t;
+            requests =
+                subst (λ (m : List Account). AtEachMoment (accounts_of old.journal) m (IsFileOnTheWay b plan base script (history old.marks))) back.moments
+                (going.moments (back.told ∙ t));
+          };
         };
-      }
-    where
-      reached_first : IsReached b plan base script (history old.marks) (history old.marks)
-      reached_first = record {
-        done = [];
-        rest = script;
-        G = history old.marks;
-        replies = [];
-        whole = refl;
-        are_done = none;
-        good = no_more;
-        begins = not_yet b plan base (history old.marks) script;
       }
 
   left_so : (K : List Entry) (reached : ℕ) → IsOfficeAt new K reached → IsLeftAt b plan disk K reached

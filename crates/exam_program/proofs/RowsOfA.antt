@@ -9,7 +9,7 @@ use Rattle.std.proofs.lemmas.List.{append-nil}
 use Rattle.std.specs.Fmt.{digits}
 use Rattle.bank_tables.specs.Items.{has, AreWords}
 use Rattle.exam_edge.specs.Images.{settled, written}
-use Rattle.exam_edge.specs.ImageLaws.{within_refl, only}
+use Rattle.exam_edge.specs.ImageLaws.{within_refl, only, started}
 use Rattle.certificate_model.specs.declared.node.Node.TheVariants.{Bound}
 use Rattle.form_model.specs.Problem.{Problem}
 use Rattle.form_model.specs.Forms.{Best, Firm}
@@ -46,7 +46,7 @@ use Rattle.proof_tree.specs.Shape.{IsTree}
 use Rattle.proof_tree.proofs.TreeLaws.{is_tree}
 use Rattle.replay_cli.specs.Replies.{place_line, line_of, lines_of}
 use Rattle.exam_office.specs.Asking.{IsGood, AreGood, no_more, one_more as good_more}
-use Rattle.exam_office.specs.Files.{Stands, StandsSecond}
+use Rattle.exam_office.specs.Files.{IsImageOrStands, IsImageOrStandsSecond, Stands, StandsSecond}
 use Rattle.exam_office.proofs.FileLaws.{one_history}
 use Rattle.exam_office.proofs.Records.{all_in_second}
 use Rattle.exam_program.specs.Outside.{DiskSeen}
@@ -460,11 +460,18 @@ replayed_a = record {
     good = good_a;
     each = λ t file image. subst (λ (f : List ℕ). IsFileOf bank_a plan_a base_a answered_2 [] f) (sym (only (settled file_a) file_a file (within_refl (settled file_a)) image)) is_file_a;
   };
-  moments = λ t quiet. record {
-    more = settled file_a ∷ [];
-    grown = refl;
-    start = λ file image. subst (λ (f : List ℕ). IsFileOnTheWay bank_a plan_a base_a script_a [] f) (sym (only (settled []) [] file (within_refl (settled [])) image)) on_the_way_first;
-    each = (λ file image. subst (λ (f : List ℕ). IsFileOnTheWay bank_a plan_a base_a script_a [] f) (sym (only (settled file_a) file_a file (within_refl (settled file_a)) image)) on_the_way_last, tt);
+  moments = λ t. record {
+    opened = settled [] ∷ [];
+    opening = record {
+      each = started (IsImageOrStandsSecond bank_a plan_a [] (settled [])) (settled [] ∷ []) (λ file image. inl image);
+      opened = λ file image. subst (StandsSecond bank_a plan_a []) (sym (only (settled []) [] file (within_refl (settled [])) image)) empty_moved;
+    };
+    requests = record {
+      more = settled file_a ∷ [];
+      grown = refl;
+      start = λ file image. subst (λ (f : List ℕ). IsFileOnTheWay bank_a plan_a base_a script_a [] f) (sym (only (settled []) [] file (within_refl (settled [])) image)) on_the_way_first;
+      each = (λ file image. subst (λ (f : List ℕ). IsFileOnTheWay bank_a plan_a base_a script_a [] f) (sym (only (settled file_a) file_a file (within_refl (settled file_a)) image)) on_the_way_last, tt);
+    };
   };
 }
 
@@ -479,13 +486,15 @@ opening_failed : IsOpeningFailed bank_a plan_a (torn (83 ∷ 72 ∷ []))
 unfolding torn
 opening_failed = record {
   rose = omega arith;
-  left = λ t quiet H stands. stands_here H stands (83 ∷ 72 ∷ []) (omega arith);
-  images = λ t quiet H stands file image. stands_here H stands file (omega (arith, image.greatest));
-  moments = λ t quiet H stands. record {
-    more = written 0 9 (settled []) ∷ [];
-    grown = refl;
-    start = λ file image. stands_here H stands file (omega (arith, image.greatest));
-    each = (λ file image. stands_here H stands file (omega (arith, image.greatest)), tt);
+  keeps = record {
+    left = λ t H stands. inr (stands_here H stands (83 ∷ 72 ∷ []) (omega arith));
+    images = λ t H stands file image. inr (stands_here H stands file (omega (arith, image.greatest)));
+    moments = λ t H stands. record {
+      more = written 0 9 (settled []) ∷ [];
+      grown = refl;
+      start = λ file image. inl image;
+      each = (λ file image. inr (stands_here H stands file (omega (arith, image.greatest))), tt);
+    };
   };
 }
   where
@@ -496,5 +505,9 @@ opening_failed = record {
 no_other_file : IsOpeningFailed bank_a plan_a (torn file_a) → ⊥
 unfolding torn started_a served_a answered_a served_1 answered_1 served_2 answered_2
 no_other_file is =
-    let e : answered_2 ≡ [] = one_history bank_a plan_a answered_2 [] file_a file_stands (is.left refl (within_refl (settled [])) [] empty_stands) in
+    let e : answered_2 ≡ [] = one_history bank_a plan_a answered_2 [] file_a file_stands (stands_so (is.keeps.left refl [] empty_stands)) in
     cc
+  where
+    stands_so : IsImageOrStands bank_a plan_a [] (settled []) file_a → Stands bank_a plan_a [] file_a
+    stands_so (inl image) = subst (Stands bank_a plan_a []) (sym (only (settled []) [] file_a (within_refl (settled [])) image)) empty_stands
+    stands_so (inr stands) = stands

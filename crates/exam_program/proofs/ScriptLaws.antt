@@ -3,14 +3,14 @@ use Rattle.std.proofs.Common.{◌≡◌, ℕ, suc, ◌+◌, ◌<◌, ◌≤◌, 
 use Rattle.std.proofs.lemmas.List.{append-nil, take-append-drop, take_more}
 use Rattle.std.proofs.lemmas.Grind.{flat_map-append}
 use Rattle.bank_tables.specs.Tables.{Tables}
-use Rattle.exam_edge.specs.Images.{AtEachMoment, latest}
+use Rattle.exam_edge.specs.Images.{AtEachMoment}
 use Rattle.exam_edge.specs.ImageLaws.{at_end, joined, weaker}
 use Rattle.exam_edge.specs.Lent.{IsLent}
 use Rattle.form_model.specs.Plan.{Plan}
 use Rattle.history_model.specs.declared.entry.Entry.{Entry}
 use Rattle.history_model.specs.declared.request.Reply.{Reply}
 use Rattle.history_model.specs.declared.request.Request.{Request}
-use Rattle.exam_office.specs.Asking.{AreGood, no_more, one_more as good_more, IsDurable, not_begun, StandsForOne}
+use Rattle.exam_office.specs.Asking.{AreGood, no_more, one_more as good_more, IsDurable, not_begun}
 use Rattle.exam_office.specs.Marks.{history, reach}
 use Rattle.exam_office.specs.Running.{Running}
 use Rattle.exam_office.specs.Writing.{IsSameOffice}

@@ -1,6 +1,5 @@
 -- A server over a disk, from its office.
-use Rattle.std.proofs.Common.{◌≡◌, ℕ, ◌≤◌, ◌⊎◌, Bool, true, false, List, [], ◌∷◌, ◌++◌, length, inl, inr, map, Option, Some, None, IsTrue, refl, sym, ◌∙◌, ap, subst, arith}
-use Rattle.std.proofs.lemmas.List.{append-nil}
+use Rattle.std.proofs.Common.{◌≡◌, ℕ, ◌≤◌, ◌⊎◌, Bool, List, [], ◌∷◌, ◌++◌, length, inl, inr, map, Option, None, IsTrue, refl, sym, ◌∙◌, ap, subst, arith}
 use Rattle.std.specs.Prelude.{Result, Ok, Err, IfOk, IfErr}
 use Rattle.std.specs.declared.alloc.AllocError.{AllocError}
 use Rattle.bank_tables.specs.Tables.{Tables}
@@ -13,8 +12,6 @@ use Rattle.history_model.specs.Legality.{LegalRun}
 use Rattle.history_model.specs.Summaries.{summary}
 use Rattle.answer_journal.specs.Journal.{tells_of}
 use Rattle.exam_office.specs.Files.{StandsSecond}
-use Rattle.exam_office.specs.declared.fault.OpenFault.{OpenFault}
-use Rattle.exam_office.specs.declared.fault.OpenFault.TheVariants as fault
 use Rattle.exam_office.specs.declared.mark.Mark.{Mark}
 use Rattle.exam_office.specs.declared.mark.Mark.TheVariants.{Old, Opened}
 use Rattle.exam_office.specs.Marks.{history, reach, AreMarks, AreCounted}
@@ -23,20 +20,19 @@ use Rattle.exam_office.specs.Noting.{OpenedWith, NotedMark, noted, marks_of, ope
 use Rattle.exam_office.specs.Running.{Running}
 use Rattle.exam_office.specs.Writing.{IsMending}
 use Rattle.exam_serve.specs.declared.serve.End.{End}
-use Rattle.exam_serve.specs.declared.serve.End.TheVariants.{Done, DoorFailed, Memory}
+use Rattle.exam_serve.specs.declared.serve.End.TheVariants.{Done, Starved, DoorFailed, Memory}
 use Rattle.exam_serve.specs.Doors.{AreServed}
 use Rattle.exam_serve.specs.Results.{IsResult, notes_of}
 use Rattle.exam_serve.proofs.Notes.{marks_noted}
 use Rattle.exam_program.specs.declared.halt.Halt.{Halt}
-use Rattle.exam_program.specs.declared.halt.Halt.TheVariants as halt
-use Rattle.exam_program.specs.Outcomes.{Outcome, without_memory, server_refused, server_without_journal, server_without_memory, PrintsBefore, Halts, EndsBy, Ends, IsStatus, IsStatusOfRun, IsStatusBefore}
-use Rattle.exam_program.specs.Outside.{Outside, DiskSeen, IsUntouched, WasSettled}
-use Rattle.exam_program.specs.Runs.{RunEnds, idle, busy, EndsWith, IsEnding, IsLastOf, IsLastWritten, IsStatusOfEnding}
-use Rattle.exam_program.specs.Serves.{IsServeOf, IsExamined, WorkSeen, IsLast, numbers, no_numbers, a_disk, a_door, IsServedBy}
-use Rattle.exam_program.specs.Texts.{disk_failed, door_failed}
+use Rattle.exam_program.specs.Outcomes.{Outcome, without_memory, server_refused, server_without_journal, server_without_memory, Halts, EndsBy, Ends, IsStatusOfRun}
+use Rattle.exam_program.specs.Outside.{Outside, DiskSeen}
+use Rattle.exam_program.specs.Runs.{RunEnds, idle, busy, EndsWith, IsEnding, IsLastOf, IsLastWritten, IsStatusOfEnding, IsOver}
+use Rattle.exam_program.specs.Serves.{IsServeOf, IsExamined, WorkSeen, IsLast, numbers, no_numbers, a_disk, a_door, IsServedBy, starved_numbers, starved_no_numbers, starved_disk}
+use Rattle.exam_program.specs.Texts.{disk_failed}
 use Rattle.exam_lines.specs.Texts.{summary_text}
-use Rattle.exam_program.specs.Stopping.{IsUnopened, refused, failed, out_of_memory, opening_halt}
-use Rattle.exam_program.specs.Writing.{IsWritten, WritesPart}
+use Rattle.exam_program.specs.Stopping.{IsUnopened, refused, failed, out_of_memory}
+use Rattle.exam_program.specs.Writing.{IsWritten}
 use Rattle.exam_program.proofs.OutcomeLaws.{also, is_8, ends_by}
 
 -- ---- a journal that was not opened
@@ -72,7 +68,7 @@ pub record IsClosed {D : Type 0} (b : Tables) (p : Plan) (base : List ℕ) (disk
   pub length_is : IsTrue disk.told → new.doubt ≡ None → length disk.left ≡ reach new.marks
   pub left : IsTrue disk.told → IsMending new.bank new.plan (history new.marks) new.doubt disk.left
   pub images : IsTrue disk.told → AllImages (IsMending new.bank new.plan (history new.marks) new.doubt) disk.images
-  pub moments : IsTrue disk.told → WasSettled disk → AreMoments new.bank new.plan disk.moments_before new.marks disk.moments
+  pub moments : IsTrue disk.told → AreMoments new.bank new.plan disk.moments_before new.marks disk.moments
 
 module _ {D : Type 0} (b : Tables) (p : Plan) (base : List ℕ) (disk : DiskSeen) (old new : Running D)
     (k : IsClosed b p base disk old new) where
@@ -109,9 +105,9 @@ module _ {D : Type 0} (b : Tables) (p : Plan) (base : List ℕ) (disk : DiskSeen
         length_is = λ t sure. k.length_is t sure ∙ ap reach (sym noted_so);
         left = λ t. so (λ (x : Tables) (y : Plan). IsMending x y (history new.marks) new.doubt disk.left) (k.left t);
         images = λ t. so (λ (x : Tables) (y : Plan). AllImages (IsMending x y (history new.marks) new.doubt) disk.images) (k.images t);
-        moments = λ t settled.
+        moments = λ t.
             so (λ (x : Tables) (y : Plan). AreMoments x y disk.moments_before (marks_of (notes_of new)) disk.moments)
-            (subst (λ (m : List Mark). AreMoments new.bank new.plan disk.moments_before m disk.moments) (sym noted_so) (k.moments t settled));
+            (subst (λ (m : List Mark). AreMoments new.bank new.plan disk.moments_before m disk.moments) (sym noted_so) (k.moments t));
       }
 
 -- ---- what is printed in the end
@@ -134,9 +130,29 @@ last_text bytes told old new result end s is (Err e) made whole none = record {
   written = none;
 }
 
+-- so where a connection ended for lack of memory
+pub starved_text : {A : Type 0} (bytes : A → List ℕ) (told : Bool) (old new : List ℕ) (result : ℕ) (end : End) (s : Summary) → end ≡ Starved
+    → (text : Result A AllocError)
+    → IfOk text (λ t. bytes t ≡ summary_text s)
+    → IfOk text (λ t. IsLastWritten told old new 10 (bytes t) result) → IfErr text (λ _. IsLastWritten told old new 10 no_memory result)
+    → EndsWith (IsLastOf end s) told old new result
+starved_text bytes told old new result end s is (Ok t) made whole none = record {
+  status = 10;
+  text = bytes t;
+  is_allowed = subst (λ (e : End). IsLastOf e s 10 (bytes t)) (sym is) (refl, inl made);
+  written = whole;
+}
+starved_text bytes told old new result end s is (Err e) made whole none = record {
+  status = 10;
+  text = no_memory;
+  is_allowed = subst (λ (x : End). IsLastOf x s 10 no_memory) (sym is) (refl, inr refl);
+  written = none;
+}
+
 -- what is printed over a disk that works
 ending_allowed : (end : End) (s : Summary) (status : ℕ) (text : List ℕ) → IsLastOf end s status text → IsEnding end s status text
 ending_allowed Done s status text allowed = inl allowed
+ending_allowed Starved s status text allowed = inl allowed
 ending_allowed DoorFailed s status text allowed = allowed
 ending_allowed Memory s status text allowed = allowed
 
@@ -150,12 +166,18 @@ ends_over told old new result end s ends = record {
 }
 
 -- and over one that failed
-pub disk_ends : (told : Bool) (old new : List ℕ) (result : ℕ) (end : End) (s : Summary) → end ≡ Done → IsLastWritten told old new 9 disk_failed result
+disk_allowed : (end : End) (s : Summary) → IsOver end → IsEnding end s 9 disk_failed
+disk_allowed Done s over = inr (refl, refl)
+disk_allowed Starved s over = inr (refl, refl)
+disk_allowed DoorFailed s over = absurd over
+disk_allowed Memory s over = absurd over
+
+pub disk_ends : (told : Bool) (old new : List ℕ) (result : ℕ) (end : End) (s : Summary) → IsOver end → IsLastWritten told old new 9 disk_failed result
     → EndsWith (IsEnding end s) told old new result
-disk_ends told old new result end s is whole = record {
+disk_ends told old new result end s over whole = record {
   status = 9;
   text = disk_failed;
-  is_allowed = subst (λ (e : End). IsEnding e s 9 disk_failed) (sym is) (inr (refl, refl));
+  is_allowed = disk_allowed end s over;
   written = whole;
 }
 
@@ -182,45 +204,63 @@ module _ {A D K : Type 0} (token : Option (List ℕ)) (tells : D → Bool) (comi
     (is : IsServeOf words o b p base) (old new : Running A)
     (examined : IsExamined b p base o.disk (notes_of old) (notes_of new) (history new.marks))
     (numbers_of : Summary) (are : numbers_of ≡ summary p (history new.marks)) (doors back : List D) (Unused : Type 0) where
-  abbrev pub Served : List NotedMark → List NotedMark → Bool → Type 0
-  Served opened closed cut =
-      AreServed token tells coming returned is_out faults identity link_tells left written link_faults link_identity opened closed doors back cut
+  abbrev pub Served : List NotedMark → List NotedMark → End → Type 0
+  Served opened closed end =
+      AreServed token tells coming returned is_out faults identity link_tells left written link_faults link_identity opened closed doors back end
 
-  abbrev work_of : Bool → WorkSeen
-  work_of cut = record { opened = notes_of old; closed = notes_of new; failed = cut }
+  abbrev work_of : End → WorkSeen
+  work_of end = record { opened = notes_of old; closed = notes_of new; end = end }
 
-  by_last : (cut : Bool) (status : ℕ) (text : List ℕ) → IsLast p (history new.marks) cut status text → IsServedBy words o (work_of cut) status text
-  by_last cut status text last = record { b = b; plan = p; base = base; H = history new.marks; is = is; examined = examined; last = last }
+  by_last : (end : End) (status : ℕ) (text : List ℕ) → IsLast p (history new.marks) end status text → IsServedBy words o (work_of end) status text
+  by_last end status text last = record { b = b; plan = p; base = base; H = history new.marks; is = is; examined = examined; last = last }
 
-  last_of : (status : ℕ) (text : List ℕ) → IsLastOf Done numbers_of status text → IsLast p (history new.marks) false status text
-  last_of status text (inl e) = subst (λ (n : ℕ). IsLast p (history new.marks) false n text) (sym e.0)
-      (subst (λ (t : List ℕ). IsLast p (history new.marks) false 0 t) (ap summary_text (sym are) ∙ sym e.1) numbers)
-  last_of status text (inr e) = subst (λ (n : ℕ). IsLast p (history new.marks) false n text) (sym e.0)
-      (subst (λ (t : List ℕ). IsLast p (history new.marks) false 10 t) (sym e.1) no_numbers)
+  last_of : (status : ℕ) (text : List ℕ) → IsLastOf Done numbers_of status text → IsLast p (history new.marks) Done status text
+  last_of status text (inl e) = subst (λ (n : ℕ). IsLast p (history new.marks) Done n text) (sym e.0)
+      (subst (λ (t : List ℕ). IsLast p (history new.marks) Done 0 t) (ap summary_text (sym are) ∙ sym e.1) numbers)
+  last_of status text (inr e) = subst (λ (n : ℕ). IsLast p (history new.marks) Done n text) (sym e.0)
+      (subst (λ (t : List ℕ). IsLast p (history new.marks) Done 10 t) (sym e.1) no_numbers)
 
-  ending_of : (status : ℕ) (text : List ℕ) → IsEnding Done numbers_of status text → IsLast p (history new.marks) false status text
+  ending_of : (status : ℕ) (text : List ℕ) → IsEnding Done numbers_of status text → IsLast p (history new.marks) Done status text
   ending_of status text (inl e) = last_of status text e
-  ending_of status text (inr e) = subst (λ (n : ℕ). IsLast p (history new.marks) false n text) (sym e.0)
-      (subst (λ (t : List ℕ). IsLast p (history new.marks) false 9 t) (sym e.1) a_disk)
+  ending_of status text (inr e) = subst (λ (n : ℕ). IsLast p (history new.marks) Done n text) (sym e.0)
+      (subst (λ (t : List ℕ). IsLast p (history new.marks) Done 9 t) (sym e.1) a_disk)
 
-  cut_of : (status : ℕ) (text : List ℕ) → IsLastOf DoorFailed numbers_of status text → IsLast p (history new.marks) true status text
-  cut_of status text e = subst (λ (n : ℕ). IsLast p (history new.marks) true n text) (sym e.0)
-      (subst (λ (t : List ℕ). IsLast p (history new.marks) true 14 t) (sym e.1) a_door)
+  starved_with : (status : ℕ) (text : List ℕ) → status ≡ 10 → (text ≡ summary_text numbers_of) ⊎ (text ≡ no_memory)
+      → IsLast p (history new.marks) Starved status text
+  starved_with status text is (inl e) = subst (λ (n : ℕ). IsLast p (history new.marks) Starved n text) (sym is)
+      (subst (λ (t : List ℕ). IsLast p (history new.marks) Starved 10 t) (ap summary_text (sym are) ∙ sym e) starved_numbers)
+  starved_with status text is (inr e) = subst (λ (n : ℕ). IsLast p (history new.marks) Starved n text) (sym is)
+      (subst (λ (t : List ℕ). IsLast p (history new.marks) Starved 10 t) (sym e) starved_no_numbers)
+
+  starved_of : (status : ℕ) (text : List ℕ) → IsEnding Starved numbers_of status text → IsLast p (history new.marks) Starved status text
+  starved_of status text (inl e) = starved_with status text e.0 e.1
+  starved_of status text (inr e) = subst (λ (n : ℕ). IsLast p (history new.marks) Starved n text) (sym e.0)
+      (subst (λ (t : List ℕ). IsLast p (history new.marks) Starved 9 t) (sym e.1) starved_disk)
+
+  cut_of : (status : ℕ) (text : List ℕ) → IsLastOf DoorFailed numbers_of status text → IsLast p (history new.marks) DoorFailed status text
+  cut_of status text e = subst (λ (n : ℕ). IsLast p (history new.marks) DoorFailed n text) (sym e.0)
+      (subst (λ (t : List ℕ). IsLast p (history new.marks) DoorFailed 14 t) (sym e.1) a_door)
 
   pub ends_serving : (end : End)
       → IsResult token tells coming returned is_out faults identity link_tells left written link_faults link_identity old doors new back end
       → (end ≡ Memory → new ≡ old) → (end ≡ Memory → Unused) → EndsWith (IsEnding end numbers_of) told was now result
       → RunEnds Served Unused words o told was now result
-  ends_serving Done served none unused ends = busy (work_of false) served record {
+  ends_serving Done served none unused ends = busy (work_of Done) served record {
     status = ends.status;
     text = ends.text;
-    is_allowed = by_last false ends.status ends.text (ending_of ends.status ends.text ends.is_allowed);
+    is_allowed = by_last Done ends.status ends.text (ending_of ends.status ends.text ends.is_allowed);
     written = ends.written;
   }
-  ends_serving DoorFailed served none unused ends = busy (work_of true) served record {
+  ends_serving Starved served none unused ends = busy (work_of Starved) served record {
     status = ends.status;
     text = ends.text;
-    is_allowed = by_last true ends.status ends.text (cut_of ends.status ends.text ends.is_allowed);
+    is_allowed = by_last Starved ends.status ends.text (starved_of ends.status ends.text ends.is_allowed);
+    written = ends.written;
+  }
+  ends_serving DoorFailed served none unused ends = busy (work_of DoorFailed) served record {
+    status = ends.status;
+    text = ends.text;
+    is_allowed = by_last DoorFailed ends.status ends.text (cut_of ends.status ends.text ends.is_allowed);
     written = ends.written;
   }
   ends_serving Memory served none unused ends =
@@ -243,6 +283,8 @@ ending_status end status (inr e) = inl (also 8 status e.0 is_8)
 ending_status Done status (inl (inl (inl e))) = inl (also 0 status e (0, omega arith, refl))
 ending_status Done status (inl (inl (inr e))) = inl (also 10 status e (9, omega arith, refl))
 ending_status Done status (inl (inr e)) = inl (also 9 status e (8, omega arith, refl))
+ending_status Starved status (inl (inl e)) = inl (also 10 status e (9, omega arith, refl))
+ending_status Starved status (inl (inr e)) = inl (also 9 status e (8, omega arith, refl))
 ending_status DoorFailed status (inl e) = inr e
 ending_status Memory status (inl e) = inl (also 10 status e (9, omega arith, refl))
 
@@ -253,5 +295,7 @@ failed_door_so end status why (inr e) is = let is_8 : status ≡ 8 = e.0 in absu
 failed_door_so Done status why (inl (inl (inl e))) is = absurd (omega (arith, e, is))
 failed_door_so Done status why (inl (inl (inr e))) is = absurd (omega (arith, e, is))
 failed_door_so Done status why (inl (inr e)) is = absurd (omega (arith, e, is))
+failed_door_so Starved status why (inl (inl e)) is = absurd (omega (arith, e, is))
+failed_door_so Starved status why (inl (inr e)) is = absurd (omega (arith, e, is))
 failed_door_so DoorFailed status why (inl e) is = why refl
 failed_door_so Memory status why (inl e) is = absurd (omega (arith, e, is))

@@ -7,12 +7,12 @@ use Rattle.exam_edge.specs.Lent.{IsLent}
 use Rattle.exam_office.specs.declared.fault.OpenFault.{OpenFault}
 use Rattle.exam_office.specs.declared.fault.OpenFault.TheVariants as fault
 use Rattle.exam_serve.specs.declared.serve.End.{End}
-use Rattle.exam_serve.specs.declared.serve.End.TheVariants.{Done, DoorFailed, Memory}
+use Rattle.exam_serve.specs.declared.serve.End.TheVariants.{Done, Starved, DoorFailed, Memory}
 use Rattle.exam_program.specs.declared.halt.Halt.{Halt}
 use Rattle.exam_program.specs.declared.halt.Halt.TheVariants as halt
 use Rattle.exam_program.specs.Halts.{IsBeforeJournal}
 use Rattle.exam_program.specs.Outcomes.{EndsBy, IsStatus, IsStatusBefore, IsStatusOfRun}
-use Rattle.exam_program.specs.Runs.{IsStatusOfEnding, IsStatusOfServing}
+use Rattle.exam_program.specs.Runs.{IsOver, IsStatusOfEnding, IsStatusOfServing}
 use Rattle.exam_program.specs.Stopping.{opening_halt}
 
 -- the status of a halt whose text found memory
@@ -229,6 +229,7 @@ module _ {R : Type 0} where
   serving_not_9 end status (inr e) is = let is_8 : status ≡ 8 = e.0 in omega (arith, is_8, is)
   serving_not_9 Done status (inl (inl e)) is = omega (arith, e, is)
   serving_not_9 Done status (inl (inr e)) is = omega (arith, e, is)
+  serving_not_9 Starved status (inl e) is = omega (arith, e, is)
   serving_not_9 DoorFailed status (inl e) is = omega (arith, e, is)
   serving_not_9 Memory status (inl e) is = omega (arith, e, is)
 
@@ -236,18 +237,30 @@ module _ {R : Type 0} where
   pub ending_so : (end : End) (status : ℕ) → (IsStatusOfServing end status) ⊎ ((status ≡ 8) × R) → (IsStatusOfEnding end status) ⊎ ((status ≡ 8) × R)
   ending_so end status (inr e) = inr e
   ending_so Done status (inl e) = inl (inl e)
+  ending_so Starved status (inl e) = inl (inl e)
   ending_so DoorFailed status (inl e) = inl e
   ending_so Memory status (inl e) = inl e
 
-  pub disk_ending_so : (end : End) (status : ℕ) → end ≡ Done → (status ≡ 9) ⊎ ((status ≡ 8) × R) → (IsStatusOfEnding end status) ⊎ ((status ≡ 8) × R)
-  disk_ending_so end status is (inr e) = inr e
-  disk_ending_so end status is (inl e) = inl (subst (λ (x : End). IsStatusOfEnding x status) (sym is) (inr e))
+  -- and of a text or no memory, where a connection starved
+  pub starved_so : (end : End) (status : ℕ) → end ≡ Starved → ((status ≡ 10) ⊎ (status ≡ 10)) ⊎ ((status ≡ 8) × R) → (IsStatusOfServing end status) ⊎ ((status ≡ 8) × R)
+  starved_so end status is (inr e) = inr e
+  starved_so end status is (inl (inl e)) = inl (subst (λ (x : End). IsStatusOfServing x status) (sym is) e)
+  starved_so end status is (inl (inr e)) = inl (subst (λ (x : End). IsStatusOfServing x status) (sym is) e)
+
+  pub disk_ending_so : (end : End) (status : ℕ) → IsOver end → (status ≡ 9) ⊎ ((status ≡ 8) × R) → (IsStatusOfEnding end status) ⊎ ((status ≡ 8) × R)
+  disk_ending_so end status over (inr e) = inr e
+  disk_ending_so Done status over (inl e) = inl (inr e)
+  disk_ending_so Starved status over (inl e) = inl (inr e)
+  disk_ending_so DoorFailed status over (inl e) = absurd over
+  disk_ending_so Memory status over (inl e) = absurd over
 
   pub ending_unprinted : (end : End) (status : ℕ) → (IsStatusOfEnding end status) ⊎ ((status ≡ 8) × R) → status ≡ 8 → R
   ending_unprinted end status (inr e) is = e.1
   ending_unprinted Done status (inl (inl (inl e))) is = absurd (omega (arith, e, is))
   ending_unprinted Done status (inl (inl (inr e))) is = absurd (omega (arith, e, is))
   ending_unprinted Done status (inl (inr e)) is = absurd (omega (arith, e, is))
+  ending_unprinted Starved status (inl (inl e)) is = absurd (omega (arith, e, is))
+  ending_unprinted Starved status (inl (inr e)) is = absurd (omega (arith, e, is))
   ending_unprinted DoorFailed status (inl e) is = absurd (omega (arith, e, is))
   ending_unprinted Memory status (inl e) is = absurd (omega (arith, e, is))
 
@@ -256,6 +269,8 @@ module _ {R : Type 0} where
   ending_late Done status (inl (inl (inl e))) before = false≢true (subst (λ (s : ℕ). IsStatusBefore s) e before)
   ending_late Done status (inl (inl (inr e))) before = false≢true (subst (λ (s : ℕ). IsStatusBefore s) e before)
   ending_late Done status (inl (inr e)) before = false≢true (subst (λ (s : ℕ). IsStatusBefore s) e before)
+  ending_late Starved status (inl (inl e)) before = false≢true (subst (λ (s : ℕ). IsStatusBefore s) e before)
+  ending_late Starved status (inl (inr e)) before = false≢true (subst (λ (s : ℕ). IsStatusBefore s) e before)
   ending_late DoorFailed status (inl e) before = false≢true (subst (λ (s : ℕ). IsStatusBefore s) e before)
   ending_late Memory status (inl e) before = false≢true (subst (λ (s : ℕ). IsStatusBefore s) e before)
 

@@ -1,5 +1,5 @@
 -- What a follower does, from the opening of its journal to its close.
-use Rattle.std.specs.Prelude.{◌≡◌, ◌⊎◌, ℕ, ◌++◌, ◌∷◌, [], Bool, IsTrue, List, drop, length, map, Some}
+use Rattle.std.specs.Prelude.{◌≡◌, ℕ, ◌++◌, ◌∷◌, [], Bool, IsTrue, List, drop, length, map, Some}
 use Rattle.answer_journal.specs.Payload.{end_of}
 use Rattle.answer_journal.specs.Versions.{contents, second}
 use Rattle.bank_tables.specs.Tables.{Tables}

@@ -4,6 +4,7 @@ use Rattle.hex.specs.Hex.{decode_of, encode_lower}
 use Rattle.bank_tables.specs.Items.{has}
 use Rattle.bank_tables.specs.Tables.{Tables}
 use Rattle.exam_edge.specs.Faults.{Rose}
+use Rattle.exam_edge.specs.Images.{AtEachMoment}
 use Rattle.form_model.specs.Forms.{Meets}
 use Rattle.serving_model.specs.Seats.{is_shown}
 use Rattle.history_model.specs.declared.entry.Entry.{Entry}
@@ -23,13 +24,13 @@ use Rattle.certificate_model.specs.ProofTrees.{ProofTree}
 use Rattle.proof_tree.specs.Shape.{IsTree}
 use Rattle.proof_tree.specs.Spelling.{bytes_of}
 use Rattle.proof_tree.specs.Reading.{read}
-use Rattle.command_line.specs.Commands.{Check, Assemble, Replay, Serve, Audit, Migrate, Series, Follow, Ship, command_of}
+use Rattle.command_line.specs.Commands.{Check, Assemble, Replay, Serve, Audit, Drill, Migrate, Series, Follow, Ship, command_of}
 use Rattle.command_line.specs.Weights.{weights_of}
 use Rattle.form_lines.specs.Answers.{AreWeightsFor}
 use Rattle.exam_program.specs.Halts.{IsPlanIn, Reads, IsScriptIn}
 use Rattle.exam_program.specs.Outcomes.{IsReplayOf, Outcome}
-use Rattle.exam_program.specs.Outside.{Outside, DiskSeen}
-use Rattle.exam_program.specs.Replays.{IsUnderWay, IsFullAt, IsLeftAt}
+use Rattle.exam_program.specs.Outside.{Outside, DiskSeen, IsHistoryKept, KeepsHistory, WasSettled}
+use Rattle.exam_program.specs.Replays.{IsFileOnTheWay, IsUnderWay, IsFullAt, IsLeftAt}
 use Rattle.exam_program.specs.Serves.{IsExamined}
 use Rattle.exam_program.specs.Texts.{tree_text}
 
@@ -205,6 +206,36 @@ SeriesIsComplete =
     → (Rose o.files_before o.files_after → ⊥)
     → Outcome words o status text
     → (status ≡ 0) ⊎ ((status ≡ 17) ⊎ ((status ≡ 18) ⊎ (status ≡ 10)))
+
+-- a drill does its work, or memory ran out: its journal has room for each of its records
+abbrev pub DrillIsComplete : Type 0
+DrillIsComplete =
+    (words : List (List ℕ)) (o : Outside) (number sessions status : ℕ) (text : List ℕ)
+    → command_of words ≡ Some (Drill number sessions)
+    → Outcome words o status text
+    → (status ≡ 0) ⊎ (status ≡ 10)
+
+-- ---- a disk that was settled
+-- a file that keeps its history represents it, and so does each file that a crash may leave
+abbrev pub SettledHistoryIsKept : Type 0
+SettledHistoryIsKept =
+    (b : Tables) (plan : Plan) (disk : DiskSeen) (H : List Entry)
+    → IsTrue disk.told
+    → WasSettled disk
+    → Stands b plan H disk.found
+    → KeepsHistory b plan disk
+    → IsHistoryKept b plan disk H
+
+-- at each moment of a replay, also while its journal is opened, each file that a crash may leave
+-- represents a history on the way of the script
+abbrev pub SettledReplayIsOnTheWay : Type 0
+SettledReplayIsOnTheWay =
+    (b : Tables) (plan : Plan) (base : List ℕ) (disk : DiskSeen) (script : List Request)
+    (H G : List Entry) (rest : List Request) (replies : List Reply)
+    → IsTrue disk.told
+    → WasSettled disk
+    → IsUnderWay b plan base disk script H G rest replies
+    → AtEachMoment disk.moments_before disk.moments (IsFileOnTheWay b plan base script H)
 
 -- ---- what a replay leaves
 -- the items shown in each complete session meet the plan

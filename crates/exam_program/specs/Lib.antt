@@ -18,3 +18,5 @@ pub mod Links
 pub mod Follows
 pub mod Ships
 pub mod Laws
+pub mod AllowedFiles
+pub mod Allowing

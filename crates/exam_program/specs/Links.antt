@@ -1,8 +1,7 @@
 -- How the work of a follower and of a shipper at a door ends: what is printed last, with the
 -- status.
-use Rattle.std.specs.Prelude.{◌≡◌, ◌⊎◌, ℕ, ◌++◌, ◌∷◌, [], List, codes}
+use Rattle.std.specs.Prelude.{◌≡◌, ◌⊎◌, ℕ, ◌++◌, List, codes}
 use Rattle.std.specs.Fmt.{decimal}
-use Rattle.exam_edge.specs.Faults.{Rose}
 use Rattle.exam_lines.specs.Texts.{summary_text}
 use Rattle.exam_program.specs.Texts.{disk_failed, door_failed, journal_limit}
 use Rattle.exam_text.specs.Texts.{no_memory}

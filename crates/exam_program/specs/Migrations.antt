@@ -11,23 +11,10 @@ use Rattle.exam_office.specs.declared.migrating.Moved.{Moved}
 use Rattle.exam_office.specs.declared.migrating.MigrateFault.{MigrateFault}
 use Rattle.exam_office.specs.declared.migrating.MigrateFault.TheVariants as fault
 use Rattle.exam_office.specs.Files.{Stands, StandsSecond}
-use Rattle.exam_office.specs.Migrating.{IsImageOrStands, IsMigrated, IsOldFile, IsTooLongMoved}
+use Rattle.exam_office.specs.Migrating.{IsMigrated, IsOldFile, IsTooLongMoved}
 use Rattle.exam_program.specs.declared.halt.Halt.{Halt}
 use Rattle.exam_program.specs.declared.halt.Halt.TheVariants as halt
-use Rattle.exam_program.specs.Outside.{DiskSeen, IsUntouched, WasSettled}
-
--- a file that represented a history keeps it. If the disk was settled, the file that is left
--- represents that history, and so does each file that a crash may leave, now or at a moment since.
--- If it was not, each of these represents it too, or a crash might have left it before
-pub record KeepsHistory (b : Tables) (plan : Plan) (disk : DiskSeen) : Type 0 where
-  pub left : IsTrue disk.told → WasSettled disk → (H : List Entry) → Stands b plan H disk.found
-      → Stands b plan H disk.left
-  pub images : IsTrue disk.told → WasSettled disk → (H : List Entry) → Stands b plan H disk.found
-      → AllImages (Stands b plan H) disk.images
-  pub moments : IsTrue disk.told → WasSettled disk → (H : List Entry) → Stands b plan H disk.found
-      → AtEachMoment disk.moments_before disk.moments (Stands b plan H)
-  pub others : IsTrue disk.told → (H : List Entry) → Stands b plan H disk.found
-      → AtEachMoment disk.moments_before disk.moments (IsImageOrStands b plan H disk.images_before)
+use Rattle.exam_program.specs.Outside.{DiskSeen, IsUntouched, KeepsHistory}
 
 -- a migration was done: the file represented a history, and represents it by records of the second
 -- version now, within the journal's limit. A crash leaves nothing but this file, if nothing was

@@ -21,8 +21,7 @@ use Rattle.history_model.specs.declared.request.Request.{Request}
 use Rattle.history_model.specs.Refusals.{refusal_of}
 use Rattle.history_model.specs.declared.request.Exposure.{Exposure}
 use Rattle.history_model.specs.declared.summary.Summary.{Summary}
-use Rattle.exam_drill.specs.declared.fault.DrillFault.TheVariants as drill
-use Rattle.exam_drill.specs.Drills.{IsSummaryOfDrill, IsDrillFault}
+use Rattle.exam_drill.specs.Drills.{IsSummaryOfDrill}
 use Rattle.exam_drill.specs.Texts.{drill_text}
 use Rattle.exam_lines.specs.Texts.{summary_text, migrated_text}
 use Rattle.form_lines.specs.Texts.{weights_refused}
@@ -165,7 +164,7 @@ pub data Outcome (words : List (List ℕ)) (o : Outside) : ℕ → List ℕ → 
   -- the files failed before anything was printed
   without_files : (bank plan : List ℕ) → IsOver words bank plan
       → Rose o.files_before o.files_after → IsUntouched o.disk → Outcome words o 7 files_failed
-  -- the disk failed while the journal was opened; a settled file keeps its history
+  -- the disk failed while the journal was opened; the file keeps its history
   without_journal : (b : Tables) (p : Plan) (script : List Request) (base : List ℕ)
       → IsReplayOf words o b p script base → IsOpeningFailed b p o.disk
       → Outcome words o 9 disk_failed
@@ -185,7 +184,7 @@ pub data Outcome (words : List (List ℕ)) (o : Outside) : ℕ → List ℕ → 
   server_refused : (b : Tables) (p : Plan) (base : List ℕ) (fault : OpenFault)
       → IsServeOf words o b p base → IsJournalRefused b p o.disk fault
       → Outcome words o 6 (journal_text fault)
-  -- the disk failed while a server's journal was opened; a settled file keeps its history
+  -- the disk failed while a server's journal was opened; the file keeps its history
   server_without_journal : (b : Tables) (p : Plan) (base : List ℕ) → IsServeOf words o b p base
       → IsOpeningFailed b p o.disk → Outcome words o 9 disk_failed
   -- memory ran out after a server's journal was opened, before any connection was accepted
@@ -208,10 +207,6 @@ pub data Outcome (words : List (List ℕ)) (o : Outside) : ℕ → List ℕ → 
   drilled : (number sessions : ℕ) (s : Summary) → command_of words ≡ Some (Drill number sessions)
       → IsSummaryOfDrill number sessions s → IsUntouched o.disk
       → Outcome words o 0 (drill_text number sessions ++ summary_text s)
-  -- an entry of a drill has no room in its journal
-  drill_full : (number sessions size most : ℕ) → command_of words ≡ Some (Drill number sessions)
-      → IsDrillFault number sessions (drill.JournalFull size most) → IsUntouched o.disk
-      → Outcome words o 13 (journal_limit size most)
   -- the journal's records are of the second version now: how many were written, and its length
   migrated : (b : Tables) (p : Plan) (done : Moved) → IsMigrationOf words o b p
       → IsMigrationDone b p o.disk done
@@ -241,7 +236,7 @@ pub data Outcome (words : List (List ℕ)) (o : Outside) : ℕ → List ℕ → 
   link_refused : (b : Tables) (p : Plan) (base : List ℕ) (fault : OpenFault)
       → IsLinkOf words o b p base → IsJournalRefused b p o.disk fault
       → Outcome words o 6 (journal_text fault)
-  -- the disk failed while that journal was opened; a settled file keeps its history
+  -- the disk failed while that journal was opened; the file keeps its history
   link_without_journal : (b : Tables) (p : Plan) (base : List ℕ) → IsLinkOf words o b p base
       → IsOpeningFailed b p o.disk → Outcome words o 9 disk_failed
 
@@ -268,8 +263,8 @@ Ends words o told old new status =
     (Prints words o told old new status) ⊎ ((status ≡ 8) × PrintsPart words o told old new)
 
 -- ---- what is left of the journal, whatever the status
--- the file is left as it was found; or the disk failed while the journal was opened, and a settled
--- file kept its history; or the first requests of the script were done, and the file that is left,
+-- the file is left as it was found; or the disk failed while the journal was opened, and the file
+-- kept its history; or the first requests of the script were done, and the file that is left,
 -- and each that a crash may leave, represents the history that they lead to, or that with the first
 -- entries of the next; or a server's journal was opened, and memory ran out before any connection
 -- was accepted; or a migration was done; or one ended early, and the file keeps its history; or the

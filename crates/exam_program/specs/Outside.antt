@@ -1,6 +1,10 @@
 -- What a run finds outside, and what it leaves there.
 use Rattle.std.specs.Prelude.{◌≡◌, ℕ, Bool, IsTrue, List}
+use Rattle.bank_tables.specs.Tables.{Tables}
 use Rattle.exam_edge.specs.Images.{Account, IsImage, IsWithin, AllImages, AtEachMoment, settled, latest}
+use Rattle.exam_office.specs.Files.{IsImageOrStands, Stands}
+use Rattle.form_model.specs.Plan.{Plan}
+use Rattle.history_model.specs.declared.entry.Entry.{Entry}
 
 -- the disk of the journal: whether it reports its content, its count of faults before and after,
 -- the file that was found and the one that is left, the accounts of what a crash might leave
@@ -61,3 +65,22 @@ pub record IsUntouched (disk : DiskSeen) : Type 0 where
 -- the disk was settled: a crash would have left the file that was found, and nothing else
 abbrev pub WasSettled : DiskSeen → Type 0
 WasSettled disk = IsWithin disk.images_before (settled disk.found)
+
+-- if the disk reports its content, a file that represented a history keeps it: the file that is
+-- left represents that history, or a crash might have left it before, and so it is of each file
+-- that a crash may leave, now or at a moment since
+pub record KeepsHistory (b : Tables) (plan : Plan) (disk : DiskSeen) : Type 0 where
+  pub left : IsTrue disk.told → (H : List Entry) → Stands b plan H disk.found
+      → IsImageOrStands b plan H disk.images_before disk.left
+  pub images : IsTrue disk.told → (H : List Entry) → Stands b plan H disk.found
+      → AllImages (IsImageOrStands b plan H disk.images_before) disk.images
+  pub moments : IsTrue disk.told → (H : List Entry) → Stands b plan H disk.found
+      → AtEachMoment disk.moments_before disk.moments
+      (IsImageOrStands b plan H disk.images_before)
+
+-- the file that is left represents this history, and so does each file that a crash may leave, now
+-- or at a moment since
+pub record IsHistoryKept (b : Tables) (plan : Plan) (disk : DiskSeen) (H : List Entry) : Type 0 where
+  pub left : Stands b plan H disk.left
+  pub images : AllImages (Stands b plan H) disk.images
+  pub moments : AtEachMoment disk.moments_before disk.moments (Stands b plan H)

@@ -17,13 +17,14 @@ use Rattle.history_model.specs.Requests.{Does}
 use Rattle.exam_office.specs.declared.fault.OpenFault.{OpenFault}
 use Rattle.exam_office.specs.declared.fault.OpenFault.TheVariants as open_fault
 use Rattle.exam_office.specs.Asking.{AreGood, IsBegunBy, StandsForOne}
-use Rattle.exam_office.specs.Files.{Stands, StandsSecond}
+use Rattle.exam_office.specs.Files.{StandsSecond}
+use Rattle.exam_office.specs.Moments.{AreOpeningMoments}
 use Rattle.exam_office.specs.Opening.{IsOpenAnswer, IsReadAnswer}
 use Rattle.exam_records.specs.Shape.{IsRecord}
 use Rattle.exam_records.specs.Spelling.{payload_of}
 use Rattle.exam_program.specs.declared.halt.Halt.{Halt}
 use Rattle.exam_program.specs.declared.halt.Halt.TheVariants as halt
-use Rattle.exam_program.specs.Outside.{DiskSeen, IsUntouched, WasSettled}
+use Rattle.exam_program.specs.Outside.{DiskSeen, IsUntouched, KeepsHistory}
 
 -- why a replay ends at a reply, if it does: a limit of the plan, a fault of the disk, or memory
 abbrev pub halt_of : Plan → Reply → Option Halt
@@ -82,9 +83,17 @@ pub record IsReached (b : Tables) (plan : Plan) (base : List ℕ) (script : List
 abbrev pub IsFileOnTheWay : Tables → Plan → List ℕ → List Request → List Entry → List ℕ → Type 0
 IsFileOnTheWay b plan base script H file = StandsForOne b plan (IsReached b plan base script H) file
 
+-- the moments of a replay, from the last of those before it. While the journal was opened, each file
+-- that a crash may leave represents the history that was found, or is one that a crash might have
+-- left before. From then on it represents a history on the way of the script
+pub record AreMomentsOfReplay (b : Tables) (plan : Plan) (base : List ℕ) (disk : DiskSeen)
+    (script : List Request) (H : List Entry) : Type 0 where
+  pub opened : List Account
+  pub opening : AreOpeningMoments b plan H disk.images_before disk.moments_before opened
+  pub requests : AtEachMoment opened disk.moments (IsFileOnTheWay b plan base script H)
+
 -- a replay over a disk: the file that was found represents H by records of the second version, and
--- the one that is left has what the requests added. If the disk was settled, then at each moment of
--- the run each file that a crash may leave represents a history on the way of the script
+-- the one that is left has what the requests added; so it is at each moment
 pub record IsUnderWay (b : Tables) (plan : Plan) (base : List ℕ) (disk : DiskSeen)
     (script : List Request) (H G : List Entry)
     (rest : List Request) (replies : List Reply) : Type 0 where
@@ -92,8 +101,7 @@ pub record IsUnderWay (b : Tables) (plan : Plan) (base : List ℕ) (disk : DiskS
   pub found : IsTrue disk.told → StandsSecond b plan H disk.found
   pub left : IsTrue disk.told → IsFileOf b plan base G rest disk.left
   pub going_on : IsGoingOn b plan base script disk.told disk.images H G rest replies
-  pub moments : IsTrue disk.told → WasSettled disk
-      → AtEachMoment disk.moments_before disk.moments (IsFileOnTheWay b plan base script H)
+  pub moments : IsTrue disk.told → AreMomentsOfReplay b plan base disk script H
 
 -- ---- the limit of the journal
 -- the file represents this history by records of the second version, and has this length
@@ -137,14 +145,7 @@ pub record IsReadingRefused (b : Tables) (plan : Plan) (disk : DiskSeen)
   pub untouched : IsUntouched disk
 
 -- ---- a disk that failed while the journal was opened
--- its count of faults rose; and if it was settled, and its file represented a history, the file
--- that is left represents that history, and so does each file that a crash may leave, now or at a
--- moment since
+-- its count of faults rose, and the file keeps its history
 pub record IsOpeningFailed (b : Tables) (plan : Plan) (disk : DiskSeen) : Type 0 where
   pub rose : Rose disk.before disk.after
-  pub left : IsTrue disk.told → WasSettled disk → (H : List Entry) → Stands b plan H disk.found
-      → Stands b plan H disk.left
-  pub images : IsTrue disk.told → WasSettled disk → (H : List Entry) → Stands b plan H disk.found
-      → AllImages (Stands b plan H) disk.images
-  pub moments : IsTrue disk.told → WasSettled disk → (H : List Entry) → Stands b plan H disk.found
-      → AtEachMoment disk.moments_before disk.moments (Stands b plan H)
+  pub keeps : KeepsHistory b plan disk

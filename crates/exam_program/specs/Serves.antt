@@ -1,5 +1,5 @@
 -- What a server does, from the opening of its journal to the close of its office.
-use Rattle.std.specs.Prelude.{◌≡◌, ℕ, ◌≤◌, Bool, true, false, IsTrue, List, [], ◌∷◌, ◌++◌, length, map, Option, Some, None}
+use Rattle.std.specs.Prelude.{◌≡◌, ℕ, ◌≤◌, IsTrue, List, [], ◌∷◌, ◌++◌, length, map, Option, Some, None}
 use Rattle.bank_tables.specs.Tables.{Tables}
 use Rattle.exam_edge.specs.Images.{AllImages}
 use Rattle.form_model.specs.Plan.{Plan}
@@ -11,10 +11,12 @@ use Rattle.exam_office.specs.Marks.{history, reach, AreMarks, AreCounted}
 use Rattle.exam_office.specs.Moments.{AreMoments}
 use Rattle.exam_office.specs.Noting.{OpenedWith, NotedMark, noted, marks_of, IsDoubtOf}
 use Rattle.exam_office.specs.Writing.{IsMending}
+use Rattle.exam_serve.specs.declared.serve.End.{End}
+use Rattle.exam_serve.specs.declared.serve.End.TheVariants.{Done, Starved, DoorFailed}
 use Rattle.exam_program.specs.Bases.{IsBaseForm}
 use Rattle.command_line.specs.Commands.{Serve, command_of}
 use Rattle.exam_program.specs.Halts.{Reads}
-use Rattle.exam_program.specs.Outside.{Outside, DiskSeen, WasSettled}
+use Rattle.exam_program.specs.Outside.{Outside, DiskSeen}
 use Rattle.exam_program.specs.Texts.{disk_failed, door_failed}
 use Rattle.exam_lines.specs.Texts.{summary_text}
 use Rattle.exam_text.specs.Texts.{no_memory}
@@ -53,8 +55,9 @@ pub record AreOpening (office : OpenedWith) (found : List Entry) (opened : List 
 -- H, a legal run that begins with the one that was found; they keep the rules of marks, and have no
 -- more faults than the disk counted. The file that is left, and each that a crash may leave,
 -- represents H, or H with the one entry in doubt; with none in doubt its length is that of the last
--- mark that has one. If the disk was settled, then at each moment of the run each file that a crash
--- may leave represents the history of the marks so far, or that with the one entry in hand
+-- mark that has one. While the journal was opened, each file that a crash may leave represents the
+-- history found, or is one that a crash might have left before; at each moment since, it represents
+-- the history of the marks so far, or that with the one entry in hand
 pub record IsExamined (b : Tables) (plan : Plan) (base : List ℕ) (disk : DiskSeen)
     (opened closed : List NotedMark) (H : List Entry) : Type 0 where
   pub office : OpenedWith
@@ -75,23 +78,27 @@ pub record IsExamined (b : Tables) (plan : Plan) (base : List ℕ) (disk : DiskS
   pub length_is : IsTrue disk.told → doubt ≡ None → length disk.left ≡ reach (marks_of closed)
   pub left : IsTrue disk.told → IsMending b plan H doubt disk.left
   pub images : IsTrue disk.told → AllImages (IsMending b plan H doubt) disk.images
-  pub moments : IsTrue disk.told → WasSettled disk
+  pub moments : IsTrue disk.told
       → AreMoments b plan disk.moments_before (marks_of closed) disk.moments
 
 -- the work at the doors: the marks of the office when the journal was opened, and at the close,
--- each with what the office was opened with; and whether a door failed
+-- each with what the office was opened with; and how the work ended
 pub record WorkSeen : Type 0 where
   pub opened : List NotedMark
   pub closed : List NotedMark
-  pub failed : Bool
+  pub end : End
 
 -- what is printed after the work, with the status: the numbers of the history, or that memory for
--- them ran out, or that the disk failed; or that a door failed
-pub data IsLast (plan : Plan) (H : List Entry) : Bool → ℕ → List ℕ → Type 0 where
-  numbers : IsLast plan H false 0 (summary_text (summary plan H))
-  no_numbers : IsLast plan H false 10 no_memory
-  a_disk : IsLast plan H false 9 disk_failed
-  a_door : IsLast plan H true 14 door_failed
+-- them ran out, or that the disk failed; or that a door failed. The status of the numbers is 10 if a
+-- connection ended for lack of memory
+pub data IsLast (plan : Plan) (H : List Entry) : End → ℕ → List ℕ → Type 0 where
+  numbers : IsLast plan H Done 0 (summary_text (summary plan H))
+  no_numbers : IsLast plan H Done 10 no_memory
+  a_disk : IsLast plan H Done 9 disk_failed
+  starved_numbers : IsLast plan H Starved 10 (summary_text (summary plan H))
+  starved_no_numbers : IsLast plan H Starved 10 no_memory
+  starved_disk : IsLast plan H Starved 9 disk_failed
+  a_door : IsLast plan H DoorFailed 14 door_failed
 
 -- a server's journal was opened, connections were served, and this is printed at the end
 pub record IsServedBy (words : List (List ℕ)) (o : Outside) (work : WorkSeen) (status : ℕ)
@@ -102,4 +109,4 @@ pub record IsServedBy (words : List (List ℕ)) (o : Outside) (work : WorkSeen) 
   pub H : List Entry
   pub is : IsServeOf words o b plan base
   pub examined : IsExamined b plan base o.disk work.opened work.closed H
-  pub last : IsLast plan H work.failed status text
+  pub last : IsLast plan H work.end status text

@@ -28,15 +28,15 @@ fn drill_text(alloc: Global, number: u32, sessions: u32, summary: &Summary) -> O
     joined(alloc, first.as_bytes(), line.as_bytes())
 }
 
-/// Why a drill has no summary, as the program ends with it.
+/// Why a drill has no summary, as the program ends with it. Its journal is never full.
 fn halt_of_drill(fault: DrillFault) -> Halt
-    ensures halts { (number sessions : ℕ) → IsDrillFault number sessions fault
-        → HaltsAtDrill number sessions result }
+    requires { IsDrillFault fault }
+    ensures halts { HaltsAtDrill result }
     ensures alone { IsOfDrill result }
     ensures no_sink { result ≡ Halt.Sink → ⊥ }
 {
     match fault {
-        DrillFault::JournalFull { size, most } => Halt::JournalFull { size, most },
+        DrillFault::JournalFull { .. } => unreachable!(),
         DrillFault::Memory => Halt::Memory,
     }
 }

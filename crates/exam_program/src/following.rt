@@ -4,6 +4,7 @@ ghost use Rattle.std.specs.Prelude.{◌≡◌, ℕ, ◌≤◌, ◌⊎◌, List, 
 ghost use Rattle.answer_journal.specs.Standing.{IsAsLeft};
 ghost use Rattle.bank_tables.specs.Items.{has};
 ghost use Rattle.command_line.specs.Commands.{Follow, command_of};
+ghost use Rattle.exam_edge.specs.Allowing.{AllowsAll};
 ghost use Rattle.exam_edge.specs.Faults.{Rose};
 ghost use Rattle.exam_edge.specs.Lent.{IsLent};
 ghost use Rattle.exam_program.specs.Follows.{AreFollowed, FollowEnds, IsFollowOf};
@@ -13,6 +14,8 @@ ghost use Rattle.exam_program.specs.Outside.{Outside, disk_seen, outside};
 ghost use Rattle.exam_serve.specs.Doors.{AreLent, HasFailedDoor};
 ghost use Rattle.form_model.specs.Forms.{Meets};
 ghost use Rattle.form_model.specs.Validity.{IsPlanFor};
+ghost use Rattle.exam_office.specs.Allowing.{AllowsHistories};
+ghost use Rattle.exam_program.specs.AllowedFiles.{AllowsExams};
 
 use crate::link_ends::end_following;
 use crate::linking::ready_in;
@@ -42,6 +45,8 @@ fn follow_over<'a, R: Wait, O: Sink, D: Disk, L: Door>(
     requires base { Meets bank.now spec.now (has base.now) }
     requires home { All (λ d. L.is_out d ≡ false) doors.items }
     requires left { IsTrue (D.tells disk) → IsAsLeft (D.accounts disk) }
+    requires allows { AllowsHistories bank.now spec.now D.may_become }
+    requires allowed { AllowsAll L.Link.tells L.Link.allows }
     ensures answers { (words : List (List ℕ)) (o : Outside)
         → IsFollowOf words o bank.now spec.now base.now
         → o.disk ≡ disk_seen D.tells D.content D.accounts D.faults disk result.disk
@@ -106,6 +111,9 @@ pub(crate) fn follow<R: Wait, F: Files, O: Sink, D: Disk, L: Door>(
 ) -> Left<D, L>
     requires home { All (λ d. L.is_out d ≡ false) doors.items }
     requires left { IsTrue (D.tells disk) → IsAsLeft (D.accounts disk) }
+    requires allows { AllowsExams (F.tells files.old) (F.has files.old) (F.content files.old)
+        D.may_become }
+    requires allowed { AllowsAll L.Link.tells L.Link.allows }
     ensures answers { IsTrue (F.tells files.old) → (words : List (List ℕ))
         → command_of words ≡ Some (Follow bank.now plan.now)
         → ((result.doors ≡ doors)

@@ -1,6 +1,6 @@
 //! What the definitions imply, for all words and all files.
 
-ghost use Rattle.exam_program.specs.Laws.{PrintedTreeIsReadBack, OneTreeOfText, OnePlanOfText, CheckIsComplete, AssembleIsComplete, ReplayIsComplete, ServeIsComplete, FollowIsComplete, ShipIsComplete, AuditIsComplete, MigrateIsComplete, SeriesIsComplete, CompleteSessionsMeet, CompleteServedSessionsMeet, ListsAreKept, ServedListsAreKept};
+ghost use Rattle.exam_program.specs.Laws.{PrintedTreeIsReadBack, OneTreeOfText, OnePlanOfText, CheckIsComplete, AssembleIsComplete, ReplayIsComplete, ServeIsComplete, FollowIsComplete, ShipIsComplete, AuditIsComplete, MigrateIsComplete, SeriesIsComplete, DrillIsComplete, SettledHistoryIsKept, SettledReplayIsOnTheWay, CompleteSessionsMeet, CompleteServedSessionsMeet, ListsAreKept, ServedListsAreKept};
 
 /// A tree that is printed can be read: its digits give its bytes, and these give the tree.
 pub fn a_printed_tree_is_read_back()
@@ -61,6 +61,22 @@ pub fn migrate_is_complete()
 /// `series` by weights of the grid's points prints a series, or shows that there is none, or has spent the base budget.
 pub fn series_is_complete()
     ensures { SeriesIsComplete }
+{}
+
+/// A drill ends with status 0 or 10.
+pub fn drill_is_complete()
+    ensures { DrillIsComplete }
+{}
+
+/// On a disk that was settled, a file that keeps its history represents it, and so does each file that a crash may leave, now or
+/// at a moment since.
+pub fn settled_history_is_kept()
+    ensures { SettledHistoryIsKept }
+{}
+
+/// And at each moment of a replay over such a disk, each such file represents a history on the way of the script.
+pub fn settled_replay_is_on_the_way()
+    ensures { SettledReplayIsOnTheWay }
 {}
 
 /// The items shown in each complete session of a replay meet the plan.

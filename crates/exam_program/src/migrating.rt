@@ -11,6 +11,8 @@ ghost use Rattle.exam_program.specs.Halts.{IsBeforeJournal};
 ghost use Rattle.exam_program.specs.Migrations.{migration_halt};
 ghost use Rattle.exam_program.specs.Outcomes.{IsMigrationOf, Prints, Halts};
 ghost use Rattle.exam_program.specs.Outside.{Outside, outside, disk_seen};
+ghost use Rattle.exam_office.specs.Allowing.{AllowsHistories};
+ghost use Rattle.exam_program.specs.AllowedFiles.{AllowsExams};
 
 use crate::halt::Halt;
 use crate::output::put_text;
@@ -56,6 +58,7 @@ fn migrate_exam<O: Sink, D: Disk>(
 ) -> (D, Result<(), Halt>)
     requires plan { IsPlanFor bank.now spec.now }
     requires left { IsTrue (D.tells disk) → IsAsLeft (D.accounts disk) }
+    requires allows { AllowsHistories bank.now spec.now D.may_become }
     ensures ok { OnOk result.1 ((words : List (List ℕ)) (o : Outside)
         → IsMigrationOf words o bank.now spec.now
         → o.disk ≡ disk_seen D.tells D.content D.accounts D.faults disk result.0
@@ -91,7 +94,9 @@ pub(crate) fn migrate_journal<F: Files, O: Sink, D: Disk>(
     bank: &str,
     plan: &str,
 ) -> (D, Result<(), Halt>)
-    requires { IsTrue (D.tells disk) → IsAsLeft (D.accounts disk) }
+    requires left { IsTrue (D.tells disk) → IsAsLeft (D.accounts disk) }
+    requires allows { AllowsExams (F.tells files.old) (F.has files.old) (F.content files.old)
+        D.may_become }
     ensures ok { OnOk result.1 (IsTrue (F.tells files.old) → (words : List (List ℕ))
         → command_of words ≡ Some (Migrate bank.now plan.now)
         → Prints words (outside (F.has files.old) (F.content files.old) (F.faults files.old)

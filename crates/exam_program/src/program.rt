@@ -2,11 +2,16 @@
 
 ghost use Rattle.std.specs.Prelude.{◌≡◌, ℕ, ◌≤◌, ◌⊎◌, All, List, false, map, None, Some, OnOk, IfErr, IsTrue, string_bytes, vec_len};
 ghost use Rattle.std.specs.Option.{option_copied, option_map};
+ghost use Rattle.exam_edge.specs.Allowing.{AllowsAll};
 ghost use Rattle.exam_edge.specs.Faults.{Rose};
 ghost use Rattle.exam_edge.specs.Lent.{IsLent};
 ghost use Rattle.answer_journal.specs.Standing.{IsAsLeft};
+ghost use Rattle.exam_office.specs.declared.mark.Mark.{Mark};
+ghost use Rattle.exam_office.specs.Noting.{OpenedWith};
+ghost use Rattle.exam_serve.specs.Allowing.{AreFairDoors, IsCallerOf};
 ghost use Rattle.exam_serve.specs.Doors.{AreLent, AreServed, HasFailedDoor};
 ghost use Rattle.command_line.specs.Commands.{HasJournal, IsOfJournal, IsOfLinked, UsesDoors, IsOfDoors, IsInRange, AreInRange, command_of, said};
+ghost use Rattle.exam_program.specs.Allowing.{IsOpenedBy};
 ghost use Rattle.exam_program.specs.Halts.{IsBeforeJournal};
 ghost use Rattle.exam_program.specs.Outcomes.{Ends, Prints, Halts, LeavesJournal, IsStatus, IsStatusBefore, IsStatusOfRun};
 ghost use Rattle.exam_program.specs.Follows.{AreFollowed, FollowEnds};
@@ -14,6 +19,7 @@ ghost use Rattle.exam_program.specs.Linked.{HasFailedFirst, IsStatusOfAny, LinkL
 ghost use Rattle.exam_program.specs.Outside.{outside, disk_seen};
 ghost use Rattle.exam_program.specs.Runs.{RunEnds, RunLeaves};
 ghost use Rattle.exam_program.specs.Ships.{AreShipped, ShipEnds};
+ghost use Rattle.exam_program.specs.AllowedFiles.{AllowsExams};
 
 use crate::auditing::audit_journal;
 use crate::drilling::drill;
@@ -45,6 +51,8 @@ fn work<F: Files, O: Sink, D: Disk>(
     requires alone { UsesDoors (said command) → ⊥ }
     requires range { IsInRange (said command) }
     requires left { IsTrue (D.tells disk) → IsAsLeft (D.accounts disk) }
+    requires allows { AllowsExams (F.tells files.old) (F.has files.old) (F.content files.old)
+        D.may_become }
     ensures ok { OnOk result.1 (IsTrue (F.tells files.old) → (words : List (List ℕ))
         → command_of words ≡ Some (said command.entry)
         → Prints words (outside (F.has files.old) (F.content files.old) (F.faults files.old)
@@ -112,6 +120,8 @@ fn status_of<F: Files, O: Sink, D: Disk>(
     requires alone { IsOfDoors (option_map said command) → ⊥ }
     requires range { AreInRange (option_map said command) }
     requires left { IsTrue (D.tells disk) → IsAsLeft (D.accounts disk) }
+    requires allows { AllowsExams (F.tells files.old) (F.has files.old) (F.content files.old)
+        D.may_become }
     ensures answers { IsTrue (F.tells files.old) → (words : List (List ℕ))
         → option_map said command.entry ≡ command_of words
         → Ends words (outside (F.has files.old) (F.content files.old) (F.faults files.old)
@@ -162,6 +172,10 @@ pub fn run_alone<F: Files, O: Sink, D: Disk>(
 ) -> (u8, Tools<F, O, D>)
     requires alone { IsOfDoors (command_of (map (λ w. string_bytes w) words.now)) → ⊥ }
     requires left { IsTrue (D.tells tools.disk) → IsAsLeft (D.accounts tools.disk) }
+    // The disk allows that each history goes on. So of a run that never ends: at each moment each file that a crash may leave,
+    // and could not leave before, represents a history that goes on from that of the file as it was read before.
+    requires allows { AllowsExams (F.tells tools.files) (F.has tools.files) (F.content tools.files)
+        D.may_become }
     // If the files report their content: what is printed, and with which status. If the sink reports its content too: that this
     // is written. If the disk reports its content too: what the journal holds, and what a crash may leave of it.
     ensures answers { IsTrue (F.tells tools.files)
@@ -244,10 +258,20 @@ where
     requires few { vec_len doors ≤ 65535 }
     requires home { All (λ door. L.is_out door ≡ false) doors.items }
     requires left { IsTrue (D.tells disk) → IsAsLeft (D.accounts disk) }
+    requires allows { AllowsExams (F.tells files.old) (F.has files.old) (F.content files.old)
+        D.may_become }
+    requires fair { (office : OpenedWith) (opened : List Mark)
+        → IsOpenedBy (map (λ w. string_bytes w) words.now) (F.tells files.old) (F.has files.old)
+        (F.content files.old) (D.tells disk) (D.content disk) office opened
+        → AreFairDoors (option_copied token)
+        L.Link.tells L.Link.left L.Link.written L.Link.allows L.tells L.coming
+        (IsCallerOf office opened) doors.items }
+    requires allowed { IsOfLinked (command_of (map (λ w. string_bytes w) words.now))
+        → AllowsAll L.Link.tells L.Link.allows }
     ensures answers { IsTrue (F.tells files.old)
-        → RunEnds (λ opened closed failed. AreServed (option_copied token.entry)
+        → RunEnds (λ opened closed end. AreServed (option_copied token.entry)
         L.tells L.coming L.returned L.is_out L.faults L.identity L.Link.tells L.Link.left L.Link.written L.Link.faults L.Link.identity
-        opened closed doors.items result.doors.items failed) (result.doors ≡ doors)
+        opened closed doors.items result.doors.items end) (result.doors ≡ doors)
         (map (λ w. string_bytes w) words.now)
         (outside (F.has files.old) (F.content files.old) (F.faults files.old) (F.faults files.new)
         (disk_seen D.tells D.content D.accounts D.faults disk result.disk))
@@ -337,13 +361,30 @@ pub fn run<
     requires few { vec_len world.doors ≤ 65535 }
     requires home { All (λ door. L.is_out door ≡ false) world.doors.items }
     requires left { IsTrue (D.tells world.disk) → IsAsLeft (D.accounts world.disk) }
+    // The disk allows that each history goes on. So of a run that never ends: at each moment each file that a crash may leave,
+    // and could not leave before, represents a history that goes on from that of the file as it was read before.
+    requires allows { AllowsExams (F.tells world.files) (F.has world.files) (F.content world.files)
+        D.may_become }
+    // What a server asks of its links, and so what it promises of each byte that a client got at any moment, also of a run
+    // that never ends: it is of the responses to the client's messages, in order, each right for marks that a pass of this
+    // office's hall has seen, which begin with the history that was found. A link need allow nothing else.
+    requires fair { (office : OpenedWith) (opened : List Mark)
+        → IsOpenedBy (map (λ w. string_bytes w) words.now)
+        (F.tells world.files) (F.has world.files) (F.content world.files)
+        (D.tells world.disk) (D.content world.disk) office opened
+        → AreFairDoors (option_map (λ t. t.items) world.token)
+        L.Link.tells L.Link.left L.Link.written L.Link.allows L.tells L.coming
+        (IsCallerOf office opened) world.doors.items }
+    // A follower and a shipper ask that each text is allowed.
+    requires allowed { IsOfLinked (command_of (map (λ w. string_bytes w) words.now))
+        → AllowsAll L.Link.tells L.Link.allows }
     // If the files report their content: what is printed, and with which status; and what became of the doors. If the sink
     // reports its content too: that this is written. If the disk reports its content too: what the journal holds, and what a
     // crash may leave of it. Of a door that reports its links: that each was served, and what was written to it.
     ensures answers { IsTrue (F.tells world.files)
-        → RunEnds (λ opened closed failed. AreServed (option_map (λ t. t.items) world.token)
+        → RunEnds (λ opened closed end. AreServed (option_map (λ t. t.items) world.token)
         L.tells L.coming L.returned L.is_out L.faults L.identity L.Link.tells L.Link.left L.Link.written L.Link.faults L.Link.identity
-        opened closed world.doors.items result.doors.items failed) (result.doors ≡ world.doors)
+        opened closed world.doors.items result.doors.items end) (result.doors ≡ world.doors)
         (map (λ w. string_bytes w) words.now)
         (outside (F.has world.files) (F.content world.files) (F.faults world.files)
         (F.faults result.files)
@@ -367,9 +408,9 @@ pub fn run<
         (O.tells world.out) (O.written world.out) (O.written result.out) result.status) }
     // What is left of the journal, whatever the status.
     ensures journal { IsTrue (F.tells world.files)
-        → RunLeaves (λ opened closed failed. AreServed (option_map (λ t. t.items) world.token)
+        → RunLeaves (λ opened closed end. AreServed (option_map (λ t. t.items) world.token)
         L.tells L.coming L.returned L.is_out L.faults L.identity L.Link.tells L.Link.left L.Link.written L.Link.faults L.Link.identity
-        opened closed world.doors.items result.doors.items failed) (result.doors ≡ world.doors)
+        opened closed world.doors.items result.doors.items end) (result.doors ≡ world.doors)
         (map (λ w. string_bytes w) words.now)
         (outside (F.has world.files) (F.content world.files) (F.faults world.files)
         (F.faults result.files)

@@ -18,6 +18,7 @@ ghost use Rattle.exam_program.specs.Outside.{disk_seen};
 ghost use Rattle.exam_program.specs.Replays.{halt_of, IsFileOf};
 ghost use Rattle.exam_program.specs.Stopping.{opening_halt, IsUnprinted, IsAnswered, IsStopped, IsServed, IsUnserved, Finishes, IsReplayed, Halted};
 ghost use Rattle.exam_program.specs.Writing.{IsWritten};
+ghost use Rattle.exam_office.specs.Allowing.{AllowsHistories};
 
 use crate::halt::Halt;
 use crate::output::put;
@@ -159,6 +160,7 @@ pub(crate) fn replay<'a, O: Sink, D: Disk>(
     requires plan { IsPlanFor bank.now spec.now }
     requires base { Meets bank.now spec.now (has base.now) }
     requires left { IsTrue (D.tells disk) → IsAsLeft (D.accounts disk) }
+    requires allows { AllowsHistories bank.now spec.now D.may_become }
     ensures ok { OnOk result.1 (Finishes
         (IsReplayed bank.now spec.now base.now
         (disk_seen D.tells D.content D.accounts D.faults disk result.0) requests.now)

@@ -8,14 +8,21 @@ ghost use Rattle.exam_edge.specs.Lent.{FailsOnly, IsLent};
 ghost use Rattle.answer_journal.specs.Standing.{IsAsLeft};
 ghost use Rattle.form_model.specs.Forms.{Meets};
 ghost use Rattle.form_model.specs.Validity.{IsPlanFor};
+ghost use Rattle.exam_office.specs.declared.mark.Mark.{Mark};
+ghost use Rattle.exam_office.specs.Noting.{OpenedWith};
+ghost use Rattle.exam_serve.specs.Allowing.{AreFairDoors, IsCallerOf};
 ghost use Rattle.exam_serve.specs.Doors.{AreLent, AreServed, HasFailedDoor};
 ghost use Rattle.command_line.specs.Commands.{Serve, command_of};
+ghost use Rattle.exam_program.specs.Allowing.{AreFirstMarks};
+ghost use Rattle.exam_program.specs.Bases.{IsBaseForm};
+ghost use Rattle.exam_program.specs.Halts.{Reads};
 ghost use Rattle.exam_program.specs.Outcomes.{IsStatusBefore, IsStatusOfRun};
 ghost use Rattle.exam_program.specs.Outside.{Outside, outside, disk_seen};
-ghost use Rattle.exam_program.specs.Runs.{RunEnds, EndsWith, IsEnding, IsLastOf, IsLastWritten, IsStatusOfEnding, IsStatusOfServing};
+ghost use Rattle.exam_program.specs.Runs.{RunEnds, EndsWith, IsEnding, IsLastOf, IsLastWritten, IsOver, IsStatusOfEnding, IsStatusOfServing};
 ghost use Rattle.exam_program.specs.Texts.{disk_failed};
-ghost use Rattle.exam_serve.specs.declared.serve.End.TheVariants.{Done};
 ghost use Rattle.exam_program.specs.Serves.{IsServeOf};
+ghost use Rattle.exam_office.specs.Allowing.{AllowsHistories};
+ghost use Rattle.exam_program.specs.AllowedFiles.{AllowsExams};
 
 use crate::base::base_form;
 use crate::reading::exam_in;
@@ -41,7 +48,8 @@ pub(crate) struct Left<D, L> {
 }
 
 /// Prints how the work at the doors ended, and gives the status to end with: the numbers of the
-/// history, or that a door failed, or that memory ran out before any link was accepted.
+/// history, or that a door failed, or that memory ran out before any link was accepted. The status
+/// is not 0 if a connection ended for lack of memory.
 #[tactic(auto, unfolding(crate::specs::Texts::door_failed, exam_text::specs::Texts::no_memory))]
 fn end_with<O: Sink>(alloc: Global, out: &mut O, end: End, summary: &Summary) -> u8
     ensures printed { EndsWith (IsLastOf end summary.now) (O.tells out.old) (O.written out.old)
@@ -53,6 +61,7 @@ fn end_with<O: Sink>(alloc: Global, out: &mut O, end: End, summary: &Summary) ->
 {
     match end {
         End::Done => print_text(out, summary_line(alloc, summary), 0),
+        End::Starved => print_text(out, summary_line(alloc, summary), 10),
         End::DoorFailed => print(out, b"door failed\n", 14),
         End::Memory => print(out, b"no memory\n", 10),
     }
@@ -73,14 +82,14 @@ fn print_disk_failed<O: Sink>(out: &mut O) -> u8
 
 /// Asks the disk for its length once the work at the doors is done: a journal that was lost gives none.
 fn ask_disk<D: Disk>(disk: &mut D, end: End) -> Result<(), Failed>
-    ensures done { OnErr result (end ≡ Done) }
+    ensures done { OnErr result (IsOver end) }
     ensures failed { FailsOnly D.faults disk.old disk.new result }
     ensures content { IsTrue (D.tells disk.old) → D.content disk.new ≡ D.content disk.old }
     ensures accounts { IsTrue (D.tells disk.old) → D.accounts disk.new ≡ D.accounts disk.old }
     ensures frame { IsLent D.tells D.identity D.faults disk.old disk.new }
 {
     match end {
-        End::Done => match disk.len() {
+        End::Done | End::Starved => match disk.len() {
             Ok(_) => Ok(()),
             Err(failed) => Err(failed),
         },
@@ -141,12 +150,19 @@ where
     requires few { vec_len doors ≤ 65535 }
     requires home { All (λ d. L.is_out d ≡ false) doors.items }
     requires left { IsTrue (D.tells disk) → IsAsLeft (D.accounts disk) }
+    requires allows { AllowsHistories bank.now spec.now D.may_become }
+    requires fair { (office : OpenedWith) (opened : List Mark)
+        → office.bank ≡ bank.now → office.plan ≡ spec.now → office.base ≡ base.now
+        → AreFirstMarks (D.tells disk) (D.content disk) office opened
+        → AreFairDoors (option_copied token)
+        L.Link.tells L.Link.left L.Link.written L.Link.allows L.tells L.coming
+        (IsCallerOf office opened) doors.items }
     ensures answers { (words : List (List ℕ)) (o : Outside)
         → IsServeOf words o bank.now spec.now base.now
         → o.disk ≡ disk_seen D.tells D.content D.accounts D.faults disk result.disk
-        → RunEnds (λ opened closed failed. AreServed (option_copied token.entry)
+        → RunEnds (λ opened closed end. AreServed (option_copied token.entry)
         L.tells L.coming L.returned L.is_out L.faults L.identity L.Link.tells L.Link.left L.Link.written L.Link.faults L.Link.identity
-        opened closed doors.items result.doors.items failed) (result.doors ≡ doors)
+        opened closed doors.items result.doors.items end) (result.doors ≡ doors)
         words o (O.tells out.old) (O.written out.old) (O.written out.new) result.status }
     ensures door { result.status ≡ 14 → HasFailedDoor L.faults doors.items result.doors.items }
     ensures sink { result.status ≡ 8 → Rose (O.faults out.old) (O.faults out.new) }
@@ -208,11 +224,21 @@ where
     requires few { vec_len doors ≤ 65535 }
     requires home { All (λ d. L.is_out d ≡ false) doors.items }
     requires left { IsTrue (D.tells disk) → IsAsLeft (D.accounts disk) }
+    requires allows { AllowsExams (F.tells files.old) (F.has files.old) (F.content files.old)
+        D.may_become }
+    requires fair { (office : OpenedWith) (opened : List Mark)
+        → (IsTrue (F.tells files.old) → Reads (F.has files.old) (F.content files.old)
+        bank.now plan.now office.bank office.plan)
+        → IsBaseForm office.bank office.plan office.base
+        → AreFirstMarks (D.tells disk) (D.content disk) office opened
+        → AreFairDoors (option_copied token)
+        L.Link.tells L.Link.left L.Link.written L.Link.allows L.tells L.coming
+        (IsCallerOf office opened) doors.items }
     ensures answers { IsTrue (F.tells files.old) → (words : List (List ℕ))
         → command_of words ≡ Some (Serve bank.now plan.now)
-        → RunEnds (λ opened closed failed. AreServed (option_copied token.entry)
+        → RunEnds (λ opened closed end. AreServed (option_copied token.entry)
         L.tells L.coming L.returned L.is_out L.faults L.identity L.Link.tells L.Link.left L.Link.written L.Link.faults L.Link.identity
-        opened closed doors.items result.doors.items failed) (result.doors ≡ doors)
+        opened closed doors.items result.doors.items end) (result.doors ≡ doors)
         words (outside (F.has files.old) (F.content files.old) (F.faults files.old)
         (F.faults files.new)
         (disk_seen D.tells D.content D.accounts D.faults disk result.disk))

@@ -10,6 +10,7 @@ ghost use Rattle.exam_program.specs.Outcomes.{Prints, Halts};
 ghost use Rattle.exam_program.specs.Outside.{DiskSeen, outside, disk_seen, IsUntouched};
 ghost use Rattle.exam_program.specs.Texts.{bank_line};
 ghost use Rattle.spec_reader.specs.Canonical.{canonical};
+ghost use Rattle.exam_program.specs.AllowedFiles.{AllowsExams};
 
 use crate::base::{assembly_text, base_form};
 use crate::halt::Halt;
@@ -113,7 +114,9 @@ pub(crate) fn replay_script<F: Files, O: Sink, D: Disk>(
     plan: &str,
     script: &str,
 ) -> (D, Result<(), Halt>)
-    requires { IsTrue (D.tells disk) → IsAsLeft (D.accounts disk) }
+    requires left { IsTrue (D.tells disk) → IsAsLeft (D.accounts disk) }
+    requires allows { AllowsExams (F.tells files.old) (F.has files.old) (F.content files.old)
+        D.may_become }
     ensures ok { OnOk result.1 (IsTrue (F.tells files.old) → (words : List (List ℕ))
         → command_of words ≡ Some (Replay bank.now plan.now script.now)
         → Prints words (outside (F.has files.old) (F.content files.old) (F.faults files.old)

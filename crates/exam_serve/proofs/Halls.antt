@@ -1,16 +1,19 @@
 -- A caller stays with its hall.
-use Rattle.std.proofs.Common.{◌≡◌, inl, inr, Option, ℕ, suc, Bool, List, [], ◌∷◌, length, refl, sym, ap, ◌∙◌, arith}
+use Rattle.std.proofs.Common.{◌≡◌, inl, inr, Option, ℕ, suc, Bool, List, [], ◌∷◌, length, refl, sym, ap, ◌∙◌, subst, arith, Contains, map}
 use Rattle.std.specs.List.{All, AllZip}
-use Rattle.std.proofs.lemmas.List.Elements.{All-head, All-tail}
+use Rattle.std.proofs.lemmas.List.Elements.{All-head, All-tail, Contains-append_right}
 use Rattle.exam_workers.specs.declared.Station.{Station}
-use Rattle.exam_workers.specs.Stations.{ServesLinks, EachServes}
-use Rattle.exam_office.specs.Noting.{NotedMark}
+use Rattle.exam_workers.specs.Stations.{ServesLinks, EachServes, IsFair}
+use Rattle.exam_office.specs.Noting.{NotedMark, marks_of}
+use Rattle.turn_lock.specs.Histories.{StartsWith}
+use Rattle.exam_serve.specs.Allowing.{AreFairDoors, IsFairLink}
 use Rattle.exam_http.specs.Serving as serving
 use Rattle.exam_http.specs.Serving.{LeadsTo}
 use Rattle.exam_hall.specs.Known.{HallKnown, CallerKnown}
 use Rattle.exam_hall.specs.Probes.{Idles}
-use Rattle.exam_serve.specs.Connections.{Asks, Probes, IsConnection}
-use Rattle.exam_serve.specs.Doors.{IsNewStation, IsWorked}
+use Rattle.exam_serve.specs.Connections.{AttendantKnown, Asks, Probes, IsConnection}
+use Rattle.exam_serve.specs.Doors.{IsNewStation, IsWorked, door_of}
+use Rattle.exam_serve.proofs.Joins.{starts_through, starts_itself}
 
 leads_same : (start new : CallerKnown) → LeadsTo Asks Probes Idles start new → new.hall ≡ start.hall
 leads_same start _ serving.unchanged = refl
@@ -19,24 +22,48 @@ leads_same start _ (serving.then_probed found old new before probed) = probed.1 
 leads_same start _ (serving.then_idle old new before (inl same)) = ap (λ (c : CallerKnown). c.hall) same ∙ leads_same start old before
 leads_same start _ (serving.then_idle old new before (inr went)) = went.0 ∙ leads_same start old before
 
+-- what its pass has seen begins with what it had seen
+leads_begin : (start new : CallerKnown) → LeadsTo Asks Probes Idles start new → StartsWith (marks_of new.pass.seen) (marks_of start.pass.seen)
+leads_begin start _ serving.unchanged = starts_itself (marks_of start.pass.seen)
+leads_begin start _ (serving.then_asked request reply old new before asked) =
+    starts_through (marks_of new.pass.seen) (marks_of old.pass.seen) (marks_of start.pass.seen)
+    (starts_through (marks_of new.pass.seen) asked.0.mid.seen (marks_of old.pass.seen) asked.0.more.seen asked.0.first.seen)
+    (leads_begin start old before)
+leads_begin start _ (serving.then_probed found old new before probed) =
+    starts_through (marks_of new.pass.seen) (marks_of old.pass.seen) (marks_of start.pass.seen) probed.0.went.seen (leads_begin start old before)
+leads_begin start _ (serving.then_idle old new before (inl same)) =
+    subst (λ (c : CallerKnown). StartsWith (marks_of c.pass.seen) (marks_of start.pass.seen)) (sym same) (leads_begin start old before)
+leads_begin start _ (serving.then_idle old new before (inr went)) =
+    starts_through (marks_of new.pass.seen) (marks_of old.pass.seen) (marks_of start.pass.seen) went.1.seen (leads_begin start old before)
+
 module _ {K : Type 0} (token : Option (List ℕ)) (tells : K → Bool) (left written : K → List ℕ) (faults identity : K → ℕ) where
-  links_same : (t : CallerKnown) (given back : List K) (u : CallerKnown)
-      → ServesLinks (IsConnection token tells left written faults identity) t given back u → u.hall ≡ t.hall
-  links_same t [] [] u h = ap (λ (c : CallerKnown). c.hall) (sym h)
+  links_same : (t : AttendantKnown) (given back : List K) (u : AttendantKnown)
+      → ServesLinks (IsConnection token tells left written faults identity) t given back u → u.caller.hall ≡ t.caller.hall
+  links_same t [] [] u h = ap (λ (a : AttendantKnown). a.caller.hall) (sym h)
   links_same t [] (l ∷ back) u h = absurd h
   links_same t (k ∷ given) [] u h = absurd h
-  links_same t (k ∷ given) (l ∷ back) u h = links_same h.0 given back u h.2 ∙ leads_same t h.0 h.1.leads
+  links_same t (k ∷ given) (l ∷ back) u h = links_same h.0 given back u h.2 ∙ leads_same t.caller h.0.caller h.1.leads
+
+  links_begin : (t : AttendantKnown) (given back : List K) (u : AttendantKnown)
+      → ServesLinks (IsConnection token tells left written faults identity) t given back u → StartsWith (marks_of u.caller.pass.seen) (marks_of t.caller.pass.seen)
+  links_begin t [] [] u h =
+      subst (λ (a : AttendantKnown). StartsWith (marks_of a.caller.pass.seen) (marks_of t.caller.pass.seen)) h (starts_itself (marks_of t.caller.pass.seen))
+  links_begin t [] (l ∷ back) u h = absurd h
+  links_begin t (k ∷ given) [] u h = absurd h
+  links_begin t (k ∷ given) (l ∷ back) u h =
+      starts_through (marks_of u.caller.pass.seen) (marks_of h.0.caller.pass.seen) (marks_of t.caller.pass.seen)
+      (links_begin h.0 given back u h.2) (leads_begin t.caller h.0.caller h.1.leads)
 
 module _ {D K : Type 0} (token : Option (List ℕ)) (tells : D → Bool) (coming returned : D → List K) (is_out : D → Bool)
     (faults identity : D → ℕ) (link_tells : K → Bool) (left written : K → List ℕ) (link_faults link_identity : K → ℕ) (hall : HallKnown) (opened : List NotedMark) where
-  abbrev Links : CallerKnown → K → CallerKnown → K → Type 0
+  abbrev Links : AttendantKnown → K → AttendantKnown → K → Type 0
   Links = IsConnection token link_tells left written link_faults link_identity
 
-  abbrev Worked : Station D CallerKnown K → Station D CallerKnown K → Type 0
+  abbrev Worked : Station D AttendantKnown K → Station D AttendantKnown K → Type 0
   Worked = IsWorked token tells coming returned is_out faults identity link_tells left written link_faults link_identity hall opened
 
   -- new stations that were worked at
-  pub worked_all : (old new : List (Station D CallerKnown K)) → All (IsNewStation is_out hall opened) old → length new ≡ length old
+  pub worked_all : (old new : List (Station D AttendantKnown K)) → All (IsNewStation is_out hall opened) old → length new ≡ length old
       → EachServes tells coming returned is_out faults identity Links old new → AllZip Worked old new
   worked_all [] [] made e h = tt
   worked_all [] (b ∷ new) made e h = absurd (omega arith)
@@ -49,14 +76,36 @@ module _ {D K : Type 0} (token : Option (List ℕ)) (tells : D → Bool) (coming
           serves = works.0;
           ends = works.1;
           same_hall = links_same token link_tells left written link_faults link_identity a.token works.0.given works.0.back b.token works.0.served
-              ∙ ap (λ (c : CallerKnown). c.hall) first.token;
+              ∙ ap (λ (a : AttendantKnown). a.caller.hall) first.token;
         },
         worked_all old new (All-tail (IsNewStation is_out hall opened) a old made) (omega arith) (λ k s lt. h (suc k) s (omega arith)),
       )
 
   -- they are with the hall
-  pub all_home : (old new : List (Station D CallerKnown K)) → AllZip Worked old new → All (λ (s : Station D CallerKnown K). s.token.hall ≡ hall) new
+  pub all_home : (old new : List (Station D AttendantKnown K)) → AllZip Worked old new → All (λ (s : Station D AttendantKnown K). s.token.caller.hall ≡ hall) new
   all_home [] [] h = Rattle.std.proofs.lemmas.List.Elements.All-nil _
   all_home [] (b ∷ new) h = absurd h
   all_home (a ∷ old) [] h = absurd h
-  all_home (a ∷ old) (b ∷ new) h = Rattle.std.proofs.lemmas.List.Elements.All-cons (λ (s : Station D CallerKnown K). s.token.hall ≡ hall) b new h.0.same_hall (all_home old new h.1)
+  all_home (a ∷ old) (b ∷ new) h = Rattle.std.proofs.lemmas.List.Elements.All-cons (λ (s : Station D AttendantKnown K). s.token.caller.hall ≡ hall) b new h.0.same_hall (all_home old new h.1)
+
+  -- new stations at fair doors are fair
+  pub fair_all : (allows : K → List ℕ → Type 0) (old : List (Station D AttendantKnown K)) (doors : List D)
+      → ((door : D) → Contains (map door_of old) door → Contains doors door)
+      → AreFairDoors token link_tells left written allows tells coming
+      (λ caller. (caller.hall ≡ hall) × StartsWith (marks_of caller.pass.seen) (marks_of opened)) doors
+      → All (IsNewStation is_out hall opened) old
+      → All (IsFair tells coming Links (λ a. IsFairLink token link_tells left written allows a.caller)) old
+  fair_all allows [] doors there fair made = Rattle.std.proofs.lemmas.List.Elements.All-nil _
+  fair_all allows (a ∷ old) doors there fair made =
+      let first = All-head (IsNewStation is_out hall opened) a old made in
+      let seen : marks_of a.token.caller.pass.seen ≡ marks_of opened = ap (λ (t : AttendantKnown). marks_of t.caller.pass.seen) first.token in
+      Rattle.std.proofs.lemmas.List.Elements.All-cons (IsFair tells coming Links (λ a. IsFairLink token link_tells left written allows a.caller)) a old
+      (λ given back attendant link serves comes.
+      fair a.door link attendant.caller (there a.door (0, omega arith, refl)) comes (
+        links_same token link_tells left written link_faults link_identity a.token given back attendant serves
+            ∙ ap (λ (t : AttendantKnown). t.caller.hall) first.token,
+        subst (λ l. StartsWith (marks_of attendant.caller.pass.seen) l) seen
+            (links_begin token link_tells left written link_faults link_identity a.token given back attendant serves),
+      ))
+      (fair_all allows old doors (λ door h. there door (Contains-append_right (a.door ∷ []) (map door_of old) door h)) fair
+      (All-tail (IsNewStation is_out hall opened) a old made))

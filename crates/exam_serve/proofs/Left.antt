@@ -1,5 +1,5 @@
 -- What the work leaves of the doors.
-use Rattle.std.proofs.Common.{◌≡◌, Option, ℕ, suc, Bool, true, false, ◌||◌, List, [], ◌∷◌, map, All, subst, sym, refl, ◌∙◌, arith}
+use Rattle.std.proofs.Common.{◌≡◌, ◌⊎◌, Option, ℕ, suc, Bool, true, false, ◌||◌, List, [], ◌∷◌, map, All, subst, refl, arith}
 use Rattle.std.proofs.lemmas.Bool.{false≢true}
 use Rattle.std.specs.Prelude.{IsTrue, MatchBool}
 use Rattle.std.specs.List.{AllZip, list_any}
@@ -8,47 +8,32 @@ use Rattle.exam_edge.specs.Faults.{Rose}
 use Rattle.exam_edge.specs.Lent.{IsLent}
 use Rattle.exam_workers.specs.declared.Station.{Station}
 use Rattle.exam_office.specs.Noting.{NotedMark}
-use Rattle.exam_hall.specs.Known.{HallKnown, CallerKnown}
+use Rattle.exam_hall.specs.Known.{HallKnown}
+use Rattle.exam_serve.specs.Connections.{AttendantKnown}
 use Rattle.exam_serve.specs.declared.serve.End.{End}
-use Rattle.exam_serve.specs.declared.serve.End.TheVariants.{Done, DoorFailed, Memory}
-use Rattle.exam_serve.specs.Results.{end_of}
-use Rattle.exam_serve.specs.Doors.{AreLent, HasFailedDoor, HasNone, IsWorked, AreServed, door_of, has_failed}
-
--- work that was begun did not run out of memory
-pub not_memory : (failed : Bool) (end : End) → end ≡ end_of failed → end ≡ Memory → ⊥
-not_memory true end e is = let f : DoorFailed ≡ Memory = sym e ∙ is in cc
-not_memory false end e is = let f : Done ≡ Memory = sym e ∙ is in cc
-
-first_false : (a b : Bool) → (a || b) ≡ false → a ≡ false
-first_false true b e = e
-first_false false b e = refl
-
-rest_false : (a b : Bool) → (a || b) ≡ false → b ≡ false
-rest_false true b e = absurd (no e)
-  where
-    no : true ≡ false → ⊥
-    no e = cc
-rest_false false b e = e
+use Rattle.exam_serve.specs.declared.serve.End.TheVariants.{Done, Starved, DoorFailed}
+use Rattle.exam_serve.specs.Doors.{AreLent, HasFailedDoor, HasNone, IsWorked, AreServed, door_of, has_failed, has_starved}
+use Rattle.exam_serve.proofs.Ends.{none_failed, some_failed, first_false, rest_false}
 
 module _ {D K : Type 0} (token : Option (List ℕ)) (tells : D → Bool) (coming returned : D → List K) (is_out : D → Bool)
     (faults identity : D → ℕ) (link_tells : K → Bool) (left written : K → List ℕ) (link_faults link_identity : K → ℕ) where
-  abbrev Worked : HallKnown → List NotedMark → Station D CallerKnown K → Station D CallerKnown K → Type 0
+  abbrev Worked : HallKnown → List NotedMark → Station D AttendantKnown K → Station D AttendantKnown K → Type 0
   Worked = IsWorked token tells coming returned is_out faults identity link_tells left written link_faults link_identity
 
-  abbrev Served : List NotedMark → List NotedMark → List D → List D → Bool → Type 0
+  abbrev Served : List NotedMark → List NotedMark → List D → List D → End → Type 0
   Served = AreServed token tells coming returned is_out faults identity link_tells left written link_faults link_identity
 
   abbrev Lent : D → D → Type 0
   Lent door after = IsLent tells identity faults door after × (is_out after ≡ false)
 
   -- ---- where no door failed
-  left_of : (hall : HallKnown) (opened : List NotedMark) (a b : Station D CallerKnown K)
+  left_of : (hall : HallKnown) (opened : List NotedMark) (a b : Station D AttendantKnown K)
       → Worked hall opened a b → b.failed ≡ false → HasNone tells coming b.door
   left_of hall opened a b w e h =
       let ends = subst (λ f. MatchBool f (Rose (faults a.door) (faults b.door)) (IsTrue (tells a.door) → coming b.door ≡ [])) e w.ends in
       ends (subst (λ x. IsTrue x) w.serves.same.0 h)
 
-  all_left : (hall : HallKnown) (opened : List NotedMark) (old new : List (Station D CallerKnown K))
+  all_left : (hall : HallKnown) (opened : List NotedMark) (old new : List (Station D AttendantKnown K))
       → AllZip (Worked hall opened) old new → list_any has_failed new ≡ false → All (HasNone tells coming) (map door_of new)
   all_left hall opened [] [] w e = All-nil (HasNone tells coming)
   all_left hall opened [] (b ∷ new) w e = absurd w
@@ -58,13 +43,14 @@ module _ {D K : Type 0} (token : Option (List ℕ)) (tells : D → Bool) (coming
       (left_of hall opened a b w.0 (first_false b.failed (list_any has_failed new) e))
       (all_left hall opened old new w.1 (rest_false b.failed (list_any has_failed new) e))
 
-  pub none_left : (opened closed : List NotedMark) (doors back : List D)
-      → Served opened closed doors back false → All (HasNone tells coming) back
-  none_left opened closed doors back s =
-      subst (λ l. All (HasNone tells coming) l) s.back_are (all_left s.hall opened s.before s.after s.worked (sym s.failed_is))
+  pub done_so : (opened closed : List NotedMark) (doors back : List D) (end : End)
+      → Served opened closed doors back end → (end ≡ Done) ⊎ (end ≡ Starved) → All (HasNone tells coming) back
+  done_so opened closed doors back end s is =
+      let fine = none_failed (list_any has_failed s.after) (list_any has_starved s.after) end s.end_is is in
+      subst (λ l. All (HasNone tells coming) l) s.back_are (all_left s.hall opened s.before s.after s.worked fine)
 
   -- ---- where a door failed
-  rose_of : (hall : HallKnown) (opened : List NotedMark) (a b : Station D CallerKnown K)
+  rose_of : (hall : HallKnown) (opened : List NotedMark) (a b : Station D AttendantKnown K)
       → Worked hall opened a b → b.failed ≡ true → Rose (faults a.door) (faults b.door)
   rose_of hall opened a b w e =
       subst (λ f. MatchBool f (Rose (faults a.door) (faults b.door)) (IsTrue (tells a.door) → coming b.door ≡ [])) e w.ends
@@ -72,7 +58,7 @@ module _ {D K : Type 0} (token : Option (List ℕ)) (tells : D → Bool) (coming
   later : (a b : D) (doors back : List D) → HasFailedDoor faults doors back → HasFailedDoor faults (a ∷ doors) (b ∷ back)
   later a b doors back h = record { place = suc h.place; before = h.before; after = h.after; was = h.was; is = h.is; rose = h.rose }
 
-  any_rose : (hall : HallKnown) (opened : List NotedMark) (old new : List (Station D CallerKnown K))
+  any_rose : (hall : HallKnown) (opened : List NotedMark) (old new : List (Station D AttendantKnown K))
       → AllZip (Worked hall opened) old new → list_any has_failed new ≡ true
       → HasFailedDoor faults (map door_of old) (map door_of new)
   any_rose hall opened [] [] w e = absurd (false≢true e)
@@ -85,15 +71,16 @@ module _ {D K : Type 0} (token : Option (List ℕ)) (tells : D → Bool) (coming
       here more true is e = record { place = 0; before = a.door; after = b.door; was = refl; is = refl; rose = rose_of hall opened a b w.0 is }
       here more false is e = later a.door b.door (map door_of old) (map door_of new) (more e)
 
-  pub one_failed : (opened closed : List NotedMark) (doors back : List D)
-      → Served opened closed doors back true → HasFailedDoor faults doors back
-  one_failed opened closed doors back s =
+  pub failed_so : (opened closed : List NotedMark) (doors back : List D) (end : End)
+      → Served opened closed doors back end → end ≡ DoorFailed → HasFailedDoor faults doors back
+  failed_so opened closed doors back end s is =
+      let failed = some_failed (list_any has_failed s.after) (list_any has_starved s.after) end s.end_is is in
       subst (λ l. HasFailedDoor faults l back) s.doors_are
       (subst (λ l. HasFailedDoor faults (map door_of s.before) l) s.back_are
-      (any_rose s.hall opened s.before s.after s.worked (sym s.failed_is)))
+      (any_rose s.hall opened s.before s.after s.worked failed))
 
   -- ---- whether one failed or not
-  each_lent : (hall : HallKnown) (opened : List NotedMark) (old new : List (Station D CallerKnown K))
+  each_lent : (hall : HallKnown) (opened : List NotedMark) (old new : List (Station D AttendantKnown K))
       → AllZip (Worked hall opened) old new → AllZip Lent (map door_of old) (map door_of new)
   each_lent hall opened [] [] w = tt
   each_lent hall opened [] (b ∷ new) w = absurd w
@@ -102,22 +89,11 @@ module _ {D K : Type 0} (token : Option (List ℕ)) (tells : D → Bool) (coming
       let did = w.0.serves in
       ((record { grows = did.grows; tells = did.same.0; identity = did.same.1 }, did.home), each_lent hall opened old new w.1)
 
-  pub all_lent : (opened closed : List NotedMark) (doors back : List D) (failed : Bool)
-      → Served opened closed doors back failed → AllZip Lent doors back
-  all_lent opened closed doors back failed s =
+  pub all_lent : (opened closed : List NotedMark) (doors back : List D) (end : End)
+      → Served opened closed doors back end → AllZip Lent doors back
+  all_lent opened closed doors back end s =
       subst (λ l. AllZip Lent l back) s.doors_are
       (subst (λ l. AllZip Lent (map door_of s.before) l) s.back_are (each_lent s.hall opened s.before s.after s.worked))
-
-  -- ---- by how the work ended
-  pub done_so : (opened closed : List NotedMark) (doors back : List D) (failed : Bool) (end : End)
-      → end ≡ end_of failed → Served opened closed doors back failed → end ≡ Done → All (HasNone tells coming) back
-  done_so opened closed doors back true end e s is = absurd (let f : DoorFailed ≡ Done = sym e ∙ is in cc)
-  done_so opened closed doors back false end e s is = none_left opened closed doors back s
-
-  pub failed_so : (opened closed : List NotedMark) (doors back : List D) (failed : Bool) (end : End)
-      → end ≡ end_of failed → Served opened closed doors back failed → end ≡ DoorFailed → HasFailedDoor faults doors back
-  failed_so opened closed doors back true end e s is = one_failed opened closed doors back s
-  failed_so opened closed doors back false end e s is = absurd (let f : Done ≡ DoorFailed = sym e ∙ is in cc)
 
 -- doors that were not used
 module _ {D : Type 0} (tells is_out : D → Bool) (faults identity : D → ℕ) where

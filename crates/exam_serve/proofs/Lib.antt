@@ -1,7 +1,9 @@
 pub mod Orders
+pub mod Ends
 pub mod Halls
 pub mod Joins
 pub mod Wholes
 pub mod Notes
 pub mod Rows
 pub mod Left
+pub mod Fed

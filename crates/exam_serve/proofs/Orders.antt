@@ -1,8 +1,8 @@
 -- Lists from the other end.
-use Rattle.std.proofs.Common.{◌≡◌, List, [], ◌∷◌, ◌++◌, map, refl, sym, ap, ◌∙◌, subst, append_assoc}
+use Rattle.std.proofs.Common.{◌≡◌, List, [], ◌∷◌, ◌++◌, map, refl, sym, ap, ◌∙◌, subst, append_assoc, ⊎_elim, arith, Contains}
 use Rattle.std.specs.List.{AllZip}
 use Rattle.std.proofs.lemmas.List.{map-append, reverse-append}
-use Rattle.std.proofs.lemmas.List.Elements.{AllZip-push}
+use Rattle.std.proofs.lemmas.List.Elements.{AllZip-push, Contains-append_right, Contains-push_cases}
 use mathlib.Core.List.{reverse}
 
 pub reverse_cons : {A : Type 0} (x : A) (xs : List A) → reverse (x ∷ xs) ≡ reverse xs ++ x ∷ []
@@ -30,3 +30,11 @@ pub moved : {A : Type 0} (whole done now left : List A) (x : A) → now ≡ left
     → whole ≡ (done ++ x ∷ []) ++ reverse left
 moved whole done now left x e h =
     h ∙ ap (λ l. done ++ reverse l) e ∙ ap (λ l. done ++ l) (reverse_last x left) ∙ sym (append_assoc done (x ∷ []) (reverse left))
+
+-- what a list from the other end has, it has
+pub contains_reverse : {A : Type 0} (xs : List A) (x : A) → Contains (reverse xs) x → Contains xs x
+contains_reverse [] x h = h
+contains_reverse (a ∷ xs) x h =
+    ⊎_elim (λ last. Contains-append_right (a ∷ []) xs x (contains_reverse xs x last))
+    (λ same. subst (λ y. Contains (a ∷ xs) y) same (0, omega arith, refl))
+    (Contains-push_cases (reverse xs) a x (subst (λ l. Contains l x) (reverse_cons a xs) h))

@@ -1,3 +1,4 @@
+pub mod Allowing
 pub mod Connections
 pub mod Doors
 pub mod Joining

@@ -1,19 +1,22 @@
 //! The work of a server, from an office and doors to the office and the doors.
 
-ghost use Rattle.std.specs.Prelude.{◌≡◌, ◌≤◌, ℕ, [], List, true, false, vec_len, vec_capacity};
+ghost use Rattle.std.specs.Prelude.{◌≡◌, ◌≤◌, ◌⊎◌, ℕ, [], List, true, false, length, vec_len, vec_capacity};
 ghost use Rattle.std.specs.List.{All};
 ghost use Rattle.std.specs.Option.{option_copied};
 ghost use Rattle.exam_hall.specs.Known.{IsOf};
+ghost use Rattle.exam_office.specs.Noting.{marks_of, opened_with};
+ghost use Rattle.exam_serve.specs.Allowing.{AreFairDoors, IsCallerOf};
 ghost use Rattle.turn_lock.specs.Histories.{StartsWith};
+ghost use Rattle.turn_lock.specs.Passes.{KnowsAll, new_pass};
 ghost use Rattle.exam_serve.specs.declared.serve.End.TheVariants as end;
 ghost use Rattle.exam_serve.specs.Doors.{AreLent, AreServed, HasFailedDoor, HasNone};
 ghost use Rattle.exam_serve.specs.Results.{IsResult};
-ghost use Rattle.exam_office.specs.Noting.{opened_with};
+ghost use Rattle.exam_office.specs.Noting.{NotedMark, opened_with};
 
-use crate::connections::Connections;
-use crate::stations::{clear_stations, make_stations};
+use crate::connections::{Attendant, Connections};
+use crate::stations::{Cleared, clear_stations, make_stations};
 use exam_edge::{Disk, Door, Gate};
-use exam_hall::{Caller, Hall};
+use exam_hall::Hall;
 use exam_handler::Observer;
 use exam_office::Office;
 use exam_workers::{Station, run_workers};
@@ -28,6 +31,8 @@ use turn_lock::Pass;
 pub enum End {
     /// Each door gave no more links.
     Done,
+    /// Each door gave no more links, but a connection ended for lack of memory.
+    Starved,
     /// A door failed, and has counted that.
     DoorFailed,
     /// Out of memory, before any link was accepted.
@@ -45,10 +50,16 @@ pub struct Served<'a, D: Disk, L> {
 }
 
 /// How the work ended.
-fn end_of(failed: bool) -> End
-    ensures { result ≡ Rattle.exam_serve.specs.Results.end_of failed }
+fn end_of(cleared: Cleared) -> End
+    ensures { result ≡ Rattle.exam_serve.specs.Doors.end_of cleared.failed cleared.starved }
 {
-    if failed { End::DoorFailed } else { End::Done }
+    if cleared.failed {
+        End::DoorFailed
+    } else if cleared.starved {
+        End::Starved
+    } else {
+        End::Done
+    }
 }
 
 /// Serves the links of the doors at a hall, for messages that bear the token if there is one. There is room for a station for each door.
@@ -60,23 +71,29 @@ fn serve_at<'h, 'a, R, D, L, G>(
     token: Option<&'h [u8]>,
     pass: &mut Pass<Office<'a, D>>,
     doors: &mut Vec<L>,
-    stations: Vec<Station<L, Caller<'h, 'a, D, G>>>,
-) -> bool
+    stations: Vec<Station<L, Attendant<'h, 'a, D, G>>>,
+) -> End
 where
     R: Threads + Wait + Sync,
     D: Disk + Send,
     L: Door + Send,
     G: Gate + Observer + Sync,
     requires of { IsOf pass.old hall.now }
-    requires new { (pass.old.number ≡ 0) × (pass.old.splits ≡ 0) }
+    requires new { pass.old ≡ new_pass hall.now.lock 0 (length pass.old.seen) pass.old.seen }
     requires few { vec_len doors.old ≤ 65535 }
     requires home { All (λ d. L.is_out d ≡ false) doors.old.items }
+    requires fair { AreFairDoors (option_copied token)
+        L.Link.tells L.Link.left L.Link.written L.Link.allows L.tells L.coming
+        (λ caller. (caller.hall ≡ hall.now)
+        × StartsWith (marks_of caller.pass.seen) (marks_of pass.old.seen)) doors.old.items }
     requires empty { stations.items ≡ [] }
     requires room { vec_len doors.old ≤ vec_capacity stations }
-    ensures served { AreServed (option_copied token.entry)
+    // For the marks that are found at the close.
+    ensures served { (closed : List NotedMark) → StartsWith closed pass.new.seen
+        → KnowsAll closed pass.new → AreServed (option_copied token.entry)
         L.tells L.coming L.returned L.is_out L.faults L.identity
         L.Link.tells L.Link.left L.Link.written L.Link.faults L.Link.identity
-        pass.old.seen pass.new.seen doors.old.items doors.new.items result }
+        pass.old.seen closed doors.old.items doors.new.items result }
     ensures of { IsOf pass.new hall.now }
 {
     let mut stations = stations;
@@ -88,9 +105,9 @@ where
         busy: AtomicU32::new(0),
     };
     run_workers(rt, alloc, &mut stations, &connections);
-    let failed = clear_stations(hall, pass, doors, &mut stations);
+    let cleared = clear_stations(hall, pass, doors, &mut stations);
     stations.destroy_empty();
-    failed
+    end_of(cleared)
 }
 
 /// Serves the connections of each door over one office, which all doors share, the doors in threads of their own, until
@@ -98,8 +115,8 @@ where
 /// look at the health. At most 65,535 doors, with no link out. Where no thread can be made, the caller
 /// does that work itself. The office comes back with one list of marks, which begins with those that it had: of each door,
 /// the links that it gave were served in order on one pass, by the bank, the plan and the base form of the office, and came
-/// back to it; what a pass saw is a beginning of that list, and no mark is the own of two passes. It may wait, and ends only
-/// where each door ends.
+/// back to it; what a pass saw is a beginning of that list, no mark is the own of two passes, and each mark that was added is
+/// the own of one. It may wait, and ends only where each door ends.
 pub fn serve_doors<'a, R, D, L, G>(
     rt: &R,
     alloc: Global,
@@ -115,6 +132,11 @@ where
     G: Gate + Observer + Sync,
     requires few { vec_len doors ≤ 65535 }
     requires home { All (λ d. L.is_out d ≡ false) doors.items }
+    // So of each byte that a client got at any moment, also of a run that never ends: it is of the responses to its messages,
+    // in order, each right for marks that a pass of this office's hall has seen.
+    requires fair { AreFairDoors (option_copied token)
+        L.Link.tells L.Link.left L.Link.written L.Link.allows L.tells L.coming
+        (IsCallerOf (opened_with office) office.marks) doors.items }
     // What no call changes: the bank, the plan and the base form, which disk it is, and how that was handed in.
     ensures same { opened_with result.office ≡ opened_with office.entry }
     // The office's marks at the close begin with those that it had at first.
@@ -129,7 +151,8 @@ where
     ensures unused { result.end ≡ end.Memory
         → (result.office ≡ office.entry) × (result.doors ≡ doors) }
     // The causes of the end.
-    ensures done { result.end ≡ end.Done → All (HasNone L.tells L.coming) result.doors.items }
+    ensures done { (result.end ≡ end.Done) ⊎ (result.end ≡ end.Starved)
+        → All (HasNone L.tells L.coming) result.doors.items }
     ensures failed { result.end ≡ end.DoorFailed
         → HasFailedDoor L.faults doors.items result.doors.items }
 {
@@ -155,13 +178,9 @@ where
             };
         }
     };
-    let failed = serve_at(
+    let end = serve_at(
         rt, alloc, &hall, gate, token, &mut pass, &mut doors, stations,
     );
     let office = hall.close(rt, pass);
-    Served {
-        office,
-        doors,
-        end: end_of(failed),
-    }
+    Served { office, doors, end }
 }

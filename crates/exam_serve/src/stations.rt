@@ -1,14 +1,15 @@
 //! The stations of a hall: how each door gets one, and how its pass and its door come back.
 
-ghost use Rattle.std.specs.Prelude.{◌≡◌, ◌+◌, ◌<◌, ◌≤◌, ◌++◌, ◌∷◌, ℕ, [], List, true, false, map, vec_len, vec_capacity};
+ghost use Rattle.std.specs.Prelude.{◌≡◌, ◌+◌, ◌<◌, ◌≤◌, ◌++◌, ◌∷◌, ℕ, [], List, true, false, ◌||◌, length, map, vec_len, vec_capacity};
 ghost use Rattle.std.specs.List.{All, list_any};
 ghost use mathlib.Core.List.{reverse};
 ghost use Rattle.turn_lock.specs.Histories.{StartsWith};
 ghost use Rattle.turn_lock.specs.Passes.{TakesIn};
 ghost use Rattle.exam_hall.specs.Known.{IsOf};
-ghost use Rattle.exam_serve.specs.Doors.{IsNewStation, door_of, has_failed};
-ghost use Rattle.exam_serve.specs.Joining.{AreJoined};
+ghost use Rattle.exam_serve.specs.Doors.{IsNewStation, door_of, has_failed, has_starved};
+ghost use Rattle.exam_serve.specs.Joining.{AreJoined, IsSamePass};
 
+use crate::connections::{Attendant, either};
 use exam_edge::{Disk, Door, Gate};
 use exam_hall::{Caller, Hall};
 use exam_handler::Observer;
@@ -22,9 +23,10 @@ fn station_at<'h, 'a, D: Disk, G: Gate + Observer, L: Door>(
     gate: &'h G,
     pass: &mut Pass<Office<'a, D>>,
     door: L,
-) -> Station<L, Caller<'h, 'a, D, G>>
+) -> Station<L, Attendant<'h, 'a, D, G>>
     requires of { IsOf pass.old hall.now }
     requires first { (pass.old.number ≡ 0) × (pass.old.splits < 65535) }
+    requires start { pass.old.start ≡ length pass.old.seen }
     requires home { L.is_out door ≡ false }
     ensures door { result.door ≡ door }
     ensures made { IsNewStation L.is_out hall.now pass.old.seen result }
@@ -33,7 +35,7 @@ fn station_at<'h, 'a, D: Disk, G: Gate + Observer, L: Door>(
 {
     Station {
         door,
-        token: Caller::new(hall, gate, hall.split(pass)),
+        token: Attendant::new(Caller::new(hall, gate, hall.split(pass))),
         links: 0,
         failed: false,
     }
@@ -45,16 +47,18 @@ pub(crate) fn make_stations<'h, 'a, D: Disk, G: Gate + Observer, L: Door>(
     gate: &'h G,
     pass: &mut Pass<Office<'a, D>>,
     doors: &mut Vec<L>,
-    stations: &mut Vec<Station<L, Caller<'h, 'a, D, G>>>,
+    stations: &mut Vec<Station<L, Attendant<'h, 'a, D, G>>>,
 )
     requires of { IsOf pass.old hall.now }
     requires first { (pass.old.number ≡ 0) × (pass.old.splits + vec_len doors.old ≤ 65535) }
+    requires start { pass.old.start ≡ length pass.old.seen }
     requires home { All (λ d. L.is_out d ≡ false) doors.old.items }
     requires empty { stations.old.items ≡ [] }
     requires room { vec_len doors.old ≤ vec_capacity stations.old }
     ensures made { All (IsNewStation L.is_out hall.now pass.old.seen) stations.new.items }
     ensures doors { map door_of stations.new.items ≡ reverse doors.old.items }
     ensures none { doors.new.items ≡ [] }
+    ensures count { vec_len stations.new ≡ vec_len doors.old }
     ensures room { vec_capacity doors.new ≡ vec_capacity doors.old }
     ensures pass { pass.new ≡ record pass.old {
       splits = pass.old.splits + vec_len doors.old;
@@ -67,22 +71,43 @@ pub(crate) fn make_stations<'h, 'a, D: Disk, G: Gate + Observer, L: Door>(
     }
 }
 
-/// Joins the pass of a station, and takes its door back. Answers whether the door failed.
+/// What is told of stations that were cleared.
+#[derive(Clone, Copy)]
+pub(crate) struct Cleared {
+    /// A door failed.
+    pub failed: bool,
+    /// A connection ended for lack of memory.
+    pub starved: bool,
+}
+
+/// What is told of the stations of both.
+fn both(first: Cleared, second: Cleared) -> Cleared
+    ensures failed { result.failed ≡ (first.failed || second.failed) }
+    ensures starved { result.starved ≡ (first.starved || second.starved) }
+{
+    Cleared {
+        failed: either(first.failed, second.failed),
+        starved: either(first.starved, second.starved),
+    }
+}
+
+/// Joins the pass of a station, and takes its door back.
 fn clear_station<'h, 'a, D: Disk, G: Gate + Observer, L: Door>(
     hall: &'h Hall<'a, D>,
     pass: &mut Pass<Office<'a, D>>,
     doors: &mut Vec<L>,
-    station: Station<L, Caller<'h, 'a, D, G>>,
-) -> bool
+    station: Station<L, Attendant<'h, 'a, D, G>>,
+) -> Cleared
     requires of { IsOf pass.old hall.now }
-    requires same { station.token.hall ≡ hall.now }
+    requires same { station.token.caller.hall ≡ hall.now }
     requires room { vec_len doors.old < vec_capacity doors.old }
     ensures doors { doors.new.items ≡ doors.old.items ++ station.entry.door ∷ [] }
     ensures len { vec_len doors.new ≡ vec_len doors.old + 1 }
     ensures room { vec_capacity doors.new ≡ vec_capacity doors.old }
-    ensures joined { TakesIn pass.old station.entry.token.pass pass.new }
+    ensures joined { TakesIn pass.old station.entry.token.caller.pass pass.new }
     ensures of { IsOf pass.new hall.now }
-    ensures failed { result ≡ station.entry.failed }
+    ensures failed { result.failed ≡ station.entry.failed }
+    ensures starved { result.starved ≡ station.entry.token.starved }
 {
     let Station {
         door,
@@ -90,35 +115,41 @@ fn clear_station<'h, 'a, D: Disk, G: Gate + Observer, L: Door>(
         links: _,
         failed,
     } = station;
-    hall.join(pass, token.into_pass());
+    let (caller, starved) = token.into_parts();
+    hall.join(pass, caller.into_pass());
     doors.push_reserved(door);
-    failed
+    Cleared { failed, starved }
 }
 
 /// Joins the passes of the stations, the last station first, and takes their doors back. There is room for them.
-/// Answers whether a door failed.
 pub(crate) fn clear_stations<'h, 'a, D: Disk, G: Gate + Observer, L: Door>(
     hall: &'h Hall<'a, D>,
     pass: &mut Pass<Office<'a, D>>,
     doors: &mut Vec<L>,
-    stations: &mut Vec<Station<L, Caller<'h, 'a, D, G>>>,
-) -> bool
+    stations: &mut Vec<Station<L, Attendant<'h, 'a, D, G>>>,
+) -> Cleared
     requires of { IsOf pass.old hall.now }
-    requires same { All (λ s. s.token.hall ≡ hall.now) stations.old.items }
+    requires same { All (λ s. s.token.caller.hall ≡ hall.now) stations.old.items }
+    requires new { pass.old.mine ≡ [] }
     requires empty { doors.old.items ≡ [] }
     requires room { vec_len stations.old ≤ vec_capacity doors.old }
     ensures doors { doors.new.items ≡ map door_of (reverse stations.old.items) }
     ensures joined { AreJoined pass.new (reverse stations.old.items) }
     ensures begins { StartsWith pass.new.seen pass.old.seen }
+    ensures same { IsSamePass pass.old pass.new }
     ensures none { stations.new.items ≡ [] }
     ensures of { IsOf pass.new hall.now }
-    ensures failed { result ≡ list_any has_failed (reverse stations.old.items) }
+    ensures failed { result.failed ≡ list_any has_failed (reverse stations.old.items) }
+    ensures starved { result.starved ≡ list_any has_starved (reverse stations.old.items) }
 {
-    let mut failed = false;
+    let mut cleared = Cleared {
+        failed: false,
+        starved: false,
+    };
     for _ in 0..stations.len() {
         let station = stations.pop().unwrap();
         let now = clear_station(hall, pass, doors, station);
-        failed = failed || now;
+        cleared = both(cleared, now);
     }
-    failed
+    cleared
 }

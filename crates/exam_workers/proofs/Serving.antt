@@ -2,9 +2,11 @@
 use Rattle.std.proofs.Common.{◌≡◌, ◌⊎◌, ℕ, zero, suc, ◌+◌, ◌-◌, ◌^◌, ◌<◌, ◌≤◌, min, Bool, true, false, List, [], ◌∷◌, ◌++◌, length, refl, sym, ap, ◌∙◌, subst, inl, inr, ⊎_elim, arith, append_assoc, length-append}
 use Rattle.std.proofs.lemmas.List.{append-nil}
 use Rattle.std.specs.Bool.{IsTrue}
+use Rattle.std.specs.Prelude.{Contains}
+use Rattle.std.proofs.lemmas.List.Elements.{Contains-append_right}
 use Rattle.exam_edge.specs.Faults.{Rose, one_more}
 use Rattle.exam_workers.specs.declared.Station.{Station}
-use Rattle.exam_workers.specs.Stations.{ServesLinks, ServesLink, Serves, Ends}
+use Rattle.exam_workers.specs.Stations.{ServesLinks, ServesLink, Serves, Ends, IsFair}
 
 pub links_then : {K T : Type 0} (serves : T → K → T → K → Type 0) (t : T) (g b : List K) (u : T) (h c : List K) (v : T)
     → ServesLinks serves t g b u → ServesLinks serves u h c v → ServesLinks serves t (g ++ h) (b ++ c) v
@@ -21,6 +23,10 @@ counts_none n M le = omega arith
 
 rose_later : (a b c : ℕ) → a ≤ b → Rose b c → Rose a c
 rose_later a b c le h = omega arith
+
+-- the first link is one of them
+pub comes_first : {K : Type 0} (old new : List K) (k : K) → old ≡ k ∷ new → Contains old k
+comes_first old new k e = subst (λ l. Contains l k) (sym e) (0, omega arith, refl)
 
 module _ {D K T : Type 0} (tells : D → Bool) (coming returned : D → List K) (is_out : D → Bool) (faults identity : D → ℕ)
     (serves : T → K → T → K → Type 0) where
@@ -92,3 +98,12 @@ module _ {D K T : Type 0} (tells : D → Bool) (coming returned : D → List K) 
   pub ends_then : (old mid new : Station D T K) → Serves tells coming returned is_out faults identity serves old mid
       → Ends tells coming faults mid new → Ends tells coming faults old new
   ends_then old mid new a h = by_end old.door mid.door new.door new.failed a.same.0 a.grows h
+
+  -- the links that are still to come are fair on the token that is left
+  pub fair_then : (fair : T → K → Type 0) (old now : Station D T K) (link : K) → IsFair tells coming serves fair old
+      → Serves tells coming returned is_out faults identity serves old now
+      → (IsTrue (tells now.door) → Contains (coming now.door) link) → fair now.token link
+  fair_then fair old now link h s comes =
+      h s.given s.back now.token link s.served
+      (λ told. subst (λ l. Contains l link) (sym (s.came told))
+      (Contains-append_right s.given (coming now.door) link (comes (s.same.0 ∙ told))))

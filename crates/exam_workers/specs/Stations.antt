@@ -1,5 +1,5 @@
 -- What the workers do at the stations.
-use Rattle.std.specs.Prelude.{◌≡◌, ℕ, ◌+◌, ◌-◌, ◌^◌, ◌<◌, ◌≤◌, Bool, false, List, [], ◌∷◌, ◌++◌, length, min, IsTrue, MatchBool, slice_index_or}
+use Rattle.std.specs.Prelude.{◌≡◌, ℕ, ◌+◌, ◌-◌, ◌^◌, ◌<◌, ◌≤◌, Bool, false, List, [], ◌∷◌, ◌++◌, length, min, Contains, IsTrue, MatchBool, slice_index_or}
 use Rattle.exam_edge.specs.Faults.{Rose}
 use Rattle.exam_workers.specs.declared.Station.{Station}
 
@@ -18,6 +18,15 @@ module _ {D K T : Type 0} (tells : D → Bool) (coming : D → List K) (faults :
   abbrev pub Ends : Station D T K → Station D T K → Type 0
   Ends old new = MatchBool new.failed (Rose (faults old.door) (faults new.door))
       (IsTrue (tells old.door) → coming new.door ≡ [])
+
+module _ {D K T : Type 0} (tells : D → Bool) (coming : D → List K)
+    (serves : T → K → T → K → Type 0) (fair : T → K → Type 0) where
+  -- each link that the station's door may still give is fair, on whatever token links that were
+  -- served before it may leave
+  abbrev pub IsFair : Station D T K → Type 0
+  IsFair station = (given back : List K) (token : T) (link : K)
+      → ServesLinks serves station.token given back token
+      → (IsTrue (tells station.door) → Contains (coming station.door) link) → fair token link
 
 module _ {D K T : Type 0} (tells : D → Bool) (coming returned : D → List K) (is_out : D
     → Bool) (faults identity : D → ℕ)

@@ -4,9 +4,9 @@
 //! of what a service does with a link, and promises nothing on time.
 #![tactic(auto)]
 
-ghost use Rattle.std.specs.Prelude.{◌≡◌, ℕ, true, false, All, MatchBool, length};
+ghost use Rattle.std.specs.Prelude.{◌≡◌, ℕ, true, false, All, Contains, IsTrue, MatchBool, length};
 ghost use Rattle.std.specs.Thread.{IsSync};
-ghost use Rattle.exam_workers.specs.Stations.{ServesLink, Serves, Ends, EachServes};
+ghost use Rattle.exam_workers.specs.Stations.{ServesLink, Serves, Ends, EachServes, IsFair};
 
 use exam_edge::{Door, Link};
 use std::alloc::Global;
@@ -22,10 +22,14 @@ pub trait Service<K: Link> {
     /// What it does: of the token and the link before, and of both after.
     ghost serves: { Self → Self.Token → K → Self.Token → K → Type 0 };
 
+    /// What it asks of a link before it serves it on a token: that all is allowed that it may write.
+    ghost fair: { Self → Self.Token → K → Type 0 };
+
     /// Serves one link to its end. That threads may share `rt` is a clause too: a method of an impl doesn't know it by the
     /// bound.
     fn serve<R: Wait + Sync>(&self, rt: &R, alloc: Global, token: &mut Self::Token, link: &mut K)
-        requires { IsSync R.row }
+        requires shared { IsSync R.row }
+        requires fair { fair self.now token.old link.old }
         ensures { serves self.now token.old link.old token.new link.new };
 }
 
@@ -50,6 +54,9 @@ fn serve_next<L: Door, S: Service<L::Link>, R: Wait + Sync>(
     service: &S,
 ) -> bool
     requires home { L.is_out station.old.door ≡ false }
+    requires fair { (link : L.Link)
+        → (IsTrue (L.tells station.old.door) → Contains (L.coming station.old.door) link)
+        → S.fair service.now station.old.token link }
     ensures serves { Serves L.tells L.coming L.returned L.is_out L.faults L.identity
         (S.serves service.now) station.old station.new }
     ensures ends { MatchBool result
@@ -81,6 +88,7 @@ fn serve_link<L: Door, S: Service<L::Link>, R: Wait + Sync>(
     link: L::Link,
 )
     requires out { L.is_out station.old.door ≡ true }
+    requires fair { S.fair service.now station.old.token link }
     ensures served { ServesLink L.tells L.coming L.returned L.is_out L.faults L.identity
         (S.serves service.now) station.old link station.new }
 {
@@ -99,6 +107,8 @@ fn work<L: Door, S: Service<L::Link>, R: Wait + Sync>(
     service: &S,
 )
     requires home { L.is_out station.old.door ≡ false }
+    requires fair { IsFair L.tells L.coming (S.serves service.now) (S.fair service.now)
+        station.old }
     ensures serves { Serves L.tells L.coming L.returned L.is_out L.faults L.identity
         (S.serves service.now) station.old station.new }
     ensures ends { Ends L.tells L.coming L.faults station.old station.new }
@@ -113,8 +123,8 @@ fn work<L: Door, S: Service<L::Link>, R: Wait + Sync>(
 }
 
 /// Serves the links of each station, the stations in threads of their own, until each door gives no more or fails. No
-/// link of a station's door may be out before. Where no thread can be made, the caller does that work itself, one
-/// station after another.
+/// link of a station's door may be out before, and each link that it may give has to be fair. Where no thread can be made,
+/// the caller does that work itself, one station after another.
 pub fn run_workers<L: Door + Send, S: Service<L::Link> + Sync, R: Threads + Wait + Sync>(
     rt: &R,
     alloc: Global,
@@ -122,6 +132,8 @@ pub fn run_workers<L: Door + Send, S: Service<L::Link> + Sync, R: Threads + Wait
     service: &S,
 )
     requires home { All (λ s. L.is_out s.door ≡ false) stations.old }
+    requires fair { All (IsFair L.tells L.coming (S.serves service.now) (S.fair service.now))
+        stations.old }
     ensures length { length stations.new ≡ length stations.old }
     ensures each { EachServes L.tells L.coming L.returned L.is_out L.faults L.identity
         (S.serves service.now) stations.old stations.new }
@@ -135,7 +147,9 @@ pub fn run_workers<L: Door + Send, S: Service<L::Link> + Sync, R: Threads + Wait
         stations,
         count,
         &|_: usize, station: &mut Station<L, S::Token>|
-            requires { L.is_out station.now.door ≡ false }
+            requires { (L.is_out station.now.door ≡ false)
+                × IsFair L.tells L.coming (S.serves service.now) (S.fair service.now)
+                station.now }
             ensures { Serves L.tells L.coming L.returned L.is_out L.faults L.identity
                 (S.serves service.entry.now) station.entry.now station.exit.now
                 × Ends L.tells L.coming L.faults station.entry.now station.exit.now }

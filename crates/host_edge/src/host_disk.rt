@@ -1,10 +1,11 @@
 //! The journal's file of the host, as a disk.
 
-ghost use Rattle.std.specs.Prelude.{◌≡◌, ◌≤◌, [], Ok, None, false, is_ok, length, IsErr, IfOk, IfErr, OnErr, Some};
+ghost use Rattle.std.specs.Prelude.{◌≡◌, ◌≤◌, [], Ok, None, false, is_ok, length, string_bytes, IsErr, IfOk, IfErr, OnErr, Some};
 ghost use Rattle.exam_edge.specs.Faults.{Rose};
 ghost use Rattle.exam_edge.specs.ImageLaws.{is_its_image};
 ghost use Rattle.host_edge.specs.FaultCount.{count_of, cause_of, IsCounted};
-ghost use Rattle.host_edge.specs.HostDisk.{faults_of};
+ghost use Rattle.host_edge.specs.HostDisk.{access_of, faults_of, path_of};
+ghost use Rattle.host_edge.specs.declared.journal_file.Access.TheVariants as access;
 
 use crate::closing::Closing;
 use crate::fault_count::FaultCount;
@@ -34,6 +35,8 @@ impl HostDisk {
     pub fn of(rt: HostRuntime, path: String) -> HostDisk
         ensures count { count_of (faults_of result) ≡ 0 }
         ensures cause { cause_of (faults_of result) ≡ None }
+        ensures file { (path_of result ≡ string_bytes path)
+            × (access_of result ≡ access.WriteOrMake) }
     {
         HostDisk::over(JournalFile::of(rt, path, Access::WriteOrMake), None)
     }
@@ -42,6 +45,8 @@ impl HostDisk {
     pub fn to_serve(rt: HostRuntime, path: String, closing: Closing) -> HostDisk
         ensures count { count_of (faults_of result) ≡ 0 }
         ensures cause { cause_of (faults_of result) ≡ None }
+        ensures file { (path_of result ≡ string_bytes path)
+            × (access_of result ≡ access.WriteOrMake) }
     {
         HostDisk::over(
             JournalFile::of(rt, path, Access::WriteOrMake),
@@ -54,6 +59,8 @@ impl HostDisk {
     pub fn to_read(rt: HostRuntime, path: String) -> HostDisk
         ensures count { count_of (faults_of result) ≡ 0 }
         ensures cause { cause_of (faults_of result) ≡ None }
+        ensures file { (path_of result ≡ string_bytes path)
+            × (access_of result ≡ access.Read) }
     {
         HostDisk::over(JournalFile::of(rt, path, Access::Read), None)
     }
@@ -62,6 +69,8 @@ impl HostDisk {
     pub fn to_change(rt: HostRuntime, path: String) -> HostDisk
         ensures count { count_of (faults_of result) ≡ 0 }
         ensures cause { cause_of (faults_of result) ≡ None }
+        ensures file { (path_of result ≡ string_bytes path)
+            × (access_of result ≡ access.Write) }
     {
         HostDisk::over(JournalFile::of(rt, path, Access::Write), None)
     }
@@ -69,6 +78,7 @@ impl HostDisk {
     fn over(file: JournalFile, closing: Option<Closing>) -> HostDisk
         ensures count { count_of (faults_of result) ≡ 0 }
         ensures cause { cause_of (faults_of result) ≡ None }
+        ensures file { result.file ≡ file }
     {
         HostDisk {
             file,
@@ -130,6 +140,8 @@ impl Disk for HostDisk {
     ghost content = { λ d. [] };
 
     ghost accounts = { λ d. [] };
+
+    ghost may_become = { λ before file. Unit {0} };
 
     ghost aside = { λ d. [] };
 

@@ -221,6 +221,8 @@ impl Link for HostLink {
 
     ghost written = { λ l. [] };
 
+    ghost allows = { λ l text. Unit {0} };
+
     ghost faults = { λ l. count_of (faults_of l) };
 
     ghost identity = { λ l. 0 };

@@ -1,6 +1,6 @@
 //! The journal's file, and what is done with it.
 
-ghost use Rattle.std.specs.Prelude.{◌≤◌, length, IfOk};
+ghost use Rattle.std.specs.Prelude.{◌≡◌, ◌≤◌, length, IfOk};
 
 use crate::again::read_at_again;
 use crate::cut_tail::{Tail, keep_tail, tail_of};
@@ -157,7 +157,10 @@ fn opened<'f>(
 
 impl JournalFile {
     /// The file of this path, which is not opened yet.
-    pub fn of(rt: HostRuntime, path: String, access: Access) -> JournalFile {
+    pub fn of(rt: HostRuntime, path: String, access: Access) -> JournalFile
+        ensures path { result.path ≡ path }
+        ensures access { result.access ≡ access }
+    {
         JournalFile {
             rt,
             path,

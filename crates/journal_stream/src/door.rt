@@ -1,5 +1,6 @@
 //! The door of a stream.
 ghost use Rattle.std.specs.Prelude.{◌≡◌, ◌≤◌, true, false, IsTrue};
+ghost use Rattle.exam_edge.specs.Allowing.{AllowsAll};
 ghost use Rattle.exam_edge.specs.Faults.{Rose};
 ghost use Rattle.record_doors.specs.Doors.{TakesBack};
 ghost use Rattle.record_links.specs.Streaming.{IsGrown};
@@ -39,7 +40,8 @@ fn stream_out<G: GrowingLog, L: Door, R: Wait>(
     door: &mut L,
     link: L::Link,
 ) -> Followed
-    requires { L.is_out door.old ≡ true }
+    requires out { L.is_out door.old ≡ true }
+    requires allowed { AllowsAll L.Link.tells L.Link.allows }
     ensures streamed { (back : L.Link)
         × TakesBack L.tells L.coming L.returned L.is_out L.faults L.identity door.old door.new back
         × IsStreamedLink L.Link.tells L.Link.left L.Link.written L.Link.faults L.Link.identity
@@ -61,7 +63,8 @@ fn stream_next<G: GrowingLog, L: Door, R: Wait>(
     log: &mut G,
     door: &mut L,
 ) -> Next
-    requires { L.is_out door.old ≡ false }
+    requires home { L.is_out door.old ≡ false }
+    requires allowed { AllowsAll L.Link.tells L.Link.allows }
     ensures next { Continues L.tells L.coming L.returned L.is_out L.faults L.identity
         L.Link.tells L.Link.left L.Link.written L.Link.faults L.Link.identity
         (G.tells log.old) (G.records log.old) door.old door.new (G.records log.new) result }
@@ -89,7 +92,8 @@ pub fn stream_door<G: GrowingLog, L: Door, R: Wait>(
     log: &mut G,
     door: &mut L,
 ) -> DoorEnd
-    requires { L.is_out door.old ≡ false }
+    requires home { L.is_out door.old ≡ false }
+    requires allowed { AllowsAll L.Link.tells L.Link.allows }
     ensures streamed { IsStreamedDoor L.tells L.coming L.returned L.is_out L.faults L.identity
         L.Link.tells L.Link.left L.Link.written L.Link.faults L.Link.identity
         (G.tells log.old) (G.records log.old) door.old door.new (G.records log.new) result }

@@ -7,7 +7,7 @@ use Rattle.history_model.specs.declared.refusal.Refusal.{Refusal}
 use Rattle.history_model.specs.declared.refusal.Refusal.TheVariants.{NoSession, WrongStep, Other, BadResponse, IsClosed, Stale, OtherList, NoItem, SessionsFull, NoForm, NoneFound, JournalFull, Disk, Memory}
 use Rattle.branch_bound.specs.Assembled.{Assembly}
 use Rattle.exam_office.specs.declared.mark.Mark.{Mark}
-use Rattle.exam_office.specs.declared.mark.Mark.TheVariants.{Own, Fault}
+use Rattle.exam_office.specs.declared.mark.Mark.TheVariants.{Fault}
 use Rattle.exam_office.specs.Marks.{history}
 use Rattle.exam_office.specs.Running.{Running}
 use Rattle.exam_office.specs.Writing.{IsMended, IsSameOffice, IsUnmended}

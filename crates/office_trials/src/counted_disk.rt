@@ -49,6 +49,8 @@ impl<D: Disk> Disk for CountedDisk<D> {
 
     ghost accounts = { λ d. D.accounts d.disk };
 
+    ghost may_become = { D.may_become };
+
     ghost aside = { λ d. D.aside d.disk };
 
     ghost faults = { λ d. D.faults d.disk };

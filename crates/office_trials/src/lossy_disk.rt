@@ -121,6 +121,8 @@ impl Disk for LossyDisk {
 
     ghost accounts = { λ d. [] };
 
+    ghost may_become = { λ before file. Unit {0} };
+
     ghost aside = { λ d. [] };
 
     ghost faults = { λ d. d.faults };

@@ -1,5 +1,6 @@
 //! The first of several doors.
 ghost use Rattle.std.specs.Prelude.{◌≡◌, ◌≤◌, All, false, length};
+ghost use Rattle.exam_edge.specs.Allowing.{AllowsAll};
 ghost use Rattle.exam_edge.specs.Faults.{Rose};
 ghost use Rattle.record_doors.specs.Doors.{IsFirstOnly, IsFollowedDoor, IsShippedDoor};
 ghost use Rattle.record_links.specs.declared.followed.Followed.TheVariants.{Disk};
@@ -18,7 +19,8 @@ pub fn follow_first<F: Replica, L: Door, R: Wait>(
     replica: &mut F,
     doors: &mut [L],
 ) -> DoorEnd
-    requires { All (λ door. L.is_out door ≡ false) doors.old }
+    requires home { All (λ door. L.is_out door ≡ false) doors.old }
+    requires allowed { AllowsAll L.Link.tells L.Link.allows }
     ensures followed { IsFirstOnly (λ door after.
         IsFollowedDoor L.tells L.coming L.returned L.is_out L.faults L.identity
         L.Link.tells L.Link.left L.Link.written L.Link.faults L.Link.identity
@@ -42,7 +44,8 @@ pub fn follow_first<F: Replica, L: Door, R: Wait>(
 
 /// Ships records over one link of the first door. No door counts as one that gives no link. No link of a door may be out before.
 pub fn ship_first<S: RecordLog, L: Door>(alloc: Global, log: &mut S, doors: &mut [L]) -> DoorEnd
-    requires { All (λ door. L.is_out door ≡ false) doors.old }
+    requires home { All (λ door. L.is_out door ≡ false) doors.old }
+    requires allowed { AllowsAll L.Link.tells L.Link.allows }
     ensures shipped { IsFirstOnly (λ door after.
         IsShippedDoor L.tells L.coming L.returned L.is_out L.faults L.identity
         L.Link.tells L.Link.left L.Link.written L.Link.faults L.Link.identity

@@ -1,5 +1,6 @@
 //! The door of a follower.
 ghost use Rattle.std.specs.Prelude.{◌≡◌, ◌≤◌, true, false};
+ghost use Rattle.exam_edge.specs.Allowing.{AllowsAll};
 ghost use Rattle.exam_edge.specs.Faults.{Rose};
 ghost use Rattle.record_doors.specs.Doors.{IsFollowedDoor, Continues, TakesBack, IsNextOf};
 ghost use Rattle.record_doors.specs.Links.{IsFollowedLink};
@@ -30,7 +31,8 @@ fn follow_out<F: Replica, L: Door, R: Wait>(
     door: &mut L,
     link: L::Link,
 ) -> Followed
-    requires { L.is_out door.old ≡ true }
+    requires out { L.is_out door.old ≡ true }
+    requires allowed { AllowsAll L.Link.tells L.Link.allows }
     ensures followed { (back : L.Link)
         × TakesBack L.tells L.coming L.returned L.is_out L.faults L.identity door.old door.new back
         × IsFollowedLink L.Link.tells L.Link.left L.Link.written L.Link.faults L.Link.identity
@@ -55,7 +57,8 @@ fn follow_next<F: Replica, L: Door, R: Wait>(
     replica: &mut F,
     door: &mut L,
 ) -> Next
-    requires { L.is_out door.old ≡ false }
+    requires home { L.is_out door.old ≡ false }
+    requires allowed { AllowsAll L.Link.tells L.Link.allows }
     ensures next { Continues L.tells L.coming L.returned L.is_out L.faults L.identity
         L.Link.tells L.Link.left L.Link.written L.Link.faults L.Link.identity
         (F.may_follow replica.old) (F.size replica.old) (F.limit replica.old)
@@ -85,7 +88,8 @@ pub fn follow_door<F: Replica, L: Door, R: Wait>(
     replica: &mut F,
     door: &mut L,
 ) -> DoorEnd
-    requires { L.is_out door.old ≡ false }
+    requires home { L.is_out door.old ≡ false }
+    requires allowed { AllowsAll L.Link.tells L.Link.allows }
     ensures followed { IsFollowedDoor L.tells L.coming L.returned L.is_out L.faults L.identity
         L.Link.tells L.Link.left L.Link.written L.Link.faults L.Link.identity
         (F.may_follow replica.old) (F.size replica.old) (F.limit replica.old)

@@ -1,5 +1,6 @@
 //! The door of a shipper.
 ghost use Rattle.std.specs.Prelude.{◌≡◌, ◌≤◌, true, false};
+ghost use Rattle.exam_edge.specs.Allowing.{AllowsAll};
 ghost use Rattle.exam_edge.specs.Faults.{Rose};
 ghost use Rattle.record_doors.specs.Doors.{IsShippedDoor, TakesBack};
 ghost use Rattle.record_doors.specs.Links.{IsShippedLink};
@@ -16,7 +17,8 @@ fn ship_out<S: RecordLog, L: Door>(
     door: &mut L,
     link: L::Link,
 ) -> Followed
-    requires { L.is_out door.old ≡ true }
+    requires out { L.is_out door.old ≡ true }
+    requires allowed { AllowsAll L.Link.tells L.Link.allows }
     ensures shipped { (back : L.Link)
         × TakesBack L.tells L.coming L.returned L.is_out L.faults L.identity door.old door.new back
         × IsShippedLink L.Link.tells L.Link.left L.Link.written L.Link.faults L.Link.identity
@@ -35,7 +37,8 @@ fn ship_out<S: RecordLog, L: Door>(
 
 /// Takes one link of a door, ships records over it, and gives it back. No link of the door may be out before.
 pub fn ship_door<S: RecordLog, L: Door>(alloc: Global, log: &mut S, door: &mut L) -> DoorEnd
-    requires { L.is_out door.old ≡ false }
+    requires home { L.is_out door.old ≡ false }
+    requires allowed { AllowsAll L.Link.tells L.Link.allows }
     ensures shipped { IsShippedDoor L.tells L.coming L.returned L.is_out L.faults L.identity
         L.Link.tells L.Link.left L.Link.written L.Link.faults L.Link.identity
         (S.tells log.old) (S.records log.old) door.old door.new result }

@@ -1,5 +1,6 @@
 //! The follower's side of a link.
 ghost use Rattle.std.specs.Prelude.{◌≡◌, ◌≤◌, ◌++◌, List, ℕ, IsTrue};
+ghost use Rattle.exam_edge.specs.Allowing.{AllowsAll};
 ghost use Rattle.exam_edge.specs.Faults.{Rose};
 ghost use Rattle.exam_edge.specs.Lent.{IsLent};
 ghost use Rattle.record_links.specs.Messages.{bytes_of, offer_of, IsPayload};
@@ -24,7 +25,8 @@ fn take_offer<F: Replica, K: Link>(
     number: u64,
     payload: &[u8],
 ) -> Turn
-    requires { IsPayload payload.now }
+    requires payload { IsPayload payload.now }
+    requires allowed { AllowsAll K.tells K.allows }
     ensures moves { Moves (F.may_follow replica.old) (F.size replica.old) (F.limit replica.old)
         (F.held replica.old) (offer_of number payload.now) (F.held replica.new) result }
     ensures answers { IsTrue (K.tells link.old) → (text : List ℕ)
@@ -61,6 +63,7 @@ fn take_message<F: Replica, K: Link>(
     link: &mut K,
     kept: &mut Kept,
 ) -> Turn
+    requires { AllowsAll K.tells K.allows }
     ensures steps { Steps (F.may_follow replica.old) (F.size replica.old) (F.limit replica.old)
         (F.held replica.old) (F.held replica.new) result }
     ensures turns { IsTrue (K.tells link.old) → (text : List ℕ)
@@ -97,6 +100,7 @@ fn follow_all<F: Replica, K: Link, R: Wait>(
     link: &mut K,
     kept: &mut Kept,
 ) -> Followed
+    requires { AllowsAll K.tells K.allows }
     ensures moved { IsMoved (F.may_follow replica.old) (F.size replica.old) (F.limit replica.old)
         (F.held replica.old) (F.held replica.new) result }
     ensures followed { IsTrue (K.tells link.old) → (text : List ℕ)
@@ -130,6 +134,7 @@ pub fn follow_link<F: Replica, K: Link, R: Wait>(
     link: &mut K,
 ) -> Followed
     // Whether the link tells its bytes or not.
+    requires { AllowsAll K.tells K.allows }
     ensures moved { IsMoved (F.may_follow replica.old) (F.size replica.old) (F.limit replica.old)
         (F.held replica.old) (F.held replica.new) result }
     ensures followed { IsTrue (K.tells link.old) → (text : List ℕ)

@@ -1,5 +1,6 @@
 //! The leader's side of a link.
 ghost use Rattle.std.specs.Prelude.{◌≡◌, ◌≢◌, ◌<◌, ◌≤◌, ◌++◌, List, ℕ, IsTrue, length};
+ghost use Rattle.exam_edge.specs.Allowing.{AllowsAll};
 ghost use Rattle.exam_edge.specs.Faults.{Rose};
 ghost use Rattle.exam_edge.specs.Lent.{IsLent};
 ghost use Rattle.record_links.specs.Messages.{bytes_of};
@@ -16,7 +17,8 @@ use std::alloc::Global;
 
 // Writes the offer of a record.
 fn send_offer<S: RecordLog, K: Link>(alloc: Global, log: &mut S, link: &mut K, number: u64) -> Turn
-    requires { number < length (S.records log.old) }
+    requires number { number < length (S.records log.old) }
+    requires allowed { AllowsAll K.tells K.allows }
     ensures sends { IsTrue (S.tells log.old) → IsTrue (K.tells link.old) → (text : List ℕ)
         × (K.written link.new ≡ K.written link.old ++ text)
         × Sends (S.records log.old) number text result }
@@ -56,6 +58,7 @@ fn ship_message<S: RecordLog, K: Link>(
     link: &mut K,
     kept: &mut Kept,
 ) -> Turn
+    requires { AllowsAll K.tells K.allows }
     ensures turns { IsTrue (S.tells log.old) → IsTrue (K.tells link.old) → (text : List ℕ)
         × (K.written link.new ≡ K.written link.old ++ text)
         × Turns (S.records log.old) (bytes_of kept.old ++ K.left link.old) text
@@ -97,6 +100,7 @@ fn ship_message<S: RecordLog, K: Link>(
 /// Ships the records that a follower asks for, until it has all of them: writes the offer of each record whose number comes in a
 /// have, and the end after the have of their count. It reads at most two haves for each record, and one more.
 pub fn ship_link<S: RecordLog, K: Link>(alloc: Global, log: &mut S, link: &mut K) -> Followed
+    requires { AllowsAll K.tells K.allows }
     ensures shipped { IsTrue (S.tells log.old) → IsTrue (K.tells link.old) → (text : List ℕ)
         × (K.written link.new ≡ K.written link.old ++ text)
         × IsShipped (S.records log.old) (K.left link.old) text result }

@@ -1,6 +1,7 @@
 //! The leader's side of a link while its records grow.
 ghost use Rattle.std.specs.Prelude.{◌≡◌, ◌⊎◌, ◌+◌, ◌≤◌, ◌++◌, List, ℕ, IsTrue, IfOk, IfErr, Some, slice_get};
 ghost use Rattle.std.specs.Option.{ForSome};
+ghost use Rattle.exam_edge.specs.Allowing.{AllowsAll};
 ghost use Rattle.exam_edge.specs.Faults.{Rose};
 ghost use Rattle.exam_edge.specs.Lent.{IsLent};
 ghost use Rattle.record_links.specs.Messages.{bytes_of, IsPayload};
@@ -96,6 +97,7 @@ fn send_next<G: GrowingLog, K: Link, R: Wait>(
     link: &mut K,
     number: u64,
 ) -> Turn
+    requires { AllowsAll K.tells K.allows }
     ensures answers { IsTrue (G.tells log.old) → IsTrue (K.tells link.old) → (text : List ℕ)
         × (K.written link.new ≡ K.written link.old ++ text)
         × Answers (G.records log.new) number text result }
@@ -131,6 +133,7 @@ fn stream_message<G: GrowingLog, K: Link, R: Wait>(
     link: &mut K,
     kept: &mut Kept,
 ) -> Turn
+    requires { AllowsAll K.tells K.allows }
     ensures turns { IsTrue (G.tells log.old) → IsTrue (K.tells link.old) → (text : List ℕ)
         × (K.written link.new ≡ K.written link.old ++ text)
         × Turns (G.records log.new) (bytes_of kept.old ++ K.left link.old) text
@@ -162,6 +165,7 @@ pub fn stream_link<G: GrowingLog, K: Link, R: Wait>(
     log: &mut G,
     link: &mut K,
 ) -> Followed
+    requires { AllowsAll K.tells K.allows }
     ensures streamed { IsTrue (G.tells log.old) → IsTrue (K.tells link.old) → (text : List ℕ)
         × (K.written link.new ≡ K.written link.old ++ text)
         × IsStreamed (G.records log.old) (G.records log.new) (K.left link.old) text result }

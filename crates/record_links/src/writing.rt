@@ -1,5 +1,6 @@
 //! How messages are written.
 ghost use Rattle.std.specs.Prelude.{◌≡◌, ◌++◌, List, ℕ, IsTrue, IfOk, OnErr, OnOk};
+ghost use Rattle.exam_edge.specs.Allowing.{AllowsAll};
 ghost use Rattle.exam_edge.specs.Lent.{IsLent, FailsOnly};
 ghost use Rattle.record_links.specs.Messages.{IsCutOff, IsPayload, have_text, offer_text};
 
@@ -8,6 +9,7 @@ use std::alloc::{AllocError, Global};
 
 /// Writes a whole text. `Failed` where the link's count of faults rose; a part of the text was written then.
 pub(crate) fn write_all<K: Link>(link: &mut K, text: &[u8]) -> Result<(), Failed>
+    requires { AllowsAll K.tells K.allows }
     ensures whole { OnOk result (IsTrue (K.tells link.old)
         → K.written link.new ≡ K.written link.old ++ text.now) }
     ensures part { OnErr result (IsTrue (K.tells link.old) → (part : List ℕ)
@@ -36,6 +38,7 @@ fn have_bytes(count: u64) -> [u8; 9]
 
 /// Writes a have.
 pub(crate) fn write_have<K: Link>(link: &mut K, count: u64) -> Result<(), Failed>
+    requires { AllowsAll K.tells K.allows }
     ensures whole { OnOk result (IsTrue (K.tells link.old)
         → K.written link.new ≡ K.written link.old ++ have_text count) }
     ensures part { OnErr result (IsTrue (K.tells link.old) → (part : List ℕ)

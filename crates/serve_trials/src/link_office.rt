@@ -1,6 +1,7 @@
 //! What a client gets from an office of one thread on bank A.
 
 ghost use Rattle.answer_journal.specs.Standing.{IsAsLeft};
+ghost use Rattle.exam_edge.specs.Allowing.{AllowsAll};
 ghost use Rattle.exam_edge.specs.MemoryDisk.{accounts_of};
 ghost use Rattle.form_model.specs.Validity.{IsPlanFor};
 
@@ -28,7 +29,9 @@ fn serve_in<R: Wait + Sync, K: Link>(
     office: Office<MemoryDisk>,
     token: Option<&[u8]>,
     link: &mut K,
-) -> Ended {
+) -> Ended
+    requires allows { AllowsAll K.tells K.allows }
+{
     let mut alone = Alone { office };
     let busy = AtomicU32::new(1);
     let ended = serve_connection(rt, alloc, &mut alone, link, token, &busy);
@@ -49,6 +52,7 @@ fn serve_over<R: Wait + Sync, K: Link>(
 ) -> Option<Ended>
     requires plan { IsPlanFor bank.now spec.now }
     requires left { IsAsLeft (accounts_of disk) }
+    requires allows { AllowsAll K.tells K.allows }
 {
     let base = spec.base()?;
     match Office::open(alloc, bank, spec, base, disk) {
@@ -65,7 +69,8 @@ fn serve_on<R: Wait + Sync, K: Link>(
     token: Option<&[u8]>,
     link: &mut K,
 ) -> Result<Option<Ended>, Fail>
-    requires { IsAsLeft (accounts_of disk) }
+    requires left { IsAsLeft (accounts_of disk) }
+    requires allows { AllowsAll K.tells K.allows }
 {
     match planned(alloc, &EVEN) {
         Ok((bank, spec)) => Ok(serve_over(rt, alloc, &bank, &spec, disk, token, link)),
@@ -74,7 +79,9 @@ fn serve_on<R: Wait + Sync, K: Link>(
 }
 
 // The same over an empty disk, with no token.
-fn serve<R: Wait + Sync, K: Link>(rt: &R, alloc: Global, link: &mut K) -> Result<Ended, Fail> {
+fn serve<R: Wait + Sync, K: Link>(rt: &R, alloc: Global, link: &mut K) -> Result<Ended, Fail>
+    requires { AllowsAll K.tells K.allows }
+{
     match serve_on(rt, alloc, empty_disk(alloc), None, link)? {
         Some(ended) => Ok(ended),
         None => Err(Fail::from("not opened")),

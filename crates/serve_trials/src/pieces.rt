@@ -27,6 +27,8 @@ impl<K: Link> Link for Pieces<K> {
 
     ghost written = { λ s. K.written s.link };
 
+    ghost allows = { λ s. K.allows s.link };
+
     ghost faults = { λ s. K.faults s.link };
 
     ghost identity = { λ s. K.identity s.link };

@@ -50,7 +50,7 @@ fn run<R: Wait>(rt: &R, turn: &Turn<Numbers>, pass: Pass<Numbers>) -> (Pass<Numb
 }
 
 fn lock_of(alloc: Global) -> Option<(Turn<Numbers>, Pass<Numbers>)>
-    ensures { IfSome result (λ r. r.1 ≡ new_pass r.0 0 []) }
+    ensures { IfSome result (λ r. r.1 ≡ new_pass r.0 0 0 []) }
 {
     let items = Vec::new(alloc);
     Turn::new(alloc, Numbers { items }).ok()

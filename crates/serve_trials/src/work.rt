@@ -3,6 +3,7 @@
 ghost use Rattle.std.specs.Prelude.{◌≡◌, ◌≤◌, false, vec_len, IfOk};
 ghost use Rattle.std.specs.List.{All};
 ghost use Rattle.answer_journal.specs.Standing.{IsAsLeft};
+ghost use Rattle.exam_edge.specs.Allowing.{AllowsAll};
 ghost use Rattle.exam_edge.specs.MemoryDisk.{accounts_of};
 ghost use Rattle.exam_edge.specs.MemoryDoor.{out_of};
 ghost use Rattle.form_model.specs.Validity.{IsPlanFor};
@@ -127,6 +128,7 @@ fn serve_over<'a, L: Door + Send + Drop, G: Gate + Observer + Sync, R: Threads +
     requires plan { IsPlanFor bank.now spec.now }
     requires few { vec_len doors ≤ 65535 }
     requires home { All (λ d. L.is_out d ≡ false) doors.items }
+    requires allows { AllowsAll L.Link.tells L.Link.allows }
 {
     match opened(alloc, bank, spec, empty_disk(alloc)) {
         Ok(office) => worked_by(
@@ -147,6 +149,7 @@ pub(crate) fn serve_bank_a<
 >(rt: &R, alloc: Global, doors: Vec<L>, gate: &G) -> Result<Worked<L>, Fail>
     requires few { vec_len doors ≤ 65535 }
     requires home { All (λ d. L.is_out d ≡ false) doors.items }
+    requires allows { AllowsAll L.Link.tells L.Link.allows }
 {
     match planned(alloc, &EVEN) {
         Ok((bank, spec)) => serve_over(rt, alloc, &bank, &spec, doors, gate),

@@ -19,6 +19,8 @@ impl<K: Link> Service<K> for Count {
 
     ghost serves = { λ _ t k u l. u ≡ (t + 1) % 2 ^ 64 };
 
+    ghost fair = { λ _ t k. Unit {0} };
+
     fn serve<R: Wait + Sync>(&self, _rt: &R, _alloc: Global, token: &mut u64, _link: &mut K) {
         *token = token.wrapping_add(1);
     }

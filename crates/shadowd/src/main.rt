@@ -6,18 +6,23 @@
 //! on a journal that is to be migrated first.
 #![tactic(auto)]
 
-ghost use Rattle.std.specs.Prelude.{◌≡◌, ◌≤◌, All, false, vec_len, IfOk};
+ghost use Rattle.std.specs.Prelude.{◌≡◌, ◌≤◌, All, codes, false, map, string_bytes, vec_len, IfOk};
 ghost use Rattle.std.specs.Process.{exit_status};
+ghost use Rattle.command_line.specs.Commands.{IsOfDoors, command_of};
+ghost use Rattle.host_edge.specs.HostDisk.{access_of, path_of};
 ghost use Rattle.host_edge.specs.HostDoor.{out_of};
+ghost use Rattle.shadowd.specs.Environment.{access_for, begins_with};
 
 mod records;
 mod settings;
 mod streaming;
+mod variables;
 mod watch;
 
 use answer_journal::Journal;
-use command_line::VERSION;
-use exam_program::{Finish, World, run};
+use command_line::{VERSION, command_of};
+use exam_edge::Memory;
+use exam_program::{Finish, Tools, World, run, run_alone};
 use host_edge::{Closing, HostDisk, HostDoor, HostFiles, HostSink};
 use records::{LONGEST, tell_records};
 use settings::{Settings, SettingsFault};
@@ -29,6 +34,7 @@ use std::sync::Wait;
 use std::time::Duration;
 use std::{env, io};
 use streaming::stream_journal;
+use variables::HostVariables;
 use watch::Watch;
 
 /// The status of a server whose token no message can bear.
@@ -59,36 +65,55 @@ fn words_of(rt: &HostRuntime) -> io::Result<Vec<String>> {
     }
 }
 
+/// Whether the first word is this one.
+fn begin_with(words: &[String], name: &str) -> bool
+    ensures { result ≡ begins_with name.now (map (λ w. string_bytes w) words.now) }
+{
+    match words.first() {
+        Some(word) => word.as_str() == name,
+        None => false,
+    }
+}
+
 /// Whether the words ask for connections.
-fn ask_for_connections(words: &[String]) -> bool {
-    words.first().is_some_and(|word| word.as_str() == "serve")
+fn ask_for_connections(words: &[String]) -> bool
+    ensures { result ≡ begins_with (codes "serve") (map (λ w. string_bytes w) words.now) }
+{
+    begin_with(words, "serve")
 }
 
 /// Whether the words ask to follow a leader.
 fn ask_to_follow(words: &[String]) -> bool {
-    words.first().is_some_and(|word| word.as_str() == "follow")
+    begin_with(words, "follow")
 }
 
 /// Whether the words ask to ship to a follower.
-fn ask_to_ship(words: &[String]) -> bool {
-    words.first().is_some_and(|word| word.as_str() == "ship")
+fn ask_to_ship(words: &[String]) -> bool
+    ensures { result ≡ begins_with (codes "ship") (map (λ w. string_bytes w) words.now) }
+{
+    begin_with(words, "ship")
 }
 
 /// Whether the words ask for sessions, of a script or of connections, or for records of sessions.
 fn ask_for_sessions(words: &[String]) -> bool {
-    words.first().is_some_and(|word| word.as_str() == "replay" || word.as_str() == "serve")
+    begin_with(words, "replay")
+        || ask_for_connections(words)
         || ask_to_follow(words)
         || ask_to_ship(words)
 }
 
 /// Whether the words ask for an audit.
-fn ask_for_audit(words: &[String]) -> bool {
-    words.first().is_some_and(|word| word.as_str() == "audit")
+fn ask_for_audit(words: &[String]) -> bool
+    ensures { result ≡ begins_with (codes "audit") (map (λ w. string_bytes w) words.now) }
+{
+    begin_with(words, "audit")
 }
 
 /// Whether the words ask to move a journal.
-fn ask_for_move(words: &[String]) -> bool {
-    words.first().is_some_and(|word| word.as_str() == "migrate")
+fn ask_for_move(words: &[String]) -> bool
+    ensures { result ≡ begins_with (codes "migrate") (map (λ w. string_bytes w) words.now) }
+{
+    begin_with(words, "migrate")
 }
 
 /// Whether the words ask for the version of the program, and nothing else.
@@ -115,7 +140,10 @@ fn disk_of(
     words: &[String],
     settings: &Settings,
     closing: &Closing,
-) -> Result<HostDisk, AllocError> {
+) -> Result<HostDisk, AllocError>
+    ensures { IfOk result (λ disk. (path_of disk ≡ string_bytes settings.now.journal)
+        × (access_of disk ≡ access_for (map (λ w. string_bytes w) words.now))) }
+{
     let path = settings.journal.clone()?;
     if ask_for_audit(words) {
         Ok(HostDisk::to_read(rt.clone()?, path))
@@ -236,7 +264,8 @@ fn begin(rt: &HostRuntime) -> Result<(Settings, Vec<String>, HostWorld, Watch), 
     ensures home { IfOk result (λ begun. All (λ d. out_of d ≡ false) begun.2.doors.items) }
 {
     let words = words_of(rt).map_err(|_| SettingsFault::Memory)?;
-    let mut settings = Settings::of(rt, ask_for_connections(&words))?;
+    let variables = HostVariables { rt };
+    let mut settings = Settings::of(rt, &variables, ask_for_connections(&words))?;
     let closing = Closing::new(rt.alloc())?;
     let (listener, address) = listener_of(rt, &words, &settings)?;
     let doors = doors_of(rt, &words, &settings, &closing, listener.as_ref())?;
@@ -308,6 +337,48 @@ fn explain_version(
     }
 }
 
+/// Whether the words ask for a command that takes links: to serve, to follow or to ship.
+fn take_links(rt: &HostRuntime, words: &[String]) -> Result<bool, Memory>
+    ensures { IfOk result (λ take. take ≡ false
+        → IsOfDoors (command_of (map (λ w. string_bytes w) words.now)) → ⊥) }
+{
+    match command_of(rt.alloc(), words)? {
+        Some(command) => Ok(command.uses_doors()),
+        None => Ok(false),
+    }
+}
+
+/// Does a command that takes no links. It waits for nobody, and ends.
+fn run_unlinked(rt: &HostRuntime, words: &[String], world: HostWorld) -> HostFinish
+    requires { IsOfDoors (command_of (map (λ w. string_bytes w) words.now)) → ⊥ }
+{
+    let World {
+        files,
+        out,
+        disk,
+        doors,
+        gate: _,
+        token: _,
+    } = world;
+    let (status, tools) = run_alone(rt.alloc(), words, Tools { files, out, disk });
+    let Tools { files, out, disk } = tools;
+    Finish {
+        status,
+        files,
+        out,
+        disk,
+        doors,
+    }
+}
+
+/// Prints a line, and gives the status to end with.
+fn print_end(rt: &HostRuntime, line: &str, status: u8) -> ExitCode {
+    match println!(rt; "{line}") {
+        Ok(()) => ExitCode::from(status),
+        Err(_) => ExitCode::from(NO_OUTPUT),
+    }
+}
+
 /// The process ends with the status of the program.
 fn exit_code(finish: HostFinish) -> ExitCode
     ensures { exit_status result ≡ finish.status }
@@ -332,7 +403,7 @@ fn end_before(rt: &HostRuntime, fault: SettingsFault) -> ExitCode {
             );
             ExitCode::from(NO_TOKEN)
         }
-        SettingsFault::Memory => ExitCode::from(NO_MEMORY),
+        SettingsFault::Memory => print_end(rt, "no memory", NO_MEMORY),
     }
 }
 
@@ -349,7 +420,7 @@ fn stream<R: Wait>(waiting: &R, rt: &HostRuntime, settings: Settings) -> ExitCod
     } = settings;
     match stream_journal(waiting, rt, journal, listen, follower) {
         Ok(code) => code,
-        Err(_) => ExitCode::from(NO_MEMORY),
+        Err(_) => print_end(rt, "no memory", NO_MEMORY),
     }
 }
 
@@ -364,7 +435,11 @@ fn main(rt: HostRuntime) -> ExitCode {
     if ask_for_stream(&words) {
         return stream(&rt, &rt, settings);
     }
-    let mut finish = run(&rt, rt.alloc(), &words, world);
+    let mut finish = match take_links(&rt, &words) {
+        Ok(true) => run(&rt, rt.alloc(), &words, world),
+        Ok(false) => run_unlinked(&rt, &words, world),
+        Err(Memory) => return print_end(&rt, "no memory", NO_MEMORY),
+    };
     watch.tell_end();
     explain(&rt, &words, &settings, &finish);
     explain_version(&rt, &words, &settings, &mut finish);

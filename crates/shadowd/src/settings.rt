@@ -1,10 +1,11 @@
 //! What the environment sets.
 
-ghost use Rattle.std.specs.Prelude.{◌≡◌, ◌≤◌, IfOk, IfSome};
+ghost use Rattle.std.specs.Prelude.{◌≡◌, ◌≤◌, ◌⊎◌, ◌^◌, ◌-◌, ◌==◌, [], nat_le, ◌&&◌, IfOk, IsTrue, Some, None, codes, length, string_bytes, if◌then◌else◌};
+ghost use Rattle.std.specs.Option.{option_map};
+ghost use Rattle.shadowd.specs.Environment.{AreSettings, IsNumberIn, IsNumberOr, Writes, token_of, value_or};
 
-use std::alloc::AllocError;
-use std::env;
-use std::env::VarError;
+use crate::variables::{NoText, Variables};
+use std::alloc::{AllocError, Global};
 
 /// Where the journal is, how `serve` and `follow` listen, and where `ship` finds its follower.
 #[derive(Drop)]
@@ -46,12 +47,20 @@ impl From<AllocError> for SettingsFault {
 
 // The value of a variable, else this. A value that isn't UTF-8 counts as empty: it names no file
 // and no address.
-fn value_or(rt: &HostRuntime, name: &str, default: &str) -> Result<String, AllocError> {
-    match env::var(rt, name) {
-        Ok(value) => Ok(value),
-        Err(VarError::NotPresent) => String::from_str(rt.alloc(), default),
-        Err(VarError::NotUnicode) => Ok(String::new(rt.alloc())),
-        Err(VarError::OutOfMemory) => Err(AllocError),
+fn value_or<V: Variables>(
+    alloc: Global,
+    variables: &V,
+    name: &str,
+    default: &str,
+) -> Result<String, AllocError>
+    ensures { IsTrue (V.tells variables.now) → IfOk result (λ text.
+        string_bytes text ≡ value_or (V.value variables.now name.now) default.now) }
+{
+    match variables.get(name) {
+        Ok(Some(value)) => Ok(value),
+        Ok(None) => String::from_str(alloc, default),
+        Err(NoText::Bytes) => Ok(String::new(alloc)),
+        Err(NoText::Memory) => Err(AllocError),
     }
 }
 
@@ -78,11 +87,23 @@ const IDLE: Bounds = Bounds {
 
 // The number of a variable, where it is within these bounds. Any other value counts as not set.
 fn number_in(text: &str, bounds: &Bounds) -> Option<u64>
-    ensures { IfSome result (λ n. (bounds.now.least ≤ n) × (n ≤ bounds.now.most)) }
+    ensures { Writes bounds.now.least bounds.now.most text.now result }
 {
+    let (least, most) = (bounds.least, bounds.most);
     match text.parse::<u64>() {
-        Ok(number) if bounds.least <= number && number <= bounds.most => Some(number),
-        _ => None,
+        Ok(number) => number_within(number, least, most),
+        Err(_) => None,
+    }
+}
+
+// The number, where it is within these bounds.
+fn number_within(number: u64, least: u64, most: u64) -> Option<u64>
+    ensures found { result ≡ (if (nat_le least number && nat_le number most) then Some number else None) }
+{
+    if least <= number && number <= most {
+        Some(number)
+    } else {
+        None
     }
 }
 
@@ -96,11 +117,20 @@ fn tell_unset(rt: &HostRuntime, name: &str, text: &str, bounds: &Bounds) {
 
 // The number of a variable, else what stands for it. If `tells`, a value that counts as not set has
 // a line on standard error.
-fn number_or(rt: &HostRuntime, name: &str, bounds: &Bounds, tells: bool) -> Result<u64, AllocError>
+fn number_or<V: Variables>(
+    rt: &HostRuntime,
+    variables: &V,
+    name: &str,
+    bounds: &Bounds,
+    tells: bool,
+) -> Result<u64, AllocError>
     requires { (bounds.now.least ≤ bounds.now.default) × (bounds.now.default ≤ bounds.now.most) }
-    ensures { IfOk result (λ n. (bounds.now.least ≤ n) × (n ≤ bounds.now.most)) }
+    ensures range { IfOk result (λ n. (bounds.now.least ≤ n) × (n ≤ bounds.now.most)) }
+    ensures number { IsTrue (V.tells variables.now) → IfOk result (λ n.
+        IsNumberOr bounds.now.least bounds.now.most bounds.now.default
+        (value_or (V.value variables.now name.now) []) n) }
 {
-    let text = value_or(rt, name, "")?;
+    let text = value_or(rt.alloc(), variables, name, "")?;
     let found = number_in(text.as_str(), bounds);
     if tells && found.is_none() && !text.is_empty() {
         tell_unset(rt, name, text.as_str(), bounds);
@@ -109,13 +139,20 @@ fn number_or(rt: &HostRuntime, name: &str, bounds: &Bounds, tells: bool) -> Resu
 }
 
 // The number of connections of a worker, if there is one.
-fn connections_of(rt: &HostRuntime, tells: bool) -> Result<Option<u64>, AllocError> {
+fn connections_of<V: Variables>(
+    rt: &HostRuntime,
+    variables: &V,
+    tells: bool,
+) -> Result<Option<u64>, AllocError>
+    ensures { IsTrue (V.tells variables.now) → IfOk result (λ found. Writes 0 (2 ^ 64 - 1)
+        (value_or (V.value variables.now (codes "SHADOWD_CONNECTIONS")) []) found) }
+{
     let any = Bounds {
         least: 0,
         most: u64::MAX,
         default: 0,
     };
-    let text = value_or(rt, "SHADOWD_CONNECTIONS", "")?;
+    let text = value_or(rt.alloc(), variables, "SHADOWD_CONNECTIONS", "")?;
     let found = number_in(text.as_str(), &any);
     if tells && found.is_none() && !text.is_empty() {
         tell_unset(rt, "SHADOWD_CONNECTIONS", text.as_str(), &any);
@@ -130,14 +167,17 @@ fn is_fit(token: &str) -> bool {
 
 // The token of SHADOWD_TOKEN. There is none where it is not set, or empty. No other value counts as
 // not set: a server is not to run without the token that was asked for.
-fn token_of(rt: &HostRuntime) -> Result<Option<Vec<u8>>, SettingsFault> {
-    match env::var(rt, "SHADOWD_TOKEN") {
-        Ok(token) if token.is_empty() => Ok(None),
-        Ok(token) if is_fit(token.as_str()) => Ok(Some(token.into_bytes())),
-        Ok(_) => Err(SettingsFault::Token),
-        Err(VarError::NotPresent) => Ok(None),
-        Err(VarError::NotUnicode) => Err(SettingsFault::Token),
-        Err(VarError::OutOfMemory) => Err(SettingsFault::Memory),
+fn token_of<V: Variables>(variables: &V) -> Result<Option<Vec<u8>>, SettingsFault>
+    ensures { IsTrue (V.tells variables.now) → IfOk result (λ token. option_map (λ t. t.items) token
+        ≡ token_of (value_or (V.value variables.now (codes "SHADOWD_TOKEN")) [])) }
+{
+    match variables.get("SHADOWD_TOKEN") {
+        Ok(Some(token)) if token.is_empty() => Ok(None),
+        Ok(Some(token)) if is_fit(token.as_str()) => Ok(Some(token.into_bytes())),
+        Ok(Some(_)) => Err(SettingsFault::Token),
+        Ok(None) => Ok(None),
+        Err(NoText::Bytes) => Err(SettingsFault::Token),
+        Err(NoText::Memory) => Err(SettingsFault::Memory),
     }
 }
 
@@ -145,15 +185,23 @@ impl Settings {
     /// The values of SHADOWD_JOURNAL, SHADOWD_LISTEN, SHADOWD_FOLLOWER, SHADOWD_WORKERS, SHADOWD_IDLE
     /// and SHADOWD_CONNECTIONS, or what stands for them. To serve, a number that counts as not set has a
     /// line on standard error, and there is the token of SHADOWD_TOKEN.
-    pub fn of(rt: &HostRuntime, serves: bool) -> Result<Settings, SettingsFault> {
+    pub fn of<V: Variables>(
+        rt: &HostRuntime,
+        variables: &V,
+        serves: bool,
+    ) -> Result<Settings, SettingsFault>
+        ensures { IsTrue (V.tells variables.now)
+            → IfOk result (λ s. AreSettings (V.value variables.now) serves s) }
+    {
+        let alloc = rt.alloc();
         Ok(Settings {
-            journal: value_or(rt, "SHADOWD_JOURNAL", "shadowd.journal")?,
-            listen: value_or(rt, "SHADOWD_LISTEN", "127.0.0.1:4710")?,
-            follower: value_or(rt, "SHADOWD_FOLLOWER", "127.0.0.1:4711")?,
-            workers: number_or(rt, "SHADOWD_WORKERS", &WORKERS, serves)? as u8,
-            idle: number_or(rt, "SHADOWD_IDLE", &IDLE, serves)?,
-            connections: connections_of(rt, serves)?,
-            token: if serves { token_of(rt)? } else { None },
+            journal: value_or(alloc, variables, "SHADOWD_JOURNAL", "shadowd.journal")?,
+            listen: value_or(alloc, variables, "SHADOWD_LISTEN", "127.0.0.1:4710")?,
+            follower: value_or(alloc, variables, "SHADOWD_FOLLOWER", "127.0.0.1:4711")?,
+            workers: number_or(rt, variables, "SHADOWD_WORKERS", &WORKERS, serves)? as u8,
+            idle: number_or(rt, variables, "SHADOWD_IDLE", &IDLE, serves)?,
+            connections: connections_of(rt, variables, serves)?,
+            token: if serves { token_of(variables)? } else { None },
         })
     }
 }

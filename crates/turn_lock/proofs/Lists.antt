@@ -50,7 +50,7 @@ module _ {A : Type 0} where
   pub starts_itself : (a : List A) → StartsWith a a
   starts_itself a = ([], sym (append-nil a))
 
-  nothing_more : (r : List A) → length r ≡ 0 → r ≡ []
+  pub nothing_more : (r : List A) → length r ≡ 0 → r ≡ []
   nothing_more [] e = refl
   nothing_more (x ∷ r) e = absurd (omega arith)
 

@@ -9,7 +9,7 @@ use Rattle.atomic_table.proofs.Lists.{at_set, set_else, at_longer}
 use Rattle.std.proofs.lemmas.Bool.{true≢false}
 use Rattle.turn_lock.specs.declared.view.View.{View}
 use Rattle.turn_lock.proofs.Lists.{at_end}
-use Rattle.turn_lock.specs.Rule.{Each, Pairs, Fits, AreApart, IsPlaced, Holds, tickets_of, one_ticket}
+use Rattle.turn_lock.specs.Rule.{Each, Pairs, Fits, AreApart, IsPlaced, AreInTurn, AreAllThere, IsSince, IsOwned, passes_in, tickets_of, one_ticket}
 
 module _ {A : Type 0} where
   pub at_again : (l : List A) (i : ℕ) (a b : A) → get_elem? l i ≡ some a → get_elem? (set l i b) i ≡ some b
@@ -60,7 +60,7 @@ few_waits v = by_ticket v.ticket
 
 module _ {V E : Type 0} (history : V → List E) where
   -- the rule after a step that sets one view
-  abbrev pub holds_set : (s : State (Option V) (View E)) (h : Holds history s) (id : ℕ) (v w : View E) → get_elem? s.views id ≡ some v
+  abbrev pub holds_set : (s : State (Option V) (View E)) (h : AreInTurn history s) (id : ℕ) (v w : View E) → get_elem? s.views id ≡ some v
       → (words : List ℕ) (homes : List (mathlib.Core.Option.Option (Option V))) (log : List E) (from to : ℕ)
       → length words ≡ 3 → slice_index words 0 ≡ to % 2 ^ 64 → slice_index words 1 ≡ from % 2 ^ 64 → slice_index words 2 ≡ length log
       → to + h.from + tickets_of v ≡ from + h.to + tickets_of w
@@ -69,7 +69,7 @@ module _ {V E : Type 0} (history : V → List E) where
       → ((j : ℕ) (u : View E) → j ≢ id → get_elem? s.views j ≡ some u → Fits h.log h.from h.to j u → Fits log from to j u)
       → ((j : ℕ) (u : View E) → j ≢ id → get_elem? s.views j ≡ some u → AreApart w u)
       → IsPlaced history log (record { words = words; homes = homes; views = set s.views id w })
-      → Holds history (record { words = words; homes = homes; views = set s.views id w })
+      → AreInTurn history (record { words = words; homes = homes; views = set s.views id w })
   holds_set s h id v w at words homes log from to long ticket serving count busy alive mine others apart place = record {
     log = log;
     from = from;
@@ -93,7 +93,7 @@ module _ {V E : Type 0} (history : V → List E) where
   }
 
   -- tickets less than 2 ^ 64 apart
-  pub near : (s : State (Option V) (View E)) (h : Holds history s) → h.to ≤ h.from + 65536
+  pub near : (s : State (Option V) (View E)) (h : AreInTurn history s) → h.to ≤ h.from + 65536
   near s h = let t = total_le tickets_of s.views few_waits in omega (arith, h.busy, h.few)
 
   -- the value stays where it is, where the view that is set is out neither before nor after
@@ -132,7 +132,7 @@ module _ {V E : Type 0} (history : V → List E) where
   ]
 
   -- the value is at home where the ticket of a view that isn't out is served
-  pub at_home : (s : State (Option V) (View E)) (h : Holds history s) (id : ℕ) (v : View E) → get_elem? s.views id ≡ some v
+  pub at_home : (s : State (Option V) (View E)) (h : AreInTurn history s) (id : ℕ) (v : View E) → get_elem? s.views id ≡ some v
       → v.out ≡ false → v.ticket ≡ Some h.from
       → (x : V) × (s.homes ≡ some (Some x) ∷ []) × (history x ≡ h.log) × Each (λ _ u. u.out ≡ false) s.views
   at_home s h id v at inside served = elim h.place [
@@ -146,7 +146,7 @@ module _ {V E : Type 0} (history : V → List E) where
   ]
 
   -- no other view is out where this one's ticket is served
-  pub nobody_else : (s : State (Option V) (View E)) (h : Holds history s) (id : ℕ) (v : View E) → get_elem? s.views id ≡ some v
+  pub nobody_else : (s : State (Option V) (View E)) (h : AreInTurn history s) (id : ℕ) (v : View E) → get_elem? s.views id ≡ some v
       → v.ticket ≡ Some h.from
       → (j : ℕ) (u : View E) → j ≢ id → get_elem? s.views j ≡ some u → u.served ≡ true → ⊥
   nobody_else s h id v at served j u ne e too = (h.pairs id j v u (λ k. ne (sym k)) at e).tickets h.from served ((h.each j u e).served too)

@@ -1,5 +1,5 @@
 -- What holds of the lock's table between any two steps.
-use Rattle.std.specs.Prelude.{◌≡◌, ◌⊎◌, ◌≢◌, ℕ, ◌+◌, ◌%◌, ◌^◌, ◌<◌, ◌≤◌, true, false, List, [], ◌∷◌, length, slice_index, sum_by, Option, Some, None}
+use Rattle.std.specs.Prelude.{◌≡◌, ◌⊎◌, ◌≢◌, ℕ, ◌+◌, ◌%◌, ◌^◌, ◌<◌, ◌≤◌, true, false, if◌then◌else◌, List, [], ◌∷◌, length, slice_index, sum_by, Option, Some, None, Contains}
 use mathlib.Core.Option.{none, some}
 use lib.ListN.{get_elem?}
 use Rattle.atomic_table.specs.Table.{State}
@@ -40,6 +40,26 @@ pub record AreApart {E : Type 0} (v w : View E) : Type 0 where
   pub tickets : (t : ℕ) → v.ticket ≡ Some t → w.ticket ≡ Some t → ⊥
   pub places : AreDisjoint v.mine w.mine
 
+-- a pass and those joined into it; none where it was joined into another
+abbrev pub passes_in : {E : Type 0} → View E → ℕ
+passes_in v = if v.live then 1 + v.joined else 0
+
+-- one view of a lock that was made at a history of `start` entries: it has seen these, and has a ticket only while it is live
+pub record IsSince {E : Type 0} (start id : ℕ) (v : View E) : Type 0 where
+  pub began : v.live ≡ true → (v.start ≡ start) × (start ≤ length v.seen)
+  pub alive : (t : ℕ) → v.ticket ≡ Some t → v.live ≡ true
+
+-- the place is the own of a live view
+abbrev pub IsOwned : {E : Type 0} → List (View E) → ℕ → Type 0
+IsOwned {E} views place = (id : ℕ) × (v : View E) × (get_elem? views id ≡ some v) × (v.live ≡ true) × Contains v.mine place
+
+-- no pass and no entry is lost: each view was joined into a live one, or is live, and each entry after the start is the own of one
+pub record AreAllThere {E : Type 0} (log : List E) (views : List (View E)) : Type 0 where
+  pub start : ℕ
+  pub each : Each (IsSince start) views
+  pub many : sum_by passes_in views ≡ length views
+  pub owned : (place : ℕ) → start ≤ place → place < length log → IsOwned views place
+
 module _ {V E : Type 0} (history : V → List E) where
   -- the value is at home with the whole history, or out with one view
   abbrev pub IsPlaced : List E → State (Option V) (View E) → Type 0
@@ -50,7 +70,7 @@ module _ {V E : Type 0} (history : V → List E) where
   -- `log` is the history, `from` the ticket that is served, `to` the next ticket: both unbounded, the words have their rests
   -- modulo 2^64. Each ticket from the one on and before the other is in one view (`busy` counts them, `each` and `pairs` keep
   -- them in range and apart). While the first pass is live, there is one view more than it was split (`first`)
-  pub record Holds (s : State (Option V) (View E)) : Type 0 where
+  pub record AreInTurn (s : State (Option V) (View E)) : Type 0 where
     pub log : List E
     pub from : ℕ
     pub to : ℕ
@@ -64,3 +84,7 @@ module _ {V E : Type 0} (history : V → List E) where
     pub each : Each (Fits log from to) s.views
     pub pairs : Pairs AreApart s.views
     pub place : IsPlaced log s
+
+  pub record Holds (s : State (Option V) (View E)) : Type 0 where
+    pub turns : AreInTurn s
+    pub passes : AreAllThere turns.log s.views

@@ -17,7 +17,7 @@ IsSeatOf seat t = (seat ≡ t) × IsLockTable t
 
 -- what contracts see of a pass with this view
 abbrev pub known_of : {E : Type 0} → TableId → View E → Known E
-known_of t v = record { turn = t; number = v.number; splits = v.splits; seen = v.seen; mine = v.mine; fronts = v.fronts }
+known_of t v = record { turn = t; number = v.number; splits = v.splits; start = v.start; joined = v.joined; seen = v.seen; mine = v.mine; fronts = v.fronts }
 
 -- the view of a pass between its turns
 pub record IsIdle {E : Type 0} (v : View E) : Type 0 where
@@ -32,6 +32,8 @@ first_view log = record {
   live = true;
   number = 0;
   splits = 0;
+  start = length log;
+  joined = 0;
   seen = log;
   mine = [];
   fronts = [];
@@ -50,6 +52,8 @@ new_view v = record {
   live = true;
   number = v.splits + 1;
   splits = 0;
+  start = v.start;
+  joined = 0;
   seen = v.seen;
   mine = [];
   fronts = [];
@@ -62,6 +66,7 @@ new_view v = record {
 -- a pass after a join, and the pass that was joined into it
 abbrev pub joined_view : {E : Type 0} → View E → View E → View E
 joined_view v w = record v {
+  joined = v.joined + w.joined + 1;
   seen = longer_of v.seen w.seen;
   mine = v.mine ++ w.mine;
   join = Some (record { seen = v.seen; other_seen = w.seen; mine = v.mine; other_mine = w.mine });
@@ -72,6 +77,8 @@ spent_view = record {
   live = false;
   number = 0;
   splits = 0;
+  start = 0;
+  joined = 0;
   seen = [];
   mine = [];
   fronts = [];

@@ -2,7 +2,8 @@
 
 ghost use Rattle.std.specs.Prelude.{◌≡◌, ◌<◌, ℕ, ◌+◌, ◌%◌, ◌^◌, List, [], ◌∷◌, ◌++◌, length, Some, None, true, false, MatchBool};
 ghost use Rattle.turn_lock.specs.Histories.{ArePlacesIn, StartsWith};
-ghost use Rattle.turn_lock.specs.Seats.{IsSeatOf, IsLockTable, IsIdle, Waits, Carries, raised_view, ended_view};
+ghost use Rattle.turn_lock.specs.Passes.{KnowsAll};
+ghost use Rattle.turn_lock.specs.Seats.{known_of, IsSeatOf, IsLockTable, IsIdle, Waits, Carries, raised_view, ended_view};
 ghost use Rattle.turn_lock.specs.Plays.{Draws, IsTaken, IsServed, Looks, LooksOn};
 
 use crate::kept::Kept;
@@ -172,7 +173,8 @@ pub(crate) fn keep<V: Kept>(
     requires of { IsSeatOf seat.table_id table.shared.table_id }
     requires has { (t : ℕ) × (seat.me.0.ticket ≡ Some t) }
     requires served { (seat.me.0.served ≡ true) × (seat.me.0.out ≡ false) }
-    ensures { StartsWith (V.history result) seat.me.0.seen }
+    ensures begins { StartsWith (V.history result) seat.me.0.seen }
+    ensures all { KnowsAll (V.history result) (known_of seat.table_id seat.me.0) }
 {
     let mut closed = table.close_with(seat);
     let value = closed.take(0).unwrap();

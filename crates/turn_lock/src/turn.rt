@@ -1,8 +1,8 @@
 //! The lock.
 
-ghost use Rattle.std.specs.Prelude.{◌≡◌, ◌<◌, ◌+◌, List, IfOk, IfErr};
+ghost use Rattle.std.specs.Prelude.{◌≡◌, ◌<◌, ◌+◌, List, length, IfOk, IfErr};
 ghost use Rattle.turn_lock.specs.Histories.{StartsWith};
-ghost use Rattle.turn_lock.specs.Passes.{LockId, TakesTurn, TakesIn, new_pass};
+ghost use Rattle.turn_lock.specs.Passes.{KnowsAll, LockId, TakesTurn, TakesIn, new_pass};
 ghost use Rattle.turn_lock.specs.Seats.{IsLockTable};
 
 use crate::kept::{Kept, Move};
@@ -34,7 +34,7 @@ impl<V: Kept> Turn<V> {
     /// A lock with the value in it, and its first pass, which has seen the whole history. Out of memory, the value is
     /// given back as it was.
     pub fn new(alloc: Global, value: V) -> Result<(Turn<V>, Pass<V>), V>
-        ensures made { IfOk result (λ r. r.1 ≡ new_pass r.0 0 (V.history value)) }
+        ensures made { IfOk result (λ r. r.1 ≡ new_pass r.0 0 (length (V.history value)) (V.history value)) }
         ensures same { IfErr result (λ v. v ≡ value) }
     {
         let about = Snapshot::of(&value);
@@ -85,7 +85,8 @@ impl<V: Kept> Turn<V> {
         requires of { pass.old.turn ≡ self.now }
         requires first { (pass.old.number ≡ 0) × (pass.old.splits < 65535) }
         ensures pass { pass.new ≡ record pass.old { splits = pass.old.splits + 1 } }
-        ensures new { result ≡ new_pass self.now (pass.old.splits + 1) pass.old.seen }
+        ensures new { result ≡ new_pass self.now (pass.old.splits + 1) pass.old.start
+            pass.old.seen }
     {
         let seat = self.table.shared.split_seat::<Part>(&mut pass.seat);
         pass.splits += 1;
@@ -112,10 +113,13 @@ impl<V: Kept> Turn<V> {
     }
 
     /// Waits for a last turn, ends the lock, and gives the value that is found then. Its history begins with all that
-    /// the pass has seen. Nothing is promised of entries that only other passes have seen: join every pass first.
+    /// the pass has seen. If the pass is the first one, and each pass that was split from it was joined into it, it has
+    /// seen the whole history, and each entry since the lock was made is its own. Else nothing is promised of entries
+    /// that only other passes have seen.
     pub fn close<R: Wait>(self, rt: &R, pass: Pass<V>) -> V
         requires of { pass.turn ≡ self }
         ensures begins { StartsWith (V.history result) pass.seen }
+        ensures all { KnowsAll (V.history result) pass }
     {
         let Turn { table } = self;
         let Pass {

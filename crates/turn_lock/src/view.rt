@@ -18,6 +18,10 @@ pub struct View<E> {
     pub number: u64,
     /// How often it was split.
     pub splits: u64,
+    /// The length of the history when the lock was made.
+    pub start: u64,
+    /// How many passes were joined into it, with those that were joined into these.
+    pub joined: u64,
     /// The beginning of the history that it has seen.
     pub seen: LinkedList<E>,
     /// The places of its own entries.

@@ -1,5 +1,6 @@
 //! Bytes that were read beyond a message.
 ghost use Rattle.std.specs.Prelude.{◌≡◌, ◌≤◌, ◌<◌, ◌++◌, [], IsTrue, IsFalse, IfOk, IfErr, length, drop, slice_range};
+ghost use Rattle.exam_edge.specs.Allowing.{StillAllows};
 ghost use Rattle.exam_edge.specs.Faults.{Rose};
 ghost use Rattle.exam_edge.specs.Lent.{IsLent};
 ghost use Rattle.wire_http.specs.Messages.{bytes_of, IsFree};
@@ -40,6 +41,7 @@ impl Kept {
         ensures failed { IfErr result (λ e.
             (e ≡ WireFault.Link) × Rose (K.faults link.old) (K.faults link.new)) }
         ensures written { IsTrue (K.tells link.old) → K.written link.new ≡ K.written link.old }
+        ensures allows { StillAllows K.allows link.old link.new }
         ensures frame { IsLent K.tells K.identity K.faults link.old link.new }
     {
         if !self.used_up {
@@ -65,6 +67,7 @@ impl Kept {
             → Rose (K.faults link.old) (K.faults link.new)) }
         ensures free { IfErr result IsFree }
         ensures written { IsTrue (K.tells link.old) → K.written link.new ≡ K.written link.old }
+        ensures allows { StillAllows K.allows link.old link.new }
         ensures frame { IsLent K.tells K.identity K.faults link.old link.new }
     {
         let mut piece = [0u8; 4096];
@@ -91,6 +94,7 @@ impl Kept {
             → Rose (K.faults link.old) (K.faults link.new)) }
         ensures free { IfErr result IsFree }
         ensures written { IsTrue (K.tells link.old) → K.written link.new ≡ K.written link.old }
+        ensures allows { StillAllows K.allows link.old link.new }
         ensures frame { IsLent K.tells K.identity K.faults link.old link.new }
     {
         self.rest(link)?;

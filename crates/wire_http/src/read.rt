@@ -1,5 +1,6 @@
 //! One message of a connection.
 ghost use Rattle.std.specs.Prelude.{◌≡◌, ◌≤◌, ◌<◌, ◌⊎◌, ◌++◌, [], IsTrue, IfOk, OnOk, IfSome, IfErr, IfNone, length};
+ghost use Rattle.exam_edge.specs.Allowing.{StillAllows};
 ghost use Rattle.exam_edge.specs.Faults.{Rose};
 ghost use Rattle.exam_edge.specs.Lent.{IsLent};
 ghost use Rattle.wire_http.specs.Heads.{StartsWithHead};
@@ -26,6 +27,7 @@ fn next_head<K: Link>(
     ensures failed { IfErr result (λ e. e ≡ WireFault.Link
         → Rose (K.faults link.old) (K.faults link.new)) }
     ensures written { IsTrue (K.tells link.old) → K.written link.new ≡ K.written link.old }
+    ensures allows { StillAllows K.allows link.old link.new }
     ensures frame { IsLent K.tells K.identity K.faults link.old link.new }
 {
     'pieces: loop {
@@ -59,6 +61,7 @@ fn fill<K: Link>(link: &mut K, kept: &mut Kept, count: usize) -> Result<(), Wire
     ensures failed { IfErr result (λ e. e ≡ WireFault.Link
         → Rose (K.faults link.old) (K.faults link.new)) }
     ensures written { IsTrue (K.tells link.old) → K.written link.new ≡ K.written link.old }
+    ensures allows { StillAllows K.allows link.old link.new }
     ensures frame { IsLent K.tells K.identity K.faults link.old link.new }
 {
     'pieces: while kept.as_slice().len() < count {
@@ -85,6 +88,7 @@ fn message_of<K: Link>(
     ensures failed { IfErr result (λ e. e ≡ WireFault.Link
         → Rose (K.faults link.old) (K.faults link.new)) }
     ensures written { IsTrue (K.tells link.old) → K.written link.new ≡ K.written link.old }
+    ensures allows { StillAllows K.allows link.old link.new }
     ensures frame { IsLent K.tells K.identity K.faults link.old link.new }
 {
     let Head {
@@ -125,6 +129,7 @@ pub fn read_request<K: Link>(
     ensures failed { IfErr result (λ e. e ≡ WireFault.Link
         → Rose (K.faults link.old) (K.faults link.new)) }
     ensures written { IsTrue (K.tells link.old) → K.written link.new ≡ K.written link.old }
+    ensures allows { StillAllows K.allows link.old link.new }
     ensures frame { IsLent K.tells K.identity K.faults link.old link.new }
 {
     match next_head(alloc, link, kept)? {

@@ -2,7 +2,7 @@ use Rattle.std.proofs.Common.{rules, arith, ◌≡◌, ◌∙◌, sym, ap, subst
 use Rattle.std.specs.Bool.{IsTrue}
 use Rattle.std.specs.Option.{is_some}
 use Rattle.exam_edge.specs.Doors.{TakesNext}
-use Rattle.exam_workers.proofs.Serving.{serves_none, serves_one}
+use Rattle.exam_workers.proofs.Serving.{serves_none, serves_one, comes_first}
 use Rattle.exam_workers.proofs.serve_next.Goals as goal
 
 pub returns-in-Err-clause-serves : goal.returns-in-Err-clause-serves
@@ -30,3 +30,10 @@ returns-in-Ok-Some-clause-serves g c =
     c.args.station.now (record c.args.station.now { door = c.accept.new.self }) c.serve_link.new.station c.in-Ok-Some.link
     (λ h. subst (λ o. TakesNext (coming c.args.station.now.door) (coming c.accept.new.self) o) c.in-Ok-Some.field-0-is (e.takes h))
     e.returned e.frame.tells e.frame.identity e.frame.grows refl refl c.serve_link.ensures.served
+
+pub serve_link-requires-clause-fair : goal.serve_link-requires-clause-fair
+serve_link-requires-clause-fair g c κs within =
+    let coming = g.L.Door.coming in
+    let door = c.args.station.now.door in
+    c.requires.fair c.in-Ok-Some.link (λ h. comes_first (coming door) (coming c.accept.new.self) c.in-Ok-Some.link
+    (subst (λ o. TakesNext (coming door) (coming c.accept.new.self) o) c.in-Ok-Some.field-0-is (c.in-Ok-Some.ensures.takes h)))

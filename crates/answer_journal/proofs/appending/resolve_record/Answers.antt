@@ -1,8 +1,8 @@
 use Rattle.std.proofs.Common.{◌≡◌, ◌-◌, ◌<◌, ◌==◌, inl, inr, length, get_or, sym, refl, ◌∙◌, ap, subst, arith, List, ℕ}
-use Rattle.exam_edge.specs.Images.{latest, IsSettled}
-use Rattle.exam_edge.specs.ImageLaws.{still, goes_on, settled_clean, shortened_clean}
-use Rattle.answer_journal.specs.Standing.{IsEither}
-use Rattle.answer_journal.proofs.Mending.{at_start, long, kept, shut, cut_leaves, written_not_open, dropped}
+use Rattle.exam_edge.specs.Images.{latest, cut_to, dropped as dropped_account, AllImages, IsSettled}
+use Rattle.exam_edge.specs.ImageLaws.{all_of_dropped, still, goes_on, settled_clean, shortened_clean}
+use Rattle.answer_journal.specs.Standing.{IsEither, Unopened}
+use Rattle.answer_journal.proofs.Mending.{at_start, long, kept, shut, shut_images, cut_leaves, written_not_open, dropped}
 use Rattle.answer_journal.proofs.Staging.{dropped_moments, written_still, opened_still, gate_clean, cut_clean, cut_still, cut_images, closed_still, kept_written, kept_opened}
 use Rattle.answer_journal.proofs.appending.resolve_record.Goals as goal
 
@@ -71,8 +71,8 @@ returns-then-branch-clause-gate g c = λ told.
     let gate_is : c.in_ok-settle_gate.field-0 ≡ (get_or c0 (size - 1) 0 == 1) = c.in_ok-settle_gate.ensures.gate told in_file in
     (λ is. refl, λ is. sym gate_is ∙ c.if-branch.true)
 
-pub cut_durably-requires : goal.cut_durably-requires
-cut_durably-requires g c = λ told1.
+pub cut_durably-requires-clause-place : goal.cut_durably-requires-clause-place
+cut_durably-requires-clause-place g c = λ told1.
     let told = sym c.settle_gate.ensures.frame.tells ∙ told1 in
     let some = c.requires.doubt told in
     let h = some.0 in
@@ -247,3 +247,31 @@ returns-clause-gate g c = λ told.
     let in_file : size - 1 < length c0 = omega (arith, bounds, c.requires.some) in
     let gate_is : c.in_ok-settle_gate.field-0 ≡ (get_or c0 (size - 1) 0 == 1) = c.in_ok-settle_gate.ensures.gate told in_file in
     (λ is. let clash = sym is ∙ sym gate_is ∙ c.if-branch.false in cc, λ is. cc)
+
+-- what the cut may leave
+pub cut_durably-requires-clause-comes : goal.cut_durably-requires-clause-comes
+cut_durably-requires-clause-comes g c = λ told1.
+    let told = sym c.settle_gate.ensures.frame.tells ∙ told1 in
+    let some = c.requires.doubt told in
+    let h = some.0 in
+    let ps = some.1 in
+    let p = some.2 in
+    let n = some.3 in
+    let d = some.4 in
+    let c0 = g.D.Disk.content c.args.disk.now in
+    let a0 = g.D.Disk.accounts c.args.disk.now in
+    let size = c.args.size in
+    let image = g.met.D.Disk.is_image c.args.disk.now told in
+    let bounds = long h c0 a0 image size ps p n d in
+    let in_file : size - 1 < length c0 = omega (arith, bounds, c.requires.some) in
+    let gate_is : c.in_ok-settle_gate.field-0 ≡ (get_or c0 (size - 1) 0 == 1) = c.in_ok-settle_gate.ensures.gate told in_file in
+    let c1 = g.D.Disk.content c.settle_gate.new.disk in
+    let a1 = g.D.Disk.accounts c.settle_gate.new.disk in
+    let same1 = c.settle_gate.ensures.content told in
+    let u = shut h c0 a0 image size ps p n d (sym gate_is ∙ c.if-branch.false) in
+    let here : Unopened h ps c1 = subst (Unopened h ps) (sym same1) u in
+    let leaves : AllImages (Unopened h ps) (dropped_account (cut_to size (latest a1))) = elim d.stage [
+      | inl w ↦ cut_images h ps size d.size_is a1 (kept_written h ps size d.size_is a0 w a1 (c.in_ok-settle_gate.ensures.kept told))
+      | inr o ↦ shut_images h c0 a0 image size ps p n d u c1 a1 same1 (c.in_ok-settle_gate.ensures.settled told in_file (gate_clean h ps p size d.size_is a0 o))
+    ] in
+    λ file i. inr (some.5 c1 file here (all_of_dropped (Unopened h ps) (cut_to size (latest a1)) leaves file i))

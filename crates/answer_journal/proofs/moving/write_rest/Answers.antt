@@ -9,7 +9,7 @@ close_after-requires g c = record {
   moving = λ told1.
       let told = sym c.write_waiting.ensures.frame.tells ∙ told1 in
       let some = c.requires.moving told in
-      (some.0, some.1, some.2, c.in_ok-write_waiting.ensures.moving told some.0 some.1 some.2 some.3);
+      (some.0, some.1, some.2, c.in_ok-write_waiting.ensures.moving told some.0 some.1 some.2 some.3, some.4);
 }
 
 pub returns-in_err-close_after-clause-moments : goal.returns-in_err-close_after-clause-moments

@@ -1,5 +1,7 @@
 use Rattle.std.proofs.Common.{◌≡◌, length, sym, arith}
 use Rattle.std.proofs.lemmas.Bool.{eqb-true}
+use Rattle.exam_edge.specs.ImageLaws.{may_leave_alike}
+use Rattle.answer_journal.specs.Moving.{IsUnmoved}
 use Rattle.answer_journal.proofs.MovingMoments.{batch_left, batch_moments, batch_written, nothing_waits, waiting_start}
 use Rattle.answer_journal.proofs.moving.write_waiting.Goals as goal
 
@@ -30,3 +32,10 @@ pub returns-clause-left : goal.returns-clause-left
 returns-clause-left g c = λ told.
     let some = c.requires.moving told in
     batch_left some.0 some.1 _ _ _ some.2 _ some.3 _ _ (c.write_at.ensures.crash told) (omega arith)
+
+pub write_at-requires-clause-comes : goal.write_at-requires-clause-comes
+write_at-requires-clause-comes g c = λ told.
+    let some = c.requires.moving told in
+    let disk = c.args.disk.now in
+    may_leave_alike g.D.Disk.may_become (IsUnmoved some.0) (g.D.Disk.content disk) _ (g.D.Disk.accounts disk) (g.met.D.Disk.is_image disk told) some.4
+    (λ a1 crash. batch_moments some.0 some.1 _ _ _ some.2 _ some.3 _ a1 crash (omega arith))

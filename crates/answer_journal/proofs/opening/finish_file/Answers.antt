@@ -1,6 +1,7 @@
 use Rattle.std.proofs.Common.{◌≡◌, ◌+◌, ℕ, Some, inl, inr, List, sym, ◌∙◌, ap, subst, arith}
 use Rattle.exam_edge.specs.Images.{Account, AtEachMoment, IsImage, latest}
 use Rattle.answer_journal.specs.Frames.{FileHeader, shadowj2, payloads}
+use Rattle.answer_journal.specs.Opening.{AllowsSame}
 use Rattle.answer_journal.specs.Standing.{payload_list, IsAtRest, IsImageOrGives}
 use Rattle.answer_journal.specs.Versions.{header}
 use Rattle.answer_journal.proofs.OpeningMoments.{finished_moments, left_moments}
@@ -94,3 +95,20 @@ returns-in_ok-settle_gates-clause-aside_err g c = on_err_any c.cut_file.result (
     let told2 = c.settle_gates.ensures.frame.tells ∙ told1 in
     inr (one_aside _ _ _ c.args.extent c.requires.extent told _ _
     (c.cut_file.ensures.aside told2 ∙ c.settle_gates.ensures.aside told1 ∙ c.in_ok-put_tail_aside.ensures.aside told)))
+
+-- what is written or cut may come of the same content
+pub write_header-requires-clause-comes : goal.write_header-requires-clause-comes
+write_header-requires-clause-comes g c = λ told1.
+    let told = sym c.settle_short.ensures.frame.tells ∙ told1 in
+    let c0 = g.D.Disk.content c.args.disk.now in
+    let second = short_second _ _ _ c.args.extent c.requires.extent told c.if-extent-le9.true in
+    let same = c.in_ok-settle_short.ensures.content told in
+    subst (AllowsSame g.D.Disk.may_become (payloads shadowj2)) (sym same)
+    (subst (λ (h : FileHeader). AllowsSame g.D.Disk.may_become (payloads h) c0) second (c.requires.comes told))
+
+pub cut_file-requires-clause-comes : goal.cut_file-requires-clause-comes
+cut_file-requires-clause-comes g c = λ told2.
+    let told1 = sym c.settle_gates.ensures.frame.tells ∙ told2 in
+    let told = sym c.put_tail_aside.ensures.frame.tells ∙ told1 in
+    let same = c.settle_gates.ensures.content told1 ∙ c.put_tail_aside.ensures.content told in
+    subst (AllowsSame g.D.Disk.may_become (payloads (header c.args.extent.version))) (sym same) (c.requires.comes told)

@@ -1,4 +1,5 @@
-use Rattle.std.proofs.Common.{◌≡◌, length, refl, subst, arith}
+use Rattle.std.proofs.Common.{◌≡◌, ◌∙◌, length, refl, ap, subst, arith}
+use Rattle.exam_office.specs.Running.{HandedDisk}
 use Rattle.bank_tables.specs.Tables.{Tables}
 use Rattle.form_model.specs.Plan.{Plan}
 use Rattle.history_model.specs.declared.request.Request.{Request}
@@ -12,13 +13,20 @@ pub loop-request-init : goal.loop-request-init
 loop-request-init c = record {
   leads = none;
   same = record { bank = refl; plan = refl; base = refl; opened = refl };
-  durable = c.requires;
+  durable = c.requires.durable;
+  tells = refl;
 }
 
-pub ask-requires : goal.ask-requires
-ask-requires c =
+pub ask-requires-clause-durable : goal.ask-requires-clause-durable
+ask-requires-clause-durable c =
     let cur = c.loop-request.alone.office in
     as_now (λ (b : Tables) (p : Plan). IsDurable b p cur) c.args.alone.now.office cur c.loop-request.invariant.same c.loop-request.invariant.durable
+
+pub ask-requires-clause-told : goal.ask-requires-clause-told
+ask-requires-clause-told c = c.loop-request.invariant.tells ∙ c.requires.told
+
+pub ask-requires-clause-empty : goal.ask-requires-clause-empty
+ask-requires-clause-empty c = ap (λ (d : HandedDisk). d.content) c.loop-request.invariant.same.opened ∙ c.requires.empty
 
 pub returns-in-Err-clause-err : goal.returns-in-Err-clause-err
 returns-in-Err-clause-err c =
@@ -43,6 +51,7 @@ loop-request-preserved c =
           (subst (λ (r : Request). IsDoneBy cur.bank cur.plan (history cur.marks) r (history new.marks)) c.request-item.is c.in-Ok.ensures.ok);
       same = same_on old cur new inv.same c.ask.ensures.same;
       durable = as_first (λ (b : Tables) (p : Plan). IsDurable b p new) old cur inv.same c.in-Ok.ensures.durable;
+      tells = c.ask.ensures.tells ∙ inv.tells;
     }
 
 pub returns-clause-ok : goal.returns-clause-ok

@@ -1,4 +1,5 @@
-use Rattle.std.proofs.Common.{◌∙◌, refl, sym, subst}
+use Rattle.std.proofs.Common.{◌∙◌, refl, sym, ap, subst}
+use Rattle.exam_office.specs.Running.{HandedDisk}
 use Rattle.bank_tables.specs.Tables.{Tables}
 use Rattle.exam_edge.specs.Images.{AllImages, latest}
 use Rattle.form_model.specs.Plan.{Plan}
@@ -14,8 +15,15 @@ pub open-requires-clause-left : goal.open-requires-clause-left
 open-requires-clause-left c = λ told. settled_left _ _ c.of-disk.ensures.accounts
 
 -- an office that was just opened
-pub ask_all-done-requires : goal.ask_all-done-requires
-ask_all-done-requires c =
+pub ask_all-done-requires-clause-told : goal.ask_all-done-requires-clause-told
+ask_all-done-requires-clause-told c = c.in-Ok.ensures.tells
+
+pub ask_all-done-requires-clause-empty : goal.ask_all-done-requires-clause-empty
+ask_all-done-requires-clause-empty c =
+    ap (λ (d : HandedDisk). d.content) c.in-Ok.ensures.opened ∙ (c.of-disk.ensures.content ∙ c.new.ensures.items)
+
+pub ask_all-done-requires-clause-durable : goal.ask_all-done-requires-clause-durable
+ask_all-done-requires-clause-durable c =
     let opened = c.in-Ok.ensures in
     let office = c.in-Ok.office in
     record {

@@ -1,7 +1,8 @@
-use Rattle.std.proofs.Common.{[], inl, inr, refl, sym, subst, append-nil}
+use Rattle.std.proofs.Common.{ℕ, List, [], inl, inr, refl, sym, subst, append-nil}
 use Rattle.std.specs.Option.{option_copied}
+use Rattle.exam_edge.specs.Allowing.{MayWrite}
 use Rattle.exam_http.specs.Serving.{LeadsTo, unchanged, then_idle}
-use Rattle.exam_http.proofs.AfterMessages.{response_leads}
+use Rattle.exam_http.proofs.AfterMessages.{may_respond, response_leads}
 use Rattle.exam_http.proofs.serve.answer.Goals as goal
 
 pub returns-in-Err-clause-becomes : goal.returns-in-Err-clause-becomes
@@ -39,3 +40,10 @@ returns-clause-leads g c =
     then_idle c.respond.new.handler c.idle.new.self
     (response_leads (option_copied c.args.terms.now.token) g.H.Handler.does g.H.Handler.probes g.H.Handler.idles c.args.handler.now c.args.message.now c.in-Ok.text.items c.respond.new.handler c.in-Ok.ensures.response)
     c.idle.ensures
+
+pub write_all-requires : goal.write_all-requires
+write_all-requires g c = λ tells.
+    subst (λ (l : List ℕ). MayWrite (g.K.Link.allows c.args.link.now) (g.K.Link.written c.args.link.now) l) (sym c.deref.ensures.value)
+    (may_respond (option_copied c.args.terms.now.token) g.H.Handler.does g.H.Handler.probes g.H.Handler.idles (g.K.Link.allows c.args.link.now)
+    c.args.handler.now c.args.message.now (g.K.Link.written c.args.link.now) c.in-Ok.text.items c.respond.new.handler
+    (c.requires.allowed tells) c.in-Ok.ensures.response)

@@ -1,5 +1,6 @@
 use Rattle.std.proofs.Common.{◌≡◌, ◌++◌, ℕ, List, IsTrue}
 use Rattle.std.specs.Option.{option_copied}
+use Rattle.exam_edge.specs.Allowing.{StillAllows}
 use Rattle.exam_edge.specs.Lent.{IsLent}
 use Rattle.wire_http.specs.Messages.{bytes_of}
 use Rattle.exam_http.specs.Serving.{Serves, LeadsTo}
@@ -12,5 +13,6 @@ invariant-messages g l = record {
       × (g.K.Link.written l.link ≡ g.K.Link.written l.fn.link ++ texts)
       × Serves (option_copied l.fn.terms.token) g.H.Handler.does g.H.Handler.probes g.H.Handler.idles l.fn.handler (bytes_of l.fn.kept ++ g.K.Link.left l.fn.link) texts
       (bytes_of l.kept ++ g.K.Link.left l.link) l.handler;
+  allows : StillAllows g.K.Link.allows l.fn.link l.link;
   frame : IsLent g.K.Link.tells g.K.Link.identity g.K.Link.faults l.fn.link l.link;
 }

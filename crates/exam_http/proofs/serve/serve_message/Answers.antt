@@ -1,7 +1,7 @@
 use Rattle.std.proofs.Common.{◌++◌, ℕ, List, IsTrue, ap, subst, sym, ◌∙◌}
 use Rattle.std.specs.Option.{option_copied}
 use Rattle.wire_http.specs.Messages.{bytes_of, IsMessage}
-use Rattle.exam_http.proofs.AfterMessages.{answered_after}
+use Rattle.exam_http.proofs.AfterMessages.{answered_after, may_answer, may_refuse}
 use Rattle.exam_http.proofs.serve.serve_message.Goals as goal
 
 pub returns-in-Ok-Some-clause-after : goal.returns-in-Ok-Some-clause-after
@@ -18,3 +18,20 @@ returns-in-Ok-Some-clause-after g c tells =
       answered_after (option_copied c.args.terms.now.token) g.H.Handler.does g.H.Handler.probes g.H.Handler.idles whole becomes.0 _ c.args.handler.now c.answer.new.handler
           c.in-Ok-Some.message c.answer.result reads becomes.2,
     )
+
+pub answer-requires-clause-allowed : goal.answer-requires-clause-allowed
+answer-requires-clause-allowed g c κs within = λ told.
+    let read = c.in-Ok-Some.ensures in
+    let tells : IsTrue (g.K.Link.tells c.args.link.now) = sym read.frame.tells ∙ told in
+    let message = rw c.in-Ok-Some.field-0-is at c.in-Ok-Some.ensures.message in
+    may_answer (option_copied c.args.terms.now.token) g.H.Handler.does g.H.Handler.probes g.H.Handler.idles
+    (g.K.Link.allows c.args.link.now) (g.K.Link.allows c.read_request.new.link) c.args.handler.now _ _ _ _ c.in-Ok-Some.message
+    (c.requires.allowed tells) read.allows (read.written tells) (message tells)
+
+pub refuse-requires : goal.refuse-requires
+refuse-requires g c = λ told.
+    let read = c.in-Err.ensures in
+    let tells : IsTrue (g.K.Link.tells c.args.link.now) = sym read.frame.tells ∙ told in
+    may_refuse (option_copied c.args.terms.now.token) g.H.Handler.does g.H.Handler.probes g.H.Handler.idles
+    (g.K.Link.allows c.args.link.now) (g.K.Link.allows c.read_request.new.link) c.args.handler.now _ _ _ c.in-Err.fault
+    (c.requires.allowed tells) read.allows (read.written tells) (read.fault tells)

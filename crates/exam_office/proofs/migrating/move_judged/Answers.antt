@@ -1,11 +1,11 @@
 use Rattle.std.proofs.Common.{◌≡◌, ◌⊎◌, ◌≤◌, inl, inr, ℕ, List, [], ◌∷◌, ◌++◌, length, map, ◌∙◌, sym, ap, subst}
-use Rattle.exam_edge.specs.Images.{Account, AtEachMoment, latest}
+use Rattle.exam_edge.specs.Images.{Account, Allows, AtEachMoment, latest}
 use Rattle.exam_records.specs.Spelling.{payload_of}
 use Rattle.answer_journal.specs.Moving.{IsImageOrUnmoved, IsUnmoved}
 use Rattle.answer_journal.specs.Opening.{tail_gates}
 use Rattle.answer_journal.specs.Versions.{counted_in}
-use Rattle.exam_office.specs.Files.{payload_in}
-use Rattle.exam_office.specs.Migrating.{IsImageOrStands}
+use Rattle.exam_office.specs.Files.{payload_in, IsImageOrStands}
+use Rattle.exam_office.proofs.Allowing.{allowed_by, moving, switching}
 use Rattle.exam_office.proofs.MigratingEnds.{listed, listed_by, moments_before, moments_on, moments_switched, number_moved, old_records, started_move}
 use Rattle.exam_office.proofs.MigratingFiles.{moved_stands}
 use Rattle.exam_office.proofs.MigratingSteps.{moved_by, short_by}
@@ -81,7 +81,8 @@ switch-requires g c = λ here.
     let old = (c.requires.old told).0 in
     let start = started_move b plan file old b1 plan1 c.in-Ok.ensures.bank c.in-Ok.ensures.plan (g.D.Disk.content moving.disk) moving.waiting (g.D.Disk.accounts moving.disk) moving.gate moving.end c.in-Ok.book.entries c.in-Ok.ensures.entries (c.in-Ok-start_move.ensures.moving told) in
     let all = c.in-Ok-move_records.ensures.moved (c.in-Ok-start_move.ensures.frame.tells ∙ told) old.records start in
-    (map (payload_in b1 plan1 1) old.records, map payload_of old.records, all.1.moving)
+    let allows = allowed_by b b1 plan plan1 c.in-Ok.ensures.bank c.in-Ok.ensures.plan g.D.Disk.may_become c.requires.allows in
+    (map (payload_in b1 plan1 1) old.records, map payload_of old.records, all.1.moving, switching b1 plan1 g.D.Disk.may_become allows all.1.H old.records all.1.are)
 
 pub returns-in-Ok-switch-clause-moved : goal.returns-in-Ok-switch-clause-moved
 returns-in-Ok-switch-clause-moved g c = λ told.
@@ -187,3 +188,17 @@ pub returns-clause-aside_err : goal.returns-clause-aside_err
 returns-clause-aside_err g c = λ told.
     let told1 = c.in-Ok-start_move.ensures.frame.tells ∙ told in
     inr (c.in-Err-switch.ensures.aside_err (c.move_records.ensures.frame.tells ∙ told1) ∙ (c.move_records.ensures.aside told1 ∙ c.in-Ok-start_move.ensures.aside told))
+
+-- what the disk allows
+pub start_move-requires-clause-comes : goal.start_move-requires-clause-comes
+start_move-requires-clause-comes g c = λ told.
+    let b = c.args.bank.now in
+    let plan = c.args.spec.now in
+    let file = g.D.Disk.content c.args.walk.disk in
+    let old = (c.requires.old told).0 in
+    subst (λ (ps : List (List ℕ)). Allows g.D.Disk.may_become (IsUnmoved ps) (IsUnmoved ps)) (sym (listed b plan file old))
+    (moving b plan g.D.Disk.may_become c.requires.allows old.H old.records old.are)
+
+pub move_records-requires-clause-allows : goal.move_records-requires-clause-allows
+move_records-requires-clause-allows g c =
+    allowed_by c.args.bank.now c.in-Ok.book.bank c.args.spec.now c.in-Ok.book.plan c.in-Ok.ensures.bank c.in-Ok.ensures.plan g.D.Disk.may_become c.requires.allows

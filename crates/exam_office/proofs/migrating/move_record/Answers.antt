@@ -1,4 +1,4 @@
-use Rattle.std.proofs.Common.{◌≡◌, inl, inr, ℕ, ◌+◌, List, [], ◌∷◌, ◌++◌, length, map, ◌∙◌, ap, subst, arith}
+use Rattle.std.proofs.Common.{◌≡◌, inl, inr, ℕ, ◌+◌, List, [], ◌∷◌, ◌++◌, length, map, sym, ◌∙◌, ap, subst, arith}
 use Rattle.exam_edge.specs.Images.{Account, AtEachMoment, latest}
 use Rattle.history_model.specs.Judging.{Record}
 use Rattle.exam_records.specs.Spelling.{payload_of}
@@ -6,6 +6,7 @@ use Rattle.answer_journal.specs.Moving.{IsImageOrUnmoved, IsMovingWith}
 use Rattle.exam_office.specs.Files.{payload_in}
 use Rattle.exam_office.specs.Migrating.{IsTakenOver}
 use Rattle.exam_office.specs.Opening.{IsNotTaken}
+use Rattle.exam_office.proofs.Allowing.{moving}
 use Rattle.exam_office.proofs.FileLaws.{not_refused}
 use Rattle.exam_office.proofs.MigratingFiles.{device_fault, moving_same}
 use Rattle.exam_office.proofs.MigratingSteps.{IsNextMoved, moved_more, next_moved, room_then, second_next}
@@ -124,3 +125,21 @@ returns-clause-why g c = λ told R done m short.
     let places = c.read_old.ensures.places in
     c.in-Err-add_record.ensures.why
     (room_then b plan R done content old.waiting accounts old.gate old.end entries c.args.at m n c.deref-2.result.now mid.end old.limit mid.limit spelled places.1 places.2 short)
+
+-- the record is added
+pub add_record-requires-clause-moving : goal.add_record-requires-clause-moving
+add_record-requires-clause-moving g c = λ told1.
+    let told = sym c.read_old.ensures.frame.tells ∙ told1 in
+    let b = c.args.book.now.bank in
+    let plan = c.args.book.now.plan in
+    let some = c.requires.so_far told in
+    let m = some.2 in
+    let old = c.args.moving.now in
+    let mid = c.read_old.new.moving in
+    let places = c.read_old.ensures.places in
+    let ps = map (payload_in b plan 1) some.0 in
+    let qs = map payload_of some.1 in
+    let here : IsMovingWith ps qs (g.D.Disk.content mid.disk) mid.waiting (g.D.Disk.accounts mid.disk) mid.gate mid.end =
+    moving_same ps qs (g.D.Disk.content old.disk) (g.D.Disk.content mid.disk) old.waiting mid.waiting (g.D.Disk.accounts old.disk) (g.D.Disk.accounts mid.disk) old.gate mid.gate old.end mid.end
+    (c.read_old.ensures.content told) c.read_old.ensures.waiting (c.read_old.ensures.accounts told) places.0 places.1 m.moving in
+    (ps, qs, here, moving b plan g.D.Disk.may_become c.requires.allows m.H some.0 m.are)

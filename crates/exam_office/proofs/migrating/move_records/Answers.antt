@@ -7,6 +7,7 @@ use Rattle.exam_records.specs.Spelling.{payload_of}
 use Rattle.answer_journal.specs.Moving.{IsImageOrUnmoved, IsUnmoved}
 use Rattle.exam_office.specs.Files.{payload_in}
 use Rattle.exam_office.specs.Migrating.{IsMovedUpTo, moved_file}
+use Rattle.exam_office.proofs.Allowing.{allowed_by}
 use Rattle.exam_office.proofs.MigratingFiles.{moving_on, moving_still, moving_unmoved}
 use Rattle.exam_office.proofs.MigratingSteps.{all_moved, moved_by, old_by, short_by}
 use Rattle.exam_office.proofs.migrating.move_records.Goals as goal
@@ -120,3 +121,8 @@ returns-clause-moved g c = λ told R start.
     let accounts = g.D.Disk.accounts now.disk in
     let all = all_moved b plan R so.0 content now.waiting accounts now.gate now.end c.records.book.entries c.records.at so.1 (omega (arith, c.records-test.false, i.gate_is, c.requires.gate)) in
     (c.records.at, subst (λ (done : List Record). IsMovedUpTo b plan R done content now.waiting accounts now.gate now.end c.records.book.entries c.records.at) (sym all) so.1)
+
+pub move_record-requires-clause-allows : goal.move_record-requires-clause-allows
+move_record-requires-clause-allows g c =
+    let i = c.records.invariant in
+    allowed_by c.args.book.now.bank c.records.book.bank c.args.book.now.plan c.records.book.plan i.bank i.plan_is g.D.Disk.may_become c.requires.allows

@@ -13,8 +13,7 @@ use Rattle.exam_program.proofs.drilling.drill.Goals as goal
 
 pub returns-in-Err-clause-err : goal.returns-in-Err-clause-err
 returns-in-Err-clause-err g c = λ words o e untouched.
-    halts_at_drill words o (g.O.Sink.tells c.args.out.now) (g.O.Sink.written c.args.out.now) c.args.number c.args.sessions e untouched
-    c.halt_of_drill.result (c.halt_of_drill.ensures.halts c.args.number c.args.sessions c.in-Err.ensures.err)
+    halts_at_drill words o (g.O.Sink.tells c.args.out.now) (g.O.Sink.written c.args.out.now) untouched c.halt_of_drill.result c.halt_of_drill.ensures.halts
 
 pub returns-in-Ok-clause-ok : goal.returns-in-Ok-clause-ok
 returns-in-Ok-clause-ok g c =

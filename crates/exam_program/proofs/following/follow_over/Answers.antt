@@ -1,10 +1,9 @@
-use Rattle.std.proofs.Common.{◌≡◌, ◌∙◌, ℕ, ◌++◌, [], List, drop, length, map, All, Option, false, true, inl, inr, refl, sym, ap, ap₂, subst, arith}
+use Rattle.std.proofs.Common.{◌≡◌, ◌∙◌, ℕ, ◌++◌, [], List, drop, length, map, All, Option, false, true, inl, inr, refl, sym, ap, subst, arith}
 use Rattle.std.proofs.lemmas.Bool.{false≢true}
 use Rattle.std.proofs.lemmas.List.{append-nil}
 use Rattle.answer_journal.specs.Journal.{accounts_of, faults_of, identity_of, tells_of}
-use Rattle.bank_tables.specs.Tables.{Tables}
-use Rattle.exam_edge.specs.Images.{Account, AllImages, IsSettled, latest}
-use Rattle.exam_follower.specs.Followers.{AreSpelled, FollowerState, found, found_payloads, held_of, opened_size, records_of}
+use Rattle.exam_edge.specs.Images.{Account}
+use Rattle.exam_follower.specs.Followers.{found, found_payloads, held_of, opened_size, records_of}
 use Rattle.exam_follower.proofs.Marked.{found-opened, size-opened}
 use Rattle.exam_office.specs.declared.fault.OpenFault.TheVariants.{Disk as FailedDisk}
 use Rattle.exam_office.specs.Marks.{history, reach, AreCounted}
@@ -12,7 +11,6 @@ use Rattle.exam_office.specs.declared.mark.Mark.{Mark}
 use Rattle.exam_office.specs.Moments.{AreMoments}
 use Rattle.exam_office.specs.Noting.{OpenedWith, opened_with}
 use Rattle.exam_office.specs.Running.{HandedDisk, Running, handed}
-use Rattle.exam_office.specs.Writing.{IsMending}
 use Rattle.exam_program.specs.declared.halt.Halt.{Halt}
 use Rattle.exam_program.specs.Follows.{AreFollowed, FollowSeen, IsFollowedBy}
 use Rattle.exam_program.specs.Halts.{IsBeforeJournal}
@@ -23,7 +21,6 @@ use Rattle.exam_program.specs.Serves.{IsExamined}
 use Rattle.exam_program.specs.Stopping.{IsUnopened, opening_halt}
 use Rattle.exam_program.proofs.Lending.{written_back}
 use Rattle.exam_program.proofs.LinkLaws.{at_disk, at_door, at_link, ends_by, follow_ends_own, follow_failed, follow_is_link, follow_last, follow_lent, follow_link_failed, follow_never_done, followed_so, is_any, link_unopened, not_before, opened_same, second_so}
-use Rattle.exam_program.proofs.OutcomeLaws.{rose_later}
 use Rattle.exam_program.proofs.ReplayLaws.{failing_so, no_sink, unopened_so, unwritten_so}
 use Rattle.exam_program.proofs.RequestLaws.{nothing_written}
 use Rattle.exam_program.proofs.ServeLaws.{IsClosed, examined_so, halt_status}
@@ -39,7 +36,7 @@ use Rattle.exam_records.specs.Spelling.{payload_of}
 use Rattle.history_model.specs.Judging.{Record, entries_of}
 use Rattle.std.specs.Option.{option_map}
 use Rattle.history_model.specs.Summaries.{summary}
-use Rattle.record_links.specs.Replicas.{Held, sure}
+use Rattle.record_links.specs.Replicas.{sure}
 use Rattle.exam_program.proofs.following.follow_over.Goals as goal
 
 -- ---- the journal was not opened
@@ -54,7 +51,7 @@ returns-in-Err-clause-answers g c = λ words o is same.
     let opened = c.in-Err.ensures in
     let why = opening_halt c.in-Err.fault in
     let image = λ (t : disk.told ≡ true). g.met.D.Disk.is_image c.in-Err.disk (opened.frame_err.tells ∙ t) in
-    let failed = λ (e : c.in-Err.fault ≡ FailedDisk). failing_so g.D.Disk.tells g.D.Disk.content g.D.Disk.accounts g.D.Disk.faults c.args.disk c.in-Err.disk b plan (opened.cause e) image opened.settled_err in
+    let failed = λ (e : c.in-Err.fault ≡ FailedDisk). failing_so g.D.Disk.tells g.D.Disk.content g.D.Disk.accounts g.D.Disk.faults c.args.disk c.in-Err.disk b plan (opened.cause e) image opened.moments_err in
     let untouched = λ (e : c.in-Err.fault ≡ FailedDisk → ⊥). unwritten_so g.D.Disk.tells g.D.Disk.content g.D.Disk.accounts g.D.Disk.faults c.args.disk c.in-Err.disk (opened.untouched e) (opened.unwritten e) in
     let unopened = subst (λ (d : DiskSeen). IsUnopened b plan d why) (sym same) (unopened_so b plan disk c.in-Err.fault opened.why failed untouched) in
     let halts = subst (λ (h : Halt). Halts words o told was was h) (sym c.halt_of_opening.ensures)
@@ -139,10 +136,10 @@ returns-clause-answers g c = λ words o is same.
       length_is = λ t sure. gone.length (still t) sure;
       left = λ t. gone.content (still t);
       images = λ t. gone.images (still t);
-      moments = λ t settled.
+      moments = λ t.
           subst (λ (accounts : List Account). AreMoments new.bank new.plan disk.moments_before new.marks accounts) (sym gone.accounts)
-          (subst (λ (d : HandedDisk). IsSettled d.content d.accounts → AreMoments new.bank new.plan d.accounts new.marks (accounts_of new.journal)) handed_so
-          (kept.moments (sym gone.tells ∙ still t)) settled);
+          (subst (λ (d : HandedDisk). AreMoments new.bank new.plan d.accounts new.marks (accounts_of new.journal)) handed_so
+          (kept.moments (sym gone.tells ∙ still t)));
     } in
     let examined = subst (λ (d : DiskSeen). IsExamined b plan base d (notes_of old) (notes_of new) (history new.marks)) (sym same)
     (examined_so b plan base disk old new closed) in

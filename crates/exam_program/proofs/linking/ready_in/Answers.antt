@@ -1,7 +1,5 @@
-use Rattle.std.proofs.Common.{◌≡◌, ◌∙◌, ℕ, Err, refl, sym, ap, subst}
-use Rattle.exam_program.specs.declared.halt.Halt.{Halt}
+use Rattle.std.proofs.Common.{◌≡◌, ◌∙◌, Err, ap}
 use Rattle.exam_program.specs.declared.halt.Halt.TheVariants as halt
-use Rattle.exam_program.specs.Halts.{HaltsAtBase}
 use Rattle.exam_program.specs.Outside.{outside}
 use Rattle.exam_program.proofs.LinkLaws.{linked_ready, base_early, base_not_files}
 use Rattle.exam_program.proofs.OutcomeLaws.{halts_at_exam, halts_at_base}

@@ -25,7 +25,7 @@ returns-in-Err-clause-err g c = λ words o is same.
     let was = g.O.Sink.written c.args.out.now in
     let tried = c.in-Err.ensures in
     let image = λ (t : seen.told ≡ true). g.met.D.Disk.is_image c.in-Err.disk (tried.frame_err.tells ∙ t) in
-    let keeps = keeps_so g.D.Disk.tells g.D.Disk.content g.D.Disk.accounts g.D.Disk.faults c.args.disk c.in-Err.disk b p image tried.settled_err tried.moments_err in
+    let keeps = keeps_so g.D.Disk.tells g.D.Disk.content g.D.Disk.accounts g.D.Disk.faults c.args.disk c.in-Err.disk b p image tried.moments_err in
     let cut : IsMigrationCutOff b p seen = record { keeps = keeps; unwritten = tried.unwritten_err } in
     let untouched = λ (e : IsOfContent fault). unwritten_so g.D.Disk.tells g.D.Disk.content g.D.Disk.accounts g.D.Disk.faults c.args.disk c.in-Err.disk (tried.untouched e) (tried.unwritten e) in
     let so = λ (P : DiskSeen → Type 0) (x : P seen). subst P (sym same) x in
@@ -45,7 +45,7 @@ returns-in-Ok-clause-ok g c =
     let now = g.O.Sink.written c.put_text-printed.new.out in
     let moved = c.in-Ok.ensures in
     let image = λ (t : seen.told ≡ true). g.met.D.Disk.is_image c.in-Ok.disk (moved.frame.tells ∙ t) in
-    let keeps = keeps_so g.D.Disk.tells g.D.Disk.content g.D.Disk.accounts g.D.Disk.faults c.args.disk c.in-Ok.disk b p image moved.settled moved.moments in
+    let keeps = keeps_so g.D.Disk.tells g.D.Disk.content g.D.Disk.accounts g.D.Disk.faults c.args.disk c.in-Ok.disk b p image moved.moments in
     let done : IsMigrationDone b p seen c.in-Ok.done = record { migrated = moved.migrated; stands = moved.stands; short = moved.limit; images = moved.images; switched = moved.switched; keeps = keeps } in
     let line = migrated_text c.in-Ok.done.records c.in-Ok.done.length in
     let outcome : (words : List (List ℕ)) (o : Outside) → IsMigrationOf words o b p → o.disk ≡ seen → Outcome words o 0 line = λ words o is same.
@@ -65,7 +65,7 @@ returns-in-Ok-clause-err g c =
     let now = g.O.Sink.written c.put_text-printed.new.out in
     let moved = c.in-Ok.ensures in
     let image = λ (t : seen.told ≡ true). g.met.D.Disk.is_image c.in-Ok.disk (moved.frame.tells ∙ t) in
-    let keeps = keeps_so g.D.Disk.tells g.D.Disk.content g.D.Disk.accounts g.D.Disk.faults c.args.disk c.in-Ok.disk b p image moved.settled moved.moments in
+    let keeps = keeps_so g.D.Disk.tells g.D.Disk.content g.D.Disk.accounts g.D.Disk.faults c.args.disk c.in-Ok.disk b p image moved.moments in
     let done : IsMigrationDone b p seen c.in-Ok.done = record { migrated = moved.migrated; stands = moved.stands; short = moved.limit; images = moved.images; switched = moved.switched; keeps = keeps } in
     let line = migrated_text c.in-Ok.done.records c.in-Ok.done.length in
     if_err (IsUnprinted told_out was now line)

@@ -47,3 +47,8 @@ returns-clause-err g c =
     c.migrate_exam.result.1
     (λ h halts told words e. halts words o (record { bank = bank; plan = plan; asked = e; reads = c.in-Ok.ensures.ok told }) refl)
     c.migrate_exam.ensures.err
+
+-- what the disk allows
+pub migrate_exam-requires-clause-allows : goal.migrate_exam-requires-clause-allows
+migrate_exam-requires-clause-allows g c =
+    c.requires.allows c.args.bank.now c.args.plan.now c.in-Ok.exam.bank c.in-Ok.exam.spec c.in-Ok.ensures.ok

@@ -1,8 +1,8 @@
-use Rattle.std.proofs.Common.{rules, ◌≡◌, ℕ, List, Some, inl, inr, refl, sym, ap, ◌∙◌, subst}
+use Rattle.std.proofs.Common.{rules, ℕ, List, Some, inl, inr, refl, sym, ap, ◌∙◌, subst}
 use Rattle.exam_program.specs.Runs.{idle}
 use Rattle.std.specs.Prelude.{map, string_bytes}
 use Rattle.std.specs.Option.{option_map}
-use Rattle.command_line.specs.Commands.{IsOfJournal, IsOfDoors, said}
+use Rattle.command_line.specs.Commands.{IsOfJournal, IsOfDoors, IsOfLinked, said}
 use Rattle.exam_text.specs.Texts.{no_memory}
 use Rattle.exam_serve.proofs.Left.{still_lent}
 use Rattle.exam_program.specs.Outside.{outside, disk_seen}
@@ -129,3 +129,19 @@ returns-in-Ok-Some-Ship g c =
       disk = c.ship.ensures.disk;
       doors = c.ship.ensures.doors;
     }
+
+-- ---- what is asked of the links
+pub serve-requires-clause-fair : goal.serve-requires-clause-fair
+serve-requires-clause-fair g c κs within = λ office opened reads base first.
+    let asked = (sym c.in-Ok-Some-Serve.ensures.command ∙ ap (λ x. option_map said x) c.in-Ok-Some-Serve.field-0-is ∙ ap (λ x. Some (said x)) c.in-Ok-Some-Serve.field-0-0-is) in
+    c.requires.fair office opened (record { bank = _; plan = _; asked = asked; reads = reads; is_base = base; first = first })
+
+pub follow-requires-clause-allowed : goal.follow-requires-clause-allowed
+follow-requires-clause-allowed g c κs within =
+    let asked = (sym c.in-Ok-Some-Follow.ensures.command ∙ ap (λ x. option_map said x) c.in-Ok-Some-Follow.field-0-is ∙ ap (λ x. Some (said x)) c.in-Ok-Some-Follow.field-0-0-is) in
+    c.requires.allowed (subst IsOfLinked (sym asked) tt)
+
+pub ship-requires-clause-allowed : goal.ship-requires-clause-allowed
+ship-requires-clause-allowed g c κs within =
+    let asked = (sym c.in-Ok-Some-Ship.ensures.command ∙ ap (λ x. option_map said x) c.in-Ok-Some-Ship.field-0-is ∙ ap (λ x. Some (said x)) c.in-Ok-Some-Ship.field-0-0-is) in
+    c.requires.allowed (subst IsOfLinked (sym asked) tt)

@@ -1,6 +1,3 @@
-use Rattle.std.proofs.Common.{ℕ, Bool, List}
-use Rattle.std.specs.Prelude.{map, string_bytes}
-use Rattle.exam_program.specs.Outside.{outside, disk_seen}
 use Rattle.exam_program.proofs.LinkLaws.{any_leaves}
 use Rattle.exam_program.proofs.program.run.Goals as goal
 
@@ -9,3 +6,6 @@ returns-clause-answers g c = λ told. rw (← c.bytes_of-token.ensures) (c.left_
 
 pub returns-clause-journal : goal.returns-clause-journal
 returns-clause-journal g c = λ told. rw (← c.bytes_of-token.ensures) (any_leaves _ _ _ _ _ _ _ _ _ _ (c.left_of-left.ensures.answers told))
+
+pub left_of-left-requires-clause-fair : goal.left_of-left-requires-clause-fair
+left_of-left-requires-clause-fair g c κs within = λ office opened is. rw c.bytes_of-token.ensures (c.requires.fair office opened is)

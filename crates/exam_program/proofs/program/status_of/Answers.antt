@@ -1,4 +1,4 @@
-use Rattle.std.proofs.Common.{◌≡◌, ℕ, List, None, Err, inl, inr, sym, ◌∙◌, ap}
+use Rattle.std.proofs.Common.{◌≡◌, ℕ, None, Err, inl, inr, sym, ◌∙◌, ap}
 use Rattle.std.specs.Option.{option_map}
 use Rattle.command_line.specs.Commands.{command_of, said}
 use Rattle.exam_program.specs.Outside.{outside, disk_seen}

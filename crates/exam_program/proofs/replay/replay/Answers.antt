@@ -26,7 +26,7 @@ returns-in-Err-clause-err g c =
     let disk = disk_seen g.D.Disk.tells g.D.Disk.content g.D.Disk.accounts g.D.Disk.faults c.args.disk c.in-Err.disk in
     let opened = c.in-Err.ensures in
     let image = λ (t : disk.told ≡ true). g.met.D.Disk.is_image c.in-Err.disk (opened.frame_err.tells ∙ t) in
-    let failed = λ (e : c.in-Err.fault ≡ FailedDisk). failing_so g.D.Disk.tells g.D.Disk.content g.D.Disk.accounts g.D.Disk.faults c.args.disk c.in-Err.disk b plan (opened.cause e) image opened.settled_err in
+    let failed = λ (e : c.in-Err.fault ≡ FailedDisk). failing_so g.D.Disk.tells g.D.Disk.content g.D.Disk.accounts g.D.Disk.faults c.args.disk c.in-Err.disk b plan (opened.cause e) image opened.moments_err in
     let untouched = λ (e : c.in-Err.fault ≡ FailedDisk → ⊥). unwritten_so g.D.Disk.tells g.D.Disk.content g.D.Disk.accounts g.D.Disk.faults c.args.disk c.in-Err.disk (opened.untouched e) (opened.unwritten e) in
     subst (λ (h : Halt). Halted b plan c.args.base.now disk c.args.requests.now told was was h) (sym c.halt_of_opening.ensures)
     (inl (unopened_so b plan disk c.in-Err.fault opened.why failed untouched, nothing_written told was))
@@ -68,7 +68,7 @@ returns-clause-ok g c =
       told = opened.tells;
       images = sym (ap latest gone.accounts);
       moments = sym gone.accounts;
-      opening = opened.settled;
+      opening = opened.moments;
       left = λ t. g.met.D.Disk.is_image c.into_disk.result (still t);
       content = λ t.
           subst (λ (x : Tables). IsMending x plan (history new.marks) new.doubt disk.left) (done.same.bank ∙ opened.bank)
@@ -103,7 +103,7 @@ returns-clause-err g c =
       told = opened.tells;
       images = sym (ap latest gone.accounts);
       moments = sym gone.accounts;
-      opening = opened.settled;
+      opening = opened.moments;
       left = λ t. g.met.D.Disk.is_image c.into_disk.result (still t);
       content = λ t.
           subst (λ (x : Tables). IsMending x plan (history new.marks) new.doubt disk.left) (done.same.bank ∙ opened.bank)

@@ -1,4 +1,4 @@
-use Rattle.std.proofs.Common.{◌≡◌, ◌∙◌, ℕ, Err, refl, sym, ap, subst}
+use Rattle.std.proofs.Common.{◌∙◌, ℕ, Err, refl, sym, ap, subst}
 use Rattle.command_line.specs.Commands.{Serve}
 use Rattle.exam_serve.proofs.Left.{still_lent}
 use Rattle.exam_program.specs.declared.halt.Halt.{Halt}
@@ -94,3 +94,13 @@ returns g c =
       disk = c.serve_over.ensures.disk;
       doors = c.serve_over.ensures.doors;
     }
+
+-- what the disk allows
+pub serve_over-requires-clause-allows : goal.serve_over-requires-clause-allows
+serve_over-requires-clause-allows g c κs within =
+    c.requires.allows c.args.bank.now c.args.plan.now c.in-Ok.exam.bank c.in-Ok.exam.spec c.in-Ok.ensures.ok
+
+-- ---- what is asked of the links
+pub serve_over-requires-clause-fair : goal.serve_over-requires-clause-fair
+serve_over-requires-clause-fair g c κs within = λ office opened b p form first.
+    c.requires.fair office opened (λ told. rw (b, p) (c.in-Ok.ensures.ok told)) (rw (b, p, form) c.in-Ok-base_form.ensures.base) first

@@ -1,14 +1,17 @@
 use Rattle.std.proofs.Common.{◌≡◌, ◌∙◌, ℕ, List, length, true, refl, sym, ap, subst, arith}
 use Rattle.std.specs.Option.{option_copied}
 use Rattle.std.proofs.lemmas.List.Elements.{filter_map-append}
-use Rattle.exam_edge.specs.Images.{Account, AllImages, IsSettled, latest}
+use Rattle.exam_edge.specs.Images.{Account, AllImages, latest}
+use Rattle.bank_tables.specs.Tables.{Tables}
 use Rattle.form_model.specs.Plan.{Plan}
+use Rattle.history_model.specs.Legality.{LegalRun}
+use Rattle.exam_office.specs.Files.{StandsSecond}
 use Rattle.history_model.specs.Summaries.{summary}
 use Rattle.exam_office.specs.declared.fault.OpenFault.TheVariants.{Disk as FailedDisk}
-use Rattle.exam_office.specs.Marks.{entry_of, history, AreCounted}
+use Rattle.exam_office.specs.Marks.{entry_of, history, reach, AreCounted}
 use Rattle.answer_journal.specs.Journal.{accounts_of, faults_of}
 use Rattle.exam_office.specs.Moments.{AreMoments}
-use Rattle.exam_office.specs.Noting.{OpenedWith}
+use Rattle.exam_office.specs.Noting.{OpenedWith, opened_with}
 use Rattle.exam_office.specs.Writing.{IsMending}
 use Rattle.exam_office.specs.Running.{HandedDisk, handed}
 use Rattle.exam_serve.specs.Results.{notes_of}
@@ -41,7 +44,7 @@ returns-in-Err-clause-answers g c = λ words o is same.
     -- the laws of the disk, which may go to another thread, where this call runs
     let met = g.met.D.Disk g.world.𝓛 g.world.𝓜 g.world.𝓡 ((λ s x. x), (λ x. x), (λ x. x), (λ x. x)) in
     let image = λ (t : disk.told ≡ true). met.is_image c.in-Err.disk (opened.frame_err.tells ∙ t) in
-    let failed = λ (e : c.in-Err.fault ≡ FailedDisk). failing_so g.D.Disk.tells g.D.Disk.content g.D.Disk.accounts g.D.Disk.faults c.args.disk c.in-Err.disk b plan (opened.cause e) image opened.settled_err in
+    let failed = λ (e : c.in-Err.fault ≡ FailedDisk). failing_so g.D.Disk.tells g.D.Disk.content g.D.Disk.accounts g.D.Disk.faults c.args.disk c.in-Err.disk b plan (opened.cause e) image opened.moments_err in
     let untouched = λ (e : c.in-Err.fault ≡ FailedDisk → ⊥). unwritten_so g.D.Disk.tells g.D.Disk.content g.D.Disk.accounts g.D.Disk.faults c.args.disk c.in-Err.disk (opened.untouched e) (opened.unwritten e) in
     let unopened = subst (λ (d : DiskSeen). IsUnopened b plan d why) (sym same) (unopened_so b plan disk c.in-Err.fault opened.why failed untouched) in
     let halts = subst (λ (h : Halt). Halts words o told was was h) (sym c.halt_of_opening.ensures)
@@ -96,10 +99,10 @@ returns-clause-answers g c = λ words o is same.
       length_is = λ t sure. ap (λ (file : List ℕ). length file) (asked.content (still t)) ∙ gone.length (still t) sure;
       left = λ t. subst (λ (file : List ℕ). IsMending new.bank new.plan (history new.marks) new.doubt file) (sym (asked.content (still t))) (gone.content (still t));
       images = λ t. subst (λ (accounts : List Account). AllImages (IsMending new.bank new.plan (history new.marks) new.doubt) (latest accounts)) (sym (asked.accounts (still t))) (gone.images (still t));
-      moments = λ t settled.
+      moments = λ t.
           subst (λ (accounts : List Account). AreMoments new.bank new.plan disk.moments_before new.marks accounts) (sym (asked.accounts (still t) ∙ gone.accounts))
-          (subst (λ (d : HandedDisk). IsSettled d.content d.accounts → AreMoments new.bank new.plan d.accounts new.marks (accounts_of new.journal)) handed_so
-          (c.keeps.ensures.moments (sym gone.tells ∙ still t)) settled);
+          (subst (λ (d : HandedDisk). AreMoments new.bank new.plan d.accounts new.marks (accounts_of new.journal)) handed_so
+          (c.keeps.ensures.moments (sym gone.tells ∙ still t)));
     } in
     let examined = subst (λ (d : DiskSeen). IsExamined b plan base d (notes_of old) (notes_of new) (history new.marks)) (sym same)
     (examined_so b plan base disk old new closed) in
@@ -159,3 +162,23 @@ returns-clause-failed g c = λ is.
 
 pub returns-clause-opened : goal.returns-clause-opened
 returns-clause-opened g c = ending_late c.serve_doors-office.result.end c.end_over-status.result c.end_over-status.ensures.status
+
+-- ---- what is asked of the links
+pub serve_doors-office-requires-clause-fair : goal.serve_doors-office-requires-clause-fair
+serve_doors-office-requires-clause-fair g c κs within =
+    let b = c.args.bank.now in
+    let plan = c.args.spec.now in
+    let office = c.in-Ok.office in
+    let opened = c.in-Ok.ensures in
+    c.requires.fair (opened_with office) office.marks opened.bank opened.plan opened.base (record {
+      found = history office.marks;
+      size = reach office.marks;
+      is = opened.marks;
+      legal = subst (λ (t : Tables). LegalRun t office.plan (history office.marks)) (sym opened.bank)
+          (subst (λ (p : Plan). LegalRun b p (history office.marks)) (sym opened.plan) opened.legal);
+      stands = λ t.
+          let file = g.D.Disk.content c.args.disk in
+          subst (λ (x : Tables). StandsSecond x office.plan (history office.marks) file) (sym opened.bank)
+          (subst (λ (p : Plan). StandsSecond b p (history office.marks) file) (sym opened.plan)
+          (moved_so b plan (history office.marks) file (opened.stands t) (opened.version t)));
+    })

@@ -1,4 +1,4 @@
-use Rattle.std.proofs.Common.{◌≡◌, ◌∙◌, ℕ, Err, inl, refl, sym, ap, subst}
+use Rattle.std.proofs.Common.{◌∙◌, ℕ, Err, inl, refl, sym, ap, subst}
 use Rattle.command_line.specs.Commands.{Ship}
 use Rattle.exam_serve.proofs.Left.{still_lent}
 use Rattle.exam_program.specs.declared.halt.Halt.{Halt}
@@ -69,3 +69,8 @@ returns g c =
       disk = c.ship_over.ensures.disk;
       doors = c.ship_over.ensures.doors;
     }
+
+-- what the disk allows
+pub ship_over-requires-clause-allows : goal.ship_over-requires-clause-allows
+ship_over-requires-clause-allows g c κs within =
+    c.requires.allows c.args.bank.now c.args.plan.now c.in-Ok.ready.exam.bank c.in-Ok.ready.exam.spec c.in-Ok.ensures.ok

@@ -1,12 +1,11 @@
-use Rattle.std.proofs.Common.{◌≡◌, ◌∙◌, ℕ, ◌++◌, [], List, drop, length, All, false, true, inl, inr, refl, sym, ap, subst, arith}
+use Rattle.std.proofs.Common.{◌≡◌, ◌∙◌, ℕ, [], List, drop, length, All, false, true, inl, inr, refl, sym, ap, subst, arith}
 use Rattle.std.proofs.lemmas.Bool.{false≢true}
 use Rattle.std.proofs.lemmas.List.{append-nil}
 use Rattle.answer_journal.specs.Journal.{accounts_of, faults_of, identity_of, tells_of}
-use Rattle.bank_tables.specs.Tables.{Tables}
-use Rattle.exam_edge.specs.Images.{Account, AllImages, IsSettled, latest}
+use Rattle.exam_edge.specs.Images.{Account}
 use Rattle.exam_follower.specs.Shipping.{shipped_of}
 use Rattle.exam_office.specs.declared.fault.OpenFault.TheVariants.{Disk as FailedDisk}
-use Rattle.exam_office.specs.Marks.{history, reach, AreCounted}
+use Rattle.exam_office.specs.Marks.{history, AreCounted}
 use Rattle.exam_office.specs.declared.mark.Mark.{Mark}
 use Rattle.exam_office.specs.Moments.{AreMoments}
 use Rattle.exam_office.specs.Noting.{NotedMark, OpenedWith, noted, opened_with}
@@ -29,8 +28,6 @@ use Rattle.exam_program.specs.Linked.{HasFailedFirst}
 use Rattle.exam_serve.specs.Doors.{AreLent, HasFailedDoor}
 use Rattle.exam_serve.specs.Results.{notes_of}
 use Rattle.exam_serve.proofs.Left.{still_lent}
-use Rattle.form_model.specs.Plan.{Plan}
-use Rattle.history_model.specs.declared.entry.Entry.{Entry}
 use Rattle.exam_program.proofs.shipping.ship_over.Goals as goal
 
 -- ---- the journal was not opened
@@ -45,7 +42,7 @@ returns-in-Err-clause-answers g c = λ words o is same.
     let opened = c.in-Err.ensures in
     let why = opening_halt c.in-Err.fault in
     let image = λ (t : disk.told ≡ true). g.met.D.Disk.is_image c.in-Err.disk (opened.frame_err.tells ∙ t) in
-    let failed = λ (e : c.in-Err.fault ≡ FailedDisk). failing_so g.D.Disk.tells g.D.Disk.content g.D.Disk.accounts g.D.Disk.faults c.args.disk c.in-Err.disk b plan (opened.cause e) image opened.settled_err in
+    let failed = λ (e : c.in-Err.fault ≡ FailedDisk). failing_so g.D.Disk.tells g.D.Disk.content g.D.Disk.accounts g.D.Disk.faults c.args.disk c.in-Err.disk b plan (opened.cause e) image opened.moments_err in
     let untouched = λ (e : c.in-Err.fault ≡ FailedDisk → ⊥). unwritten_so g.D.Disk.tells g.D.Disk.content g.D.Disk.accounts g.D.Disk.faults c.args.disk c.in-Err.disk (opened.untouched e) (opened.unwritten e) in
     let unopened = subst (λ (d : DiskSeen). IsUnopened b plan d why) (sym same) (unopened_so b plan disk c.in-Err.fault opened.why failed untouched) in
     let halts = subst (λ (h : Halt). Halts words o told was was h) (sym c.halt_of_opening.ensures)
@@ -125,10 +122,10 @@ returns-clause-answers g c = λ words o is same.
       length_is = λ t sure. gone.length (still t) sure;
       left = λ t. gone.content (still t);
       images = λ t. gone.images (still t);
-      moments = λ t settled.
+      moments = λ t.
           subst (λ (accounts : List Account). AreMoments new.bank new.plan disk.moments_before new.marks accounts) (sym gone.accounts)
-          (subst (λ (d : HandedDisk). IsSettled d.content d.accounts → AreMoments new.bank new.plan d.accounts new.marks (accounts_of new.journal)) handed_so
-          (kept.moments (sym gone.tells ∙ still t)) settled);
+          (subst (λ (d : HandedDisk). AreMoments new.bank new.plan d.accounts new.marks (accounts_of new.journal)) handed_so
+          (kept.moments (sym gone.tells ∙ still t)));
     } in
     let notes_same : notes_of new ≡ notes_of old =
     ap (λ (w : OpenedWith). noted w new.marks) same_opened ∙ ap (λ (m : List Mark). noted (opened_with old) m) same_marks in

@@ -141,3 +141,8 @@ returns g c =
       sink_tells = c.replay.ensures.tells;
       disk = c.replay.ensures.disk;
     }
+
+-- what the disk allows
+pub replay-requires-clause-allows : goal.replay-requires-clause-allows
+replay-requires-clause-allows g c =
+    c.requires.allows c.args.bank.now c.args.plan.now c.in-Ok.exam.bank c.in-Ok.exam.spec c.in-Ok.ensures.ok

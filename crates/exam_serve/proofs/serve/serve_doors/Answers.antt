@@ -1,11 +1,12 @@
 use Rattle.std.proofs.Common.{◌≡◌, [], ap, subst, sym, ◌∙◌, append-nil}
 use Rattle.std.specs.Option.{option_copied}
 use Rattle.turn_lock.specs.Histories.{StartsWith}
-use Rattle.exam_office.specs.Noting.{opened_with}
+use Rattle.exam_hall.specs.Known.{IsOfficeOf}
+use Rattle.exam_office.specs.Noting.{marks_of, opened_with}
 use Rattle.exam_serve.specs.Results.{notes_of}
-use Rattle.exam_serve.proofs.Joins.{starts_through}
-use Rattle.exam_serve.proofs.Left.{all_lent, done_so, failed_so, not_memory, still_lent}
-use Rattle.exam_serve.proofs.Notes.{begins_marks, same_office}
+use Rattle.exam_serve.proofs.Ends.{never_memory}
+use Rattle.exam_serve.proofs.Left.{all_lent, done_so, failed_so, still_lent}
+use Rattle.exam_serve.proofs.Notes.{begins_marks, same_office, marks_noted}
 use Rattle.exam_serve.proofs.Wholes.{result_of}
 use Rattle.exam_serve.proofs.serve.serve_doors.Goals as goal
 
@@ -15,33 +16,30 @@ returns-in-Err-new-clause-begins g c = ([], ap (λ o. o.marks) c.in-Err-new.ensu
 pub returns-clause-same : goal.returns-clause-same
 returns-clause-same g c =
     let first = c.in-Ok-new.made.1 in
-    let last = c.serve_at-failed.new.pass in
     let begun : first.seen ≡ notes_of c.args.office = ap (λ p. p.seen) c.in-Ok-new.ensures.pass in
     same_office (opened_with c.args.office) (opened_with c.close-office.result)
     c.args.office.marks c.close-office.result.marks first.seen begun c.in-Ok-new.ensures.of.opening.noted
-    (starts_through _ last.seen _ c.close-office.ensures.begins
-    (subst (λ l. StartsWith last.seen l) begun c.serve_at-failed.ensures.served.grows))
+    (subst (λ l. StartsWith (notes_of c.close-office.result) l) begun (c.serve_at-end.ensures.served
+    (notes_of c.close-office.result) c.close-office.ensures.begins c.close-office.ensures.all).grows)
 
 pub returns-clause-begins : goal.returns-clause-begins
 returns-clause-begins g c =
     let first = c.in-Ok-new.made.1 in
-    let last = c.serve_at-failed.new.pass in
     let begun : first.seen ≡ notes_of c.args.office = ap (λ p. p.seen) c.in-Ok-new.ensures.pass in
     begins_marks (opened_with c.args.office) (opened_with c.close-office.result)
     c.args.office.marks c.close-office.result.marks
-    (starts_through _ last.seen _ c.close-office.ensures.begins
-    (subst (λ l. StartsWith last.seen l) begun c.serve_at-failed.ensures.served.grows))
+    (subst (λ l. StartsWith (notes_of c.close-office.result) l) begun (c.serve_at-end.ensures.served
+    (notes_of c.close-office.result) c.close-office.ensures.begins c.close-office.ensures.all).grows)
 
 pub returns-clause-result : goal.returns-clause-result
 returns-clause-result g c =
     let first = c.in-Ok-new.made.1 in
-    let last = c.serve_at-failed.new.pass in
     let begun : first.seen ≡ notes_of c.args.office = ap (λ p. p.seen) c.in-Ok-new.ensures.pass in
     result_of (option_copied c.args.token) g.L.Door.tells g.L.Door.coming g.L.Door.returned g.L.Door.is_out g.L.Door.faults g.L.Door.identity
     g.L.Link.Link.tells g.L.Link.Link.left g.L.Link.Link.written g.L.Link.Link.faults g.L.Link.Link.identity
-    c.args.office c.close-office.result c.args.doors.items c.serve_at-failed.new.doors.items
-    c.serve_at-failed.result c.end_of.result last first.seen c.end_of.ensures begun c.close-office.ensures.begins
-    c.serve_at-failed.ensures.served
+    c.args.office c.close-office.result c.args.doors.items c.serve_at-end.new.doors.items
+    c.serve_at-end.result first.seen begun
+    (c.serve_at-end.ensures.served (notes_of c.close-office.result) c.close-office.ensures.begins c.close-office.ensures.all)
 
 pub returns-in-Err-clause-lent : goal.returns-in-Err-clause-lent
 returns-in-Err-clause-lent g c = still_lent g.L.Door.tells g.L.Door.is_out g.L.Door.faults g.L.Door.identity c.args.doors.items c.requires.home
@@ -53,22 +51,36 @@ pub returns-clause-lent : goal.returns-clause-lent
 returns-clause-lent g c =
     all_lent (option_copied c.args.token) g.L.Door.tells g.L.Door.coming g.L.Door.returned g.L.Door.is_out g.L.Door.faults g.L.Door.identity
     g.L.Link.Link.tells g.L.Link.Link.left g.L.Link.Link.written g.L.Link.Link.faults g.L.Link.Link.identity
-    c.in-Ok-new.made.1.seen c.serve_at-failed.new.pass.seen c.args.doors.items c.serve_at-failed.new.doors.items
-    c.serve_at-failed.result c.serve_at-failed.ensures.served
+    c.in-Ok-new.made.1.seen (notes_of c.close-office.result) c.args.doors.items c.serve_at-end.new.doors.items
+    c.serve_at-end.result
+    (c.serve_at-end.ensures.served (notes_of c.close-office.result) c.close-office.ensures.begins c.close-office.ensures.all)
 
 pub returns-clause-unused : goal.returns-clause-unused
-returns-clause-unused g c = λ is. absurd (not_memory c.serve_at-failed.result c.end_of.result c.end_of.ensures is)
+returns-clause-unused g c = λ is. absurd (never_memory _ _ c.serve_at-end.result
+    (c.serve_at-end.ensures.served (notes_of c.close-office.result) c.close-office.ensures.begins c.close-office.ensures.all).end_is is)
 
 pub returns-clause-done : goal.returns-clause-done
 returns-clause-done g c =
     done_so (option_copied c.args.token) g.L.Door.tells g.L.Door.coming g.L.Door.returned g.L.Door.is_out g.L.Door.faults g.L.Door.identity
     g.L.Link.Link.tells g.L.Link.Link.left g.L.Link.Link.written g.L.Link.Link.faults g.L.Link.Link.identity
-    c.in-Ok-new.made.1.seen c.serve_at-failed.new.pass.seen c.args.doors.items c.serve_at-failed.new.doors.items
-    c.serve_at-failed.result c.end_of.result c.end_of.ensures c.serve_at-failed.ensures.served
+    c.in-Ok-new.made.1.seen (notes_of c.close-office.result) c.args.doors.items c.serve_at-end.new.doors.items
+    c.serve_at-end.result
+    (c.serve_at-end.ensures.served (notes_of c.close-office.result) c.close-office.ensures.begins c.close-office.ensures.all)
 
 pub returns-clause-failed : goal.returns-clause-failed
 returns-clause-failed g c =
     failed_so (option_copied c.args.token) g.L.Door.tells g.L.Door.coming g.L.Door.returned g.L.Door.is_out g.L.Door.faults g.L.Door.identity
     g.L.Link.Link.tells g.L.Link.Link.left g.L.Link.Link.written g.L.Link.Link.faults g.L.Link.Link.identity
-    c.in-Ok-new.made.1.seen c.serve_at-failed.new.pass.seen c.args.doors.items c.serve_at-failed.new.doors.items
-    c.serve_at-failed.result c.end_of.result c.end_of.ensures c.serve_at-failed.ensures.served
+    c.in-Ok-new.made.1.seen (notes_of c.close-office.result) c.args.doors.items c.serve_at-end.new.doors.items
+    c.serve_at-end.result
+    (c.serve_at-end.ensures.served (notes_of c.close-office.result) c.close-office.ensures.begins c.close-office.ensures.all)
+
+pub serve_at-end-requires-clause-fair : goal.serve_at-end-requires-clause-fair
+serve_at-end-requires-clause-fair g c κs within = λ door link caller there comes is.
+    let office = opened_with c.args.office in
+    let marks : marks_of c.in-Ok-new.made.1.seen ≡ c.args.office.marks =
+    ap (λ p. marks_of p.seen) c.in-Ok-new.ensures.pass ∙ marks_noted office c.args.office.marks in
+    c.requires.fair door link caller there comes (record {
+      hall = subst (λ h. IsOfficeOf office h) (sym is.0) c.in-Ok-new.ensures.office;
+      begins = subst (λ l. StartsWith (marks_of caller.pass.seen) l) marks is.1;
+    })

@@ -9,12 +9,12 @@ links-init g c = record {
   tells = refl;
   passed = passed_none g.L.Door.tells g.L.Door.coming g.L.Door.returned g.L.Door.is_out g.L.Door.faults g.L.Door.identity
       g.L.Link.Link.tells g.L.Link.Link.left g.L.Link.Link.written g.L.Link.Link.faults g.L.Link.Link.identity
-      _ _ c.args.door.now c.requires;
+      _ _ c.args.door.now c.requires.home;
   faults = omega arith;
 }
 
-pub stream_next-requires-after_bounds : goal.stream_next-requires-after_bounds
-stream_next-requires-after_bounds g c κs within = c.links.invariant.passed.gives.home
+pub stream_next-requires-clause-home : goal.stream_next-requires-clause-home
+stream_next-requires-clause-home g c κs within = c.links.invariant.passed.gives.home
 
 pub links-preserved : goal.links-preserved
 links-preserved g c =

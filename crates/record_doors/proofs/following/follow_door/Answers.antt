@@ -9,12 +9,12 @@ links-init g c = record {
   later = g.met.F.Replica.later_itself c.args.replica.now;
   followed = followed_none g.L.Door.tells g.L.Door.coming g.L.Door.returned g.L.Door.is_out g.L.Door.faults g.L.Door.identity
       g.L.Link.Link.tells g.L.Link.Link.left g.L.Link.Link.written g.L.Link.Link.faults g.L.Link.Link.identity
-      _ _ _ _ c.args.door.now c.requires;
+      _ _ _ _ c.args.door.now c.requires.home;
   faults = omega arith;
 }
 
-pub follow_next-requires-after_bounds : goal.follow_next-requires-after_bounds
-follow_next-requires-after_bounds g c κs within = c.links.invariant.followed.gives.home
+pub follow_next-requires-clause-home : goal.follow_next-requires-clause-home
+follow_next-requires-clause-home g c κs within = c.links.invariant.followed.gives.home
 
 pub links-preserved : goal.links-preserved
 links-preserved g c =

@@ -4,8 +4,8 @@ use Rattle.record_links.specs.Messages.{bytes_of, offer_of, IsPayload, IsFitting
 use Rattle.record_links.proofs.Taking.{offer_step, offer_turn}
 use Rattle.record_links.proofs.following.take_message.Goals as goal
 
-pub take_offer-requires : goal.take_offer-requires
-take_offer-requires g c = subst IsPayload (sym c.deref.ensures.value) (subst IsFitting c.in-Ok-Offer.field-0-is c.in-Ok-Offer.ensures.fits)
+pub take_offer-requires-clause-payload : goal.take_offer-requires-clause-payload
+take_offer-requires-clause-payload g c = subst IsPayload (sym c.deref.ensures.value) (subst IsFitting c.in-Ok-Offer.field-0-is c.in-Ok-Offer.ensures.fits)
 
 pub returns-in-Ok-Offer-clause-steps : goal.returns-in-Ok-Offer-clause-steps
 returns-in-Ok-Offer-clause-steps g c =

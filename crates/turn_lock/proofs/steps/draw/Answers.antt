@@ -8,5 +8,5 @@ fetch_add-requires g c =
       c.requires.of.0,
       omega
           (arith, c.requires.of.1.0),
-      draws g.V.Kept.history _ c.args.seat.now.id c.args.seat.now.me i.ticket i.served i.out,
+      draws g.V.Kept.history _ c.args.seat.now.id c.args.seat.now.me i.live i.ticket i.served i.out,
     )

@@ -2,6 +2,8 @@ use Rattle.std.proofs.Common.{◌≡◌, ◌∙◌, sym, subst, refl, Some}
 use mathlib.Core.Option.{some-injective}
 use Rattle.turn_lock.proofs.Keeping.{closes}
 use Rattle.turn_lock.specs.Histories.{StartsWith}
+use Rattle.turn_lock.specs.Passes.{KnowsAll}
+use Rattle.turn_lock.specs.Seats.{known_of}
 use Rattle.turn_lock.proofs.steps.keep.Goals as goal
 
 some_is : {A : Type 0} {a b : A} → Some a ≡ Some b → a ≡ b
@@ -23,4 +25,7 @@ returns g c =
     c.close_with-closed.ensures.values.2 in
     let same : c.unwrap-value.result ≡ p.0 = some_is (sym c.unwrap-value.ensures
     ∙ some-injective c.take.result (Some p.0) (sym c.take.ensures.value ∙ p.1)) in
-    subst (λ x. StartsWith (g.V.Kept.history x) c.args.seat.me.0.seen) (sym same) p.2
+    record {
+      begins = subst (λ x. StartsWith (g.V.Kept.history x) c.args.seat.me.0.seen) (sym same) p.2;
+      all = subst (λ x. KnowsAll (g.V.Kept.history x) (known_of c.args.seat.table_id c.args.seat.me.0)) (sym same) (p.3 c.args.seat.table_id);
+    }

@@ -14,7 +14,7 @@ write_batch-requires-clause-moving g c =
     let done = sym c.is_err.ensures.value ∙ c.if-is_err.false in
     let moving = rw (← c.self.view_is) at c.requires.moving in
     λ told. let some = moving told in
-    (some.0, some.1 ++ c.args.payload.now ∷ [], c.self.inside.gate, one_more some.0 some.1 _ _ _ _ _ some.2 c.args.payload.now _ _ c.requires.fits (not_err _ done c.put_record.ensures.added) (omega arith))
+    (some.0, some.1 ++ c.args.payload.now ∷ [], c.self.inside.gate, one_more some.0 some.1 _ _ _ _ _ some.2 c.args.payload.now _ _ c.requires.fits (not_err _ done c.put_record.ensures.added) (omega arith), some.3)
 
 pub returns-then-is_err-2-clause-moments : goal.returns-then-is_err-2-clause-moments
 returns-then-is_err-2-clause-moments g c =

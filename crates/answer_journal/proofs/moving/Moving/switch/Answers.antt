@@ -1,4 +1,4 @@
-use Rattle.std.proofs.Common.{List, ℕ, [], ◌∷◌, sym, ◌∙◌, arith, length-append, subst}
+use Rattle.std.proofs.Common.{inl, List, ℕ, [], ◌∷◌, sym, ◌∙◌, arith, length-append, subst}
 use Rattle.answer_journal.specs.Moving.{IsMovingWith}
 use Rattle.answer_journal.specs.Standing.{moved_records}
 use Rattle.answer_journal.proofs.MovingMoments.{waiting_size}
@@ -10,7 +10,7 @@ write_rest-requires-clause-moving g c =
     let self = c.self.inside in
     let moving = rw (← c.self.view_is) at c.requires in
     λ told. let some = moving told in
-    (some.0, some.1, self.gate, subst (λ (l : List ℕ). IsMovingWith some.0 some.1 (g.D.Disk.content self.disk) l (g.D.Disk.accounts self.disk) self.gate self.end) (sym c.deref.ensures.value) some.2)
+    (some.0, some.1, self.gate, subst (λ (l : List ℕ). IsMovingWith some.0 some.1 (g.D.Disk.content self.disk) l (g.D.Disk.accounts self.disk) self.gate self.end) (sym c.deref.ensures.value) some.2, λ before file u v. some.3 before file u (inl v))
 
 pub open_switch-requires : goal.open_switch-requires
 open_switch-requires g c =
@@ -22,7 +22,7 @@ open_switch-requires g c =
           let told = sym c.write_rest.ensures.frame.tells ∙ told1 in
           let some = moving told in
           let there = subst (λ (l : List ℕ). IsMovingWith some.0 some.1 (g.D.Disk.content self.disk) l (g.D.Disk.accounts self.disk) self.gate self.end) (sym c.deref.ensures.value) some.2 in
-          (some.0, some.1, not_err _ done c.write_rest.ensures.whole told some.0 some.1 _ there);
+          (some.0, some.1, not_err _ done c.write_rest.ensures.whole told some.0 some.1 _ there, some.3);
     }
 
 pub returns-then-is_err-clause-moments_err : goal.returns-then-is_err-clause-moments_err

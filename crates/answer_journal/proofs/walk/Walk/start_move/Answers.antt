@@ -1,8 +1,8 @@
 use Rattle.std.proofs.Common.{◌+◌, [], List, ℕ, sym, ◌∙◌, subst}
-use Rattle.exam_edge.specs.Images.{AtEachMoment}
+use Rattle.exam_edge.specs.Images.{Allows, AtEachMoment}
 use Rattle.answer_journal.specs.Moving.{IsMoving, IsMovingWith, IsUnmoved}
 use Rattle.answer_journal.specs.Versions.{counted_in}
-use Rattle.answer_journal.proofs.Finishing.{list_first, only_unmoved, rest_first, then_unmoved, unmoved_first, unmoved_itself, unmoved_moments}
+use Rattle.answer_journal.proofs.Finishing.{list_first, only_unmoved, rest_first, same_unmoved, then_unmoved, unmoved_first, unmoved_itself, unmoved_moments}
 use Rattle.answer_journal.proofs.MovingMoments.{none_waits}
 use Rattle.answer_journal.proofs.SwitchMoments.{not_err}
 use Rattle.answer_journal.proofs.Walking.{not_yet, ends_at_last}
@@ -157,3 +157,29 @@ returns-in-Err-clause-settled_err g c =
     let marked = subst (λ (l : List (List ℕ)). AtEachMoment (g.D.Disk.accounts new) a2 (IsUnmoved l)) list (c.write_mark.ensures.moments (c.finish_file.ensures.frame.tells ∙ told)) in
     let all = then_unmoved ps a0 (g.D.Disk.accounts new) a2 (unmoved_moments (g.D.Disk.tells w.disk) (g.D.Disk.content w.disk) (g.D.Disk.accounts w.disk) w.extent x told one a0 (g.D.Disk.accounts new) (c.finish_file.ensures.moments told)) marked in
     only_unmoved ps (g.D.Disk.content w.disk) a0 a2 (unmoved_itself (g.D.Disk.tells w.disk) (g.D.Disk.content w.disk) (g.D.Disk.accounts w.disk) w.extent x told one) all images)
+
+-- the old records count before and after
+pub finish_file-requires-clause-comes : goal.finish_file-requires-clause-comes
+finish_file-requires-clause-comes g c =
+    let w = c.self.inside in
+    let one = rw (← c.self.view_is) at c.requires.version in
+    let comes = rw (← c.self.view_is) at c.requires.comes in
+    λ told file gives.
+    let x = c.self.invariant.opening.extent_is in
+    comes told (g.D.Disk.content w.disk) file (unmoved_itself (g.D.Disk.tells w.disk) (g.D.Disk.content w.disk) (g.D.Disk.accounts w.disk) w.extent x told one)
+    (same_unmoved (g.D.Disk.tells w.disk) (g.D.Disk.content w.disk) (g.D.Disk.accounts w.disk) w.extent x told one file gives)
+
+pub write_mark-requires-clause-comes : goal.write_mark-requires-clause-comes
+write_mark-requires-clause-comes g c =
+    let w = c.self.inside in
+    let one = rw (← c.self.view_is) at c.requires.version in
+    let comes = rw (← c.self.view_is) at c.requires.comes in
+    let new = c.finish_file.new.disk in
+    let done = sym c.is_err.ensures.value ∙ c.if-is_err.false in
+    λ told1.
+    let told = sym c.finish_file.ensures.frame.tells ∙ told1 in
+    let x = c.self.invariant.opening.extent_is in
+    let rest = not_err _ done c.finish_file.ensures.rest told in
+    let keeps = not_err _ done c.finish_file.ensures.keeps told in
+    let list = list_first (g.D.Disk.tells w.disk) (g.D.Disk.content w.disk) (g.D.Disk.accounts w.disk) w.extent x told one (g.D.Disk.content new) (g.D.Disk.accounts new) (w.extent.end + 1) rest keeps in
+    subst (λ (ps : List (List ℕ)). Allows g.D.Disk.may_become (IsUnmoved ps) (IsUnmoved ps)) (sym list) (comes told)

@@ -40,8 +40,9 @@ invariant_of-self g c =
     let here : IsCursorOf j cursor = subst (λ (r : Running g.row.D.Denot). IsCursorOf r.journal cursor) (sym c.self.view_is) c.requires.cursor in
     let j1 = c.read_frame.new.self in
     let e = c.read_frame.ensures in (
-      kept_read o.bank.now o.spec.now j j1 e.frame.tells e.content o.base (handed g.D.Disk.content g.D.Disk.accounts g.D.Disk.faults o.opened.value) o.book o.marks o.doubt none c.self.invariant.0 e.ready e.length e.limit e.frame.grows e.accounts,
+      kept_read o.bank.now o.spec.now j j1 e.frame.tells e.content o.base (handed g.D.Disk.content g.D.Disk.accounts g.D.Disk.faults o.opened.value) o.book o.marks o.doubt none c.self.invariant.0 e.ready e.length e.limit e.versions.1 e.frame.grows e.accounts,
       vectors_read o.bank.now o.spec.now j j1 e.frame.tells e.content (history o.marks) o.doubt o.vectors.each.items o.vectors.doubt none c.self.invariant.1,
+      c.self.invariant.2,
     )
 
 pub returns-clause-record : goal.returns-clause-record

@@ -1,24 +1,65 @@
 use Rattle.std.proofs.Common.{◌≡◌, ◌≤◌, ◌∙◌, ◌++◌, ℕ, Bool, List, length, IsTrue, refl, sym, ap, subst, arith}
-use Rattle.answer_journal.specs.Journal.{accounts_of, faults_of, tells_of, payloads_of}
+use Rattle.answer_journal.specs.Journal.{accounts_of, faults_of, start_of, tells_of, payloads_of}
 use Rattle.answer_journal.specs.OpenFault.{IsWalkAnswer, fault_in}
-use Rattle.answer_journal.specs.Opening.{PutsTailAside, tail_gates}
+use Rattle.answer_journal.specs.Opening.{AllowsSame, PutsTailAside, tail_gates}
 use Rattle.answer_journal.specs.Versions.{contents, counted_in, second}
 use Rattle.exam_edge.specs.Faults.{Rose}
 use Rattle.exam_edge.specs.Lent.{IsLent}
-use Rattle.exam_edge.specs.Images.{Account, AtEachMoment, IsImage, IsSettled, latest}
+use Rattle.exam_edge.specs.Images.{Account, AtEachMoment, IsImage, latest}
 use Rattle.history_model.specs.declared.entry.Entry.{Entry}
 use Rattle.history_model.specs.Legality.{LegalRun}
 use Rattle.history_model.proofs.JudgingLaws.{backed_is_legal_run}
-use Rattle.exam_office.specs.Files.{Stands, StandsSecond}
+use Rattle.exam_office.specs.Files.{IsImageOrStands, Stands, StandsSecond}
+use Rattle.exam_office.specs.Moments.{AreOpeningMoments}
+use Rattle.exam_office.proofs.MigratingFiles.{while_read}
 use Rattle.std.proofs.Common.{Option, Some, None}
-use Rattle.answer_journal.specs.Walk.{first_payloads}
+use Rattle.answer_journal.specs.Walk.{first_gate, first_payloads}
 use Rattle.exam_office.specs.declared.vectors.Vectors.{Vectors}
 use Rattle.exam_office.specs.KeptVectors.{AreTakenWith}
 use Rattle.exam_office.specs.Running.{handed}
-use Rattle.exam_office.proofs.Opened.{history_is, marks_told, kept_open, vectors_open, stands_while_read, stands_while_opened, stands_second, second_too, second_while_opened, short_so, given_by, open_answer, second_version, aside_on, aside_read}
+use Rattle.exam_office.proofs.Opened.{history_is, marks_told, kept_open, vectors_open, stands_while_read, stands_while_opened, stands_too, stands_second, second_too, second_while_opened, while_opened, opening_moments, short_so, given_by, open_answer, second_version, aside_on, aside_read}
 use Rattle.exam_office.specs.Opening.{journal_fault, IsReadAnswer, IsOpenAnswer}
+use Rattle.exam_office.proofs.Allowing.{same_allowed}
 use Rattle.exam_office.proofs.Refused.{journal_answer, disk_failed, lent_on, rose_later}
 use Rattle.exam_office.proofs.office.Office.open.Goals as goal
+
+-- ---- each moment
+pub returns-in-Err-clause-moments_err : goal.returns-in-Err-clause-moments_err
+returns-in-Err-clause-moments_err g c = λ told H stands.
+    let a0 = g.D.Disk.accounts c.args.disk in
+    while_read c.args.bank.now c.args.spec.now H (latest a0) a0 (g.D.Disk.accounts c.in-Err.disk) (c.in-Err.ensures.moments_err told)
+
+pub returns-then-record_version-eq1-clause-moments_err : goal.returns-then-record_version-eq1-clause-moments_err
+returns-then-record_version-eq1-clause-moments_err g c = λ told H stands.
+    let b = c.args.bank.now in
+    let plan = c.args.spec.now in
+    let a0 = g.D.Disk.accounts c.args.disk in
+    subst (λ (d : g.row.D.Denot). AtEachMoment a0 (g.D.Disk.accounts d) (IsImageOrStands b plan H (latest a0))) (sym c.stop.ensures)
+    (while_read b plan H (latest a0) a0 (g.D.Disk.accounts c.in-Ok.walk.disk) (c.in-Ok.ensures.moments told))
+
+pub returns-in-Err-take_all-clause-moments_err : goal.returns-in-Err-take_all-clause-moments_err
+returns-in-Err-take_all-clause-moments_err g c = λ told H stands.
+    let b = c.args.bank.now in
+    let plan = c.args.spec.now in
+    let a0 = g.D.Disk.accounts c.args.disk in
+    let same = c.take_all.ensures.accounts (c.in-Ok.ensures.frame.tells ∙ told) in
+    subst (λ (d : g.row.D.Denot). AtEachMoment a0 (g.D.Disk.accounts d) (IsImageOrStands b plan H (latest a0))) (sym c.stop-in-Err-take_all.ensures)
+    (while_read b plan H (latest a0) a0 (g.D.Disk.accounts c.take_all.new.walk.disk)
+    (subst (λ (a : List Account). AtEachMoment a0 a (IsImage (latest a0))) (sym same) (c.in-Ok.ensures.moments told)))
+
+pub returns-in-Err-finish-clause-moments_err : goal.returns-in-Err-finish-clause-moments_err
+returns-in-Err-finish-clause-moments_err g c = λ told H stands.
+    let b = c.args.bank.now in
+    let plan = c.args.spec.now in
+    let c0 = g.D.Disk.content c.args.disk in
+    let w1 = c.take_all.new.walk in
+    let a0 = g.D.Disk.accounts c.args.disk in
+    let told0 = c.in-Ok.ensures.frame.tells ∙ told in
+    let same = c.take_all.ensures.content told0 ∙ c.in-Ok.ensures.untouched told in
+    let reading = subst (λ (a : List Account). AtEachMoment a0 a (IsImage (latest a0))) (sym (c.take_all.ensures.accounts told0)) (c.in-Ok.ensures.moments told) in
+    while_opened (Stands b plan H) c0 (g.D.Disk.content w1.disk) a0 (g.D.Disk.accounts w1.disk) (g.D.Disk.accounts c.in-Err-finish.disk)
+    (λ file. stands_too b plan H c0 file stands) reading same
+    (c.in-Err-finish.ensures.moments_err (c.take_all.ensures.frame.tells ∙ told0))
 
 -- the file is no journal
 pub returns-in-Err-clause-settled_err : goal.returns-in-Err-clause-settled_err
@@ -245,7 +286,13 @@ invariant_of-result g c =
     let told1 : IsTrue (g.D.Disk.tells w1.disk) = c.take_all.ensures.frame.tells ∙ told0 in
     given_by file (g.D.Disk.content w1.disk) (payloads_of j) w1.given (c.take_all.ensures.content told0) (c.in-Ok-finish.ensures.keeps told1) (c.in-Ok-take_all.ensures.last told0) in (
       kept_open marks book.entries w1.size is b plan c.args.base was book j file first w1.given w1.at taken.taken c.in-Ok-take_all.ensures.bank c.in-Ok-take_all.ensures.plan refl
-          c.in-Ok-finish.ensures.ready (c.in-Ok-finish.ensures.limit ∙ c.take_all.ensures.limit ∙ c.in-Ok.ensures.limit ∙ c.journal.ensures) c.in-Ok-finish.ensures.length
+          c.in-Ok-finish.ensures.ready (c.in-Ok-finish.ensures.limit ∙ c.take_all.ensures.limit ∙ c.in-Ok.ensures.limit ∙ c.journal.ensures)
+          (λ told_now.
+          let told0 : IsTrue (g.D.Disk.tells w0.disk) = subst IsTrue tells told_now in
+          let told : IsTrue (g.D.Disk.tells c.args.disk) = subst IsTrue c.in-Ok.ensures.frame.tells told0 in
+          subst (λ (d : g.row.D.Denot). start_of j ≡ first_gate (g.D.Disk.content d)) (sym c.of-opened.ensures)
+          (c.in-Ok-finish.ensures.start (c.take_all.ensures.frame.tells ∙ told0) ∙ ap first_gate (c.take_all.ensures.content told0 ∙ c.in-Ok.ensures.untouched told)))
+          c.in-Ok-finish.ensures.length
           keeps
           (subst (λ (d : g.row.D.Denot). g.D.Disk.faults d ≤ faults_of j) (sym c.of-opened.ensures) (omega (arith, c.in-Ok.ensures.frame.grows, c.take_all.ensures.frame.grows, c.in-Ok-finish.ensures.grows)))
           c.requires.base
@@ -256,11 +303,12 @@ invariant_of-result g c =
           let a0 = g.D.Disk.accounts c.args.disk in
           let same = c.take_all.ensures.content told0 ∙ c.in-Ok.ensures.untouched told in
           let here : StandsSecond b plan book.entries c0 = stands_second b plan book.entries c0 (sym (c.in-Ok.ensures.versions told).1 ∙ second) (subst (Stands b plan book.entries) (c.in-Ok.ensures.untouched told) (c.in-Ok-take_all.ensures.stands told0)) in
-          subst (λ (d : g.row.D.Denot). IsSettled (g.D.Disk.content d) (g.D.Disk.accounts d) → AtEachMoment (g.D.Disk.accounts d) (accounts_of j) (StandsSecond b plan book.entries)) (sym c.of-opened.ensures)
-          (λ settled.
-          let reading = subst (λ (a : List Account). AtEachMoment a0 a (λ file. file ≡ c0)) (sym (c.take_all.ensures.accounts told0)) (c.in-Ok.ensures.settled told settled) in
-          second_while_opened b plan book.entries c0 (g.D.Disk.content w1.disk) a0 (g.D.Disk.accounts w1.disk) (accounts_of j) here reading same (c.in-Ok-finish.ensures.settled (c.take_all.ensures.frame.tells ∙ told0)))),
+          subst (λ (d : g.row.D.Denot). AreOpeningMoments b plan book.entries (latest (g.D.Disk.accounts d)) (g.D.Disk.accounts d) (accounts_of j)) (sym c.of-opened.ensures)
+          (opening_moments b plan book.entries c0 (g.D.Disk.content w1.disk) a0 (g.D.Disk.accounts w1.disk) (accounts_of j) here
+          (subst (λ (a : List Account). AtEachMoment a0 a (IsImage (latest a0))) (sym (c.take_all.ensures.accounts told0)) (c.in-Ok.ensures.moments told)) same
+          (c.in-Ok-finish.ensures.moments (c.take_all.ensures.frame.tells ∙ told0)) (c.in-Ok-finish.ensures.images (c.take_all.ensures.frame.tells ∙ told0)))),
       vectors_open marks book.entries w1.size is b plan j file first w1.given w1.at v taken keeps,
+      c.requires.allows,
     )
 
 pub returns-clause-marks : goal.returns-clause-marks
@@ -297,6 +345,27 @@ returns-clause-images g c = λ told file i.
     subst (λ (H : List Entry). StandsSecond b plan H file) (sym (history_is marks book.entries w1.size is))
     (second_too b plan book.entries (g.D.Disk.content w0.disk) file (stands_second b plan book.entries (g.D.Disk.content w0.disk) two (c.in-Ok-take_all.ensures.stands told0))
     (c.in-Ok-finish.ensures.images (c.take_all.ensures.frame.tells ∙ told0) file i ∙ ap contents (c.take_all.ensures.content told0)))
+
+pub returns-clause-moments : goal.returns-clause-moments
+returns-clause-moments g c = λ told.
+    let b = c.args.bank.now in
+    let plan = c.args.spec.now in
+    let w0 = c.in-Ok.walk in
+    let w1 = c.take_all.new.walk in
+    let j = c.in-Ok-finish.journal in
+    let book = c.in-Ok-take_all.found.0 in
+    let marks = c.in-Ok-take_all.found.1 in
+    let is = c.in-Ok-take_all.ensures.marks in
+    let told0 = c.in-Ok.ensures.frame.tells ∙ told in
+    let told1 = c.take_all.ensures.frame.tells ∙ told0 in
+    let c0 = g.D.Disk.content c.args.disk in
+    let a0 = g.D.Disk.accounts c.args.disk in
+    let same = c.take_all.ensures.content told0 ∙ c.in-Ok.ensures.untouched told in
+    let reading = subst (λ (a : List Account). AtEachMoment a0 a (IsImage (latest a0))) (sym (c.take_all.ensures.accounts told0)) (c.in-Ok.ensures.moments told) in
+    let second = second_version c.record_version.result w0.record_version c.record_version.ensures.version c.record_version.ensures.one_of c.if-record_version-eq1.false in
+    let here : StandsSecond b plan book.entries c0 = stands_second b plan book.entries c0 (sym (c.in-Ok.ensures.versions told).1 ∙ second) (subst (Stands b plan book.entries) (c.in-Ok.ensures.untouched told) (c.in-Ok-take_all.ensures.stands told0)) in
+    subst (λ (H : List Entry). AreOpeningMoments b plan H (latest a0) a0 (accounts_of j)) (sym (history_is marks book.entries w1.size is))
+    (opening_moments b plan book.entries c0 (g.D.Disk.content w1.disk) a0 (g.D.Disk.accounts w1.disk) (accounts_of j) here reading same (c.in-Ok-finish.ensures.moments told1) (c.in-Ok-finish.ensures.images told1))
 
 pub returns-clause-settled : goal.returns-clause-settled
 returns-clause-settled g c = λ told settled.
@@ -358,3 +427,10 @@ returns-clause-payloads g c = λ told.
     let told1 = c.take_all.ensures.frame.tells ∙ told0 in
     subst (λ (f : List ℕ). contents f ≡ Some (second (payloads_of c.in-Ok-finish.journal)))
     (c.take_all.ensures.content told0 ∙ c.in-Ok.ensures.untouched told) (c.in-Ok-finish.ensures.keeps told1)
+
+-- what the disk allows
+pub finish-requires-clause-comes : goal.finish-requires-clause-comes
+finish-requires-clause-comes g c = λ told1.
+    let told0 = sym c.take_all.ensures.frame.tells ∙ told1 in
+    subst (AllowsSame g.D.Disk.may_become contents) (sym (c.take_all.ensures.content told0))
+    (same_allowed c.args.bank.now c.args.spec.now g.D.Disk.may_become c.requires.allows c.in-Ok-take_all.found.0.entries (g.D.Disk.content c.in-Ok.walk.disk) (c.in-Ok-take_all.ensures.stands told0))

@@ -12,7 +12,7 @@ join_seat-requires g c =
       ap (λ k. k.turn) c.other.view_is ∙ (c.requires.of.1 ∙ sym c.self.view_is),
       o.3,
       omega (arith, c.self.invariant.0),
-      joins g.V.Kept.history c.pass.inside.seat.id c.pass.inside.seat.me.0 c.other.inside.seat.id c.other.inside.seat.me.0 i.2.out
+      joins g.V.Kept.history c.pass.inside.seat.id c.pass.inside.seat.me.0 c.other.inside.seat.id c.other.inside.seat.me.0 i.2.live o.2.live i.2.out
           o.2.out o.2.ticket,
     )
 

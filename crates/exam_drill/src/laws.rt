@@ -1,0 +1,15 @@
+//! What the definitions mean: functions that do nothing, and whose clauses are laws.
+
+ghost use Rattle.exam_drill.specs.Lengths.{FramesAreShort, JournalsAreShort};
+
+/// A frame has at most 86,605 bytes, and one of a record without a proof tree at most 659.
+pub fn frames_are_short()
+    ensures { FramesAreShort }
+{}
+
+/// By a plan of one band the journal of an examination has at most eight bytes, and for each session that the plan allows the
+/// frames of a session: with a tree one for each item of the test and one for eligibility set aside, and without one for each
+/// answer, one for the start and one for the closing.
+pub fn journals_are_short()
+    ensures { JournalsAreShort }
+{}
