@@ -24,7 +24,7 @@ use Rattle.history_model.specs.Places.{place}
 use Rattle.history_model.specs.Refusals.{recorded, refusal_of, refusal_of_new, refusal_of_list, is_list, has_list, refusal_at, refusal_of_answer, refusal_of_closing, in_session}
 use Rattle.history_model.specs.Requests.{Begins, BeginsWithout, RecordsAnswer, Leads, by_begin, by_begin_without, by_answer, by_look, IsServedBy, IsExposureOf, DoesUnrefused, DoesUnless, Does}
 use Rattle.answer_journal.specs.Journal.{tells_of, accounts_of, faults_of, identity_of}
-use Rattle.exam_office.specs.Asking.{IsStoppedBy, AreGood, no_more, one_more, IsDurable, StandsForOne, Steps, IsBegunBy, not_begun, begun, IsOnTheWay, IsSettled, IsSettledReply, Becomes, done, halted, IsAsked, IsAskedSurely, reply_of}
+use Rattle.exam_office.specs.Asking.{IsStoppedBy, AreGood, no_more, one_more, IsDurable, StandsForOne, Steps, IsBegunBy, not_begun, begun, IsOnTheWay, IsSettled, IsSettledReply, IsMendedOrFull, Becomes, done, halted, IsAsked, IsAskedSurely, reply_of}
 use Rattle.exam_office.specs.Calls.{refused_with}
 use Rattle.exam_office.specs.Files.{StandsSecond}
 use Rattle.exam_handler.specs.Handling.{IsRefusal, IsReply}
@@ -336,6 +336,9 @@ begun_is_there booking s office r held why = by (place office.plan (history offi
         absurd (cc)
 
 -- ---- the entry in doubt first
+refused_is : (q r : Refusal) → reply.Refused q ≡ reply.Refused r → q ≡ r
+refused_is q r is = cc
+
 module _ {D : Type 0} (old mid : Running D) (same : IsSameOffice old mid) (frame : IsLent tells_of identity_of faults_of old.journal mid.journal)
     (mending : IsTrue (tells_of old.journal) → AtEachMoment (accounts_of old.journal) (accounts_of mid.journal) (IsMending old.bank old.plan (history old.marks) old.doubt)) where
   mending_one : (asked : Request) (file : List ℕ) → IsMending old.bank old.plan (history old.marks) old.doubt file → StandsForOne old.bank old.plan (IsOnTheWay old.bank old.plan old.base (history old.marks) old.doubt asked) file
@@ -364,6 +367,12 @@ module _ {D : Type 0} (old mid : Running D) (same : IsSameOffice old mid) (frame
       let N = IsNextOf old.bank old.plan (history mid.marks) asked K in
       halted (record { cut_off = h.cut_off; why = h.why; because = stopped_weaker old.bank old.plan K N N (λ e is. is) old mid new frame.grows (λ e. sure) h.why h.because; reply = h.reply; not_refused = inr none })
 
+  mended_by : mid.doubt ≡ None → (asked : Request) (new : Running D) (answer : Reply) → Becomes old.bank old.plan (history mid.marks) asked mid new answer → answer ≡ reply.Refused Memory → IsMendedOrFull old new
+  mended_by sure asked new answer (done does durable) is = inl durable.sure
+  mended_by sure asked new answer (halted h) is =
+      let why_is : h.why ≡ Memory = refused_is h.why Memory (sym h.reply ∙ is) in
+      inl ((subst (λ (r : Refusal). IsStoppedBy old.bank old.plan (history new.marks) (IsNextOf old.bank old.plan (history mid.marks) asked (history new.marks)) mid new r) why_is h.because) sure)
+
   pub then_asked : mid.doubt ≡ None → IsMended old.marks old.doubt mid.marks → (asked : Request) (new : Running D) (answer : Reply) → IsAskedSurely mid asked answer new → IsAsked old asked answer new
   then_asked sure mended asked new answer is =
       let G = history mid.marks in
@@ -375,6 +384,7 @@ module _ {D : Type 0} (old mid : Running D) (same : IsSameOffice old mid) (frame
         becomes = becomes_on sure asked new answer (moved old mid same (λ (t : Tables) (p : Plan) (c : List ℕ). Becomes t p G asked mid new answer) is.becomes);
         good = moved old mid same (λ (t : Tables) (p : Plan) (c : List ℕ). AreGood t p c G (history new.marks)) is.good;
         settled = is.settled;
+        mended = mended_by sure asked new answer (moved old mid same (λ (t : Tables) (p : Plan) (c : List ℕ). Becomes t p G asked mid new answer) is.becomes);
         steps = steps_joined old mid new (IsOnTheWay old.bank old.plan old.base H old.doubt asked) (IsBegunBy mid.bank mid.plan mid.base G asked) (IsOnTheWay old.bank old.plan old.base H old.doubt asked)
             (λ K w. w)
             (λ K w. record { from = G; is_one_of = one; begun = moved old mid same (λ (t : Tables) (p : Plan) (c : List ℕ). IsBegunBy t p c G asked K) w })
@@ -415,6 +425,7 @@ module _ {D : Type 0} (old mid : Running D) (same : IsSameOffice old mid) (frame
         });
         good = subst (λ (G : List Entry). AreGood old.bank old.plan old.base H G) (sym u.0) no_more;
         settled = stopped_refusal old.bank old.plan H (λ e. ⊥) old mid r u.1;
+        mended = λ is. inr (subst (λ (x : Refusal). IsUnmended old mid x) (refused_is r Memory is) why);
         steps = mending_steps asked;
       }
 

@@ -169,9 +169,15 @@ pub data Becomes {D : Type 0} (b : Tables) (plan : Plan) (from : List Entry) (re
       → Becomes b plan from request old new answer
   halted : Halts b plan from request old new answer → Becomes b plan from request old new answer
 
+-- nothing is in doubt; or the list of marks was full, so the entry in doubt was not resolved, and
+-- nothing was done
+abbrev pub IsMendedOrFull : {D : Type 0} → Running D → Running D → Type 0
+IsMendedOrFull old new = (new.doubt ≡ None) ⊎ IsUnmended old new Memory
+
 -- what a request does to an office: from its history, or that with the entry in doubt, it is done
--- or halts; what it adds is good; at each moment each file that a crash may leave represents one of
--- these histories with some of its entries
+-- or halts; what it adds is good. To resolve the entry in doubt takes no memory: it is answered out
+-- of memory only with nothing in doubt, or if the list of marks was full. At each moment each file
+-- that a crash may leave represents one of these histories with some of its entries
 pub record IsAsked {D : Type 0} (old : Running D) (request : Request) (answer : Reply)
     (new : Running D) : Type 0 where
   pub from : List Entry
@@ -179,6 +185,7 @@ pub record IsAsked {D : Type 0} (old : Running D) (request : Request) (answer : 
   pub becomes : Becomes old.bank old.plan from request old new answer
   pub good : AreGood old.bank old.plan old.base from (history new.marks)
   pub settled : IsSettledReply answer
+  pub mended : answer ≡ Refused Memory → IsMendedOrFull old new
   pub steps : Steps (IsOnTheWay old.bank old.plan old.base (history old.marks) old.doubt request)
       old new
 
