@@ -1,4 +1,5 @@
 """The built program beside itself: a server under load, and a stream of its journal to a follower."""
+import hashlib
 import http.client
 import json
 import os
@@ -144,6 +145,35 @@ class Streams(Beside):
         self.session(71)
         self.until(lambda: len(follower.payloads) == self.entries(), 10)
         self.until(lambda: f"follower has {self.entries()} of {self.entries()} records" in self.read("stream.log"), 10)
+
+    def test_the_settled_records_at_the_start(self):
+        """The first line has their number and digest: with the server all of them, without it all but the last."""
+        server = self.serve()
+        self.session(72)
+        self.follow()
+        stream = self.stream()
+        self.until(lambda: self.told_by(stream), 10)
+        self.assertEqual(self.told(), self.digest(self.entries()))
+        stream.kill()
+        server.kill()
+        server.wait(LIMIT)
+        os.remove(self.path("stream.log"))
+        stream = self.stream()
+        self.until(lambda: self.told_by(stream), 10)
+        self.assertEqual(self.told(), self.digest(len(records(self.bytes())) - 1))
+
+    def told(self):
+        """What the first line on the records has."""
+        return re.findall(rf"^shadowd: journal {re.escape(self.journal)}: (\d+) records, SHA-256 ([0-9a-f]{{64}})$", self.read("stream.log"), re.M)
+
+    def told_by(self, stream):
+        self.assertIsNone(stream.poll(), "it ended")
+        return self.told()
+
+    def digest(self, count):
+        """The number and the digest of the first records of the file, without its header and its last gate."""
+        whole = frames(records(self.bytes())[:count])[8:-1]
+        return [(str(count), hashlib.sha256(whole).hexdigest())]
 
     def test_the_last_record_without_a_server(self):
         """Nobody says that it is settled, so it is not sent; each before it is."""

@@ -1,5 +1,6 @@
 //! The stream of a journal that a server writes meanwhile.
 
+use crate::records::tell_settled;
 use host_stream::{HostFollower, HostJournal};
 use journal_stream::{JournalTail, stream_door};
 use record_doors::DoorEnd;
@@ -62,7 +63,8 @@ fn explain_peer(rt: &HostRuntime, end: DoorEnd) {
     };
 }
 
-/// Streams the journal of the server at an address to a follower at another, until it fails.
+/// Writes a line with the count and the digest of the records so far, and then streams the journal of the server at an address
+/// to a follower at another, until it fails.
 pub fn stream_journal<R: Wait>(
     waiting: &R,
     rt: &HostRuntime,
@@ -70,6 +72,7 @@ pub fn stream_journal<R: Wait>(
     server: String,
     follower: String,
 ) -> Result<ExitCode, AllocError> {
+    tell_settled(rt, journal.as_str(), server.as_str());
     let file = HostJournal::of(rt.clone()?, journal, server);
     let mut door = HostFollower::of(rt.clone()?, follower);
     let mut log = JournalTail::new(file);
