@@ -23,7 +23,7 @@ const PATIENCE: u64 = 40_000;
 const MOST_MOVES: u64 = 8_000_000;
 
 /// Tries of a split, at most.
-const SPLITS: u32 = 8;
+const SPLITS: u32 = 5;
 
 /// The items of a set, in an order that is drawn.
 fn shuffled(alloc: Global, items: &ItemSet, draws: &mut Draws) -> Result<Vec<u16>, Memory> {

@@ -20,6 +20,9 @@ const NEXT: u32 = 8;
 /// How often a better series at a path lets its exchanges go on.
 const GAINS: u32 = 8;
 
+/// So many pools of a sweep may stay in one piece; then none is parted any more.
+const UNSPLIT: u32 = 6;
+
 /// A path that waits for its subtree, with its vertex.
 #[derive(Drop)]
 struct Waiting {
@@ -43,6 +46,8 @@ pub struct Sweep {
     waiting: Vec<Waiting>,
     /// Branches that the budget still allows.
     branches: u32,
+    /// Pools that stayed in one piece.
+    unsplit: u32,
     /// Whether a leaf is Open.
     pub is_spent: bool,
 }
@@ -60,6 +65,7 @@ impl Sweep {
             nodes: Vec::new(alloc),
             waiting,
             branches,
+            unsplit: 0,
             is_spent: false,
         })
     }
@@ -114,7 +120,7 @@ impl Sweep {
 
     /// Offers the series of a vertex that takes each item as a whole, or of its pool.
     fn offer(
-        &self,
+        &mut self,
         alloc: Global,
         table: &Table,
         best: &mut Best,
@@ -128,10 +134,11 @@ impl Sweep {
             return Ok(());
         }
         let [pool, ..] = sets;
-        if pool.count() as i64 == table.pool_length() {
+        if pool.count() as i64 == table.pool_length() && self.unsplit < UNSPLIT {
             let goal = best.value.saturating_add(1);
-            if let Some(forms) = split(alloc, table, &pool, goal, draws)? {
-                best.offer(table, &forms);
+            match split(alloc, table, &pool, goal, draws)? {
+                Some(forms) => best.offer(table, &forms),
+                None => self.unsplit = self.unsplit.saturating_add(1),
             }
         }
         Ok(())
