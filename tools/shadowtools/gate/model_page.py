@@ -28,7 +28,9 @@ def text_of(path):
 
 def purpose(crate):
     """The first sentence of a crate's own description."""
-    lines = [it[3:].strip() for it in text_of(os.path.join(TOP, "crates", crate, "src", "lib.rt")).splitlines() if it.startswith("//!")]
+    source = os.path.join(TOP, "crates", crate, "src")
+    root = next(it for it in ("lib.rt", "main.rt") if os.path.isfile(os.path.join(source, it)))
+    lines = [it[3:].strip() for it in text_of(os.path.join(source, root)).splitlines() if it.startswith("//!")]
     return re.split(r"(?<=[.])\s", " ".join(lines))[0]
 
 
