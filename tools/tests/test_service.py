@@ -198,8 +198,8 @@ class Tokens(Service):
         self.assertTrue(said.startswith(wanted.replace("\n", "\r\n")), said)
 
     def test_a_token_that_is_none(self):
-        """The server does not start; one of the greatest length is taken."""
-        for token in ("two words", "caf\u00e9", "tab\there", "x" * 1025):
+        """The server does not start, also with a token that is no UTF-8; one of the greatest length is taken."""
+        for token in ("two words", "caf\u00e9", "caf\udce9", "tab\there", "x" * 1025):
             with self.subTest(token[:10]):
                 self.assertIsNone(self.start(token=token))
                 self.server.communicate(timeout=LIMIT)
