@@ -6,7 +6,7 @@
 //! on a journal that is to be migrated first.
 #![tactic(auto)]
 
-ghost use Rattle.std.specs.Prelude.{◌≡◌, ◌≤◌, All, codes, false, map, string_bytes, vec_len, IfOk};
+ghost use Rattle.std.specs.Prelude.{◌≡◌, ◌≤◌, All, codes, true, false, map, string_bytes, vec_len, IfOk};
 ghost use Rattle.std.specs.Process.{exit_status};
 ghost use Rattle.command_line.specs.Commands.{IsOfDoors, command_of};
 ghost use Rattle.host_edge.specs.HostDisk.{access_of, path_of};
@@ -246,7 +246,12 @@ fn world_of(
     doors: Vec<HostDoor>,
     watch: Watch,
 ) -> Result<HostWorld, AllocError>
-    ensures { IfOk result (λ world. world.doors ≡ doors) }
+    ensures doors { IfOk result (λ world. world.doors ≡ doors) }
+    ensures file { IfOk result (λ world.
+        (path_of world.disk ≡ string_bytes settings.old.journal)
+        × (access_of world.disk ≡ access_for (map (λ w. string_bytes w) words.now))) }
+    ensures token { IfOk result (λ world. world.token ≡ settings.old.token) }
+    ensures same { settings.new.journal ≡ settings.old.journal }
 {
     Ok(World {
         files: HostFiles::of(rt.clone()?),
@@ -262,6 +267,9 @@ fn world_of(
 fn begin(rt: &HostRuntime) -> Result<(Settings, Vec<String>, HostWorld, Watch), SettingsFault>
     ensures few { IfOk result (λ begun. vec_len begun.2.doors ≤ 255) }
     ensures home { IfOk result (λ begun. All (λ d. out_of d ≡ false) begun.2.doors.items) }
+    ensures file { IfOk result (λ begun.
+        (path_of begun.2.disk ≡ string_bytes begun.0.journal)
+        × (access_of begun.2.disk ≡ access_for (map (λ w. string_bytes w) begun.1.items))) }
 {
     let words = words_of(rt).map_err(|_| SettingsFault::Memory)?;
     let variables = HostVariables { rt };
@@ -339,8 +347,10 @@ fn explain_version(
 
 /// Whether the words ask for a command that takes links: to serve, to follow or to ship.
 fn take_links(rt: &HostRuntime, words: &[String]) -> Result<bool, Memory>
-    ensures { IfOk result (λ take. take ≡ false
+    ensures none { IfOk result (λ take. take ≡ false
         → IsOfDoors (command_of (map (λ w. string_bytes w) words.now)) → ⊥) }
+    ensures some { IfOk result (λ take. take ≡ true
+        → IsOfDoors (command_of (map (λ w. string_bytes w) words.now))) }
 {
     match command_of(rt.alloc(), words)? {
         Some(command) => Ok(command.uses_doors()),
