@@ -6,12 +6,13 @@ use Rattle.bank_tables.specs.Tables.{Tables}
 use Rattle.form_model.specs.Plan.{Plan}
 use Rattle.turn_lock.specs.Histories.{StartsWith, places}
 use Rattle.turn_lock.specs.Passes.{Known, LockId, TakesTurn, TakesIn, new_pass}
-use Rattle.turn_lock.proofs.Lists.{contains_cons, contains_nothing}
+use Rattle.turn_lock.proofs.Lists.{contains_cons, contains_nothing, starts_itself}
 use Rattle.exam_office.specs.declared.mark.Mark.{Mark}
 use Rattle.exam_office.specs.declared.mark.Mark.TheVariants.{Old, Opened, Own, Adopted, Fault}
 use Rattle.exam_office.specs.Marks.{AreMarks, opened, own, fault, adopted}
 use Rattle.exam_office.specs.Noting.{OpenedWith, NotedMark, noted, marks_of}
-use Rattle.exam_hall.specs.Known.{HallKnown, marked, IsOfficeOf, HasOpening, IsOf}
+use Rattle.exam_hall.specs.Known.{HallKnown, HasGrown, marked, IsOfficeOf, HasOpening, IsOf}
+use Rattle.exam_hall.proofs.Went.{starts_through}
 
 pub marks_noted : (office : OpenedWith) (M : List Mark) → marks_of (noted office M) ≡ M
 marks_noted office [] = refl
@@ -91,6 +92,19 @@ of_turned old new before h t is = record {
   lock = t.turn ∙ is.lock;
   opening = opening_later new.seen before h (t.grows.0, t.grows.1) (opening_later before old.seen h t.begins is.opening);
 }
+
+-- ---- what a pass has seen grows
+pub grown_once : (old new : Known NotedMark) (before : List NotedMark) → TakesTurn old new before → HasGrown old new
+grown_once old new before t = record {
+  start = t.start;
+  seen = starts_through old.seen before new.seen t.begins (t.grows.0, t.grows.1);
+}
+
+pub grown_nowhere : (a : Known NotedMark) → HasGrown a a
+grown_nowhere a = record { start = refl; seen = starts_itself a.seen }
+
+pub grown_through : (a b c : Known NotedMark) → HasGrown a b → HasGrown b c → HasGrown a c
+grown_through a b c p q = record { start = q.start ∙ p.start; seen = starts_through a.seen b.seen c.seen p.seen q.seen }
 
 -- an office's marks have that of its opening
 contains_after : (L : List Mark) (m : Mark) → Contains (L ++ m ∷ []) m

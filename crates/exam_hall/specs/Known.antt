@@ -2,6 +2,7 @@
 use Rattle.std.specs.Prelude.{◌≡◌, ℕ, List, Contains}
 use Rattle.bank_tables.specs.Tables.{Tables}
 use Rattle.form_model.specs.Plan.{Plan}
+use Rattle.turn_lock.specs.Histories.{StartsWith}
 use Rattle.turn_lock.specs.Passes.{Known, LockId}
 use Rattle.exam_office.specs.declared.mark.Mark.{Mark}
 use Rattle.exam_office.specs.declared.mark.Mark.TheVariants.{Opened}
@@ -45,6 +46,12 @@ pub record HasOpening (seen : List NotedMark) (h : HallKnown) : Type 0 where
 pub record IsOf (p : Known NotedMark) (h : HallKnown) : Type 0 where
   pub lock : p.turn ≡ h.lock
   pub opening : HasOpening p.seen h
+
+-- the pass has seen all that it had seen, each mark with what its office was opened with, and its
+-- lock was made at the same length
+pub record HasGrown (old new : Known NotedMark) : Type 0 where
+  pub start : new.start ≡ old.start
+  pub seen : StartsWith new.seen old.seen
 
 -- a caller: its hall, and its pass
 pub record CallerKnown : Type 0 where

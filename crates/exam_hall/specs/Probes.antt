@@ -11,7 +11,7 @@ use Rattle.exam_office.specs.Health.{health, IsProbed}
 use Rattle.exam_office.specs.Marks.{history}
 use Rattle.exam_office.specs.Noting.{NotedMark}
 use Rattle.exam_office.specs.Running.{Running}
-use Rattle.exam_hall.specs.Known.{HallKnown, CallerKnown, marked}
+use Rattle.exam_hall.specs.Known.{HallKnown, CallerKnown, HasGrown, marked}
 use Rattle.exam_hall.specs.Leading.{GoesOn}
 use Rattle.exam_hall.specs.Parts.{owns, IsAfterFault, NoFault}
 use Rattle.exam_hall.specs.Turns.{Adds}
@@ -45,7 +45,8 @@ pub record Watches (h : HallKnown) (old new : Known Mark) (found : Health) : Typ
 abbrev pub Idles : CallerKnown → CallerKnown → Type 0
 Idles old new =
     (new ≡ old) ⊎ ((new.hall ≡ old.hall)
-    × Went (marked old.pass) (marked new.pass) (length (marked new.pass).seen ∷ []) [])
+    × Went (marked old.pass) (marked new.pass) (length (marked new.pass).seen ∷ []) []
+    × HasGrown old.pass new.pass)
 
 -- ---- as a part of a turn
 -- an office was looked at: its entry in doubt was resolved, or was not; no entry of its own was

@@ -61,15 +61,17 @@ impl<'h, 'a, D: Disk, G: Gate + Observer> Caller<'h, 'a, D, G> {
 impl<'h, 'a, D: Disk, G: Gate + Observer> Handler for Caller<'h, 'a, D, G> {
     ghost use Rattle.std.specs.Prelude.{◌≡◌, refl};
     ghost use Rattle.std.proofs.Common.{inl};
-    ghost use Rattle.exam_hall.specs.Known.{marked};
+    ghost use Rattle.exam_hall.specs.Known.{HasGrown, marked};
     ghost use Rattle.exam_hall.specs.Probes.{Probes, Idles};
     ghost use Rattle.exam_hall.specs.Sees.{Sees};
 
     ghost does = { λ old request reply new.
-        Sees old.hall (marked old.pass) (marked new.pass) request reply × (new.hall ≡ old.hall) };
+        Sees old.hall (marked old.pass) (marked new.pass) request reply × (new.hall ≡ old.hall)
+        × HasGrown old.pass new.pass };
 
     ghost probes = { λ old result new.
-        Probes old.hall (marked old.pass) (marked new.pass) result × (new.hall ≡ old.hall) };
+        Probes old.hall (marked old.pass) (marked new.pass) result × (new.hall ≡ old.hall)
+        × HasGrown old.pass new.pass };
 
     ghost idles = { Idles };
 

@@ -20,7 +20,7 @@ ghost use Rattle.exam_office.specs.Noting.{noted, marks_of, opened_with};
 ghost use Rattle.exam_office.specs.Serving.{IsAssembledFor};
 ghost use Rattle.exam_office.specs.Warm.{FitsPlan};
 ghost use Rattle.exam_hall.specs.Leading.{IsAsked, IsWitnessFor};
-ghost use Rattle.exam_hall.specs.Known.{IsOf, IsOfficeOf, marked};
+ghost use Rattle.exam_hall.specs.Known.{HasGrown, IsOf, IsOfficeOf, marked};
 ghost use Rattle.exam_hall.specs.Rounds.{IsGoodFor, Rounds, Assembles};
 ghost use Rattle.exam_hall.specs.Probes.{Probes, Watches};
 ghost use Rattle.exam_hall.specs.Sees.{Sees};
@@ -161,6 +161,7 @@ impl<'a, D: Disk> Hall<'a, D> {
         requires of { IsOf pass.old self.now }
         ensures sees { Sees self.now (marked pass.old) (marked pass.new) request.now result }
         ensures of { IsOf pass.new self.now }
+        ensures grown { HasGrown pass.old pass.new }
         ensures reply { IsReply result }
     {
         let witness = self.seek(alloc, gate, pass.number(), request);
@@ -190,6 +191,7 @@ impl<'a, D: Disk> Hall<'a, D> {
         requires of { IsOf pass.old self.now }
         ensures probes { Probes self.now (marked pass.old) (marked pass.new) result }
         ensures of { IsOf pass.new self.now }
+        ensures grown { HasGrown pass.old pass.new }
         ensures refusal { IfErr result IsProbeRefusal }
     {
         self.turn.turn(rt, pass, &mut Probe)
@@ -201,6 +203,7 @@ impl<'a, D: Disk> Hall<'a, D> {
         requires of { IsOf pass.old self.now }
         ensures watches { Watches self.now (marked pass.old) (marked pass.new) result }
         ensures of { IsOf pass.new self.now }
+        ensures grown { HasGrown pass.old pass.new }
     {
         self.turn.turn(rt, pass, &mut Watch)
     }
@@ -257,6 +260,7 @@ impl<'a, D: Disk> Hall<'a, D> {
         requires of { IsOf pass.old self.now }
         requires witness { IsWitnessFor self.now.bank self.now.plan request.now witness }
         ensures of { IsOf pass.new self.now }
+        ensures grown { HasGrown pass.old pass.new }
         ensures begun { HasBegun self.now (marked pass.old) (marked pass.new) request.now result }
     {
         let mut first = First {
@@ -283,6 +287,7 @@ impl<'a, D: Disk> Hall<'a, D> {
             problem.now }
         requires legal { LegalRun self.now.bank self.now.plan (history (marks_of pass.old.seen)) }
         ensures of { IsOf pass.new self.now }
+        ensures grown { HasGrown pass.old pass.new }
         ensures assembles { Assembles self.now problem.now.session (marked pass.old)
             (marked pass.new) result }
     {
@@ -313,6 +318,7 @@ impl<'a, D: Disk> Hall<'a, D> {
             problem.now }
         requires legal { LegalRun self.now.bank self.now.plan (history (marks_of pass.old.seen)) }
         ensures of { IsOf pass.new self.now }
+        ensures grown { HasGrown pass.old pass.new }
         ensures rounds { Rounds self.now problem.now (marked pass.old) (marked pass.new) result }
     {
         gate.pass(Point::BeforeAssembly, pass.number());
@@ -362,6 +368,7 @@ impl<'a, D: Disk> Hall<'a, D> {
             (history (marks_of pass.old.seen)) assembled }
         requires good { IsGoodFor self.now.base assembled }
         ensures of { IsOf pass.new self.now }
+        ensures grown { HasGrown pass.old pass.new }
         ensures rounds { Rounds self.now assembled.entry.problem (marked pass.old) (marked pass.new)
             result }
     {

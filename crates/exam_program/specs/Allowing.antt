@@ -10,10 +10,12 @@ use Rattle.command_line.specs.Commands.{Serve, command_of}
 use Rattle.history_model.specs.declared.entry.Entry.{Entry}
 use Rattle.history_model.specs.Legality.{LegalRun}
 
--- the marks of an office over a journal that was opened with a history, a legal run; if the disk
--- reports its content, the file that was found represents that history
-pub record AreFirstMarks (disk_tells : Bool) (file : List ℕ) (office : OpenedWith)
-    (opened : List Mark) : Type 0 where
+-- the marks of an office over the journal on this disk, which was opened with a history, a legal
+-- run; if the disk reports its content, the file that was found represents that history
+pub record AreFirstMarks (disk_tells : Bool) (disk_identity : ℕ) (file : List ℕ)
+    (office : OpenedWith) (opened : List Mark) : Type 0 where
+  pub tells : office.tells ≡ disk_tells
+  pub identity : office.identity ≡ disk_identity
   pub found : List Entry
   pub size : ℕ
   pub is : opened ≡ map Old found ++ Opened size ∷ []
@@ -23,11 +25,11 @@ pub record AreFirstMarks (disk_tells : Bool) (file : List ℕ) (office : OpenedW
 -- an office that a server with these words may open, and its first marks: it has the base form and,
 -- if the files report their content, the bank and the plan that they describe
 pub record IsOpenedBy (words : List (List ℕ)) (files_tell : Bool) (named : List ℕ → Bool)
-    (content : List ℕ → List ℕ) (disk_tells : Bool) (file : List ℕ) (office : OpenedWith)
-    (opened : List Mark) : Type 0 where
+    (content : List ℕ → List ℕ) (disk_tells : Bool) (disk_identity : ℕ) (file : List ℕ)
+    (office : OpenedWith) (opened : List Mark) : Type 0 where
   pub bank : List ℕ
   pub plan : List ℕ
   pub asked : command_of words ≡ Some (Serve bank plan)
   pub reads : IsTrue files_tell → Reads named content bank plan office.bank office.plan
   pub is_base : IsBaseForm office.bank office.plan office.base
-  pub first : AreFirstMarks disk_tells file office opened
+  pub first : AreFirstMarks disk_tells disk_identity file office opened

@@ -262,7 +262,7 @@ where
         D.may_become }
     requires fair { (office : OpenedWith) (opened : List Mark)
         → IsOpenedBy (map (λ w. string_bytes w) words.now) (F.tells files.old) (F.has files.old)
-        (F.content files.old) (D.tells disk) (D.content disk) office opened
+        (F.content files.old) (D.tells disk) (D.identity disk) (D.content disk) office opened
         → AreFairDoors (option_copied token)
         L.Link.tells L.Link.left L.Link.written L.Link.allows L.tells L.coming
         (IsCallerOf office opened) doors.items }
@@ -371,7 +371,7 @@ pub fn run<
     requires fair { (office : OpenedWith) (opened : List Mark)
         → IsOpenedBy (map (λ w. string_bytes w) words.now)
         (F.tells world.files) (F.has world.files) (F.content world.files)
-        (D.tells world.disk) (D.content world.disk) office opened
+        (D.tells world.disk) (D.identity world.disk) (D.content world.disk) office opened
         → AreFairDoors (option_map (λ t. t.items) world.token)
         L.Link.tells L.Link.left L.Link.written L.Link.allows L.tells L.coming
         (IsCallerOf office opened) world.doors.items }

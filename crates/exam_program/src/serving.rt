@@ -153,7 +153,7 @@ where
     requires allows { AllowsHistories bank.now spec.now D.may_become }
     requires fair { (office : OpenedWith) (opened : List Mark)
         → office.bank ≡ bank.now → office.plan ≡ spec.now → office.base ≡ base.now
-        → AreFirstMarks (D.tells disk) (D.content disk) office opened
+        → AreFirstMarks (D.tells disk) (D.identity disk) (D.content disk) office opened
         → AreFairDoors (option_copied token)
         L.Link.tells L.Link.left L.Link.written L.Link.allows L.tells L.coming
         (IsCallerOf office opened) doors.items }
@@ -230,7 +230,7 @@ where
         → (IsTrue (F.tells files.old) → Reads (F.has files.old) (F.content files.old)
         bank.now plan.now office.bank office.plan)
         → IsBaseForm office.bank office.plan office.base
-        → AreFirstMarks (D.tells disk) (D.content disk) office opened
+        → AreFirstMarks (D.tells disk) (D.identity disk) (D.content disk) office opened
         → AreFairDoors (option_copied token)
         L.Link.tells L.Link.left L.Link.written L.Link.allows L.tells L.coming
         (IsCallerOf office opened) doors.items }

@@ -4,12 +4,13 @@ use Rattle.std.specs.List.{All, AllZip}
 use Rattle.std.proofs.lemmas.List.Elements.{All-head, All-tail, Contains-append_right}
 use Rattle.exam_workers.specs.declared.Station.{Station}
 use Rattle.exam_workers.specs.Stations.{ServesLinks, EachServes, IsFair}
-use Rattle.exam_office.specs.Noting.{NotedMark, marks_of}
+use Rattle.exam_office.specs.Noting.{NotedMark}
 use Rattle.turn_lock.specs.Histories.{StartsWith}
+use Rattle.turn_lock.specs.Passes.{Known}
 use Rattle.exam_serve.specs.Allowing.{AreFairDoors, IsFairLink}
 use Rattle.exam_http.specs.Serving as serving
 use Rattle.exam_http.specs.Serving.{LeadsTo}
-use Rattle.exam_hall.specs.Known.{HallKnown, CallerKnown}
+use Rattle.exam_hall.specs.Known.{HallKnown, CallerKnown, HasGrown}
 use Rattle.exam_hall.specs.Probes.{Idles}
 use Rattle.exam_serve.specs.Connections.{AttendantKnown, Asks, Probes, IsConnection}
 use Rattle.exam_serve.specs.Doors.{IsNewStation, IsWorked, door_of}
@@ -22,19 +23,23 @@ leads_same start _ (serving.then_probed found old new before probed) = probed.1 
 leads_same start _ (serving.then_idle old new before (inl same)) = ap (λ (c : CallerKnown). c.hall) same ∙ leads_same start old before
 leads_same start _ (serving.then_idle old new before (inr went)) = went.0 ∙ leads_same start old before
 
--- what its pass has seen begins with what it had seen
-leads_begin : (start new : CallerKnown) → LeadsTo Asks Probes Idles start new → StartsWith (marks_of new.pass.seen) (marks_of start.pass.seen)
-leads_begin start _ serving.unchanged = starts_itself (marks_of start.pass.seen)
-leads_begin start _ (serving.then_asked request reply old new before asked) =
-    starts_through (marks_of new.pass.seen) (marks_of old.pass.seen) (marks_of start.pass.seen)
-    (starts_through (marks_of new.pass.seen) asked.0.mid.seen (marks_of old.pass.seen) asked.0.more.seen asked.0.first.seen)
-    (leads_begin start old before)
-leads_begin start _ (serving.then_probed found old new before probed) =
-    starts_through (marks_of new.pass.seen) (marks_of old.pass.seen) (marks_of start.pass.seen) probed.0.went.seen (leads_begin start old before)
-leads_begin start _ (serving.then_idle old new before (inl same)) =
-    subst (λ (c : CallerKnown). StartsWith (marks_of c.pass.seen) (marks_of start.pass.seen)) (sym same) (leads_begin start old before)
-leads_begin start _ (serving.then_idle old new before (inr went)) =
-    starts_through (marks_of new.pass.seen) (marks_of old.pass.seen) (marks_of start.pass.seen) went.1.seen (leads_begin start old before)
+grown_nowhere : (a : Known NotedMark) → HasGrown a a
+grown_nowhere a = record { start = refl; seen = starts_itself a.seen }
+
+grown_through : (a b c : Known NotedMark) → HasGrown b c → HasGrown a b → HasGrown a c
+grown_through a b c q p = record { start = q.start ∙ p.start; seen = starts_through c.seen b.seen a.seen q.seen p.seen }
+
+-- its pass has grown
+leads_grown : (start new : CallerKnown) → LeadsTo Asks Probes Idles start new → HasGrown start.pass new.pass
+leads_grown start _ serving.unchanged = grown_nowhere start.pass
+leads_grown start _ (serving.then_asked request reply old new before asked) =
+    grown_through start.pass old.pass new.pass asked.2 (leads_grown start old before)
+leads_grown start _ (serving.then_probed found old new before probed) =
+    grown_through start.pass old.pass new.pass probed.2 (leads_grown start old before)
+leads_grown start _ (serving.then_idle old new before (inl same)) =
+    subst (λ (c : CallerKnown). HasGrown start.pass c.pass) (sym same) (leads_grown start old before)
+leads_grown start _ (serving.then_idle old new before (inr went)) =
+    grown_through start.pass old.pass new.pass went.2 (leads_grown start old before)
 
 module _ {K : Type 0} (token : Option (List ℕ)) (tells : K → Bool) (left written : K → List ℕ) (faults identity : K → ℕ) where
   links_same : (t : AttendantKnown) (given back : List K) (u : AttendantKnown)
@@ -44,15 +49,14 @@ module _ {K : Type 0} (token : Option (List ℕ)) (tells : K → Bool) (left wri
   links_same t (k ∷ given) [] u h = absurd h
   links_same t (k ∷ given) (l ∷ back) u h = links_same h.0 given back u h.2 ∙ leads_same t.caller h.0.caller h.1.leads
 
-  links_begin : (t : AttendantKnown) (given back : List K) (u : AttendantKnown)
-      → ServesLinks (IsConnection token tells left written faults identity) t given back u → StartsWith (marks_of u.caller.pass.seen) (marks_of t.caller.pass.seen)
-  links_begin t [] [] u h =
-      subst (λ (a : AttendantKnown). StartsWith (marks_of a.caller.pass.seen) (marks_of t.caller.pass.seen)) h (starts_itself (marks_of t.caller.pass.seen))
-  links_begin t [] (l ∷ back) u h = absurd h
-  links_begin t (k ∷ given) [] u h = absurd h
-  links_begin t (k ∷ given) (l ∷ back) u h =
-      starts_through (marks_of u.caller.pass.seen) (marks_of h.0.caller.pass.seen) (marks_of t.caller.pass.seen)
-      (links_begin h.0 given back u h.2) (leads_begin t.caller h.0.caller h.1.leads)
+  links_grown : (t : AttendantKnown) (given back : List K) (u : AttendantKnown)
+      → ServesLinks (IsConnection token tells left written faults identity) t given back u → HasGrown t.caller.pass u.caller.pass
+  links_grown t [] [] u h = subst (λ (a : AttendantKnown). HasGrown t.caller.pass a.caller.pass) h (grown_nowhere t.caller.pass)
+  links_grown t [] (l ∷ back) u h = absurd h
+  links_grown t (k ∷ given) [] u h = absurd h
+  links_grown t (k ∷ given) (l ∷ back) u h =
+      grown_through t.caller.pass h.0.caller.pass u.caller.pass
+      (links_grown h.0 given back u h.2) (leads_grown t.caller h.0.caller h.1.leads)
 
 module _ {D K : Type 0} (token : Option (List ℕ)) (tells : D → Bool) (coming returned : D → List K) (is_out : D → Bool)
     (faults identity : D → ℕ) (link_tells : K → Bool) (left written : K → List ℕ) (link_faults link_identity : K → ℕ) (hall : HallKnown) (opened : List NotedMark) where
@@ -89,23 +93,28 @@ module _ {D K : Type 0} (token : Option (List ℕ)) (tells : D → Bool) (coming
   all_home (a ∷ old) (b ∷ new) h = Rattle.std.proofs.lemmas.List.Elements.All-cons (λ (s : Station D AttendantKnown K). s.token.caller.hall ≡ hall) b new h.0.same_hall (all_home old new h.1)
 
   -- new stations at fair doors are fair
-  pub fair_all : (allows : K → List ℕ → Type 0) (old : List (Station D AttendantKnown K)) (doors : List D)
+  pub fair_all : (allows : K → List ℕ → Type 0) (pass : Known NotedMark) → pass.start ≡ length opened → pass.seen ≡ opened
+      → (old : List (Station D AttendantKnown K)) (doors : List D)
       → ((door : D) → Contains (map door_of old) door → Contains doors door)
       → AreFairDoors token link_tells left written allows tells coming
-      (λ caller. (caller.hall ≡ hall) × StartsWith (marks_of caller.pass.seen) (marks_of opened)) doors
+      (λ caller. (caller.hall ≡ hall) × HasGrown pass caller.pass) doors
       → All (IsNewStation is_out hall opened) old
       → All (IsFair tells coming Links (λ a. IsFairLink token link_tells left written allows a.caller)) old
-  fair_all allows [] doors there fair made = Rattle.std.proofs.lemmas.List.Elements.All-nil _
-  fair_all allows (a ∷ old) doors there fair made =
+  fair_all allows pass starts_at seen_is [] doors there fair made = Rattle.std.proofs.lemmas.List.Elements.All-nil _
+  fair_all allows pass starts_at seen_is (a ∷ old) doors there fair made =
       let first = All-head (IsNewStation is_out hall opened) a old made in
-      let seen : marks_of a.token.caller.pass.seen ≡ marks_of opened = ap (λ (t : AttendantKnown). marks_of t.caller.pass.seen) first.token in
+      let start : a.token.caller.pass.start ≡ pass.start = ap (λ (t : AttendantKnown). t.caller.pass.start) first.token ∙ sym starts_at in
+      let seen : a.token.caller.pass.seen ≡ pass.seen = ap (λ (t : AttendantKnown). t.caller.pass.seen) first.token ∙ sym seen_is in
       Rattle.std.proofs.lemmas.List.Elements.All-cons (IsFair tells coming Links (λ a. IsFairLink token link_tells left written allows a.caller)) a old
       (λ given back attendant link serves comes.
+      let grown = links_grown token link_tells left written link_faults link_identity a.token given back attendant serves in
       fair a.door link attendant.caller (there a.door (0, omega arith, refl)) comes (
         links_same token link_tells left written link_faults link_identity a.token given back attendant serves
             ∙ ap (λ (t : AttendantKnown). t.caller.hall) first.token,
-        subst (λ l. StartsWith (marks_of attendant.caller.pass.seen) l) seen
-            (links_begin token link_tells left written link_faults link_identity a.token given back attendant serves),
+        record {
+          start = grown.start ∙ start;
+          seen = subst (λ l. StartsWith attendant.caller.pass.seen l) seen grown.seen;
+        },
       ))
-      (fair_all allows old doors (λ door h. there door (Contains-append_right (a.door ∷ []) (map door_of old) door h)) fair
+      (fair_all allows pass starts_at seen_is old doors (λ door h. there door (Contains-append_right (a.door ∷ []) (map door_of old) door h)) fair
       (All-tail (IsNewStation is_out hall opened) a old made))

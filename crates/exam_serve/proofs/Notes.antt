@@ -1,6 +1,6 @@
 -- Marks, each with what its office was opened with.
-use Rattle.std.proofs.Common.{◌≡◌, List, [], ◌∷◌, ◌++◌, refl, sym, ap, ◌∙◌, subst, arith, Contains}
-use Rattle.std.proofs.lemmas.List.{map-append}
+use Rattle.std.proofs.Common.{◌≡◌, List, [], ◌∷◌, ◌++◌, length, refl, sym, ap, ◌∙◌, subst, arith, Contains}
+use Rattle.std.proofs.lemmas.List.{map-append, length-map}
 use Rattle.turn_lock.specs.Histories.{StartsWith}
 use Rattle.exam_office.specs.Noting.{NotedMark, OpenedWith, noted, marks_of}
 use Rattle.exam_office.specs.declared.mark.Mark.{Mark}
@@ -8,6 +8,9 @@ use Rattle.exam_office.specs.declared.mark.Mark.{Mark}
 pub marks_noted : (o : OpenedWith) (ms : List Mark) → marks_of (noted o ms) ≡ ms
 marks_noted o [] = refl
 marks_noted o (m ∷ ms) = ap (λ l. m ∷ l) (marks_noted o ms)
+
+pub noted_number : (o : OpenedWith) (ms : List Mark) → length (noted o ms) ≡ length ms
+noted_number o ms = length-map ms (λ (m : Mark). record { mark = m; office = o })
 
 -- the marks of a beginning
 pub begins_marks : (o p : OpenedWith) (ms ns : List Mark) → StartsWith (noted p ns) (noted o ms) → StartsWith ns ms

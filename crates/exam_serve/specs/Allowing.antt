@@ -1,18 +1,20 @@
 -- What links must allow so that callers of a hall may serve them.
-use Rattle.std.specs.Prelude.{ℕ, Bool, List, Contains, Option, IsTrue}
+use Rattle.std.specs.Prelude.{◌≡◌, ℕ, Bool, List, length, Contains, Option, IsTrue}
 use Rattle.turn_lock.specs.Histories.{StartsWith}
 use Rattle.exam_http.specs.Serving.{AllowsServed}
 use Rattle.exam_office.specs.declared.mark.Mark.{Mark}
-use Rattle.exam_office.specs.Noting.{OpenedWith, marks_of}
+use Rattle.exam_office.specs.Noting.{OpenedWith, noted}
 use Rattle.exam_hall.specs.Known.{CallerKnown, IsOfficeOf}
 use Rattle.exam_hall.specs.Probes.{Idles}
 use Rattle.exam_serve.specs.Connections.{Asks, Probes}
 
--- a caller of a hall of this office, whose pass has seen marks that begin with those at the opening
+-- a caller of a hall of this office: the hall was made when the office had these marks, and what the
+-- caller's pass has seen begins with them, each noted with what this office was opened with
 pub record IsCallerOf (office : OpenedWith) (opened : List Mark)
     (caller : CallerKnown) : Type 0 where
   pub hall : IsOfficeOf office caller.hall
-  pub begins : StartsWith (marks_of caller.pass.seen) opened
+  pub start : caller.pass.start ≡ length opened
+  pub begins : StartsWith caller.pass.seen (noted office opened)
 
 module _ {K : Type 0} (token : Option (List ℕ)) (tells : K → Bool) (left written : K → List ℕ)
     (allows : K → List ℕ → Type 0) where

@@ -9,22 +9,24 @@ use Rattle.exam_handler.specs.declared.health.Health.{Health}
 use Rattle.exam_http.specs.declared.ended.Ended.{Ended}
 use Rattle.exam_http.specs.declared.ended.Ended.TheVariants.{Done, BadInput, Link, Memory}
 use Rattle.exam_http.specs.Serving.{IsServed, LeadsTo}
-use Rattle.exam_hall.specs.Known.{CallerKnown, marked}
+use Rattle.exam_hall.specs.Known.{CallerKnown, HasGrown, marked}
 use Rattle.exam_hall.specs.Probes as hall
 use Rattle.exam_hall.specs.Probes.{Idles}
 use Rattle.exam_hall.specs.Sees.{Sees}
 
--- what a request does to a caller: the reply is right for what its pass has seen then, and its hall
--- is the same
+-- what a request does to a caller: the reply is right for what its pass has seen then, its hall is
+-- the same, and its pass has grown
 abbrev pub Asks : CallerKnown → Request → Reply → CallerKnown → Type 0
 Asks old request reply new =
     Sees old.hall (marked old.pass) (marked new.pass) request reply × (new.hall ≡ old.hall)
+    × HasGrown old.pass new.pass
 
 -- what a look at the health does to a caller: what is found is right for what its pass has seen
--- then, and its hall is the same
+-- then, its hall is the same, and its pass has grown
 abbrev pub Probes : CallerKnown → Result Health Refusal → CallerKnown → Type 0
 Probes old found new =
     hall.Probes old.hall (marked old.pass) (marked new.pass) found × (new.hall ≡ old.hall)
+    × HasGrown old.pass new.pass
 
 -- what serves the connections of a door: a caller, and whether one of them ended for lack of memory
 pub record AttendantKnown : Type 0 where

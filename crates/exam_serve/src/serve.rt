@@ -3,8 +3,7 @@
 ghost use Rattle.std.specs.Prelude.{◌≡◌, ◌≤◌, ◌⊎◌, ℕ, [], List, true, false, length, vec_len, vec_capacity};
 ghost use Rattle.std.specs.List.{All};
 ghost use Rattle.std.specs.Option.{option_copied};
-ghost use Rattle.exam_hall.specs.Known.{IsOf};
-ghost use Rattle.exam_office.specs.Noting.{marks_of, opened_with};
+ghost use Rattle.exam_hall.specs.Known.{HasGrown, IsOf};
 ghost use Rattle.exam_serve.specs.Allowing.{AreFairDoors, IsCallerOf};
 ghost use Rattle.turn_lock.specs.Histories.{StartsWith};
 ghost use Rattle.turn_lock.specs.Passes.{KnowsAll, new_pass};
@@ -84,8 +83,7 @@ where
     requires home { All (λ d. L.is_out d ≡ false) doors.old.items }
     requires fair { AreFairDoors (option_copied token)
         L.Link.tells L.Link.left L.Link.written L.Link.allows L.tells L.coming
-        (λ caller. (caller.hall ≡ hall.now)
-        × StartsWith (marks_of caller.pass.seen) (marks_of pass.old.seen)) doors.old.items }
+        (λ caller. (caller.hall ≡ hall.now) × HasGrown pass.old caller.pass) doors.old.items }
     requires empty { stations.items ≡ [] }
     requires room { vec_len doors.old ≤ vec_capacity stations }
     // For the marks that are found at the close.

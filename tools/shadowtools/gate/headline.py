@@ -19,7 +19,7 @@ from shadowtools.places import TOP
 PAGE = os.path.join(TOP, "docs", "HEADLINE.md")
 HEAD = os.path.join(os.path.dirname(os.path.abspath(__file__)), "headline_page.md")
 CALL = ("exam_program", "program.rt", "run")
-MOST = 1228
+MOST = 1229
 WIDTH = 120
 
 

@@ -171,6 +171,8 @@ serve_doors-office-requires-clause-fair g c κs within =
     let office = c.in-Ok.office in
     let opened = c.in-Ok.ensures in
     c.requires.fair (opened_with office) office.marks opened.bank opened.plan opened.base (record {
+      tells = opened.tells;
+      identity = opened.identity;
       found = history office.marks;
       size = reach office.marks;
       is = opened.marks;

@@ -1,4 +1,4 @@
-use Rattle.std.proofs.Common.{◌≡◌, ◌+◌, All, map, length, sym, ap, subst, ◌∙◌, Contains, arith}
+use Rattle.std.proofs.Common.{◌≡◌, ◌+◌, All, map, length, refl, sym, ap, subst, ◌∙◌, Contains, arith}
 use Rattle.std.specs.Vec.{vec_len}
 use Rattle.std.specs.Option.{option_copied}
 use Rattle.std.specs.List.{list_any}
@@ -68,7 +68,7 @@ run_workers-requires-clause-fair g c κs within =
     let value : lent ≡ made.items = c.deref_mut.ensures.value in
     fair_all (option_copied c.args.token) g.L.Door.tells g.L.Door.coming g.L.Door.returned g.L.Door.is_out g.L.Door.faults g.L.Door.identity
     g.L.Link.Link.tells g.L.Link.Link.left g.L.Link.Link.written g.L.Link.Link.faults g.L.Link.Link.identity
-    c.args.hall.now c.args.pass.now.seen g.L.Link.Link.allows lent doors
+    c.args.hall.now c.args.pass.now.seen g.L.Link.Link.allows c.args.pass.now (ap (λ p. p.start) c.requires.new) refl lent doors
     (λ door h. contains_reverse doors door (subst (λ l. Contains l door) (ap (map door_of) value ∙ c.make_stations.ensures.doors) h))
     c.requires.fair
     (subst (λ l. All (IsNewStation g.L.Door.is_out c.args.hall.now c.args.pass.now.seen) l) (sym value) c.make_stations.ensures.made)

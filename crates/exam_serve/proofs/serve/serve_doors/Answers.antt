@@ -1,12 +1,12 @@
-use Rattle.std.proofs.Common.{◌≡◌, [], ap, subst, sym, ◌∙◌, append-nil}
+use Rattle.std.proofs.Common.{◌≡◌, [], length, ap, subst, sym, ◌∙◌, append-nil}
 use Rattle.std.specs.Option.{option_copied}
 use Rattle.turn_lock.specs.Histories.{StartsWith}
 use Rattle.exam_hall.specs.Known.{IsOfficeOf}
-use Rattle.exam_office.specs.Noting.{marks_of, opened_with}
+use Rattle.exam_office.specs.Noting.{opened_with}
 use Rattle.exam_serve.specs.Results.{notes_of}
 use Rattle.exam_serve.proofs.Ends.{never_memory}
 use Rattle.exam_serve.proofs.Left.{all_lent, done_so, failed_so, still_lent}
-use Rattle.exam_serve.proofs.Notes.{begins_marks, same_office, marks_noted}
+use Rattle.exam_serve.proofs.Notes.{begins_marks, same_office, noted_number}
 use Rattle.exam_serve.proofs.Wholes.{result_of}
 use Rattle.exam_serve.proofs.serve.serve_doors.Goals as goal
 
@@ -78,9 +78,11 @@ returns-clause-failed g c =
 pub serve_at-end-requires-clause-fair : goal.serve_at-end-requires-clause-fair
 serve_at-end-requires-clause-fair g c κs within = λ door link caller there comes is.
     let office = opened_with c.args.office in
-    let marks : marks_of c.in-Ok-new.made.1.seen ≡ c.args.office.marks =
-    ap (λ p. marks_of p.seen) c.in-Ok-new.ensures.pass ∙ marks_noted office c.args.office.marks in
+    let first = c.in-Ok-new.made.1 in
+    let begun : first.seen ≡ notes_of c.args.office = ap (λ p. p.seen) c.in-Ok-new.ensures.pass in
+    let starts_at : first.start ≡ length (notes_of c.args.office) = ap (λ p. p.start) c.in-Ok-new.ensures.pass in
     c.requires.fair door link caller there comes (record {
       hall = subst (λ h. IsOfficeOf office h) (sym is.0) c.in-Ok-new.ensures.office;
-      begins = subst (λ l. StartsWith (marks_of caller.pass.seen) l) marks is.1;
+      start = is.1.start ∙ starts_at ∙ noted_number office c.args.office.marks;
+      begins = subst (λ l. StartsWith caller.pass.seen l) begun is.1.seen;
     })

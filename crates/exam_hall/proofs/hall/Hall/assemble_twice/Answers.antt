@@ -1,4 +1,5 @@
 use Rattle.exam_hall.specs.Known.{marked}
+use Rattle.exam_hall.proofs.Passes.{grown_through}
 use Rattle.exam_hall.proofs.Served.{once_done, once_failed, twice_done, twice_failed, never_thrice}
 use Rattle.exam_hall.proofs.hall.Hall.assemble_twice.Goals as goal
 
@@ -24,3 +25,11 @@ pub returns-in-Failed-serve_once-clause-assembles : goal.returns-in-Failed-serve
 returns-in-Failed-serve_once-clause-assembles g c =
     twice_failed c.args.self.now c.args.problem.now (marked c.args.pass.now) c.requires.asked c.requires.legal c.in-Again.next (marked c.serve_once.new.pass) (marked c.serve_once-in-Again.new.pass)
     c.in-Again.ensures.rounds c.in-Failed-serve_once.refusal c.in-Failed-serve_once.ensures.rounds
+
+pub returns-in-Placed-serve_once-clause-grown : goal.returns-in-Placed-serve_once-clause-grown
+returns-in-Placed-serve_once-clause-grown g c =
+    grown_through c.args.pass.now c.serve_once.new.pass c.serve_once-in-Again.new.pass c.in-Again.ensures.grown c.in-Placed-serve_once.ensures.grown
+
+pub returns-in-Failed-serve_once-clause-grown : goal.returns-in-Failed-serve_once-clause-grown
+returns-in-Failed-serve_once-clause-grown g c =
+    grown_through c.args.pass.now c.serve_once.new.pass c.serve_once-in-Again.new.pass c.in-Again.ensures.grown c.in-Failed-serve_once.ensures.grown

@@ -1,4 +1,4 @@
-use Rattle.exam_hall.proofs.Passes.{of_turned}
+use Rattle.exam_hall.proofs.Passes.{of_turned, grown_once}
 use Rattle.exam_hall.proofs.Served.{rounds_turn}
 use Rattle.exam_hall.proofs.hall.Hall.commit.Goals as goal
 
@@ -11,3 +11,8 @@ pub returns-clause-rounds : goal.returns-clause-rounds
 returns-clause-rounds g c =
     let t = c.turn.ensures.turn in
     rounds_turn c.args.self.now c.args.pass.now c.turn.new.pass t.0 t.1 c.requires.of c.args.assembled.problem c.turn.result t.2
+
+pub returns-clause-grown : goal.returns-clause-grown
+returns-clause-grown g c =
+    let t = c.turn.ensures.turn in
+    grown_once c.args.pass.now c.turn.new.pass t.0 t.1

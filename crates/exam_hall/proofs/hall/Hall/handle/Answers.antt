@@ -2,6 +2,7 @@ use Rattle.std.proofs.Common.{Option, IfSome, sym, subst}
 use Rattle.certificate_model.specs.Relaxed.{Multipliers}
 use Rattle.exam_office.specs.Warm.{FitsPlan}
 use Rattle.exam_hall.specs.Known.{marked}
+use Rattle.exam_hall.proofs.Passes.{grown_through}
 use Rattle.exam_hall.proofs.Seen.{sees_done, sees_served, sees_failed, reply_is}
 use Rattle.exam_hall.proofs.hall.Hall.handle.Goals as goal
 
@@ -25,3 +26,11 @@ pub returns-in-Done-clause-reply : goal.returns-in-Done-clause-reply
 returns-in-Done-clause-reply g c =
     reply_is c.args.self.now (marked c.args.pass.now) (marked c.begin.new.pass) c.args.request.now c.in-Done.reply
     (sees_done c.args.self.now (marked c.args.pass.now) (marked c.begin.new.pass) c.args.request.now c.in-Done.reply c.in-Done.ensures.begun)
+
+pub returns-in-Ok-clause-grown : goal.returns-in-Ok-clause-grown
+returns-in-Ok-clause-grown g c =
+    grown_through c.args.pass.now c.begin.new.pass c.assemble_twice.new.pass c.in-Waits.ensures.grown c.in-Ok.ensures.grown
+
+pub returns-clause-grown : goal.returns-clause-grown
+returns-clause-grown g c =
+    grown_through c.args.pass.now c.begin.new.pass c.assemble_twice.new.pass c.in-Waits.ensures.grown c.in-Err.ensures.grown

@@ -5,6 +5,7 @@ use Rattle.exam_office.specs.Noting.{marks_of}
 use Rattle.constraint_model.specs.Views.{problem_of}
 use Rattle.exam_office.proofs.Warmed.{fits_seat}
 use Rattle.exam_hall.specs.Known.{marked}
+use Rattle.exam_hall.proofs.Passes.{grown_nowhere}
 use Rattle.exam_hall.proofs.Served.{rounds_nowhere}
 use Rattle.exam_hall.proofs.hall.Hall.serve_once.Goals as goal
 
@@ -18,3 +19,6 @@ assembled-requires-clause-sides g c =
     let P = c.args.problem.now in
     let H = history (marks_of c.args.pass.now.seen) in
     fits_seat h.bank h.plan P.session (seat_of H P.session) (problem_of P) c.requires.asked.is_problem.of_seat (option_copied c.args.warm) c.requires.fits
+
+pub returns-in_default-clause-grown : goal.returns-in_default-clause-grown
+returns-in_default-clause-grown g c = grown_nowhere c.args.pass.now
