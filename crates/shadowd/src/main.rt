@@ -10,7 +10,7 @@ ghost use Rattle.std.specs.Prelude.{◌≡◌, ◌≤◌, All, codes, true, fals
 ghost use Rattle.std.specs.Process.{exit_status};
 ghost use Rattle.command_line.specs.Commands.{IsOfDoors, command_of};
 ghost use Rattle.host_edge.specs.HostDisk.{access_of, path_of};
-ghost use Rattle.host_edge.specs.HostDoor.{out_of};
+ghost use Rattle.host_edge.specs.HostDoor.{left_of, out_of};
 ghost use Rattle.shadowd.specs.Environment.{access_for, begins_with};
 
 mod records;
@@ -214,7 +214,22 @@ fn doors_of(
 ) -> Result<Vec<HostDoor>, AllocError>
     ensures few { IfOk result (λ doors. vec_len doors ≤ 255) }
     ensures home { IfOk result (λ doors. All (λ d. out_of d ≡ false) doors.items) }
+    // A server has a door for each worker, and each gives the number of links that was set.
+    ensures workers { begins_with (codes "serve") (map (λ w. string_bytes w) words.now) ≡ true
+        → IfOk result (λ doors. (vec_len doors ≡ settings.now.workers)
+        × All (λ d. left_of d ≡ settings.now.connections) doors.items) }
 {
+    if ask_for_connections(words) {
+        return HostDoor::several(
+            *rt,
+            rt.alloc(),
+            listener,
+            settings.workers,
+            Duration::from_secs(settings.idle),
+            settings.connections,
+            Some(closing),
+        );
+    }
     if ask_to_follow(words) {
         let own = listener.and_then(|listener| listener.try_clone().ok());
         return one(rt, HostDoor::to_follow(*rt, own));
@@ -222,18 +237,7 @@ fn doors_of(
     if ask_to_ship(words) {
         return one(rt, HostDoor::to_ship(*rt, settings.follower.clone()?));
     }
-    if !ask_for_connections(words) {
-        return Ok(Vec::new(rt.alloc()));
-    }
-    HostDoor::several(
-        *rt,
-        rt.alloc(),
-        listener,
-        settings.workers,
-        Duration::from_secs(settings.idle),
-        settings.connections,
-        Some(closing),
-    )
+    Ok(Vec::new(rt.alloc()))
 }
 
 /// The outside that the program is run on. Its gate watches, and holds nobody. It takes the token
