@@ -8,6 +8,7 @@ import os
 import re
 from typing import Dict, Iterable, List, Optional, Tuple
 
+from shadowtools.command import Refused
 from shadowtools.places import TOP
 
 CRATES = os.path.join(TOP, "crates")
@@ -90,6 +91,26 @@ def blocks_of(text: str) -> Iterable[Tuple[str, str, str, str]]:
         if not line.lstrip().startswith(("--", "infix")):
             comment = []
         at = end
+
+
+def depth(line: str) -> int:
+    return len(line) - len(line.lstrip())
+
+
+def parts_of(definition: Definition) -> Tuple[str, List[Tuple[str, str]]]:
+    """The head of a definition, and its parts: the fields of a record, the cases of a `data`, or the equations of a function. Each part has
+    what it begins with, without `pub`, and its text. Comments are left out."""
+    lines = [line for line in (re.sub(r"--.*", "", it) for it in definition.text.splitlines()) if line.strip()]
+    if re.match(r" *(?:pub )?(?:record|data) ", lines[0]):
+        first = next(at for at, line in enumerate(lines) if line.rstrip().endswith("where")) + 1
+        deep = min((depth(line) for line in lines[first:]), default=0)
+        starts = [at for at in range(first, len(lines)) if depth(lines[at]) == deep]
+    else:
+        deep, name = depth(lines[0]), definition.key[2]
+        starts = [at for at in range(1, len(lines)) if depth(lines[at]) == deep and lines[at].split()[:1] == [name]]
+    ends = starts[1:] + [len(lines)]
+    texts = ["\n".join(lines[at:end]) for at, end in zip(starts, ends)]
+    return "\n".join(lines[:starts[0]] if starts else lines), [(text.strip().removeprefix("pub "), text) for text in texts]
 
 
 def constructors_of(text: str) -> List[str]:
@@ -206,6 +227,28 @@ class Library:
             cites = self.names_in(body, imports_of(text_of(definition.path)), crate, module)
         return [key for key in cites if key != definition.key]
 
+    def cited_in_part(self, key: Key, begins: Iterable[str]) -> List[Key]:
+        """What the head of a definition cites, and those of its parts that begin with one of these texts."""
+        definition = self.definitions[key]
+        head, parts = parts_of(definition)
+        chosen = [definition.section, head]
+        for text in begins:
+            found = [part for label, part in parts if re.match(re.escape(text) + r"(?!\w)", label)]
+            if not found:
+                raise Refused(f"{key[0]}/{key[1]}: {key[2]} has no part that begins with '{text}'")
+            chosen += found
+        cites = self.names_in("\n".join(chosen), imports_of(text_of(definition.path)), key[0], key[1])
+        return [it for it in cites if it != key]
+
+    def named(self, words: str) -> Key:
+        """The definition of a crate's name, `crate Name` or, where the crate has two of that name, `crate Module.Name`."""
+        crate, _, name = words.partition(" ")
+        module, _, last = name.rpartition(".")
+        found = [key for key in self.definitions if key[0] == crate and key[2] == last and module in ("", key[1])]
+        if len(found) != 1:
+            raise Refused(f"{words}: {len(found)} definitions have this name, and one is needed")
+        return found[0]
+
     def contract(self, crate: str, file: str, function: str) -> Tuple[str, List[Key]]:
         """The text of a public function up to its body, and what its contract cites."""
         path = os.path.join(CRATES, crate, "src", file)
@@ -226,14 +269,16 @@ class Library:
             local.setdefault(name, (crate, f"declared.{name}", name))
         return self.names_in(re.sub(r"//[^\n]*", "", part), local, crate, "")
 
-    def closure(self, keys: Iterable[Key]) -> List[Key]:
-        """The keys and all that is reached from them, in the order in which each is first reached."""
+    def closure(self, keys: Iterable[Key], in_part: Optional[Dict[Key, List[Key]]] = None) -> List[Key]:
+        """The keys and all that is reached from them, in the order in which each is first reached. A definition that is read in part
+        leads only to what it is given here."""
         found, waiting = [], list(keys)
         seen = set(waiting)
         while waiting:
             key = waiting.pop(0)
             found.append(key)
-            for next_one in self.definitions[key].cites:
+            cites = self.definitions[key].cites
+            for next_one in in_part.get(key, cites) if in_part else cites:
                 if next_one not in seen:
                     seen.add(next_one)
                     waiting.append(next_one)
