@@ -1,1 +1,1 @@
-"""What the gate or a developer runs. The standard library alone."""
+"""What the full check or a developer runs. The standard library alone."""

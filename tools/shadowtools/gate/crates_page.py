@@ -16,7 +16,7 @@ from shadowtools.places import TOP
 PAGE = os.path.join(TOP, "crates", "README.md")
 HEAD = """# The crates
 
-This page is made by `tools/crates_page.py` from `crates.txt`, and the gate compares the two. The blocks are those of `crates.txt`, the lowest first: a crate
+This page is made by `tools/crates_page.py` from `crates.txt`, and the full check compares the two. The blocks are those of `crates.txt`, the lowest first: a crate
 uses only crates above it on this page. [ARCHITECTURE.md](../docs/ARCHITECTURE.md) has how a request flows through them."""
 
 

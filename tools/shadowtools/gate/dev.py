@@ -4,7 +4,7 @@ usage: dev.py [--list] CRATE ..
 
 Each check is `rt check` in the crate's folder, over what earlier checks kept. Before each one the tool prints how many are left,
 and their processor minutes from nothing by the table of bench/gate.md (a crate that is not in the table counts as one minute).
---list prints that order alone. The verdict is that of the gate: `rt ci NAME` for a crate, `.ci/run` for all.
+--list prints that order alone. The verdict is that of the full check: `rt ci NAME` for a crate, `.ci/run` for all.
 """
 import argparse
 import os

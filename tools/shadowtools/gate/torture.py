@@ -91,7 +91,7 @@ def journals(case):
 
 
 def gates_of(data):
-    """The places of the gates of a journal's records, those before a mark too."""
+    """The places of the gates of a journal's records, those before a version mark too."""
     return [at for at, _ in audit.frames(io.BytesIO(data), len(data))]
 
 

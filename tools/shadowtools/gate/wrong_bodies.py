@@ -1,11 +1,11 @@
-"""Tries the wrong bodies that the gate leaves out; the prover must refuse each. The last line is 'N passed, M failed'.
+"""Tries the wrong bodies that the full check leaves out; the prover must refuse each. The last line is 'N passed, M failed'.
 
 usage: wrong_bodies.py [--all] [CRATE ..]
 
-The gate tries the edits in `crates/CRATE/must-fail`. The others are in `crates/CRATE/wrong-bodies`, in the same format. This tool
-copies the repository to a temporary folder, puts these edits in the place of those of the gate, checks each crate and runs `rt
-must-fail` there. With --all it tries the edits of the gate too. Without a name it takes every crate that has such edits: over kept
-proofs that is about half an hour on four processors, else as long as a gate. It is run whole before a release.
+The full check tries the edits in `crates/CRATE/must-fail`. The others are in `crates/CRATE/wrong-bodies`, in the same format. This tool
+copies the repository to a temporary folder, puts these edits in the place of those of the full check, checks each crate and runs `rt
+must-fail` there. With --all it tries the edits of the full check too. Without a name it takes every crate that has such edits: over kept
+proofs that is about half an hour on four processors, else as long as a full check. It is run whole before a release.
 An edit that is still proved, or that the prover can't read, counts as failed.
 """
 import argparse
@@ -74,7 +74,7 @@ def judge(room, crate):
 
 def main(words):
     parser = argparse.ArgumentParser(description=__doc__, formatter_class=argparse.RawDescriptionHelpFormatter)
-    parser.add_argument("--all", action="store_true", help="the edits of the gate too")
+    parser.add_argument("--all", action="store_true", help="the edits of the full check too")
     parser.add_argument("crates", nargs="*", metavar="CRATE")
     given = parser.parse_args(words)
     folders = [OTHERS, GATE] if given.all else [OTHERS]
