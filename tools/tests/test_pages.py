@@ -1,0 +1,114 @@
+"""The pages: that each link leads somewhere, that README is no longer than a few screens, and that the numbers of TESTING are about right."""
+import functools
+import glob
+import os
+import re
+import unittest
+
+from common import ROOT
+
+LINK = re.compile(r"(?<!`)\]\(([^)\s]+)\)")
+
+
+def pages():
+    found = [os.path.join(ROOT, name) for name in ("README.md", "CONTRIBUTING.md", "CHANGELOG.md", "crates/README.md")]
+    for folder in ("docs", "bench", "crates/*", "examples", "examples/*"):
+        found += glob.glob(os.path.join(ROOT, folder, "*.md"))
+    return sorted({os.path.realpath(it) for it in found})
+
+
+@functools.lru_cache(maxsize=None)
+def text_of(path):
+    with open(path, encoding="utf-8") as file:
+        return file.read()
+
+
+def prose_of(text):
+    """The text without its blocks of code and without spans of code."""
+    text = re.sub(r"^```.*?^```", "", text, flags=re.M | re.S)
+    return re.sub(r"^    .*$", "", text, flags=re.M)
+
+
+@functools.lru_cache(maxsize=None)
+def anchors_of(text):
+    """The anchors of the headings of a page, as a reader of Markdown makes them; the second of two equal ones ends with -1."""
+    found = []
+    for heading in re.findall(r"^#+ (.*)$", re.sub(r"^```.*?^```", "", text, flags=re.M | re.S), re.M):
+        plain = re.sub(r"\[([^\]]*)\]\([^)]*\)", r"\1", heading)
+        base = re.sub(r"[^\w -]", "", plain.lower()).replace(" ", "-")
+        found.append(base if base not in found else f"{base}-{sum(it == base or it.startswith(base + '-') for it in found)}")
+    return set(found)
+
+
+def broken_links(path, text):
+    for target in LINK.findall(prose_of(text)):
+        if re.match(r"[a-z]+:", target):
+            continue
+        name, _, anchor = target.partition("#")
+        there = os.path.normpath(os.path.join(os.path.dirname(path), name)) if name else path
+        if not os.path.exists(there):
+            yield f"{os.path.relpath(path, ROOT)}: {target} is not there"
+        elif anchor and there.endswith(".md") and anchor not in anchors_of(text if there == path else text_of(there)):
+            yield f"{os.path.relpath(path, ROOT)}: {target} has no such heading"
+
+
+def lines_in(pattern):
+    return sum(text_of(path).count("\n") for path in glob.glob(os.path.join(ROOT, "crates", pattern), recursive=True))
+
+
+def edits_in(folder):
+    found = glob.glob(os.path.join(ROOT, "crates", "*", folder, "*.edit"))
+    return len(found), len({os.path.dirname(it) for it in found})
+
+
+def tests_in_rattle():
+    found = {}
+    for path in glob.glob(os.path.join(ROOT, "crates", "*", "src", "**", "*.rt"), recursive=True):
+        crate = os.path.relpath(path, ROOT).split(os.sep)[1]
+        found[crate] = found.get(crate, 0) + len(re.findall(r"^\s*#\[test\]", text_of(path), re.M))
+    return sum(found.values()), sum(count > 0 for count in found.values())
+
+
+class Links(unittest.TestCase):
+    def test_each_link_of_a_page_leads_somewhere(self):
+        self.assertEqual([fault for path in pages() for fault in broken_links(path, text_of(path))], [])
+
+    def test_a_link_to_a_page_or_a_heading_that_is_not_there_is_found(self):
+        path = os.path.join(ROOT, "README.md")
+        text = "[a](docs/NOTHING.md) [b](docs/TRUST.md#nothing) [c](#here) [d](docs/TRUST.md#the-toolchain)\n\n# Here\n\n```\n[e](docs/NO.md)\n```\n"
+        self.assertEqual(len(list(broken_links(path, text))), 2)
+
+
+class Sizes(unittest.TestCase):
+    def test_the_readme_has_at_most_150_lines(self):
+        self.assertLessEqual(text_of(os.path.join(ROOT, "README.md")).count("\n"), 150)
+
+    def test_no_cell_has_more_than_450_characters(self):
+        """But for the names of functions and clauses in PROMISES, and pages that are made."""
+        for path in pages():
+            if os.path.basename(path) in ("HEADLINE.md", "MODEL.md", "LOCK.md"):
+                continue
+            for number, line in enumerate(text_of(path).splitlines(), 1):
+                cells = re.split(r"(?<!\\)\|", line)[1:-1] if line.startswith("|") else []
+                if os.path.basename(path) == "PROMISES.md":
+                    cells = cells[:1]
+                self.assertLessEqual(max(map(len, cells), default=0), 450, f"{os.path.relpath(path, ROOT)}:{number}")
+
+    def test_the_numbers_of_testing_are_about_right(self):
+        text = text_of(os.path.join(ROOT, "docs", "TESTING.md"))
+        crates = len(re.findall(r"^\w+(?: \w+)*:", text_of(os.path.join(ROOT, "crates.txt")), re.M))
+        counted = {"Crates, each": [crates],
+                   "Lines of code": [lines_in("*/src/**/*.rt"), lines_in("*/specs/**/*.antt"), lines_in("*/proofs/**/*.antt")],
+                   "Wrong bodies that the full check": edits_in("must-fail"),
+                   "Wrong bodies that `tools/wrong_bodies.py`": edits_in("wrong-bodies"),
+                   "Tests in Rattle": tests_in_rattle()}
+        for begins, numbers in counted.items():
+            row = next(line for line in text.splitlines() if line.startswith("| " + begins))
+            written = [int(it.replace(",", "")) for it in re.findall(r"\d[\d,]*\d|\d", row.split("|")[2])]
+            self.assertEqual(len(written), len(numbers), row)
+            for said, number in zip(written, numbers):
+                self.assertLessEqual(abs(said - number), max(1, 0.05 * number), f"{row} should have {list(numbers)}")
+
+
+if __name__ == "__main__":
+    unittest.main()
