@@ -94,6 +94,24 @@ class Readings(unittest.TestCase):
             claims.needs_of(self.library, wrong)
 
 
+class Sentences(unittest.TestCase):
+    @classmethod
+    def setUpClass(cls):
+        cls.library = Library()
+        cls.bare, cls.said = cls.library.named("bank_tables size"), cls.library.named("exam_program Outcome")
+
+    def test_a_definition_without_a_comment_needs_a_line_of_the_list(self):
+        listed = headline.sentences("# a remark\n\nbank_tables Tables.size: how many items the bank has\n")
+        self.assertEqual(listed, {self.bare: "how many items the bank has"})
+        self.assertEqual(headline.faults_of_sentences(self.library, [self.bare, self.said], listed), [])
+        self.assertEqual(headline.faults_of_sentences(self.library, [self.bare], {}), ["bank_tables Tables.size has no sentence"])
+
+    def test_a_line_that_nothing_needs_is_refused(self):
+        for key in (self.said, self.library.named("bank_tables item"), ("bank_tables", "Tables", "gone")):
+            listed = {self.bare: "how many", key: "another"}
+            self.assertEqual(len(headline.faults_of_sentences(self.library, [self.bare, self.said], listed)), 1)
+
+
 class Numbers(unittest.TestCase):
     def said(self):
         out = io.StringIO()

@@ -4,8 +4,9 @@
     tools/headline.py --check   compares it with what would be written; the last line is 'N passed, M failed'
     tools/headline.py --list    prints the number of definitions by crate, by reading of a claim, and by command
 
-The page begins with headline_page.md beside this file, which is written by hand; claims.py has the readings of the claims. --check also fails
-if there are more definitions than MOST, or more in a reading than its `most`: a contract that grows has to be seen.
+The page begins with headline_page.md beside this file, which is written by hand; claims.py has the readings of the claims. A definition's sentence
+is the comment above it, or else that of headline_sentences.txt. --check also fails if a definition has no sentence, and if there are more
+definitions than MOST, or more in a reading than its `most`: a contract that grows has to be seen.
 """
 import collections
 import os
@@ -20,6 +21,7 @@ from shadowtools.places import TOP
 
 PAGE = os.path.join(TOP, "docs", "HEADLINE.md")
 HEAD = os.path.join(os.path.dirname(os.path.abspath(__file__)), "headline_page.md")
+SENTENCES = os.path.join(os.path.dirname(os.path.abspath(__file__)), "headline_sentences.txt")
 MOST = 1229
 WIDTH = 120
 
@@ -32,11 +34,32 @@ def first_sentence(text):
     return text.split(". ")[0].rstrip(".") + "." if text else ""
 
 
-def written(definition, last_section):
-    """The lines of one definition, with its comment, and with the parameters of its section if they are new."""
+def sentences(text):
+    """The sentences of a list, by the key of their definition."""
+    found = {}
+    for line in text.splitlines():
+        if line and not line.startswith("#"):
+            name, _, said = line.partition(": ")
+            crate, _, path = name.partition(" ")
+            module, _, last = path.partition(".")
+            found[(crate, module, last)] = said
+    return found
+
+
+def faults_of_sentences(library, reached, listed):
+    """The definitions without a sentence, and the sentences of the list that no definition needs."""
+    lacking = [key for key in reached if not library.definitions[key].comment and key not in listed]
+    needless = [key for key in listed if key not in reached or library.definitions[key].comment]
+    return [f"{key[0]} {key[1]}.{key[2]} has no sentence" for key in lacking] + \
+        [f"headline_sentences.txt: {key[0]} {key[1]}.{key[2]} needs no sentence" for key in needless]
+
+
+def written(definition, listed, last_section):
+    """The lines of one definition, with its sentence, and with the parameters of its section if they are new."""
     lines = [definition.section] if definition.section and definition.section != last_section else []
     indent = definition.text[:len(definition.text) - len(definition.text.lstrip())]
-    lines += textwrap.wrap(definition.comment, WIDTH, initial_indent=f"{indent}-- ", subsequent_indent=f"{indent}-- ")
+    sentence = definition.comment or listed.get(definition.key, "")
+    lines += textwrap.wrap(sentence, WIDTH, initial_indent=f"{indent}-- ", subsequent_indent=f"{indent}-- ")
     return lines + [definition.text]
 
 
@@ -45,11 +68,11 @@ def declared_table(library, keys):
     return "\n".join(["| Crate | Type | What it is |", "|---|---|---|", *rows])
 
 
-def module_block(library, crate, module, keys):
+def module_block(library, listed, crate, module, keys):
     lines, section = [], ""
     for key in keys:
         definition = library.definitions[key]
-        lines += ["", *written(definition, section)] if lines else written(definition, section)
+        lines += ["", *written(definition, listed, section)] if lines else written(definition, listed, section)
         section = definition.section
     path = f"../crates/{crate}/specs/{module}.antt"
     return f"### `{module}` of `{crate}`\n\n[{crate}/specs/{module}.antt]({path})\n\n" + "\n".join(["```", *lines, "```"])
@@ -126,7 +149,8 @@ def page(library):
              f"In numbers: {len(definitions):,} definitions in {len({key[0] for key in definitions})} crates, and {len(declared)} declared types.",
              "## The contract", f"[{CALL[0]}/src/{CALL[1]}](../crates/{CALL[0]}/src/{CALL[1]})", f"```\n{contract}\n```",
              "## The outside", declared_table(library, traits), "## The types", declared_table(library, types), "## The definitions"]
-    parts += [module_block(library, *module, keys) for module, keys in by_modules(library, definitions)]
+    listed = sentences(text_of(SENTENCES))
+    parts += [module_block(library, listed, *module, keys) for module, keys in by_modules(library, definitions)]
     return "\n\n".join(parts) + "\n", definitions
 
 
@@ -146,13 +170,14 @@ def check(library, made, definitions):
         faults.append("docs/HEADLINE.md is not what tools/headline.py makes of the contract of run: run it")
     if len(definitions) > MOST:
         faults.append(f"the contract of run reaches {len(definitions)} definitions, and at most {MOST} are allowed (MOST)")
+    faults += faults_of_sentences(library, definitions, sentences(text_of(SENTENCES)))
     for at, _, reading in numbered():
         count = len(needs_of(library, reading).definitions)
         if count > reading.most:
             faults.append(f"claim {at}, {reading.title}, needs {count} definitions, and at most {reading.most} are allowed (claims.py)")
     for fault in faults:
         print(fault)
-    print(f"{2 + len(numbered()) - len(faults)} passed, {len(faults)} failed")
+    print(f"{max(3 + len(numbered()) - len(faults), 0)} passed, {len(faults)} failed")
     return 1 if faults else 0
 
 
