@@ -158,34 +158,41 @@ def compare(step, solved):
 
 # ---------------------------------------------------------------- the table
 
+TIMES = ["Median", "95th in 100", "Greatest", "Mean"]
+
+
 def milliseconds(times):
     """Median, the 95th in a hundred, the greatest and the mean."""
     ordered = sorted(times)
     at = [ordered[len(ordered) // 2], ordered[-(-95 * len(ordered) // 100) - 1], ordered[-1], sum(ordered) / len(ordered)]
-    return " / ".join("%.2f" % (t / 1000) for t in at)
+    return ["%.2f" % (t / 1000) for t in at]
 
 
 def mean(numbers):
     return sum(numbers) / len(numbers)
 
 
-def row_of(result, names):
-    own = [step.microseconds for step in result.steps]
+def own_times(result):
+    return [step.microseconds for step in result.steps]
+
+
+def cells_of_assembler(result):
     nodes = sorted(step.nodes for step in result.steps)
+    everything = result.steps + result.warm
+    return [str(len(nodes)), *milliseconds(own_times(result)), str(nodes[len(nodes) // 2]), "%.1f" % mean(nodes), str(nodes[-1]),
+            str(sum(step.mark != "proved" for step in everything)),
+            str(sum(step.search == "fallback" for step in everything + result.bases))]
+
+
+def cells_of_warm(result):
     warm = [step.microseconds for step in result.warm]
-    cells = [result.name, str(len(own)), milliseconds(own), "%d / %.1f / %d" % (nodes[len(nodes) // 2], mean(nodes), nodes[-1]),
-             str(sum(step.mark != "proved" for step in result.steps + result.warm)),
-             str(sum(step.search == "fallback" for step in result.steps + result.warm + result.bases)),
-             "%s; %.1f; %.2f" % (milliseconds(warm), mean([step.nodes for step in result.warm]), mean(warm) / mean(own))]
-    for name in names:
-        if name not in result.peers:
-            cells.append("")
-            continue
-        solved = result.peers[name]
-        late = sum(not s.optimal for s in solved)
-        times = [s.microseconds for s in solved]
-        cells.append("%s%s; %.2f" % (milliseconds(times), ", %d not optimal" % late if late else "", mean(times) / mean(own)))
-    return "| " + " | ".join(cells) + " |"
+    return [*milliseconds(warm), "%.1f" % mean([step.nodes for step in result.warm]), "%.2f" % (mean(warm) / mean(own_times(result)))]
+
+
+def cells_of_peer(result, name):
+    solved = result.peers[name]
+    times = [s.microseconds for s in solved]
+    return [*milliseconds(times), "%.2f" % (mean(times) / mean(own_times(result))), str(sum(not s.optimal for s in solved))]
 
 
 # GLPK on banks of many passages, with the links of items to their stimuli in its model
@@ -207,20 +214,25 @@ def together(name, group, names):
                   [s for r in group for s in r.bases], solved)
 
 
-def table(results, names):
-    heads = ["Bank", "Steps", "Assembler, ms", "Nodes", "Unproved", "Fallback", "Warm, ms; nodes; share"] + ["%s, ms; ratio" % name for name in names]
-    print("| " + " | ".join(heads) + " |")
-    print("|" + "---|" * len(heads))
-    for result in results:
-        print(row_of(result, names))
-    for name, belongs in GROUPS:
-        group = [r for r in results if belongs(r.name)]
-        if len(group) > 1:
-            print(row_of(together(name, group, names), names))
+def print_table(title, heads, rows):
+    print("### %s\n" % title)
+    for cells in [["Bank", *heads], ["---"] * (len(heads) + 1), *rows]:
+        print("| " + " | ".join(cells) + " |" if cells[0] != "---" else "|" + "---|" * len(cells))
     print()
-    print("Times are median / 95th in a hundred / greatest / mean a step; nodes are median / mean / greatest. A ratio is the mean")
-    print("of the peer by that of the assembler. Fallback is how often the fallback search was called. Warm are sessions whose")
-    print("searches begin with the multipliers of the step before: their times, mean of nodes, and mean time by that of the others.")
+
+
+def table(results, names):
+    """One table of the assembler, one of warm searches and one of each peer, with one number in each cell."""
+    groups = [(name, [r for r in results if belongs(r.name)]) for name, belongs in GROUPS]
+    rows = results + [together(name, group, names) for name, group in groups if len(group) > 1]
+    print_table("The assembler", ["Steps", *TIMES, "Nodes: median", "Mean", "Greatest", "Unproved", "Fallback"],
+                [[r.name, *cells_of_assembler(r)] for r in rows])
+    print_table("Warm", [*TIMES, "Nodes: mean", "Share"], [[r.name, *cells_of_warm(r)] for r in rows])
+    for name in names:
+        print_table(name, [*TIMES, "Ratio", "Not optimal"], [[r.name, *cells_of_peer(r, name)] for r in rows if name in r.peers])
+    print("Times are of a step, in milliseconds. A ratio is the mean of the peer by that of the assembler. Fallback is how often the")
+    print("fallback search was called. Warm are sessions whose searches begin with the multipliers of the step before; the share is")
+    print("their mean time by that of the others.")
 
 
 def measure(program, problem, commands, folder, rounds):
