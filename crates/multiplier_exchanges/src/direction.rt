@@ -9,17 +9,17 @@ use proof_tree::Memory;
 
 /// Adds numbers, each times a factor, to others.
 #[inline]
-fn add_times(sums: &mut [i64], numbers: &[i64], factor: i64) {
+fn add_times(sums: &mut [i64], numbers: &[i64], factor: i64, fine: u32) {
     for (sum, number) in sums.iter_mut().zip(numbers.iter()) {
-        *sum = sum.wrapping_add(number.wrapping_mul(factor));
+        *sum = sum.wrapping_add(number.wrapping_mul(factor) >> fine.min(16));
     }
 }
 
 /// Adds the cells of a line, times a factor, to the entries of the columns.
 #[inline]
-fn add_line(entries: &mut [i64], cells: &[Cell], factor: i64) {
+fn add_line(entries: &mut [i64], cells: &[Cell], factor: i64, fine: u32) {
     for cell in cells {
-        let more = cell.amount.wrapping_mul(factor);
+        let more = cell.amount.wrapping_mul(factor) >> fine.min(16);
         add_at(entries, cell.place as usize, more);
     }
 }
@@ -56,7 +56,7 @@ impl Vertex {
             let column = self.basic.get(place).copied().unwrap_or(0);
             let amount = self.amount(relaxation, column, line);
             if amount != 0 {
-                add_times(made, self.inverse_row(place), amount);
+                add_times(made, self.inverse_row(place), amount, relaxation.fine);
             }
         }
         Ok(())
@@ -97,14 +97,15 @@ impl Vertex {
         direction.entries.resize(self.columns.len(), 0)?;
         if let Some((line, sign)) = direction.line {
             let cells = relaxation.line_cells(line);
-            add_line(&mut direction.entries, cells, sign.wrapping_mul(ONE));
+            let whole = sign.wrapping_mul(ONE);
+            add_line(&mut direction.entries, cells, whole, relaxation.fine);
         }
         for place in 0..self.tight.len() {
             let price = at(direction.prices.as_slice(), place);
             if let Some(tight) = self.tight.get(place) {
                 if price != 0 {
                     let cells = relaxation.line_cells(tight.line);
-                    add_line(&mut direction.entries, cells, price);
+                    add_line(&mut direction.entries, cells, price, relaxation.fine);
                 }
             }
         }

@@ -30,8 +30,15 @@ pub struct Given<'a> {
 
 impl Relaxation {
     /// The relaxation of some columns, of whose items so many are taken.
-    pub fn given(alloc: Global, columns: Columns, length: i64) -> Result<Relaxation, Memory> {
+    pub fn given(
+        alloc: Global,
+        columns: Columns,
+        length: i64,
+        fine: u32,
+    ) -> Result<Relaxation, Memory> {
         let mut relaxation = Relaxation::empty(alloc, 0);
+        relaxation.fine = fine.min(16);
+        let one = 1i64 << fine.min(16);
         let Columns {
             items,
             groups,
@@ -42,11 +49,11 @@ impl Relaxation {
         relaxation.stimuli.extend_from_slice(groups.as_slice())?;
         let mut cells = Vec::new(alloc);
         for place in 0..items.len() {
-            cells.push((u16::try_from(place).unwrap_or(NO_SIDE), 1))?;
+            cells.push((u16::try_from(place).unwrap_or(NO_SIDE), one))?;
         }
         relaxation.add_given(&Given {
-            low: length,
-            high: Some(length),
+            low: length.wrapping_mul(one),
+            high: Some(length.wrapping_mul(one)),
             scale: 1,
             cells: cells.as_slice(),
         })?;

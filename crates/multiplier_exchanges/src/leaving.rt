@@ -98,6 +98,7 @@ impl Vertex {
         let mut number = 0u16;
         for (line, sum) in relaxation.lines.iter().zip(sums.iter()) {
             let (out, sign) = line_out(line, *sum);
+            let out = out >> relaxation.fine.min(16);
             if out > LEAST_LINE && self.is_tight.get(number as usize).copied() == Some(false) {
                 let measured = out.checked_div(line.scale).unwrap_or(0);
                 if measured > most {

@@ -101,14 +101,16 @@ impl Vertex {
             let amount = self.amount(relaxation, column, tight.line);
             room.needs.push(amount)?;
         }
-        self.times_inverse(room.needs.as_slice(), &mut room.column)
+        let (needs, made) = (room.needs.as_slice(), &mut room.column);
+        self.times_inverse(needs, made, relaxation.fine)
     }
 
     /// Some numbers times the inverse.
-    fn times_inverse(&self, numbers: &[i64], made: &mut Vec<i64>) -> Result<(), Memory> {
+    fn times_inverse(&self, numbers: &[i64], made: &mut Vec<i64>, fine: u32) -> Result<(), Memory> {
         made.clear();
         for place in 0..self.basic.len() {
-            made.push(sum_of_products(self.inverse_row(place), numbers))?;
+            let sum = sum_of_products(self.inverse_row(place), numbers);
+            made.push(sum >> fine.min(16))?;
         }
         Ok(())
     }
@@ -120,7 +122,7 @@ impl Vertex {
         for (number, amount) in room.line.iter().zip(room.needs.iter()) {
             pivot = pivot.wrapping_sub(number.wrapping_mul(*amount));
         }
-        pivot
+        pivot >> relaxation.fine.min(16)
     }
 
     /// Lets a column that was basic stand, at the bound that the sign of its weight shows, also where that is 0.

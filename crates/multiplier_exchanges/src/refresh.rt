@@ -16,9 +16,9 @@ fn add_product(sums: &mut [i64], numbers: &[i64], factor: i64) {
 
 /// Takes numbers, each times an amount, off others.
 #[inline]
-fn take_off(sums: &mut [i64], numbers: &[i64], amount: i64) {
+fn take_off(sums: &mut [i64], numbers: &[i64], amount: i64, fine: u32) {
     for (sum, number) in sums.iter_mut().zip(numbers.iter()) {
-        *sum = sum.wrapping_sub(number.wrapping_mul(amount));
+        *sum = sum.wrapping_sub(number.wrapping_mul(amount) >> fine.min(16));
     }
 }
 
@@ -46,13 +46,20 @@ impl Vertex {
     }
 
     /// Takes a basic column times its row of the inverse off the square.
-    fn take_column(&self, cells: &[Cell], place: usize, places: &[i64], square: &mut [i64]) {
+    fn take_column(
+        &self,
+        cells: &[Cell],
+        place: usize,
+        places: &[i64],
+        square: &mut [i64],
+        fine: u32,
+    ) {
         let size = self.tight.len();
         for cell in cells {
             if let Ok(line) = usize::try_from(at(places, cell.place as usize)) {
                 if line < size || places.len() < cell.place as usize {
                     let row = row_of(square, size, line);
-                    take_off(row, self.inverse_row(place), cell.amount);
+                    take_off(row, self.inverse_row(place), cell.amount, fine);
                 }
             }
         }
@@ -77,7 +84,8 @@ impl Vertex {
         for place in 0..self.basic.len() {
             let column = self.basic.get(place).copied().unwrap_or(0);
             let cells = relaxation.column_cells(column);
-            self.take_column(cells, place, room.sums.as_slice(), &mut room.spare);
+            let (sums, spare) = (room.sums.as_slice(), &mut room.spare);
+            self.take_column(cells, place, sums, spare, relaxation.fine);
             self.take_followers(relaxation, column, place, room);
         }
         Ok(())
@@ -94,7 +102,8 @@ impl Vertex {
         for item in relaxation.linked(column) {
             if self.stand(*item) == Stand::One {
                 let cells = relaxation.column_cells(*item);
-                self.take_column(cells, place, room.sums.as_slice(), &mut room.spare);
+                let (sums, spare) = (room.sums.as_slice(), &mut room.spare);
+                self.take_column(cells, place, sums, spare, relaxation.fine);
             }
         }
     }
@@ -148,7 +157,8 @@ impl Vertex {
         let mut weight = relaxation.gain(column);
         for cell in relaxation.column_cells(column) {
             let price = at(prices, cell.place as usize);
-            weight = weight.wrapping_add(price.wrapping_mul(cell.amount));
+            let more = price.wrapping_mul(cell.amount) >> relaxation.fine.min(16);
+            weight = weight.wrapping_add(more);
         }
         weight
     }

@@ -51,6 +51,8 @@ pub struct Relaxation {
     column_cells: Vec<Cell>,
     /// The gain of the items given.
     pub(crate) given: i64,
+    /// Amounts and bounds of lines are in units of 2 to the minus this, at most 16.
+    pub(crate) fine: u32,
     /// The numbers of the items that are columns.
     pub(crate) items: Vec<u16>,
     /// The numbers of the stimuli that are columns, after the items.
@@ -577,6 +579,7 @@ impl Relaxation {
             starts: Vec::new(alloc),
             column_cells: Vec::new(alloc),
             given,
+            fine: 0,
             items: Vec::new(alloc),
             stimuli: Vec::new(alloc),
             links: Vec::new(alloc),

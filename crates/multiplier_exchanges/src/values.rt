@@ -56,7 +56,8 @@ impl Vertex {
         self.values.clear();
         let mut bound = relaxation.given.wrapping_add(self.standing);
         for place in 0..self.basic.len() {
-            let value = sum_of_products(self.inverse_row(place), room.needs.as_slice());
+            let value = sum_of_products(self.inverse_row(place), room.needs.as_slice())
+                >> relaxation.fine.min(16);
             let column = self.basic.get(place).copied().unwrap_or(0);
             bound = bound.wrapping_add(product(self.whole_gain(relaxation, column), value));
             self.values.push(value)?;

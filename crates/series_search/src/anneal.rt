@@ -20,10 +20,19 @@ const TEMPERATURES: u32 = 220;
 const PATIENCE: u64 = 40_000;
 
 /// Moves of a search, at most.
-const MOST_MOVES: u64 = 8_000_000;
+const MOST_MOVES: u64 = 12_000_000;
+
+/// One of so many moves is of a whole passage.
+const PASSAGE_MOVES: u64 = 8;
+
+/// On a bank that is not small a search has so many times the moves and the patience.
+const LARGE: u64 = 4;
 
 /// Tries of a split, at most.
-const SPLITS: u32 = 5;
+const SPLITS: u32 = 7;
+
+/// The same on a small bank, where the relaxation of the forms can go on.
+const FEW_SPLITS: u32 = 5;
 
 /// The items of a set, in an order that is drawn.
 fn shuffled(alloc: Global, items: &ItemSet, draws: &mut Draws) -> Result<Vec<u16>, Memory> {
@@ -106,8 +115,10 @@ impl Course {
     /// Whether no more gain is waited for.
     fn is_over(&self, table: &Table) -> bool {
         let size = u64::try_from(table.pool_length()).unwrap_or(0);
-        let patience = PATIENCE.wrapping_mul(size);
-        self.moves > self.gained.wrapping_mul(4).wrapping_add(patience) || self.moves > MOST_MOVES
+        let times = if table.is_small() { 1 } else { LARGE };
+        let patience = PATIENCE.wrapping_mul(size).wrapping_mul(times);
+        let most = MOST_MOVES.wrapping_mul(times);
+        self.moves > self.gained.wrapping_mul(4).wrapping_add(patience) || self.moves > most
     }
 }
 
@@ -123,7 +134,12 @@ fn moves_at(
 ) {
     for _ in 0..count {
         course.moves = course.moves.wrapping_add(1);
-        let made = arrangement.step(table, draws, temperature);
+        let of_passage = !table.bounds.is_empty() && course.moves % PASSAGE_MOVES == 0;
+        let made = if of_passage {
+            arrangement.step_of_passage(table, draws, temperature)
+        } else {
+            arrangement.step(table, draws, temperature)
+        };
         if made && arrangement.is_sound() && arrangement.least(table) > best.value {
             let known = best.value;
             best.offer(table, &arrangement.sets());
@@ -160,6 +176,7 @@ fn run(
 fn plan_of(best: &Best, top: i64, number: u64) -> (i64, i64) {
     let gap = top.saturating_sub(best.value);
     let goal = match number % 3 {
+        _ if best.value < 0 && number % 2 == 1 => 0,
         _ if best.value < 0 => top,
         0 => top,
         1 => best.value.saturating_add(1),
@@ -230,7 +247,8 @@ fn halves(
 ) -> Result<Option<(ItemSet, ItemSet)>, Memory> {
     let first = forms / 2;
     let times = [first, forms.wrapping_sub(first)];
-    for number in 0..SPLITS {
+    let tries = if table.is_small() { FEW_SPLITS } else { SPLITS };
+    for number in 0..tries {
         let mut arrangement = drawn_groups(alloc, table, pool, &times, draws)?;
         arrangement.set_goal(table, goal);
         let count = 500u64.wrapping_mul(1u64 << number.min(6));

@@ -43,6 +43,39 @@ struct Exchange {
     comes: usize,
 }
 
+/// The most items of a passage that change their group together.
+const MOST_TOGETHER: usize = 16;
+
+/// Items that change their group together.
+#[derive(Clone, Copy)]
+struct Together {
+    items: [usize; MOST_TOGETHER],
+    count: usize,
+}
+
+impl Together {
+    /// No items.
+    fn none() -> Together {
+        Together {
+            items: [0; MOST_TOGETHER],
+            count: 0,
+        }
+    }
+
+    /// Adds an item, if there is room.
+    fn add(&mut self, item: usize) {
+        if let Some(slot) = self.items.get_mut(self.count) {
+            *slot = item;
+            self.count = self.count.wrapping_add(1);
+        }
+    }
+
+    /// The item at a place.
+    fn at(&self, place: usize) -> usize {
+        self.items.get(place).copied().unwrap_or(0)
+    }
+}
+
 impl Arrangement {
     /// The arrangement of no items.
     pub fn empty(alloc: Global, table: &Table, times: &[i64]) -> Result<Arrangement, Memory> {
@@ -356,6 +389,103 @@ impl Arrangement {
                 *slot = u16::try_from(item).unwrap_or(0);
             }
         }
+    }
+
+    /// Adds items of a group and of a stimulus, 0 for none, until there are so many, from a place that is drawn.
+    fn add_some(
+        &self,
+        table: &Table,
+        draws: &mut Draws,
+        group: usize,
+        stimulus: usize,
+        most: usize,
+        some: &mut Together,
+    ) {
+        let Some(list) = self.has.get(group) else {
+            return;
+        };
+        let start = draws.below(list.len());
+        for item in list.iter().skip(start).chain(list.iter().take(start)) {
+            if some.count >= most {
+                break;
+            }
+            if table.stimulus_of(*item as usize) == stimulus {
+                some.add(*item as usize);
+            }
+        }
+    }
+
+    /// Makes a move, whatever the energy is then.
+    fn make(&mut self, table: &Table, exchange: &Exchange) {
+        let points = self.change_at_points(table, exchange);
+        let (leaves, comes) = (exchange.leaves, exchange.comes);
+        let rows = self
+            .change_rows(table, exchange.first, leaves, comes)
+            .wrapping_add(self.change_rows(table, exchange.other, comes, leaves));
+        self.apply(table, exchange);
+        self.energy = self.energy.wrapping_add(points).wrapping_add(rows);
+        self.violation = self.violation.wrapping_add(rows);
+    }
+
+    /// Items of a group change places with as many of what is left, one after the other.
+    fn make_all(&mut self, table: &Table, first: usize, leave: &Together, come: &Together) {
+        let other = self.groups;
+        for place in 0..leave.count {
+            let exchange = Exchange {
+                first,
+                other,
+                leaves: leave.at(place),
+                comes: come.at(place),
+            };
+            self.make(table, &exchange);
+        }
+    }
+
+    /// The items of a passage of a group, or some of no passage, and as many of another passage or of none that are left.
+    fn drawn_passages(
+        &self,
+        table: &Table,
+        draws: &mut Draws,
+        first: usize,
+    ) -> Option<(Together, Together)> {
+        let left = self.groups;
+        let old = table.stimulus_of(self.drawn(draws, first)?);
+        let new = table.stimulus_of(self.drawn(draws, left)?);
+        if old == new {
+            return None;
+        }
+        let (mut leave, mut come) = (Together::none(), Together::none());
+        let most = if old == 0 {
+            draws.below(4).wrapping_add(2)
+        } else {
+            MOST_TOGETHER
+        };
+        self.add_some(table, draws, first, old, most, &mut leave);
+        self.add_some(table, draws, left, new, leave.count, &mut come);
+        if new != 0 {
+            self.add_some(table, draws, left, 0, leave.count, &mut come);
+        }
+        if come.count == leave.count {
+            Some((leave, come))
+        } else {
+            None
+        }
+    }
+
+    /// One move of a whole passage at a temperature; whether it was made.
+    pub fn step_of_passage(&mut self, table: &Table, draws: &mut Draws, temperature: i64) -> bool {
+        let first = draws.below(self.groups);
+        let Some((leave, come)) = self.drawn_passages(table, draws, first) else {
+            return false;
+        };
+        let known = self.energy;
+        let most = draws.rise(temperature);
+        self.make_all(table, first, &leave, &come);
+        if self.energy.wrapping_sub(known) > most {
+            self.make_all(table, first, &come, &leave);
+            return false;
+        }
+        true
     }
 
     /// One move at a temperature; whether it was made.

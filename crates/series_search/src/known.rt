@@ -11,7 +11,7 @@ use series_tree::{Memory, SeriesNode};
 use std::alloc::Global;
 
 /// Vectors that are tried at a path, the newest first.
-const TRIED: usize = 30;
+const TRIED: usize = 255;
 
 /// The vectors that leaves name.
 #[derive(Drop)]
@@ -29,6 +29,16 @@ impl Kept {
             pairs: 0,
             room: Room::new(alloc),
         }
+    }
+
+    /// Whether there is no room for one vector more, or for none as long as the last one.
+    pub fn is_full(&self) -> bool {
+        let last = match self.vectors.last() {
+            Some(priced) => priced.pairs.len(),
+            None => 0,
+        };
+        let more = self.pairs.saturating_add(last);
+        self.vectors.len() >= VECTORS as usize || more > PAIRS as usize
     }
 
     /// Whether a vector closes a path.

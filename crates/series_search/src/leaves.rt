@@ -4,6 +4,7 @@ use crate::forms::Best;
 use crate::known::Kept;
 use crate::model::Model;
 use crate::multipliers::Multipliers;
+use crate::numbers::add_at;
 use crate::path::Path;
 use crate::priced::Priced;
 use crate::table::Table;
@@ -122,6 +123,19 @@ impl Model {
         Ok(None)
     }
 
+    /// Whether exchanges from a vertex close its path.
+    pub fn closes(
+        &mut self,
+        table: &Table,
+        best: &Best,
+        vertex: &mut Vertex,
+    ) -> Result<bool, Memory> {
+        Ok(match self.run(table, best, vertex, MOST_EXCHANGES)? {
+            Reached::Target | Reached::Ray => true,
+            Reached::Best | Reached::Limit => false,
+        })
+    }
+
     /// The leaf at a path that exchanges find from a vertex.
     pub fn leaf(
         &mut self,
@@ -148,6 +162,27 @@ impl Model {
     }
 }
 
+/// The leaf at a path with too few items for all forms: a multiplier of 1 on the common use of each shows it.
+pub fn shortage(
+    alloc: Global,
+    table: &Table,
+    kept: &mut Kept,
+    best: &Best,
+    path: &Path,
+) -> Result<Option<SeriesNode>, Memory> {
+    let present = path.present();
+    if table.forms < 2 || present.count() as i64 >= table.pool_length() {
+        return Ok(None);
+    }
+    let mut multipliers = Multipliers::none(alloc, table, false)?;
+    for item in 0..table.items {
+        if present.has(item) {
+            add_at(&mut multipliers.uses, item as usize, 1);
+        }
+    }
+    leaf_by(alloc, table, kept, best, path, &multipliers)
+}
+
 /// The leaf of some multipliers, if their vector closes a path.
 pub fn leaf_by(
     alloc: Global,
@@ -158,7 +193,7 @@ pub fn leaf_by(
     multipliers: &Multipliers,
 ) -> Result<Option<SeriesNode>, Memory> {
     let mut priced = Priced::of(alloc, table, multipliers)?;
-    if table.has_thresholds() {
+    if priced.is_pool && table.has_thresholds() {
         priced.set_threshold(table, path, &mut kept.room)?;
     }
     kept.keep(alloc, table, best, path, priced, multipliers)

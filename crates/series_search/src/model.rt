@@ -18,6 +18,9 @@ use std::alloc::Global;
 /// The most that an item may add to a line.
 const SHORT: i64 = 65_535;
 
+/// Amounts of lines have so many bits after the point; the mean amount of a line is about one.
+const FINE: u32 = 10;
+
 /// What one of a line of a point is worth, at most, and the most that the column of the value gains.
 const PRICE: i64 = 4_194_304;
 
@@ -26,11 +29,33 @@ const MOST_GAIN: i64 = 274_877_906_944;
 /// What a line is of.
 #[derive(Clone, Copy)]
 enum Meaning {
-    Point { lane: usize, place: usize },
-    Row { lane: usize, row: usize },
-    Length { lane: usize },
-    Use { item: usize },
+    Point {
+        lane: usize,
+        place: usize,
+    },
+    Row {
+        lane: usize,
+        row: usize,
+    },
+    Length {
+        lane: usize,
+    },
+    Use {
+        item: usize,
+    },
+    Bound {
+        lane: usize,
+        stimulus: usize,
+        sign: i64,
+    },
     Other,
+}
+
+/// A line: what it is of, and how many bits its amounts were raised by.
+#[derive(Clone, Copy)]
+struct Known {
+    meaning: Meaning,
+    up: u32,
 }
 
 /// A relaxation. Its *lanes* are the forms, or the pool alone.
@@ -38,9 +63,11 @@ enum Meaning {
 pub struct Model {
     pub relaxation: Relaxation,
     pub room: Workspace,
-    meanings: Vec<Meaning>,
+    known: Vec<Known>,
     pub is_pool: bool,
     lanes: usize,
+    /// Whether the items of a stimulus are linked to it.
+    has_links: bool,
     /// How many forms a lane has.
     times: i64,
     /// The number of columns of items.
@@ -57,6 +84,16 @@ pub struct Model {
 /// A number divided by a power of two.
 fn lowered(number: i64, shift: u32) -> i64 {
     number >> shift.min(40)
+}
+
+/// How many bits amounts of a mean are raised by, so that the mean is about one.
+fn up_of(mean: i64) -> u32 {
+    for up in 0..FINE {
+        if mean.max(1) << up >= 1i64 << FINE {
+            return up;
+        }
+    }
+    FINE
 }
 
 /// The power of two that makes numbers short.
@@ -95,11 +132,11 @@ impl Model {
         lanes.wrapping_mul(table.bounds.len()).wrapping_add(1)
     }
 
-    /// Whether the relaxation of all forms has few enough columns.
+    /// Whether there is a relaxation of all forms: there are several, and it has few enough columns.
     pub fn has_forms(table: &Table) -> bool {
         let items = table.items as usize;
         let groups = Model::stimulus_groups(table, table.forms).wrapping_add(items);
-        table.forms > 1 && items.wrapping_mul(table.forms) <= 256 && groups <= 250
+        table.forms > 1 && table.is_small() && groups <= 250
     }
 
     /// The number of the column of an item in a lane.
@@ -157,22 +194,28 @@ impl Model {
         Ok(columns)
     }
 
-    /// Adds a line with its meaning.
+    /// Adds a line with its meaning; `mean` is that of its amounts.
     fn add_line(
         &mut self,
+        alloc: Global,
         cells: &[(u16, i64)],
         low: i64,
         high: Option<i64>,
-        scale: i64,
+        mean: i64,
         meaning: Meaning,
     ) -> Result<(), Memory> {
+        let up = up_of(mean);
+        let mut raised = Vec::new(alloc);
+        for (column, amount) in cells {
+            raised.push((*column, amount.wrapping_mul(1i64 << up.min(40))))?;
+        }
         self.relaxation.add_given(&Given {
-            low,
-            high,
-            scale,
-            cells,
+            low: low.wrapping_mul(1i64 << up.min(40)),
+            high: high.map(|bound| bound.wrapping_mul(1i64 << up.min(40))),
+            scale: 1,
+            cells: raised.as_slice(),
         })?;
-        self.meanings.push(meaning)?;
+        self.known.push(Known { meaning, up })?;
         Ok(())
     }
 
@@ -196,6 +239,7 @@ impl Model {
         let low = self.times.wrapping_mul(self.base);
         let scale = lowered(table.mean, self.shift);
         self.add_line(
+            alloc,
             cells.as_slice(),
             low,
             None,
@@ -212,6 +256,7 @@ impl Model {
         }
         let meaning = Meaning::Length { lane };
         self.add_line(
+            alloc,
             cells.as_slice(),
             table.length,
             Some(table.length),
@@ -280,7 +325,7 @@ impl Model {
         }
         let high = if high >= sum { None } else { Some(high) };
         let meaning = Meaning::Row { lane, row };
-        self.add_line(cells.as_slice(), low, high, limits.scale, meaning)
+        self.add_line(alloc, cells.as_slice(), low, high, limits.scale, meaning)
     }
 
     /// Adds the lines of the rows of the plan in a lane.
@@ -316,7 +361,12 @@ impl Model {
             self.group_column(group),
             most.wrapping_mul(sign).wrapping_neg(),
         ))?;
-        self.add_line(cells.as_slice(), 0, None, 2, Meaning::Other)
+        let meaning = Meaning::Bound {
+            lane,
+            stimulus,
+            sign,
+        };
+        self.add_line(alloc, cells.as_slice(), 0, None, 1, meaning)
     }
 
     /// Adds the lines of the bounds of the stimuli in a lane.
@@ -338,10 +388,11 @@ impl Model {
         }
         let group = self.uses.wrapping_add(item);
         cells.push((self.group_column(group), -1))?;
-        self.add_line(cells.as_slice(), 0, Some(0), 1, Meaning::Use { item })
+        let meaning = Meaning::Use { item };
+        self.add_line(alloc, cells.as_slice(), 0, Some(0), 1, meaning)
     }
 
-    /// The columns of the items of a stimulus in a lane, where one form at most may choose it.
+    /// The columns of the items of a stimulus in a lane, where they are linked and one form at most may choose it.
     fn linked(
         &self,
         alloc: Global,
@@ -351,7 +402,7 @@ impl Model {
     ) -> Result<Vec<u16>, Memory> {
         let mut linked = Vec::new(alloc);
         let members = table.members_of(stimulus);
-        if self.most_choosing(table, stimulus) == 1 {
+        if self.has_links && self.most_choosing(table, stimulus) == 1 {
             for item in 0..table.items {
                 if members.has(item) {
                     linked.push(self.item_column(table, lane, item as usize))?;
@@ -392,8 +443,11 @@ impl Model {
     /// Adds all columns and lines.
     fn fill(&mut self, alloc: Global, table: &Table) -> Result<(), Memory> {
         let columns = self.columns_of(alloc, table)?;
-        self.relaxation = Relaxation::given(alloc, columns, table.pool_length())?;
-        self.meanings.push(Meaning::Other)?;
+        self.relaxation = Relaxation::given(alloc, columns, table.pool_length(), FINE)?;
+        self.known.push(Known {
+            meaning: Meaning::Other,
+            up: FINE,
+        })?;
         for lane in 0..self.lanes {
             self.add_lane(alloc, table, lane)?;
         }
@@ -406,11 +460,13 @@ impl Model {
         self.relaxation.end_given(alloc, links.as_slice())
     }
 
-    /// The relaxation of the pool or of the forms, for values from somewhat below the goal up to a number that none exceeds.
+    /// The relaxation of the pool or of the forms, for values from somewhat below the goal up to a number that none exceeds. A vector
+    /// shows what links do only if it may have a threshold.
     pub fn of(
         alloc: Global,
         table: &Table,
         is_pool: bool,
+        has_links: bool,
         goal: i64,
         top: i64,
     ) -> Result<Model, Memory> {
@@ -430,11 +486,12 @@ impl Model {
             gains: Vec::new(alloc),
         };
         let mut model = Model {
-            relaxation: Relaxation::given(alloc, none, 0)?,
+            relaxation: Relaxation::given(alloc, none, 0, FINE)?,
             room: Workspace::new(alloc),
-            meanings: Vec::new(alloc),
+            known: Vec::new(alloc),
             is_pool,
             lanes,
+            has_links,
             times: if is_pool { forms } else { 1 },
             columns: lanes.wrapping_mul(table.items as usize),
             uses: Model::stimulus_groups(table, lanes),
@@ -562,11 +619,12 @@ impl Model {
         table: &Table,
         multipliers: &mut Multipliers,
         form: usize,
-        meaning: &Meaning,
+        known: &Known,
         price: i64,
     ) {
+        let price = price.wrapping_mul(1i64 << known.up.min(FINE));
         let raised = price.wrapping_mul(1i64 << self.shift.min(40));
-        match meaning {
+        match &known.meaning {
             Meaning::Point { place, .. } => {
                 let place = form.wrapping_mul(table.points.len()).wrapping_add(*place);
                 add_at(&mut multipliers.points, place, price.max(0));
@@ -578,7 +636,12 @@ impl Model {
             Meaning::Length { .. } => {
                 add_at(&mut multipliers.lengths, form, raised.wrapping_neg());
             }
-            Meaning::Use { .. } | Meaning::Other => {}
+            Meaning::Bound { stimulus, sign, .. } if !table.has_thresholds() => {
+                let first = form.wrapping_mul(table.bounds.len());
+                let place = first.wrapping_add(*stimulus).wrapping_sub(1);
+                add_at(&mut multipliers.bounds, place, raised.wrapping_mul(*sign));
+            }
+            Meaning::Bound { .. } | Meaning::Use { .. } | Meaning::Other => {}
         }
     }
 
@@ -589,24 +652,25 @@ impl Model {
         table: &Table,
         prices: &[i64],
     ) -> Result<Multipliers, Memory> {
-        let mut multipliers = Multipliers::none(alloc, table)?;
+        let mut multipliers = Multipliers::none(alloc, table, table.kinds.pool)?;
         for form in 0..table.forms {
-            for (meaning, price) in self.meanings.iter().zip(prices.iter()) {
-                let lane = match meaning {
+            for (known, price) in self.known.iter().zip(prices.iter()) {
+                let lane = match &known.meaning {
                     Meaning::Point { lane, .. } => *lane,
                     Meaning::Row { lane, .. } => *lane,
                     Meaning::Length { lane } => *lane,
+                    Meaning::Bound { lane, .. } => *lane,
                     Meaning::Use { .. } | Meaning::Other => 0,
                 };
                 if self.is_pool || lane == form {
-                    self.add_price(table, &mut multipliers, form, meaning, *price);
+                    self.add_price(table, &mut multipliers, form, known, *price);
                 }
             }
         }
         if !table.kinds.pool {
             self.add_uses_of(alloc, table, &mut multipliers, prices)?;
         }
-        multipliers.fit(table.kinds.pool);
+        multipliers.fit();
         Ok(multipliers)
     }
 
@@ -625,9 +689,9 @@ impl Model {
         if self.is_pool {
             return set_pool_uses(alloc, table, multipliers);
         }
-        for (meaning, price) in self.meanings.iter().zip(prices.iter()) {
-            if let Meaning::Use { item } = meaning {
-                let raised = price.wrapping_mul(1i64 << self.shift.min(40));
+        for (known, price) in self.known.iter().zip(prices.iter()) {
+            if let Meaning::Use { item } = &known.meaning {
+                let raised = price.wrapping_mul(1i64 << self.shift.min(40) << FINE);
                 add_at(&mut multipliers.uses, *item, raised.wrapping_neg().max(0));
             }
         }

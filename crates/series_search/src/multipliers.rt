@@ -32,10 +32,14 @@ pub struct Multipliers {
     pub points: Vec<i64>,
     /// Of the rows of the plan, form by form.
     pub rows: Vec<i64>,
+    /// Of the bounds of the stimuli, form by form.
+    pub bounds: Vec<i64>,
     /// Of the lengths.
     pub lengths: Vec<i64>,
     /// Of the common use of each item, which are at least 0; they count only without the rule of the pool.
     pub uses: Vec<i64>,
+    /// Whether the vector is judged by the rule of the pool; else each form alone.
+    pub is_pool: bool,
 }
 
 /// The greatest absolute value of some numbers.
@@ -73,25 +77,29 @@ fn push_sides(pairs: &mut Vec<(u16, u32)>, low: usize, multiplier: i64) -> Resul
 }
 
 impl Multipliers {
-    /// Multipliers that are all 0.
-    pub fn none(alloc: Global, table: &Table) -> Result<Multipliers, Memory> {
+    /// Multipliers that are all 0, of a vector of the pool or of another.
+    pub fn none(alloc: Global, table: &Table, is_pool: bool) -> Result<Multipliers, Memory> {
         let points = table.forms.wrapping_mul(table.points.len());
         let rows = table.forms.wrapping_mul(table.rows.len());
+        let bounds = table.forms.wrapping_mul(table.bounds.len());
         Ok(Multipliers {
             points: Vec::from_elem(alloc, 0i64, points)?,
             rows: Vec::from_elem(alloc, 0i64, rows)?,
+            bounds: Vec::from_elem(alloc, 0i64, bounds)?,
             lengths: Vec::from_elem(alloc, 0i64, table.forms)?,
             uses: Vec::from_elem(alloc, 0i64, table.items as usize)?,
+            is_pool,
         })
     }
 
     /// Divides all by a power of two until they fit a vector.
-    pub fn fit(&mut self, is_pool: bool) {
+    pub fn fit(&mut self) {
         let most = greatest(self.points.as_slice())
             .max(greatest(self.rows.as_slice()))
+            .max(greatest(self.bounds.as_slice()))
             .max(greatest(self.lengths.as_slice()))
             .max(greatest(self.uses.as_slice()));
-        let limit = if is_pool { MOST } else { MOST_ALONE };
+        let limit = if self.is_pool { MOST } else { MOST_ALONE };
         let mut divisor = 1i64;
         for _ in 0..62 {
             if most.checked_div(divisor).unwrap_or(0) < limit {
@@ -104,6 +112,7 @@ impl Multipliers {
             let half = divisor / 2;
             lower(&mut self.points, half, divisor);
             lower(&mut self.rows, half, divisor);
+            lower(&mut self.bounds, half, divisor);
             lower(&mut self.lengths, half, divisor);
         }
     }
@@ -129,7 +138,7 @@ impl Multipliers {
         Ok(())
     }
 
-    /// Adds the sides of the rows of a form.
+    /// Adds the sides of the rows and of the stimuli of a form.
     fn push_rows(
         &self,
         pairs: &mut Vec<(u16, u32)>,
@@ -141,6 +150,27 @@ impl Multipliers {
         for row in 0..table.rows.len() {
             let multiplier = at(self.rows.as_slice(), first.wrapping_add(row));
             push_sides(pairs, base.wrapping_add(row.wrapping_mul(2)), multiplier)?;
+        }
+        self.push_bounds(
+            pairs,
+            table,
+            form,
+            base.wrapping_add(table.rows.len().wrapping_mul(2)),
+        )
+    }
+
+    /// Adds the sides of the stimuli of a form, which begin at a number.
+    fn push_bounds(
+        &self,
+        pairs: &mut Vec<(u16, u32)>,
+        table: &Table,
+        form: usize,
+        base: usize,
+    ) -> Result<(), Memory> {
+        let first = form.wrapping_mul(table.bounds.len());
+        for place in 0..table.bounds.len() {
+            let multiplier = at(self.bounds.as_slice(), first.wrapping_add(place));
+            push_sides(pairs, base.wrapping_add(place.wrapping_mul(2)), multiplier)?;
         }
         Ok(())
     }
@@ -183,13 +213,13 @@ impl Multipliers {
         for form in 0..table.forms {
             self.push_points(&mut pairs, table, form)?;
         }
-        if !table.kinds.pool {
+        if !self.is_pool {
             self.push_uses(&mut pairs)?;
         }
         for form in 0..table.forms {
             self.push_rows(&mut pairs, table, form)?;
         }
-        if table.kinds.pool {
+        if self.is_pool {
             self.push_pool(&mut pairs, threshold)?;
         }
         Ok(pairs)

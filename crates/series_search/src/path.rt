@@ -67,6 +67,11 @@ impl Path {
         union_of(&self.free)
     }
 
+    /// The items that are in some form, or free in some.
+    pub fn present(&self) -> ItemSet {
+        self.placed().union(self.live())
+    }
+
     /// The path where an item is out of each form.
     fn without(&self, item: u16) -> Path {
         let mut path = *self;

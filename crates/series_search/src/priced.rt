@@ -11,6 +11,8 @@ use std::alloc::Global;
 #[derive(Drop)]
 pub struct Priced {
     pub pairs: Vec<(u16, u32)>,
+    /// Whether it is judged by the rule of the pool.
+    pub is_pool: bool,
     /// Whether no point has a multiplier.
     pub is_ray: bool,
     /// The constants of all forms, and their lengths times the multipliers of these.
@@ -28,7 +30,7 @@ pub struct Priced {
 /// What an item counts in a form.
 fn weight_of(table: &Table, multipliers: &Multipliers, form: usize, item: usize) -> i64 {
     let mut place = form.wrapping_mul(table.points.len());
-    let less = if table.kinds.pool {
+    let less = if multipliers.is_pool {
         at(multipliers.lengths.as_slice(), form)
     } else {
         at(multipliers.uses.as_slice(), item)
@@ -39,7 +41,19 @@ fn weight_of(table: &Table, multipliers: &Multipliers, form: usize, item: usize)
         weight = weight.wrapping_add(multiplier.wrapping_mul(*info));
         place = place.wrapping_add(1);
     }
-    weight.wrapping_add(row_weight(table, multipliers, form, item))
+    weight
+        .wrapping_add(row_weight(table, multipliers, form, item))
+        .wrapping_add(bound_of(table, multipliers, form, table.stimulus_of(item)))
+}
+
+/// The multiplier of the bounds of a stimulus in a form; 0 for none.
+fn bound_of(table: &Table, multipliers: &Multipliers, form: usize, stimulus: usize) -> i64 {
+    if stimulus == 0 {
+        return 0;
+    }
+    let first = form.wrapping_mul(table.bounds.len());
+    let place = first.wrapping_add(stimulus).wrapping_sub(1);
+    at(multipliers.bounds.as_slice(), place)
 }
 
 /// The sum of the multipliers of the rows that an item adds to.
@@ -59,6 +73,7 @@ impl Priced {
         let stimuli = table.forms.wrapping_mul(65);
         Ok(Priced {
             pairs: Vec::new(alloc),
+            is_pool: multipliers.is_pool,
             is_ray: multipliers.is_ray(),
             constant: 0,
             weights: Vec::new(alloc),
@@ -84,7 +99,7 @@ impl Priced {
 
     /// Adds the constant of a form, and the weight of its stimuli.
     fn add_rows(&mut self, table: &Table, multipliers: &Multipliers, form: usize) {
-        if table.kinds.pool {
+        if self.is_pool {
             let length = at(multipliers.lengths.as_slice(), form).wrapping_mul(table.length);
             self.constant = self.constant.wrapping_add(length);
         }
@@ -102,6 +117,19 @@ impl Priced {
                 self.weigh_stimuli(form, multiplier);
             }
             place = place.wrapping_add(1);
+        }
+        self.add_bounds(table, multipliers, form);
+    }
+
+    /// Adds the multipliers of the bounds of the stimuli to the weights of these in a form.
+    fn add_bounds(&mut self, table: &Table, multipliers: &Multipliers, form: usize) {
+        let first = form.wrapping_mul(65);
+        for stimulus in 1..table.bounds.len().saturating_add(1) {
+            let multiplier = bound_of(table, multipliers, form, stimulus);
+            let (low, high) = table.bounds_of(stimulus);
+            let bound = if multiplier > 0 { low } else { high };
+            let more = multiplier.wrapping_mul(bound).wrapping_neg();
+            add_at(&mut self.stimuli, first.wrapping_add(stimulus), more);
         }
     }
 
@@ -127,7 +155,7 @@ impl Priced {
             priced.add_weights(table, multipliers, form)?;
             priced.add_rows(table, multipliers, form);
         }
-        if !table.kinds.pool {
+        if !priced.is_pool {
             priced.add_uses(multipliers);
         }
         Ok(priced)
@@ -149,7 +177,7 @@ impl Priced {
             let point = place.checked_rem(size).unwrap_or(0);
             let weight = at(table.weights.as_slice(), point).max(1);
             let next = value.checked_div(weight).unwrap_or(0).wrapping_add(1);
-            let least = if table.kinds.pool {
+            let least = if self.is_pool {
                 next.wrapping_mul(weight)
             } else {
                 value.wrapping_add(1)

@@ -9,7 +9,7 @@ use crate::multipliers::Multipliers;
 use crate::path::{Path, all_items};
 use crate::priced::Priced;
 use crate::rule::Room;
-use crate::sweep::Sweep;
+use crate::sweep::{Models, Sweep};
 use crate::table::Table;
 use bank_tables::{Bank, ItemSet, List};
 use constraint_model::Spec;
@@ -24,6 +24,11 @@ const MANY_NODES: usize = 50;
 
 /// Sweeps of one kind, at most.
 const SWEEPS: u32 = 4;
+
+/// Branches of a sweep that only looks for better series, at most; of one with links.
+const SCOUTED: u32 = 2_047;
+
+const LINKED: u32 = 400;
 
 /// The seed of all draws.
 const SEED: u64 = 20_260_101;
@@ -88,7 +93,7 @@ fn lesser(first: Root, second: Root) -> Root {
 
 /// The bound of the relaxation of the pool at the root, for values from a goal on.
 fn root_bound(alloc: Global, table: &Table, goal: i64, top: i64) -> Result<Root, Memory> {
-    let mut model = Model::of(alloc, table, true, goal, top)?;
+    let mut model = Model::of(alloc, table, true, table.has_thresholds(), goal, top)?;
     let mut vertex = model.first(alloc, table, &Path::root(table))?;
     let none = Best::none();
     let _ = model.run(table, &none, &mut vertex, ROOT_EXCHANGES)?;
@@ -140,8 +145,8 @@ fn sweeps(
     for _ in 0..SWEEPS {
         let known = best.value;
         let goal = known.saturating_add(1);
-        let model = Model::of(alloc, table, is_pool, goal, top)?;
-        let mut sweep = Sweep::new(alloc, table, model, branches)?;
+        let models = Models::of(alloc, table, table.has_thresholds(), goal, top)?;
+        let mut sweep = Sweep::new(alloc, table, models, is_pool, branches)?;
         sweep.grow(alloc, table, best, draws)?;
         let is_large = sweep.nodes.len() > MANY_NODES;
         last = Some(sweep);
@@ -152,6 +157,39 @@ fn sweeps(
     Ok(last)
 }
 
+/// Looks for a better series of one form with items linked to their stimuli. What such a relaxation shows no vector without a
+/// threshold can, so its tree is left.
+fn scout_links(
+    alloc: Global,
+    table: &Table,
+    best: &mut Best,
+    draws: &mut Draws,
+    top: i64,
+) -> Result<(), Memory> {
+    if table.forms > 1 || table.bounds.is_empty() || table.has_thresholds() {
+        return Ok(());
+    }
+    let goal = best.value.saturating_add(1);
+    let models = Models::of(alloc, table, true, goal, top)?;
+    let mut sweep = Sweep::scout(alloc, table, models, true, LINKED)?;
+    sweep.grow(alloc, table, best, draws)
+}
+
+/// Looks for a better series with the relaxation of the forms. No vectors are kept, so it may close more paths than a tree has vectors
+/// for.
+fn scout_forms(
+    alloc: Global,
+    table: &Table,
+    best: &mut Best,
+    draws: &mut Draws,
+    top: i64,
+) -> Result<(), Memory> {
+    let goal = best.value.saturating_add(1);
+    let models = Models::of(alloc, table, table.has_thresholds(), goal, top)?;
+    let mut sweep = Sweep::scout(alloc, table, models, false, SCOUTED)?;
+    sweep.grow(alloc, table, best, draws)
+}
+
 /// Whether a sweep shows what it is to show.
 fn is_done(sweep: &Option<Sweep>) -> bool {
     match sweep {
@@ -160,7 +198,8 @@ fn is_done(sweep: &Option<Sweep>) -> bool {
     }
 }
 
-/// The sweep of the kind that suits the bank; if it spends the budget, that of the other kind, if there is one.
+/// The sweep of the kind that suits the bank; if it spends the budget, that of the other kind, if there is one, after a better series
+/// was looked for.
 fn best_sweep(
     alloc: Global,
     table: &Table,
@@ -175,6 +214,7 @@ fn best_sweep(
     if is_done(&sweep) || !has_forms {
         return Ok(sweep);
     }
+    scout_forms(alloc, table, best, draws, top)?;
     let other = sweeps(alloc, table, best, draws, forms_first, top, branches)?;
     Ok(if is_done(&other) || forms_first {
         other
@@ -195,6 +235,44 @@ fn shown_bound(alloc: Global, root: Root) -> Result<Option<Bounded>, Memory> {
     Ok(tree.map(|tree| Bounded { value, tree }))
 }
 
+/// The bound of all series at the root, after annealing has looked for a good one.
+fn annealed(
+    alloc: Global,
+    table: &Table,
+    best: &mut Best,
+    draws: &mut Draws,
+) -> Result<Root, Memory> {
+    let top = table.top(alloc)?;
+    let first = root_bound(alloc, table, 0, top)?;
+    anneal(alloc, table, best, &all_items(table), first.value, draws)?;
+    let goal = best.value.saturating_add(1);
+    let second = root_bound(alloc, table, goal, first.value.max(goal))?;
+    Ok(lesser(first, second))
+}
+
+/// The forms, the tree of a sweep, and the bound of the root.
+fn gathered(
+    alloc: Global,
+    table: &Table,
+    best: &Best,
+    sweep: &Option<Sweep>,
+    root: Root,
+) -> Result<Searched, Memory> {
+    let tree = match sweep {
+        Some(sweep) => tree_of_sweep(alloc, sweep)?,
+        None => None,
+    };
+    let forms = match best.known() {
+        Some(_) => Some(List::of(best.in_order(alloc, table)?)),
+        None => None,
+    };
+    Ok(Searched {
+        forms,
+        tree,
+        bound: shown_bound(alloc, root)?,
+    })
+}
+
 /// Looks for a series of so many forms of a plan, 1 to 4, whose least weighted information is as great as can be, and for a tree
 /// within a budget of nodes, which is odd and at most 4,095, that shows it best, or that there is no series, or that spends the
 /// budget. `weights` has one number for each grid point, and trees have the given kinds alone. All is to
@@ -211,32 +289,9 @@ pub fn search(
     let table = Table::of(alloc, bank, spec, weights, (forms as usize).min(4), kinds)?;
     let mut draws = Draws::of(SEED);
     let mut best = Best::none();
-    let top = table.top(alloc)?;
-    let first = root_bound(alloc, &table, 0, top)?;
-    anneal(
-        alloc,
-        &table,
-        &mut best,
-        &all_items(&table),
-        first.value,
-        &mut draws,
-    )?;
-    let goal = best.value.saturating_add(1);
-    let second = root_bound(alloc, &table, goal, first.value.max(goal))?;
-    let root = lesser(first, second);
+    let root = annealed(alloc, &table, &mut best, &mut draws)?;
+    scout_links(alloc, &table, &mut best, &mut draws, root.value)?;
     let branches = (budget as u32).saturating_sub(1) / 2;
     let sweep = best_sweep(alloc, &table, &mut best, &mut draws, root.value, branches)?;
-    let tree = match &sweep {
-        Some(sweep) => tree_of_sweep(alloc, sweep)?,
-        None => None,
-    };
-    let known = match best.known() {
-        Some(_) => Some(List::of(best.in_order(alloc, &table)?)),
-        None => None,
-    };
-    Ok(Searched {
-        forms: known,
-        tree,
-        bound: shown_bound(alloc, root)?,
-    })
+    gathered(alloc, &table, &best, &sweep, root)
 }

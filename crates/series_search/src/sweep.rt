@@ -5,6 +5,7 @@ use crate::branching::{Branch, may_branch};
 use crate::draws::Draws;
 use crate::forms::Best;
 use crate::known::Kept;
+use crate::leaves::shortage;
 use crate::model::{Model, form_branch};
 use crate::path::Path;
 use crate::table::Table;
@@ -23,11 +24,46 @@ const GAINS: u32 = 8;
 /// So many pools of a sweep may stay in one piece; then none is parted any more.
 const UNSPLIT: u32 = 6;
 
-/// A path that waits for its subtree, with its vertex.
+/// A path that waits for its subtree, with its vertex, which is of the relaxation of the pool or of that of the forms.
 #[derive(Drop)]
 struct Waiting {
     path: Path,
     vertex: Vertex,
+    is_pool: bool,
+}
+
+/// The relaxations of a sweep: that of the pool, and that of the forms, if there is one.
+#[derive(Drop)]
+pub struct Models {
+    pub pool: Model,
+    pub forms: Option<Model>,
+}
+
+impl Models {
+    /// The relaxations for values from somewhat below the goal up to a number that none exceeds.
+    pub fn of(
+        alloc: Global,
+        table: &Table,
+        has_links: bool,
+        goal: i64,
+        top: i64,
+    ) -> Result<Models, Memory> {
+        let pool = Model::of(alloc, table, true, has_links, goal, top)?;
+        let forms = if Model::has_forms(table) {
+            Some(Model::of(alloc, table, false, has_links, goal, top)?)
+        } else {
+            None
+        };
+        Ok(Models { pool, forms })
+    }
+
+    /// That of the pool, or that of the forms.
+    fn at(&mut self, is_pool: bool) -> &mut Model {
+        match &mut self.forms {
+            Some(forms) if !is_pool => forms,
+            _ => &mut self.pool,
+        }
+    }
 }
 
 /// A node, and of a branch the vertices of its sides.
@@ -40,7 +76,7 @@ enum Made {
 /// What a sweep has made so far.
 #[derive(Drop)]
 pub struct Sweep {
-    pub model: Model,
+    models: Models,
     pub kept: Kept,
     pub nodes: Vec<SeriesNode>,
     waiting: Vec<Waiting>,
@@ -48,26 +84,57 @@ pub struct Sweep {
     branches: u32,
     /// Pools that stayed in one piece.
     unsplit: u32,
+    /// Whether nothing more is expected of exchanges, since vectors have no room, or a pool without a relaxation of the forms stayed
+    /// in one piece. The budget is spent all the same, as a tree that is not a proof needs.
+    is_hopeless: bool,
+    /// Whether the sweep only looks for better series: a path that exchanges close is left open, and so is one whose pool stayed in
+    /// one piece.
+    is_scout: bool,
     /// Whether a leaf is Open.
     pub is_spent: bool,
 }
 
 impl Sweep {
-    /// A sweep that has only its root.
-    pub fn new(alloc: Global, table: &Table, model: Model, branches: u32) -> Result<Sweep, Memory> {
+    /// A sweep that has only its root, which begins with the relaxation of the pool or of the forms.
+    pub fn new(
+        alloc: Global,
+        table: &Table,
+        mut models: Models,
+        is_pool: bool,
+        branches: u32,
+    ) -> Result<Sweep, Memory> {
         let path = Path::root(table);
-        let vertex = model.first(alloc, table, &path)?;
+        let vertex = models.at(is_pool).first(alloc, table, &path)?;
         let mut waiting = Vec::new(alloc);
-        waiting.push(Waiting { path, vertex })?;
+        waiting.push(Waiting {
+            path,
+            vertex,
+            is_pool,
+        })?;
         Ok(Sweep {
-            model,
+            models,
             kept: Kept::none(alloc),
             nodes: Vec::new(alloc),
             waiting,
             branches,
             unsplit: 0,
+            is_hopeless: false,
+            is_scout: false,
             is_spent: false,
         })
+    }
+
+    /// A sweep that only looks for better series.
+    pub fn scout(
+        alloc: Global,
+        table: &Table,
+        models: Models,
+        is_pool: bool,
+        branches: u32,
+    ) -> Result<Sweep, Memory> {
+        let mut sweep = Sweep::new(alloc, table, models, is_pool, branches)?;
+        sweep.is_scout = true;
+        Ok(sweep)
     }
 
     /// Whether no path waits for its subtree.
@@ -78,6 +145,7 @@ impl Sweep {
     /// The leaf at a path that needs no exchanges.
     fn settled(
         &mut self,
+        alloc: Global,
         table: &Table,
         best: &mut Best,
         path: &Path,
@@ -89,16 +157,16 @@ impl Sweep {
             best.offer(table, &path.taken);
             return Ok(Some(SeriesNode::Whole));
         }
-        self.kept.closed(table, best, path)
+        if let Some(leaf) = self.kept.closed(table, best, path)? {
+            return Ok(Some(leaf));
+        }
+        shortage(alloc, table, &mut self.kept, best, path)
     }
 
     /// The sets that a vertex takes, by lanes.
-    fn sets_of(&self, table: &Table, path: &Path, vertex: &Vertex) -> [ItemSet; 4] {
-        let columns = self
-            .model
-            .sets(table, path)
-            .taken
-            .union(vertex.items(&self.model.relaxation, &ItemSet::empty()));
+    fn sets_of(model: &Model, table: &Table, path: &Path, vertex: &Vertex) -> [ItemSet; 4] {
+        let taken = model.sets(table, path).taken;
+        let columns = taken.union(vertex.items(&model.relaxation, &ItemSet::empty()));
         let mut sets = [ItemSet::empty(); 4];
         let items = table.items as usize;
         let mut next = 0;
@@ -125,11 +193,11 @@ impl Sweep {
         table: &Table,
         best: &mut Best,
         draws: &mut Draws,
-        path: &Path,
-        vertex: &Vertex,
+        at: &Waiting,
     ) -> Result<(), Memory> {
-        let sets = self.sets_of(table, path, vertex);
-        if !self.model.is_pool || table.forms == 1 {
+        let model = self.models.at(at.is_pool);
+        let sets = Sweep::sets_of(model, table, &at.path, &at.vertex);
+        if !at.is_pool || table.forms == 1 {
             best.offer(table, &sets);
             return Ok(());
         }
@@ -145,9 +213,11 @@ impl Sweep {
     }
 
     /// A branch where nothing is taken in part: on the use of an item that the vertex takes, else on any item.
-    fn any_branch(&self, table: &Table, path: &Path, vertex: &Vertex) -> Option<SeriesNode> {
-        if table.kinds.uses && self.model.is_pool && table.forms > 1 {
-            let [pool, ..] = self.sets_of(table, path, vertex);
+    fn any_branch(&mut self, table: &Table, at: &Waiting) -> Option<SeriesNode> {
+        let path = &at.path;
+        if table.kinds.uses && at.is_pool && table.forms > 1 {
+            let model = self.models.at(true);
+            let [pool, ..] = Sweep::sets_of(model, table, path, &at.vertex);
             let open = pool.minus(path.used).minus(path.placed()).meet(path.live());
             if let Some(item) = open.first() {
                 return Some(SeriesNode::Use { item });
@@ -170,24 +240,47 @@ impl Sweep {
         table: &Table,
         best: &mut Best,
         draws: &mut Draws,
-        path: &Path,
-        vertex: &mut Vertex,
+        at: &mut Waiting,
     ) -> Result<Result<SeriesNode, Option<Branch>>, Memory> {
         for _ in 0..GAINS {
-            let (model, kept) = (&mut self.model, &mut self.kept);
+            let (model, kept) = (self.models.at(at.is_pool), &mut self.kept);
+            let (path, vertex) = (&at.path, &mut at.vertex);
+            if self.is_scout && model.closes(table, best, vertex)? {
+                return Ok(Ok(SeriesNode::Open));
+            }
             if let Some(leaf) = model.leaf(alloc, table, kept, best, path, vertex)? {
                 return Ok(Ok(leaf));
             }
-            if let Some(branch) = self.model.best_branch(alloc, table, best, path, vertex)? {
+            if let Some(branch) = model.best_branch(alloc, table, best, path, vertex)? {
                 return Ok(Err(Some(branch)));
             }
             let known = best.value;
-            self.offer(alloc, table, best, draws, path, vertex)?;
+            self.offer(alloc, table, best, draws, at)?;
             if best.value == known {
                 break;
             }
         }
         Ok(Err(None))
+    }
+
+    /// The same; a path whose pool cannot be parted goes on with the relaxation of the forms, if there is one.
+    fn leaf_or_forms(
+        &mut self,
+        alloc: Global,
+        table: &Table,
+        best: &mut Best,
+        draws: &mut Draws,
+        at: &mut Waiting,
+    ) -> Result<Result<SeriesNode, Option<Branch>>, Memory> {
+        let found = self.leaf(alloc, table, best, draws, at)?;
+        match (&found, &self.models.forms) {
+            (Err(None), Some(forms)) if at.is_pool => {
+                at.vertex = forms.first(alloc, table, &at.path)?;
+                at.is_pool = false;
+                self.leaf(alloc, table, best, draws, at)
+            }
+            _ => Ok(found),
+        }
     }
 
     /// The branch that is made at a path in place of a leaf.
@@ -196,18 +289,25 @@ impl Sweep {
         alloc: Global,
         table: &Table,
         best: &Best,
-        path: &Path,
-        vertex: &Vertex,
+        at: &Waiting,
         found: Option<Branch>,
     ) -> Result<Made, Memory> {
         if let Some(branch) = found {
             return Ok(Made::Branch(branch));
         }
-        match self.any_branch(table, path, vertex) {
-            Some(node) if may_branch(path, &node) => {
-                let branch = self
-                    .model
-                    .tried(alloc, table, best, path, vertex, &node, NEXT)?;
+        if self.is_scout {
+            return Ok(Made::Leaf(SeriesNode::Open));
+        }
+        self.is_hopeless = self.is_hopeless || at.is_pool && table.forms > 1;
+        match self.any_branch(table, at) {
+            Some(node) if may_branch(&at.path, &node) => {
+                let (path, vertex) = (&at.path, &at.vertex);
+                if self.is_hopeless {
+                    let branch = Model::untried(alloc, vertex, &node)?;
+                    return Ok(Made::Branch(branch));
+                }
+                let model = self.models.at(at.is_pool);
+                let branch = model.tried(alloc, table, best, path, vertex, &node, NEXT)?;
                 Ok(Made::Branch(branch))
             }
             _ => Ok(Made::Leaf(SeriesNode::Open)),
@@ -221,25 +321,29 @@ impl Sweep {
         table: &Table,
         best: &mut Best,
         draws: &mut Draws,
-        path: &Path,
-        vertex: &mut Vertex,
+        at: &mut Waiting,
     ) -> Result<Made, Memory> {
-        if let Some(leaf) = self.settled(table, best, path)? {
+        if let Some(leaf) = self.settled(alloc, table, best, &at.path)? {
             return Ok(Made::Leaf(leaf));
         }
         if self.is_spent {
             return Ok(Made::Leaf(SeriesNode::Open));
         }
-        let found = match self.leaf(alloc, table, best, draws, path, vertex)? {
-            Ok(leaf) => return Ok(Made::Leaf(leaf)),
-            Err(found) => found,
+        self.is_hopeless = self.is_hopeless || self.kept.is_full();
+        let found = if self.is_hopeless {
+            None
+        } else {
+            match self.leaf_or_forms(alloc, table, best, draws, at)? {
+                Ok(leaf) => return Ok(Made::Leaf(leaf)),
+                Err(found) => found,
+            }
         };
         if self.branches == 0 {
             self.is_spent = true;
             return Ok(Made::Leaf(SeriesNode::Open));
         }
         self.branches = self.branches.saturating_sub(1);
-        self.branch(alloc, table, best, path, vertex, found)
+        self.branch(alloc, table, best, at, found)
     }
 
     /// Adds the node of the path that waits last; false where none waits.
@@ -250,10 +354,12 @@ impl Sweep {
         best: &mut Best,
         draws: &mut Draws,
     ) -> Result<bool, Memory> {
-        let Some(Waiting { path, mut vertex }) = self.waiting.pop() else {
+        let Some(mut at) = self.waiting.pop() else {
             return Ok(false);
         };
-        match self.node_at(alloc, table, best, draws, &path, &mut vertex)? {
+        let made = self.node_at(alloc, table, best, draws, &mut at)?;
+        let (path, is_pool) = (at.path, at.is_pool);
+        match made {
             Made::Leaf(node) => self.nodes.push(node)?,
             Made::Branch(branch) => {
                 let node = branch.node;
@@ -261,10 +367,12 @@ impl Sweep {
                 self.waiting.push(Waiting {
                     path: path.below(&node, false),
                     vertex: branch.other,
+                    is_pool,
                 })?;
                 self.waiting.push(Waiting {
                     path: path.below(&node, true),
                     vertex: branch.first,
+                    is_pool,
                 })?;
             }
         }

@@ -7,6 +7,9 @@ use constraint_model::{Row, Spec};
 use series_tree::Memory;
 use std::alloc::Global;
 
+/// The most items, each counted once for each form, of a bank that is small.
+const SMALL: usize = 128;
+
 /// The bounds of a row, what it is measured by, and whether it counts stimuli.
 #[derive(Clone, Copy)]
 pub struct Limits {
@@ -106,6 +109,11 @@ fn info_of(bank: &Bank, item: u16, point: u8) -> i64 {
 }
 
 impl Table {
+    /// Whether the bank is small: the items, once for each form, are few.
+    pub fn is_small(&self) -> bool {
+        (self.items as usize).wrapping_mul(self.forms) <= SMALL
+    }
+
     /// Whether a vector of the pool has a threshold.
     pub fn has_thresholds(&self) -> bool {
         self.kinds.pool && self.kinds.thresholds && !self.bounds.is_empty()
