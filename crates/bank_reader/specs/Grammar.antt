@@ -75,8 +75,7 @@ pub record BeginsAs (cols : List (List ℕ)) (s : Shape) (n : ℕ) : Type 0 wher
   pub within : n ≤ width s
   pub names : (c : ℕ) → c < n → field cols c ≡ name_of s c
 
--- where columns that are no header depart from every header: some header begins with the columns
--- before, and none goes on with this one too
+-- the first column that fits no header: the columns before it begin one
 pub record IsHeaderFault (cols : List (List ℕ)) (column : ℕ) : Type 0 where
   pub none : (s : Shape) → IsHeader cols s → ⊥
   pub begins : Shape

@@ -346,7 +346,7 @@ fn files_of_the_first_version(rt: HostRuntime) {
 /// A second record, how long the journal is with it, and the fault.
 type Second = ([&'static [u8]; 3], usize, OpenFault);
 
-/// Second records that are none or may not follow.
+/// Files whose second record is no record, or may not follow the first.
 const SECONDS: [Second; 10] = [
     (
         [&[1, 0, 0, 0, 1], &[6], &[]],

@@ -180,8 +180,8 @@ fn pool_of(setting: &Setting, cut: &SeriesCut, sides: &[u32; 2315], ray: bool) -
     pool
 }
 
-/// What the pool comes to where these items are taken, and of the others the greatest counts; none where these are too many, or
-/// all that may be taken are too few.
+/// The relaxed maximum of a pool where the sure items are taken, and of the others those of the greatest counts. There is none where
+/// the sure items are too many, or all that may be taken are too few.
 fn filled(setting: &Setting, pool: &Part, sure: &ItemSet) -> Option<i128>
     requires problem { IsSeriesProblem (problem_of setting.now) }
     requires near { IsPartNear (size setting.now.bank.now) rest_top pool.now }
