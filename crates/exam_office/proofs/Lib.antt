@@ -43,3 +43,5 @@ pub mod ReadingLaws
 pub mod AppendingLaws
 pub mod Witnesses
 pub mod Allowing
+pub mod NextProblems
+pub mod NextOfA

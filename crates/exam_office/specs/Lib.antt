@@ -18,3 +18,4 @@ pub mod Health
 pub mod Payloads
 pub mod Appending
 pub mod Allowing
+pub mod Ahead

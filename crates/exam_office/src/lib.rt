@@ -5,6 +5,7 @@
 //! request does what the rules of examinations ask for. It judges nothing but by the book.
 #![tactic(auto)]
 
+mod ahead;
 mod alone;
 mod answering;
 mod appending;
