@@ -7,6 +7,8 @@ pub mod Listed
 pub mod Leading
 pub mod Commits
 pub mod Served
+pub mod Fitting
 pub mod Seen
 pub mod Turning
 pub mod Looks
+pub mod Foreseen

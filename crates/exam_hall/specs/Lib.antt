@@ -5,6 +5,8 @@ pub mod Good
 pub mod Sees
 pub mod Leading
 pub mod Rounds
+pub mod Prepared
 pub mod Lasting
 pub mod Turns
 pub mod Probes
+pub mod Foreseeing

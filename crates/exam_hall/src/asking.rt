@@ -168,7 +168,11 @@ fn lead<'a, D: Disk>(
 
 /// The vector that the search for a session's next form may begin with; none where memory is
 /// wanting.
-fn vector_for<'a, D: Disk>(office: &Office<'a, D>, alloc: Global, session: u32) -> Option<Vector>
+pub(crate) fn vector_for<'a, D: Disk>(
+    office: &Office<'a, D>,
+    alloc: Global,
+    session: u32,
+) -> Option<Vector>
     ensures { IfSome result (FitsPlan office.now.bank office.now.plan) }
 {
     match office.warm(alloc, session) {

@@ -20,7 +20,9 @@ ghost use Rattle.exam_office.specs.Noting.{noted, marks_of, opened_with};
 ghost use Rattle.exam_office.specs.Serving.{IsAssembledFor};
 ghost use Rattle.exam_office.specs.Warm.{FitsPlan};
 ghost use Rattle.exam_hall.specs.Leading.{IsAsked, IsWitnessFor};
+ghost use Rattle.exam_hall.specs.Foreseeing.{Foresees};
 ghost use Rattle.exam_hall.specs.Known.{HasGrown, IsOf, IsOfficeOf, marked};
+ghost use Rattle.exam_hall.specs.Prepared.{IsPrepared, FitsFor};
 ghost use Rattle.exam_hall.specs.Rounds.{IsGoodFor, Rounds, Assembles};
 ghost use Rattle.exam_hall.specs.Probes.{Probes, Watches};
 ghost use Rattle.exam_hall.specs.Sees.{Sees};
@@ -28,6 +30,8 @@ ghost use Rattle.exam_hall.specs.Turns.{HasBegun};
 
 use crate::asking::{First, FirstAnswer};
 use crate::committing::{Commit, Round};
+use crate::prepared::made_for;
+use crate::preparing::{Ahead, Foresee};
 use crate::probing::{Probe, Watch};
 use bank_tables::{Bank, ItemSet};
 use branch_bound::{Assembled, assemble_from};
@@ -164,6 +168,29 @@ impl<'a, D: Disk> Hall<'a, D> {
         ensures grown { HasGrown pass.old pass.new }
         ensures reply { IsReply result }
     {
+        self.handle_prepared(rt, alloc, gate, pass, request, None)
+    }
+
+    /// Answers a request so, with what was assembled ahead. If its whole problem is the one that the
+    /// first turn finds, it is committed in place of the first assembly; else it is dropped. So a
+    /// result for another response, for a step that is over or for a session that was closed
+    /// meanwhile is not used.
+    pub fn handle_prepared<G: Gate, R: Wait>(
+        &self,
+        rt: &R,
+        alloc: Global,
+        gate: &G,
+        pass: &mut Pass<Office<'a, D>>,
+        request: &Request,
+        prepared: Option<Assembled<'a>>,
+    ) -> Reply
+        requires of { IsOf pass.old self.now }
+        requires prepared { IfSome prepared (IsPrepared self.now.bank self.now.plan self.now.base) }
+        ensures sees { Sees self.now (marked pass.old) (marked pass.new) request.now result }
+        ensures of { IsOf pass.new self.now }
+        ensures grown { HasGrown pass.old pass.new }
+        ensures reply { IsReply result }
+    {
         let witness = self.seek(alloc, gate, pass.number(), request);
         match self.begin(rt, alloc, pass, request, witness) {
             FirstAnswer::Done(reply) => reply,
@@ -173,7 +200,8 @@ impl<'a, D: Disk> Hall<'a, D> {
                 warm,
             } => {
                 let session = problem.session;
-                match self.assemble_twice(rt, alloc, gate, pass, &problem, warm.as_ref()) {
+                let fitting = self.fitting(prepared, &problem);
+                match self.assemble_twice(rt, alloc, gate, pass, &problem, warm.as_ref(), fitting) {
                     Ok(place) => Reply::At {
                         session,
                         place,
@@ -206,6 +234,54 @@ impl<'a, D: Disk> Hall<'a, D> {
         ensures grown { HasGrown pass.old pass.new }
     {
         self.turn.turn(rt, pass, &mut Watch)
+    }
+
+    /// What the form of a session's next step can be assembled from, before this answer comes. It
+    /// takes one turn, which adds nothing. It waits for its turn.
+    pub fn ahead<R: Wait>(
+        &self,
+        rt: &R,
+        alloc: Global,
+        pass: &mut Pass<Office<'a, D>>,
+        session: u32,
+        response: u8,
+    ) -> Ahead<'a>
+        requires of { IsOf pass.old self.now }
+        ensures foresees { Foresees self.now session response (marked pass.old) (marked pass.new)
+            result }
+        ensures of { IsOf pass.new self.now }
+        ensures grown { HasGrown pass.old pass.new }
+    {
+        let mut foresee = Foresee {
+            alloc,
+            session,
+            response,
+        };
+        self.turn.turn(rt, pass, &mut foresee)
+    }
+
+    /// What is assembled for a problem before the answer that leads to it comes, from a vector or
+    /// from none. `handle_prepared` may have it. The gate is passed before and after the assembly. It
+    /// takes no turn.
+    pub fn prepare<G: Gate>(
+        &self,
+        alloc: Global,
+        gate: &G,
+        caller: u32,
+        problem: &Problem<'a>,
+        warm: Option<&Vector>,
+    ) -> Result<Assembled<'a>, Memory>
+        requires well_made { IsWellMade (problem_of problem.now) }
+        requires bank { problem.now.bank.now ≡ self.now.bank }
+        requires plan { problem.now.spec.now ≡ self.now.plan }
+        requires fits { IfSome (option_copied warm) (FitsPlan self.now.bank self.now.plan) }
+        ensures problem { IfOk result (λ a. a.problem ≡ problem.now) }
+        ensures prepared { IfOk result (IsPrepared self.now.bank self.now.plan self.now.base) }
+    {
+        gate.pass(Point::BeforeAssembly, caller);
+        let made = self.assembled(alloc, problem, warm);
+        gate.pass(Point::AfterAssembly, caller);
+        made
     }
 
     /// A form without the items of a request's list, or why none is known. A request without a list
@@ -271,7 +347,23 @@ impl<'a, D: Disk> Hall<'a, D> {
         self.turn.turn(rt, pass, &mut first)
     }
 
-    /// Assembles and commits, and once more where the session still waits at the same step.
+    /// What was assembled ahead, if it was made for this problem.
+    fn fitting(
+        &self,
+        prepared: Option<Assembled<'a>>,
+        problem: &Problem<'a>,
+    ) -> Option<Assembled<'a>>
+        requires { IfSome prepared (IsPrepared self.now.bank self.now.plan self.now.base) }
+        ensures { IfSome result (λ a. (H : List Entry) → LegalRun self.now.bank self.now.plan H
+            → IsAsked self.now.bank self.now.plan H problem.now
+            → FitsFor self.now.bank self.now.plan self.now.base H problem.now a) }
+    {
+        let _ = self.bank.items();
+        made_for(prepared, problem)
+    }
+
+    /// Assembles and commits, and once more where the session still waits at the same step. What is
+    /// prepared for the problem is committed in place of the first assembly.
     fn assemble_twice<G: Gate, R: Wait>(
         &self,
         rt: &R,
@@ -280,18 +372,21 @@ impl<'a, D: Disk> Hall<'a, D> {
         pass: &mut Pass<Office<'a, D>>,
         problem: &Problem<'a>,
         warm: Option<&Vector>,
+        prepared: Option<Assembled<'a>>,
     ) -> Result<Place, Refusal>
         requires of { IsOf pass.old self.now }
         requires fits { IfSome (option_copied warm) (FitsPlan self.now.bank self.now.plan) }
         requires asked { IsAsked self.now.bank self.now.plan (history (marks_of pass.old.seen))
             problem.now }
         requires legal { LegalRun self.now.bank self.now.plan (history (marks_of pass.old.seen)) }
+        requires prepared { IfSome prepared (FitsFor self.now.bank self.now.plan self.now.base
+            (history (marks_of pass.old.seen)) problem.now) }
         ensures of { IsOf pass.new self.now }
         ensures grown { HasGrown pass.old pass.new }
         ensures assembles { Assembles self.now problem.now.session (marked pass.old)
             (marked pass.new) result }
     {
-        match self.serve_once(rt, alloc, gate, pass, problem, warm) {
+        match self.serve_first(rt, alloc, gate, pass, problem, warm, prepared) {
             Round::Placed(place) => Ok(place),
             Round::Failed(refusal) => Err(refusal),
             Round::Again(next) => match self.serve_once(rt, alloc, gate, pass, &next, warm) {
@@ -299,6 +394,34 @@ impl<'a, D: Disk> Hall<'a, D> {
                 Round::Failed(refusal) => Err(refusal),
                 Round::Again(_) => unreachable!(),
             },
+        }
+    }
+
+    /// The commit of what is prepared for the problem, in a turn; or one assembly and its commit.
+    fn serve_first<G: Gate, R: Wait>(
+        &self,
+        rt: &R,
+        alloc: Global,
+        gate: &G,
+        pass: &mut Pass<Office<'a, D>>,
+        problem: &Problem<'a>,
+        warm: Option<&Vector>,
+        prepared: Option<Assembled<'a>>,
+    ) -> Round<'a>
+        requires of { IsOf pass.old self.now }
+        requires fits { IfSome (option_copied warm) (FitsPlan self.now.bank self.now.plan) }
+        requires asked { IsAsked self.now.bank self.now.plan (history (marks_of pass.old.seen))
+            problem.now }
+        requires legal { LegalRun self.now.bank self.now.plan (history (marks_of pass.old.seen)) }
+        requires prepared { IfSome prepared (FitsFor self.now.bank self.now.plan self.now.base
+            (history (marks_of pass.old.seen)) problem.now) }
+        ensures of { IsOf pass.new self.now }
+        ensures grown { HasGrown pass.old pass.new }
+        ensures rounds { Rounds self.now problem.now (marked pass.old) (marked pass.new) result }
+    {
+        match prepared {
+            Some(assembled) => self.commit(rt, alloc, pass, assembled),
+            None => self.serve_once(rt, alloc, gate, pass, problem, warm),
         }
     }
 
@@ -344,6 +467,9 @@ impl<'a, D: Disk> Hall<'a, D> {
             → IsProblemOf self.now.bank self.now.plan H problem.now.session problem.now.step
             (problem_of problem.now)
             → IsAssembledFor self.now.bank self.now.plan self.now.base H problem.now.session a) }
+        ensures prepared { IfOk result (λ a. problem.now.bank.now ≡ self.now.bank
+            → problem.now.spec.now ≡ self.now.plan
+            → IsPrepared self.now.bank self.now.plan self.now.base a) }
     {
         let base = self.base;
         assemble_from(

@@ -1,10 +1,12 @@
 use Rattle.std.proofs.Common.{Option, IfSome, sym, subst}
 use Rattle.certificate_model.specs.Relaxed.{Multipliers}
+use Rattle.exam_office.specs.Marks.{history}
 use Rattle.exam_office.specs.Warm.{FitsPlan}
 use Rattle.exam_hall.specs.Known.{marked}
 use Rattle.exam_hall.proofs.Passes.{grown_through}
+use Rattle.exam_hall.proofs.Fitting.{fits_now}
 use Rattle.exam_hall.proofs.Seen.{sees_done, sees_served, sees_failed, reply_is}
-use Rattle.exam_hall.proofs.hall.Hall.handle.Goals as goal
+use Rattle.exam_hall.proofs.hall.Hall.handle_prepared.Goals as goal
 
 pub returns-in-Done-clause-sees : goal.returns-in-Done-clause-sees
 returns-in-Done-clause-sees g c = sees_done c.args.self.now (marked c.args.pass.now) (marked c.begin.new.pass) c.args.request.now c.in-Done.reply c.in-Done.ensures.begun
@@ -34,3 +36,9 @@ returns-in-Ok-clause-grown g c =
 pub returns-clause-grown : goal.returns-clause-grown
 returns-clause-grown g c =
     grown_through c.args.pass.now c.begin.new.pass c.assemble_twice.new.pass c.in-Waits.ensures.grown c.in-Err.ensures.grown
+
+-- what was assembled ahead for the problem of the first turn fits it
+pub assemble_twice-requires-clause-prepared : goal.assemble_twice-requires-clause-prepared
+assemble_twice-requires-clause-prepared g c =
+    let begun = c.in-Waits.ensures.begun in
+    fits_now c.args.self.now c.in-Waits.problem (history (marked c.begin.new.pass).seen) c.fitting-fitting.result begun.legal begun.begins.1 c.fitting-fitting.ensures
