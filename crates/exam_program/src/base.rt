@@ -9,7 +9,6 @@ ghost use Rattle.exam_program.specs.Bases.{IsWholeAssembly, FindsForm, IsBaseFor
 ghost use Rattle.exam_program.specs.Halts.{HaltsAtBase};
 
 use crate::halt::Halt;
-use crate::marked_form::MarkedForm;
 use crate::tree_texts::{form_text, no_base_form_text, no_form_text};
 use bank_tables::{Bank, ItemSet};
 use branch_bound::{Assembled, Memory, Outcome, assemble};
@@ -31,25 +30,25 @@ fn whole_assembly<'a>(
     assemble(alloc, problem, base.as_ref(), spec.base_budget() as u16)
 }
 
-/// The form that the assembly of the whole problem found, or why it found none.
+/// The form that the assembly of the whole problem found, with whether it is proved best, or why it found none.
 fn found_form<'a>(
     alloc: Global,
     bank: &'a Bank,
     spec: &'a Spec,
     assembled: &Assembled<'a>,
-) -> Result<MarkedForm, Halt>
+) -> Result<(ItemSet, bool), Halt>
     requires plan { IsPlanFor bank.now spec.now }
     requires assembly { IsWholeAssembly bank.now spec.now
         (problem_of assembled.now.problem) assembled.now.tree assembled.now.outcome }
     ensures found { IfOk result
         (λ found. FindsForm bank.now spec.now
-        (problem_of assembled.now.problem) found.form found.proved assembled.now.tree) }
+        (problem_of assembled.now.problem) found.0 found.1 assembled.now.tree) }
     ensures halts { IfErr result (HaltsAtBase bank.now spec.now) }
 {
     // `nodes` gives that the tree has a spelling.
     let _nodes = assembled.tree().nodes();
     match assembled.outcome() {
-        Outcome::Found { form, proved } => Ok(MarkedForm { form, proved }),
+        Outcome::Found { form, proved } => Ok((form, proved)),
         Outcome::NoForm => Err(Halt::NoForm(no_form_text(alloc, assembled.tree())?)),
         Outcome::NoneFound => {
             let text = no_base_form_text(alloc, spec.base_budget(), assembled.tree())?;
@@ -70,7 +69,7 @@ pub(crate) fn base_form<'a>(alloc: Global, bank: &'a Bank, spec: &'a Spec) -> Re
     }
     let assembled = whole_assembly(alloc, bank, spec)?;
     let found = found_form(alloc, bank, spec, &assembled)?;
-    Ok(found.form)
+    Ok(found.0)
 }
 
 /// The text of the assembly of the whole problem.
@@ -85,6 +84,12 @@ pub(crate) fn assembly_text<'a>(
 {
     let assembled = whole_assembly(alloc, bank, spec)?;
     let found = found_form(alloc, bank, spec, &assembled)?;
-    let text = form_text(alloc, assembled.problem(), &found, assembled.tree())?;
+    let text = form_text(
+        alloc,
+        assembled.problem(),
+        &found.0,
+        found.1,
+        assembled.tree(),
+    )?;
     Ok(text)
 }

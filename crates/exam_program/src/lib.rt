@@ -13,7 +13,6 @@ pub mod laws;
 mod lines;
 mod link_ends;
 mod linking;
-mod marked_form;
 mod migrating;
 mod output;
 mod program;

@@ -5,7 +5,7 @@ ghost use Rattle.constraint_model.specs.Views.{problem_of};
 ghost use Rattle.form_model.specs.Validity.{IsWellMade};
 ghost use Rattle.exam_program.specs.Texts.{tree_text, no_form, no_base_form, objective_line, form_text};
 
-use crate::marked_form::MarkedForm;
+use bank_tables::ItemSet;
 use constraint_model::{Problem, objective};
 use exam_text::{push_hex, push_number};
 use form_lines::{mark_text, push_items};
@@ -66,19 +66,20 @@ fn objective_line(
 pub(crate) fn form_text(
     alloc: Global,
     problem: &Problem,
-    found: &MarkedForm,
+    form: &ItemSet,
+    proved: bool,
     tree: &Tree,
 ) -> Result<Vec<u8>, Memory>
     requires { IsWellMade (problem_of problem.now) }
     ensures { IfOk result (λ text. text.items
-        ≡ form_text (problem_of problem.now) found.now.form found.now.proved tree.now) }
+        ≡ form_text (problem_of problem.now) form.now proved tree.now) }
 {
     let mut text = Vec::new(alloc);
     text.extend_from_slice(b"form")?;
-    push_items(alloc, &mut text, problem.bank.items(), &found.form)?;
+    push_items(alloc, &mut text, problem.bank.items(), form)?;
     text.push(b'\n')?;
-    let value = objective(problem, &found.form);
-    let line = objective_line(alloc, value, found.proved, tree.nodes().len())?;
+    let value = objective(problem, form);
+    let line = objective_line(alloc, value, proved, tree.nodes().len())?;
     text.extend_from_slice(line.as_bytes())?;
     text.extend_from_slice(b"tree ")?;
     push_tree(alloc, &mut text, tree)?;
