@@ -4,6 +4,7 @@ pub mod Texts
 pub mod Outside
 pub mod Replays
 pub mod Stopping
+pub mod Reasons
 pub mod ItemSets
 pub mod Halts
 pub mod Drilling

@@ -17,6 +17,7 @@ mod migrating;
 mod output;
 mod program;
 mod reading;
+mod reasons;
 mod replay;
 mod report;
 mod series;
@@ -26,5 +27,7 @@ mod tree_texts;
 mod work;
 mod world;
 
+pub use halt::Halt;
 pub use program::{run, run_alone};
+pub use reasons::{halt_words, place_of};
 pub use world::{Finish, Tools, World};

@@ -1,0 +1,212 @@
+//! Why a command ended before its work was done, in words for an operator. Standard output has one short line by a fixed
+//! format; these words are for standard error, and have each value that the fault has.
+
+ghost use Rattle.std.specs.Prelude.{◌≡◌, IfOk, string_bytes};
+ghost use Rattle.std.specs.Option.{option_map};
+ghost use Rattle.exam_program.specs.Reasons.{place_words, breach_words, illegal_words, tree_words, record_words, file_words, fault_words, place_of, halt_words};
+
+use crate::halt::Halt;
+use answer_journal::OpenFault as FileFault;
+use exam_office::OpenFault;
+use exam_records::RecordFault;
+use form_model::Breach;
+use history_model::{Illegal, Place};
+use proof_tree::TreeFault;
+use std::alloc::{AllocError, Global};
+
+/// The place of a session.
+#[tactic(auto, unfolding(crate::specs::Reasons::place_words))]
+fn place_words(alloc: Global, place: Place) -> Result<String, AllocError>
+    ensures { IfOk result (λ words. string_bytes words ≡ place_words place) }
+{
+    match place {
+        Place::Pending(step) => format!(in alloc; "an item is to be served at step {step}"),
+        Place::Waiting { step, item, .. } => format!(in alloc;
+            "item {item} waits for its answer at step {step}"
+        ),
+        Place::Complete => String::from_str(alloc, "the session is complete"),
+        Place::Closed => String::from_str(alloc, "the session is closed"),
+    }
+}
+
+/// Why a set of items is no form.
+#[tactic(auto, unfolding(crate::specs::Reasons::breach_words))]
+fn breach_words(alloc: Global, breach: Breach) -> Result<String, AllocError>
+    ensures { IfOk result (λ words. string_bytes words ≡ breach_words breach) }
+{
+    match breach {
+        Breach::Length(items) => format!(in alloc; "it has {items} items"),
+        Breach::Row(row, activity) => format!(in alloc; "row {row} of the plan has {activity}"),
+        Breach::Stimulus(stimulus, items) => format!(in alloc;
+            "stimulus {stimulus} has {items} items"
+        ),
+        Breach::Given(item) => format!(in alloc; "item {item} was given, and is not in it"),
+        Breach::Barred(item) => format!(in alloc; "item {item} is barred"),
+    }
+}
+
+/// Why a record may not follow those before it.
+#[tactic(auto, unfolding(crate::specs::Reasons::illegal_words))]
+fn illegal_words(alloc: Global, reason: Illegal) -> Result<String, AllocError>
+    ensures { IfOk result (λ words. string_bytes words ≡ illegal_words reason) }
+{
+    match reason {
+        Illegal::NotNumber(count) => format!(in alloc;
+            "the next session is {count}, if the plan allows it"
+        ),
+        Illegal::Booked(session) => format!(in alloc; "the booking has session {session}"),
+        Illegal::NotDrawn(item) => format!(in alloc; "not drawn, item {item}"),
+        Illegal::NoItem(count) => format!(in alloc;
+            "the list is empty, or has an item that is none of the bank's {count}"
+        ),
+        Illegal::NotWithout(why) => {
+            let why = breach_words(alloc, why)?;
+            format!(in alloc; "no form of the plan without the list: {why}")
+        }
+        Illegal::NoSession(count) => format!(in alloc; "no such session, there are {count}"),
+        Illegal::NotPending(at) => {
+            let at = place_words(alloc, at)?;
+            format!(in alloc; "no item is to be served here: {at}")
+        }
+        Illegal::IsAside => String::from_str(alloc, "eligibility was set aside before"),
+        Illegal::NotStep(step) => format!(in alloc; "the session is at step {step}"),
+        Illegal::NotBand(band) => format!(in alloc; "the estimate is in band {band}"),
+        Illegal::NotForm(why) => {
+            let why = breach_words(alloc, why)?;
+            format!(in alloc; "no form: {why}")
+        }
+        Illegal::NotItem(item) => format!(in alloc; "the next item of the form is {item}"),
+        Illegal::NotSpent(nodes) => format!(in alloc; "its tree is not one of {nodes} nodes"),
+        Illegal::Tree(_) => String::from_str(alloc, "its tree does not show it"),
+        Illegal::NotWaiting(at) => {
+            let at = place_words(alloc, at)?;
+            format!(in alloc; "no answer is awaited at this step: {at}")
+        }
+        Illegal::BadResponse(categories) => format!(in alloc;
+            "the item has {categories} categories"
+        ),
+        Illegal::Ended(at) => {
+            let at = place_words(alloc, at)?;
+            format!(in alloc; "no end here: {at}")
+        }
+    }
+}
+
+/// Why the bytes of a tree are none.
+#[tactic(auto, unfolding(crate::specs::Reasons::tree_words))]
+fn tree_words(alloc: Global, fault: TreeFault) -> Result<String, AllocError>
+    ensures { IfOk result (λ words. string_bytes words ≡ tree_words fault) }
+{
+    match fault {
+        TreeFault::Short => String::from_str(alloc, "its tree ends within a field"),
+        TreeFault::BadKind(at) => format!(in alloc; "a node of no kind at byte {at} of its tree"),
+        TreeFault::BadVector(number) => format!(in alloc; "vector {number} of its tree"),
+        TreeFault::Unfinished(at) => format!(in alloc; "its tree is not whole at byte {at}"),
+        TreeFault::TooLong(at) => format!(in alloc; "too many nodes at byte {at} of its tree"),
+        TreeFault::Memory => String::from_str(alloc, "no memory"),
+    }
+}
+
+/// Why a payload is no record.
+#[tactic(auto, unfolding(crate::specs::Reasons::record_words))]
+fn record_words(alloc: Global, fault: RecordFault) -> Result<String, AllocError>
+    ensures { IfOk result (λ words. string_bytes words ≡ record_words fault) }
+{
+    match fault {
+        RecordFault::Short => String::from_str(alloc, "no record, it ends within a field"),
+        RecordFault::Kind(at) => format!(in alloc; "no record, its kind at byte {at}"),
+        RecordFault::Field(at) => format!(in alloc; "no record, its field at byte {at}"),
+        RecordFault::Tree(why) => {
+            let why = tree_words(alloc, why)?;
+            format!(in alloc; "no record: {why}")
+        }
+        RecordFault::Extra(at) => format!(in alloc;
+            "no record, it has more bytes from byte {at} on"
+        ),
+        RecordFault::Memory => String::from_str(alloc, "no memory"),
+    }
+}
+
+/// Why a file is no journal.
+#[tactic(auto, unfolding(crate::specs::Reasons::file_words))]
+fn file_words(alloc: Global, fault: FileFault) -> Result<String, AllocError>
+    ensures { IfOk result (λ words. string_bytes words ≡ file_words fault) }
+{
+    match fault {
+        FileFault::Disk => String::from_str(alloc, "the disk failed"),
+        FileFault::TooLong(size) => format!(in alloc;
+            "it has {size} bytes, and the plan's line journal allows fewer"
+        ),
+        FileFault::Header => String::from_str(alloc, "its first bytes are not those of a journal"),
+        FileFault::Length(at) => format!(in alloc;
+            "no record has the length that is after byte {at}"
+        ),
+        FileFault::Cut(at) => format!(in alloc; "the record at byte {at} is cut off"),
+        FileFault::Version => String::from_str(
+            alloc,
+            "a journal of the first version, which shadowd migrate BANK PLAN moves to the second",
+        ),
+        FileFault::Memory => String::from_str(alloc, "no memory"),
+    }
+}
+
+/// Why a journal is refused.
+#[tactic(auto, unfolding(crate::specs::Reasons::fault_words))]
+fn fault_words(alloc: Global, fault: OpenFault) -> Result<String, AllocError>
+    ensures { IfOk result (λ words. string_bytes words ≡ fault_words fault) }
+{
+    match fault {
+        OpenFault::Journal(why) => file_words(alloc, why),
+        OpenFault::Version => file_words(alloc, FileFault::Version),
+        OpenFault::BadRecord(_, why) => record_words(alloc, why),
+        OpenFault::BadTree(_) => String::from_str(
+            alloc,
+            "its proof tree does not show what the record has",
+        ),
+        OpenFault::Illegal(_, why) => illegal_words(alloc, why),
+        OpenFault::Disk => file_words(alloc, FileFault::Disk),
+        OpenFault::Memory => file_words(alloc, FileFault::Memory),
+    }
+}
+
+/// The place of the record for which a journal is refused, if it is one: that of its gate in the file, in bytes.
+pub fn place_of(halt: &Halt) -> Option<u64>
+    ensures { result ≡ place_of halt.now }
+{
+    match halt {
+        Halt::Journal(OpenFault::BadRecord(at, _)) => Some(*at),
+        Halt::Journal(OpenFault::BadTree(at)) => Some(*at),
+        Halt::Journal(OpenFault::Illegal(at, _)) => Some(*at),
+        _ => None,
+    }
+}
+
+/// What an operator reads of a halt on standard error: why a journal is refused, by the rule that its record breaks and the values
+/// that the rule has, and for a plan without a form the command that explains it. Nothing, if the line on standard output has all.
+#[tactic(auto, unfolding(crate::specs::Reasons::halt_words))]
+pub fn halt_words(alloc: Global, halt: &Halt) -> Result<Option<String>, AllocError>
+    ensures { IfOk result
+        (λ words. option_map (λ w. string_bytes w) words ≡ halt_words halt.now) }
+{
+    let words = match halt {
+        Halt::Journal(why) => fault_words(alloc, *why)?,
+        Halt::NoForm(_) => String::from_str(
+            alloc,
+            "no form: tools/explain.py BANK PLAN names the rules that rule it out",
+        )?,
+        Halt::NoBaseForm(_) => String::from_str(
+            alloc,
+            "no base form: raise base-budget in the plan, or name a form by the line base",
+        )?,
+        Halt::NoSeries(_) => String::from_str(
+            alloc,
+            "no series: tools/explain.py BANK PLAN --series K names the rules that rule it out",
+        )?,
+        Halt::NoSeriesFound(_) => String::from_str(
+            alloc,
+            "no series: raise base-budget in the plan",
+        )?,
+        _ => return Ok(None),
+    };
+    Ok(Some(words))
+}
