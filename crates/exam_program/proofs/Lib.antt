@@ -1,4 +1,5 @@
 pub mod BaseLaws
+pub mod CauseLaws
 pub mod Completeness
 pub mod OnePlan
 pub mod OutcomeLaws

@@ -34,6 +34,7 @@ use Rattle.exam_program.specs.Runs.{EndsWith, IsLastWritten, RunEnds, RunLeaves,
 use Rattle.exam_program.specs.Ships.{IsShipOf, ShipEnds, ShipSeen}
 use Rattle.exam_program.specs.Stopping.{IsUnopened, refused, failed, out_of_memory}
 use Rattle.exam_program.specs.Writing.{IsWritten}
+use Rattle.exam_program.proofs.CauseLaws.{link_refuses}
 use Rattle.exam_program.proofs.Completeness.{pair_same}
 use Rattle.exam_program.proofs.ReplayLaws.{moved_so}
 use Rattle.exam_program.proofs.RunLaws.{run_leaves}
@@ -66,8 +67,11 @@ ship_is_link words o b p base is = record { command = Ship is.bank is.plan; aske
 pub link_unopened : (words : List (List ℕ)) (o : Outside) (told : Bool) (old new : List ℕ) (b : Tables) (p : Plan) (base : List ℕ)
     → IsLinkOf words o b p base → (h : Halt) → IsWritten told old new [] → IsUnopened b p o.disk h → Halts words o told old new h
 link_unopened words o told old new b p base is _ written (refused fault so) = (
-  record { text = []; written = written; outcome = link_refused b p base fault is so },
-  record { text = []; written = written; outcome = without_memory so.untouched },
+  link_refuses words o b p base fault is so,
+  (
+    record { text = []; written = written; outcome = link_refused b p base fault is so },
+    record { text = []; written = written; outcome = without_memory so.untouched },
+  ),
 )
 link_unopened words o told old new b p base is _ written (failed so) =
     record { text = []; written = written; outcome = link_without_journal b p base is so }

@@ -30,6 +30,7 @@ use Rattle.exam_program.specs.Replays.{IsLeftAt, IsReadingRefused}
 use Rattle.exam_program.specs.Stopping.{opening_halt, IsUnprinted, IsUnopened, refused, failed, out_of_memory, Stops, by_sessions, by_journal, by_disk, by_memory, by_sink, Finishes, IsReplayed, Halted}
 use Rattle.exam_program.specs.Texts.{bank_line, journal_text, usage}
 use Rattle.exam_program.specs.Writing.{IsWritten, WritesPart}
+use Rattle.exam_program.proofs.CauseLaws.{audit_refuses, migration_refuses, replay_refuses}
 use Rattle.exam_program.specs.Outcomes.{series_answered, IsOver, IsReady, IsReplayOf, Outcome, faulty_words, bank_refused, plan_refused, script_refused, checked, form_found, without_form, without_base_form, journal_refused, replayed, sessions_full, journal_full, without_files, without_journal, without_disk, without_memory, without_more_memory, server_refused, server_without_journal, server_without_memory, IsAuditOf, audited, audit_refused, without_audit, drilled, IsMigrationOf, migrated, migration_refused, migration_full, without_migration, migration_without_memory, migrated_without_line, link_refused, link_without_journal, Prints, PrintsPart, PrintsBefore, PrintsBeforeText, Ends, LeavesJournal, as_found, at_opening, after_requests, server_at_opening, after_opening, after_migration, at_migration, link_at_opening, Halts, EndsBy, IsStatus}
 
 -- a count that rose later, rose
@@ -108,8 +109,9 @@ module _ (words : List (List ℕ)) (o : Outside) (told : Bool) (old : List ℕ) 
 
   -- ---- an audit
   refused_audit : (b : Tables) (p : Plan) (f : OpenFault) → IsAuditOf words o b p → IsReadingRefused b p o.disk f
-      → PrintsBeforeText words o told old old 6 (journal_text f)
-  refused_audit b p f is so = (nothing_before 6 _ (audit_refused b p f is so), nothing_before 10 _ (without_memory so.untouched))
+      → Halts words o told old old (halt.Journal f)
+  refused_audit b p f is so =
+      (audit_refuses words o b p f is so, (nothing_before 6 _ (audit_refused b p f is so), nothing_before 10 _ (without_memory so.untouched)))
 
   -- a journal that was not read, or is refused
   pub halts_audited : (b : Tables) (p : Plan) (f : OpenFault) → IsAuditOf words o b p → IsUntouched o.disk
@@ -126,7 +128,8 @@ module _ (words : List (List ℕ)) (o : Outside) (told : Bool) (old : List ℕ) 
   -- ---- a migration
   refused_migration : (b : Tables) (p : Plan) (f : OpenFault) → IsMigrationOf words o b p → IsReadingRefused b p o.disk f
       → Halts words o told old old (halt.Journal f)
-  refused_migration b p f is so = (nothing_before 6 _ (migration_refused b p f is so), nothing_before 10 _ (without_memory so.untouched))
+  refused_migration b p f is so =
+      (migration_refuses words o b p f is so, (nothing_before 6 _ (migration_refused b p f is so), nothing_before 10 _ (without_memory so.untouched)))
 
   -- the journal was not opened
   halts_unopened : (b : Tables) (p : Plan) (f : OpenFault) → IsMigrationOf words o b p → migrate_fault_of f ≡ migrate_fault.Open f → IsUntouched o.disk
@@ -184,8 +187,11 @@ module _ (words : List (List ℕ)) (o : Outside) (told : Bool) (old : List ℕ) 
 
     unopened_so : (h : Halt) → IsWritten told old new [] → IsUnopened b p o.disk h → Halts words o told old new h
     unopened_so _ written (refused fault so) = (
-      record { text = []; written = written; outcome = journal_refused b p script base fault is so },
-      record { text = []; written = written; outcome = without_memory so.untouched },
+      replay_refuses words o b p script base fault is so,
+      (
+        record { text = []; written = written; outcome = journal_refused b p script base fault is so },
+        record { text = []; written = written; outcome = without_memory so.untouched },
+      ),
     )
     unopened_so _ written (failed so) = record { text = []; written = written; outcome = without_journal b p script base is so }
     unopened_so _ written (out_of_memory untouched) =

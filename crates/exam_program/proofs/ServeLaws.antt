@@ -33,14 +33,18 @@ use Rattle.exam_program.specs.Texts.{disk_failed}
 use Rattle.exam_lines.specs.Texts.{summary_text}
 use Rattle.exam_program.specs.Stopping.{IsUnopened, refused, failed, out_of_memory}
 use Rattle.exam_program.specs.Writing.{IsWritten}
+use Rattle.exam_program.proofs.CauseLaws.{server_refuses}
 use Rattle.exam_program.proofs.OutcomeLaws.{also, is_8, ends_by}
 
 -- ---- a journal that was not opened
 pub server_unopened : (words : List (List ℕ)) (o : Outside) (told : Bool) (old new : List ℕ) (b : Tables) (p : Plan) (base : List ℕ)
     → IsServeOf words o b p base → (h : Halt) → IsWritten told old new [] → IsUnopened b p o.disk h → Halts words o told old new h
 server_unopened words o told old new b p base is _ written (refused fault so) = (
-  record { text = []; written = written; outcome = server_refused b p base fault is so },
-  record { text = []; written = written; outcome = without_memory so.untouched },
+  server_refuses words o b p base fault is so,
+  (
+    record { text = []; written = written; outcome = server_refused b p base fault is so },
+    record { text = []; written = written; outcome = without_memory so.untouched },
+  ),
 )
 server_unopened words o told old new b p base is _ written (failed so) =
     record { text = []; written = written; outcome = server_without_journal b p base is so }

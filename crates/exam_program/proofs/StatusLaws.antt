@@ -264,6 +264,17 @@ module _ {R : Type 0} where
   ending_unprinted DoorFailed status (inl e) is = absurd (omega (arith, e, is))
   ending_unprinted Memory status (inl e) is = absurd (omega (arith, e, is))
 
+  -- the status 6 is none of a server whose journal was opened
+  pub ending_not_6 : (end : End) (status : ℕ) → (IsStatusOfEnding end status) ⊎ ((status ≡ 8) × R) → status ≡ 6 → ⊥
+  ending_not_6 end status (inr e) is = let is_8 : status ≡ 8 = e.0 in omega (arith, is_8, is)
+  ending_not_6 Done status (inl (inl (inl e))) is = omega (arith, e, is)
+  ending_not_6 Done status (inl (inl (inr e))) is = omega (arith, e, is)
+  ending_not_6 Done status (inl (inr e)) is = omega (arith, e, is)
+  ending_not_6 Starved status (inl (inl e)) is = omega (arith, e, is)
+  ending_not_6 Starved status (inl (inr e)) is = omega (arith, e, is)
+  ending_not_6 DoorFailed status (inl e) is = omega (arith, e, is)
+  ending_not_6 Memory status (inl e) is = omega (arith, e, is)
+
   pub ending_late : (end : End) (status : ℕ) → (IsStatusOfEnding end status) ⊎ ((status ≡ 8) × R) → IsStatusBefore status → ⊥
   ending_late end status (inr e) before = false≢true (subst (λ (s : ℕ). IsStatusBefore s) e.0 before)
   ending_late Done status (inl (inl (inl e))) before = false≢true (subst (λ (s : ℕ). IsStatusBefore s) e before)

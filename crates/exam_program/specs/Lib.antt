@@ -12,6 +12,7 @@ pub mod Serves
 pub mod Migrations
 pub mod Series
 pub mod LinkWords
+pub mod Causes
 pub mod Outcomes
 pub mod Runs
 pub mod Linked

@@ -1,5 +1,5 @@
 -- What the program answers: its status, and what it prints.
-use Rattle.std.specs.Prelude.{◌≡◌, ℕ, ◌<◌, ◌⊎◌, ◌==◌, List, [], ◌∷◌, ◌++◌, Bool, IsTrue, Ok, Err, Some, None, Contains, length}
+use Rattle.std.specs.Prelude.{◌≡◌, ℕ, ◌<◌, ◌⊎◌, ◌==◌, List, [], ◌∷◌, ◌++◌, Bool, IsTrue, Ok, Err, Some, None, Contains, length, Option}
 use Rattle.std.specs.List.{list_any}
 use Rattle.bank_tables.specs.Tables.{Tables}
 use Rattle.bank_reader.specs.declared.fault.ReadFault.{ReadFault}
@@ -36,7 +36,8 @@ use Rattle.replay_cli.specs.Texts.{script_text}
 use Rattle.exam_program.specs.declared.halt.Halt.{Halt}
 use Rattle.exam_program.specs.declared.halt.Halt.TheVariants as halt
 use Rattle.exam_program.specs.Bases.{FindsForm, ShowsNoForm, ShowsNoBase, IsBaseForm}
-use Rattle.command_line.specs.Commands.{Command, Check, Assemble, Replay, Serve, Audit, Drill, Migrate, Series, Follow, Ship, command_of, files_of}
+use Rattle.command_line.specs.Commands.{Command, Check, Assemble, Replay, Serve, Audit, Drill, Migrate, Series, Follow, Ship, IsOfLinked, command_of, files_of}
+use Rattle.exam_program.specs.Causes.{IsRefused, Shows}
 use Rattle.exam_program.specs.Halts.{Reads, IsOfText, IsScriptIn}
 use Rattle.exam_program.specs.Outside.{Outside, IsUntouched}
 use Rattle.exam_program.specs.Migrations.{IsMigrationDone, IsMigrationCutOff, IsStillUnmoved, IsMigrationFull}
@@ -311,7 +312,7 @@ Halts words o told old new (halt.Script fault) =
 Halts words o told old new (halt.NoForm text) = PrintsBefore words o told old new 11 text.items
 Halts words o told old new (halt.NoBaseForm text) = PrintsBefore words o told old new 12 text.items
 Halts words o told old new (halt.Journal fault) =
-    PrintsBeforeText words o told old new 6 (journal_text fault)
+    IsRefused words o fault × PrintsBeforeText words o told old new 6 (journal_text fault)
 Halts words o told old new (halt.Sessions count most) =
     PrintsBeforeText words o told old new 13 (sessions_limit count most)
 Halts words o told old new (halt.JournalFull size most) =
@@ -356,3 +357,10 @@ IsStatusOfRun status = IsStatus status ⊎ (status ≡ 14)
 abbrev pub IsStatusBefore : ℕ → Type 0
 IsStatusBefore status = IsTrue (list_any (λ s. s == status)
     (2 ∷ 3 ∷ 4 ∷ 5 ∷ 7 ∷ 11 ∷ 12 ∷ 16 ∷ 17 ∷ 18 ∷ []))
+
+-- a run with this status ended by this halt, and what it shows is so; or by none. Then it refused no
+-- text but its words, and has status 6 only if it follows or ships
+abbrev pub EndsAs : List (List ℕ) → Outside → Option Halt → ℕ → Type 0
+EndsAs words o (Some h) status = Shows words o h × (EndsBy h status ⊎ (status ≡ 8))
+EndsAs words o None status = (IsStatusBefore status → status ≡ 2)
+    × (status ≡ 6 → IsOfLinked (command_of words))

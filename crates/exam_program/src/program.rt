@@ -13,7 +13,7 @@ ghost use Rattle.exam_serve.specs.Doors.{AreLent, AreServed, HasFailedDoor};
 ghost use Rattle.command_line.specs.Commands.{HasJournal, IsOfJournal, IsOfLinked, UsesDoors, IsOfDoors, IsInRange, AreInRange, command_of, said};
 ghost use Rattle.exam_program.specs.Allowing.{IsOpenedBy};
 ghost use Rattle.exam_program.specs.Halts.{IsBeforeJournal};
-ghost use Rattle.exam_program.specs.Outcomes.{Ends, Prints, Halts, LeavesJournal, IsStatus, IsStatusBefore, IsStatusOfRun};
+ghost use Rattle.exam_program.specs.Outcomes.{Ends, EndsAs, Prints, Halts, LeavesJournal, IsStatus, IsStatusBefore, IsStatusOfRun};
 ghost use Rattle.exam_program.specs.Follows.{AreFollowed, FollowEnds};
 ghost use Rattle.exam_program.specs.Linked.{HasFailedFirst, IsStatusOfAny, LinkLeaves};
 ghost use Rattle.exam_program.specs.Outside.{outside, disk_seen};
@@ -109,14 +109,15 @@ fn work<F: Files, O: Sink, D: Disk>(
     }
 }
 
-/// Does what a command line asks for, if it asks for a command, and gives the status to end with, and the disk.
+/// Does what a command line asks for, if it asks for a command, and gives the disk, the status to end with, and the halt if it
+/// ended by one.
 fn status_of<F: Files, O: Sink, D: Disk>(
     alloc: Global,
     command: Option<Command<'_>>,
     files: &mut F,
     out: &mut O,
     disk: D,
-) -> (D, u8)
+) -> (D, u8, Option<Halt>)
     requires alone { IsOfDoors (option_map said command) → ⊥ }
     requires range { AreInRange (option_map said command) }
     requires left { IsTrue (D.tells disk) → IsAsLeft (D.accounts disk) }
@@ -128,6 +129,11 @@ fn status_of<F: Files, O: Sink, D: Disk>(
         (F.faults files.new)
         (disk_seen D.tells D.content D.accounts D.faults disk result.0))
         (O.tells out.old) (O.written out.old) (O.written out.new) result.1 }
+    ensures cause { IsTrue (F.tells files.old) → (words : List (List ℕ))
+        → option_map said command.entry ≡ command_of words
+        → EndsAs words (outside (F.has files.old) (F.content files.old) (F.faults files.old)
+        (F.faults files.new)
+        (disk_seen D.tells D.content D.accounts D.faults disk result.0)) result.2 result.1 }
     ensures faulty { option_map said command.entry ≡ None → (result.1 ≡ 2) ⊎ (result.1 ≡ 8) }
     ensures usage { result.1 ≡ 2 → option_map said command.entry ≡ None }
     ensures files { result.1 ≡ 7 → Rose (F.faults files.old) (F.faults files.new) }
@@ -148,12 +154,15 @@ fn status_of<F: Files, O: Sink, D: Disk>(
             b"usage: shadowd check BANK PLAN | assemble BANK PLAN | replay BANK PLAN SCRIPT | serve BANK PLAN | audit BANK PLAN | drill NUMBER SESSIONS | migrate BANK PLAN | series BANK PLAN K WEIGHTS | follow BANK PLAN | ship BANK PLAN\n",
             2,
         );
-        return (disk, status);
+        return (disk, status, None);
     };
     let (disk, done) = work(alloc, command, files, out, disk);
     match done {
-        Ok(()) => (disk, 0),
-        Err(halt) => (disk, report(alloc, out, halt)),
+        Ok(()) => (disk, 0, None),
+        Err(halt) => {
+            let status = report(alloc, out, &halt);
+            (disk, status, Some(halt))
+        }
     }
 }
 
@@ -169,7 +178,7 @@ pub fn run_alone<F: Files, O: Sink, D: Disk>(
     alloc: Global,
     words: &[String],
     tools: Tools<F, O, D>,
-) -> (u8, Tools<F, O, D>)
+) -> (u8, Tools<F, O, D>, Option<Halt>)
     requires alone { IsOfDoors (command_of (map (λ w. string_bytes w) words.now)) → ⊥ }
     requires left { IsTrue (D.tells tools.disk) → IsAsLeft (D.accounts tools.disk) }
     // The disk allows that each history goes on. So of a run that never ends: at each moment each file that a crash may leave,
@@ -190,6 +199,14 @@ pub fn run_alone<F: Files, O: Sink, D: Disk>(
         (outside (F.has tools.files) (F.content tools.files) (F.faults tools.files)
         (F.faults result.1.files)
         (disk_seen D.tells D.content D.accounts D.faults tools.disk result.1.disk)) }
+    // The halt, if the run ended by one, and what it shows: of a journal that is refused, the rule that its first wrong record
+    // breaks, with the values.
+    ensures cause { IsTrue (F.tells tools.files)
+        → EndsAs (map (λ w. string_bytes w) words.now)
+        (outside (F.has tools.files) (F.content tools.files) (F.faults tools.files)
+        (F.faults result.1.files)
+        (disk_seen D.tells D.content D.accounts D.faults tools.disk result.1.disk))
+        result.2 result.0 }
     // The causes, whether they report their content or not. Out of memory is free.
     ensures faulty { command_of (map (λ w. string_bytes w) words.now) ≡ None
         → (result.0 ≡ 2) ⊎ ((result.0 ≡ 8) ⊎ (result.0 ≡ 10)) }
@@ -215,12 +232,12 @@ pub fn run_alone<F: Files, O: Sink, D: Disk>(
     } = tools;
     match command_of(alloc, words) {
         Ok(command) => {
-            let (disk, status) = status_of(alloc, command, &mut files, &mut out, disk);
-            (status, Tools { files, out, disk })
+            let (disk, status, halt) = status_of(alloc, command, &mut files, &mut out, disk);
+            (status, Tools { files, out, disk }, halt)
         }
         Err(_) => {
             let status = print(&mut out, b"no memory\n", 10);
-            (status, Tools { files, out, disk })
+            (status, Tools { files, out, disk }, None)
         }
     }
 }
@@ -235,7 +252,7 @@ fn bytes_of(token: &Option<Vec<u8>>) -> Option<&[u8]>
     }
 }
 
-/// Does what the words ask for, and gives the status to end with, the disk and the doors.
+/// Does what the words ask for, and gives the disk, the doors, the status to end with, and the halt if it ended by one.
 #[tactic(auto, using(crate::proofs::LinkLaws::none_served))]
 fn left_of<R, F, O, D, L, G>(
     rt: &R,
@@ -290,6 +307,11 @@ where
         (outside (F.has files.old) (F.content files.old) (F.faults files.old) (F.faults files.new)
         (disk_seen D.tells D.content D.accounts D.faults disk result.disk))
         (O.tells out.old) (O.written out.old) (O.written out.new) result.status) }
+    ensures cause { IsTrue (F.tells files.old)
+        → EndsAs (map (λ w. string_bytes w) words.now)
+        (outside (F.has files.old) (F.content files.old) (F.faults files.old) (F.faults files.new)
+        (disk_seen D.tells D.content D.accounts D.faults disk result.disk))
+        result.halt result.status }
     ensures faulty { command_of (map (λ w. string_bytes w) words.now) ≡ None
         → (result.status ≡ 2) ⊎ ((result.status ≡ 8) ⊎ (result.status ≡ 10)) }
     ensures usage { result.status ≡ 2 → command_of (map (λ w. string_bytes w) words.now) ≡ None }
@@ -323,17 +345,19 @@ where
         }
         Ok(Some(Command::Ship { bank, plan })) => ship(alloc, files, out, disk, doors, bank, plan),
         Ok(command) => {
-            let (disk, status) = status_of(alloc, command, files, out, disk);
+            let (disk, status, halt) = status_of(alloc, command, files, out, disk);
             Left {
                 disk,
                 doors,
                 status,
+                halt,
             }
         }
         Err(_) => Left {
             disk,
             doors,
             status: print(out, b"no memory\n", 10),
+            halt: None,
         },
     }
 }
@@ -419,6 +443,14 @@ pub fn run<
         (outside (F.has world.files) (F.content world.files) (F.faults world.files)
         (F.faults result.files)
         (disk_seen D.tells D.content D.accounts D.faults world.disk result.disk)) }
+    // The halt, if the run ended by one, and what it shows: of a journal that is refused, the rule that its first wrong record
+    // breaks, with the values. Without one no text was refused, and status 6 comes of a follower or a shipper alone.
+    ensures cause { IsTrue (F.tells world.files)
+        → EndsAs (map (λ w. string_bytes w) words.now)
+        (outside (F.has world.files) (F.content world.files) (F.faults world.files)
+        (F.faults result.files)
+        (disk_seen D.tells D.content D.accounts D.faults world.disk result.disk))
+        result.halt result.status }
     // The causes, whether they report their content or not. Out of memory is free.
     ensures faulty { command_of (map (λ w. string_bytes w) words.now) ≡ None
         → (result.status ≡ 2) ⊎ ((result.status ≡ 8) ⊎ (result.status ≡ 10)) }
@@ -463,9 +495,11 @@ pub fn run<
         disk,
         doors,
         status,
+        halt,
     } = left;
     Finish {
         status,
+        halt,
         files,
         out,
         disk,

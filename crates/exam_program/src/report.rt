@@ -57,11 +57,11 @@ pub(crate) fn print_text<O: Sink>(out: &mut O, text: Result<String, AllocError>,
 
 /// Ends a command that met a fault.
 #[tactic(auto, unfolding(crate::specs::Texts::disk_failed, exam_text::specs::Texts::files_failed, exam_text::specs::Texts::no_memory, form_lines::specs::Texts::weights_refused))]
-pub(crate) fn report<O: Sink>(alloc: Global, out: &mut O, halt: Halt) -> u8
+pub(crate) fn report<O: Sink>(alloc: Global, out: &mut O, halt: &Halt) -> u8
     ensures answers { (words : List (List ℕ)) (o : Outside) (first : List ℕ)
-        → Halts words o (O.tells out.old) first (O.written out.old) halt
+        → Halts words o (O.tells out.old) first (O.written out.old) halt.now
         → Ends words o (O.tells out.old) first (O.written out.new) result }
-    ensures status { EndsBy halt result
+    ensures status { EndsBy halt.now result
         ⊎ ((result ≡ 8) × Rose (O.faults out.old) (O.faults out.new)) }
     ensures grows { O.faults out.old ≤ O.faults out.new }
     ensures tells { O.tells out.new ≡ O.tells out.old }
@@ -70,14 +70,14 @@ pub(crate) fn report<O: Sink>(alloc: Global, out: &mut O, halt: Halt) -> u8
         Halt::Bank(fault) => print_text(out, fault.text(alloc), 3),
         Halt::Plan(fault) => print_text(out, fault.text(alloc), 4),
         Halt::Script(fault) => print_text(out, fault.text(alloc), 5),
-        Halt::Journal(fault) => print_text(out, journal_text(alloc, fault), 6),
-        Halt::Sessions { count, most } => print_text(out, sessions_limit(alloc, count, most), 13),
-        Halt::JournalFull { size, most } => print_text(out, journal_limit(alloc, size, most), 13),
-        Halt::NoForm(text) => print(out, &text, 11),
-        Halt::NoBaseForm(text) => print(out, &text, 12),
+        Halt::Journal(fault) => print_text(out, journal_text(alloc, *fault), 6),
+        Halt::Sessions { count, most } => print_text(out, sessions_limit(alloc, *count, *most), 13),
+        Halt::JournalFull { size, most } => print_text(out, journal_limit(alloc, *size, *most), 13),
+        Halt::NoForm(text) => print(out, text, 11),
+        Halt::NoBaseForm(text) => print(out, text, 12),
         Halt::Weights => print(out, b"series: weights\n", 16),
-        Halt::NoSeries(text) => print(out, &text, 17),
-        Halt::NoSeriesFound(text) => print(out, &text, 18),
+        Halt::NoSeries(text) => print(out, text, 17),
+        Halt::NoSeriesFound(text) => print(out, text, 18),
         Halt::Files => print(out, b"files failed\n", 7),
         Halt::Disk => print(out, b"disk failed\n", 9),
         Halt::Memory => print(out, b"no memory\n", 10),

@@ -16,7 +16,7 @@ ghost use Rattle.command_line.specs.Commands.{Serve, command_of};
 ghost use Rattle.exam_program.specs.Allowing.{AreFirstMarks};
 ghost use Rattle.exam_program.specs.Bases.{IsBaseForm};
 ghost use Rattle.exam_program.specs.Halts.{Reads};
-ghost use Rattle.exam_program.specs.Outcomes.{IsStatusBefore, IsStatusOfRun};
+ghost use Rattle.exam_program.specs.Outcomes.{EndsAs, IsStatusBefore, IsStatusOfRun};
 ghost use Rattle.exam_program.specs.Outside.{Outside, outside, disk_seen};
 ghost use Rattle.exam_program.specs.Runs.{RunEnds, EndsWith, IsEnding, IsLastOf, IsLastWritten, IsOver, IsStatusOfEnding, IsStatusOfServing};
 ghost use Rattle.exam_program.specs.Texts.{disk_failed};
@@ -25,6 +25,7 @@ ghost use Rattle.exam_office.specs.Allowing.{AllowsHistories};
 ghost use Rattle.exam_program.specs.AllowedFiles.{AllowsExams};
 
 use crate::base::base_form;
+use crate::halt::Halt;
 use crate::reading::exam_in;
 use crate::replay::halt_of_opening;
 use crate::report::{print, print_text, report};
@@ -40,11 +41,12 @@ use std::alloc::Global;
 use std::sync::Wait;
 use std::thread::Threads;
 
-/// What a server leaves: the disk, the doors in their order, and the status to end with.
+/// What a command with doors leaves: the disk, the doors in their order, the status to end with, and the halt if it ended by one.
 pub(crate) struct Left<D, L> {
     pub disk: D,
     pub doors: Vec<L>,
     pub status: u8,
+    pub halt: Option<Halt>,
 }
 
 /// Prints how the work at the doors ended, and gives the status to end with: the numbers of the
@@ -164,6 +166,10 @@ where
         L.tells L.coming L.returned L.is_out L.faults L.identity L.Link.tells L.Link.left L.Link.written L.Link.faults L.Link.identity
         opened closed doors.items result.doors.items end) (result.doors ≡ doors)
         words o (O.tells out.old) (O.written out.old) (O.written out.new) result.status }
+    ensures cause { (words : List (List ℕ)) (o : Outside)
+        → IsServeOf words o bank.now spec.now base.now
+        → o.disk ≡ disk_seen D.tells D.content D.accounts D.faults disk result.disk
+        → EndsAs words o result.halt result.status }
     ensures door { result.status ≡ 14 → HasFailedDoor L.faults doors.items result.doors.items }
     ensures sink { result.status ≡ 8 → Rose (O.faults out.old) (O.faults out.new) }
     ensures failed { result.status ≡ 9 → Rose (D.faults disk) (D.faults result.disk) }
@@ -177,11 +183,13 @@ where
     let office = match Office::open(alloc, bank, spec, *base, disk) {
         Ok(office) => office,
         Err((disk, fault)) => {
-            let status = report(alloc, out, halt_of_opening(fault));
+            let halt = halt_of_opening(fault);
+            let status = report(alloc, out, &halt);
             return Left {
                 disk,
                 doors,
                 status,
+                halt: Some(halt),
             };
         }
     };
@@ -197,6 +205,7 @@ where
         disk,
         doors,
         status,
+        halt: None,
     }
 }
 
@@ -243,6 +252,12 @@ where
         (F.faults files.new)
         (disk_seen D.tells D.content D.accounts D.faults disk result.disk))
         (O.tells out.old) (O.written out.old) (O.written out.new) result.status }
+    ensures cause { IsTrue (F.tells files.old) → (words : List (List ℕ))
+        → command_of words ≡ Some (Serve bank.now plan.now)
+        → EndsAs words (outside (F.has files.old) (F.content files.old) (F.faults files.old)
+        (F.faults files.new)
+        (disk_seen D.tells D.content D.accounts D.faults disk result.disk))
+        result.halt result.status }
     ensures door { result.status ≡ 14 → HasFailedDoor L.faults doors.items result.doors.items }
     ensures files { result.status ≡ 7 → Rose (F.faults files.old) (F.faults files.new) }
     ensures sink { result.status ≡ 8 → Rose (O.faults out.old) (O.faults out.new) }
@@ -260,22 +275,24 @@ where
     let exam = match exam_in(alloc, files, bank, plan) {
         Ok(exam) => exam,
         Err(halt) => {
-            let status = report(alloc, out, halt);
+            let status = report(alloc, out, &halt);
             return Left {
                 disk,
                 doors,
                 status,
+                halt: Some(halt),
             };
         }
     };
     let base = match base_form(alloc, &exam.bank, &exam.spec) {
         Ok(base) => base,
         Err(halt) => {
-            let status = report(alloc, out, halt);
+            let status = report(alloc, out, &halt);
             return Left {
                 disk,
                 doors,
                 status,
+                halt: Some(halt),
             };
         }
     };

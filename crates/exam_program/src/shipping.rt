@@ -9,7 +9,7 @@ ghost use Rattle.exam_edge.specs.Faults.{Rose};
 ghost use Rattle.exam_edge.specs.Lent.{IsLent};
 ghost use Rattle.exam_program.specs.Ships.{AreShipped, ShipEnds, IsShipOf};
 ghost use Rattle.exam_program.specs.Linked.{HasFailedFirst, IsStatusOfAny};
-ghost use Rattle.exam_program.specs.Outcomes.{Ends, IsStatusBefore};
+ghost use Rattle.exam_program.specs.Outcomes.{Ends, EndsAs, IsStatusBefore};
 ghost use Rattle.exam_program.specs.Outside.{Outside, disk_seen, outside};
 ghost use Rattle.exam_serve.specs.Doors.{AreLent, HasFailedDoor};
 ghost use Rattle.form_model.specs.Forms.{Meets};
@@ -55,6 +55,10 @@ fn ship_over<'a, O: Sink, D: Disk, L: Door>(
         L.Link.tells L.Link.left L.Link.written L.Link.faults L.Link.identity doors.items
         result.doors.items)
         words o (O.tells out.old) (O.written out.old) (O.written out.new) result.status }
+    ensures cause { (words : List (List ℕ)) (o : Outside)
+        → IsShipOf words o bank.now spec.now base.now
+        → o.disk ≡ disk_seen D.tells D.content D.accounts D.faults disk result.disk
+        → EndsAs words o result.halt result.status }
     ensures door { result.status ≡ 14 → HasFailedDoor L.faults doors.items result.doors.items }
     ensures link { result.status ≡ 19 → HasFailedFirst L.tells L.coming L.returned L.is_out
         L.faults L.identity L.Link.faults doors.items result.doors.items }
@@ -70,11 +74,13 @@ fn ship_over<'a, O: Sink, D: Disk, L: Door>(
     let office = match Office::open(alloc, bank, spec, *base, disk) {
         Ok(office) => office,
         Err((disk, fault)) => {
-            let status = report(alloc, out, halt_of_opening(fault));
+            let halt = halt_of_opening(fault);
+            let status = report(alloc, out, &halt);
             return Left {
                 disk,
                 doors,
                 status,
+                halt: Some(halt),
             };
         }
     };
@@ -91,6 +97,7 @@ fn ship_over<'a, O: Sink, D: Disk, L: Door>(
         disk,
         doors,
         status,
+        halt: None,
     }
 }
 
@@ -124,6 +131,12 @@ pub(crate) fn ship<F: Files, O: Sink, D: Disk, L: Door>(
         (F.faults files.new)
         (disk_seen D.tells D.content D.accounts D.faults disk result.disk))
         (O.tells out.old) (O.written out.old) (O.written out.new) result.status }
+    ensures cause { IsTrue (F.tells files.old) → (words : List (List ℕ))
+        → command_of words ≡ Some (Ship bank.now plan.now)
+        → EndsAs words (outside (F.has files.old) (F.content files.old) (F.faults files.old)
+        (F.faults files.new)
+        (disk_seen D.tells D.content D.accounts D.faults disk result.disk))
+        result.halt result.status }
     ensures door { result.status ≡ 14 → HasFailedDoor L.faults doors.items result.doors.items }
     ensures link { result.status ≡ 19 → HasFailedFirst L.tells L.coming L.returned L.is_out
         L.faults L.identity L.Link.faults doors.items result.doors.items }
@@ -143,11 +156,12 @@ pub(crate) fn ship<F: Files, O: Sink, D: Disk, L: Door>(
     let ready = match ready_in(alloc, files, bank, plan) {
         Ok(ready) => ready,
         Err(halt) => {
-            let status = report(alloc, out, halt);
+            let status = report(alloc, out, &halt);
             return Left {
                 disk,
                 doors,
                 status,
+                halt: Some(halt),
             };
         }
     };

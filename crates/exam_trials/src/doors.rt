@@ -224,7 +224,7 @@ fn a_session_of_bank_a_alone(rt: HostRuntime) {
         Ok(_) => {}
         Err(_) => panic!(&rt; "no command"),
     }
-    let (status, tools) = run_alone(alloc, &words, tools);
+    let (status, tools, _) = run_alone(alloc, &words, tools);
     has_bytes(&rt, tools.out.bytes(), LINES_A.as_bytes());
     is_equal(&rt, &status, &0);
 }

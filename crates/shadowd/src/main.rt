@@ -3,7 +3,7 @@
 //! ends with its status. Standard error has lines on the journal and the address before connections
 //! are served, lines on how far a server is, the count and the digest of the records before they are
 //! followed or shipped, a line on each object of the host of which a call failed, and why, and a line
-//! on a journal that is to be migrated first.
+//! on why a journal is refused or which command explains that there is no form.
 #![tactic(auto)]
 
 ghost use Rattle.std.specs.Prelude.{◌≡◌, ◌≤◌, All, codes, true, false, map, string_bytes, vec_len, IfOk};
@@ -19,12 +19,11 @@ mod streaming;
 mod variables;
 mod watch;
 
-use answer_journal::Journal;
 use command_line::{VERSION, command_of};
 use exam_edge::Memory;
-use exam_program::{Finish, Tools, World, run, run_alone};
+use exam_program::{Finish, Halt, Tools, World, halt_words, place_of, run, run_alone};
 use host_edge::{Closing, HostDisk, HostDoor, HostFiles, HostSink};
-use records::{LONGEST, tell_records};
+use records::{number_in, tell_records};
 use settings::{Settings, SettingsFault};
 use std::alloc::AllocError;
 use std::io::ErrorKind;
@@ -45,9 +44,6 @@ const NO_MEMORY: u8 = 10;
 
 /// The status of a program whose standard output failed.
 const NO_OUTPUT: u8 = 8;
-
-/// The status of a program whose journal is refused.
-const NO_JOURNAL: u8 = 6;
 
 /// The outside of the host.
 type HostWorld = World<HostFiles, HostSink, HostDisk, HostDoor, Watch>;
@@ -92,14 +88,6 @@ fn ask_to_ship(words: &[String]) -> bool
     ensures { result ≡ begins_with (codes "ship") (map (λ w. string_bytes w) words.now) }
 {
     begin_with(words, "ship")
-}
-
-/// Whether the words ask for sessions, of a script or of connections, or for records of sessions.
-fn ask_for_sessions(words: &[String]) -> bool {
-    begin_with(words, "replay")
-        || ask_for_connections(words)
-        || ask_to_follow(words)
-        || ask_to_ship(words)
 }
 
 /// Whether the words ask for an audit.
@@ -319,34 +307,24 @@ fn explain(rt: &HostRuntime, words: &[String], settings: &Settings, finish: &Hos
     }
 }
 
-/// Whether the journal is of the first version and was not moved. It is read, and not changed.
-fn is_to_be_migrated(disk: &mut HostDisk) -> bool {
-    match Journal::walk(&mut *disk, LONGEST) {
-        Ok(walk) => {
-            let version = walk.record_version();
-            let _ = walk.stop();
-            version == 1
-        }
-        Err(_) => false,
-    }
-}
-
-/// Writes a line to standard error where sessions were refused for the version of the journal.
-fn explain_version(
-    rt: &HostRuntime,
-    words: &[String],
-    settings: &Settings,
-    finish: &mut HostFinish,
-) {
-    if finish.status == NO_JOURNAL
-        && ask_for_sessions(words)
-        && is_to_be_migrated(&mut finish.disk)
-    {
-        let journal = settings.journal.as_str();
-        let _ = eprintln!(rt;
-            "shadowd: {journal}: a journal of the first version, which shadowd migrate BANK PLAN moves to the second"
-        );
-    }
+/// Writes a line to standard error on why the run ended, if its halt has words. That of a journal that is refused names the file
+/// and, if one record is at fault, its number, from 0. The file is read once more for the number, and not changed.
+fn explain_halt(rt: &HostRuntime, settings: &Settings, finish: &mut HostFinish) {
+    let Some(halt) = finish.halt.take() else {
+        return;
+    };
+    let Ok(Some(why)) = halt_words(rt.alloc(), &halt) else {
+        return;
+    };
+    let journal = settings.journal.as_str();
+    let number = number_in(rt, &mut finish.disk, place_of(&halt));
+    let _ = match &halt {
+        Halt::Journal(_) => match number {
+            Some(number) => eprintln!(rt; "shadowd: journal {journal}: record {number}: {why}"),
+            None => eprintln!(rt; "shadowd: journal {journal}: {why}"),
+        },
+        _ => eprintln!(rt; "shadowd: {why}"),
+    };
 }
 
 /// Whether the words ask for a command that takes links: to serve, to follow or to ship.
@@ -374,10 +352,11 @@ fn run_unlinked(rt: &HostRuntime, words: &[String], world: HostWorld) -> HostFin
         gate: _,
         token: _,
     } = world;
-    let (status, tools) = run_alone(rt.alloc(), words, Tools { files, out, disk });
+    let (status, tools, halt) = run_alone(rt.alloc(), words, Tools { files, out, disk });
     let Tools { files, out, disk } = tools;
     Finish {
         status,
+        halt,
         files,
         out,
         disk,
@@ -399,6 +378,7 @@ fn exit_code(finish: HostFinish) -> ExitCode
 {
     let Finish {
         status,
+        halt: _,
         files: _,
         out: _,
         disk: _,
@@ -456,6 +436,6 @@ fn main(rt: HostRuntime) -> ExitCode {
     };
     watch.tell_end();
     explain(&rt, &words, &settings, &finish);
-    explain_version(&rt, &words, &settings, &mut finish);
+    explain_halt(&rt, &settings, &mut finish);
     exit_code(finish)
 }

@@ -12,7 +12,7 @@ use sha2::{Digest, Sha256};
 use std::fs;
 
 /// The greatest length of a journal, in bytes, whatever the plan.
-pub const LONGEST: u64 = 536_870_912;
+const LONGEST: u64 = 536_870_912;
 
 /// After so many waits at one record the server was asked for its count.
 const WAITS: u32 = 10;
@@ -101,6 +101,34 @@ fn read_records(rt: &HostRuntime, disk: &mut HostDisk) -> Option<Records> {
             };
             let _ = walk.stop();
             found
+        }
+        Err(_) => None,
+    }
+}
+
+// The number of the record at a place, from 0, if a walk comes to it.
+fn number_at(rt: &HostRuntime, walk: &mut Walk<&mut HostDisk>, place: u64) -> Option<u64> {
+    let mut payload = Vec::new(rt.alloc());
+    'records: for number in 0..u64::MAX {
+        match walk.next(rt.alloc(), &mut payload) {
+            Ok(Some(at)) if at == place => return Some(number),
+            Ok(Some(_)) => {}
+            _ => break 'records,
+        }
+    }
+    None
+}
+
+/// The number of the record whose gate is at a place of a journal's file, if there is a place, and a record at it. Records count
+/// from 0. The file is read, and not changed.
+pub fn number_in(rt: &HostRuntime, disk: &mut HostDisk, place: Option<u64>) -> Option<u64> {
+    let place = place?;
+    match Journal::walk(disk, LONGEST) {
+        Ok(walk) => {
+            let mut walk = walk;
+            let number = number_at(rt, &mut walk, place);
+            let _ = walk.stop();
+            number
         }
         Err(_) => None,
     }

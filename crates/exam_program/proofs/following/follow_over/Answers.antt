@@ -2,6 +2,7 @@ use Rattle.std.proofs.Common.{◌≡◌, ◌∙◌, ℕ, ◌++◌, [], List, dro
 use Rattle.std.proofs.lemmas.Bool.{false≢true}
 use Rattle.std.proofs.lemmas.List.{append-nil}
 use Rattle.answer_journal.specs.Journal.{accounts_of, faults_of, identity_of, tells_of}
+use Rattle.command_line.specs.Commands.{Follow}
 use Rattle.exam_edge.specs.Images.{Account}
 use Rattle.exam_follower.specs.Followers.{found, found_payloads, held_of, opened_size, records_of}
 use Rattle.exam_follower.proofs.Marked.{found-opened, size-opened}
@@ -21,6 +22,7 @@ use Rattle.exam_program.specs.Serves.{IsExamined}
 use Rattle.exam_program.specs.Stopping.{IsUnopened, opening_halt}
 use Rattle.exam_program.proofs.Lending.{written_back}
 use Rattle.exam_program.proofs.LinkLaws.{at_disk, at_door, at_link, ends_by, follow_ends_own, follow_failed, follow_is_link, follow_last, follow_lent, follow_link_failed, follow_never_done, followed_so, is_any, link_unopened, not_before, opened_same, second_so}
+use Rattle.exam_program.proofs.CauseLaws.{ends_as, ends_linked}
 use Rattle.exam_program.proofs.ReplayLaws.{failing_so, no_sink, unopened_so, unwritten_so}
 use Rattle.exam_program.proofs.RequestLaws.{nothing_written}
 use Rattle.exam_program.proofs.ServeLaws.{IsClosed, examined_so, halt_status}
@@ -54,31 +56,49 @@ returns-in-Err-clause-answers g c = λ words o is same.
     let failed = λ (e : c.in-Err.fault ≡ FailedDisk). failing_so g.D.Disk.tells g.D.Disk.content g.D.Disk.accounts g.D.Disk.faults c.args.disk c.in-Err.disk b plan (opened.cause e) image opened.moments_err in
     let untouched = λ (e : c.in-Err.fault ≡ FailedDisk → ⊥). unwritten_so g.D.Disk.tells g.D.Disk.content g.D.Disk.accounts g.D.Disk.faults c.args.disk c.in-Err.disk (opened.untouched e) (opened.unwritten e) in
     let unopened = subst (λ (d : DiskSeen). IsUnopened b plan d why) (sym same) (unopened_so b plan disk c.in-Err.fault opened.why failed untouched) in
-    let halts = subst (λ (h : Halt). Halts words o told was was h) (sym c.halt_of_opening.ensures)
+    let halts = subst (λ (h : Halt). Halts words o told was was h) (sym c.halt_of_opening-halt.ensures)
     (link_unopened words o told was was b plan base (follow_is_link words o b plan base is) why (nothing_written told was) unopened) in
     inl (refl, c.report-status.ensures.answers words o was halts)
 
+pub returns-in-Err-clause-cause : goal.returns-in-Err-clause-cause
+returns-in-Err-clause-cause g c = λ words o is same.
+    let b = c.args.bank.now in
+    let plan = c.args.spec.now in
+    let base = c.args.base.now in
+    let told = g.O.Sink.tells c.args.out.now in
+    let was = g.O.Sink.written c.args.out.now in
+    let disk = disk_seen g.D.Disk.tells g.D.Disk.content g.D.Disk.accounts g.D.Disk.faults c.args.disk c.in-Err.disk in
+    let opened = c.in-Err.ensures in
+    let why = opening_halt c.in-Err.fault in
+    let image = λ (t : disk.told ≡ true). g.met.D.Disk.is_image c.in-Err.disk (opened.frame_err.tells ∙ t) in
+    let failed = λ (e : c.in-Err.fault ≡ FailedDisk). failing_so g.D.Disk.tells g.D.Disk.content g.D.Disk.accounts g.D.Disk.faults c.args.disk c.in-Err.disk b plan (opened.cause e) image opened.moments_err in
+    let untouched = λ (e : c.in-Err.fault ≡ FailedDisk → ⊥). unwritten_so g.D.Disk.tells g.D.Disk.content g.D.Disk.accounts g.D.Disk.faults c.args.disk c.in-Err.disk (opened.untouched e) (opened.unwritten e) in
+    let unopened = subst (λ (d : DiskSeen). IsUnopened b plan d why) (sym same) (unopened_so b plan disk c.in-Err.fault opened.why failed untouched) in
+    let halts = subst (λ (h : Halt). Halts words o told was was h) (sym c.halt_of_opening-halt.ensures)
+    (link_unopened words o told was was b plan base (follow_is_link words o b plan base is) why (nothing_written told was) unopened) in
+    ends_as words o told was was c.halt_of_opening-halt.result c.report-status.result halts c.report-status.ensures.status
+
 pub returns-in-Err-clause-status : goal.returns-in-Err-clause-status
-returns-in-Err-clause-status g c = inl (halt_status c.halt_of_opening.result c.report-status.result c.report-status.ensures.status)
+returns-in-Err-clause-status g c = inl (halt_status c.halt_of_opening-halt.result c.report-status.result c.report-status.ensures.status)
 
 pub returns-in-Err-clause-doors : goal.returns-in-Err-clause-doors
 returns-in-Err-clause-doors g c = still_lent g.L.Door.tells g.L.Door.is_out g.L.Door.faults g.L.Door.identity c.args.doors.items c.requires.home
 
 pub returns-in-Err-clause-door : goal.returns-in-Err-clause-door
-returns-in-Err-clause-door g c = λ is. absurd (not_door c.halt_of_opening.result c.report-status.result c.report-status.ensures.status is)
+returns-in-Err-clause-door g c = λ is. absurd (not_door c.halt_of_opening-halt.result c.report-status.result c.report-status.ensures.status is)
 
 pub returns-in-Err-clause-link : goal.returns-in-Err-clause-link
-returns-in-Err-clause-link g c = λ is. absurd (not_link c.halt_of_opening.result c.report-status.result c.report-status.ensures.status is)
+returns-in-Err-clause-link g c = λ is. absurd (not_link c.halt_of_opening-halt.result c.report-status.result c.report-status.ensures.status is)
 
 pub returns-in-Err-clause-sink : goal.returns-in-Err-clause-sink
-returns-in-Err-clause-sink g c = at_sink c.halt_of_opening.result c.report-status.result c.report-status.ensures.status (λ is. absurd (no_sink c.in-Err.fault (sym c.halt_of_opening.ensures ∙ is)))
+returns-in-Err-clause-sink g c = at_sink c.halt_of_opening-halt.result c.report-status.result c.report-status.ensures.status (λ is. absurd (no_sink c.in-Err.fault (sym c.halt_of_opening-halt.ensures ∙ is)))
 
 pub returns-in-Err-clause-failed : goal.returns-in-Err-clause-failed
-returns-in-Err-clause-failed g c = halt_at_disk c.halt_of_opening.result c.report-status.result c.report-status.ensures.status (λ is. c.in-Err.ensures.cause (disk_fault c.in-Err.fault (sym c.halt_of_opening.ensures ∙ is)))
+returns-in-Err-clause-failed g c = halt_at_disk c.halt_of_opening-halt.result c.report-status.result c.report-status.ensures.status (λ is. c.in-Err.ensures.cause (disk_fault c.in-Err.fault (sym c.halt_of_opening-halt.ensures ∙ is)))
 
 pub returns-in-Err-clause-opened : goal.returns-in-Err-clause-opened
 returns-in-Err-clause-opened g c = λ before.
-    late_fault c.in-Err.fault (subst (λ (h : Halt). IsBeforeJournal h) c.halt_of_opening.ensures (at_before c.halt_of_opening.result c.report-status.result c.report-status.ensures.status before))
+    late_fault c.in-Err.fault (subst (λ (h : Halt). IsBeforeJournal h) c.halt_of_opening-halt.ensures (at_before c.halt_of_opening-halt.result c.report-status.result c.report-status.ensures.status before))
 
 -- ---- it was opened
 -- the work at the door never ends by a link that ended well
@@ -211,6 +231,11 @@ returns-clause-failed g c = λ is.
     let rose = c.follow_first-end.ensures.disk at in
     let same : faults_of c.promote-office.result.journal ≡ faults_of c.follow_first-end.new.replica.office.journal = ap (λ (w : Running g.row.D.Denot). faults_of w.journal) c.promote-office.ensures.office in
     omega (arith, rose, same, c.in-Ok.ensures.grows, c.into_disk-disk.ensures.faults)
+
+pub returns-clause-cause : goal.returns-clause-cause
+returns-clause-cause g c = λ words o is same.
+    ends_linked words c.end_following-status.result (Follow is.bank is.plan) is.asked tt
+    (not_before 0 c.follow_first-end.result c.end_following-status.result (λ e. false≢true e) (follow_ends_own _ _ _ c.follow_first-end.result _ _ _ c.end_following-status.result c.end_following-status.ensures.printed))
 
 pub returns-clause-opened : goal.returns-clause-opened
 returns-clause-opened g c =

@@ -6,6 +6,7 @@ use Rattle.command_line.specs.Commands.{IsOfJournal, IsOfDoors, IsOfLinked, said
 use Rattle.exam_text.specs.Texts.{no_memory}
 use Rattle.exam_serve.proofs.Left.{still_lent}
 use Rattle.exam_program.specs.Outside.{outside, disk_seen}
+use Rattle.exam_program.proofs.CauseLaws.{ends_at_10}
 use Rattle.exam_program.proofs.OutcomeLaws.{as_it_is, halts_without_memory, is_8, is_10, also}
 use Rattle.exam_program.proofs.StatusLaws.{not_14, not_19, run_not_19, no_memory_at, no_memory_unprinted, still, lent_still}
 use Rattle.exam_program.proofs.LinkLaws.{follow_linked, ship_linked}
@@ -20,6 +21,9 @@ returns-in-Ok-clause-door g c = λ is. absurd (not_14 _ c.status_of-disk.ensures
 pub returns-in-Ok-clause-answers : goal.returns-in-Ok-clause-answers
 returns-in-Ok-clause-answers g c = λ told. inl (idle refl (c.status_of-disk.ensures.answers told (map (λ w. string_bytes w) c.args.words.now) (search rules)))
 
+pub returns-in-Ok-clause-cause : goal.returns-in-Ok-clause-cause
+returns-in-Ok-clause-cause g c = λ told. c.status_of-disk.ensures.cause told (map (λ w. string_bytes w) c.args.words.now) (search rules)
+
 pub returns-in-Ok-clause-link : goal.returns-in-Ok-clause-link
 returns-in-Ok-clause-link g c = λ is. absurd (not_19 _ c.status_of-disk.ensures.status is)
 
@@ -33,6 +37,7 @@ returns-in-Err g c =
           let o = outside (g.F.Files.has c.args.files.now) (g.F.Files.content c.args.files.now) faults faults (disk_seen g.D.Disk.tells g.D.Disk.content g.D.Disk.accounts g.D.Disk.faults c.args.disk c.args.disk) in
           inl (idle refl (c.print.ensures.answers words o (g.O.Sink.written c.args.out.now)
           (halts_without_memory words o (g.O.Sink.tells c.args.out.now) (g.O.Sink.written c.args.out.now) (as_it_is g.D.Disk.tells g.D.Disk.content g.D.Disk.accounts g.D.Disk.faults c.args.disk))));
+      cause = λ told. ends_at_10 (map (λ w. string_bytes w) c.args.words.now) c.print.result c.print.ensures.status;
       faulty = λ none. elim c.print.ensures.status [ inl e ↦ inr (inr e) | inr e ↦ inr (inl e.0) ];
       usage = λ is. absurd (no_memory_at c.print.result 2 c.print.ensures.status refl is);
       files = λ is. absurd (no_memory_at c.print.result 7 c.print.ensures.status refl is);
@@ -58,6 +63,8 @@ returns-in-Ok-Some-Serve g c =
     record {
       answers = λ told.
           inl (c.serve.ensures.answers told (map (λ w. string_bytes w) c.args.words.now) (sym c.in-Ok-Some-Serve.ensures.command ∙ ap (λ x. option_map said x) c.in-Ok-Some-Serve.field-0-is ∙ ap (λ x. Some (said x)) c.in-Ok-Some-Serve.field-0-0-is));
+      cause = λ told.
+          c.serve.ensures.cause told (map (λ w. string_bytes w) c.args.words.now) (sym c.in-Ok-Some-Serve.ensures.command ∙ ap (λ x. option_map said x) c.in-Ok-Some-Serve.field-0-is ∙ ap (λ x. Some (said x)) c.in-Ok-Some-Serve.field-0-0-is);
       faulty = λ none. let e = sym c.in-Ok-Some-Serve.ensures.command ∙ ap (λ x. option_map said x) c.in-Ok-Some-Serve.field-0-is ∙ ap (λ x. Some (said x)) c.in-Ok-Some-Serve.field-0-0-is in cc;
       usage = λ is. absurd (c.serve.ensures.usage is);
       files = c.serve.ensures.files;
@@ -84,6 +91,7 @@ returns-in-Ok-Some-Follow g c =
     record {
       answers = λ told.
           elim (c.follow.ensures.answers told (map (λ w. string_bytes w) c.args.words.now) asked) [ inl e ↦ inl (idle e.0 e.1) | inr e ↦ inr (inl e) ];
+      cause = λ told. c.follow.ensures.cause told (map (λ w. string_bytes w) c.args.words.now) asked;
       faulty = λ none. let e = asked in cc;
       usage = λ is. absurd (c.follow.ensures.usage is);
       files = c.follow.ensures.files;
@@ -110,6 +118,7 @@ returns-in-Ok-Some-Ship g c =
     record {
       answers = λ told.
           elim (c.ship.ensures.answers told (map (λ w. string_bytes w) c.args.words.now) asked) [ inl e ↦ inl (idle e.0 e.1) | inr e ↦ inr (inr e) ];
+      cause = λ told. c.ship.ensures.cause told (map (λ w. string_bytes w) c.args.words.now) asked;
       faulty = λ none. let e = asked in cc;
       usage = λ is. absurd (c.ship.ensures.usage is);
       files = c.ship.ensures.files;

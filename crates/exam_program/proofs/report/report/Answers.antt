@@ -17,7 +17,7 @@ pub returns-in-Script-clause-answers : goal.returns-in-Script-clause-answers
 returns-in-Script-clause-answers g c = λ words o first halts. c.print_text-in-Script.ensures.answers words o first (script_text c.in-Script.fault) c.text-in-Script.ensures (subst (λ (h : Halt). Halts words o (g.O.Sink.tells c.args.out.now) first (g.O.Sink.written c.args.out.now) h) c.in-Script.is halts)
 
 pub returns-in-Journal-clause-answers : goal.returns-in-Journal-clause-answers
-returns-in-Journal-clause-answers g c = λ words o first halts. c.print_text-in-Journal.ensures.answers words o first (journal_text c.in-Journal.fault) c.journal_text.ensures (subst (λ (h : Halt). Halts words o (g.O.Sink.tells c.args.out.now) first (g.O.Sink.written c.args.out.now) h) c.in-Journal.is halts)
+returns-in-Journal-clause-answers g c = λ words o first halts. c.print_text-in-Journal.ensures.answers words o first (journal_text c.in-Journal.fault) c.journal_text.ensures (subst (λ (h : Halt). Halts words o (g.O.Sink.tells c.args.out.now) first (g.O.Sink.written c.args.out.now) h) c.in-Journal.is halts).1
 
 pub returns-in-Sessions-clause-answers : goal.returns-in-Sessions-clause-answers
 returns-in-Sessions-clause-answers g c = λ words o first halts. c.print_text-in-Sessions.ensures.answers words o first (sessions_limit c.in-Sessions.count c.in-Sessions.most) c.sessions_limit.ensures (subst (λ (h : Halt). Halts words o (g.O.Sink.tells c.args.out.now) first (g.O.Sink.written c.args.out.now) h) c.in-Sessions.is halts)

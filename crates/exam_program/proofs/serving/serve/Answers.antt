@@ -6,6 +6,7 @@ use Rattle.exam_program.specs.Halts.{HaltsAtBase, IsEarly}
 use Rattle.exam_program.specs.Outcomes.{IsOver, IsStatusBefore}
 use Rattle.exam_program.specs.Outside.{outside, disk_seen}
 use Rattle.exam_program.specs.Runs.{idle}
+use Rattle.exam_program.proofs.CauseLaws.{ends_as}
 use Rattle.exam_program.proofs.OutcomeLaws.{as_it_is, halts_at_exam, halts_at_base}
 use Rattle.exam_program.proofs.ServeLaws.{halt_status}
 use Rattle.exam_program.proofs.StatusLaws.{at_files, at_sink, at_disk, not_usage, not_door, lent_still}
@@ -25,6 +26,17 @@ returns-in-Err g c =
           let halts = halts_at_exam words o (g.O.Sink.tells c.args.out.now) was bank plan c.in-Err.halt over
           (λ is. c.exam_in.ensures.failed (c.in-Err.is ∙ ap Err is)) untouched (c.in-Err.ensures.err told) in
           idle refl (c.report-status.ensures.answers words o was halts);
+      cause = λ told words e.
+          let bank = c.args.bank.now in
+          let plan = c.args.plan.now in
+          let o = outside (g.F.Files.has c.args.files.now) (g.F.Files.content c.args.files.now) (g.F.Files.faults c.args.files.now) (g.F.Files.faults c.exam_in.new.files)
+          (disk_seen g.D.Disk.tells g.D.Disk.content g.D.Disk.accounts g.D.Disk.faults c.args.disk c.args.disk) in
+          let was = g.O.Sink.written c.args.out.now in
+          let over : IsOver words bank plan = record { command = Serve bank plan; asked = e; names = refl } in
+          let untouched = as_it_is g.D.Disk.tells g.D.Disk.content g.D.Disk.accounts g.D.Disk.faults c.args.disk in
+          let halts = halts_at_exam words o (g.O.Sink.tells c.args.out.now) was bank plan c.in-Err.halt over
+          (λ is. c.exam_in.ensures.failed (c.in-Err.is ∙ ap Err is)) untouched (c.in-Err.ensures.err told) in
+          ends_as words o (g.O.Sink.tells c.args.out.now) was was c.in-Err.halt c.report-status.result halts c.report-status.ensures.status;
       door = λ is. absurd (not_door c.in-Err.halt c.report-status.result c.report-status.ensures.status is);
       files = at_files c.in-Err.halt c.report-status.result c.report-status.ensures.status (λ is. c.exam_in.ensures.failed (c.in-Err.is ∙ ap Err is));
       sink = at_sink c.in-Err.halt c.report-status.result c.report-status.ensures.status (λ is. absurd (subst (λ (h : Halt). IsEarly h) is c.in-Err.ensures.early));
@@ -51,6 +63,14 @@ returns-in-Err-base_form g c =
           let halts = halts_at_base words o (g.O.Sink.tells c.args.out.now) was (Serve c.args.bank.now c.args.plan.now) c.in-Ok.exam.bank c.in-Ok.exam.spec
           c.in-Err-base_form.halt e (c.in-Ok.ensures.ok told) untouched c.in-Err-base_form.ensures.halts in
           idle refl (c.report-status-in-Err-base_form.ensures.answers words o was halts);
+      cause = λ told words e.
+          let o = outside (g.F.Files.has c.args.files.now) (g.F.Files.content c.args.files.now) (g.F.Files.faults c.args.files.now) (g.F.Files.faults c.exam_in.new.files)
+          (disk_seen g.D.Disk.tells g.D.Disk.content g.D.Disk.accounts g.D.Disk.faults c.args.disk c.args.disk) in
+          let was = g.O.Sink.written c.args.out.now in
+          let untouched = as_it_is g.D.Disk.tells g.D.Disk.content g.D.Disk.accounts g.D.Disk.faults c.args.disk in
+          let halts = halts_at_base words o (g.O.Sink.tells c.args.out.now) was (Serve c.args.bank.now c.args.plan.now) c.in-Ok.exam.bank c.in-Ok.exam.spec
+          c.in-Err-base_form.halt e (c.in-Ok.ensures.ok told) untouched c.in-Err-base_form.ensures.halts in
+          ends_as words o (g.O.Sink.tells c.args.out.now) was was c.in-Err-base_form.halt c.report-status-in-Err-base_form.result halts c.report-status-in-Err-base_form.ensures.status;
       door = λ is. absurd (not_door c.in-Err-base_form.halt c.report-status-in-Err-base_form.result c.report-status-in-Err-base_form.ensures.status is);
       files = at_files c.in-Err-base_form.halt c.report-status-in-Err-base_form.result c.report-status-in-Err-base_form.ensures.status (λ is. absurd (subst (λ (h : Halt). HaltsAtBase c.in-Ok.exam.bank c.in-Ok.exam.spec h) is c.in-Err-base_form.ensures.halts));
       sink = at_sink c.in-Err-base_form.halt c.report-status-in-Err-base_form.result c.report-status-in-Err-base_form.ensures.status (λ is. absurd (subst (λ (h : Halt). HaltsAtBase c.in-Ok.exam.bank c.in-Ok.exam.spec h) is c.in-Err-base_form.ensures.halts));
@@ -73,6 +93,17 @@ returns g c =
           let o = outside (g.F.Files.has c.args.files.now) (g.F.Files.content c.args.files.now) (g.F.Files.faults c.args.files.now) (g.F.Files.faults c.exam_in.new.files)
           (disk_seen g.D.Disk.tells g.D.Disk.content g.D.Disk.accounts g.D.Disk.faults c.args.disk c.serve_over.result.disk) in
           c.serve_over.ensures.answers words o
+          (record {
+            bank = c.args.bank.now;
+            plan = c.args.plan.now;
+            asked = e;
+            reads = c.in-Ok.ensures.ok told;
+            is_base = c.in-Ok-base_form.ensures.base;
+          }) refl;
+      cause = λ told words e.
+          let o = outside (g.F.Files.has c.args.files.now) (g.F.Files.content c.args.files.now) (g.F.Files.faults c.args.files.now) (g.F.Files.faults c.exam_in.new.files)
+          (disk_seen g.D.Disk.tells g.D.Disk.content g.D.Disk.accounts g.D.Disk.faults c.args.disk c.serve_over.result.disk) in
+          c.serve_over.ensures.cause words o
           (record {
             bank = c.args.bank.now;
             plan = c.args.plan.now;

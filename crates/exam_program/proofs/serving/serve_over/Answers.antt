@@ -24,10 +24,11 @@ use Rattle.exam_program.specs.Serves.{IsExamined}
 use Rattle.exam_program.specs.Stopping.{IsUnopened, opening_halt}
 use Rattle.exam_program.specs.Halts.{IsBeforeJournal}
 use Rattle.exam_program.proofs.OutcomeLaws.{rose_later}
+use Rattle.exam_program.proofs.CauseLaws.{ends_as, ends_open}
 use Rattle.exam_program.proofs.ReplayLaws.{failing_so, unwritten_so, unopened_so, moved_so, no_sink}
 use Rattle.exam_program.proofs.RequestLaws.{nothing_written}
 use Rattle.exam_program.proofs.ServeLaws.{server_unopened, IsClosed, same_plan, examined_so, ends_serving, halt_status, ending_status, failed_door_so}
-use Rattle.exam_program.proofs.StatusLaws.{at_sink, at_disk, at_before, not_door, disk_fault, late_fault, ending_unprinted, ending_late}
+use Rattle.exam_program.proofs.StatusLaws.{at_sink, at_disk, at_before, not_door, disk_fault, late_fault, ending_unprinted, ending_late, ending_not_6}
 use Rattle.exam_program.proofs.serving.serve_over.Goals as goal
 
 -- ---- the journal was not opened
@@ -47,12 +48,32 @@ returns-in-Err-clause-answers g c = λ words o is same.
     let failed = λ (e : c.in-Err.fault ≡ FailedDisk). failing_so g.D.Disk.tells g.D.Disk.content g.D.Disk.accounts g.D.Disk.faults c.args.disk c.in-Err.disk b plan (opened.cause e) image opened.moments_err in
     let untouched = λ (e : c.in-Err.fault ≡ FailedDisk → ⊥). unwritten_so g.D.Disk.tells g.D.Disk.content g.D.Disk.accounts g.D.Disk.faults c.args.disk c.in-Err.disk (opened.untouched e) (opened.unwritten e) in
     let unopened = subst (λ (d : DiskSeen). IsUnopened b plan d why) (sym same) (unopened_so b plan disk c.in-Err.fault opened.why failed untouched) in
-    let halts = subst (λ (h : Halt). Halts words o told was was h) (sym c.halt_of_opening.ensures)
+    let halts = subst (λ (h : Halt). Halts words o told was was h) (sym c.halt_of_opening-halt.ensures)
     (server_unopened words o told was was b plan base is why (nothing_written told was) unopened) in
     idle refl (c.report-status.ensures.answers words o was halts)
 
+pub returns-in-Err-clause-cause : goal.returns-in-Err-clause-cause
+returns-in-Err-clause-cause g c = λ words o is same.
+    let b = c.args.bank.now in
+    let plan = c.args.spec.now in
+    let base = c.args.base.now in
+    let told = g.O.Sink.tells c.args.out.now in
+    let was = g.O.Sink.written c.args.out.now in
+    let disk = disk_seen g.D.Disk.tells g.D.Disk.content g.D.Disk.accounts g.D.Disk.faults c.args.disk c.in-Err.disk in
+    let opened = c.in-Err.ensures in
+    let why = opening_halt c.in-Err.fault in
+    -- the laws of the disk, which may go to another thread, where this call runs
+    let met = g.met.D.Disk g.world.𝓛 g.world.𝓜 g.world.𝓡 ((λ s x. x), (λ x. x), (λ x. x), (λ x. x)) in
+    let image = λ (t : disk.told ≡ true). met.is_image c.in-Err.disk (opened.frame_err.tells ∙ t) in
+    let failed = λ (e : c.in-Err.fault ≡ FailedDisk). failing_so g.D.Disk.tells g.D.Disk.content g.D.Disk.accounts g.D.Disk.faults c.args.disk c.in-Err.disk b plan (opened.cause e) image opened.moments_err in
+    let untouched = λ (e : c.in-Err.fault ≡ FailedDisk → ⊥). unwritten_so g.D.Disk.tells g.D.Disk.content g.D.Disk.accounts g.D.Disk.faults c.args.disk c.in-Err.disk (opened.untouched e) (opened.unwritten e) in
+    let unopened = subst (λ (d : DiskSeen). IsUnopened b plan d why) (sym same) (unopened_so b plan disk c.in-Err.fault opened.why failed untouched) in
+    let halts = subst (λ (h : Halt). Halts words o told was was h) (sym c.halt_of_opening-halt.ensures)
+    (server_unopened words o told was was b plan base is why (nothing_written told was) unopened) in
+    ends_as words o told was was c.halt_of_opening-halt.result c.report-status.result halts c.report-status.ensures.status
+
 pub returns-in-Err-clause-status : goal.returns-in-Err-clause-status
-returns-in-Err-clause-status g c = halt_status c.halt_of_opening.result c.report-status.result c.report-status.ensures.status
+returns-in-Err-clause-status g c = halt_status c.halt_of_opening-halt.result c.report-status.result c.report-status.ensures.status
 
 pub returns-in-Err-clause-doors : goal.returns-in-Err-clause-doors
 returns-in-Err-clause-doors g c = still_lent g.L.Door.tells g.L.Door.is_out g.L.Door.faults g.L.Door.identity c.args.doors.items c.requires.home
@@ -135,17 +156,17 @@ returns-clause-disk g c =
 
 -- ---- what each status shows
 pub returns-in-Err-clause-door : goal.returns-in-Err-clause-door
-returns-in-Err-clause-door g c = λ is. absurd (not_door c.halt_of_opening.result c.report-status.result c.report-status.ensures.status is)
+returns-in-Err-clause-door g c = λ is. absurd (not_door c.halt_of_opening-halt.result c.report-status.result c.report-status.ensures.status is)
 
 pub returns-in-Err-clause-sink : goal.returns-in-Err-clause-sink
-returns-in-Err-clause-sink g c = at_sink c.halt_of_opening.result c.report-status.result c.report-status.ensures.status (λ is. absurd (no_sink c.in-Err.fault (sym c.halt_of_opening.ensures ∙ is)))
+returns-in-Err-clause-sink g c = at_sink c.halt_of_opening-halt.result c.report-status.result c.report-status.ensures.status (λ is. absurd (no_sink c.in-Err.fault (sym c.halt_of_opening-halt.ensures ∙ is)))
 
 pub returns-in-Err-clause-failed : goal.returns-in-Err-clause-failed
-returns-in-Err-clause-failed g c = at_disk c.halt_of_opening.result c.report-status.result c.report-status.ensures.status (λ is. c.in-Err.ensures.cause (disk_fault c.in-Err.fault (sym c.halt_of_opening.ensures ∙ is)))
+returns-in-Err-clause-failed g c = at_disk c.halt_of_opening-halt.result c.report-status.result c.report-status.ensures.status (λ is. c.in-Err.ensures.cause (disk_fault c.in-Err.fault (sym c.halt_of_opening-halt.ensures ∙ is)))
 
 pub returns-in-Err-clause-opened : goal.returns-in-Err-clause-opened
 returns-in-Err-clause-opened g c = λ before.
-    late_fault c.in-Err.fault (subst (λ (h : Halt). IsBeforeJournal h) c.halt_of_opening.ensures (at_before c.halt_of_opening.result c.report-status.result c.report-status.ensures.status before))
+    late_fault c.in-Err.fault (subst (λ (h : Halt). IsBeforeJournal h) c.halt_of_opening-halt.ensures (at_before c.halt_of_opening-halt.result c.report-status.result c.report-status.ensures.status before))
 
 pub returns-clause-sink : goal.returns-clause-sink
 returns-clause-sink g c = ending_unprinted c.serve_doors-office.result.end c.end_over-status.result c.end_over-status.ensures.status
@@ -159,6 +180,11 @@ returns-clause-failed g c = λ is.
     ap (λ (w : OpenedWith). w.disk.faults) done.same ∙ ap (λ (d : HandedDisk). d.faults) opened.opened in
     rose_later (g.D.Disk.faults c.args.disk) (g.D.Disk.faults c.into_disk-disk.result) (g.D.Disk.faults c.end_over-status.new.disk)
     (omega (arith, c.keeps.ensures.grows, before, gone.faults)) (c.end_over-status.ensures.failed is)
+
+pub returns-clause-cause : goal.returns-clause-cause
+returns-clause-cause g c = λ words o is same.
+    ends_open words c.end_over-status.result (ending_late c.serve_doors-office.result.end c.end_over-status.result c.end_over-status.ensures.status)
+    (ending_not_6 c.serve_doors-office.result.end c.end_over-status.result c.end_over-status.ensures.status)
 
 pub returns-clause-opened : goal.returns-clause-opened
 returns-clause-opened g c = ending_late c.serve_doors-office.result.end c.end_over-status.result c.end_over-status.ensures.status

@@ -5,6 +5,7 @@ use Rattle.exam_program.specs.declared.halt.Halt.{Halt}
 use Rattle.exam_program.specs.Halts.{IsEarly}
 use Rattle.exam_program.specs.Outcomes.{IsStatusBefore}
 use Rattle.exam_program.specs.Outside.{outside, disk_seen}
+use Rattle.exam_program.proofs.CauseLaws.{ends_as}
 use Rattle.exam_program.proofs.OutcomeLaws.{as_it_is}
 use Rattle.exam_program.proofs.ServeLaws.{halt_status}
 use Rattle.exam_program.proofs.StatusLaws.{at_files, at_sink, at_disk, not_usage, not_door, not_link, lent_still}
@@ -24,6 +25,15 @@ returns-in-Err g c =
                 (c.in-Err.ensures.err told words (Ship c.args.bank.now c.args.plan.now) (disk_seen g.D.Disk.tells g.D.Disk.content g.D.Disk.accounts g.D.Disk.faults c.args.disk c.args.disk)
                 (g.O.Sink.tells c.args.out.now) was e tt refl untouched),
           );
+      cause = λ told words e.
+          let o = outside (g.F.Files.has c.args.files.now) (g.F.Files.content c.args.files.now) (g.F.Files.faults c.args.files.now) (g.F.Files.faults c.ready_in.new.files)
+          (disk_seen g.D.Disk.tells g.D.Disk.content g.D.Disk.accounts g.D.Disk.faults c.args.disk c.args.disk) in
+          let was = g.O.Sink.written c.args.out.now in
+          let untouched = as_it_is g.D.Disk.tells g.D.Disk.content g.D.Disk.accounts g.D.Disk.faults c.args.disk in
+          ends_as words o (g.O.Sink.tells c.args.out.now) was was c.in-Err.halt c.report-status.result
+          (c.in-Err.ensures.err told words (Ship c.args.bank.now c.args.plan.now) (disk_seen g.D.Disk.tells g.D.Disk.content g.D.Disk.accounts g.D.Disk.faults c.args.disk c.args.disk)
+          (g.O.Sink.tells c.args.out.now) was e tt refl untouched)
+          c.report-status.ensures.status;
       door = λ is. absurd (not_door c.in-Err.halt c.report-status.result c.report-status.ensures.status is);
       link = λ is. absurd (not_link c.in-Err.halt c.report-status.result c.report-status.ensures.status is);
       files = at_files c.in-Err.halt c.report-status.result c.report-status.ensures.status (λ is. c.ready_in.ensures.failed (c.in-Err.is ∙ ap Err is));
@@ -47,6 +57,17 @@ returns g c =
           let o = outside (g.F.Files.has c.args.files.now) (g.F.Files.content c.args.files.now) (g.F.Files.faults c.args.files.now) (g.F.Files.faults c.ready_in.new.files)
           (disk_seen g.D.Disk.tells g.D.Disk.content g.D.Disk.accounts g.D.Disk.faults c.args.disk c.ship_over.result.disk) in
           c.ship_over.ensures.answers words o
+          (record {
+            bank = c.args.bank.now;
+            plan = c.args.plan.now;
+            asked = e;
+            reads = c.in-Ok.ensures.ok told;
+            is_base = c.in-Ok.ensures.base;
+          }) refl;
+      cause = λ told words e.
+          let o = outside (g.F.Files.has c.args.files.now) (g.F.Files.content c.args.files.now) (g.F.Files.faults c.args.files.now) (g.F.Files.faults c.ready_in.new.files)
+          (disk_seen g.D.Disk.tells g.D.Disk.content g.D.Disk.accounts g.D.Disk.faults c.args.disk c.ship_over.result.disk) in
+          c.ship_over.ensures.cause words o
           (record {
             bank = c.args.bank.now;
             plan = c.args.plan.now;
