@@ -87,6 +87,31 @@ class Rights(WithJournal):
 
 
 @needs_program
+class Refused(WithJournal):
+    """Why a journal is refused, in words."""
+
+    def test_the_record_and_its_reason(self):
+        start = self.kept_after(BEGIN)
+        closed = b"\1\0\0\0\5\5\0\0\0\0"  # the record that ends session 0, after its gate and its length
+        for data, line, words in (
+                (b"SHADOWJ3\0x", "header", "its first bytes are not those of a journal"),
+                (b"SHADOWJ2\1\0\0\0\1\x09\0", "record at 8", "record 0: no record, its kind at byte 0"),
+                (b"SHADOWJ2" + closed + b"\0", "illegal at 8", "record 0: no such session, there are 0"),
+                (start[:-1] + closed + closed + b"\0", f"illegal at {len(start) + 9}", "record 3: no end here: the session is closed"),
+                (start[:-1] + start[8:], f"illegal at {len(start) - 1}", "record 2: the next session is 1, if the plan allows it")):
+            with self.subTest(line=line):
+                self.put(data)
+                self.assertEqual(self.run_program("audit"), (6, f"journal: {line}\n", LINE.format(self.journal, words)))
+                self.assertEqual(self.bytes_of(self.journal), data)
+
+    def test_the_command_that_explains(self):
+        self.write("plan.txt", PLAN + "count 0 0 0-5\n")
+        status, said, errors = self.run_program("assemble")
+        self.assertEqual((status, said[:8], errors), (
+            11, "no form ", "shadowd: no form: tools/explain.py BANK PLAN names the rules that rule it out\n"))
+
+
+@needs_program
 class PutAside(WithJournal):
     """A journal of which a gate in the midst is closed. With that gate open it has the five records behind it, too."""
 
@@ -231,7 +256,8 @@ class Moved(WithJournal):
     def test_there_is_no_room(self):
         for limit, wanted in ((len(self.moved), (0, self.said, "")),
                               (len(self.moved) - 1, (13, f"limit journal {len(self.moved)} of {len(self.moved) - 1}\n", "")),
-                              (len(self.old) - 1, (6, f"journal: too long {len(self.old)}\n", ""))):
+                              (len(self.old) - 1, (6, f"journal: too long {len(self.old)}\n", LINE.format(
+                                  self.journal, f"it has {len(self.old)} bytes, and the plan's line journal allows fewer")))):
             self.write("plan.txt", f"{bands.PLAN_TWO}journal {limit}\n")
             self.put(self.old)
             self.assertEqual(self.run_program("migrate"), wanted)
