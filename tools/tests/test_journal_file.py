@@ -93,13 +93,19 @@ class Refused(WithJournal):
     def test_the_record_and_its_reason(self):
         start = self.kept_after(BEGIN)
         closed = b"\1\0\0\0\5\5\0\0\0\0"  # the record that ends session 0, after its gate and its length
+        aside = b"\1\0\0\0\x0d\7" + bytes(8) + b"\0\1\0\7"  # eligibility set aside in it at step 0, with a tree of one open node
+        vector = b"\1\0\0\0\x10\7" + bytes(10) + b"\1\0\1\1\x82"  # the same with a tree whose vector has a side 386
         for data, line, words in (
                 (b"SHADOWJ3\0x", "header", "its first bytes are not those of a journal"),
-                (b"SHADOWJ2\1\0\0\0\1\x09\0", "record at 8", "record 0: no record, its kind at byte 0"),
-                (b"SHADOWJ2" + closed + b"\0", "illegal at 8", "record 0: no such session, there are 0"),
-                (start[:-1] + closed + closed + b"\0", f"illegal at {len(start) + 9}", "record 3: no end here: the session is closed"),
+                (b"SHADOWJ2\1\0\0\0\1\x0a\0", "record at 8", "record 0: its bytes are no record: byte 0 has the number of no kind"),
+                (b"SHADOWJ2\1\0\0\0\1\x09\0", "record at 8", "record 0: its bytes are no record: they end within a field"),
+                (b"SHADOWJ2" + vector + b"\0", "record at 8", "record 0: its bytes are no record: its tree breaks a rule of vectors at byte 3"),
+                (start[:-1] + aside + b"\0", f"illegal at {len(start) - 1}",
+                 "record 2: no item is to be served at this step: item 2 waits for its answer at step 0"),
+                (b"SHADOWJ2" + closed + b"\0", "illegal at 8", "record 0: there is no such session: the number of sessions is 0"),
+                (start[:-1] + closed + closed + b"\0", f"illegal at {len(start) + 9}", "record 3: the session ended before: the session is closed"),
                 (start[:-1] + start[8:], f"illegal at {len(start) - 1}", "record 2: the next session is 1, if the plan allows it")):
-            with self.subTest(line=line):
+            with self.subTest(words=words):
                 self.put(data)
                 self.assertEqual(self.run_program("audit"), (6, f"journal: {line}\n", LINE.format(self.journal, words)))
                 self.assertEqual(self.bytes_of(self.journal), data)
@@ -108,7 +114,7 @@ class Refused(WithJournal):
         self.write("plan.txt", PLAN + "count 0 0 0-5\n")
         status, said, errors = self.run_program("assemble")
         self.assertEqual((status, said[:8], errors), (
-            11, "no form ", "shadowd: no form: tools/explain.py BANK PLAN names the rules that rule it out\n"))
+            11, "no form ", "shadowd: there is no form: tools/explain.py BANK PLAN names the rules that allow none\n"))
 
 
 @needs_program

@@ -29,19 +29,23 @@ fn place_words(alloc: Global, place: Place) -> Result<String, AllocError>
     }
 }
 
-/// Why a set of items is no form.
+/// Why a set of items is no form. The words are of its items.
 #[tactic(auto, unfolding(crate::specs::Reasons::breach_words))]
 fn breach_words(alloc: Global, breach: Breach) -> Result<String, AllocError>
     ensures { IfOk result (λ words. string_bytes words ≡ breach_words breach) }
 {
     match breach {
-        Breach::Length(items) => format!(in alloc; "it has {items} items"),
-        Breach::Row(row, activity) => format!(in alloc; "row {row} of the plan has {activity}"),
-        Breach::Stimulus(stimulus, items) => format!(in alloc;
-            "stimulus {stimulus} has {items} items"
+        Breach::Length(items) => format!(in alloc;
+            "the number of items is {items}, and the test has another number or the bank lacks one of them"
         ),
-        Breach::Given(item) => format!(in alloc; "item {item} was given, and is not in it"),
-        Breach::Barred(item) => format!(in alloc; "item {item} is barred"),
+        Breach::Row(row, activity) => format!(in alloc;
+            "row {row} of the plan does not hold, and the activity on it is {activity}"
+        ),
+        Breach::Stimulus(stimulus, items) => format!(in alloc;
+            "the number of items of stimulus {stimulus} is {items}, out of its bounds"
+        ),
+        Breach::Given(item) => format!(in alloc; "item {item} was given, and is not among them"),
+        Breach::Barred(item) => format!(in alloc; "item {item} is barred, and is among them"),
     }
 }
 
@@ -55,39 +59,52 @@ fn illegal_words(alloc: Global, reason: Illegal) -> Result<String, AllocError>
             "the next session is {count}, if the plan allows it"
         ),
         Illegal::Booked(session) => format!(in alloc; "the booking has session {session}"),
-        Illegal::NotDrawn(item) => format!(in alloc; "not drawn, item {item}"),
+        Illegal::NotDrawn(item) => format!(in alloc;
+            "its eligible items are not those drawn, first at item {item}"
+        ),
         Illegal::NoItem(count) => format!(in alloc;
-            "the list is empty, or has an item that is none of the bank's {count}"
+            "its list is empty, or has an item that is not one of the bank's {count}"
         ),
         Illegal::NotWithout(why) => {
             let why = breach_words(alloc, why)?;
-            format!(in alloc; "no form of the plan without the list: {why}")
+            format!(in alloc; "its items are no form without those of the list: {why}")
         }
-        Illegal::NoSession(count) => format!(in alloc; "no such session, there are {count}"),
+        Illegal::NoSession(count) => format!(in alloc;
+            "there is no such session: the number of sessions is {count}"
+        ),
         Illegal::NotPending(at) => {
             let at = place_words(alloc, at)?;
-            format!(in alloc; "no item is to be served here: {at}")
+            format!(in alloc; "no item is to be served at this step: {at}")
         }
-        Illegal::IsAside => String::from_str(alloc, "eligibility was set aside before"),
+        Illegal::IsAside => String::from_str(
+            alloc,
+            "eligibility was set aside before in the band of the estimate",
+        ),
         Illegal::NotStep(step) => format!(in alloc; "the session is at step {step}"),
         Illegal::NotBand(band) => format!(in alloc; "the estimate is in band {band}"),
         Illegal::NotForm(why) => {
             let why = breach_words(alloc, why)?;
-            format!(in alloc; "no form: {why}")
+            format!(in alloc; "its items are no form: {why}")
         }
         Illegal::NotItem(item) => format!(in alloc; "the next item of the form is {item}"),
-        Illegal::NotSpent(nodes) => format!(in alloc; "its tree is not one of {nodes} nodes"),
-        Illegal::Tree(_) => String::from_str(alloc, "its tree does not show it"),
+        // Of a file the next two come as a tree at fault, without their values.
+        Illegal::NotSpent(nodes) => format!(in alloc;
+            "its proof tree is missing, not needed, not spent, or not of {nodes} nodes"
+        ),
+        Illegal::Tree(_) => String::from_str(
+            alloc,
+            "its proof tree does not show what the record has",
+        ),
         Illegal::NotWaiting(at) => {
             let at = place_words(alloc, at)?;
             format!(in alloc; "no answer is awaited at this step: {at}")
         }
         Illegal::BadResponse(categories) => format!(in alloc;
-            "the item has {categories} categories"
+            "its response is not one of the item's {categories} categories"
         ),
         Illegal::Ended(at) => {
             let at = place_words(alloc, at)?;
-            format!(in alloc; "no end here: {at}")
+            format!(in alloc; "the session ended before: {at}")
         }
     }
 }
@@ -99,10 +116,18 @@ fn tree_words(alloc: Global, fault: TreeFault) -> Result<String, AllocError>
 {
     match fault {
         TreeFault::Short => String::from_str(alloc, "its tree ends within a field"),
-        TreeFault::BadKind(at) => format!(in alloc; "a node of no kind at byte {at} of its tree"),
-        TreeFault::BadVector(number) => format!(in alloc; "vector {number} of its tree"),
-        TreeFault::Unfinished(at) => format!(in alloc; "its tree is not whole at byte {at}"),
-        TreeFault::TooLong(at) => format!(in alloc; "too many nodes at byte {at} of its tree"),
+        TreeFault::BadKind(at) => format!(in alloc;
+            "the node at byte {at} of its tree is of no kind, or has a number out of range"
+        ),
+        TreeFault::BadVector(at) => format!(in alloc;
+            "its tree breaks a rule of vectors at byte {at}"
+        ),
+        TreeFault::Unfinished(at) => format!(in alloc;
+            "its tree ends at byte {at}, and is not whole"
+        ),
+        TreeFault::TooLong(at) => format!(in alloc;
+            "its tree has too many nodes: one more begins at byte {at}"
+        ),
         TreeFault::Memory => String::from_str(alloc, "no memory"),
     }
 }
@@ -113,15 +138,22 @@ fn record_words(alloc: Global, fault: RecordFault) -> Result<String, AllocError>
     ensures { IfOk result (λ words. string_bytes words ≡ record_words fault) }
 {
     match fault {
-        RecordFault::Short => String::from_str(alloc, "no record, it ends within a field"),
-        RecordFault::Kind(at) => format!(in alloc; "no record, its kind at byte {at}"),
-        RecordFault::Field(at) => format!(in alloc; "no record, its field at byte {at}"),
+        RecordFault::Short => String::from_str(
+            alloc,
+            "its bytes are no record: they end within a field",
+        ),
+        RecordFault::Kind(at) => format!(in alloc;
+            "its bytes are no record: byte {at} has the number of no kind"
+        ),
+        RecordFault::Field(at) => format!(in alloc;
+            "its bytes are no record: the field at byte {at} has a value that is not allowed"
+        ),
         RecordFault::Tree(why) => {
             let why = tree_words(alloc, why)?;
-            format!(in alloc; "no record: {why}")
+            format!(in alloc; "its bytes are no record: {why}")
         }
         RecordFault::Extra(at) => format!(in alloc;
-            "no record, it has more bytes from byte {at} on"
+            "its bytes are no record: a record ends before byte {at}, and more bytes follow"
         ),
         RecordFault::Memory => String::from_str(alloc, "no memory"),
     }
@@ -144,7 +176,7 @@ fn file_words(alloc: Global, fault: FileFault) -> Result<String, AllocError>
         FileFault::Cut(at) => format!(in alloc; "the record at byte {at} is cut off"),
         FileFault::Version => String::from_str(
             alloc,
-            "a journal of the first version, which shadowd migrate BANK PLAN moves to the second",
+            "it is of the first version: if it was never migrated, shadowd migrate BANK PLAN moves it",
         ),
         FileFault::Memory => String::from_str(alloc, "no memory"),
     }
@@ -161,7 +193,7 @@ fn fault_words(alloc: Global, fault: OpenFault) -> Result<String, AllocError>
         OpenFault::BadRecord(_, why) => record_words(alloc, why),
         OpenFault::BadTree(_) => String::from_str(
             alloc,
-            "its proof tree does not show what the record has",
+            "its proof tree does not show what the record has, or does not spend the plan's budget",
         ),
         OpenFault::Illegal(_, why) => illegal_words(alloc, why),
         OpenFault::Disk => file_words(alloc, FileFault::Disk),
@@ -192,19 +224,19 @@ pub fn halt_words(alloc: Global, halt: &Halt) -> Result<Option<String>, AllocErr
         Halt::Journal(why) => fault_words(alloc, *why)?,
         Halt::NoForm(_) => String::from_str(
             alloc,
-            "no form: tools/explain.py BANK PLAN names the rules that rule it out",
+            "there is no form: tools/explain.py BANK PLAN names the rules that allow none",
         )?,
         Halt::NoBaseForm(_) => String::from_str(
             alloc,
-            "no base form: raise base-budget in the plan, or name a form by the line base",
+            "no base form was found: raise base-budget or name a base form in the plan, or loosen rules",
         )?,
         Halt::NoSeries(_) => String::from_str(
             alloc,
-            "no series: tools/explain.py BANK PLAN --series K names the rules that rule it out",
+            "there is no series: tools/explain.py BANK PLAN --series K names the rules that allow none",
         )?,
         Halt::NoSeriesFound(_) => String::from_str(
             alloc,
-            "no series: raise base-budget in the plan",
+            "no series was found: raise base-budget in the plan, or loosen rules",
         )?,
         _ => return Ok(None),
     };
