@@ -76,6 +76,10 @@ class Readings(unittest.TestCase):
             needed = {key for reading in claim.readings for key in claims.needs_of(self.library, reading).definitions}
             self.assertLessEqual({self.library.named(it) for it in wanted[claim.name]}, needed, claim.name)
 
+    def test_each_reading_of_the_best_form_has_that_what_was_found_is_legal(self):
+        for reading in claims.CLAIMS[0].readings:
+            self.assertIn(self.library.named("history_model LegalRun"), claims.needs_of(self.library, reading).definitions, reading.title)
+
     def test_no_claim_needs_a_drill_a_series_or_a_second_machine(self):
         needed = {key for _, _, reading in claims.numbered() for key in claims.needs_of(self.library, reading).definitions}
         for name in ("`drill`", "`series`", "`follow` and `ship`"):

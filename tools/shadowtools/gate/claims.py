@@ -1,7 +1,7 @@
 """What each claim of README needs of docs/HEADLINE.md: which clause of `run` has it, and which definitions that clause then rests on.
 
-A definition may be read in part. Of a record some fields may be left out, since each of its fields holds. Of a `data`, or of a function by
-cases, a case may be left out if something else excludes it, such as the command; `left` of a reading has why. A definition with no
+A definition may be read in part. Each field of a record holds, so a reading may leave out fields. It may leave out a case of a `data`, or of a
+function by cases, if another part excludes the case, such as the command; `left` of a reading has why. A definition with no
 part is taken as a word: another claim explains it. `most` is the number of definitions that a reading may have.
 """
 import dataclasses
@@ -68,11 +68,12 @@ CLAIMS = [
             "exam_program IsReplayOf": [],
             "exam_program IsFullAt": [],
             "exam_program IsLeftAt": [],
-            "exam_program IsUnderWay": ["going_on"],
+            "exam_program IsUnderWay": ["legal", "going_on"],
             "exam_program IsGoingOn": ["done", "whole", "are_done"],
             **SERVED,
-        }, "The other cases of `Outcome` are of other commands, or print no reply. `IsReplayOf` is in claim 2, what the file has in claim"
-           " 3, and what other requests do in claim 4.", 137),
+        }, "The other cases of `Outcome` are of other commands, or print no reply. An item that an earlier run served is of a legal entry by "
+           "`legal` of `IsUnderWay`. `IsReplayOf`, with `Reads` of the bank and the plan, is in claim 2. What the file has is in claim 3, and what "
+           "other requests do in claim 4.", 138),
         Reading("of a server, at each moment", {"fair": ["AreFairDoors", "IsOpenedBy", "IsCallerOf"]}, {
             "exam_program IsOpenedBy": [],
             "history_model Legal": ["Legal b plan H (Served"],
