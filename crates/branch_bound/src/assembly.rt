@@ -73,6 +73,13 @@ impl<'a> Assembled<'a> {
         &self.tree
     }
 
+    /// Hands over the tree, without a copy.
+    pub fn into_tree(self) -> Tree
+        ensures { result ≡ self.entry.tree }
+    {
+        self.tree
+    }
+
     /// The outcome.
     pub fn outcome(&self) -> Outcome
         ensures outcome { result ≡ self.now.outcome }
