@@ -47,13 +47,13 @@ use Rattle.exam_office.proofs.Committed.{asked_now, still_may}
 use Rattle.exam_office.proofs.Flags.{flag_now, aside_then}
 use Rattle.exam_hall.specs.Parts.{owns, NoFault, AtMostOne, IsAside, IsServing, IsCommitted, Fails}
 use Rattle.exam_hall.specs.Good.{IsFirm, IsGoodMark}
-use Rattle.exam_hall.specs.Rounds.{IsGoodFor, IsPlaced, EndsRound, EndsGood}
+use Rattle.exam_hall.specs.Rounds.{IsGoodFor, IsEntryOf, AddsOnly, IsPlaced, EndsRound, EndsGood}
 use Rattle.exam_hall.specs.Turns.{Adds, Ended, IsRoundAt}
 use Rattle.exam_hall.specs.declared.committing.Round.{Round}
 use Rattle.exam_hall.specs.declared.committing.Round.TheVariants.{Placed, Again, Failed}
 use Rattle.exam_hall.proofs.Calls.{CameTo, to_refusal, to_nothing, to_entry, to_failure, addition, calls_on}
 use Rattle.exam_hall.proofs.Moved.{history_append, more_servings, more_answers, even}
-use Rattle.exam_hall.proofs.Owned.{EachMark, IsFoundMark, ends_good}
+use Rattle.exam_hall.proofs.Owned.{EachMark, IsFoundMark, none_only, one_only, ends_good}
 
 -- ---- the session after one more entry
 -- after an item was served the session doesn't wait for one
@@ -283,18 +283,27 @@ module _ {D : Type 0} (old new : Running D) (a : Assembly) (same : IsSameOffice 
         ends_good old.bank old.plan old.base new.marks old.marks T made_addition.is
         (marks_good old.bank old.plan old.base a fits T old.marks may (subst (λ l. LegalRun old.bank old.plan (history l)) made_addition.is run) made_addition.found)
 
+    came_only : (T : List Mark) (x : Option Refusal) → CameTo old.bank old.plan finds new.marks T x → AddsOnly (IsEntryOf a) T
+    came_only T x (to_nothing says gap whole) = none_only (IsEntryOf a) T gap
+    came_only T x (to_entry H e says grown own whole) = one_only (IsEntryOf a) T e own says.1
+    came_only T x (to_refusal r says gap whole) = none_only (IsEntryOf a) T gap
+    came_only T x (to_failure r fails gap why) = none_only (IsEntryOf a) T gap
+
+    made_only : AddsOnly (IsEntryOf a) made_addition.added
+    made_only = came_only made_addition.added o made_addition.came
+
     abbrev made_adds : Adds old new
     made_adds = record { same = same; frame = frame; added = made_addition.added; is = made_addition.is; few = made_addition.few }
 
-    pub done_ended : (at : Place) (round : Round) → None ≡ o → place old.plan (history new.marks) P.session ≡ Some at → IsRoundAt old.bank old.plan (history new.marks) P at round → Ended P old new round
-    done_ended at round none stands is = record { adds = made_adds; ends = done_ends at round made_addition.added o none made_addition.came stands is; good = made_good }
+    pub done_ended : (at : Place) (round : Round) → None ≡ o → place old.plan (history new.marks) P.session ≡ Some at → IsRoundAt old.bank old.plan (history new.marks) P at round → Ended a old new round
+    done_ended at round none stands is = record { adds = made_adds; ends = done_ends at round made_addition.added o none made_addition.came stands is; good = made_good; only = made_only }
 
     pub stale_ended : (at : Place) (aside : Bool) (round : Round) → Some (Stale at aside) ≡ o
-        → ((stands : place old.plan (history new.marks) P.session ≡ Some at) → IsRoundAt old.bank old.plan (history new.marks) P at round) → Ended P old new round
-    stale_ended at aside round some is = record { adds = made_adds; ends = stale_ends at aside round made_addition.added o some made_addition.came is; good = made_good }
+        → ((stands : place old.plan (history new.marks) P.session ≡ Some at) → IsRoundAt old.bank old.plan (history new.marks) P at round) → Ended a old new round
+    stale_ended at aside round some is = record { adds = made_adds; ends = stale_ends at aside round made_addition.added o some made_addition.came is; good = made_good; only = made_only }
 
-    pub failed_ended : (q : Refusal) → Some q ≡ o → ((at : Place) (aside : Bool) → q ≡ Stale at aside → ⊥) → Ended P old new (Failed q)
-    failed_ended q some never = record { adds = made_adds; ends = failed_ends q made_addition.added o some never made_addition.came; good = made_good }
+    pub failed_ended : (q : Refusal) → Some q ≡ o → ((at : Place) (aside : Bool) → q ≡ Stale at aside → ⊥) → Ended a old new (Failed q)
+    failed_ended q some never = record { adds = made_adds; ends = failed_ends q made_addition.added o some never made_addition.came; good = made_good; only = made_only }
 
     pub stale_there : (at : Place) (aside : Bool) → Some (Stale at aside) ≡ o → place old.plan (history new.marks) P.session ≡ Some at
     stale_there at aside some = by made_addition.added o some made_addition.came

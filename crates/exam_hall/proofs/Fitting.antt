@@ -29,7 +29,7 @@ use Rattle.exam_hall.specs.Went.{taken}
 use Rattle.exam_hall.specs.Parts.{owns, AtMostOne, IsAside, IsServing, IsCommitted, Fails}
 use Rattle.exam_hall.specs.Leading.{IsAsked}
 use Rattle.exam_hall.specs.Prepared.{IsPrepared, IsSameProblem, FitsFor}
-use Rattle.exam_hall.specs.Rounds.{EndsRound, Rounds}
+use Rattle.exam_hall.specs.Rounds.{IsOfStep, AddsOnly, EndsRound, Rounds}
 use Rattle.exam_hall.specs.declared.committing.Round.{Round}
 use Rattle.exam_hall.specs.declared.committing.Round.TheVariants.{Placed, Again, Failed}
 
@@ -123,6 +123,7 @@ rounds_same h P Q same old new round r = record {
   few = r.few;
   legal = r.legal;
   ends = ends_same h.bank h.plan P Q same new.seen (taken new.seen r.places) round r.ends;
+  of_step = subst (λ k. AddsOnly (IsOfStep k) (taken new.seen r.places)) same.step r.of_step;
   good = r.good;
 }
 

@@ -8,7 +8,9 @@ pub mod Leading
 pub mod Commits
 pub mod Served
 pub mod Fitting
+pub mod SameProblem
 pub mod Seen
+pub mod Used
 pub mod Turning
 pub mod Looks
 pub mod Foreseen

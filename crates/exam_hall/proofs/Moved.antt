@@ -60,7 +60,7 @@ even b plan H s k run e =
 abbrev pub Has : (Entry → Type 0) → List Mark → Type 0
 Has P T = (p : ℕ) × (m : Mark) × (e : Entry) × (slice_get T p ≡ Some m) × (entry_of m ≡ Some e) × P e
 
-shifted : (P : Entry → Type 0) (x : Mark) (T : List Mark) → Has P T → Has P (x ∷ T)
+pub shifted : (P : Entry → Type 0) (x : Mark) (T : List Mark) → Has P T → Has P (x ∷ T)
 shifted P x T h = (suc h.0, h.1, h.2, h.3, h.4, h.5)
 
 module _ {A : Type 0} (f : Entry → Option A) (P : Entry → Type 0) (or : (e : Entry) → P e ⊎ (f e ≡ None)) where

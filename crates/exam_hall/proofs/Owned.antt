@@ -1,6 +1,6 @@
 -- The entries of marks, each after the history of the marks before it.
 use Rattle.std.specs.Prelude.{⊤}
-use Rattle.std.proofs.Common.{◌≡◌, ℕ, suc, ◌+◌, ◌-◌, ◌<◌, List, [], ◌∷◌, ◌++◌, length, refl, sym, ap, ◌∙◌, subst, arith, append_assoc, take, All, Contains, slice_get, length-append, Option, Some, None, IfSome}
+use Rattle.std.proofs.Common.{◌≡◌, ℕ, suc, ◌+◌, ◌-◌, ◌<◌, List, [], ◌∷◌, ◌++◌, length, refl, sym, ap, ◌∙◌, subst, ⊎_elim, arith, append_assoc, take, All, Contains, slice_get, length-append, Option, Some, None, IfSome}
 use Rattle.std.proofs.Math.Seq.{take-append_seam}
 use Rattle.std.proofs.lemmas.List.{append-nil, take-append-le}
 use Rattle.std.proofs.lemmas.List.Elements.{All-append, All-cons, All-nil}
@@ -11,7 +11,7 @@ use Rattle.history_model.specs.declared.request.Request.{Request}
 use Rattle.history_model.specs.declared.request.Request.TheVariants.{Begin, BeginWithout, Answer, Close, Look, Exposure}
 use Rattle.turn_lock.specs.Histories.{places}
 use Rattle.turn_lock.specs.Passes.{Known}
-use Rattle.turn_lock.proofs.Lists.{all_of}
+use Rattle.turn_lock.proofs.Lists.{all_of, contains_cons, contains_nothing}
 use Rattle.exam_office.specs.Asking.{IsGood}
 use Rattle.exam_office.specs.Calls.{Finding, add}
 use Rattle.exam_office.specs.declared.mark.Mark.{Mark}
@@ -20,7 +20,7 @@ use Rattle.exam_office.specs.Marks.{history}
 use Rattle.exam_hall.specs.Went.{Went, taken}
 use Rattle.exam_hall.specs.Good.{IsFirm, IsGoodMark, AreGoodAt}
 use Rattle.exam_hall.specs.Parts.{owns, AtMostOne, IsFirst}
-use Rattle.exam_hall.specs.Rounds.{EndsGood}
+use Rattle.exam_hall.specs.Rounds.{AddsOnly, EndsGood}
 use Rattle.exam_hall.proofs.Moved.{only_one, owns_has}
 use Rattle.exam_hall.proofs.Went.{get_before, get_after}
 
@@ -73,6 +73,14 @@ none_found finds (Opened n ∷ A) M e = (tt, none_found finds A (M ++ Opened n �
 none_found finds (Own d n ∷ A) M e = absurd (cc)
 none_found finds (Adopted d n ∷ A) M e = (tt, none_found finds A (M ++ Adopted d n ∷ []) e)
 none_found finds (Fault d ∷ A) M e = (tt, none_found finds A (M ++ Fault d ∷ []) e)
+
+-- marks without an own entry add none
+pub none_only : (P : Entry → Type 0) (T : List Mark) → owns T ≡ [] → AddsOnly P T
+none_only P T none = λ e c. absurd (contains_nothing e (subst (λ l. Contains l e) none c))
+
+-- marks with one own entry add it alone
+pub one_only : (P : Entry → Type 0) (T : List Mark) (e : Entry) → owns T ≡ e ∷ [] → P e → AddsOnly P T
+one_only P T e one h = λ d c. ⊎_elim (λ same. subst P same h) (λ none. absurd (contains_nothing d none)) (contains_cons e d [] (subst (λ l. Contains l d) one c))
 
 -- ---- good servings
 module _ (b : Tables) (plan : Plan) (base : List ℕ) where

@@ -63,7 +63,7 @@ begun_turn h old new before t is q begun g =
 one_weaker : {A : Type 0} (P Q : A → Type 0) → ((x : A) → P x → Q x) → (xs : List A) → AtMostOne P xs → AtMostOne Q xs
 one_weaker P Q w xs h = ⊎_elim (λ e. inl e) (λ t. inr (t.0, t.1, w t.0 t.2)) h
 
-lacks_all : (b : Tables) (plan : Plan) (S : List Mark) (q : Request) (E : List Entry) → LacksFirst b plan S q E → E ≡ []
+pub lacks_all : (b : Tables) (plan : Plan) (S : List Mark) (q : Request) (E : List Entry) → LacksFirst b plan S q E → E ≡ []
 lacks_all b plan S (Begin booking) E h = h.0
 lacks_all b plan S (BeginWithout booking items) E h = h.0
 lacks_all b plan S (Answer session step response) E h = h.0

@@ -10,7 +10,10 @@ use Rattle.bank_tables.specs.Items.{has}
 use Rattle.constraint_model.specs.Views.{problem_of}
 use Rattle.branch_bound.specs.Assembled.{Assembly}
 use Rattle.branch_bound.specs.Assemblies.{IsAssembly}
+use Rattle.branch_bound.specs.declared.outcome.Outcome.{Outcome}
+use Rattle.branch_bound.specs.declared.outcome.Outcome.TheVariants as outcome
 use Rattle.history_model.specs.SessionProblems.{IsProblemOf}
+use Rattle.exam_office.specs.Commits.{IsEntryFor}
 use Rattle.exam_office.specs.Serving.{IsAssembledFor}
 use Rattle.exam_office.proofs.Assembling.{assembled_so}
 use Rattle.constraint_model.specs.declared.problem.Problem.{Problem}
@@ -32,7 +35,8 @@ use Rattle.exam_hall.specs.Went.{Went, taken}
 use Rattle.exam_hall.specs.Parts.{owns, NoFault, AtMostOne, IsAside, IsServing, IsCommitted, Fails}
 use Rattle.exam_hall.specs.Leading.{IsAsked, GoesOn}
 use Rattle.exam_hall.specs.Good.{AreGoodAt}
-use Rattle.exam_hall.specs.Rounds.{EndsRound, EndsGood, Rounds, Assembles}
+use Rattle.exam_hall.specs.Rounds.{IsEntryOf, IsOfStep, AddsOnly, EndsRound, EndsGood, Commits, Rounds, Assembles}
+use Rattle.exam_hall.specs.Used.{AddsOwn}
 use Rattle.exam_hall.specs.declared.committing.Round.{Round}
 use Rattle.exam_hall.specs.declared.committing.Round.TheVariants.{Placed, Again, Failed}
 use Rattle.exam_office.proofs.Flags.{raised_stays}
@@ -40,7 +44,7 @@ use Rattle.exam_hall.proofs.Went.{went_once, went_nowhere, went_through, taken_o
 use Rattle.exam_hall.proofs.Passes.{turn_marked, opening_later, opening_office}
 use Rattle.exam_hall.proofs.Calls.{cancel, none_faulty, both_faultless}
 use Rattle.exam_hall.proofs.Moved.{history_append, owns_append, others_moved}
-use Rattle.exam_hall.proofs.Owned.{both_good}
+use Rattle.exam_hall.proofs.Owned.{none_only, both_good}
 
 -- ---- one turn of a pass on the hall's office
 module _ (h : HallKnown) (old new : Known NotedMark) (before : List NotedMark) (t : TakesTurn old new before) (is : IsOf old h)
@@ -88,21 +92,39 @@ module _ (h : HallKnown) (old new : Known NotedMark) (before : List NotedMark) (
       ap (λ k. places k (length (taken S here))) start ∙ ap (λ k. places (length M) k) n
 
 -- ---- one assembly
-pub rounds_turn : (h : HallKnown) (old new : Known NotedMark) (before : List NotedMark) → TakesTurn old new before → IsOf old h → (P : Problem) (round : Round)
-    → GoesOn before new.seen (λ office S T. EndsRound office.bank office.plan P S T round × EndsGood office.bank office.plan office.base S T)
-    → Rounds h P (marked old) (marked new) round
-rounds_turn h old new before t is P round g =
-    let makes : Tables → Plan → List ℕ → List Mark → List Mark → Type 0 = λ b p s S T. EndsRound b p P S T round × EndsGood b p s S T in
-    let made = made_here h old new before t is makes g in
-    record {
-      places = here h old new before t is makes g;
-      fronts = length (marks_of new.seen) ∷ [];
-      went = went_here h old new before t is makes g;
-      few = omega arith;
-      legal = legal_here h old new before t is makes g;
-      ends = made.0;
-      good = subst (λ ps. AreGoodAt h.bank h.plan h.base (marks_of new.seen) ps) (last_places h old new before t is makes g) made.1;
-    }
+-- what an outcome is made is of the step of its problem
+step_of : (P : Model) (n : ℕ) (o : Outcome) (e : Entry) → IsEntryFor P n o e → IsOfStep P.step e
+step_of P n (outcome.Found form proved) e h = subst (IsOfStep P.step) (sym h.2) refl
+step_of P n outcome.NoForm e h = subst (IsOfStep P.step) (sym h) refl
+step_of P n outcome.NoneFound e h = subst (IsOfStep P.step) (sym h) refl
+
+module _ (h : HallKnown) (old new : Known NotedMark) (before : List NotedMark) (t : TakesTurn old new before) (is : IsOf old h) (a : Assembly) (round : Round) (g : Commits a before new.seen round) where
+  abbrev makes_round : Tables → Plan → List ℕ → List Mark → List Mark → Type 0
+  makes_round b p s S T = EndsRound b p a.problem S T round × EndsGood b p s S T × AddsOnly (IsEntryOf a) T
+
+  abbrev at_here : List ℕ
+  at_here = here h old new before t is makes_round g
+
+  abbrev round_made : makes_round h.bank h.plan h.base (marks_of new.seen) (taken (marks_of new.seen) at_here)
+  round_made = made_here h old new before t is makes_round g
+
+  pub rounds_turn : Rounds h a.problem (marked old) (marked new) round
+  rounds_turn = record {
+    places = at_here;
+    fronts = length (marks_of new.seen) ∷ [];
+    went = went_here h old new before t is makes_round g;
+    few = omega arith;
+    legal = legal_here h old new before t is makes_round g;
+    ends = round_made.0;
+    of_step = λ e c. step_of (problem_of a.problem) (length a.tree.nodes) a.outcome e (round_made.2 e c);
+    good = subst (λ ps. AreGoodAt h.bank h.plan h.base (marks_of new.seen) ps) (last_places h old new before t is makes_round g) round_made.1;
+  }
+
+  -- it adds nothing but the entry of what was assembled
+  pub only_turn : AddsOwn (IsEntryOf a) (marked old) (marked new)
+  only_turn = λ own own_is.
+      let w = went_here h old new before t is makes_round g in
+      subst (λ ps. AddsOnly (IsEntryOf a) (taken (marks_of new.seen) ps)) (sym (cancel old.mine own at_here (sym own_is ∙ w.own))) round_made.2
 
 -- an assembly for which there was no memory
 pub rounds_nowhere : (h : HallKnown) (P : Problem) (p : Known Mark) → IsAsked h.bank h.plan (history p.seen) P → LegalRun h.bank h.plan (history p.seen) → Rounds h P p p (Failed Memory)
@@ -113,6 +135,7 @@ rounds_nowhere h P p asked run = record {
   few = omega arith;
   legal = run;
   ends = (none_faulty, refl, inr asked.is_problem.pending);
+  of_step = none_only (IsOfStep P.step) [] refl;
   good = λ k d lt. absurd (omega arith);
 }
 

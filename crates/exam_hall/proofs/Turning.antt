@@ -30,7 +30,7 @@ use Rattle.exam_hall.specs.declared.asking.FirstAnswer.{FirstAnswer}
 use Rattle.exam_hall.specs.declared.asking.FirstAnswer.TheVariants.{Done, Waits}
 use Rattle.exam_hall.specs.declared.committing.Round.{Round}
 use Rattle.exam_hall.specs.Leading.{IsWitnessFor, IsSought, Leads, IsLed, IsNoWait, IsBegun, GoesOn, BeginsRequest}
-use Rattle.exam_hall.specs.Rounds.{IsGoodFor, IsCommittable, EndsRound, EndsGood, Commits}
+use Rattle.exam_hall.specs.Rounds.{IsGoodFor, IsCommittable, IsEntryOf, AddsOnly, EndsRound, EndsGood, Commits}
 use Rattle.exam_hall.specs.Turns.{Adds, Led, Ended, IsBegunAt, IsPlacedReply}
 use Rattle.exam_hall.proofs.Leading.{legal_before}
 use Rattle.exam_hall.proofs.Passes.{marks_noted, noted_number, noted_with}
@@ -115,9 +115,9 @@ good_now office made h =
     let o = opened_with office in
     subst (λ (x : OpenedWith). IsGoodFor x.base made) (noted_with o office.marks h.one h.there) h.good
 
-pub commit_made : {D : Type 0} (old new : Running D) (made : Assembly) (round : Round) → Ended made.problem old new round → LegalRun new.bank new.plan (history new.marks)
+pub commit_made : {D : Type 0} (old new : Running D) (made : Assembly) (round : Round) → Ended made old new round → LegalRun new.bank new.plan (history new.marks)
     → Commits made (noted (opened_with old) old.marks) (noted (opened_with new) new.marks) round
-commit_made old new made round e run = goes_on old new e.adds (λ office S T. EndsRound office.bank office.plan made.problem S T round × EndsGood office.bank office.plan office.base S T) run (e.ends, e.good)
+commit_made old new made round e run = goes_on old new e.adds (λ office S T. EndsRound office.bank office.plan made.problem S T round × EndsGood office.bank office.plan office.base S T × AddsOnly (IsEntryOf made) T) run (e.ends, e.good, e.only)
 
 -- ---- where the session is
 pub placed_reply : {D : Type 0} (old new : Running D) (q : Request) (answer : Reply) → Led q old new answer → IsPlacedReply new.plan (history new.marks) answer

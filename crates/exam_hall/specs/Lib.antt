@@ -6,6 +6,7 @@ pub mod Sees
 pub mod Leading
 pub mod Rounds
 pub mod Prepared
+pub mod Used
 pub mod Lasting
 pub mod Turns
 pub mod Probes

@@ -1,8 +1,10 @@
 -- What was assembled ahead of an answer.
-use Rattle.std.specs.Prelude.{◌≡◌, ℕ, List, Some}
+use Rattle.std.specs.Prelude.{◌≡◌, ℕ, List, Option, Some, IfSome}
+use Rattle.bank_tables.specs.Items.{AreWords}
 use Rattle.bank_tables.specs.Tables.{Tables}
 use Rattle.form_model.specs.Plan.{Plan}
 use Rattle.constraint_model.specs.declared.problem.Problem.{Problem}
+use Rattle.constraint_model.specs.Views.{problem_of}
 use Rattle.history_model.specs.declared.entry.Entry.{Entry}
 use Rattle.branch_bound.specs.Assembled.{Assembly}
 use Rattle.exam_office.specs.Commits.{MayBeCommitted}
@@ -26,6 +28,17 @@ pub record IsSameProblem (P Q : Problem) : Type 0 where
   pub theta : P.theta ≡ Q.theta
   pub last : P.last ≡ Q.last
   pub start : P.start ≡ Q.start
+
+-- what was prepared is kept where it was made for this problem
+abbrev pub KeepsFor : Problem → Option Assembly → Option Assembly → Type 0
+KeepsFor P prepared kept = (made : Assembly) → prepared ≡ Some made
+    → problem_of made.problem ≡ problem_of P → kept ≡ Some made
+
+-- the sets of items of a problem are 8 words of 64 bits each
+pub record HasItemSets (P : Problem) : Type 0 where
+  pub given : AreWords P.given
+  pub barred : AreWords P.barred
+  pub start : IfSome P.start AreWords
 
 -- it was made for this problem, and may be committed after the history H
 pub record FitsFor (b : Tables) (plan : Plan) (base : List ℕ) (H : List Entry) (P : Problem)

@@ -8,6 +8,7 @@ use Rattle.turn_lock.specs.Passes.{Known}
 use Rattle.constraint_model.specs.declared.problem.Problem.{Problem}
 use Rattle.constraint_model.specs.Views.{problem_of}
 use Rattle.history_model.specs.declared.entry.Entry.{Entry}
+use Rattle.history_model.specs.declared.entry.Entry.TheVariants.{SetAside, Served}
 use Rattle.history_model.specs.declared.place.Place.{Place}
 use Rattle.history_model.specs.declared.place.Place.TheVariants.{Pending}
 use Rattle.history_model.specs.declared.refusal.Refusal.{Refusal}
@@ -16,7 +17,7 @@ use Rattle.history_model.specs.Places.{place}
 use Rattle.history_model.specs.SessionProblems.{IsProblemOf}
 use Rattle.branch_bound.specs.Assembled.{Assembly}
 use Rattle.branch_bound.specs.Assemblies.{IsFirmOutcome, IsNoWorseThan}
-use Rattle.exam_office.specs.Commits.{MayBeCommitted}
+use Rattle.exam_office.specs.Commits.{IsEntryFor, MayBeCommitted}
 use Rattle.exam_office.specs.declared.mark.Mark.{Mark}
 use Rattle.exam_office.specs.Marks.{history}
 use Rattle.exam_office.specs.Noting.{NotedMark, marks_of}
@@ -48,6 +49,21 @@ pub record IsCommittable (seen : List NotedMark) (made : Assembly) : Type 0 wher
   pub may : MayBeCommitted one.office.bank one.office.plan one.office.base
       (history (marks_of seen)) made
   pub good : IsGoodFor one.office.base made
+
+-- the entry is the one that is made of the outcome of what was assembled
+abbrev pub IsEntryOf : Assembly → Entry → Type 0
+IsEntryOf made entry =
+    IsEntryFor (problem_of made.problem) (length made.tree.nodes) made.outcome entry
+
+-- an item is served at this step, or eligibility is set aside there
+abbrev pub IsOfStep : ℕ → Entry → Type 0
+IsOfStep k (SetAside session step band cause nodes) = step ≡ k
+IsOfStep k (Served session step item form proved nodes) = step ≡ k
+IsOfStep k entry = ⊥
+
+-- the own entries among the marks T pass P
+abbrev pub AddsOnly : (Entry → Type 0) → List Mark → Type 0
+AddsOnly P T = (entry : Entry) → Contains (owns T) entry → P entry
 
 -- the session of the problem is at this place. At most its item was served; if it waits for an
 -- item, then that of another step
@@ -82,7 +98,7 @@ EndsGood b plan base S T = AreGoodAt b plan base S (places (length S - length T)
 abbrev pub Commits : Assembly → List NotedMark → List NotedMark → Round → Type 0
 Commits made before after round =
     GoesOn before after (λ office S T. EndsRound office.bank office.plan made.problem S T round
-    × EndsGood office.bank office.plan office.base S T)
+    × EndsGood office.bank office.plan office.base S T × AddsOnly (IsEntryOf made) T)
 
 -- one assembly with its commit, in at most one turn
 pub record Rounds (h : HallKnown) (P : Problem) (old new : Known Mark)
@@ -93,6 +109,7 @@ pub record Rounds (h : HallKnown) (P : Problem) (old new : Known Mark)
   pub few : length fronts ≤ 1
   pub legal : LegalRun h.bank h.plan (history new.seen)
   pub ends : EndsRound h.bank h.plan P new.seen (taken new.seen places) round
+  pub of_step : AddsOnly (IsOfStep P.step) (taken new.seen places)
   pub good : AreGoodAt h.bank h.plan h.base new.seen places
 
 -- the session is at this place; at most eligibility was set aside, and then an item served

@@ -6,6 +6,7 @@ use Rattle.form_model.specs.Plan.{Plan}
 use Rattle.exam_edge.specs.Lent.{IsLent}
 use Rattle.answer_journal.specs.Journal.{tells_of, faults_of, identity_of}
 use Rattle.constraint_model.specs.declared.problem.Problem.{Problem}
+use Rattle.branch_bound.specs.Assembled.{Assembly}
 use Rattle.history_model.specs.declared.entry.Entry.{Entry}
 use Rattle.history_model.specs.declared.request.Request.{Request}
 use Rattle.history_model.specs.declared.request.Reply.{Reply}
@@ -22,7 +23,7 @@ use Rattle.exam_office.specs.Marks.{history}
 use Rattle.exam_hall.specs.Known.{HallKnown}
 use Rattle.exam_hall.specs.Went.{Went, taken}
 use Rattle.exam_hall.specs.Leading.{Leads, IsAsked, IsNoWait, IsBegun}
-use Rattle.exam_hall.specs.Rounds.{EndsRound, EndsGood}
+use Rattle.exam_hall.specs.Rounds.{IsEntryOf, AddsOnly, EndsRound, EndsGood}
 use Rattle.exam_hall.specs.declared.committing.Round.{Round}
 use Rattle.exam_hall.specs.declared.committing.Round.TheVariants.{Placed, Again, Failed}
 use Rattle.exam_hall.specs.declared.asking.FirstAnswer.{FirstAnswer}
@@ -62,11 +63,12 @@ IsRoundAt b plan H P at (Again next) =
     IsAsked b plan H next × (next.session ≡ P.session) × (next.step ≡ P.step)
 IsRoundAt b plan H P at (Failed r) = ⊥
 
--- what was assembled for the problem was committed, where the session still waited for it
-pub record Ended {D : Type 0} (P : Problem) (old new : Running D) (round : Round) : Type 0 where
+-- what was assembled was committed, where the session still waited for it, and nothing else
+pub record Ended {D : Type 0} (made : Assembly) (old new : Running D) (round : Round) : Type 0 where
   pub adds : Adds old new
-  pub ends : EndsRound old.bank old.plan P new.marks adds.added round
+  pub ends : EndsRound old.bank old.plan made.problem new.marks adds.added round
   pub good : EndsGood old.bank old.plan old.base new.marks adds.added
+  pub only : AddsOnly (IsEntryOf made) adds.added
 
 -- what the first turn of a request does to a pass
 pub record HasBegun (h : HallKnown) (old new : Known Mark) (q : Request)

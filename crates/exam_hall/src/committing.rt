@@ -59,7 +59,7 @@ fn commit_to<'a, D: Disk>(
     requires may { MayBeCommitted office.old.bank office.old.plan office.old.base
         (history office.old.marks) assembled.now }
     requires good { IsGoodFor office.old.base assembled.now }
-    ensures { Ended assembled.now.problem office.old office.new result }
+    ensures { Ended assembled.now office.old office.new result }
 {
     office.keeps();
     let found = office.commit(alloc, assembled);

@@ -22,8 +22,9 @@ ghost use Rattle.exam_office.specs.Warm.{FitsPlan};
 ghost use Rattle.exam_hall.specs.Leading.{IsAsked, IsWitnessFor};
 ghost use Rattle.exam_hall.specs.Foreseeing.{Foresees};
 ghost use Rattle.exam_hall.specs.Known.{HasGrown, IsOf, IsOfficeOf, marked};
-ghost use Rattle.exam_hall.specs.Prepared.{IsPrepared, FitsFor};
-ghost use Rattle.exam_hall.specs.Rounds.{IsGoodFor, Rounds, Assembles};
+ghost use Rattle.exam_hall.specs.Prepared.{IsPrepared, FitsFor, KeepsFor};
+ghost use Rattle.exam_hall.specs.Rounds.{IsGoodFor, IsEntryOf, IsOfStep, Rounds, Assembles};
+ghost use Rattle.exam_hall.specs.Used.{AddsOwn, Uses, UsesFirst};
 ghost use Rattle.exam_hall.specs.Probes.{Probes, Watches};
 ghost use Rattle.exam_hall.specs.Sees.{Sees};
 ghost use Rattle.exam_hall.specs.Turns.{HasBegun};
@@ -175,6 +176,8 @@ impl<'a, D: Disk> Hall<'a, D> {
     /// first turn finds, it is committed in place of the first assembly; else it is dropped. So a
     /// result for another response, for a step that is over or for a session that was closed
     /// meanwhile is not used.
+    /// Where a form is ready for the answer, an item that is served at the next step is one of that form, unless another
+    /// caller set eligibility aside for the session meanwhile.
     pub fn handle_prepared<G: Gate, R: Wait>(
         &self,
         rt: &R,
@@ -189,6 +192,8 @@ impl<'a, D: Disk> Hall<'a, D> {
         ensures sees { Sees self.now (marked pass.old) (marked pass.new) request.now result }
         ensures of { IsOf pass.new self.now }
         ensures grown { HasGrown pass.old pass.new }
+        ensures used { IfSome prepared.entry (Uses self.now (marked pass.old) (marked pass.new)
+            request.now) }
         ensures reply { IsReply result }
     {
         let witness = self.seek(alloc, gate, pass.number(), request);
@@ -354,9 +359,10 @@ impl<'a, D: Disk> Hall<'a, D> {
         problem: &Problem<'a>,
     ) -> Option<Assembled<'a>>
         requires { IfSome prepared (IsPrepared self.now.bank self.now.plan self.now.base) }
-        ensures { IfSome result (λ a. (H : List Entry) → LegalRun self.now.bank self.now.plan H
+        ensures fits { IfSome result (λ a. (H : List Entry) → LegalRun self.now.bank self.now.plan H
             → IsAsked self.now.bank self.now.plan H problem.now
             → FitsFor self.now.bank self.now.plan self.now.base H problem.now a) }
+        ensures keeps { KeepsFor problem.now prepared.entry result }
     {
         let _ = self.bank.items();
         made_for(prepared, problem)
@@ -385,6 +391,9 @@ impl<'a, D: Disk> Hall<'a, D> {
         ensures grown { HasGrown pass.old pass.new }
         ensures assembles { Assembles self.now problem.now.session (marked pass.old)
             (marked pass.new) result }
+        ensures of_step { AddsOwn (IsOfStep problem.now.step) (marked pass.old) (marked pass.new) }
+        ensures used { IfSome prepared.entry (UsesFirst problem.now.session (marked pass.old)
+            (marked pass.new)) }
     {
         match self.serve_first(rt, alloc, gate, pass, problem, warm, prepared) {
             Round::Placed(place) => Ok(place),
@@ -418,6 +427,8 @@ impl<'a, D: Disk> Hall<'a, D> {
         ensures of { IsOf pass.new self.now }
         ensures grown { HasGrown pass.old pass.new }
         ensures rounds { Rounds self.now problem.now (marked pass.old) (marked pass.new) result }
+        ensures used { IfSome prepared.entry (λ a. AddsOwn (IsEntryOf a) (marked pass.old)
+            (marked pass.new)) }
     {
         match prepared {
             Some(assembled) => self.commit(rt, alloc, pass, assembled),
@@ -497,6 +508,7 @@ impl<'a, D: Disk> Hall<'a, D> {
         ensures grown { HasGrown pass.old pass.new }
         ensures rounds { Rounds self.now assembled.entry.problem (marked pass.old) (marked pass.new)
             result }
+        ensures only { AddsOwn (IsEntryOf assembled.entry) (marked pass.old) (marked pass.new) }
     {
         let mut step = Commit { alloc, assembled };
         self.turn.turn(rt, pass, &mut step)

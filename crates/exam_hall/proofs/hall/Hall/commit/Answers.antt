@@ -1,5 +1,5 @@
 use Rattle.exam_hall.proofs.Passes.{of_turned, grown_once}
-use Rattle.exam_hall.proofs.Served.{rounds_turn}
+use Rattle.exam_hall.proofs.Served.{rounds_turn, only_turn}
 use Rattle.exam_hall.proofs.hall.Hall.commit.Goals as goal
 
 pub returns-clause-of : goal.returns-clause-of
@@ -10,7 +10,12 @@ returns-clause-of g c =
 pub returns-clause-rounds : goal.returns-clause-rounds
 returns-clause-rounds g c =
     let t = c.turn.ensures.turn in
-    rounds_turn c.args.self.now c.args.pass.now c.turn.new.pass t.0 t.1 c.requires.of c.args.assembled.problem c.turn.result t.2
+    rounds_turn c.args.self.now c.args.pass.now c.turn.new.pass t.0 t.1 c.requires.of c.args.assembled c.turn.result t.2
+
+pub returns-clause-only : goal.returns-clause-only
+returns-clause-only g c =
+    let t = c.turn.ensures.turn in
+    only_turn c.args.self.now c.args.pass.now c.turn.new.pass t.0 t.1 c.requires.of c.args.assembled c.turn.result t.2
 
 pub returns-clause-grown : goal.returns-clause-grown
 returns-clause-grown g c =

@@ -8,8 +8,8 @@ use Rattle.exam_hall.specs.Prepared.{IsPrepared, FitsFor}
 use Rattle.exam_hall.proofs.Fitting.{fitting_so}
 use Rattle.exam_hall.proofs.hall.Hall.fitting.Goals as goal
 
-pub returns : goal.returns
-returns g c =
+pub returns-clause-fits : goal.returns-clause-fits
+returns-clause-fits g c =
     let o = c.self.inside in
     let P = c.args.problem.now in
     let e = c.made_for.ensures in

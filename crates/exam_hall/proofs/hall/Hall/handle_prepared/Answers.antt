@@ -6,6 +6,7 @@ use Rattle.exam_hall.specs.Known.{marked}
 use Rattle.exam_hall.proofs.Passes.{grown_through}
 use Rattle.exam_hall.proofs.Fitting.{fits_now}
 use Rattle.exam_hall.proofs.Seen.{sees_done, sees_served, sees_failed, reply_is}
+use Rattle.exam_hall.proofs.Used.{uses_done, uses_served}
 use Rattle.exam_hall.proofs.hall.Hall.handle_prepared.Goals as goal
 
 pub returns-in-Done-clause-sees : goal.returns-in-Done-clause-sees
@@ -41,4 +42,21 @@ returns-clause-grown g c =
 pub assemble_twice-requires-clause-prepared : goal.assemble_twice-requires-clause-prepared
 assemble_twice-requires-clause-prepared g c =
     let begun = c.in-Waits.ensures.begun in
-    fits_now c.args.self.now c.in-Waits.problem (history (marked c.begin.new.pass).seen) c.fitting-fitting.result begun.legal begun.begins.1 c.fitting-fitting.ensures
+    fits_now c.args.self.now c.in-Waits.problem (history (marked c.begin.new.pass).seen) c.fitting-fitting.result begun.legal begun.begins.1 c.fitting-fitting.ensures.fits
+
+pub returns-in-Done-clause-used : goal.returns-in-Done-clause-used
+returns-in-Done-clause-used g c = uses_done c.args.self.now (marked c.args.pass.now) (marked c.begin.new.pass) c.in-Done.reply c.args.prepared c.args.request.now c.in-Done.ensures.begun
+
+pub returns-in-Ok-clause-used : goal.returns-in-Ok-clause-used
+returns-in-Ok-clause-used g c =
+    let e = c.in-Ok.ensures in
+    let a = e.assembles in
+    uses_served c.args.self.now (marked c.args.pass.now) (marked c.begin.new.pass) (marked c.assemble_twice.new.pass) c.in-Waits.fresh c.in-Waits.problem c.in-Waits.warm a.fronts a.places a.went e.of_step
+    c.fitting-fitting.result e.used c.args.prepared c.args.request.now c.in-Waits.ensures.begun c.fitting-fitting.ensures.keeps
+
+pub returns-clause-used : goal.returns-clause-used
+returns-clause-used g c =
+    let e = c.in-Err.ensures in
+    let a = e.assembles in
+    uses_served c.args.self.now (marked c.args.pass.now) (marked c.begin.new.pass) (marked c.assemble_twice.new.pass) c.in-Waits.fresh c.in-Waits.problem c.in-Waits.warm a.fronts a.places a.went e.of_step
+    c.fitting-fitting.result e.used c.args.prepared c.args.request.now c.in-Waits.ensures.begun c.fitting-fitting.ensures.keeps
