@@ -1,7 +1,9 @@
 //! Why a command ended before its work was done, in words for an operator. Standard output has one short line by a fixed
-//! format; these words are for standard error, and have each value that the fault has.
+//! format; these words are for standard error. They name the rule that is broken, with its values. Left out are the place of a
+//! record, which `place_of` gives, whether the form of an item that waits is proved best, and what is wrong with a proof tree
+//! that does not show what its record has.
 
-ghost use Rattle.std.specs.Prelude.{◌≡◌, IfOk, string_bytes};
+ghost use Rattle.std.specs.Prelude.{◌≡◌, ◌++◌, IfOk, codes, string_bytes};
 ghost use Rattle.std.specs.Option.{option_map};
 ghost use Rattle.exam_program.specs.Reasons.{place_words, breach_words, illegal_words, tree_words, record_words, file_words, fault_words, place_of, halt_words};
 
@@ -49,6 +51,26 @@ fn breach_words(alloc: Global, breach: Breach) -> Result<String, AllocError>
     }
 }
 
+/// Some words, and the place of a session after them.
+#[tactic(auto, unfolding(crate::specs::Reasons::place_words))]
+fn with_place(alloc: Global, words: &str, place: Place) -> Result<String, AllocError>
+    ensures { IfOk result
+        (λ text. string_bytes text ≡ words.now ++ (codes ": " ++ place_words place)) }
+{
+    let place = place_words(alloc, place)?;
+    format!(in alloc; "{words}: {place}")
+}
+
+/// Some words, and why a set of items is no form after them.
+#[tactic(auto, unfolding(crate::specs::Reasons::breach_words))]
+fn with_breach(alloc: Global, words: &str, breach: Breach) -> Result<String, AllocError>
+    ensures { IfOk result
+        (λ text. string_bytes text ≡ words.now ++ (codes ": " ++ breach_words breach)) }
+{
+    let breach = breach_words(alloc, breach)?;
+    format!(in alloc; "{words}: {breach}")
+}
+
 /// Why a record may not follow those before it.
 #[tactic(auto, unfolding(crate::specs::Reasons::illegal_words))]
 fn illegal_words(alloc: Global, reason: Illegal) -> Result<String, AllocError>
@@ -65,27 +87,22 @@ fn illegal_words(alloc: Global, reason: Illegal) -> Result<String, AllocError>
         Illegal::NoItem(count) => format!(in alloc;
             "its list is empty, or has an item that is not one of the bank's {count}"
         ),
-        Illegal::NotWithout(why) => {
-            let why = breach_words(alloc, why)?;
-            format!(in alloc; "its items are no form without those of the list: {why}")
-        }
+        Illegal::NotWithout(why) => with_breach(
+            alloc,
+            "its items are no form without those of the list",
+            why,
+        ),
         Illegal::NoSession(count) => format!(in alloc;
             "there is no such session: the number of sessions is {count}"
         ),
-        Illegal::NotPending(at) => {
-            let at = place_words(alloc, at)?;
-            format!(in alloc; "no item is to be served at this step: {at}")
-        }
+        Illegal::NotPending(at) => with_place(alloc, "no item is to be served at this step", at),
         Illegal::IsAside => String::from_str(
             alloc,
             "eligibility was set aside before in the band of the estimate",
         ),
         Illegal::NotStep(step) => format!(in alloc; "the session is at step {step}"),
         Illegal::NotBand(band) => format!(in alloc; "the estimate is in band {band}"),
-        Illegal::NotForm(why) => {
-            let why = breach_words(alloc, why)?;
-            format!(in alloc; "its items are no form: {why}")
-        }
+        Illegal::NotForm(why) => with_breach(alloc, "its items are no form", why),
         Illegal::NotItem(item) => format!(in alloc; "the next item of the form is {item}"),
         // Of a file the next two come as a tree at fault, without their values.
         Illegal::NotSpent(nodes) => format!(in alloc;
@@ -95,17 +112,11 @@ fn illegal_words(alloc: Global, reason: Illegal) -> Result<String, AllocError>
             alloc,
             "its proof tree does not show what the record has",
         ),
-        Illegal::NotWaiting(at) => {
-            let at = place_words(alloc, at)?;
-            format!(in alloc; "no answer is awaited at this step: {at}")
-        }
+        Illegal::NotWaiting(at) => with_place(alloc, "no answer is awaited at this step", at),
         Illegal::BadResponse(categories) => format!(in alloc;
             "its response is not one of the item's {categories} categories"
         ),
-        Illegal::Ended(at) => {
-            let at = place_words(alloc, at)?;
-            format!(in alloc; "the session ended before: {at}")
-        }
+        Illegal::Ended(at) => with_place(alloc, "the session ended before", at),
     }
 }
 
