@@ -150,6 +150,13 @@ impl<'a, D: Disk> Hall<'a, D> {
         turn.close(rt, pass)
     }
 
+    /// The base form. It takes no memory.
+    pub fn base(&self) -> ItemSet
+        ensures { result ≡ self.now.base }
+    {
+        self.base
+    }
+
     /// Answers a request, in one turn, and two more at most. Where its session waits for an item, a form is assembled
     /// between two turns, and the gate is passed before and after that. If the session moved on meanwhile, its place
     /// is the reply; if it still waits at the same step, there is one assembly more. Before the first turn of a

@@ -18,4 +18,5 @@ pub use crate::asking::FirstAnswer;
 pub use crate::caller::Caller;
 pub use crate::committing::Round;
 pub use crate::hall::Hall;
+pub use crate::prepared::is_same;
 pub use crate::preparing::Ahead;

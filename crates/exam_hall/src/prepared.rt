@@ -34,7 +34,7 @@ fn has_item_sets(problem: &Problem)
 }
 
 /// Whether two problems of one bank and plan are the same.
-fn is_same(made: &Problem, asked: &Problem) -> bool
+pub fn is_same(made: &Problem, asked: &Problem) -> bool
     ensures { IsTrue result ↔ IsSameProblem made.now asked.now }
 {
     made.session == asked.session
