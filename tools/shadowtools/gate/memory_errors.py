@@ -36,7 +36,7 @@ VARIANTS = {"Memory", "OutOfMemory"}
 STATUS = "NO_MEMORY"
 
 # Calls of the libraries of which the only error is an allocation's, as far as their error is dropped here. `?` needs no entry.
-LIBRARY = {"extend_from_slice", "Vec::with_capacity", "Table::new", "vec!"}
+LIBRARY = {"extend_from_slice", "Vec::with_capacity", "Table::new", "vec!", "LruCache::sparse", "collect"}
 
 # Calls that give the value back that they were given, and only where there is no memory.
 HANDED_BACK = {"Turn::new", "Hall::new"}

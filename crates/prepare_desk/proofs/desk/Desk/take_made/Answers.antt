@@ -1,0 +1,27 @@
+use Rattle.std.proofs.Common.{IfSome, Contains, Option, sym, subst}
+use Rattle.lru.specs.LruCache.{LruCache}
+use Rattle.branch_bound.specs.Assembled.{Assembly}
+use Rattle.exam_hall.specs.Prepared.{IsPrepared}
+use Rattle.prepare_desk.specs.Desks.{DeskKnown, IsReadyFor}
+use Rattle.prepare_desk.specs.declared.key.Key.{Key}
+use Rattle.prepare_desk.specs.declared.desk.Ready.{Ready}
+use Rattle.prepare_desk.proofs.Staying.{found_ready, left_ready}
+use Rattle.prepare_desk.proofs.desk.Desk.take_made.Goals as goal
+use Rattle.prepare_desk.proofs.desk.Desk.take_made.Goals.{in-Some-Made, in-Some-SameAs, in-None}
+
+pub invariant_of-self : goal.invariant_of-self
+invariant_of-self c = λ r there.
+    left_ready c.self.inside.purpose _ c.self.inside.results.entries c.self.invariant r
+    (subst (λ (x : LruCache Key Ready). Contains x.entries r) c.pop.ensures.entries there)
+
+pub returns-clause-prepared : goal.returns-clause-prepared
+returns-clause-prepared c =
+    let Prepared : Option Assembly → Type 0 = λ o. IfSome o (IsPrepared c.args.self.now.purpose.bank c.args.self.now.purpose.plan c.args.self.now.purpose.base) in
+    elim c.match-pop.branch [
+      | in-Some-Made w ↦ subst Prepared (sym w.result-is)
+          (subst (λ (d : DeskKnown). IsPrepared d.purpose.bank d.purpose.plan d.purpose.base w.in-Some-Made.made) c.self.view_is
+          (subst (λ (x : Ready). IsReadyFor c.self.inside.purpose x) w.in-Some-Made.field-0-is
+          (found_ready c.self.inside.purpose _ c.self.inside.results.entries c.self.invariant w.in-Some-Made.field-0 (sym w.in-Some-Made.ensures.value))))
+      | in-Some-SameAs w ↦ subst Prepared (sym w.result-is) tt
+      | in-None w ↦ subst Prepared (sym w.result-is) tt
+    ]
