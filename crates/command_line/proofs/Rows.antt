@@ -1,7 +1,7 @@
 -- The definition, computed on command lines.
 use Rattle.std.proofs.Common.{◌≡◌, ℕ, List, [], ◌∷◌, Some, None, refl, codes}
 use Rattle.exam_text.specs.Numbers.{number_of}
-use Rattle.command_line.specs.Commands.{Check, Assemble, Replay, Serve, Audit, Drill, Migrate, Series, Follow, Ship, command_of, table, of_two, drill_of, series_of}
+use Rattle.command_line.specs.Commands.{Check, Assemble, Replay, Serve, Audit, Drill, Migrate, Series, Follow, Ship, command_of, table, of_two, drill_of, series_of, server_of, of_three}
 use Rattle.command_line.specs.Weights.{weights_of}
 
 -- ---- the words of the table
@@ -14,12 +14,20 @@ unfolding command_of table of_two
 an_assembly = refl
 
 a_replay : command_of (codes "replay" ∷ codes "b" ∷ codes "p" ∷ codes "s" ∷ []) ≡ Some (Replay (codes "b") (codes "p") (codes "s"))
-unfolding command_of table
+unfolding command_of table of_three
 a_replay = refl
 
-a_server : command_of (codes "serve" ∷ codes "b" ∷ codes "p" ∷ []) ≡ Some (Serve (codes "b") (codes "p"))
+a_server : command_of (codes "serve" ∷ codes "b" ∷ codes "p" ∷ []) ≡ Some (Serve (codes "b") (codes "p") None)
 unfolding command_of table of_two
 a_server = refl
+
+a_server_with_room : command_of (codes "serve" ∷ codes "b" ∷ codes "p" ∷ codes "256" ∷ []) ≡ Some (Serve (codes "b") (codes "p") (Some 256))
+unfolding command_of table of_three server_of number_of
+a_server_with_room = refl
+
+the_most_room : command_of (codes "serve" ∷ codes "b" ∷ codes "p" ∷ codes "1024" ∷ []) ≡ Some (Serve (codes "b") (codes "p") (Some 1024))
+unfolding command_of table of_three server_of number_of
+the_most_room = refl
 
 an_audit : command_of (codes "audit" ∷ codes "b" ∷ codes "p" ∷ []) ≡ Some (Audit (codes "b") (codes "p"))
 unfolding command_of table of_two
@@ -71,7 +79,7 @@ unfolding command_of table of_two
 too_few = refl
 
 too_many : command_of (codes "check" ∷ codes "b" ∷ codes "p" ∷ codes "s" ∷ []) ≡ None
-unfolding command_of table
+unfolding command_of table of_three
 too_many = refl
 
 an_empty_word : command_of (codes "check" ∷ [] ∷ codes "p" ∷ []) ≡ None
@@ -105,6 +113,22 @@ a_leading_zero = refl
 a_sign : NoDrill (codes "+7" ∷ codes "2" ∷ [])
 unfolding command_of table of_two drill_of number_of
 a_sign = refl
+
+-- ---- servers with no room, with too much, and with no number
+abbrev NoServer : List ℕ → Type 0
+NoServer ahead = command_of (codes "serve" ∷ codes "b" ∷ codes "p" ∷ ahead ∷ []) ≡ None
+
+no_room : NoServer (codes "0")
+unfolding command_of table of_three server_of number_of
+no_room = refl
+
+too_much_room : NoServer (codes "1025")
+unfolding command_of table of_three server_of number_of
+too_much_room = refl
+
+room_of_no_number : NoServer (codes "many")
+unfolding command_of table of_three server_of number_of
+room_of_no_number = refl
 
 -- ---- series of no number of forms, and words that are no weights
 abbrev NoSeries : List ℕ → List ℕ → Type 0

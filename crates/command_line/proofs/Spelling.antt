@@ -9,7 +9,7 @@ use Rattle.std.proofs.lemmas.Fmt.{decimal_nonempty, first_decimal, decimal_digit
 use Rattle.std.proofs.lemmas.Slice.Eq.{bytes_eq-Decides}
 use Rattle.exam_text.specs.Numbers.{number_of}
 use Rattle.exam_text.proofs.Numerals.{number_is, number_again}
-use Rattle.command_line.specs.Commands.{Command, Check, Assemble, Replay, Serve, Audit, Drill, Migrate, Series, Follow, Ship, IsCommand, is_no_name, sessions_of, drill_of, forms_of, series_of, of_two, table, command_of, words_of}
+use Rattle.command_line.specs.Commands.{Command, Check, Assemble, Replay, Serve, Audit, Drill, Migrate, Series, Follow, Ship, IsCommand, is_no_name, sessions_of, drill_of, forms_of, series_of, room_of, server_of, of_two, of_three, table, command_of, words_of}
 use Rattle.command_line.specs.Weights.{is_weight, are_weights}
 
 -- ---- the words of a command ask for it
@@ -52,6 +52,16 @@ series_again bank plan k weights some few are =
     ap (option_and_then (λ (n : ℕ). cond (are_weights weights) (Some (Series bank plan n weights)) None)) (some_forms k some few)
     ∙ ap (λ (b : Bool). cond b (Some (Series bank plan k weights)) None) are
 
+-- the room of a server
+some_room : (n : ℕ) → 0 < n → n ≤ 1024 → room_of (decimal n) ≡ Some n
+some_room n some few =
+    ap (option_and_then (λ (k : ℕ). cond (eqb k 0) None (Some k))) (number_again 1024 n (omega arith) few)
+    ∙ ap (λ (b : Bool). cond b None (Some n)) (ne_eqb n 0 (λ e. omega (arith, some, e)))
+
+server_again : (bank plan : List ℕ) (n : ℕ) → 0 < n → n ≤ 1024 → server_of bank plan (decimal n) ≡ Some (Serve bank plan (Some n))
+unfolding server_of
+server_again bank plan n some few = ap (option_map (λ (k : ℕ). Serve bank plan (Some k))) (some_room n some few)
+
 -- weights begin with a digit
 no_hyphen : (parts : List (List ℕ)) → list_all is_weight (onto_first 45 parts) ≡ true → ⊥
 unfolding number_of
@@ -67,10 +77,14 @@ weights_named (b ∷ bs) are =
     (ne_eqb b 45 (λ e. no_hyphen parts (subst (λ (n : ℕ). list_all is_weight (cond (eqb n 44) ([] ∷ parts) (onto_first n parts)) ≡ true) e are)))
 
 pub answered : (c : Command) → IsCommand c → command_of (words_of c) ≡ Some c
-unfolding table of_two
+unfolding table of_two of_three
 answered (Check bank plan) h = named (words_of (Check bank plan)) (Check bank plan) (two_names bank plan h.0 h.1) refl
 answered (Assemble bank plan) h = named (words_of (Assemble bank plan)) (Assemble bank plan) (two_names bank plan h.0 h.1) refl
-answered (Serve bank plan) h = named (words_of (Serve bank plan)) (Serve bank plan) (two_names bank plan h.0 h.1) refl
+answered (Serve bank plan None) h = named (words_of (Serve bank plan None)) (Serve bank plan None) (two_names bank plan h.0 h.1) refl
+answered (Serve bank plan (Some n)) h =
+    named (words_of (Serve bank plan (Some n))) (Serve bank plan (Some n))
+    (or_from (is_no_name bank) _ h.0 (two_names plan (decimal n) h.1 (number_named n (omega (arith, h.3)))))
+    (server_again bank plan n h.2 h.3)
 answered (Audit bank plan) h = named (words_of (Audit bank plan)) (Audit bank plan) (two_names bank plan h.0 h.1) refl
 answered (Migrate bank plan) h = named (words_of (Migrate bank plan)) (Migrate bank plan) (two_names bank plan h.0 h.1) refl
 answered (Follow bank plan) h = named (words_of (Follow bank plan)) (Follow bank plan) (two_names bank plan h.0 h.1) refl
@@ -135,7 +149,7 @@ two_asked word first second c a b e =
     let front = λ (w : List ℕ). w ∷ first ∷ second ∷ [] in
     either (P c) c (bytes_eq word (codes "check")) _ _ e (λ h f. at P (Check first second) c f ((a, b), ap front (same_word word (codes "check") h)))
     (λ _ e1. either (P c) c (bytes_eq word (codes "assemble")) _ _ e1 (λ h f. at P (Assemble first second) c f ((a, b), ap front (same_word word (codes "assemble") h)))
-    (λ _ e2. either (P c) c (bytes_eq word (codes "serve")) _ _ e2 (λ h f. at P (Serve first second) c f ((a, b), ap front (same_word word (codes "serve") h)))
+    (λ _ e2. either (P c) c (bytes_eq word (codes "serve")) _ _ e2 (λ h f. at P (Serve first second None) c f ((a, b), ap front (same_word word (codes "serve") h)))
     (λ _ e3. either (P c) c (bytes_eq word (codes "audit")) _ _ e3 (λ h f. at P (Audit first second) c f ((a, b), ap front (same_word word (codes "audit") h)))
     (λ _ e4. either (P c) c (bytes_eq word (codes "drill")) _ _ e4
     (λ h f. (let d = drill_asked first second c f in (d.0, ap front (same_word word (codes "drill") h) ∙ d.1)))
@@ -143,6 +157,25 @@ two_asked word first second c a b e =
     (λ _ e6. either (P c) c (bytes_eq word (codes "follow")) _ _ e6 (λ h f. at P (Follow first second) c f ((a, b), ap front (same_word word (codes "follow") h)))
     (λ _ e7. either (P c) c (bytes_eq word (codes "ship")) _ _ e7 (λ h f. at P (Ship first second) c f ((a, b), ap front (same_word word (codes "ship") h)))
     (λ _ e8. absurd (none_is c e8)))))))))
+
+-- the words of a server that prepares forms
+server_is : (o : Option ℕ) (bank plan : List ℕ) (c : Command)
+    → option_map (λ n. Serve bank plan (Some n)) (option_and_then (λ n. cond (eqb n 0) None (Some n)) o) ≡ Some c
+    → (n : ℕ) × (o ≡ Some n) × (0 < n) × (Serve bank plan (Some n) ≡ c)
+server_is None bank plan c e = absurd cc
+server_is (Some zero) bank plan c e = absurd cc
+server_is (Some (suc n)) bank plan c e =
+    let f : Some (Serve bank plan (Some (suc n))) ≡ Some c = rw (ne_eqb (suc n) 0 (λ h. omega (arith, h))) at e in
+    (suc n, refl, omega arith, cc)
+
+server_asked : (bank plan ahead : List ℕ) (c : Command) → is_no_name bank ≡ false → is_no_name plan ≡ false
+    → server_of bank plan ahead ≡ Some c → IsAsked (codes "serve" ∷ bank ∷ plan ∷ ahead ∷ []) c
+unfolding server_of
+server_asked bank plan ahead c a b e =
+    let (n, number, some, is) = server_is (number_of 1024 ahead) bank plan c e in
+    let n_is = number_is 1024 ahead n (omega arith) number in
+    subst (IsAsked (codes "serve" ∷ bank ∷ plan ∷ ahead ∷ [])) is
+    ((a, b, some, n_is.0), ap (λ (w : List ℕ). codes "serve" ∷ bank ∷ plan ∷ w ∷ []) n_is.1)
 
 -- the words of a series
 series_is : (o : Option ℕ) (bank plan weights : List ℕ) (are : Bool) (c : Command)
@@ -163,6 +196,18 @@ series_asked bank plan forms weights c a b e =
     subst (IsAsked (codes "series" ∷ bank ∷ plan ∷ forms ∷ weights ∷ [])) is
     ((a, b, some, k_is.0, are), ap (λ (w : List ℕ). codes "series" ∷ bank ∷ plan ∷ w ∷ weights ∷ []) k_is.1)
 
+three_asked : (word x y z : List ℕ) (c : Command) → is_no_name x ≡ false → is_no_name y ≡ false → is_no_name z ≡ false
+    → of_three word x y z ≡ Some c → IsAsked (word ∷ x ∷ y ∷ z ∷ []) c
+unfolding of_three
+three_asked word x y z c p q r e =
+    let P = IsAsked (word ∷ x ∷ y ∷ z ∷ []) in
+    let front = λ (w : List ℕ). w ∷ x ∷ y ∷ z ∷ [] in
+    either (P c) c (bytes_eq word (codes "replay")) _ _ e
+    (λ t f. at P (Replay x y z) c f ((p, q, r), ap front (same_word word (codes "replay") t)))
+    (λ _ g. either (P c) c (bytes_eq word (codes "serve")) _ _ g
+    (λ t f. (let is = server_asked x y z c p q f in (is.0, ap front (same_word word (codes "serve") t) ∙ is.1)))
+    (λ _ k. absurd (none_is c k)))
+
 table_asked : (words : List (List ℕ)) (c : Command) → list_any is_no_name words ≡ false → table words ≡ Some c → IsAsked words c
 unfolding table
 table_asked [] c h e = absurd (none_is c e)
@@ -178,10 +223,7 @@ table_asked (word ∷ x ∷ y ∷ z ∷ []) c h e =
     let q = or_parts (is_no_name x) _ p.1 in
     let r = or_parts (is_no_name y) _ q.1 in
     let s = or_parts (is_no_name z) _ r.1 in
-    let P = IsAsked (word ∷ x ∷ y ∷ z ∷ []) in
-    either (P c) c (bytes_eq word (codes "replay")) _ _ e
-    (λ t f. at P (Replay x y z) c f ((q.0, r.0, s.0), ap (λ (w : List ℕ). w ∷ x ∷ y ∷ z ∷ []) (same_word word (codes "replay") t)))
-    (λ _ g. absurd (none_is c g))
+    three_asked word x y z c q.0 r.0 s.0 e
 table_asked (word ∷ x ∷ y ∷ z ∷ u ∷ []) c h e =
     let p = or_parts (is_no_name word) _ h in
     let q = or_parts (is_no_name x) _ p.1 in

@@ -13,7 +13,7 @@ pub data Command : Type 0 where
   Check : (bank plan : List ℕ) → Command
   Assemble : (bank plan : List ℕ) → Command
   Replay : (bank plan script : List ℕ) → Command
-  Serve : (bank plan : List ℕ) → Command
+  Serve : (bank plan : List ℕ) (ahead : Option ℕ) → Command
   Audit : (bank plan : List ℕ) → Command
   Drill : (number sessions : ℕ) → Command
   Migrate : (bank plan : List ℕ) → Command
@@ -45,12 +45,20 @@ series_of bank plan forms weights =
     option_and_then (λ k. if are_weights weights then Some (Series bank plan k weights) else None)
     (forms_of forms)
 
+-- how many prepared forms a server keeps: 1 to 1,024
+abbrev pub room_of : List ℕ → Option ℕ
+room_of word = option_and_then (λ n. if (n == 0) then None else Some n) (number_of 1024 word)
+
+-- a server that prepares forms, where its word is a number of them
+unfoldable pub server_of : List ℕ → List ℕ → List ℕ → Option Command
+server_of bank plan ahead = option_map (λ n. Serve bank plan (Some n)) (room_of ahead)
+
 -- the commands of a word and two more words
 unfoldable pub of_two : List ℕ → List ℕ → List ℕ → Option Command
 of_two word first second =
     if bytes_eq word (codes "check") then Some (Check first second)
     else (if bytes_eq word (codes "assemble") then Some (Assemble first second)
-    else (if bytes_eq word (codes "serve") then Some (Serve first second)
+    else (if bytes_eq word (codes "serve") then Some (Serve first second None)
     else (if bytes_eq word (codes "audit") then Some (Audit first second)
     else (if bytes_eq word (codes "drill") then drill_of first second
     else (if bytes_eq word (codes "migrate") then Some (Migrate first second)
@@ -58,11 +66,16 @@ of_two word first second =
     else (if bytes_eq word (codes "ship") then Some (Ship first second)
     else None)))))))
 
+-- the commands of a word and three more words
+unfoldable pub of_three : List ℕ → List ℕ → List ℕ → List ℕ → Option Command
+of_three word bank plan last =
+    if bytes_eq word (codes "replay") then Some (Replay bank plan last)
+    else (if bytes_eq word (codes "serve") then server_of bank plan last else None)
+
 -- the commands that there are, by their words
 unfoldable pub table : List (List ℕ) → Option Command
 table (word ∷ first ∷ second ∷ []) = of_two word first second
-table (word ∷ bank ∷ plan ∷ script ∷ []) =
-    if bytes_eq word (codes "replay") then Some (Replay bank plan script) else None
+table (word ∷ bank ∷ plan ∷ last ∷ []) = of_three word bank plan last
 table (word ∷ bank ∷ plan ∷ forms ∷ weights ∷ []) =
     if bytes_eq word (codes "series") then series_of bank plan forms weights else None
 table words = None
@@ -76,7 +89,7 @@ abbrev pub said : Asked → Command
 said (AskedCheck bank plan) = Check bank.now plan.now
 said (AskedAssemble bank plan) = Assemble bank.now plan.now
 said (AskedReplay bank plan script) = Replay bank.now plan.now script.now
-said (AskedServe bank plan) = Serve bank.now plan.now
+said (AskedServe bank plan ahead) = Serve bank.now plan.now ahead
 said (AskedAudit bank plan) = Audit bank.now plan.now
 said (AskedDrill number sessions) = Drill number sessions
 said (AskedMigrate bank plan) = Migrate bank.now plan.now
@@ -89,7 +102,8 @@ abbrev pub words_of : Command → List (List ℕ)
 words_of (Check bank plan) = codes "check" ∷ bank ∷ plan ∷ []
 words_of (Assemble bank plan) = codes "assemble" ∷ bank ∷ plan ∷ []
 words_of (Replay bank plan script) = codes "replay" ∷ bank ∷ plan ∷ script ∷ []
-words_of (Serve bank plan) = codes "serve" ∷ bank ∷ plan ∷ []
+words_of (Serve bank plan None) = codes "serve" ∷ bank ∷ plan ∷ []
+words_of (Serve bank plan (Some ahead)) = codes "serve" ∷ bank ∷ plan ∷ decimal ahead ∷ []
 words_of (Audit bank plan) = codes "audit" ∷ bank ∷ plan ∷ []
 words_of (Drill number sessions) = codes "drill" ∷ decimal number ∷ decimal sessions ∷ []
 words_of (Migrate bank plan) = codes "migrate" ∷ bank ∷ plan ∷ []
@@ -104,7 +118,9 @@ IsCommand (Check bank plan) = IsFalse (is_no_name bank) × IsFalse (is_no_name p
 IsCommand (Assemble bank plan) = IsFalse (is_no_name bank) × IsFalse (is_no_name plan)
 IsCommand (Replay bank plan script) =
     IsFalse (is_no_name bank) × IsFalse (is_no_name plan) × IsFalse (is_no_name script)
-IsCommand (Serve bank plan) = IsFalse (is_no_name bank) × IsFalse (is_no_name plan)
+IsCommand (Serve bank plan None) = IsFalse (is_no_name bank) × IsFalse (is_no_name plan)
+IsCommand (Serve bank plan (Some ahead)) = IsFalse (is_no_name bank)
+    × IsFalse (is_no_name plan) × (0 < ahead) × (ahead ≤ 1024)
 IsCommand (Audit bank plan) = IsFalse (is_no_name bank) × IsFalse (is_no_name plan)
 IsCommand (Drill number sessions) = (number < 2 ^ 32) × (0 < sessions) × (sessions ≤ 200)
 IsCommand (Migrate bank plan) = IsFalse (is_no_name bank) × IsFalse (is_no_name plan)
@@ -118,7 +134,7 @@ abbrev pub files_of : Command → Option (List ℕ × List ℕ)
 files_of (Check bank plan) = Some (bank, plan)
 files_of (Assemble bank plan) = Some (bank, plan)
 files_of (Replay bank plan script) = Some (bank, plan)
-files_of (Serve bank plan) = Some (bank, plan)
+files_of (Serve bank plan ahead) = Some (bank, plan)
 files_of (Audit bank plan) = Some (bank, plan)
 files_of (Drill number sessions) = None
 files_of (Migrate bank plan) = Some (bank, plan)
@@ -131,7 +147,7 @@ abbrev pub IsReplay : Command → Type 0
 IsReplay (Check bank plan) = ⊥
 IsReplay (Assemble bank plan) = ⊥
 IsReplay (Replay bank plan script) = Unit {0}
-IsReplay (Serve bank plan) = ⊥
+IsReplay (Serve bank plan ahead) = ⊥
 IsReplay (Audit bank plan) = ⊥
 IsReplay (Drill number sessions) = ⊥
 IsReplay (Migrate bank plan) = ⊥
@@ -149,7 +165,7 @@ abbrev pub IsServe : Command → Type 0
 IsServe (Check bank plan) = ⊥
 IsServe (Assemble bank plan) = ⊥
 IsServe (Replay bank plan script) = ⊥
-IsServe (Serve bank plan) = Unit {0}
+IsServe (Serve bank plan ahead) = Unit {0}
 IsServe (Audit bank plan) = ⊥
 IsServe (Drill number sessions) = ⊥
 IsServe (Migrate bank plan) = ⊥
@@ -167,7 +183,7 @@ abbrev pub IsLinked : Command → Type 0
 IsLinked (Check bank plan) = ⊥
 IsLinked (Assemble bank plan) = ⊥
 IsLinked (Replay bank plan script) = ⊥
-IsLinked (Serve bank plan) = ⊥
+IsLinked (Serve bank plan ahead) = ⊥
 IsLinked (Audit bank plan) = ⊥
 IsLinked (Drill number sessions) = ⊥
 IsLinked (Migrate bank plan) = ⊥
@@ -185,7 +201,7 @@ abbrev pub UsesDoors : Command → Type 0
 UsesDoors (Check bank plan) = ⊥
 UsesDoors (Assemble bank plan) = ⊥
 UsesDoors (Replay bank plan script) = ⊥
-UsesDoors (Serve bank plan) = Unit {0}
+UsesDoors (Serve bank plan ahead) = Unit {0}
 UsesDoors (Audit bank plan) = ⊥
 UsesDoors (Drill number sessions) = ⊥
 UsesDoors (Migrate bank plan) = ⊥
@@ -203,7 +219,7 @@ abbrev pub HasJournal : Command → Type 0
 HasJournal (Check bank plan) = ⊥
 HasJournal (Assemble bank plan) = ⊥
 HasJournal (Replay bank plan script) = Unit {0}
-HasJournal (Serve bank plan) = Unit {0}
+HasJournal (Serve bank plan ahead) = Unit {0}
 HasJournal (Audit bank plan) = Unit {0}
 HasJournal (Drill number sessions) = ⊥
 HasJournal (Migrate bank plan) = Unit {0}
@@ -222,7 +238,8 @@ IsInRange (Drill number sessions) = (number ≤ 4294967295) × ((1 ≤ sessions)
 IsInRange (Check bank plan) = Unit {0}
 IsInRange (Assemble bank plan) = Unit {0}
 IsInRange (Replay bank plan script) = Unit {0}
-IsInRange (Serve bank plan) = Unit {0}
+IsInRange (Serve bank plan None) = Unit {0}
+IsInRange (Serve bank plan (Some ahead)) = (1 ≤ ahead) × (ahead ≤ 1024)
 IsInRange (Audit bank plan) = Unit {0}
 IsInRange (Migrate bank plan) = Unit {0}
 IsInRange (Series bank plan forms weights) =

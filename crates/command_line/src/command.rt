@@ -2,7 +2,7 @@
 
 ghost use Rattle.std.specs.Prelude.{◌≡◌, map, MatchBool};
 ghost use Rattle.std.specs.Option.{option_map};
-ghost use Rattle.command_line.specs.Commands.{AreInRange, UsesDoors, drill_of, of_two, series_of, table, said};
+ghost use Rattle.command_line.specs.Commands.{AreInRange, UsesDoors, drill_of, of_three, of_two, series_of, server_of, table, said};
 
 use crate::weights::are_weights;
 
@@ -25,10 +25,12 @@ pub enum Command<'a> {
         plan: &'a str,
         script: &'a str,
     },
-    /// Serve the sessions of connections over the journal.
+    /// Serve the sessions of connections over the journal, with room for so many forms that are prepared before their answers
+    /// come, 1 to 1,024, or with none.
     Serve {
         bank: &'a str,
         plan: &'a str,
+        ahead: Option<u32>,
     },
     /// Judge every record of the journal, and print what it has.
     Audit {
@@ -118,6 +120,23 @@ fn series_of<'a>(bank: &'a str, plan: &'a str, forms: &str, weights: &'a str) ->
     })
 }
 
+/// A server that prepares forms, where its last word is a number of them.
+#[tactic(auto, unfolding(crate::specs::Commands::server_of))]
+fn server_of<'a>(bank: &'a str, plan: &'a str, ahead: &str) -> Option<Command<'a>>
+    ensures command { option_map said result ≡ server_of bank.now plan.now ahead.now }
+    ensures range { AreInRange (option_map said result) }
+{
+    let ahead = exam_text::number(ahead.as_bytes(), 1024)?;
+    if ahead == 0 {
+        return None;
+    }
+    Some(Command::Serve {
+        bank,
+        plan,
+        ahead: Some(ahead as u32),
+    })
+}
+
 #[tactic(auto, unfolding(crate::specs::Commands::of_two))]
 fn of_two<'a>(word: &str, first: &'a str, second: &'a str) -> Option<Command<'a>>
     ensures command { option_map said result ≡ of_two word.now first.now second.now }
@@ -135,6 +154,7 @@ fn of_two<'a>(word: &str, first: &'a str, second: &'a str) -> Option<Command<'a>
         "serve" => Some(Command::Serve {
             bank: first,
             plan: second,
+            ahead: None,
         }),
         "audit" => Some(Command::Audit {
             bank: first,
@@ -157,6 +177,23 @@ fn of_two<'a>(word: &str, first: &'a str, second: &'a str) -> Option<Command<'a>
     }
 }
 
+#[tactic(auto, unfolding(crate::specs::Commands::of_three))]
+fn of_three<'a>(word: &str, bank: &'a str, plan: &'a str, last: &'a str) -> Option<Command<'a>>
+    ensures command { option_map said result
+        ≡ of_three word.now bank.now plan.now last.now }
+    ensures range { AreInRange (option_map said result) }
+{
+    match word {
+        "replay" => Some(Command::Replay {
+            bank,
+            plan,
+            script: last,
+        }),
+        "serve" => server_of(bank, plan, last),
+        _ => None,
+    }
+}
+
 /// The command that the table has for the words.
 #[tactic(auto, unfolding(crate::specs::Commands::table))]
 pub(crate) fn in_table<'a>(words: &[&'a str]) -> Option<Command<'a>>
@@ -165,11 +202,7 @@ pub(crate) fn in_table<'a>(words: &[&'a str]) -> Option<Command<'a>>
 {
     match words {
         [word, first, second] => of_two(*word, *first, *second),
-        [word, bank, plan, script] if *word == "replay" => Some(Command::Replay {
-            bank: *bank,
-            plan: *plan,
-            script: *script,
-        }),
+        [word, bank, plan, last] => of_three(*word, *bank, *plan, *last),
         [word, bank, plan, forms, weights] if *word == "series" => {
             series_of(*bank, *plan, *forms, *weights)
         }

@@ -32,7 +32,7 @@ module _ (words : List (List ℕ)) (o : Outside) (b : Tables) (p : Plan) where
 
   pub server_refuses : (base : List ℕ) (fault : OpenFault) → IsServeOf words o b p base → IsJournalRefused b p o.disk fault → IsRefused words o fault
   server_refuses base fault is so = record {
-    command = Serve is.bank is.plan;
+    command = Serve is.bank is.plan is.ahead;
     bank = is.bank;
     plan = is.plan;
     b = b;
@@ -73,7 +73,7 @@ module _ (words : List (List ℕ)) (o : Outside) (b : Tables) (p : Plan) where
   linked_in (Check bank plan) linked disk fault so = absurd linked
   linked_in (Assemble bank plan) linked disk fault so = absurd linked
   linked_in (Replay bank plan script) linked disk fault so = absurd linked
-  linked_in (Serve bank plan) linked disk fault so = absurd linked
+  linked_in (Serve bank plan ahead) linked disk fault so = absurd linked
   linked_in (Audit bank plan) linked disk fault so = absurd linked
   linked_in (Drill number sessions) linked disk fault so = absurd linked
   linked_in (Migrate bank plan) linked disk fault so = absurd linked

@@ -124,7 +124,7 @@ no_reading_fault b p o f H stands short told is = elim (standing_is_read b p H o
 abbrev NoScript : Outside → Command → Type 0
 NoScript o (Check bank plan) = ⊥
 NoScript o (Assemble bank plan) = ⊥
-NoScript o (Serve bank plan) = ⊥
+NoScript o (Serve bank plan ahead) = ⊥
 NoScript o (Audit bank plan) = ⊥
 NoScript o (Drill number sessions) = ⊥
 NoScript o (Migrate bank plan) = ⊥
@@ -138,7 +138,7 @@ abbrev NoJournal : Outside → Command → Type 0
 NoJournal o (Check bank plan) = ⊥
 NoJournal o (Assemble bank plan) = ⊥
 NoJournal o (Replay bank plan name) = (b : Tables) × (p : Plan) × (f : OpenFault) × Reads o.named o.content bank plan b p × IsJournalRefused b p o.disk f
-NoJournal o (Serve bank plan) = (b : Tables) × (p : Plan) × (f : OpenFault) × Reads o.named o.content bank plan b p × IsJournalRefused b p o.disk f
+NoJournal o (Serve bank plan ahead) = (b : Tables) × (p : Plan) × (f : OpenFault) × Reads o.named o.content bank plan b p × IsJournalRefused b p o.disk f
 NoJournal o (Audit bank plan) = (b : Tables) × (p : Plan) × (f : OpenFault) × Reads o.named o.content bank plan b p × IsReadingRefused b p o.disk f
 NoJournal o (Drill number sessions) = ⊥
 NoJournal o (Series bank plan forms word) = ⊥
@@ -151,7 +151,7 @@ abbrev NoRoom : List (List ℕ) → Outside → Command → Type 0
 NoRoom words o (Check bank plan) = ⊥
 NoRoom words o (Assemble bank plan) = ⊥
 NoRoom words o (Replay bank plan name) = MeetsLimit words o
-NoRoom words o (Serve bank plan) = ⊥
+NoRoom words o (Serve bank plan ahead) = ⊥
 NoRoom words o (Audit bank plan) = ⊥
 NoRoom words o (Drill number sessions) = ⊥
 NoRoom words o (Series bank plan forms word) = ⊥
@@ -182,7 +182,7 @@ linked_has_journal (Ship bank plan) linked = tt
 linked_has_journal (Check bank plan) linked = absurd linked
 linked_has_journal (Assemble bank plan) linked = absurd linked
 linked_has_journal (Replay bank plan script) linked = absurd linked
-linked_has_journal (Serve bank plan) linked = absurd linked
+linked_has_journal (Serve bank plan ahead) linked = absurd linked
 linked_has_journal (Audit bank plan) linked = absurd linked
 linked_has_journal (Drill number sessions) linked = absurd linked
 linked_has_journal (Migrate bank plan) linked = absurd linked
@@ -200,7 +200,7 @@ no_link_journal o (Ship x y) linked bank plan names b p f reads refusal =
 no_link_journal o (Check x y) linked bank plan names b p f reads refusal = absurd linked
 no_link_journal o (Assemble x y) linked bank plan names b p f reads refusal = absurd linked
 no_link_journal o (Replay x y z) linked bank plan names b p f reads refusal = absurd linked
-no_link_journal o (Serve x y) linked bank plan names b p f reads refusal = absurd linked
+no_link_journal o (Serve x y a) linked bank plan names b p f reads refusal = absurd linked
 no_link_journal o (Audit x y) linked bank plan names b p f reads refusal = absurd linked
 no_link_journal o (Drill x y) linked bank plan names b p f reads refusal = absurd linked
 no_link_journal o (Migrate x y) linked bank plan names b p f reads refusal = absurd linked
@@ -217,7 +217,7 @@ module _ (words : List (List ℕ)) (o : Outside) (command : Command) (e : comman
   has_journal b p script base is = subst HasJournal (same_command (Replay is.bank is.plan is.name) is.asked) tt
 
   serves_journal : (b : Tables) (p : Plan) (base : List ℕ) → IsServeOf words o b p base → HasJournal command
-  serves_journal b p base is = subst HasJournal (same_command (Serve is.bank is.plan) is.asked) tt
+  serves_journal b p base is = subst HasJournal (same_command (Serve is.bank is.plan is.ahead) is.asked) tt
 
   audits_journal : (b : Tables) (p : Plan) → IsAuditOf words o b p → HasJournal command
   audits_journal b p is = subst HasJournal (same_command (Audit is.bank is.plan) is.asked) tt
@@ -279,7 +279,7 @@ module _ (words : List (List ℕ)) (o : Outside) (command : Command) (e : comman
   left bank plan names b p _ _ reads quiet (without_memory untouched) = memory
   left bank plan names b p _ _ reads quiet (without_more_memory c q script base H G rest replies is way) = memory
   left bank plan names b p _ _ reads quiet (server_refused c q base why is refusal) =
-      no_journal (subst (NoJournal o) (same_command (Serve is.bank is.plan) is.asked) (c, q, why, is.reads, refusal))
+      no_journal (subst (NoJournal o) (same_command (Serve is.bank is.plan is.ahead) is.asked) (c, q, why, is.reads, refusal))
   left bank plan names b p _ _ reads quiet (server_without_journal c q base is so) = disk (serves_journal c q base is) so.rose
   left bank plan names b p _ _ reads quiet (server_without_memory c q base opened H is examined) = memory
   left bank plan names b p _ _ reads quiet (audited c q s exposure bands is found untouched) = done
@@ -358,7 +358,7 @@ module _ (words : List (List ℕ)) (o : Outside) (number sessions : ℕ) (e : co
   not_replay b p script base is = no_other (Replay is.bank is.plan is.name) is.asked is.bank is.plan refl
 
   not_serve : (b : Tables) (p : Plan) (base : List ℕ) → IsServeOf words o b p base → ⊥
-  not_serve b p base is = no_other (Serve is.bank is.plan) is.asked is.bank is.plan refl
+  not_serve b p base is = no_other (Serve is.bank is.plan is.ahead) is.asked is.bank is.plan refl
 
   not_audit : (b : Tables) (p : Plan) → IsAuditOf words o b p → ⊥
   not_audit b p is = no_other (Audit is.bank is.plan) is.asked is.bank is.plan refl
@@ -477,10 +477,10 @@ replay_is_complete words o bank plan name base b p script H status text e reads 
     of _ (series s none) = absurd none
 
 pub serve_is_complete : ServeIsComplete
-serve_is_complete words o bank plan base b p H status text e reads with_base told stands short quiet disk_quiet outcome =
-    of status (left words o (Serve bank plan) e bank plan refl b p status text reads quiet outcome) (not_done words o (Serve bank plan) e tt status text outcome)
+serve_is_complete words o bank plan base ahead b p H status text e reads with_base told stands short quiet disk_quiet outcome =
+    of status (left words o (Serve bank plan ahead) e bank plan refl b p status text reads quiet outcome) (not_done words o (Serve bank plan ahead) e tt status text outcome)
   where
-    of : (s : ℕ) → Left words o (Serve bank plan) s → (s ≡ 0 → ⊥) → s ≡ 10
+    of : (s : ℕ) → Left words o (Serve bank plan ahead) s → (s ≡ 0 → ⊥) → s ≡ 10
     of _ done not = absurd (not refl)
     of _ memory not = refl
     of _ (no_form c q T ready shows) not = absurd (form_there o.named o.content bank plan base b c p q T reads with_base ready shows)

@@ -1,5 +1,5 @@
 -- What a server's links must allow.
-use Rattle.std.specs.Prelude.{◌≡◌, ℕ, Bool, List, [], ◌∷◌, ◌++◌, map, Some, IsTrue}
+use Rattle.std.specs.Prelude.{◌≡◌, ℕ, Bool, List, [], ◌∷◌, ◌++◌, map, Option, Some, IsTrue}
 use Rattle.exam_office.specs.Files.{StandsSecond}
 use Rattle.exam_office.specs.declared.mark.Mark.{Mark}
 use Rattle.exam_office.specs.declared.mark.Mark.TheVariants.{Old, Opened}
@@ -29,7 +29,8 @@ pub record IsOpenedBy (words : List (List ℕ)) (files_tell : Bool) (named : Lis
     (office : OpenedWith) (opened : List Mark) : Type 0 where
   pub bank : List ℕ
   pub plan : List ℕ
-  pub asked : command_of words ≡ Some (Serve bank plan)
+  pub ahead : Option ℕ
+  pub asked : command_of words ≡ Some (Serve bank plan ahead)
   pub reads : IsTrue files_tell → Reads named content bank plan office.bank office.plan
   pub is_base : IsBaseForm office.bank office.plan office.base
   pub first : AreFirstMarks disk_tells disk_identity file office opened

@@ -1,5 +1,5 @@
 -- What the definitions imply, as the public laws state it.
-use Rattle.std.specs.Prelude.{◌≡◌, ℕ, ◌⊎◌, ◌<◌, ◌≤◌, IsTrue, IsFalse, List, ◌∷◌, Some, Ok, length}
+use Rattle.std.specs.Prelude.{◌≡◌, ℕ, ◌⊎◌, ◌<◌, ◌≤◌, IsTrue, IsFalse, List, ◌∷◌, Option, Some, Ok, length}
 use Rattle.hex.specs.Hex.{decode_of, encode_lower}
 use Rattle.bank_tables.specs.Items.{has}
 use Rattle.bank_tables.specs.Tables.{Tables}
@@ -118,9 +118,9 @@ ReplayIsComplete =
 -- ran out: if none was served, it ends with 10
 abbrev pub ServeIsComplete : Type 0
 ServeIsComplete =
-    (words : List (List ℕ)) (o : Outside) (bank plan base : List ℕ) (b : Tables) (p : Plan)
-    (H : List Entry) (status : ℕ) (text : List ℕ)
-    → command_of words ≡ Some (Serve bank plan)
+    (words : List (List ℕ)) (o : Outside) (bank plan base : List ℕ) (ahead : Option ℕ)
+    (b : Tables) (p : Plan) (H : List Entry) (status : ℕ) (text : List ℕ)
+    → command_of words ≡ Some (Serve bank plan ahead)
     → Reads o.named o.content bank plan b p
     → p.base ≡ Some base
     → IsTrue o.disk.told

@@ -70,7 +70,7 @@ IsReady named content (Check bank plan) b p = ⊥
 IsReady named content (Assemble bank plan) b p = Reads named content bank plan b p
 IsReady named content (Replay bank plan name) b p = Reads named content bank plan b p
     × IsTrue (named name) × ((script : List Request) × IsScriptIn (content name) script)
-IsReady named content (Serve bank plan) b p = Reads named content bank plan b p
+IsReady named content (Serve bank plan ahead) b p = Reads named content bank plan b p
 IsReady named content (Audit bank plan) b p = ⊥
 IsReady named content (Drill number sessions) b p = ⊥
 IsReady named content (Migrate bank plan) b p = ⊥

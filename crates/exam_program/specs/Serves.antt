@@ -27,7 +27,8 @@ pub record IsServeOf (words : List (List ℕ)) (o : Outside) (b : Tables) (p : P
     (base : List ℕ) : Type 0 where
   pub bank : List ℕ
   pub plan : List ℕ
-  pub asked : command_of words ≡ Some (Serve bank plan)
+  pub ahead : Option ℕ
+  pub asked : command_of words ≡ Some (Serve bank plan ahead)
   pub reads : Reads o.named o.content bank plan b p
   pub is_base : IsBaseForm b p base
 

@@ -151,7 +151,7 @@ fn status_of<F: Files, O: Sink, D: Disk>(
     let Some(command) = command else {
         let status = print(
             out,
-            b"usage: shadowd check BANK PLAN | assemble BANK PLAN | replay BANK PLAN SCRIPT | serve BANK PLAN | audit BANK PLAN | drill NUMBER SESSIONS | migrate BANK PLAN | series BANK PLAN K WEIGHTS | follow BANK PLAN | ship BANK PLAN\n",
+            b"usage: shadowd check BANK PLAN | assemble BANK PLAN | replay BANK PLAN SCRIPT | serve BANK PLAN [AHEAD] | audit BANK PLAN | drill NUMBER SESSIONS | migrate BANK PLAN | series BANK PLAN K WEIGHTS | follow BANK PLAN | ship BANK PLAN\n",
             2,
         );
         return (disk, status, None);
@@ -337,8 +337,8 @@ where
     ensures doors { AreLent L.tells L.identity L.faults L.is_out doors.items result.doors.items }
 {
     match command_of(alloc, words) {
-        Ok(Some(Command::Serve { bank, plan })) => serve(
-            rt, alloc, files, out, disk, doors, gate, token, bank, plan,
+        Ok(Some(Command::Serve { bank, plan, ahead })) => serve(
+            rt, alloc, files, out, disk, doors, gate, token, bank, plan, ahead,
         ),
         Ok(Some(Command::Follow { bank, plan })) => {
             follow(rt, alloc, files, out, disk, doors, bank, plan)

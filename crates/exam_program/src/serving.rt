@@ -140,6 +140,7 @@ fn serve_over<'a, R, O, D, L, G>(
     doors: Vec<L>,
     gate: &G,
     token: Option<&[u8]>,
+    ahead: Option<u32>,
 ) -> Left<D, L>
 where
     R: Threads + Wait + Sync,
@@ -194,7 +195,7 @@ where
         }
     };
     gate.see(&office.health());
-    let Served { office, doors, end } = serve_doors(rt, alloc, office, gate, token, doors);
+    let Served { office, doors, end } = serve_doors(rt, alloc, office, gate, token, ahead, doors);
     gate.see(&office.health());
     // What the type of an office keeps of its marks.
     office.keeps();
@@ -222,6 +223,7 @@ pub(crate) fn serve<R, F, O, D, L, G>(
     token: Option<&[u8]>,
     bank: &str,
     plan: &str,
+    ahead: Option<u32>,
 ) -> Left<D, L>
 where
     R: Threads + Wait + Sync,
@@ -244,7 +246,7 @@ where
         L.Link.tells L.Link.left L.Link.written L.Link.allows L.tells L.coming
         (IsCallerOf office opened) doors.items }
     ensures answers { IsTrue (F.tells files.old) → (words : List (List ℕ))
-        → command_of words ≡ Some (Serve bank.now plan.now)
+        → command_of words ≡ Some (Serve bank.now plan.now ahead)
         → RunEnds (λ opened closed end. AreServed (option_copied token.entry)
         L.tells L.coming L.returned L.is_out L.faults L.identity L.Link.tells L.Link.left L.Link.written L.Link.faults L.Link.identity
         opened closed doors.items result.doors.items end) (result.doors ≡ doors)
@@ -253,7 +255,7 @@ where
         (disk_seen D.tells D.content D.accounts D.faults disk result.disk))
         (O.tells out.old) (O.written out.old) (O.written out.new) result.status }
     ensures cause { IsTrue (F.tells files.old) → (words : List (List ℕ))
-        → command_of words ≡ Some (Serve bank.now plan.now)
+        → command_of words ≡ Some (Serve bank.now plan.now ahead)
         → EndsAs words (outside (F.has files.old) (F.content files.old) (F.faults files.old)
         (F.faults files.new)
         (disk_seen D.tells D.content D.accounts D.faults disk result.disk))
@@ -297,6 +299,6 @@ where
         }
     };
     serve_over(
-        rt, alloc, &exam.bank, &exam.spec, &base, out, disk, doors, gate, token,
+        rt, alloc, &exam.bank, &exam.spec, &base, out, disk, doors, gate, token, ahead,
     )
 }

@@ -11,7 +11,7 @@ use Rattle.exam_serve.specs.Allowing.{AreFairDoors, IsFairLink}
 use Rattle.exam_http.specs.Serving as serving
 use Rattle.exam_http.specs.Serving.{LeadsTo}
 use Rattle.exam_hall.specs.Known.{HallKnown, CallerKnown, HasGrown}
-use Rattle.exam_hall.specs.Probes.{Idles}
+use Rattle.prepare_desk.specs.Posts.{Idles}
 use Rattle.exam_serve.specs.Connections.{AttendantKnown, Asks, Probes, IsConnection}
 use Rattle.exam_serve.specs.Doors.{IsNewStation, IsWorked, door_of}
 use Rattle.exam_serve.proofs.Joins.{starts_through, starts_itself}

@@ -5,7 +5,7 @@ use Rattle.exam_http.specs.Serving.{AllowsServed}
 use Rattle.exam_office.specs.declared.mark.Mark.{Mark}
 use Rattle.exam_office.specs.Noting.{OpenedWith, noted}
 use Rattle.exam_hall.specs.Known.{CallerKnown, IsOfficeOf}
-use Rattle.exam_hall.specs.Probes.{Idles}
+use Rattle.prepare_desk.specs.Posts.{Idles}
 use Rattle.exam_serve.specs.Connections.{Asks, Probes}
 
 -- a caller of a hall of this office: the hall was made when the office had these marks, and what the

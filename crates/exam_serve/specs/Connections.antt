@@ -11,7 +11,7 @@ use Rattle.exam_http.specs.declared.ended.Ended.TheVariants.{Done, BadInput, Lin
 use Rattle.exam_http.specs.Serving.{IsServed, LeadsTo}
 use Rattle.exam_hall.specs.Known.{CallerKnown, HasGrown, marked}
 use Rattle.exam_hall.specs.Probes as hall
-use Rattle.exam_hall.specs.Probes.{Idles}
+use Rattle.prepare_desk.specs.Posts.{Idles}
 use Rattle.exam_hall.specs.Sees.{Sees}
 
 -- what a request does to a caller: the reply is right for what its pass has seen then, its hall is

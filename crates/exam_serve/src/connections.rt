@@ -4,10 +4,11 @@ ghost use Rattle.std.specs.Prelude.{◌≡◌, ◌||◌, false};
 ghost use Rattle.exam_serve.specs.Connections as connection;
 
 use exam_edge::{Disk, Gate, Link};
-use exam_hall::{Caller, Hall};
+use exam_hall::Hall;
 use exam_handler::Observer;
 use exam_http::{Ended, serve_connection};
 use exam_workers::Service;
+use prepare_desk::PreparingCaller;
 use std::alloc::Global;
 use std::marker::Model;
 use std::sync::Wait;
@@ -36,7 +37,7 @@ pub(crate) fn either(first: bool, second: bool) -> bool
 /// lack of memory.
 #[derive(Drop)]
 pub struct Attendant<'h, 'a, D: Disk, G: Gate + Observer> {
-    caller: Caller<'h, 'a, D, G>,
+    caller: PreparingCaller<'h, 'a, D, G>,
     starved: bool,
 }
 
@@ -50,7 +51,7 @@ impl<'h, 'a, D: Disk, G: Gate + Observer> Model for Attendant<'h, 'a, D, G> {
 
 impl<'h, 'a, D: Disk, G: Gate + Observer> Attendant<'h, 'a, D, G> {
     /// An attendant that has served no connection.
-    pub(crate) fn new(caller: Caller<'h, 'a, D, G>) -> Attendant<'h, 'a, D, G>
+    pub(crate) fn new(caller: PreparingCaller<'h, 'a, D, G>) -> Attendant<'h, 'a, D, G>
         ensures { result ≡ record { caller = caller.entry; starved = false } }
     {
         Attendant {
@@ -60,7 +61,7 @@ impl<'h, 'a, D: Disk, G: Gate + Observer> Attendant<'h, 'a, D, G> {
     }
 
     /// The caller, and whether a connection ended for lack of memory.
-    pub(crate) fn into_parts(self) -> (Caller<'h, 'a, D, G>, bool)
+    pub(crate) fn into_parts(self) -> (PreparingCaller<'h, 'a, D, G>, bool)
         ensures caller { result.0 ≡ self.entry.caller }
         ensures starved { result.1 ≡ self.entry.starved }
     {

@@ -1,9 +1,11 @@
 //! The work of a server, from an office and doors to the office and the doors.
 
-ghost use Rattle.std.specs.Prelude.{◌≡◌, ◌≤◌, ◌⊎◌, ℕ, [], List, true, false, length, vec_len, vec_capacity};
+ghost use Rattle.std.specs.Prelude.{◌≡◌, ◌≤◌, ◌⊎◌, ℕ, [], List, true, false, length, vec_len, vec_capacity, IfOk};
 ghost use Rattle.std.specs.List.{All};
 ghost use Rattle.std.specs.Option.{option_copied};
 ghost use Rattle.exam_hall.specs.Known.{HasGrown, IsOf};
+ghost use Rattle.prepare_desk.specs.Posts.{IsFirstOf};
+ghost use Rattle.prepare_desk.specs.Desks.{purpose_in, purpose_of};
 ghost use Rattle.exam_serve.specs.Allowing.{AreFairDoors, IsCallerOf};
 ghost use Rattle.turn_lock.specs.Histories.{StartsWith};
 ghost use Rattle.turn_lock.specs.Passes.{KnowsAll, new_pass};
@@ -14,16 +16,17 @@ ghost use Rattle.exam_office.specs.Noting.{NotedMark, opened_with};
 
 use crate::connections::{Attendant, Connections};
 use crate::stations::{Cleared, clear_stations, make_stations};
-use exam_edge::{Disk, Door, Gate};
+use exam_edge::{Disk, Door, Gate, Memory};
 use exam_hall::Hall;
 use exam_handler::Observer;
 use exam_office::Office;
 use exam_workers::{Station, run_workers};
+use prepare_desk::{Desk, shared};
 use std::alloc::Global;
 use std::sync::Wait;
 use std::sync::atomic::AtomicU32;
 use std::thread::Threads;
-use turn_lock::Pass;
+use turn_lock::{Pass, Turn};
 
 /// How the work ended.
 #[derive(Clone, Copy, Debug, PartialEq, Eq)]
@@ -61,6 +64,39 @@ fn end_of(cleared: Cleared) -> End
     }
 }
 
+/// Room for so many stations, and a desk for the hall of an office, with room for so many prepared
+/// forms, at least one.
+fn room_for<'h, 'a, D: Disk, G: Gate + Observer, L: Door>(
+    alloc: Global,
+    office: &Office<'a, D>,
+    doors: usize,
+    ahead: Option<u32>,
+) -> Result<
+    (
+        Vec<Station<L, Attendant<'h, 'a, D, G>>>,
+        Turn<Desk<'a>>,
+        Pass<Desk<'a>>,
+    ),
+    Memory,
+>
+    ensures empty { IfOk result (λ r. r.0.items ≡ []) }
+    ensures room { IfOk result (λ r. doors ≤ vec_capacity r.0) }
+    ensures desk { IfOk result (λ r. IsFirstOf r.1 (purpose_in office.now) r.2) }
+    ensures splits { IfOk result (λ r. r.2.splits ≡ 0) }
+{
+    let Ok(stations) = Vec::with_capacity(alloc, doors) else {
+        return Err(Memory);
+    };
+    let room = ahead.unwrap_or(1);
+    match shared(alloc, office.bank(), office.spec(), office.base(), room) {
+        Ok((desk, first)) => Ok((stations, desk, first)),
+        Err(memory) => {
+            stations.destroy_empty();
+            Err(memory)
+        }
+    }
+}
+
 /// Serves the links of the doors at a hall, for messages that bear the token if there is one. There is room for a station for each door.
 fn serve_at<'h, 'a, R, D, L, G>(
     rt: &R,
@@ -69,6 +105,9 @@ fn serve_at<'h, 'a, R, D, L, G>(
     gate: &'h G,
     token: Option<&'h [u8]>,
     pass: &mut Pass<Office<'a, D>>,
+    desk: &'h Turn<Desk<'a>>,
+    first: &mut Pass<Desk<'a>>,
+    prepares: bool,
     doors: &mut Vec<L>,
     stations: Vec<Station<L, Attendant<'h, 'a, D, G>>>,
 ) -> End
@@ -80,6 +119,8 @@ where
     requires of { IsOf pass.old hall.now }
     requires new { pass.old ≡ new_pass hall.now.lock 0 (length pass.old.seen) pass.old.seen }
     requires few { vec_len doors.old ≤ 65535 }
+    requires desk { IsFirstOf desk.now (purpose_of hall.now) first.old }
+    requires splits { first.old.splits ≡ 0 }
     requires home { All (λ d. L.is_out d ≡ false) doors.old.items }
     requires fair { AreFairDoors (option_copied token)
         L.Link.tells L.Link.left L.Link.written L.Link.allows L.tells L.coming
@@ -93,9 +134,19 @@ where
         L.Link.tells L.Link.left L.Link.written L.Link.faults L.Link.identity
         pass.old.seen closed doors.old.items doors.new.items result }
     ensures of { IsOf pass.new hall.now }
+    ensures desk { IsFirstOf desk.now (purpose_of hall.now) first.new }
 {
     let mut stations = stations;
-    make_stations(hall, gate, pass, doors, &mut stations);
+    make_stations(
+        hall,
+        gate,
+        pass,
+        desk,
+        first,
+        prepares,
+        doors,
+        &mut stations,
+    );
     let connections = Connections {
         hall,
         gate,
@@ -121,6 +172,7 @@ pub fn serve_doors<'a, R, D, L, G>(
     office: Office<'a, D>,
     gate: &G,
     token: Option<&[u8]>,
+    ahead: Option<u32>,
     doors: Vec<L>,
 ) -> Served<'a, D, L>
 where
@@ -155,8 +207,8 @@ where
         → HasFailedDoor L.faults doors.items result.doors.items }
 {
     let mut doors = doors;
-    let stations = match Vec::with_capacity(alloc, doors.len()) {
-        Ok(stations) => stations,
+    let (stations, desk, mut first) = match room_for(alloc, &office, doors.len(), ahead) {
+        Ok(room) => room,
         Err(_) => {
             return Served {
                 office,
@@ -169,6 +221,7 @@ where
         Ok(made) => made,
         Err(office) => {
             stations.destroy_empty();
+            let _ = desk.close(rt, first);
             return Served {
                 office,
                 doors,
@@ -176,9 +229,11 @@ where
             };
         }
     };
+    let prepares = ahead.is_some();
     let end = serve_at(
-        rt, alloc, &hall, gate, token, &mut pass, &mut doors, stations,
+        rt, alloc, &hall, gate, token, &mut pass, &desk, &mut first, prepares, &mut doors, stations,
     );
+    let _ = desk.close(rt, first);
     let office = hall.close(rt, pass);
     Served { office, doors, end }
 }

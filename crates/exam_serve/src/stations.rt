@@ -6,36 +6,48 @@ ghost use mathlib.Core.List.{reverse};
 ghost use Rattle.turn_lock.specs.Histories.{StartsWith};
 ghost use Rattle.turn_lock.specs.Passes.{TakesIn};
 ghost use Rattle.exam_hall.specs.Known.{IsOf};
+ghost use Rattle.prepare_desk.specs.Posts.{IsFirstOf};
+ghost use Rattle.prepare_desk.specs.Desks.{purpose_of};
 ghost use Rattle.exam_serve.specs.Doors.{IsNewStation, door_of, has_failed, has_starved};
 ghost use Rattle.exam_serve.specs.Joining.{AreJoined, IsSamePass};
 
 use crate::connections::{Attendant, either};
 use exam_edge::{Disk, Door, Gate};
-use exam_hall::{Caller, Hall};
+use exam_hall::Hall;
 use exam_handler::Observer;
 use exam_office::Office;
 use exam_workers::Station;
-use turn_lock::Pass;
+use prepare_desk::{Desk, Post, PreparingCaller};
+use turn_lock::{Pass, Turn};
 
 /// Makes a station of a door, with a pass of its own.
 fn station_at<'h, 'a, D: Disk, G: Gate + Observer, L: Door>(
     hall: &'h Hall<'a, D>,
     gate: &'h G,
     pass: &mut Pass<Office<'a, D>>,
+    desk: &'h Turn<Desk<'a>>,
+    first: &mut Pass<Desk<'a>>,
+    prepares: bool,
     door: L,
 ) -> Station<L, Attendant<'h, 'a, D, G>>
     requires of { IsOf pass.old hall.now }
     requires first { (pass.old.number ≡ 0) × (pass.old.splits < 65535) }
     requires start { pass.old.start ≡ length pass.old.seen }
     requires home { L.is_out door ≡ false }
+    requires desk { IsFirstOf desk.now (purpose_of hall.now) first.old }
+    requires splits { first.old.splits < 65535 }
     ensures door { result.door ≡ door }
     ensures made { IsNewStation L.is_out hall.now pass.old.seen result }
     ensures pass { pass.new ≡ record pass.old { splits = pass.old.splits + 1 } }
     ensures of { IsOf pass.new hall.now }
+    ensures desk { IsFirstOf desk.now (purpose_of hall.now) first.new }
+    ensures splits { first.new.splits ≡ first.old.splits + 1 }
 {
+    let post = Post::new(desk, first);
+    let caller = PreparingCaller::new(hall, gate, hall.split(pass), post, prepares);
     Station {
         door,
-        token: Attendant::new(Caller::new(hall, gate, hall.split(pass))),
+        token: Attendant::new(caller),
         links: 0,
         failed: false,
     }
@@ -46,10 +58,15 @@ pub(crate) fn make_stations<'h, 'a, D: Disk, G: Gate + Observer, L: Door>(
     hall: &'h Hall<'a, D>,
     gate: &'h G,
     pass: &mut Pass<Office<'a, D>>,
+    desk: &'h Turn<Desk<'a>>,
+    first: &mut Pass<Desk<'a>>,
+    prepares: bool,
     doors: &mut Vec<L>,
     stations: &mut Vec<Station<L, Attendant<'h, 'a, D, G>>>,
 )
     requires of { IsOf pass.old hall.now }
+    requires desk { IsFirstOf desk.now (purpose_of hall.now) first.old }
+    requires splits { first.old.splits + vec_len doors.old ≤ 65535 }
     requires first { (pass.old.number ≡ 0) × (pass.old.splits + vec_len doors.old ≤ 65535) }
     requires start { pass.old.start ≡ length pass.old.seen }
     requires home { All (λ d. L.is_out d ≡ false) doors.old.items }
@@ -64,10 +81,12 @@ pub(crate) fn make_stations<'h, 'a, D: Disk, G: Gate + Observer, L: Door>(
       splits = pass.old.splits + vec_len doors.old;
     } }
     ensures of { IsOf pass.new hall.now }
+    ensures desk { IsFirstOf desk.now (purpose_of hall.now) first.new }
 {
     for _ in 0..doors.len() {
         let door = doors.pop().unwrap();
-        stations.push_reserved(station_at(hall, gate, pass, door));
+        let station = station_at(hall, gate, pass, desk, first, prepares, door);
+        stations.push_reserved(station);
     }
 }
 

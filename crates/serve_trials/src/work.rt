@@ -135,7 +135,7 @@ fn serve_over<'a, L: Door + Send + Drop, G: Gate + Observer + Sync, R: Threads +
             alloc,
             bank,
             spec,
-            serve_doors(rt, alloc, office, gate, None, doors),
+            serve_doors(rt, alloc, office, gate, None, None, doors),
         ),
         Err(fail) => Err(fail),
     }

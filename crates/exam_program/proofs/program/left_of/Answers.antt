@@ -143,7 +143,7 @@ returns-in-Ok-Some-Ship g c =
 pub serve-requires-clause-fair : goal.serve-requires-clause-fair
 serve-requires-clause-fair g c κs within = λ office opened reads base first.
     let asked = (sym c.in-Ok-Some-Serve.ensures.command ∙ ap (λ x. option_map said x) c.in-Ok-Some-Serve.field-0-is ∙ ap (λ x. Some (said x)) c.in-Ok-Some-Serve.field-0-0-is) in
-    c.requires.fair office opened (record { bank = _; plan = _; asked = asked; reads = reads; is_base = base; first = first })
+    c.requires.fair office opened (record { bank = _; plan = _; ahead = _; asked = asked; reads = reads; is_base = base; first = first })
 
 pub follow-requires-clause-allowed : goal.follow-requires-clause-allowed
 follow-requires-clause-allowed g c κs within =

@@ -21,7 +21,7 @@ returns-in-Err g c =
           let o = outside (g.F.Files.has c.args.files.now) (g.F.Files.content c.args.files.now) (g.F.Files.faults c.args.files.now) (g.F.Files.faults c.exam_in.new.files)
           (disk_seen g.D.Disk.tells g.D.Disk.content g.D.Disk.accounts g.D.Disk.faults c.args.disk c.args.disk) in
           let was = g.O.Sink.written c.args.out.now in
-          let over : IsOver words bank plan = record { command = Serve bank plan; asked = e; names = refl } in
+          let over : IsOver words bank plan = record { command = Serve bank plan c.args.ahead; asked = e; names = refl } in
           let untouched = as_it_is g.D.Disk.tells g.D.Disk.content g.D.Disk.accounts g.D.Disk.faults c.args.disk in
           let halts = halts_at_exam words o (g.O.Sink.tells c.args.out.now) was bank plan c.in-Err.halt over
           (λ is. c.exam_in.ensures.failed (c.in-Err.is ∙ ap Err is)) untouched (c.in-Err.ensures.err told) in
@@ -32,7 +32,7 @@ returns-in-Err g c =
           let o = outside (g.F.Files.has c.args.files.now) (g.F.Files.content c.args.files.now) (g.F.Files.faults c.args.files.now) (g.F.Files.faults c.exam_in.new.files)
           (disk_seen g.D.Disk.tells g.D.Disk.content g.D.Disk.accounts g.D.Disk.faults c.args.disk c.args.disk) in
           let was = g.O.Sink.written c.args.out.now in
-          let over : IsOver words bank plan = record { command = Serve bank plan; asked = e; names = refl } in
+          let over : IsOver words bank plan = record { command = Serve bank plan c.args.ahead; asked = e; names = refl } in
           let untouched = as_it_is g.D.Disk.tells g.D.Disk.content g.D.Disk.accounts g.D.Disk.faults c.args.disk in
           let halts = halts_at_exam words o (g.O.Sink.tells c.args.out.now) was bank plan c.in-Err.halt over
           (λ is. c.exam_in.ensures.failed (c.in-Err.is ∙ ap Err is)) untouched (c.in-Err.ensures.err told) in
@@ -60,7 +60,7 @@ returns-in-Err-base_form g c =
           (disk_seen g.D.Disk.tells g.D.Disk.content g.D.Disk.accounts g.D.Disk.faults c.args.disk c.args.disk) in
           let was = g.O.Sink.written c.args.out.now in
           let untouched = as_it_is g.D.Disk.tells g.D.Disk.content g.D.Disk.accounts g.D.Disk.faults c.args.disk in
-          let halts = halts_at_base words o (g.O.Sink.tells c.args.out.now) was (Serve c.args.bank.now c.args.plan.now) c.in-Ok.exam.bank c.in-Ok.exam.spec
+          let halts = halts_at_base words o (g.O.Sink.tells c.args.out.now) was (Serve c.args.bank.now c.args.plan.now c.args.ahead) c.in-Ok.exam.bank c.in-Ok.exam.spec
           c.in-Err-base_form.halt e (c.in-Ok.ensures.ok told) untouched c.in-Err-base_form.ensures.halts in
           idle refl (c.report-status-in-Err-base_form.ensures.answers words o was halts);
       cause = λ told words e.
@@ -68,7 +68,7 @@ returns-in-Err-base_form g c =
           (disk_seen g.D.Disk.tells g.D.Disk.content g.D.Disk.accounts g.D.Disk.faults c.args.disk c.args.disk) in
           let was = g.O.Sink.written c.args.out.now in
           let untouched = as_it_is g.D.Disk.tells g.D.Disk.content g.D.Disk.accounts g.D.Disk.faults c.args.disk in
-          let halts = halts_at_base words o (g.O.Sink.tells c.args.out.now) was (Serve c.args.bank.now c.args.plan.now) c.in-Ok.exam.bank c.in-Ok.exam.spec
+          let halts = halts_at_base words o (g.O.Sink.tells c.args.out.now) was (Serve c.args.bank.now c.args.plan.now c.args.ahead) c.in-Ok.exam.bank c.in-Ok.exam.spec
           c.in-Err-base_form.halt e (c.in-Ok.ensures.ok told) untouched c.in-Err-base_form.ensures.halts in
           ends_as words o (g.O.Sink.tells c.args.out.now) was was c.in-Err-base_form.halt c.report-status-in-Err-base_form.result halts c.report-status-in-Err-base_form.ensures.status;
       door = λ is. absurd (not_door c.in-Err-base_form.halt c.report-status-in-Err-base_form.result c.report-status-in-Err-base_form.ensures.status is);
@@ -96,6 +96,7 @@ returns g c =
           (record {
             bank = c.args.bank.now;
             plan = c.args.plan.now;
+            ahead = c.args.ahead;
             asked = e;
             reads = c.in-Ok.ensures.ok told;
             is_base = c.in-Ok-base_form.ensures.base;
@@ -107,6 +108,7 @@ returns g c =
           (record {
             bank = c.args.bank.now;
             plan = c.args.plan.now;
+            ahead = c.args.ahead;
             asked = e;
             reads = c.in-Ok.ensures.ok told;
             is_base = c.in-Ok-base_form.ensures.base;
