@@ -92,7 +92,7 @@ fn is_idle<R: Abort>(rt: &R, worked: &Worked<MemoryDoor>) {
 
 #[test]
 fn with_no_doors_nothing_is_done(rt: HostRuntime) -> Result<(), Fail> {
-    let worked = serve_bank_a(&rt, rt.alloc(), Vec::new(rt.alloc()), &OpenGate)?;
+    let worked = serve_bank_a(&rt, rt.alloc(), Vec::new(rt.alloc()), &OpenGate, None)?;
     is_idle(&rt, &worked);
     Ok(())
 }
@@ -104,7 +104,7 @@ fn serves_two<R: Abort + Threads + Wait + Sync, G: Gate + Observer + Sync>(
     gate: &G,
 ) -> Result<(), Fail> {
     let doors = two_doors(alloc, START, SECOND)?;
-    let worked = serve_bank_a(rt, alloc, doors, gate)?;
+    let worked = serve_bank_a(rt, alloc, doors, gate, None)?;
     is_served(rt, &worked);
     Ok(())
 }
@@ -154,7 +154,7 @@ fn served_by<R: Threads + Wait + Sync>(
 ) -> Result<Worked<HostDoor>, Fail> {
     let mut doors = Vec::new(alloc);
     doors.push(HostDoor::of(host, Some(listener), Duration::from_secs(60), Some(1)))?;
-    serve_bank_a(rt, alloc, doors, &OpenGate)
+    serve_bank_a(rt, alloc, doors, &OpenGate, None)
 }
 
 // The door gives one connection. The client begins session 0.

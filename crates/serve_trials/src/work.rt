@@ -44,6 +44,16 @@ fn door(alloc: Global, text: &str) -> Result<MemoryDoor, Fail>
     Ok(MemoryDoor::of(alloc, links, Vec::new(alloc))?)
 }
 
+/// One door, with one link that gives this text.
+pub(crate) fn one_door(alloc: Global, text: &str) -> Result<Vec<MemoryDoor>, Fail>
+    ensures few { IfOk result (λ doors. vec_len doors ≤ 1) }
+    ensures home { IfOk result (λ doors. All (λ d. out_of d ≡ false) doors.items) }
+{
+    let mut doors = Vec::new(alloc);
+    doors.push(door(alloc, text)?)?;
+    Ok(doors)
+}
+
 /// A door for each of these texts.
 pub(crate) fn two_doors(alloc: Global, first: &str, second: &str) -> Result<Vec<MemoryDoor>, Fail>
     ensures few { IfOk result (λ doors. vec_len doors ≤ 2) }
@@ -124,6 +134,7 @@ fn serve_over<'a, L: Door + Send + Drop, G: Gate + Observer + Sync, R: Threads +
     spec: &'a Spec,
     doors: Vec<L>,
     gate: &G,
+    ahead: Option<u32>,
 ) -> Result<Worked<L>, Fail>
     requires plan { IsPlanFor bank.now spec.now }
     requires few { vec_len doors ≤ 65535 }
@@ -135,24 +146,24 @@ fn serve_over<'a, L: Door + Send + Drop, G: Gate + Observer + Sync, R: Threads +
             alloc,
             bank,
             spec,
-            serve_doors(rt, alloc, office, gate, None, None, doors),
+            serve_doors(rt, alloc, office, gate, None, ahead, doors),
         ),
         Err(fail) => Err(fail),
     }
 }
 
-/// What comes of the work on bank A with these doors.
+/// What comes of the work on bank A with these doors, with room for so many prepared forms, or for none.
 pub(crate) fn serve_bank_a<
     L: Door + Send + Drop,
     G: Gate + Observer + Sync,
     R: Threads + Wait + Sync,
->(rt: &R, alloc: Global, doors: Vec<L>, gate: &G) -> Result<Worked<L>, Fail>
+>(rt: &R, alloc: Global, doors: Vec<L>, gate: &G, ahead: Option<u32>) -> Result<Worked<L>, Fail>
     requires few { vec_len doors ≤ 65535 }
     requires home { All (λ d. L.is_out d ≡ false) doors.items }
     requires allows { AllowsAll L.Link.tells L.Link.allows }
 {
     match planned(alloc, &EVEN) {
-        Ok((bank, spec)) => serve_over(rt, alloc, &bank, &spec, doors, gate),
+        Ok((bank, spec)) => serve_over(rt, alloc, &bank, &spec, doors, gate, ahead),
         Err(fail) => Err(fail),
     }
 }
