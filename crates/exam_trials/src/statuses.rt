@@ -57,7 +57,7 @@ const FAULTY: [[&str; 3]; 3] = [
 ];
 
 const USAGE: &str =
-    "usage: shadowd check BANK PLAN | assemble BANK PLAN | replay BANK PLAN SCRIPT | serve BANK PLAN | audit BANK PLAN | drill NUMBER SESSIONS | migrate BANK PLAN | series BANK PLAN K WEIGHTS | follow BANK PLAN | ship BANK PLAN\n";
+    "usage: shadowd check BANK PLAN | assemble BANK PLAN | replay BANK PLAN SCRIPT | serve BANK PLAN [AHEAD] | audit BANK PLAN | drill NUMBER SESSIONS | migrate BANK PLAN | series BANK PLAN K WEIGHTS | follow BANK PLAN | ship BANK PLAN\n";
 
 #[test]
 fn faulty_words(rt: HostRuntime) {
@@ -71,6 +71,21 @@ fn faulty_words(rt: HostRuntime) {
         USAGE,
     );
     for words in &FAULTY {
+        prints(&rt, words, &texts, 2, USAGE);
+    }
+}
+
+/// A server with room for no prepared form, for more than 1,024, and for no number of them.
+const NO_SERVERS: [[&str; 4]; 3] = [
+    ["serve", "bank", "plan", "0"],
+    ["serve", "bank", "plan", "1025"],
+    ["serve", "bank", "plan", "x"],
+];
+
+#[test]
+fn servers_with_no_number_of_forms(rt: HostRuntime) {
+    let texts = [BANK_A, PLAN_A, SCRIPT_A];
+    for words in &NO_SERVERS {
         prints(&rt, words, &texts, 2, USAGE);
     }
 }
