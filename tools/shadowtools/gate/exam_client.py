@@ -95,16 +95,17 @@ def children_of(process: int) -> List[int]:
 
 
 class Server:
-    """A process of `shadowd serve BANK PLAN` on a free port of the loopback address."""
+    """A process of `shadowd serve BANK PLAN [AHEAD]` on a free port of the loopback address. Without `ahead` it prepares no form."""
 
     def __init__(self, program: Sequence[str], bank: str, plan: str, journal: str, workers: int = 4, wait: float = 900,
-                 idle: int = 300, listen: str = "127.0.0.1:0", token: str = "") -> None:
+                 idle: int = 300, listen: str = "127.0.0.1:0", token: str = "", ahead: Optional[int] = None) -> None:
         env = dict(os.environ, SHADOWD_JOURNAL=journal, SHADOWD_LISTEN=listen, SHADOWD_WORKERS=str(workers),
                    SHADOWD_IDLE=str(idle))
         env.pop("SHADOWD_CONNECTIONS", None)
         if token:
             env["SHADOWD_TOKEN"] = token
-        self.process = subprocess.Popen([*program, "serve", bank, plan], env=env, stdin=subprocess.DEVNULL,
+        words = [bank, plan] if ahead is None else [bank, plan, str(ahead)]
+        self.process = subprocess.Popen([*program, "serve", *words], env=env, stdin=subprocess.DEVNULL,
                                         stdout=subprocess.PIPE, stderr=subprocess.PIPE)
         self.address = self.announced(time.monotonic() + wait)
         self.await_reply(time.monotonic() + wait)

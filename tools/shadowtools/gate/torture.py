@@ -172,17 +172,22 @@ def stops(case):
 
 
 USAGE = ("usage: shadowd check BANK PLAN | assemble BANK PLAN | replay BANK PLAN SCRIPT | "
-         "serve BANK PLAN | audit BANK PLAN | drill NUMBER SESSIONS | migrate BANK PLAN | "
+         "serve BANK PLAN [AHEAD] | audit BANK PLAN | drill NUMBER SESSIONS | migrate BANK PLAN | "
          "series BANK PLAN K WEIGHTS | follow BANK PLAN | ship BANK PLAN")
 COMMANDS = {"check": 2, "assemble": 2, "replay": 3, "serve": 2, "audit": 2, "migrate": 2}
 OF_A_JOURNAL, WITHOUT_BASE = ("replay", "audit", "serve", "migrate"), ("audit", "migrate")
-ODD_WORDS = ["", "0", "-1", "01", "200", "201", "4294967296", "check", "Check", "--help", "\u00e9"]
+ODD_WORDS = ["", "0", "-1", "01", "200", "201", "1025", "4294967296", "check", "Check", "--help", "\u00e9"]
 
 
 def names_a_drill(words):
     """Whether these words are `drill`, a number and a number of sessions."""
     found = re.fullmatch("drill (0|[1-9][0-9]{0,9}) ([1-9][0-9]{0,2})", " ".join(words))
     return bool(found) and int(found[1]) < 2**32 and int(found[2]) <= 200
+
+
+def names_forms_ahead(words):
+    """Whether these words are `serve`, two names and a number of prepared forms."""
+    return len(words) == 4 and words[0] == "serve" and bool(re.fullmatch("[1-9][0-9]{0,3}", words[3])) and int(words[3]) <= 1024
 
 
 def commands(case):
@@ -210,7 +215,7 @@ def commands(case):
         exam.expect(done, *(halts or (9, ["disk failed"])))
     else:
         words = [command, *draw.choices(good + ODD_WORDS, k=draw.randrange(5))]
-        if len(words) - 1 != COMMANDS.get(command) and not names_a_drill(words):
+        if len(words) - 1 != COMMANDS.get(command) and not names_a_drill(words) and not names_forms_ahead(words):
             exam.expect(case.run(*words), 2, [USAGE])
 
 
