@@ -57,7 +57,7 @@ PLACES: Parts = {
     "wire_http IsFault": [],
     "exam_http wire_fault_text": [],
     "exam_serve Probes": [],
-    "exam_hall Idles": [],
+    "prepare_desk Idles": [],
 }
 
 CLAIMS = [
@@ -90,7 +90,7 @@ CLAIMS = [
             "exam_program IsBaseForm": [],
             "replay_cli lines_of": [],
         }, "The other cases of `Outcome` are of commands that read the same texts by the same words (`Reads`), or of files or memory that"
-           " failed. What a replay then does is in claims 3 and 4.", 254),
+           " failed. What a replay then does is in claims 3 and 4.", 257),
     ]),
     Claim("No acknowledged answer is lost", [
         Reading("of a replay", {"left": ["IsAsLeft"], "answers": ["RunEnds"], "journal": ["RunLeaves"]}, {
@@ -136,7 +136,7 @@ CLAIMS = [
             "exam_office StandsSecond": [],
             "history_model LacksForm": [],
             "exam_hall Fails": [],
-        }, "`LacksForm` and `Fails` are why a request is refused or not done. `Reads` is in claim 2, and `StandsSecond` in claim 3.", 338),
+        }, "`LacksForm` and `Fails` are why a request is refused or not done. `Reads` is in claim 2, and `StandsSecond` in claim 3.", 342),
         Reading("of a server that ended", {"answers": ["RunEnds", "AreServed"]}, {
             "exam_program RunEnds": ["busy"],
             "exam_program IsServedBy": [],
@@ -144,7 +144,7 @@ CLAIMS = [
             "exam_serve IsConnection": ["leads"],
             "exam_serve Asks": [],
             "exam_serve Probes": [],
-            "exam_hall Idles": [],
+            "prepare_desk Idles": [],
         }, "This is that each entry is of a request (`covers` of `AreServed`). What a request does (`Asks`) is in the reading above.", 50),
     ]),
     Claim("Nothing breaks by itself", [
