@@ -25,9 +25,10 @@ sys.path.insert(0, os.path.join(os.path.dirname(os.path.abspath(__file__)), ".."
 from exam_client import Connection, Server, answer, begin, request_bytes, split_reply  # noqa: E402
 
 LOOKS = 500  # the looks whose processor time is taken off
+SLOW = 0.005  # an answer that takes so many seconds without AHEAD is a slow one
 
-# The seconds to the replies that have a next item, those to the replies that end a session, the server's processor in seconds, and the items served
-Found = namedtuple("Found", "served ended processor items")
+# The seconds to each reply that has a next item, by booking and step, the server's processor in seconds, and the items served
+Found = namedtuple("Found", "served processor items")
 
 
 def banks(short):
@@ -102,8 +103,8 @@ class Client:
 
 
 def examine(address, asked, close):
-    """The seconds to the replies that have a next item, and to those that end a session; the items served."""
-    served, ended, items, order, each = [], [], 0, itertools.count(), asked.sessions
+    """The seconds to each reply that has a next item, by booking and step; the items served."""
+    served, items, order, each = {}, 0, itertools.count(), asked.sessions
     with selectors.DefaultSelector() as chosen:
         clients = [Client(address, iter(range(k * each, (k + 1) * each)), close) for k in range(asked.clients)]
         begun = time.perf_counter()
@@ -123,12 +124,12 @@ def examine(address, asked, close):
                     continue
                 waits = client.place["state"] == "waiting"
                 items += waits
-                if client.is_answer:
-                    (served if waits else ended).append(took)
+                if client.is_answer and waits:
+                    served[client.booking, client.place["step"]] = took
                 heapq.heappush(due, (time.perf_counter() + asked.think / 1e3, next(order), client))
             if due and not chosen.get_map():
                 time.sleep(max(0.0, due[0][0] - time.perf_counter()))
-    return served, ended, items
+    return served, items
 
 
 def processor_of_a_look(server):
@@ -146,9 +147,9 @@ def measure(program, texts, folder, asked, ahead, close):
     server = Server(program, *texts, journal, asked.workers, ahead=ahead)
     try:
         before = processor_of(server.process)
-        served, ended, items = examine(server.address, asked, close)
+        served, items = examine(server.address, asked, close)
         time.sleep(0.2)  # until what is prepared last is there
-        found = Found(served, ended, processor_of(server.process) - before, items)
+        found = Found(served, processor_of(server.process) - before, items)
         return found, processor_of_a_look(server)
     finally:
         server.kill()
@@ -160,28 +161,34 @@ def part(times, share):
     return sorted(times)[min(len(times) - 1, int(len(times) * share))] * 1e3
 
 
-def row(name, ahead, found, look, alone):
-    """One row of the table. `alone` is the processor of a step without AHEAD, less that of a look."""
-    times, quick = found.served, part(found.ended, 0.95)
-    step = found.processor / found.items - look
+def taken_off(found, without):
+    """Of the answers that are slow without AHEAD, the share that takes less than half of that time."""
+    slow = [key for key, took in without.served.items() if took > SLOW and key in found.served]
+    return f"{sum(found.served[key] < without.served[key] / 2 for key in slow) / len(slow):.0%} of {len(slow)}" if slow else "none slow"
+
+
+def row(name, ahead, found, step, without):
+    """One row of the table. `step` is the processor of a step. `without` is what the run without AHEAD found, and its processor of a step."""
+    times = list(found.served.values())
+    less = taken_off(found, without[0]) if without else ""
     print(f"| {name} | {ahead or 'none'} | {len(times)} | {part(times, 0.5):.2f} | {part(times, 0.95):.1f} | {part(times, 0.99):.1f} "
-          f"| {max(times) * 1e3:.0f} | {sum(t * 1e3 <= quick for t in times) / len(times):.0%} | {step * 1e3:.2f} "
-          f"| {step / (alone or step):.2f} |", flush=True)
-    return alone or step
+          f"| {max(times) * 1e3:.0f} | {less} | {step * 1e3:.2f} | {step / without[1] if without else 1:.2f} |", flush=True)
 
 
 def table(program, folder, asked, close):
     print(f"\n{'A connection a request' if close else 'Connections that stay open'}: {asked.clients} clients that think {asked.think} ms, {asked.sessions} sessions "
           f"each, {asked.workers} workers, {os.cpu_count()} processors, load {os.getloadavg()[0]:.1f} before\n")
-    print("| Bank | AHEAD | Answers | Median ms | 95 % ms | 99 % ms | Longest ms | As quick as an end | Processor a step ms | Beside none |")
+    print("| Bank | AHEAD | Answers | Median ms | 95 % ms | 99 % ms | Longest ms | Slow ones halved | Processor a step ms | Beside none |")
     print("|---|---|---|---|---|---|---|---|---|---|", flush=True)
     for problem in banks(asked.short):
         if asked.only not in problem.name:
             continue
-        texts, alone = texts_in(folder, problem.bank, problem.plan), None
+        texts, without = texts_in(folder, problem.bank, problem.plan), None
         for ahead in (None, asked.ahead):
             found, look = measure(program, texts, folder, asked, ahead, close)
-            alone = row(problem.name, ahead, found, look, alone)
+            step = found.processor / found.items - look
+            row(problem.name, ahead, found, step, without)
+            without = without or (found, step)
     print(f"\nload {os.getloadavg()[0]:.1f} after")
 
 
