@@ -3,9 +3,9 @@
 ghost use Rattle.form_model.specs.Validity.{IsPlanFor, IsWellMade};
 ghost use Rattle.constraint_model.specs.Views.{problem_of};
 
-use crate::equal::is_equal;
+use crate::equal::expect_equal;
 use crate::settings::Setting;
-use crate::trials::{Question, Trial, hold};
+use crate::trials::{Question, Trial, expect_trials};
 use bank_tables::Bank;
 use branch_bound::{Assembled, Outcome, assemble, assemble_by_fallback};
 use certificate_model::Node;
@@ -52,7 +52,7 @@ fn has_branch(found: &Assembled<'_>) -> bool {
 }
 
 /// The tree is of the search, not of the fallback search. If `branches` is true, it has a branch.
-fn is_of_search<R: Abort>(rt: &R, found: &Assembled<'_>, branches: bool) {
+fn expect_of_search<R: Abort>(rt: &R, found: &Assembled<'_>, branches: bool) {
     assert!(rt; !found.used_fallback());
     if branches {
         assert!(rt; has_branch(found));
@@ -72,7 +72,7 @@ fn searched<R: Abort>(
 {
     match assemble(alloc, Problem::whole(bank, spec), None, 2_001) {
         Ok(found) => {
-            is_of_search(rt, &found, branches);
+            expect_of_search(rt, &found, branches);
             decided(rt, &found)
         }
         Err(_) => panic!(rt; "out of memory"),
@@ -91,7 +91,7 @@ fn found_by_fallback<R: Abort>(rt: &R, alloc: Global, bank: &Bank, spec: &Spec) 
 
 /// The search, the fallback search and the enumeration find a form of this objective. None: they
 /// prove that there is no form.
-pub(crate) fn finds<R: Abort>(
+pub(crate) fn expect_best<R: Abort>(
     rt: &R,
     alloc: Global,
     bank: &Bank,
@@ -101,9 +101,9 @@ pub(crate) fn finds<R: Abort>(
 )
     requires { IsPlanFor bank.now spec.now }
 {
-    is_equal(rt, &searched(rt, alloc, bank, spec, branches), &best);
-    is_equal(rt, &found_by_fallback(rt, alloc, bank, spec), &best);
-    is_equal(rt, &enumerated(rt, &Problem::whole(bank, spec)), &best);
+    expect_equal(rt, &searched(rt, alloc, bank, spec, branches), &best);
+    expect_equal(rt, &found_by_fallback(rt, alloc, bank, spec), &best);
+    expect_equal(rt, &enumerated(rt, &Problem::whole(bank, spec)), &best);
 }
 
 const BEST: [Trial; 5] = [
@@ -128,5 +128,5 @@ const BEST: [Trial; 5] = [
 
 #[test]
 fn the_searches_agree(rt: HostRuntime) {
-    hold(&rt, rt.alloc(), &BEST);
+    expect_trials(&rt, rt.alloc(), &BEST);
 }

@@ -3,9 +3,9 @@
 ghost use Rattle.form_model.specs.Validity.{IsWellMade};
 ghost use Rattle.constraint_model.specs.Views.{problem_of};
 
-use crate::equal::is_equal;
+use crate::equal::expect_equal;
 use crate::settings::Setting;
-use crate::trials::{Question, Trial, hold};
+use crate::trials::{Question, Trial, expect_trials};
 use bank_tables::List;
 use constraint_model::Problem;
 use lagrange_bound::{Cut, bound};
@@ -34,7 +34,7 @@ fn bounds_at_root<R: Abort>(
 
 /// The bound without multipliers is this one. Steps towards the highest number lead to one from the
 /// lowest to the highest.
-pub(crate) fn improves<R: Abort>(
+pub(crate) fn expect_bound<R: Abort>(
     rt: &R,
     alloc: Global,
     problem: &Problem<'_>,
@@ -45,7 +45,7 @@ pub(crate) fn improves<R: Abort>(
 {
     let (low, high) = range;
     let [found, improved] = bounds_at_root(rt, alloc, problem, u64::from(high));
-    is_equal(rt, &found, &Some(plain));
+    expect_equal(rt, &found, &Some(plain));
     let improved = improved.expect(rt, "a bound");
     assert!(rt; low <= improved);
     assert!(rt; improved <= i64::from(high));
@@ -59,5 +59,5 @@ const LOWER: [Trial; 1] = [(Setting::Plain(1), &[], Question::Bound(6_144, 5_888
 
 #[test]
 fn steps_find_a_lower_bound(rt: HostRuntime) {
-    hold(&rt, rt.alloc(), &LOWER);
+    expect_trials(&rt, rt.alloc(), &LOWER);
 }

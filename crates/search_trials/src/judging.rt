@@ -6,9 +6,9 @@ ghost use Rattle.bank_tables.specs.Validity.{HoldsItems};
 ghost use Rattle.form_model.specs.Validity.{IsWellMade};
 ghost use Rattle.constraint_model.specs.Views.{problem_of};
 
-use crate::equal::is_equal;
+use crate::equal::expect_equal;
 use crate::settings::Setting;
-use crate::trials::{Question, Trial, hold};
+use crate::trials::{Question, Trial, expect_trials};
 use bank_tables::ItemSet;
 use certificate_check::{Reason, Verdict, check, spent};
 use constraint_model::Problem;
@@ -39,7 +39,7 @@ fn judged(problem: &Problem<'_>, form: u8, tree: &Tree) -> Verdict
 }
 
 /// The tree of these bytes has this verdict with the form of these bits.
-pub(crate) fn judges<R: Abort>(
+pub(crate) fn expect_verdict<R: Abort>(
     rt: &R,
     alloc: Global,
     problem: &Problem<'_>,
@@ -50,7 +50,7 @@ pub(crate) fn judges<R: Abort>(
     requires { IsWellMade (problem_of problem.now) }
 {
     let (tree, _) = decode(alloc, bytes).expect(rt, "a tree");
-    is_equal(rt, &judged(problem, form, &tree), &verdict);
+    expect_equal(rt, &judged(problem, form, &tree), &verdict);
 }
 
 /// The problem of a session that was last served from this form.
@@ -79,7 +79,7 @@ fn is_spent<R: Abort>(rt: &R, problem: &Problem<'_>, start: u8, tree: &Tree, bud
 }
 
 /// The tree of these bytes spends the budget, or does not.
-pub(crate) fn spends<R: Abort>(
+pub(crate) fn expect_spent<R: Abort>(
     rt: &R,
     alloc: Global,
     problem: &Problem<'_>,
@@ -91,7 +91,7 @@ pub(crate) fn spends<R: Abort>(
     requires { IsWellMade (problem_of problem.now) }
 {
     let (tree, _) = decode(alloc, bytes).expect(rt, "a tree");
-    is_equal(rt, &is_spent(rt, problem, start, &tree, budget), &expected);
+    expect_equal(rt, &is_spent(rt, problem, start, &tree, budget), &expected);
 }
 
 /// Three items: one of 0 and 1, and not both 2 and 5.
@@ -296,12 +296,12 @@ const SPENT: [Trial; 12] = [
 
 #[test]
 fn verdicts(rt: HostRuntime) {
-    hold(&rt, rt.alloc(), &CAPPED);
-    hold(&rt, rt.alloc(), &VERDICTS);
-    hold(&rt, rt.alloc(), &NO_FORM);
+    expect_trials(&rt, rt.alloc(), &CAPPED);
+    expect_trials(&rt, rt.alloc(), &VERDICTS);
+    expect_trials(&rt, rt.alloc(), &NO_FORM);
 }
 
 #[test]
 fn spent_trees(rt: HostRuntime) {
-    hold(&rt, rt.alloc(), &SPENT);
+    expect_trials(&rt, rt.alloc(), &SPENT);
 }

@@ -1,6 +1,6 @@
 //! Proof trees in bytes: each fault at its place, and the worked trees.
 
-use crate::equal::is_equal;
+use crate::equal::expect_equal;
 use bank_tables::List;
 use proof_tree::{Node, Tree, TreeFault, Vector, decode, encode};
 use std::alloc::Global;
@@ -50,28 +50,28 @@ const NO_TREES: [(&[u8], TreeFault); 25] = [
 ];
 
 /// These bytes have this fault.
-fn has_fault<R: Abort>(rt: &R, alloc: Global, bytes: &[u8], fault: TreeFault) {
-    is_equal(rt, &decode(alloc, bytes).err(), &Some(fault));
+fn expect_fault<R: Abort>(rt: &R, alloc: Global, bytes: &[u8], fault: TreeFault) {
+    expect_equal(rt, &decode(alloc, bytes).err(), &Some(fault));
 }
 
 #[test]
 fn faults(rt: HostRuntime) {
     for (bytes, fault) in &NO_TREES {
-        has_fault(&rt, rt.alloc(), bytes, *fault);
+        expect_fault(&rt, rt.alloc(), bytes, *fault);
     }
 }
 
 /// The bytes begin with a tree of so many vectors, which takes so many bytes.
-fn reads<R: Abort>(rt: &R, alloc: Global, bytes: &[u8], expected: usize, vectors: usize) {
+fn expect_tree<R: Abort>(rt: &R, alloc: Global, bytes: &[u8], expected: usize, vectors: usize) {
     let (tree, used) = decode(alloc, bytes).expect(rt, "a tree");
-    is_equal(rt, &used, &expected);
-    is_equal(rt, &tree.vectors().len(), &vectors);
+    expect_equal(rt, &used, &expected);
+    expect_equal(rt, &tree.vectors().len(), &vectors);
 }
 
 /// The tree is spelled with these bytes.
-fn is_spelled<R: Abort>(rt: &R, alloc: Global, tree: &Tree, bytes: &[u8]) {
+fn expect_spelling<R: Abort>(rt: &R, alloc: Global, tree: &Tree, bytes: &[u8]) {
     let found = encode(alloc, tree).expect(rt, "the bytes");
-    is_equal(rt, &found.as_slice(), &bytes);
+    expect_equal(rt, &found.as_slice(), &bytes);
 }
 
 /// Adds a vector of 384 pairs, with the multiplier 1 on each side.
@@ -102,10 +102,10 @@ fn many_pairs<R: Abort>(rt: &R, alloc: Global, last: &[u8]) -> Vec<u8> {
 fn most_pairs(rt: HostRuntime) {
     let alloc = rt.alloc();
     // A vector of no pair, and one node.
-    reads(&rt, alloc, &many_pairs(&rt, alloc, &[0, 0, 7]), 73_796, 33);
+    expect_tree(&rt, alloc, &many_pairs(&rt, alloc, &[0, 0, 7]), 73_796, 33);
     // The 12,289th pair.
     let fault = TreeFault::BadVector(73_793);
-    has_fault(&rt, alloc, &many_pairs(&rt, alloc, &[0, 1]), fault);
+    expect_fault(&rt, alloc, &many_pairs(&rt, alloc, &[0, 1]), fault);
 }
 
 /// A byte, so many times two bytes, and then these bytes.
@@ -129,39 +129,39 @@ fn repeated<R: Abort>(
 fn most_vectors(rt: HostRuntime) {
     let alloc = rt.alloc();
     let bytes = repeated(&rt, alloc, 255, (255, [0, 0]), &[7]);
-    reads(&rt, alloc, &bytes, 512, 255);
+    expect_tree(&rt, alloc, &bytes, 512, 255);
 }
 
 /// A tree of 4,095 branches and then these bytes has this fault.
-fn branches_have_fault<R: Abort>(rt: &R, alloc: Global, last: &[u8], fault: TreeFault) {
+fn expect_fault_of_branches<R: Abort>(rt: &R, alloc: Global, last: &[u8], fault: TreeFault) {
     let bytes = repeated(rt, alloc, 0, (4095, [2, 1]), last);
-    has_fault(rt, alloc, &bytes, fault);
+    expect_fault(rt, alloc, &bytes, fault);
 }
 
 #[test]
 fn most_nodes(rt: HostRuntime) {
-    branches_have_fault(&rt, rt.alloc(), &[], TreeFault::Unfinished(8191));
-    branches_have_fault(&rt, rt.alloc(), &[7], TreeFault::TooLong(8191));
+    expect_fault_of_branches(&rt, rt.alloc(), &[], TreeFault::Unfinished(8191));
+    expect_fault_of_branches(&rt, rt.alloc(), &[7], TreeFault::TooLong(8191));
 }
 
 /// One vector of one pair, side 1 with multiplier 1, and one node, a ray of it.
 const RAY: [u8; 11] = [1, 0, 1, 0, 1, 0, 0, 0, 1, 4, 0];
 
 /// The tree is that of `RAY`.
-fn is_ray<R: Abort>(rt: &R, tree: &Tree) {
+fn expect_ray<R: Abort>(rt: &R, tree: &Tree) {
     let [vector] = tree.vectors() else {
         panic!(rt; "another number of vectors");
     };
-    is_equal(rt, &vector.pairs(), &[(1, 1)].as_slice());
-    is_equal(rt, &tree.nodes(), &[Node::Ray(0)].as_slice());
+    expect_equal(rt, &vector.pairs(), &[(1, 1)].as_slice());
+    expect_equal(rt, &tree.nodes(), &[Node::Ray(0)].as_slice());
 }
 
 #[test]
 fn eleven_bytes(rt: HostRuntime) {
     let (tree, used) = decode(rt.alloc(), &RAY).expect(&rt, "a tree");
-    is_equal(&rt, &used, &11);
-    is_ray(&rt, &tree);
-    is_spelled(&rt, rt.alloc(), &tree, &RAY);
+    expect_equal(&rt, &used, &11);
+    expect_ray(&rt, &tree);
+    expect_spelling(&rt, rt.alloc(), &tree, &RAY);
 }
 
 /// The pairs of the made vector: the lowest and the highest side and multiplier.
@@ -205,19 +205,19 @@ const MADE_AND_MORE: [u8; 27] = [
 
 #[test]
 fn made_tree(rt: HostRuntime) {
-    is_spelled(&rt, rt.alloc(), &made(&rt, rt.alloc()), &MADE);
+    expect_spelling(&rt, rt.alloc(), &made(&rt, rt.alloc()), &MADE);
 }
 
 /// `MADE_AND_MORE` begins with the made tree. The tree takes 25 bytes.
 #[test]
 fn made_tree_is_read_again(rt: HostRuntime) {
     let (again, used) = decode(rt.alloc(), &MADE_AND_MORE).expect(&rt, "a tree");
-    is_equal(&rt, &used, &25);
-    is_equal(&rt, &again.nodes(), &NODES.as_slice());
+    expect_equal(&rt, &used, &25);
+    expect_equal(&rt, &again.nodes(), &NODES.as_slice());
 }
 
 /// These nodes are no tree.
-fn is_no_tree<R: Abort>(rt: &R, alloc: Global, nodes: &[Node]) {
+fn expect_no_tree<R: Abort>(rt: &R, alloc: Global, nodes: &[Node]) {
     assert!(rt; tree_of(rt, alloc, Vec::new(alloc), nodes).is_none());
 }
 
@@ -225,6 +225,6 @@ fn is_no_tree<R: Abort>(rt: &R, alloc: Global, nodes: &[Node]) {
 fn no_tree(rt: HostRuntime) {
     let alloc = rt.alloc();
     assert!(rt; vector_of(&rt, alloc, &[(3, 1), (3, 1)]).is_none());
-    is_no_tree(&rt, alloc, &[Node::Open, Node::Open]);
-    is_no_tree(&rt, alloc, &[Node::BranchItem(0), Node::Open]);
+    expect_no_tree(&rt, alloc, &[Node::Open, Node::Open]);
+    expect_no_tree(&rt, alloc, &[Node::BranchItem(0), Node::Open]);
 }

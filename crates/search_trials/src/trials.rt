@@ -2,9 +2,9 @@
 
 ghost use Rattle.form_model.specs.Validity.{IsPlanFor};
 
-use crate::agreement::finds;
-use crate::improving::improves;
-use crate::judging::{judges, spends};
+use crate::agreement::expect_best;
+use crate::improving::expect_bound;
+use crate::judging::{expect_spent, expect_verdict};
 use crate::settings::{Setting, bank, draft};
 use bank_tables::Bank;
 use certificate_check::Verdict;
@@ -34,16 +34,16 @@ pub(crate) type Trial = (Setting, &'static [u8], Question);
 
 /// What owns a bank is a function of its own, since one that also makes a problem of it is dear to
 /// prove. The same is true of a plan.
-fn answers<R: Abort>(rt: &R, alloc: Global, bank: &Bank, spec: &Spec, trial: &Trial)
+fn expect_answer<R: Abort>(rt: &R, alloc: Global, bank: &Bank, spec: &Spec, trial: &Trial)
     requires { IsPlanFor bank.now spec.now }
 {
     let (_, bytes, question) = trial;
     match *question {
         Question::Verdict(form, verdict) => {
-            judges(rt, alloc, &Problem::whole(bank, spec), form, bytes, verdict);
+            expect_verdict(rt, alloc, &Problem::whole(bank, spec), form, bytes, verdict);
         }
         Question::Spent(start, budget, spent) => {
-            spends(
+            expect_spent(
                 rt,
                 alloc,
                 &Problem::whole(bank, spec),
@@ -53,31 +53,31 @@ fn answers<R: Abort>(rt: &R, alloc: Global, bank: &Bank, spec: &Spec, trial: &Tr
                 spent,
             );
         }
-        Question::Best(best, branches) => finds(rt, alloc, bank, spec, best, branches),
+        Question::Best(best, branches) => expect_best(rt, alloc, bank, spec, best, branches),
         Question::Bound(plain, low, high) => {
-            improves(rt, alloc, &Problem::whole(bank, spec), plain, (low, high));
+            expect_bound(rt, alloc, &Problem::whole(bank, spec), plain, (low, high));
         }
     }
 }
 
 /// The same of the plan of a draft.
-fn answers_by<R: Abort>(rt: &R, alloc: Global, bank: &Bank, draft: Draft, trial: &Trial) {
+fn expect_answer_by<R: Abort>(rt: &R, alloc: Global, bank: &Bank, draft: Draft, trial: &Trial) {
     match Spec::of(alloc, bank, draft) {
-        Ok(spec) => answers(rt, alloc, bank, &spec, trial),
+        Ok(spec) => expect_answer(rt, alloc, bank, &spec, trial),
         Err(_) => panic!(rt; "no plan"),
     }
 }
 
-fn holds<R: Abort>(rt: &R, alloc: Global, trial: &Trial) {
+fn expect_trial<R: Abort>(rt: &R, alloc: Global, trial: &Trial) {
     let (setting, _, _) = trial;
     let bank = bank(rt, alloc, *setting);
     let draft = draft(alloc, *setting).expect(rt, "a draft");
-    answers_by(rt, alloc, &bank, draft, trial);
+    expect_answer_by(rt, alloc, &bank, draft, trial);
 }
 
 /// Each question has its answer.
-pub(crate) fn hold<R: Abort>(rt: &R, alloc: Global, trials: &[Trial]) {
+pub(crate) fn expect_trials<R: Abort>(rt: &R, alloc: Global, trials: &[Trial]) {
     for trial in trials {
-        holds(rt, alloc, trial);
+        expect_trial(rt, alloc, trial);
     }
 }
