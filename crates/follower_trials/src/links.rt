@@ -91,7 +91,7 @@ fn other_offers_leave_the_file(rt: HostRuntime) -> Result<(), AllocError> {
 }
 
 // A follower of three records stops at a call of the disk of the fourth delivery, with so many records on its disk.
-fn stops_at<R: Abort + Wait>(
+fn expect_stop_at<R: Abort + Wait>(
     rt: &R,
     alloc: Global,
     file: &[u8],
@@ -122,7 +122,7 @@ fn a_stop_leaves_the_records_or_one_more(rt: HostRuntime) -> Result<(), AllocErr
     assert!(rt; three.followed == Followed::Done(3));
     // Opening three records is 21 calls, and the delivery four.
     for call in 21..25u64 {
-        stops_at(
+        expect_stop_at(
             &rt,
             alloc,
             &file,
