@@ -1,6 +1,6 @@
 //! Books of plans with two bands: where a session goes, what is counted of it there, and what is eligible for the next one.
 
-use crate::trials::{Question, Setting, Trial, holds};
+use crate::trials::{Question, Setting, Trial, expect_trial};
 use crate::worked::{Line, Shape};
 use exam_session::Illegal;
 use history_model::Counts;
@@ -179,6 +179,6 @@ const TRIALS: [Trial; 6] = [
 #[test]
 fn two_bands(rt: HostRuntime) {
     for trial in &TRIALS {
-        holds(&rt, rt.alloc(), trial);
+        expect_trial(&rt, rt.alloc(), trial);
     }
 }

@@ -1,7 +1,7 @@
 //! Books of examinations: each reason why a record may not follow, the counts of two sessions, and
 //! ten thousand sessions in one book.
 
-use crate::trials::{Question, Setting, Trial, holds};
+use crate::trials::{Question, Setting, Trial, expect_trial};
 use crate::worked::{Line, Shape};
 use certificate_model::{Reason, Verdict};
 use constraint_model::Breach;
@@ -153,7 +153,7 @@ const AFTER_SETTING_ASIDE: &[Question] = &[
 #[test]
 fn reasons(rt: HostRuntime) {
     for trial in &REASONS {
-        holds(&rt, rt.alloc(), trial);
+        expect_trial(&rt, rt.alloc(), trial);
     }
 }
 
@@ -226,8 +226,8 @@ const OF_ONE_CLOSED: &[Question] = &[
 
 #[test]
 fn two_sessions(rt: HostRuntime) {
-    holds(&rt, rt.alloc(), &(WORKED, TWO_SESSIONS, OF_TWO));
-    holds(&rt, rt.alloc(), &(WORKED, ONE_CLOSED, OF_ONE_CLOSED));
+    expect_trial(&rt, rt.alloc(), &(WORKED, TWO_SESSIONS, OF_TWO));
+    expect_trial(&rt, rt.alloc(), &(WORKED, ONE_CLOSED, OF_ONE_CLOSED));
 }
 
 /// Session 1 begins without item 2.
@@ -271,8 +271,8 @@ const OF_LISTED_CLOSED: &[Question] = &[
 
 #[test]
 fn without_an_item(rt: HostRuntime) {
-    holds(&rt, rt.alloc(), &(WORKED, LISTED, OF_LISTED));
-    holds(&rt, rt.alloc(), &(WORKED, LISTED_CLOSED, OF_LISTED_CLOSED));
+    expect_trial(&rt, rt.alloc(), &(WORKED, LISTED, OF_LISTED));
+    expect_trial(&rt, rt.alloc(), &(WORKED, LISTED_CLOSED, OF_LISTED_CLOSED));
 }
 
 /// The counts of an item that was eligible and shown in ten thousand sessions.
@@ -290,5 +290,5 @@ const OF_MANY: &[Question] = &[
 
 #[test]
 fn ten_thousand_sessions(rt: HostRuntime) {
-    holds(&rt, rt.alloc(), &(Setting::One(10_000), &[], OF_MANY));
+    expect_trial(&rt, rt.alloc(), &(Setting::One(10_000), &[], OF_MANY));
 }

@@ -1,6 +1,6 @@
 //! The draw of eligible items: the inequality at its edge, and the words of ChaCha20 with the key of zeros.
 
-use crate::equal::is_equal;
+use crate::equal::expect_equal;
 use eligibility_draw::{admits, draw, draw_band};
 use exposure_counters::Counters;
 use form_model::Rate;
@@ -32,7 +32,7 @@ const EDGES: [Edge; 9] = [
 const HIGHEST: u32 = 4_294_967_295;
 
 /// The inequality admits the word at these counts, or does not.
-fn is_edge<R: Abort>(rt: &R, (word, (num, den), (alpha, eps), admitted): &Edge) {
+fn expect_edge<R: Abort>(rt: &R, (word, (num, den), (alpha, eps), admitted): &Edge) {
     let rate = Rate {
         num: *num,
         den: *den,
@@ -41,13 +41,13 @@ fn is_edge<R: Abort>(rt: &R, (word, (num, den), (alpha, eps), admitted): &Edge) 
         alpha: *alpha,
         eps: *eps,
     };
-    is_equal(rt, &admits(*word, rate, counts), admitted);
+    expect_equal(rt, &admits(*word, rate, counts), admitted);
 }
 
 #[test]
 fn words_at_the_edge(rt: HostRuntime) {
     for edge in &EDGES {
-        is_edge(&rt, edge);
+        expect_edge(&rt, edge);
     }
 }
 
@@ -70,7 +70,7 @@ fn four_sessions<R: Abort>(rt: &R, alloc: Global) -> Counters {
 fn a_draw_at_one_half(rt: HostRuntime) {
     let counters = four_sessions(&rt, rt.alloc());
     let eligible = draw(&[0; 32], Rate { num: 1, den: 2 }, 0, &counters);
-    is_equal(&rt, &eligible, &set_of(&[3, 5]));
+    expect_equal(&rt, &eligible, &set_of(&[3, 5]));
 }
 
 /// The words at the places 512 to 517 and 3,584 to 3,589 of that stream are a3df42f9, 391ab472, f2bbab0e, 433d3896, 61ae6684,
@@ -78,10 +78,10 @@ fn a_draw_at_one_half(rt: HostRuntime) {
 /// 224).
 const ONE_HALF_IN_BANDS: [(u8, &[u16]); 3] = [(0, &[3, 5]), (1, &[1, 3, 4]), (7, &[0, 1, 2, 3, 4])];
 
-fn is_drawn<R: Abort>(rt: &R, counters: &Counters, band: u8, items: &[u16]) {
+fn expect_drawn<R: Abort>(rt: &R, counters: &Counters, band: u8, items: &[u16]) {
     if band < 8 {
         let eligible = draw_band(&[0; 32], Rate { num: 1, den: 2 }, 0, band, counters);
-        is_equal(rt, &eligible, &set_of(items));
+        expect_equal(rt, &eligible, &set_of(items));
     } else {
         panic!(rt; "no band");
     }
@@ -91,6 +91,6 @@ fn is_drawn<R: Abort>(rt: &R, counters: &Counters, band: u8, items: &[u16]) {
 fn draws_in_bands(rt: HostRuntime) {
     let counters = four_sessions(&rt, rt.alloc());
     for (band, items) in &ONE_HALF_IN_BANDS {
-        is_drawn(&rt, &counters, *band, items);
+        expect_drawn(&rt, &counters, *band, items);
     }
 }

@@ -4,7 +4,7 @@ ghost use Rattle.std.specs.Prelude.{IsTrue};
 ghost use Rattle.std.specs.Option.{option_copied};
 ghost use Rattle.exam_records.specs.Shape.{GoesWith, HasBands};
 
-use crate::equal::is_equal;
+use crate::equal::expect_equal;
 use crate::worked::{FIRST_BEST, Line, Shape, entry_of, record, tree_bytes};
 use exam_records::{
     Entry, Record, RecordFault, decode, decode_old, encode, encode_old, encode_old_parts,
@@ -45,22 +45,22 @@ fn joined<R: Abort>(rt: &R, alloc: Global, parts: &[&[u8]]) -> Vec<u8> {
 }
 
 /// The record's tree has these bytes; it has none where there are no bytes.
-fn has_tree<R: Abort>(rt: &R, alloc: Global, rec: &Record, bytes: &[u8]) {
+fn expect_tree<R: Abort>(rt: &R, alloc: Global, rec: &Record, bytes: &[u8]) {
     match &rec.tree {
         Some(tree) => {
             let found = proof_tree::encode(alloc, tree).expect(rt, "a tree");
-            is_equal(rt, &found.as_slice(), &bytes);
+            expect_equal(rt, &found.as_slice(), &bytes);
         }
-        None => is_equal(rt, &bytes.len(), &0),
+        None => expect_equal(rt, &bytes.len(), &0),
     }
 }
 
 /// The record is spelled with these bytes.
-fn is_spelled<R: Abort>(rt: &R, alloc: Global, rec: &Record, bytes: &[u8])
+fn expect_spelling<R: Abort>(rt: &R, alloc: Global, rec: &Record, bytes: &[u8])
     requires { GoesWith rec.now.entry rec.now.tree }
 {
     let found = encode_old(alloc, 0, rec).expect(rt, "a payload");
-    is_equal(rt, &found.as_slice(), &bytes);
+    expect_equal(rt, &found.as_slice(), &bytes);
 }
 
 /// The tree goes with the entry.
@@ -77,18 +77,18 @@ fn goes_with(entry: &Entry, tree: Option<&Tree>) -> bool
 }
 
 /// The record has the entry and the tree of this line, and is spelled with these bytes.
-fn shows<R: Abort>(rt: &R, alloc: Global, rec: &Record, line: &Line, bytes: &[u8])
+fn expect_record<R: Abort>(rt: &R, alloc: Global, rec: &Record, line: &Line, bytes: &[u8])
     requires { GoesWith rec.now.entry rec.now.tree }
 {
-    is_equal(rt, &rec.entry, &entry_of(line));
-    has_tree(rt, alloc, rec, tree_bytes(line));
-    is_spelled(rt, alloc, rec, bytes);
+    expect_equal(rt, &rec.entry, &entry_of(line));
+    expect_tree(rt, alloc, rec, tree_bytes(line));
+    expect_spelling(rt, alloc, rec, bytes);
 }
 
 /// The bytes are read as the record of this line, and the record is spelled with them.
-fn reads<R: Abort>(rt: &R, alloc: Global, bytes: &[u8], line: &Line) {
+fn expect_reading<R: Abort>(rt: &R, alloc: Global, bytes: &[u8], line: &Line) {
     match decode_old(alloc, bytes) {
-        Ok(rec) => shows(rt, alloc, &rec, line, bytes),
+        Ok(rec) => expect_record(rt, alloc, &rec, line, bytes),
         Err(_) => panic!(rt; "no record"),
     }
 }
@@ -104,16 +104,16 @@ const WORKED: [(Parts, usize, Line); 3] = [
     ),
 ];
 
-fn is_worked<R: Abort>(rt: &R, alloc: Global, parts: Parts, length: usize, line: &Line) {
+fn expect_worked<R: Abort>(rt: &R, alloc: Global, parts: Parts, length: usize, line: &Line) {
     let bytes = joined(rt, alloc, parts);
-    is_equal(rt, &bytes.len(), &length);
-    reads(rt, alloc, &bytes, line);
+    expect_equal(rt, &bytes.len(), &length);
+    expect_reading(rt, alloc, &bytes, line);
 }
 
 #[test]
 fn worked_records(rt: HostRuntime) {
     for (parts, length, line) in &WORKED {
-        is_worked(&rt, rt.alloc(), parts, *length, line);
+        expect_worked(&rt, rt.alloc(), parts, *length, line);
     }
 }
 
@@ -129,14 +129,14 @@ const KEPT: [(Line, u8, Parts); 3] = [
     ),
 ];
 
-fn is_kept<R: Abort>(rt: &R, alloc: Global, line: &Line, first: u8, parts: Parts) {
+fn expect_kept<R: Abort>(rt: &R, alloc: Global, line: &Line, first: u8, parts: Parts) {
     let rec = record(rt, alloc, line);
     if first < 8 {
         let entry = &rec.entry;
         let tree = rec.tree.as_ref();
         if goes_with(entry, tree) {
             let found = encode_old_parts(alloc, first, entry, tree).expect(rt, "a payload");
-            is_equal(rt, &found.as_slice(), &joined(rt, alloc, parts).as_slice());
+            expect_equal(rt, &found.as_slice(), &joined(rt, alloc, parts).as_slice());
             return;
         }
     }
@@ -146,7 +146,7 @@ fn is_kept<R: Abort>(rt: &R, alloc: Global, line: &Line, first: u8, parts: Parts
 #[test]
 fn kept_of_two_bands(rt: HostRuntime) {
     for (line, first, parts) in &KEPT {
-        is_kept(&rt, rt.alloc(), line, *first, parts);
+        expect_kept(&rt, rt.alloc(), line, *first, parts);
     }
 }
 
@@ -168,15 +168,15 @@ const FAULTS: [(Parts, RecordFault); 7] = [
     ),
 ];
 
-fn has_fault<R: Abort>(rt: &R, alloc: Global, parts: Parts, fault: RecordFault) {
+fn expect_fault<R: Abort>(rt: &R, alloc: Global, parts: Parts, fault: RecordFault) {
     let bytes = joined(rt, alloc, parts);
-    is_equal(rt, &decode_old(alloc, &bytes).err(), &Some(fault));
+    expect_equal(rt, &decode_old(alloc, &bytes).err(), &Some(fault));
 }
 
 #[test]
 fn faults(rt: HostRuntime) {
     for (parts, fault) in &FAULTS {
-        has_fault(&rt, rt.alloc(), parts, *fault);
+        expect_fault(&rt, rt.alloc(), parts, *fault);
     }
 }
 
@@ -206,21 +206,21 @@ const WORKED_NOW: [(Parts, usize, Line); 5] = [
 ];
 
 /// The record has the entry and the tree of this line, and is spelled with these bytes.
-fn shows_now<R: Abort>(rt: &R, alloc: Global, rec: &Record, line: &Line, bytes: &[u8])
+fn expect_record_now<R: Abort>(rt: &R, alloc: Global, rec: &Record, line: &Line, bytes: &[u8])
     requires tree { GoesWith rec.now.entry rec.now.tree }
     requires bands { HasBands rec.now.entry }
 {
-    is_equal(rt, &rec.entry, &entry_of(line));
-    has_tree(rt, alloc, rec, tree_bytes(line));
+    expect_equal(rt, &rec.entry, &entry_of(line));
+    expect_tree(rt, alloc, rec, tree_bytes(line));
     let found = encode(alloc, rec).expect(rt, "a payload");
-    is_equal(rt, &found.as_slice(), &bytes);
+    expect_equal(rt, &found.as_slice(), &bytes);
 }
 
-fn is_worked_now<R: Abort>(rt: &R, alloc: Global, parts: Parts, length: usize, line: &Line) {
+fn expect_worked_now<R: Abort>(rt: &R, alloc: Global, parts: Parts, length: usize, line: &Line) {
     let bytes = joined(rt, alloc, parts);
-    is_equal(rt, &bytes.len(), &length);
+    expect_equal(rt, &bytes.len(), &length);
     match decode(alloc, &bytes) {
-        Ok(rec) => shows_now(rt, alloc, &rec, line, &bytes),
+        Ok(rec) => expect_record_now(rt, alloc, &rec, line, &bytes),
         Err(_) => panic!(rt; "no record"),
     }
 }
@@ -228,7 +228,7 @@ fn is_worked_now<R: Abort>(rt: &R, alloc: Global, parts: Parts, length: usize, l
 #[test]
 fn worked_records_now(rt: HostRuntime) {
     for (parts, length, line) in &WORKED_NOW {
-        is_worked_now(&rt, rt.alloc(), parts, *length, line);
+        expect_worked_now(&rt, rt.alloc(), parts, *length, line);
     }
 }
 
@@ -256,14 +256,14 @@ const FAULTS_NOW: [(Parts, RecordFault); 11] = [
     (&[&[7, 0, 0, 0, 0, 0, 2, 8]], RecordFault::Field(7)),
 ];
 
-fn has_fault_now<R: Abort>(rt: &R, alloc: Global, parts: Parts, fault: RecordFault) {
+fn expect_fault_now<R: Abort>(rt: &R, alloc: Global, parts: Parts, fault: RecordFault) {
     let bytes = joined(rt, alloc, parts);
-    is_equal(rt, &decode(alloc, &bytes).err(), &Some(fault));
+    expect_equal(rt, &decode(alloc, &bytes).err(), &Some(fault));
 }
 
 #[test]
 fn faults_now(rt: HostRuntime) {
     for (parts, fault) in &FAULTS_NOW {
-        has_fault_now(&rt, rt.alloc(), parts, *fault);
+        expect_fault_now(&rt, rt.alloc(), parts, *fault);
     }
 }

@@ -2,7 +2,7 @@
 
 ghost use Rattle.form_model.specs.Validity.{IsPlanFor};
 
-use crate::equal::is_equal;
+use crate::equal::expect_equal;
 use crate::worked::{Line, Shape, items_of, record, sets_of};
 use bank_tables::{Bank, List, Short};
 use constraint_model::{Draft, Spec};
@@ -122,22 +122,22 @@ fn counts_of(counters: &Counters, item: u16) -> Option<Counts> {
 }
 
 /// The counters have so many sessions, and these counts of the first items.
-fn has_counts<R: Abort>(rt: &R, counters: &Counters, visited: u32, counts: &[(u32, u32)]) {
-    is_equal(rt, &counters.finished(), &visited);
+fn expect_counts<R: Abort>(rt: &R, counters: &Counters, visited: u32, counts: &[(u32, u32)]) {
+    expect_equal(rt, &counters.finished(), &visited);
     let mut item = 0;
     for (alpha, eps) in counts {
         let counts = Counts {
             alpha: *alpha,
             eps: *eps,
         };
-        is_equal(rt, &counts_of(counters, item), &Some(counts));
+        expect_equal(rt, &counts_of(counters, item), &Some(counts));
         item = item.saturating_add(1);
     }
 }
 
-fn has_band<R: Abort>(rt: &R, book: &Book, band: u8, visited: u32, counts: &[(u32, u32)]) {
+fn expect_band<R: Abort>(rt: &R, book: &Book, band: u8, visited: u32, counts: &[(u32, u32)]) {
     if usize::from(band) < book.spec().bands().len() + 1 {
-        has_counts(rt, book.band_counters(band), visited, counts);
+        expect_counts(rt, book.band_counters(band), visited, counts);
     } else {
         panic!(rt; "no band");
     }
@@ -167,26 +167,32 @@ fn seat_of(shown: &[u16], response: u16, eligible: u8, form: u8) -> Seat {
     }
 }
 
-fn has_seat<R: Abort>(rt: &R, book: &Book, session: u32, seat: Seat) {
-    is_equal(rt, &book.seat(session), &Some(seat));
+fn expect_seat<R: Abort>(rt: &R, book: &Book, session: u32, seat: Seat) {
+    expect_equal(rt, &book.seat(session), &Some(seat));
 }
 
 /// The record of a line may not follow for this reason; with None it may.
-fn has_reason<R: Abort>(rt: &R, alloc: Global, book: &Book, line: &Line, reason: &Option<Illegal>) {
+fn expect_reason<R: Abort>(
+    rt: &R,
+    alloc: Global,
+    book: &Book,
+    line: &Line,
+    reason: &Option<Illegal>,
+) {
     let rec = record(rt, alloc, line);
-    is_equal(rt, &book.judge(&rec).err(), reason);
+    expect_equal(rt, &book.judge(&rec).err(), reason);
 }
 
-fn answers<R: Abort>(rt: &R, alloc: Global, book: &Book, question: &Question) {
+fn expect_answer<R: Abort>(rt: &R, alloc: Global, book: &Book, question: &Question) {
     match question {
-        Question::Reason(line, reason) => has_reason(rt, alloc, book, line, reason),
-        Question::Entries(number) => is_equal(rt, &book.entries(), number),
-        Question::Sessions(number) => is_equal(rt, &book.sessions(), number),
-        Question::Finished(number) => is_equal(rt, &book.counters().finished(), number),
-        Question::Booked(booking, session) => is_equal(rt, &book.booked(*booking), session),
-        Question::At(session, place) => is_equal(rt, &book.place(*session), place),
+        Question::Reason(line, reason) => expect_reason(rt, alloc, book, line, reason),
+        Question::Entries(number) => expect_equal(rt, &book.entries(), number),
+        Question::Sessions(number) => expect_equal(rt, &book.sessions(), number),
+        Question::Finished(number) => expect_equal(rt, &book.counters().finished(), number),
+        Question::Booked(booking, session) => expect_equal(rt, &book.booked(*booking), session),
+        Question::At(session, place) => expect_equal(rt, &book.place(*session), place),
         Question::Seat(session, shown, response, eligible, form) => {
-            has_seat(
+            expect_seat(
                 rt,
                 book,
                 *session,
@@ -194,47 +200,47 @@ fn answers<R: Abort>(rt: &R, alloc: Global, book: &Book, question: &Question) {
             );
         }
         Question::Exposure(item, counts) => {
-            is_equal(rt, &counts_of(book.counters(), *item), counts);
+            expect_equal(rt, &counts_of(book.counters(), *item), counts);
         }
-        Question::Band(band, visited, counts) => has_band(rt, book, *band, *visited, counts),
-        Question::IsAside(session, aside) => is_equal(rt, &book.is_aside(*session), aside),
+        Question::Band(band, visited, counts) => expect_band(rt, book, *band, *visited, counts),
+        Question::IsAside(session, aside) => expect_equal(rt, &book.is_aside(*session), aside),
     }
 }
 
-fn answers_each<R: Abort>(rt: &R, alloc: Global, book: &Book, questions: &[Question]) {
+fn expect_answers<R: Abort>(rt: &R, alloc: Global, book: &Book, questions: &[Question]) {
     for question in questions {
-        answers(rt, alloc, book, question);
+        expect_answer(rt, alloc, book, question);
     }
 }
 
 /// The book takes the sessions of its setting, then the records. Then it has the expected answers.
-fn shows<R: Abort>(rt: &R, alloc: Global, book: &mut Book, trial: &Trial) {
+fn expect_trial_of_book<R: Abort>(rt: &R, alloc: Global, book: &mut Book, trial: &Trial) {
     let (setting, lines, questions) = trial;
     if let Setting::One(sessions) = setting {
         take_sessions(rt, alloc, book, *sessions);
     }
     take_all(rt, alloc, book, lines);
-    answers_each(rt, alloc, book, questions);
+    expect_answers(rt, alloc, book, questions);
 }
 
 /// The same of a new book. What owns a bank is a function of its own, since one that also makes a
 /// book of it is dear to prove.
-fn shows_in<R: Abort>(rt: &R, alloc: Global, bank: &Bank, spec: &Spec, trial: &Trial)
+fn expect_trial_in<R: Abort>(rt: &R, alloc: Global, bank: &Bank, spec: &Spec, trial: &Trial)
     requires { IsPlanFor bank.now spec.now }
 {
     match Book::new(alloc, bank, spec) {
         Ok(book) => {
             let mut book = book;
-            shows(rt, alloc, &mut book, trial);
+            expect_trial_of_book(rt, alloc, &mut book, trial);
         }
         Err(_) => panic!(rt; "out of memory"),
     }
 }
 
 /// The same over a bank and the plan of a draft.
-fn shows_over<R: Abort>(rt: &R, alloc: Global, bank: &Bank, draft: Draft, trial: &Trial) {
+fn expect_trial_over<R: Abort>(rt: &R, alloc: Global, bank: &Bank, draft: Draft, trial: &Trial) {
     match Spec::of(alloc, bank, draft) {
-        Ok(spec) => shows_in(rt, alloc, bank, &spec, trial),
+        Ok(spec) => expect_trial_in(rt, alloc, bank, &spec, trial),
         Err(_) => panic!(rt; "no plan"),
     }
 }
@@ -325,8 +331,8 @@ fn draft_for<R: Abort>(rt: &R, alloc: Global, setting: Setting) -> Draft {
 }
 
 /// A new book has the expected answers.
-pub(crate) fn holds<R: Abort>(rt: &R, alloc: Global, trial: &Trial) {
+pub(crate) fn expect_trial<R: Abort>(rt: &R, alloc: Global, trial: &Trial) {
     let (setting, _, _) = trial;
     let bank = bank_for(rt, alloc, *setting);
-    shows_over(rt, alloc, &bank, draft_for(rt, alloc, *setting), trial);
+    expect_trial_over(rt, alloc, &bank, draft_for(rt, alloc, *setting), trial);
 }
