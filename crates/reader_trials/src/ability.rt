@@ -4,7 +4,7 @@
 ghost use Rattle.std.specs.Prelude.{◌≡◌, IsTrue};
 ghost use Rattle.bank_tables.specs.Tables.{categories, size};
 
-use crate::equal::is_equal;
+use crate::equal::expect_equal;
 use ability_grid::Sums;
 use bank_tables::Bank;
 use std::process::Abort;
@@ -19,17 +19,17 @@ const PRIORS: [(&[i32], u8); 5] = [
     (&[i32::MIN, i32::MAX], 1),
 ];
 
-fn has_mode<R: Abort>(rt: &R, prior: &[i32], mode: u8) {
+fn expect_mode<R: Abort>(rt: &R, prior: &[i32], mode: u8) {
     if prior.is_empty() || prior.len() > 61 {
         panic!(rt; "no prior");
     }
-    is_equal(rt, &Sums::of_prior(prior).mode(), &mode);
+    expect_equal(rt, &Sums::of_prior(prior).mode(), &mode);
 }
 
 #[test]
 fn the_lowest_point_of_a_tie(rt: HostRuntime) {
     for (prior, mode) in &PRIORS {
-        has_mode(&rt, prior, *mode);
+        expect_mode(&rt, prior, *mode);
     }
 }
 
@@ -60,5 +60,5 @@ fn modes<R: Abort>(rt: &R, bank: &Bank) -> [u8; 3] {
 #[test]
 fn answers_move_the_estimate(rt: HostRuntime) {
     let bank = bank_a(rt.alloc()).expect(&rt, "a bank");
-    is_equal(&rt, &modes(&rt, &bank), &[1, 2, 1]);
+    expect_equal(&rt, &modes(&rt, &bank), &[1, 2, 1]);
 }

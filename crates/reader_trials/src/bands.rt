@@ -2,7 +2,7 @@
 //! it is printed, and the band of each grid point. What is expected is from the rules of a plan, or
 //! was worked out by hand.
 
-use crate::equal::is_equal;
+use crate::equal::expect_equal;
 use crate::plan::{Worked, bank_of, printed_over_a};
 use bank_tables::{Bank, List};
 use constraint_model::{Draft, Rate, Spec, SpecFault};
@@ -52,16 +52,16 @@ const POINTS: [Points; 13] = [
 ];
 
 /// The draft with these points has this fault.
-fn has_fault<R: Abort>(rt: &R, alloc: Global, (points, fault): &Points) {
+fn expect_fault<R: Abort>(rt: &R, alloc: Global, (points, fault): &Points) {
     let bank = wide_bank(rt, alloc);
     let draft = draft_with(rt, alloc, points);
-    is_equal(rt, &Spec::of(alloc, &bank, draft).err(), fault);
+    expect_equal(rt, &Spec::of(alloc, &bank, draft).err(), fault);
 }
 
 #[test]
 fn points_that_are_taken_and_refused(rt: HostRuntime) {
     for points in &POINTS {
-        has_fault(&rt, rt.alloc(), points);
+        expect_fault(&rt, rt.alloc(), points);
     }
 }
 
@@ -75,44 +75,44 @@ const ORDER: [Order; 3] = [
     ((1, 1), 1, SpecFault::BadBands),
 ];
 
-fn is_in_order<R: Abort>(rt: &R, alloc: Global, ((num, den), budget, fault): Order) {
+fn expect_order<R: Abort>(rt: &R, alloc: Global, ((num, den), budget, fault): Order) {
     let bank = wide_bank(rt, alloc);
     let draft = Draft {
         rate: Rate { num, den },
         budget,
         ..draft_with(rt, alloc, &[0])
     };
-    is_equal(rt, &Spec::of(alloc, &bank, draft).err(), &Some(fault));
+    expect_equal(rt, &Spec::of(alloc, &bank, draft).err(), &Some(fault));
 }
 
 #[test]
 fn bands_are_tested_between_the_rate_and_the_budgets(rt: HostRuntime) {
     for order in &ORDER {
-        is_in_order(&rt, rt.alloc(), *order);
+        expect_order(&rt, rt.alloc(), *order);
     }
 }
 
 /// The band of each grid point of the wide bank.
-fn bands_of<R: Abort>(rt: &R, spec: &Spec, bands: &[u8; 9]) {
+fn expect_each_band<R: Abort>(rt: &R, spec: &Spec, bands: &[u8; 9]) {
     for point in 0..9 {
-        is_equal(rt, &spec.band(point), &bands[point as usize]);
+        expect_equal(rt, &spec.band(point), &bands[point as usize]);
     }
 }
 
 /// The plan with these points has them, and these bands.
-fn has_bands<R: Abort>(rt: &R, alloc: Global, points: &[u8], bands: &[u8; 9]) {
+fn expect_bands<R: Abort>(rt: &R, alloc: Global, points: &[u8], bands: &[u8; 9]) {
     let bank = wide_bank(rt, alloc);
     let draft = draft_with(rt, alloc, points);
     let spec = Spec::of(alloc, &bank, draft).expect(rt, "a plan");
-    is_equal(rt, &spec.bands(), &points);
-    bands_of(rt, &spec, bands);
+    expect_equal(rt, &spec.bands(), &points);
+    expect_each_band(rt, &spec, bands);
 }
 
 #[test]
 fn the_band_of_a_point(rt: HostRuntime) {
-    has_bands(&rt, rt.alloc(), &[], &[0; 9]);
-    has_bands(&rt, rt.alloc(), &[2, 5], &[0, 0, 1, 1, 1, 2, 2, 2, 2]);
-    has_bands(
+    expect_bands(&rt, rt.alloc(), &[], &[0; 9]);
+    expect_bands(&rt, rt.alloc(), &[2, 5], &[0, 0, 1, 1, 1, 2, 2, 2, 2]);
+    expect_bands(
         &rt,
         rt.alloc(),
         &[1, 2, 3, 4, 5, 6, 8],
@@ -131,22 +131,22 @@ fn bands_are_printed_after_the_key(rt: HostRuntime) {
         rt.alloc(),
         "bands 1 2\nbudget 5\nlength 3\nprior 0 0 0\n",
     );
-    is_equal(&rt, &found.as_slice(), &PRINTED.as_bytes());
+    expect_equal(&rt, &found.as_slice(), &PRINTED.as_bytes());
     let again = printed_over_a(&rt, rt.alloc(), PRINTED);
-    is_equal(&rt, &again.as_slice(), &PRINTED.as_bytes());
+    expect_equal(&rt, &again.as_slice(), &PRINTED.as_bytes());
 }
 
 /// A plan for a bank of one grid point can have no bands.
-fn has_no_bands_on_one_point<R: Abort>(rt: &R, alloc: Global, point: u8) {
+fn expect_no_bands_on_one_point<R: Abort>(rt: &R, alloc: Global, point: u8) {
     let bank = bank_of(rt, alloc, Worked::Q);
     let mut draft = draft_of(alloc, 2, &[0], &[], &[]).expect(rt, "a draft");
     draft.bands = points_of(rt, alloc, &[point]);
     let fault = Spec::of(alloc, &bank, draft).err();
-    is_equal(rt, &fault, &Some(SpecFault::BadBands));
+    expect_equal(rt, &fault, &Some(SpecFault::BadBands));
 }
 
 #[test]
 fn a_grid_of_one_point_has_no_bands(rt: HostRuntime) {
-    has_no_bands_on_one_point(&rt, rt.alloc(), 0);
-    has_no_bands_on_one_point(&rt, rt.alloc(), 1);
+    expect_no_bands_on_one_point(&rt, rt.alloc(), 0);
+    expect_no_bands_on_one_point(&rt, rt.alloc(), 1);
 }

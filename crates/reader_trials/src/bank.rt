@@ -1,6 +1,6 @@
 //! Banks of texts and of rows that have no fault.
 
-use crate::equal::is_equal;
+use crate::equal::expect_equal;
 use crate::source::{bytes_of, source_of};
 use bank_reader::{ReadFault, read_bank};
 use bank_tables::{Bank, Rows};
@@ -85,28 +85,32 @@ fn sizes(bank: &Bank) -> (u16, u8, u8, u8) {
     (bank.items(), bank.grid(), bank.quantities(), bank.stimuli())
 }
 
-fn has<R: Abort>(rt: &R, bank: &Bank, fact: &Fact) {
+fn expect_fact<R: Abort>(rt: &R, bank: &Bank, fact: &Fact) {
     match *fact {
         Fact::Sizes(items, grid, quantities, stimuli) => {
-            is_equal(rt, &sizes(bank), &(items, grid, quantities, stimuli))
+            expect_equal(rt, &sizes(bank), &(items, grid, quantities, stimuli))
         }
-        Fact::Stimulus(item, expected) => is_equal(rt, &stimulus(bank, item), &Some(expected)),
-        Fact::Categories(item, expected) => is_equal(rt, &categories(bank, item), &Some(expected)),
+        Fact::Stimulus(item, expected) => expect_equal(rt, &stimulus(bank, item), &Some(expected)),
+        Fact::Categories(item, expected) => expect_equal(
+            rt,
+            &categories(bank, item),
+            &Some(expected),
+        ),
         Fact::Quantity(item, which, expected) => {
-            is_equal(rt, &quantity(bank, item, which), &Some(expected))
+            expect_equal(rt, &quantity(bank, item, which), &Some(expected))
         }
         Fact::Info(item, point, expected) => {
-            is_equal(rt, &info(bank, item, point), &Some(expected))
+            expect_equal(rt, &info(bank, item, point), &Some(expected))
         }
         Fact::Loglik(item, response, point, expected) => {
-            is_equal(rt, &loglik(bank, item, response, point), &Some(expected))
+            expect_equal(rt, &loglik(bank, item, response, point), &Some(expected))
         }
     }
 }
 
-fn has_all<R: Abort>(rt: &R, bank: &Bank, facts: &[Fact]) {
+fn expect_facts<R: Abort>(rt: &R, bank: &Bank, facts: &[Fact]) {
     for fact in facts {
-        has(rt, bank, fact);
+        expect_fact(rt, bank, fact);
     }
 }
 
@@ -170,15 +174,15 @@ const TEXTS: [(&str, &[Fact]); 6] = [
 ];
 
 /// The text is read to a bank of which this is found.
-fn reads<R: Abort>(rt: &R, alloc: Global, text: &str, facts: &[Fact]) {
+fn expect_bank<R: Abort>(rt: &R, alloc: Global, text: &str, facts: &[Fact]) {
     let bank = read(rt, alloc, bytes_of(rt, alloc, text), &[]).expect(rt, "a bank");
-    has_all(rt, &bank, facts);
+    expect_facts(rt, &bank, facts);
 }
 
 #[test]
 fn texts_of_banks(rt: HostRuntime) {
     for (text, facts) in &TEXTS {
-        reads(&rt, rt.alloc(), text, facts);
+        expect_bank(&rt, rt.alloc(), text, facts);
     }
 }
 
@@ -206,5 +210,5 @@ const WIDEST: &[Fact] = &[Fact::Sizes(1, 1, 1, 64), Fact::Loglik(0, 0, 0, -10_00
 fn the_widest_bank_of_rows(rt: HostRuntime) {
     let widest = rows(&rt, rt.alloc(), 1, (64, 65_535, 1_000_000, -10_000_000));
     let bank = Bank::of(rt.alloc(), widest).expect(&rt, "a bank");
-    has_all(&rt, &bank, WIDEST);
+    expect_facts(&rt, &bank, WIDEST);
 }

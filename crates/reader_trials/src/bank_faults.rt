@@ -2,7 +2,7 @@
 //! text.
 
 use crate::bank::{ItemNumbers, read, rows};
-use crate::equal::{is_equal, is_equal_at};
+use crate::equal::{expect_equal, expect_equal_at};
 use crate::source::bytes_of;
 use bank_reader::ReadFault;
 use bank_tables::{Bank, BankFault};
@@ -23,9 +23,9 @@ fn changed<R: Abort>(rt: &R, alloc: Global, text: &str, old: &str, new: &str) ->
 }
 
 /// The text has this fault.
-fn is_refused<R: Abort>(rt: &R, alloc: Global, text: &str, fault: ReadFault) {
+fn expect_refusal<R: Abort>(rt: &R, alloc: Global, text: &str, fault: ReadFault) {
     let found = read(rt, alloc, bytes_of(rt, alloc, text), &[]).err();
-    is_equal_at(rt, text, &found, &Some(fault));
+    expect_equal_at(rt, text, &found, &Some(fault));
 }
 
 /// Changes of bank A's text, each with its fault.
@@ -69,7 +69,7 @@ const CHANGES: [(&str, &str, ReadFault); 17] = [
 fn changes_of_bank_a(rt: HostRuntime) {
     for (old, new, fault) in &CHANGES {
         let text = changed(&rt, rt.alloc(), BANK_A, old, new);
-        is_refused(&rt, rt.alloc(), &text, *fault);
+        expect_refusal(&rt, rt.alloc(), &text, *fault);
     }
 }
 
@@ -108,7 +108,7 @@ const SEVERAL: [(&str, ReadFault); 9] = [
 #[test]
 fn first_of_several(rt: HostRuntime) {
     for (text, fault) in &SEVERAL {
-        is_refused(&rt, rt.alloc(), text, *fault);
+        expect_refusal(&rt, rt.alloc(), text, *fault);
     }
 }
 
@@ -150,7 +150,7 @@ const LENGTHS: [(usize, &[u64], Result<u16, ReadFault>); 7] = [
     (10_000, &[4], Ok(1)),
 ];
 
-fn reads_padded<R: Abort>(
+fn expect_padded<R: Abort>(
     rt: &R,
     alloc: Global,
     length: usize,
@@ -158,14 +158,14 @@ fn reads_padded<R: Abort>(
     expected: &Result<u16, ReadFault>,
 ) {
     let text = padded(rt, alloc, length);
-    is_equal(rt, &text.len(), &length);
-    is_equal(rt, &items_in(read(rt, alloc, text, fails)), expected);
+    expect_equal(rt, &text.len(), &length);
+    expect_equal(rt, &items_in(read(rt, alloc, text, fails)), expected);
 }
 
 #[test]
 fn long_texts_and_failing_reads(rt: HostRuntime) {
     for (length, fails, expected) in &LENGTHS {
-        reads_padded(&rt, rt.alloc(), *length, fails, expected);
+        expect_padded(&rt, rt.alloc(), *length, fails, expected);
     }
 }
 
@@ -178,7 +178,7 @@ const ROWS: [(u32, ItemNumbers, BankFault); 5] = [
     (9, (0, 0, 0, 0), BankFault::BadGrid),
 ];
 
-fn are_refused<R: Abort>(
+fn expect_refusal_of_rows<R: Abort>(
     rt: &R,
     alloc: Global,
     quantities: u32,
@@ -186,12 +186,12 @@ fn are_refused<R: Abort>(
     fault: BankFault,
 ) {
     let found = Bank::of(alloc, rows(rt, alloc, quantities, numbers)).err();
-    is_equal(rt, &found, &Some(fault));
+    expect_equal(rt, &found, &Some(fault));
 }
 
 #[test]
 fn faults_of_rows(rt: HostRuntime) {
     for (quantities, numbers, fault) in &ROWS {
-        are_refused(&rt, rt.alloc(), *quantities, *numbers, *fault);
+        expect_refusal_of_rows(&rt, rt.alloc(), *quantities, *numbers, *fault);
     }
 }

@@ -1,6 +1,6 @@
 //! Drafts of plans over a small bank, and a plan that is taken.
 
-use crate::equal::is_equal;
+use crate::equal::expect_equal;
 use bank_tables::{Bank, ItemRow};
 use constraint_model::{Draft, Rate, Row, Spec, StimulusBound};
 use std::alloc::Global;
@@ -97,31 +97,31 @@ pub(crate) fn mixed_plan<R: Abort>(rt: &R, alloc: Global) -> Draft {
 }
 
 /// The plan has the length, the prior, as many rows and the bounds of the mixed plan.
-fn shows_problem<R: Abort>(rt: &R, spec: &Spec) {
-    is_equal(rt, &spec.length(), &2);
-    is_equal(rt, &spec.prior(), &[0].as_slice());
-    is_equal(rt, &spec.rows().len(), &2);
-    is_equal(rt, &spec.bounds(), &BOUNDS);
+fn expect_problem<R: Abort>(rt: &R, spec: &Spec) {
+    expect_equal(rt, &spec.length(), &2);
+    expect_equal(rt, &spec.prior(), &[0].as_slice());
+    expect_equal(rt, &spec.rows().len(), &2);
+    expect_equal(rt, &spec.bounds(), &BOUNDS);
 }
 
 /// The plan has the other numbers of the mixed plan, and no base form.
-fn shows_numbers<R: Abort>(rt: &R, spec: &Spec) {
-    is_equal(rt, &spec.rate(), &Rate { num: 1, den: 1 });
-    is_equal(rt, spec.key(), &[0; 32]);
-    is_equal(rt, &(spec.budget(), spec.base_budget()), &(2_001, 4_095));
-    is_equal(rt, &(spec.sessions(), spec.journal()), &(1_000, 67_108_864));
-    is_equal(rt, &spec.base(), &None);
+fn expect_numbers<R: Abort>(rt: &R, spec: &Spec) {
+    expect_equal(rt, &spec.rate(), &Rate { num: 1, den: 1 });
+    expect_equal(rt, spec.key(), &[0; 32]);
+    expect_equal(rt, &(spec.budget(), spec.base_budget()), &(2_001, 4_095));
+    expect_equal(rt, &(spec.sessions(), spec.journal()), &(1_000, 67_108_864));
+    expect_equal(rt, &spec.base(), &None);
 }
 
 /// The mixed plan is taken over the bank, and has the numbers of its draft.
-fn is_taken<R: Abort>(rt: &R, alloc: Global, bank: &Bank, draft: Draft) {
+fn expect_taken<R: Abort>(rt: &R, alloc: Global, bank: &Bank, draft: Draft) {
     let spec = Spec::of(alloc, bank, draft).expect(rt, "a plan");
-    shows_problem(rt, &spec);
-    shows_numbers(rt, &spec);
+    expect_problem(rt, &spec);
+    expect_numbers(rt, &spec);
 }
 
 #[test]
 fn a_plan_is_taken(rt: HostRuntime) {
     let bank = mixed_bank(&rt, rt.alloc());
-    is_taken(&rt, rt.alloc(), &bank, mixed_plan(&rt, rt.alloc()));
+    expect_taken(&rt, rt.alloc(), &bank, mixed_plan(&rt, rt.alloc()));
 }

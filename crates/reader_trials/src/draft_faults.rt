@@ -2,7 +2,7 @@
 //! faults has the first in the order of `SpecFault`. What is expected was worked out by hand.
 
 use crate::draft::{BOUNDS, PRIOR, RowOf, draft, mixed_bank, mixed_plan};
-use crate::equal::is_equal;
+use crate::equal::expect_equal;
 use bank_tables::{Bank, ItemSet};
 use constraint_model::{Breach, Draft, Rate, Row, Spec, SpecFault, StimulusBound, front_fault};
 use std::alloc::Global;
@@ -13,15 +13,15 @@ use trial_cases::{bank_a, draft_a, draft_of, set_of};
 type Faults = (Option<SpecFault>, Option<SpecFault>);
 
 /// The front of the draft, and the draft, have these faults over the bank.
-fn has_faults_over<R: Abort>(rt: &R, alloc: Global, bank: &Bank, draft: Draft, faults: &Faults) {
+fn expect_faults_over<R: Abort>(rt: &R, alloc: Global, bank: &Bank, draft: Draft, faults: &Faults) {
     let front = front_fault(bank, &draft);
-    is_equal(rt, &(front, Spec::of(alloc, bank, draft).err()), faults);
+    expect_equal(rt, &(front, Spec::of(alloc, bank, draft).err()), faults);
 }
 
 /// The draft has these faults on the mixed bank.
-fn has_faults<R: Abort>(rt: &R, alloc: Global, draft: Draft, faults: &Faults) {
+fn expect_faults<R: Abort>(rt: &R, alloc: Global, draft: Draft, faults: &Faults) {
     let bank = mixed_bank(rt, alloc);
-    has_faults_over(rt, alloc, &bank, draft, faults);
+    expect_faults_over(rt, alloc, &bank, draft, faults);
 }
 
 /// A length, a prior, rows and bounds of stimuli; the faults of their draft.
@@ -277,33 +277,37 @@ const CASES: [Case; 30] = [
     ),
 ];
 
-fn has_its_faults<R: Abort>(rt: &R, alloc: Global, (length, prior, rows, bounds, faults): &Case) {
+fn expect_its_faults<R: Abort>(
+    rt: &R,
+    alloc: Global,
+    (length, prior, rows, bounds, faults): &Case,
+) {
     let made = draft(rt, alloc, *length, prior, rows, bounds);
-    has_faults(rt, alloc, made, faults);
+    expect_faults(rt, alloc, made, faults);
 }
 
 #[test]
 fn lengths_priors_rows_and_bounds(rt: HostRuntime) {
     for case in &CASES {
-        has_its_faults(&rt, rt.alloc(), case);
+        expect_its_faults(&rt, rt.alloc(), case);
     }
 }
 
 /// A draft that has one row so many times has these faults.
-fn with_so_many_rows<R: Abort>(rt: &R, alloc: Global, count: usize, faults: &Faults) {
+fn expect_faults_of_so_many<R: Abort>(rt: &R, alloc: Global, count: usize, faults: &Faults) {
     let row = Row::Enemies {
         set: set_of(ITEM_0),
     };
     let rows = vec![in alloc; row; count].expect(rt, "rows");
     let draft = draft_of(alloc, 2, PRIOR, &rows, BOUNDS).expect(rt, "a draft");
-    has_faults(rt, alloc, draft, faults);
+    expect_faults(rt, alloc, draft, faults);
 }
 
 #[test]
 fn numbers_of_rows(rt: HostRuntime) {
-    with_so_many_rows(&rt, rt.alloc(), 128, &(None, None));
+    expect_faults_of_so_many(&rt, rt.alloc(), 128, &(None, None));
     let fault = Some(SpecFault::TooManyRows);
-    with_so_many_rows(&rt, rt.alloc(), 129, &(fault, fault));
+    expect_faults_of_so_many(&rt, rt.alloc(), 129, &(fault, fault));
 }
 
 /// The numbers of a draft: the rate, the budget of a step and of the base form, and the limits of
@@ -387,8 +391,8 @@ fn with_numbers<R: Abort>(
 ///
 /// With a base that is no form it has the same fault, as the base is tested last. If the numbers
 /// have no fault, it has that of the base.
-fn have_fault<R: Abort>(rt: &R, alloc: Global, numbers: Numbers, fault: Option<SpecFault>) {
-    has_faults(
+fn expect_fault<R: Abort>(rt: &R, alloc: Global, numbers: Numbers, fault: Option<SpecFault>) {
+    expect_faults(
         rt,
         alloc,
         with_numbers(rt, alloc, numbers, None),
@@ -396,13 +400,13 @@ fn have_fault<R: Abort>(rt: &R, alloc: Global, numbers: Numbers, fault: Option<S
     );
     let empty = with_numbers(rt, alloc, numbers, Some(ItemSet::empty()));
     let fault = fault.unwrap_or(SpecFault::BadBase(Breach::Length(0)));
-    has_faults(rt, alloc, empty, &(None, Some(fault)));
+    expect_faults(rt, alloc, empty, &(None, Some(fault)));
 }
 
 #[test]
 fn rates_budgets_and_limits(rt: HostRuntime) {
     for (numbers, fault) in &NUMBERS {
-        have_fault(&rt, rt.alloc(), *numbers, *fault);
+        expect_fault(&rt, rt.alloc(), *numbers, *fault);
     }
 }
 
@@ -426,10 +430,16 @@ const MIXED_BASES: [Base; 3] = [
 ];
 
 /// The draft with these items as its base has this breach.
-fn has_breach<R: Abort>(rt: &R, alloc: Global, bank: &Bank, draft: Draft, (items, breach): &Base) {
+fn expect_breach<R: Abort>(
+    rt: &R,
+    alloc: Global,
+    bank: &Bank,
+    draft: Draft,
+    (items, breach): &Base,
+) {
     let mut draft = draft;
     draft.base = Some(set_of(items));
-    has_faults_over(
+    expect_faults_over(
         rt,
         alloc,
         bank,
@@ -438,26 +448,26 @@ fn has_breach<R: Abort>(rt: &R, alloc: Global, bank: &Bank, draft: Draft, (items
     );
 }
 
-fn has_breach_of_a<R: Abort>(rt: &R, alloc: Global, base: &Base) {
+fn expect_breach_of_a<R: Abort>(rt: &R, alloc: Global, base: &Base) {
     let bank = bank_a(alloc).expect(rt, "a bank");
-    has_breach(rt, alloc, &bank, draft_a(alloc).expect(rt, "a draft"), base);
+    expect_breach(rt, alloc, &bank, draft_a(alloc).expect(rt, "a draft"), base);
 }
 
 #[test]
 fn bases_of_bank_a(rt: HostRuntime) {
     for base in &BASES_OF_A {
-        has_breach_of_a(&rt, rt.alloc(), base);
+        expect_breach_of_a(&rt, rt.alloc(), base);
     }
 }
 
-fn has_mixed_breach<R: Abort>(rt: &R, alloc: Global, base: &Base) {
+fn expect_mixed_breach<R: Abort>(rt: &R, alloc: Global, base: &Base) {
     let bank = mixed_bank(rt, alloc);
-    has_breach(rt, alloc, &bank, mixed_plan(rt, alloc), base);
+    expect_breach(rt, alloc, &bank, mixed_plan(rt, alloc), base);
 }
 
 #[test]
 fn bases_of_the_mixed_bank(rt: HostRuntime) {
     for base in &MIXED_BASES {
-        has_mixed_breach(&rt, rt.alloc(), base);
+        expect_mixed_breach(&rt, rt.alloc(), base);
     }
 }

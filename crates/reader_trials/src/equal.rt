@@ -7,12 +7,12 @@ use std::fmt::Debug;
 use std::process::Abort;
 
 /// The values are the same.
-pub(crate) fn is_equal<R: Abort, T: PartialEq + Debug>(rt: &R, found: &T, expected: &T) {
+pub(crate) fn expect_equal<R: Abort, T: PartialEq + Debug>(rt: &R, found: &T, expected: &T) {
     assert_eq!(rt; *found, *expected);
 }
 
 /// The values are the same; where they are not, this text is shown beside them.
-pub(crate) fn is_equal_at<R: Abort, T: PartialEq + Debug>(
+pub(crate) fn expect_equal_at<R: Abort, T: PartialEq + Debug>(
     rt: &R,
     text: &str,
     found: &T,

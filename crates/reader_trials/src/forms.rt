@@ -3,7 +3,7 @@
 ghost use Rattle.form_model.specs.Validity.{IsPlanFor};
 
 use crate::draft::{BOUNDS, PRIOR, RowOf, draft, mixed_bank};
-use crate::equal::is_equal;
+use crate::equal::expect_equal;
 use bank_tables::{Bank, ItemSet};
 use constraint_model::{Breach, Draft, Problem, Spec, meets, objective};
 use std::alloc::Global;
@@ -30,9 +30,15 @@ fn found_on(bank: &Bank, spec: &Spec, set: &ItemSet) -> Found
 }
 
 /// This is found of the set in the whole problem of a bank and the plan of a draft.
-fn is_found<R: Abort>(rt: &R, alloc: Global, bank: &Bank, draft: Draft, (items, found): &Judged) {
+fn expect_found<R: Abort>(
+    rt: &R,
+    alloc: Global,
+    bank: &Bank,
+    draft: Draft,
+    (items, found): &Judged,
+) {
     match Spec::of(alloc, bank, draft) {
-        Ok(spec) => is_equal(rt, &found_on(bank, &spec, &set_of(items)), found),
+        Ok(spec) => expect_equal(rt, &found_on(bank, &spec, &set_of(items)), found),
         Err(_) => panic!(rt; "no plan"),
     }
 }
@@ -43,15 +49,15 @@ const SETS_OF_A: [Judged; 2] = [
     (&[1, 2, 5], (1, Some(Breach::Row(1, 2)), 24)),
 ];
 
-fn is_found_on_a<R: Abort>(rt: &R, alloc: Global, set: &Judged) {
+fn expect_found_on_a<R: Abort>(rt: &R, alloc: Global, set: &Judged) {
     let bank = bank_a(alloc).expect(rt, "a bank");
-    is_found(rt, alloc, &bank, draft_a(alloc).expect(rt, "a draft"), set);
+    expect_found(rt, alloc, &bank, draft_a(alloc).expect(rt, "a draft"), set);
 }
 
 #[test]
 fn sets_of_bank_a(rt: HostRuntime) {
     for set in &SETS_OF_A {
-        is_found_on_a(&rt, rt.alloc(), set);
+        expect_found_on_a(&rt, rt.alloc(), set);
     }
 }
 
@@ -68,15 +74,15 @@ const MIXED_SETS: [Judged; 5] = [
 ];
 
 /// This is found of the set under the narrow plan, which is for three items of the mixed bank.
-fn is_found_narrow<R: Abort>(rt: &R, alloc: Global, set: &Judged) {
+fn expect_found_narrow<R: Abort>(rt: &R, alloc: Global, set: &Judged) {
     let bank = mixed_bank(rt, alloc);
     let narrow = draft(rt, alloc, 3, PRIOR, NARROW, BOUNDS);
-    is_found(rt, alloc, &bank, narrow, set);
+    expect_found(rt, alloc, &bank, narrow, set);
 }
 
 #[test]
 fn sets_of_the_mixed_bank(rt: HostRuntime) {
     for set in &MIXED_SETS {
-        is_found_narrow(&rt, rt.alloc(), set);
+        expect_found_narrow(&rt, rt.alloc(), set);
     }
 }

@@ -1,7 +1,7 @@
 //! What is read and printed of the worked plans. What is expected is from the rules of the plan
 //! text, or was worked out by hand.
 
-use crate::equal::is_equal;
+use crate::equal::expect_equal;
 use crate::source::{bytes_of, source_of};
 use bank_tables::Bank;
 use constraint_model::Spec;
@@ -63,7 +63,7 @@ const PRINTED_A: &str =
 #[test]
 fn a_plan_is_printed_with_its_defaults(rt: HostRuntime) {
     let found = printed_over_a(&rt, rt.alloc(), PLAN_A);
-    is_equal(&rt, &found.as_slice(), &PRINTED_A.as_bytes());
+    expect_equal(&rt, &found.as_slice(), &PRINTED_A.as_bytes());
 }
 
 #[test]
@@ -85,22 +85,22 @@ const PLANS: [(Worked, &str); 6] = [
 ];
 
 /// The text that a plan is printed as is longer, and reads to a plan that is printed the same.
-fn is_printed_again<R: Abort>(rt: &R, alloc: Global, bank: &Bank, text: &str) {
+fn expect_printed_again<R: Abort>(rt: &R, alloc: Global, bank: &Bank, text: &str) {
     let first = printed(rt, alloc, bank, bytes_of(rt, alloc, text));
     assert!(rt; text.len() < first.len());
     let copy = first.to_vec(alloc).expect(rt, "a copy");
-    is_equal(rt, &printed(rt, alloc, bank, copy), &first);
+    expect_equal(rt, &printed(rt, alloc, bank, copy), &first);
 }
 
 /// The same over a worked bank.
-fn is_printed_twice<R: Abort>(rt: &R, alloc: Global, over: Worked, text: &str) {
+fn expect_printed_twice<R: Abort>(rt: &R, alloc: Global, over: Worked, text: &str) {
     let bank = bank_of(rt, alloc, over);
-    is_printed_again(rt, alloc, &bank, text);
+    expect_printed_again(rt, alloc, &bank, text);
 }
 
 #[test]
 fn each_worked_plan_is_printed_the_same_twice(rt: HostRuntime) {
     for (over, text) in &PLANS {
-        is_printed_twice(&rt, rt.alloc(), *over, text);
+        expect_printed_twice(&rt, rt.alloc(), *over, text);
     }
 }

@@ -1,7 +1,7 @@
 //! Texts that describe no plan, each with its first fault, and a source that fails. What is
 //! expected is from the rules of the plan text.
 
-use crate::equal::is_equal_at;
+use crate::equal::expect_equal_at;
 use crate::plan::{Worked, bank_of, read};
 use crate::source::bytes_of;
 use constraint_model::{Breach, SpecFault};
@@ -278,15 +278,15 @@ const REFUSED: [Refused; 46] = [
     (Worked::A, PLAN_A, &[0], PlanFault::Source),
 ];
 
-fn is_refused<R: Abort>(rt: &R, alloc: Global, (over, text, fails, fault): &Refused) {
+fn expect_refusal<R: Abort>(rt: &R, alloc: Global, (over, text, fails, fault): &Refused) {
     let bank = bank_of(rt, alloc, *over);
     let found = read(rt, alloc, &bank, bytes_of(rt, alloc, text), fails).err();
-    is_equal_at(rt, text, &found, &Some(*fault));
+    expect_equal_at(rt, text, &found, &Some(*fault));
 }
 
 #[test]
 fn texts_of_no_plan(rt: HostRuntime) {
     for refused in &REFUSED {
-        is_refused(&rt, rt.alloc(), refused);
+        expect_refusal(&rt, rt.alloc(), refused);
     }
 }

@@ -1,6 +1,6 @@
 //! The line of each kind of reply. What is expected is the format's.
 
-use crate::equal::is_equal_at;
+use crate::equal::expect_equal_at;
 use bank_tables::List;
 use history_model::{Counts, Exposure, Place, Refusal, Reply};
 use replay_cli::reply_line;
@@ -8,9 +8,9 @@ use std::alloc::Global;
 use std::process::Abort;
 
 /// The reply is printed as this line.
-fn has_line<R: Abort>(rt: &R, alloc: Global, reply: &Reply, line: &str) {
+fn expect_line<R: Abort>(rt: &R, alloc: Global, reply: &Reply, line: &str) {
     let found = reply_line(alloc, reply).expect(rt, "a line");
-    is_equal_at(rt, line, &found.as_slice(), &line.as_bytes());
+    expect_equal_at(rt, line, &found.as_slice(), &line.as_bytes());
 }
 
 /// A reply without exposure counts.
@@ -109,7 +109,7 @@ fn reply_of(reply: Short) -> Reply {
 #[test]
 fn places_and_refusals_have_their_lines(rt: HostRuntime) {
     for (reply, line) in &REPLIES {
-        has_line(&rt, rt.alloc(), &reply_of(*reply), line);
+        expect_line(&rt, rt.alloc(), &reply_of(*reply), line);
     }
 }
 
@@ -132,5 +132,5 @@ fn exposure_has_a_line_for_each_item(rt: HostRuntime) {
     };
     let expected =
         "exposure finished 3\nitem 0 shown 1 eligible 3\nitem 1 shown 1 eligible 2\nitem 2 shown 2 eligible 2\nitem 3 shown 1 eligible 3\nitem 4 shown 1 eligible 2\nitem 5 shown 1 eligible 3\n";
-    has_line(&rt, rt.alloc(), &Reply::Exposure(exposure), expected);
+    expect_line(&rt, rt.alloc(), &Reply::Exposure(exposure), expected);
 }

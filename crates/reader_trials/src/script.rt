@@ -1,7 +1,7 @@
 //! Scripts: what is read of worked scripts, the first faulty line, the limit of the length, sources
 //! that fail, and the texts of faults. What is expected is from the rules of the script.
 
-use crate::equal::{is_equal, is_equal_at};
+use crate::equal::{expect_equal, expect_equal_at};
 use crate::source::{bytes_of, source_of};
 use history_model::Request;
 use replay_cli::{ScriptFault, read_script};
@@ -46,17 +46,17 @@ const SCRIPTS: [&str; 2] = [
     "begin 18446744073709551615\nanswer 4294967295 65535 255\nanswer 0 0 0\nclose 10\nlook 0\nexposure",
 ];
 
-fn reads<R: Abort>(rt: &R, alloc: Global, text: &str, requests: &[Request]) {
+fn expect_requests<R: Abort>(rt: &R, alloc: Global, text: &str, requests: &[Request]) {
     let found = read(rt, alloc, bytes_of(rt, alloc, text), &[]).expect(rt, "a script");
-    is_equal(rt, &found.as_slice(), &requests);
+    expect_equal(rt, &found.as_slice(), &requests);
 }
 
 #[test]
 fn each_kind_of_line_is_read(rt: HostRuntime) {
     for text in &SCRIPTS {
-        reads(&rt, rt.alloc(), text, &each_kind());
+        expect_requests(&rt, rt.alloc(), text, &each_kind());
     }
-    reads(&rt, rt.alloc(), "", &[]);
+    expect_requests(&rt, rt.alloc(), "", &[]);
 }
 
 /// Texts, each with the number of the first line that is out of form.
@@ -101,15 +101,15 @@ const OUT_OF_FORM: [(&str, u64); 35] = [
     ),
 ];
 
-fn is_out_of_form<R: Abort>(rt: &R, alloc: Global, text: &str, line: u64) {
+fn expect_out_of_form<R: Abort>(rt: &R, alloc: Global, text: &str, line: u64) {
     let found = read(rt, alloc, bytes_of(rt, alloc, text), &[]).err();
-    is_equal_at(rt, text, &found, &Some(ScriptFault::Line(line)));
+    expect_equal_at(rt, text, &found, &Some(ScriptFault::Line(line)));
 }
 
 #[test]
 fn the_first_line_out_of_form_is_named(rt: HostRuntime) {
     for (text, line) in &OUT_OF_FORM {
-        is_out_of_form(&rt, rt.alloc(), text, *line);
+        expect_out_of_form(&rt, rt.alloc(), text, *line);
     }
 }
 
@@ -126,18 +126,18 @@ const LISTS: [(&str, u64, &[u16]); 5] = [
     ("begin 8 without 0 2 4-6\n", 8, &[0, 2, 4, 5, 6]),
 ];
 
-fn reads_list<R: Abort>(rt: &R, alloc: Global, text: &str, booking: u64, items: &[u16]) {
+fn expect_list<R: Abort>(rt: &R, alloc: Global, text: &str, booking: u64, items: &[u16]) {
     let expected = [Request::BeginWithout {
         booking,
         items: set_of(items),
     }];
-    reads(rt, alloc, text, &expected);
+    expect_requests(rt, alloc, text, &expected);
 }
 
 #[test]
 fn a_line_with_a_list_is_read(rt: HostRuntime) {
     for (text, booking, items) in &LISTS {
-        reads_list(&rt, rt.alloc(), text, *booking, items);
+        expect_list(&rt, rt.alloc(), text, *booking, items);
     }
 }
 
@@ -154,15 +154,15 @@ const BYTES: [(usize, &[u64], ScriptFault); 6] = [
     (10_000, &[3], ScriptFault::Source),
 ];
 
-fn has_fault<R: Abort>(rt: &R, alloc: Global, count: usize, fails: &[u64], fault: ScriptFault) {
+fn expect_fault<R: Abort>(rt: &R, alloc: Global, count: usize, fails: &[u64], fault: ScriptFault) {
     let bytes = vec![in alloc; b'x'; count].expect(rt, "bytes");
-    is_equal(rt, &read(rt, alloc, bytes, fails).err(), &Some(fault));
+    expect_equal(rt, &read(rt, alloc, bytes, fails).err(), &Some(fault));
 }
 
 #[test]
 fn the_limit_is_exact_and_each_read_fails(rt: HostRuntime) {
     for (count, fails, fault) in &BYTES {
-        has_fault(&rt, rt.alloc(), *count, fails, *fault);
+        expect_fault(&rt, rt.alloc(), *count, fails, *fault);
     }
 }
 
@@ -174,14 +174,14 @@ const FAULTS: [(ScriptFault, &str); 4] = [
     (ScriptFault::Memory, "no memory\n"),
 ];
 
-fn has_text<R: Abort>(rt: &R, alloc: Global, fault: ScriptFault, text: &str) {
+fn expect_text<R: Abort>(rt: &R, alloc: Global, fault: ScriptFault, text: &str) {
     let found = fault.text(alloc).expect(rt, "a text");
-    is_equal(rt, &found.as_str(), &text);
+    expect_equal(rt, &found.as_str(), &text);
 }
 
 #[test]
 fn a_fault_has_its_text(rt: HostRuntime) {
     for (fault, text) in &FAULTS {
-        has_text(&rt, rt.alloc(), *fault, text);
+        expect_text(&rt, rt.alloc(), *fault, text);
     }
 }

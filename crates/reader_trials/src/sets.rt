@@ -1,6 +1,6 @@
 //! Sets of items. What is expected was worked out by hand.
 
-use crate::equal::is_equal;
+use crate::equal::expect_equal;
 use bank_tables::ItemSet;
 
 /// The items 0, 63 and 64.
@@ -23,7 +23,7 @@ fn members_of_sets(rt: HostRuntime) {
 
 #[test]
 fn sets_in_sets(rt: HostRuntime) {
-    is_equal(&rt, &low().meet(high()), &ItemSet::empty().with(64));
+    expect_equal(&rt, &low().meet(high()), &ItemSet::empty().with(64));
     assert!(rt; low().minus(high()).is_subset(&low()));
     assert!(rt; !low().is_subset(&high()));
     assert!(rt; low().all_below(65) && !low().all_below(64));
