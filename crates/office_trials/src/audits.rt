@@ -2,8 +2,8 @@
 
 ghost use Rattle.form_model.specs.Validity.{IsPlanFor};
 
-use crate::equal::is_equal;
-use crate::expected::leaves;
+use crate::equal::expect_equal;
+use crate::expected::expect_bytes;
 use crate::outcome::{Call, Numbers, Reply, Step, disk_of, draft};
 use bank_tables::Bank;
 use constraint_model::Spec;
@@ -31,51 +31,63 @@ fn counts_of(exposure: &Exposure, item: usize) -> Option<Counts> {
 }
 
 /// If the call looks at the exposure counts of an item, they are those of the reply.
-fn has_counts<R: Abort>(rt: &R, exposure: &Exposure, (call, reply): &Step) {
+fn expect_counts<R: Abort>(rt: &R, exposure: &Exposure, (call, reply): &Step) {
     if let Call::Exposure(item) = *call {
         assert!(rt; Reply::Exposed(counts_of(exposure, item)) == *reply);
     }
 }
 
-fn has_all_counts<R: Abort>(rt: &R, exposure: &Exposure, counts: &[Step]) {
+fn expect_all_counts<R: Abort>(rt: &R, exposure: &Exposure, counts: &[Step]) {
     for step in counts {
-        has_counts(rt, exposure, step);
+        expect_counts(rt, exposure, step);
     }
 }
 
 /// The only band has the counts of the whole history.
-fn is_one_band<R: Abort>(rt: &R, bands: &[Exposure], expected: &Audited<'_>) {
-    is_equal(rt, &bands.len(), &1);
+fn expect_one_band<R: Abort>(rt: &R, bands: &[Exposure], expected: &Audited<'_>) {
+    expect_equal(rt, &bands.len(), &1);
     for band in bands {
-        is_equal(rt, &band.finished, &expected.summary.finished);
-        has_all_counts(rt, band, expected.counts);
+        expect_equal(rt, &band.finished, &expected.summary.finished);
+        expect_all_counts(rt, band, expected.counts);
     }
 }
 
 /// The audit of a plan of one band finds this in the journal, and leaves the file as it was.
-fn is_found_over<R: Abort>(rt: &R, alloc: Global, bank: &Bank, spec: &Spec, expected: &Audited<'_>)
+fn expect_found_over<R: Abort>(
+    rt: &R,
+    alloc: Global,
+    bank: &Bank,
+    spec: &Spec,
+    expected: &Audited<'_>,
+)
     requires { IsPlanFor bank.now spec.now }
 {
     let mut disk = disk_of(rt, alloc, &[expected.bytes], &[]);
     let (summary, exposure, bands) = audit(alloc, bank, spec, &mut disk).expect(rt, "a history");
-    is_equal(rt, &summary, &expected.summary);
-    is_equal(rt, &exposure.finished, &expected.summary.finished);
-    has_all_counts(rt, &exposure, expected.counts);
-    is_one_band(rt, &bands, expected);
-    leaves(rt, disk.bytes(), expected.bytes);
+    expect_equal(rt, &summary, &expected.summary);
+    expect_equal(rt, &exposure.finished, &expected.summary.finished);
+    expect_all_counts(rt, &exposure, expected.counts);
+    expect_one_band(rt, &bands, expected);
+    expect_bytes(rt, disk.bytes(), expected.bytes);
 }
 
-fn is_found_by<R: Abort>(rt: &R, alloc: Global, bank: &Bank, draft: Draft, expected: &Audited<'_>) {
+fn expect_found_by<R: Abort>(
+    rt: &R,
+    alloc: Global,
+    bank: &Bank,
+    draft: Draft,
+    expected: &Audited<'_>,
+) {
     match Spec::of(alloc, bank, draft) {
-        Ok(spec) => is_found_over(rt, alloc, bank, &spec, expected),
+        Ok(spec) => expect_found_over(rt, alloc, bank, &spec, expected),
         Err(_) => panic!(rt; "no plan"),
     }
 }
 
 /// An audit of the journal finds this.
-pub(crate) fn is_audited<R: Abort>(rt: &R, alloc: Global, expected: &Audited<'_>) {
+pub(crate) fn expect_audit<R: Abort>(rt: &R, alloc: Global, expected: &Audited<'_>) {
     let bank = bank_a(alloc).expect(rt, "a bank");
-    is_found_by(
+    expect_found_by(
         rt,
         alloc,
         &bank,

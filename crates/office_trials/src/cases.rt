@@ -6,12 +6,12 @@
 //! read and written again, sync, cut, sync. One of no record is made anew by six: sync, length, cut,
 //! sync, write, sync.
 
-use crate::expected::{counts, has_entries};
+use crate::expected::{expect_calls, expect_entries};
 use crate::files::{ANSWERED, CLOSED, EMPTY, Parts, SERVED, STARTED, joined};
 use crate::outcome::{
     BEGUN, Call, FAILED, FIRST, FOUND, Reply, SECOND, SESSION, THIRD, Trial, WORKED, run,
 };
-use crate::rows::opens;
+use crate::rows::expect_opens;
 use exam_office::{Place, Refusal};
 use std::alloc::Global;
 use std::process::Abort;
@@ -146,8 +146,13 @@ pub(crate) fn bytes_before<R: Abort>(rt: &R, alloc: Global, case: &Case) -> Vec<
 }
 
 /// The file is opened, the session is looked at, and this is found.
-pub(crate) fn opens_at<R: Abort>(rt: &R, alloc: Global, file: Parts<'_>, (entries, place): State) {
-    opens(rt, alloc, file, &[(Call::Look(0), place)], entries);
+pub(crate) fn expect_opens_at<R: Abort>(
+    rt: &R,
+    alloc: Global,
+    file: Parts<'_>,
+    (entries, place): State,
+) {
+    expect_opens(rt, alloc, file, &[(Call::Look(0), place)], entries);
 }
 
 /// What the call gives where this call of the disk fails in its adding; how many entries the
@@ -182,9 +187,9 @@ pub(crate) fn added<R: Abort>(
         steps: &[&[(case.call, reply)]],
     };
     let outcome = run(rt, alloc, &trial);
-    has_entries(rt, &outcome, entries);
+    expect_entries(rt, &outcome, entries);
     let calls = case.opening.saturating_add(fail.min(3) + 1);
-    counts(rt, &outcome, calls, faults);
-    opens_at(rt, alloc, &[&outcome.bytes], state_at(case, fail));
+    expect_calls(rt, &outcome, calls, faults);
+    expect_opens_at(rt, alloc, &[&outcome.bytes], state_at(case, fail));
     outcome.bytes
 }

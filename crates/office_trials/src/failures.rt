@@ -1,10 +1,10 @@
 //! What an office does after a call of the disk has failed.
 
-use crate::equal::is_equal;
-use crate::expected::{counts, is_made_of};
+use crate::equal::expect_equal;
+use crate::expected::{expect_calls, expect_parts};
 use crate::files::{ANSWERED, BEST, END, HEADER, Parts, REST, SERVE, SERVED, START, TRAILED};
 use crate::outcome::{Call, FAILED, Reply, Step, Trial, WORKED, run};
-use crate::rows::{ONE_ANSWERED, ONE_SERVED, Row, holds};
+use crate::rows::{ONE_ANSWERED, ONE_SERVED, Row, expect_row};
 use exam_office::{OpenFault, Place, Refusal, Summary};
 use std::alloc::Global;
 use std::process::Abort;
@@ -135,7 +135,7 @@ const FAILING: [Failing; 14] = [
 ];
 
 /// The answers end with what their row has.
-fn end_as_their_row<R: Abort>(
+fn expect_end_of_answers<R: Abort>(
     rt: &R,
     alloc: Global,
     (fails, steps, summary, (calls, faults), left): &Failing,
@@ -152,13 +152,13 @@ fn end_as_their_row<R: Abort>(
         faults: *faults,
         left,
     };
-    holds(rt, alloc, &row);
+    expect_row(rt, alloc, &row);
 }
 
 #[test]
 fn answers_in_which_a_call_fails(rt: HostRuntime) {
     for row in &FAILING {
-        end_as_their_row(&rt, rt.alloc(), row);
+        expect_end_of_answers(&rt, rt.alloc(), row);
     }
 }
 
@@ -166,7 +166,7 @@ fn answers_in_which_a_call_fails(rt: HostRuntime) {
 /// header, each gate, the last one twice, two for each record; then the bytes are put aside, the last
 /// open gate and the closed one are read and written again, sync, cut, sync. The one of this number
 /// fails; 19 is none of them.
-fn fail_opening<R: Abort>(rt: &R, alloc: Global, fail: u64) {
+fn expect_failed_opening<R: Abort>(rt: &R, alloc: Global, fail: u64) {
     let trial = Trial {
         numbers: WORKED,
         file: TRAILED,
@@ -179,15 +179,15 @@ fn fail_opening<R: Abort>(rt: &R, alloc: Global, fail: u64) {
     } else {
         (None, 0)
     };
-    is_equal(rt, &outcome.found.fault, &fault);
-    counts(rt, &outcome, fail.min(18) + 1, faults);
+    expect_equal(rt, &outcome.found.fault, &fault);
+    expect_calls(rt, &outcome, fail.min(18) + 1, faults);
     let left = if fail < 18 { TRAILED } else { SERVED };
-    is_made_of(rt, alloc, &outcome.bytes, left);
+    expect_parts(rt, alloc, &outcome.bytes, left);
 }
 
 #[test]
 fn each_call_of_opening_fails(rt: HostRuntime) {
     for fail in 0..20u64 {
-        fail_opening(&rt, rt.alloc(), fail);
+        expect_failed_opening(&rt, rt.alloc(), fail);
     }
 }

@@ -7,8 +7,8 @@ ghost use Rattle.answer_journal.specs.Frames.{IsPayload};
 ghost use Rattle.answer_journal.specs.Journal.{IsReady};
 ghost use Rattle.answer_journal.specs.Standing.{IsAsLeft};
 
-use crate::equal::is_equal;
-use crate::expected::leaves;
+use crate::equal::expect_equal;
+use crate::expected::expect_bytes;
 use crate::outcome::disk_of;
 use answer_journal::{Adopted, AppendFault, Frame, Journal, OpenFault, Payload};
 use exam_edge::{Memory, MemoryDisk};
@@ -97,9 +97,9 @@ pub(crate) fn open(alloc: Global, disk: MemoryDisk) -> (MemoryDisk, Records)
 }
 
 /// In a file of these bytes so many records are found, and it is so long then; or this fault is.
-pub(crate) fn finds<R: Abort>(rt: &R, alloc: Global, bytes: &[u8], expected: Records) {
+pub(crate) fn expect_records<R: Abort>(rt: &R, alloc: Global, bytes: &[u8], expected: Records) {
     let (disk, records) = open(alloc, disk_of(rt, alloc, &[bytes], &[]));
-    is_equal(rt, &records, &expected);
+    expect_equal(rt, &records, &expected);
 }
 
 /// A file that is opened by so many calls. From the call of the third number on the file is
@@ -122,7 +122,7 @@ const OPENINGS: [Opening; 4] = [
 ];
 
 /// The file is opened with this call failing, which is one of the opening's calls or the next.
-fn opens<R: Abort>(
+fn expect_opens<R: Abort>(
     rt: &R,
     alloc: Global,
     (file, calls, change, changed, records): &Opening,
@@ -135,22 +135,22 @@ fn opens<R: Abort>(
         Ok(*records)
     };
     let (disk, found) = open(alloc, disk_of(rt, alloc, &[file], &[call]));
-    is_equal(rt, &found, &expected);
-    leaves(rt, disk.bytes(), bytes);
-    finds(rt, alloc, disk.bytes(), Ok(*records));
+    expect_equal(rt, &found, &expected);
+    expect_bytes(rt, disk.bytes(), bytes);
+    expect_records(rt, alloc, disk.bytes(), Ok(*records));
 }
 
 /// Each call of opening the file fails in turn.
-fn opens_at_each_call<R: Abort>(rt: &R, alloc: Global, row: &Opening) {
+fn expect_opens_at_each_call<R: Abort>(rt: &R, alloc: Global, row: &Opening) {
     for call in 0..row.1.saturating_add(1) {
-        opens(rt, alloc, row, call);
+        expect_opens(rt, alloc, row, call);
     }
 }
 
 #[test]
 fn each_call_of_opening_fails(rt: HostRuntime) {
     for row in &OPENINGS {
-        opens_at_each_call(&rt, rt.alloc(), row);
+        expect_opens_at_each_call(&rt, rt.alloc(), row);
     }
 }
 
@@ -306,30 +306,30 @@ const MOVED_ADDINGS: [Adding; 6] = [
     (&[20], false, (None, None, None), 28, &MOVED_ADDED, (1, 28)),
 ];
 
-fn adds<R: Abort>(
+fn expect_added<R: Abort>(
     rt: &R,
     alloc: Global,
     file: &[u8],
     (fails, mends, fate, length, bytes, records): &Adding,
 ) {
     let added = after_adding(rt, alloc, file, fails, *mends);
-    is_equal(rt, &added.fate, fate);
-    is_equal(rt, &added.length, length);
-    leaves(rt, added.disk.bytes(), bytes);
-    finds(rt, alloc, added.disk.bytes(), Ok(*records));
+    expect_equal(rt, &added.fate, fate);
+    expect_equal(rt, &added.length, length);
+    expect_bytes(rt, added.disk.bytes(), bytes);
+    expect_records(rt, alloc, added.disk.bytes(), Ok(*records));
 }
 
 #[test]
 fn each_call_of_adding_fails(rt: HostRuntime) {
     for row in &ADDINGS {
-        adds(&rt, rt.alloc(), &[], row);
+        expect_added(&rt, rt.alloc(), &[], row);
     }
 }
 
 #[test]
 fn each_call_of_adding_to_a_moved_journal_fails(rt: HostRuntime) {
     for row in &MOVED_ADDINGS {
-        adds(&rt, rt.alloc(), &MOVED_EMPTY, row);
+        expect_added(&rt, rt.alloc(), &MOVED_EMPTY, row);
     }
 }
 
@@ -338,8 +338,8 @@ fn each_call_of_adding_to_a_moved_journal_fails(rt: HostRuntime) {
 #[test]
 fn a_crash_before_the_first_sync(rt: HostRuntime) {
     for length in 9..23usize {
-        finds(&rt, rt.alloc(), &STAGED[..length], Ok((0, 9)));
-        finds(&rt, rt.alloc(), &TORN[..length], Ok((0, 9)));
+        expect_records(&rt, rt.alloc(), &STAGED[..length], Ok((0, 9)));
+        expect_records(&rt, rt.alloc(), &TORN[..length], Ok((0, 9)));
     }
 }
 
@@ -351,7 +351,7 @@ fn a_crash_before_the_last_sync(rt: HostRuntime) {
         let mut bytes = STAGED;
         bytes[8] = gate as u8;
         let records = if gate == 1 { (1, 22) } else { (0, 9) };
-        finds(&rt, rt.alloc(), &bytes, Ok(records));
+        expect_records(&rt, rt.alloc(), &bytes, Ok(records));
     }
 }
 
@@ -376,7 +376,7 @@ fn found_in_front(length: usize) -> Records {
 fn three_records_cut_to_each_length(rt: HostRuntime) {
     for length in 0..31usize {
         let expected = found_in_front(length);
-        finds(&rt, rt.alloc(), &THREE[..length], expected);
+        expect_records(&rt, rt.alloc(), &THREE[..length], expected);
     }
 }
 
@@ -401,16 +401,16 @@ const GATES: [(usize, (usize, u64)); 4] = [
 ];
 
 /// It does so whatever value it has.
-fn ends_at_the_gate<R: Abort>(rt: &R, alloc: Global, (at, records): (usize, (usize, u64))) {
+fn expect_end_at_gate<R: Abort>(rt: &R, alloc: Global, (at, records): (usize, (usize, u64))) {
     for gate in &[0u8, 2, 3, 129, 255] {
-        finds(rt, alloc, &altered(&[(at, *gate)]), Ok(records));
+        expect_records(rt, alloc, &altered(&[(at, *gate)]), Ok(records));
     }
 }
 
 #[test]
 fn a_byte_of_each_gate_altered(rt: HostRuntime) {
     for gate in &GATES {
-        ends_at_the_gate(&rt, rt.alloc(), *gate);
+        expect_end_at_gate(&rt, rt.alloc(), *gate);
     }
 }
 
@@ -427,34 +427,34 @@ const CHANGES: [(&[(usize, u8)], OpenFault); 5] = [
 #[test]
 fn the_first_fault_of_the_frames(rt: HostRuntime) {
     for (changes, fault) in &CHANGES {
-        finds(&rt, rt.alloc(), &altered(changes), Err(*fault));
+        expect_records(&rt, rt.alloc(), &altered(changes), Err(*fault));
     }
 }
 
 /// The limit comes first, and then the header.
 #[test]
 fn the_limit_and_the_header(rt: HostRuntime) {
-    finds(&rt, rt.alloc(), &[0; 101], Err(OpenFault::TooLong(101)));
-    finds(&rt, rt.alloc(), &[1; 100], Err(OpenFault::Header));
+    expect_records(&rt, rt.alloc(), &[0; 101], Err(OpenFault::TooLong(101)));
+    expect_records(&rt, rt.alloc(), &[1; 100], Err(OpenFault::Header));
 }
 
 /// The payload of this number, and the place of its gate.
-fn has_payload<R: Abort>(rt: &R, payloads: &[Payload], which: usize, (at, bytes): (u64, &[u8])) {
+fn expect_payload<R: Abort>(rt: &R, payloads: &[Payload], which: usize, (at, bytes): (u64, &[u8])) {
     match payloads.get(which) {
         Some(payload) => {
-            is_equal(rt, &payload.at, &at);
-            leaves(rt, payload.bytes.as_slice(), bytes);
+            expect_equal(rt, &payload.at, &at);
+            expect_bytes(rt, payload.bytes.as_slice(), bytes);
         }
         None => panic!(rt; "no such payload"),
     }
 }
 
 /// The three payloads in order, each with the place of its gate.
-fn has_three<R: Abort>(rt: &R, payloads: &[Payload]) {
-    is_equal(rt, &payloads.len(), &3);
-    has_payload(rt, payloads, 0, (8, &[5]));
-    has_payload(rt, payloads, 1, (14, &[6, 7]));
-    has_payload(rt, payloads, 2, (21, &[8, 9, 10]));
+fn expect_three<R: Abort>(rt: &R, payloads: &[Payload]) {
+    expect_equal(rt, &payloads.len(), &3);
+    expect_payload(rt, payloads, 0, (8, &[5]));
+    expect_payload(rt, payloads, 1, (14, &[6, 7]));
+    expect_payload(rt, payloads, 2, (21, &[8, 9, 10]));
 }
 
 #[test]
@@ -463,7 +463,7 @@ fn payloads_and_places(rt: HostRuntime) {
     match Journal::open(rt.alloc(), disk, LIMIT) {
         Ok((journal, payloads)) => {
             let _disk = journal.into_disk();
-            has_three(&rt, &payloads);
+            expect_three(&rt, &payloads);
         }
         Err(_) => panic!(rt; "the journal was not opened"),
     }
@@ -475,8 +475,8 @@ fn a_file_that_is_stopped_is_as_it_was(rt: HostRuntime) {
     match Journal::walk(disk_of(&rt, rt.alloc(), &[&TRAILED], &[]), LIMIT) {
         Ok(walk) => {
             let length = walk.length();
-            leaves(&rt, walk.stop().bytes(), &TRAILED);
-            is_equal(&rt, &length, &30);
+            expect_bytes(&rt, walk.stop().bytes(), &TRAILED);
+            expect_equal(&rt, &length, &30);
         }
         Err(_) => panic!(rt; "the file was not tested"),
     }

@@ -4,7 +4,7 @@ ghost use Rattle.answer_journal.specs.Standing.{IsAsLeft};
 ghost use Rattle.exam_edge.specs.MemoryDisk.{accounts_of};
 ghost use Rattle.form_model.specs.Validity.{IsPlanFor};
 
-use crate::equal::is_equal;
+use crate::equal::expect_equal;
 use crate::outcome::{FIRST, Numbers, WORKED, disk_of, draft};
 use bank_tables::{Bank, List};
 use constraint_model::Spec;
@@ -59,31 +59,36 @@ fn answer_of(reply: &Reply) -> Answer {
 }
 
 /// Each request gives its answer.
-fn asks<'a, R: Abort, D: Disk>(rt: &R, alloc: Global, alone: &mut Alone<'a, D>, steps: &[Step]) {
+fn expect_answers<'a, R: Abort, D: Disk>(
+    rt: &R,
+    alloc: Global,
+    alone: &mut Alone<'a, D>,
+    steps: &[Step],
+) {
     for (ask, answer) in steps {
         let reply = alone.ask(alloc, &request_of(ask));
-        is_equal(rt, &answer_of(&reply), answer);
+        expect_equal(rt, &answer_of(&reply), answer);
     }
 }
 
 /// The exposure is of one finished session, with these counts.
-fn has_counts<R: Abort>(rt: &R, exposure: &Exposure, counts: &[Counts]) {
-    is_equal(rt, &exposure.finished, &1);
+fn expect_exposure<R: Abort>(rt: &R, exposure: &Exposure, counts: &[Counts]) {
+    expect_equal(rt, &exposure.finished, &1);
     let rows = exposure.rows.as_slice();
-    is_equal(rt, &rows.len(), &counts.len());
+    expect_equal(rt, &rows.len(), &counts.len());
     for (row, expected) in rows.iter().zip(counts.iter()) {
-        is_equal(rt, row, expected);
+        expect_equal(rt, row, expected);
     }
 }
 
-fn counts_are<'a, R: Abort, D: Disk>(
+fn expect_counts<'a, R: Abort, D: Disk>(
     rt: &R,
     alloc: Global,
     alone: &mut Alone<'a, D>,
     counts: &[Counts],
 ) {
     match alone.ask(alloc, &Request::Exposure) {
-        Reply::Exposure(exposure) => has_counts(rt, &exposure, counts),
+        Reply::Exposure(exposure) => expect_exposure(rt, &exposure, counts),
         _ => panic!(rt; "no counts"),
     }
 }
@@ -113,9 +118,9 @@ fn asks_over<'a, R: Abort>(
         panic!(rt; "no office");
     };
     let mut alone = Alone { office };
-    asks(rt, alloc, &mut alone, trial.steps);
+    expect_answers(rt, alloc, &mut alone, trial.steps);
     if let Some(counts) = trial.counts {
-        counts_are(rt, alloc, &mut alone, counts);
+        expect_counts(rt, alloc, &mut alone, counts);
     }
     let Alone { office } = alone;
     let disk = office.into_disk();
@@ -233,7 +238,7 @@ fn lists_of_retakers(rt: HostRuntime) {
         counts: Some(&COUNTS),
     };
     let left = asks_by(&rt, alloc, &bank, draft(&rt, alloc, &WORKED), &file, &again);
-    is_equal(&rt, &left.as_slice(), &file.as_slice());
+    expect_equal(&rt, &left.as_slice(), &file.as_slice());
 }
 
 /// With two sessions allowed the number of sessions is tested before a form is needed, and after the

@@ -3,8 +3,8 @@
 
 ghost use Rattle.form_model.specs.Validity.{IsPlanFor};
 
-use crate::equal::is_equal;
-use crate::expected::{has_entries, is_made_of};
+use crate::equal::expect_equal;
+use crate::expected::{expect_entries, expect_parts};
 use crate::files::{BEST, END, Parts, REST, SERVE, START, joined};
 use crate::lossy_disk::LossyDisk;
 use crate::moves::done;
@@ -45,16 +45,16 @@ fn half_moved<R: Abort>(rt: &R, alloc: Global, bank: &Bank, spec: &Spec) -> Loss
     match migrate(alloc, bank, spec, LossyDisk::of(alloc, file, device, fails)) {
         Ok(_) => panic!(rt; "moved"),
         Err((disk, fault)) => {
-            is_equal(rt, &fault, &MigrateFault::Disk);
+            expect_equal(rt, &fault, &MigrateFault::Disk);
             disk
         }
     }
 }
 
 /// The file reads moved, and is not on the device.
-fn is_half_moved<R: Abort>(rt: &R, alloc: Global, disk: &LossyDisk) {
-    is_made_of(rt, alloc, &disk.shown, MOVED);
-    is_made_of(rt, alloc, &disk.device, UNOPENED);
+fn expect_half_moved<R: Abort>(rt: &R, alloc: Global, disk: &LossyDisk) {
+    expect_parts(rt, alloc, &disk.shown, MOVED);
+    expect_parts(rt, alloc, &disk.device, UNOPENED);
 }
 
 /// A second migration on the same disk.
@@ -62,10 +62,10 @@ fn device_moved<R: Abort>(rt: &R, alloc: Global, bank: &Bank, spec: &Spec) -> Ve
     requires { IsPlanFor bank.now spec.now }
 {
     let disk = half_moved(rt, alloc, bank, spec);
-    is_half_moved(rt, alloc, &disk);
+    expect_half_moved(rt, alloc, &disk);
     match migrate(alloc, bank, spec, disk) {
         Ok((moved, disk)) => {
-            is_equal(rt, &Ok(moved), &done(0, 364));
+            expect_equal(rt, &Ok(moved), &done(0, 364));
             disk.device
         }
         Err(_) => panic!(rt; "not moved"),
@@ -86,12 +86,12 @@ fn a_migration_whose_last_sync_fails(rt: HostRuntime) {
     let alloc = rt.alloc();
     let bank = bank_a(alloc).expect(&rt, "a bank");
     let device = device_by(&rt, alloc, &bank, draft(&rt, alloc, &WORKED));
-    is_made_of(&rt, alloc, &device, MOVED);
+    expect_parts(&rt, alloc, &device, MOVED);
     let trial = Trial {
         numbers: WORKED,
         file: &[&device],
         fails: &[],
         steps: &[],
     };
-    has_entries(&rt, &run(&rt, alloc, &trial), 2);
+    expect_entries(&rt, &run(&rt, alloc, &trial), 2);
 }

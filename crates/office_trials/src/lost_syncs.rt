@@ -5,8 +5,8 @@ ghost use Rattle.bank_tables.specs.Items.{has};
 ghost use Rattle.form_model.specs.Forms.{Meets};
 ghost use Rattle.form_model.specs.Validity.{IsPlanFor};
 
-use crate::equal::is_equal;
-use crate::expected::has_entries;
+use crate::equal::expect_equal;
+use crate::expected::expect_entries;
 use crate::files::{Parts, SERVED, joined};
 use crate::lossy_disk::LossyDisk;
 use crate::old_files::OLD_SERVED;
@@ -118,7 +118,7 @@ fn device_after<R: Abort>(
     for call in losing.calls {
         office = asked(rt, alloc, bank, spec, base, office, call, losing.dies);
     }
-    is_equal(rt, &office.summary().entries, &losing.entries);
+    expect_equal(rt, &office.summary().entries, &losing.entries);
     let disk = office.into_disk();
     disk.device
 }
@@ -137,7 +137,7 @@ fn device_by<R: Abort>(
 }
 
 /// After a crash the file on the device has each entry.
-fn loses_nothing<R: Abort>(rt: &R, alloc: Global, losing: &Losing<'_>) {
+fn expect_nothing_lost<R: Abort>(rt: &R, alloc: Global, losing: &Losing<'_>) {
     let bank = bank_a(alloc).expect(rt, "a bank");
     let device = device_by(rt, alloc, &bank, draft(rt, alloc, &WORKED), losing);
     let trial = Trial {
@@ -146,15 +146,15 @@ fn loses_nothing<R: Abort>(rt: &R, alloc: Global, losing: &Losing<'_>) {
         fails: &[],
         steps: &[],
     };
-    has_entries(rt, &run(rt, alloc, &trial), losing.entries);
+    expect_entries(rt, &run(rt, alloc, &trial), losing.entries);
 }
 
 /// Two calls of the disk fail, the second at most six calls after the first; or one alone.
-fn loses_nothing_from<R: Abort>(rt: &R, alloc: Global, losing: &Losing<'_>, first: u64) {
+fn expect_nothing_lost_from<R: Abort>(rt: &R, alloc: Global, losing: &Losing<'_>, first: u64) {
     for second in first..first.saturating_add(7) {
         for dies in [false, true] {
             let fails = [first, second];
-            loses_nothing(
+            expect_nothing_lost(
                 rt,
                 alloc,
                 &Losing {
@@ -178,7 +178,7 @@ fn what_a_new_journal_acknowledged_is_on_the_device(rt: HostRuntime) {
         dies: false,
     };
     for first in 0..14u64 {
-        loses_nothing_from(&rt, rt.alloc(), &losing, first);
+        expect_nothing_lost_from(&rt, rt.alloc(), &losing, first);
     }
 }
 
@@ -193,7 +193,7 @@ fn what_is_acknowledged_after_a_lost_sync_is_on_the_device(rt: HostRuntime) {
         dies: false,
     };
     for first in 0..26u64 {
-        loses_nothing_from(&rt, rt.alloc(), &losing, first);
+        expect_nothing_lost_from(&rt, rt.alloc(), &losing, first);
     }
 }
 
@@ -210,6 +210,6 @@ fn what_is_acknowledged_after_a_migration_is_on_the_device(rt: HostRuntime) {
         dies: false,
     };
     for first in 7..59u64 {
-        loses_nothing_from(&rt, rt.alloc(), &losing, first);
+        expect_nothing_lost_from(&rt, rt.alloc(), &losing, first);
     }
 }

@@ -2,13 +2,13 @@
 //! Whatever is left, an audit finds the same history, and a second migration ends well. What is expected was worked out by
 //! hand from the format.
 
-use crate::audits::{Audited, is_audited};
-use crate::equal::is_equal;
-use crate::expected::{is_made_of, leaves};
+use crate::audits::{Audited, expect_audit};
+use crate::equal::expect_equal;
+use crate::expected::{expect_bytes, expect_parts};
 use crate::files::{
     CLOSE, EMPTY, END, HEADER, Parts, REST, SERVE, SERVED, START, TOO_HIGH, TRAILED, joined,
 };
-use crate::moves::{Answer, Migration, done, gave, migrated};
+use crate::moves::{Answer, Migration, done, expect_answer, migrated};
 use crate::old_files::{
     CLOSED_MOVED, MARK, MOVED, MOVED_IN_TWO, MOVED_TRAILED, OLD_CLOSED, OLD_HEADER, OLD_SERVED,
     OLD_SET_ASIDE, OLD_START, OLD_TRAILED,
@@ -63,16 +63,16 @@ fn under(journal: u64, file: Parts<'_>) -> Migration<'_> {
     }
 }
 
-fn moves_to<R: Abort>(rt: &R, alloc: Global, (journal, file, (records, length), then): &Row) {
+fn expect_move<R: Abort>(rt: &R, alloc: Global, (journal, file, (records, length), then): &Row) {
     let left = migrated(rt, alloc, &under(*journal, file));
-    is_equal(rt, &left.answer, &done(*records, *length));
-    is_made_of(rt, alloc, &left.bytes, then);
+    expect_equal(rt, &left.answer, &done(*records, *length));
+    expect_parts(rt, alloc, &left.bytes, then);
 }
 
 #[test]
 fn what_files_become(rt: HostRuntime) {
     for row in &ROWS {
-        moves_to(&rt, rt.alloc(), row);
+        expect_move(&rt, rt.alloc(), row);
     }
 }
 
@@ -84,17 +84,17 @@ const FULL: [(u64, Parts<'static>, u64); 3] = [
 ];
 
 /// Nothing is written or put aside.
-fn has_no_room<R: Abort>(rt: &R, alloc: Global, journal: u64, file: Parts<'_>, length: u64) {
+fn expect_no_room<R: Abort>(rt: &R, alloc: Global, journal: u64, file: Parts<'_>, length: u64) {
     let left = migrated(rt, alloc, &under(journal, &*file));
-    is_equal(rt, &left.answer, &Err(MigrateFault::Full(length)));
-    is_equal(rt, &left.aside.len(), &0);
-    is_made_of(rt, alloc, &left.bytes, file);
+    expect_equal(rt, &left.answer, &Err(MigrateFault::Full(length)));
+    expect_equal(rt, &left.aside.len(), &0);
+    expect_parts(rt, alloc, &left.bytes, file);
 }
 
 #[test]
 fn files_without_room(rt: HostRuntime) {
     for (journal, file, length) in &FULL {
-        has_no_room(&rt, rt.alloc(), *journal, file, *length);
+        expect_no_room(&rt, rt.alloc(), *journal, file, *length);
     }
 }
 
@@ -108,16 +108,16 @@ const TAILS: [(Parts<'static>, &[u64]); 6] = [
     (TRAILED, &[]),
 ];
 
-fn puts_aside<R: Abort>(rt: &R, alloc: Global, file: Parts<'_>, gates: &[u64]) {
+fn expect_aside<R: Abort>(rt: &R, alloc: Global, file: Parts<'_>, gates: &[u64]) {
     let left = migrated(rt, alloc, &under(LIMIT, file));
-    is_equal(rt, &left.aside.as_slice(), &gates);
+    expect_equal(rt, &left.aside.as_slice(), &gates);
 }
 
 /// What is cut is put aside before, and nothing else is.
 #[test]
 fn what_is_put_aside(rt: HostRuntime) {
     for (file, gates) in &TAILS {
-        puts_aside(&rt, rt.alloc(), file, gates);
+        expect_aside(&rt, rt.alloc(), file, gates);
     }
 }
 
@@ -133,8 +133,8 @@ fn a_journal_moved_under_two_bands(rt: HostRuntime) {
         fails: &[],
     };
     let left = migrated(&rt, rt.alloc(), &migration);
-    is_equal(&rt, &left.answer, &done(2, 428));
-    is_made_of(&rt, rt.alloc(), &left.bytes, MOVED_IN_TWO);
+    expect_equal(&rt, &left.answer, &done(2, 428));
+    expect_parts(&rt, rt.alloc(), &left.bytes, MOVED_IN_TWO);
 }
 
 /// What a record of a start has before its session, and after its booking.
@@ -175,8 +175,8 @@ fn many_records_are_written_at_once(rt: HostRuntime) {
     let old = starts(&rt, rt.alloc(), OLD_AROUND);
     let new = starts(&rt, rt.alloc(), AROUND);
     let left = migrated(&rt, rt.alloc(), &under(LIMIT, &[OLD_HEADER, &old, END]));
-    gave(&rt, &left, &done(800, 132_015), 4_019);
-    is_made_of(
+    expect_answer(&rt, &left, &done(800, 132_015), 4_019);
+    expect_parts(
         &rt,
         rt.alloc(),
         &left.bytes,
@@ -265,16 +265,22 @@ const REFUSALS: [Refusal; 14] = [
 ];
 
 /// The file is not moved, and left as it was.
-fn is_refused<R: Abort>(rt: &R, alloc: Global, journal: u64, file: Parts<'_>, fault: OpenFault) {
+fn expect_refusal<R: Abort>(
+    rt: &R,
+    alloc: Global,
+    journal: u64,
+    file: Parts<'_>,
+    fault: OpenFault,
+) {
     let left = migrated(rt, alloc, &under(journal, &*file));
-    is_equal(rt, &left.answer, &Err(MigrateFault::Open(fault)));
-    is_made_of(rt, alloc, &left.bytes, file);
+    expect_equal(rt, &left.answer, &Err(MigrateFault::Open(fault)));
+    expect_parts(rt, alloc, &left.bytes, file);
 }
 
 #[test]
 fn files_that_are_not_moved(rt: HostRuntime) {
     for (journal, file, fault) in &REFUSALS {
-        is_refused(&rt, rt.alloc(), *journal, file, *fault);
+        expect_refusal(&rt, rt.alloc(), *journal, file, *fault);
     }
 }
 
@@ -372,21 +378,21 @@ fn then(case: &Case, file: &[u8]) -> Answer {
 }
 
 /// An audit finds the history in the file, and a migration ends well.
-fn stands<R: Abort>(rt: &R, alloc: Global, case: &Case, file: &[u8]) {
+fn expect_history<R: Abort>(rt: &R, alloc: Global, case: &Case, file: &[u8]) {
     let audited = Audited {
         numbers: WORKED,
         bytes: file,
         counts: case.counts,
         summary: case.summary,
     };
-    is_audited(rt, alloc, &audited);
+    expect_audit(rt, alloc, &audited);
     let left = migrated(rt, alloc, &under(LIMIT, &[file]));
-    is_equal(rt, &left.answer, &then(case, file));
-    is_made_of(rt, alloc, &left.bytes, case.moved);
+    expect_equal(rt, &left.answer, &then(case, file));
+    expect_parts(rt, alloc, &left.bytes, case.moved);
 }
 
 /// The migration in which this call fails, or none where there is no such call.
-fn fails_at<R: Abort>(rt: &R, alloc: Global, case: &Case, call: u64) {
+fn expect_failure_at<R: Abort>(rt: &R, alloc: Global, case: &Case, call: u64) {
     let migration = Migration {
         numbers: WORKED,
         file: case.old,
@@ -394,9 +400,9 @@ fn fails_at<R: Abort>(rt: &R, alloc: Global, case: &Case, call: u64) {
     };
     let left = migrated(rt, alloc, &migration);
     if call < case.calls {
-        gave(rt, &left, &Err(MigrateFault::Disk), call.saturating_add(1));
+        expect_answer(rt, &left, &Err(MigrateFault::Disk), call.saturating_add(1));
     } else {
-        gave(rt, &left, &done(case.records, case.length), case.calls);
+        expect_answer(rt, &left, &done(case.records, case.length), case.calls);
     }
     let gate = if call.saturating_add(1) < case.calls {
         0
@@ -404,50 +410,50 @@ fn fails_at<R: Abort>(rt: &R, alloc: Global, case: &Case, call: u64) {
         1
     };
     let expected = front_of(rt, alloc, case, front_at(case, call), gate);
-    leaves(rt, &left.bytes, &expected);
-    stands(rt, alloc, case, &left.bytes);
+    expect_bytes(rt, &left.bytes, &expected);
+    expect_history(rt, alloc, case, &left.bytes);
 }
 
-fn fails_at_each_call<R: Abort>(rt: &R, alloc: Global, case: &Case) {
+fn expect_failure_at_each_call<R: Abort>(rt: &R, alloc: Global, case: &Case) {
     for call in 0..case.calls.saturating_add(1) {
-        fails_at(rt, alloc, case, call);
+        expect_failure_at(rt, alloc, case, call);
     }
 }
 
 #[test]
 fn each_call_of_a_migration_fails(rt: HostRuntime) {
     for case in &CASES {
-        fails_at_each_call(&rt, rt.alloc(), case);
+        expect_failure_at_each_call(&rt, rt.alloc(), case);
     }
 }
 
 /// Of what is written after the closed gate a crash leaves any length, and any bytes: those that were
 /// written, or open gates.
-fn stands_torn<R: Abort>(rt: &R, alloc: Global, case: &Case, length: usize) {
-    stands(rt, alloc, case, &front_of(rt, alloc, case, length, 0));
+fn expect_history_if_torn<R: Abort>(rt: &R, alloc: Global, case: &Case, length: usize) {
+    expect_history(rt, alloc, case, &front_of(rt, alloc, case, length, 0));
     let mut file = front_of(rt, alloc, case, case.gate.saturating_add(1), 0);
     file.resize(length, 1).expect(rt, "a longer file");
-    stands(rt, alloc, case, &file);
+    expect_history(rt, alloc, case, &file);
 }
 
-fn stands_at_each_length<R: Abort>(rt: &R, alloc: Global, case: &Case) {
+fn expect_history_at_each_length<R: Abort>(rt: &R, alloc: Global, case: &Case) {
     for length in case.gate.saturating_add(1)..(case.length as usize).saturating_add(1) {
-        stands_torn(rt, alloc, case, length);
+        expect_history_if_torn(rt, alloc, case, length);
     }
 }
 
 /// Once all is written a crash leaves any value at the gate. Only 1 is open.
-fn stands_at_each_gate<R: Abort>(rt: &R, alloc: Global, case: &Case) {
+fn expect_history_at_each_gate<R: Abort>(rt: &R, alloc: Global, case: &Case) {
     for gate in 0..256u16 {
         let file = front_of(rt, alloc, case, case.length as usize, gate as u8);
-        stands(rt, alloc, case, &file);
+        expect_history(rt, alloc, case, &file);
     }
 }
 
 #[test]
 fn each_image_of_a_migration_is_the_history(rt: HostRuntime) {
     for case in &CASES {
-        stands_at_each_length(&rt, rt.alloc(), case);
-        stands_at_each_gate(&rt, rt.alloc(), case);
+        expect_history_at_each_length(&rt, rt.alloc(), case);
+        expect_history_at_each_gate(&rt, rt.alloc(), case);
     }
 }

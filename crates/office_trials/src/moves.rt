@@ -5,7 +5,7 @@ ghost use Rattle.exam_edge.specs.MemoryDisk.{accounts_of};
 ghost use Rattle.form_model.specs.Validity.{IsPlanFor};
 
 use crate::counted_disk::{Count, CountedDisk};
-use crate::equal::is_equal;
+use crate::equal::expect_equal;
 use crate::files::Parts;
 use crate::outcome::{Numbers, disk_of, draft};
 use bank_tables::Bank;
@@ -108,7 +108,7 @@ pub(crate) fn migrated<R: Abort>(rt: &R, alloc: Global, migration: &Migration<'_
 }
 
 /// The migration gave this answer, by so many calls of the disk.
-pub(crate) fn gave<R: Abort>(rt: &R, left: &Left, answer: &Answer, calls: u64) {
-    is_equal(rt, &left.answer, answer);
-    is_equal(rt, &left.count.calls, &calls);
+pub(crate) fn expect_answer<R: Abort>(rt: &R, left: &Left, answer: &Answer, calls: u64) {
+    expect_equal(rt, &left.answer, answer);
+    expect_equal(rt, &left.count.calls, &calls);
 }

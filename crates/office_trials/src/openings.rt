@@ -1,7 +1,7 @@
 //! Files that an office opens, and each fault of one.
 
-use crate::equal::is_equal;
-use crate::expected::is_made_of;
+use crate::equal::expect_equal;
+use crate::expected::expect_parts;
 use crate::files::{
     ANSWER, BEST, EMPTY, END, HEADER, MORE, Parts, REST, SERVE, SERVED, SET_ASIDE, START, TOO_HIGH,
     UNMARKED, joined,
@@ -11,7 +11,7 @@ use crate::old_files::{
     OLD_TRAILED,
 };
 use crate::outcome::{Call, FIRST, NOTHING, Numbers, Reply, Step, Trial, WORKED, run};
-use crate::rows::{ONE_SERVED, Row, holds};
+use crate::rows::{ONE_SERVED, Row, expect_row};
 use answer_journal::OpenFault as JournalFault;
 use exam_office::{OpenFault, Refusal, Summary};
 use exam_records::RecordFault;
@@ -97,7 +97,11 @@ const NO_RECORDS: Parts<'static> = &[
     END,
 ];
 
-fn opens<R: Abort>(rt: &R, alloc: Global, (journal, file, steps, summary, calls, left): &Opening) {
+fn expect_opens<R: Abort>(
+    rt: &R,
+    alloc: Global,
+    (journal, file, steps, summary, calls, left): &Opening,
+) {
     let row = Row {
         trial: Trial {
             numbers: Numbers {
@@ -113,20 +117,20 @@ fn opens<R: Abort>(rt: &R, alloc: Global, (journal, file, steps, summary, calls,
         faults: 0,
         left,
     };
-    holds(rt, alloc, &row);
+    expect_row(rt, alloc, &row);
 }
 
 #[test]
 fn files_that_are_opened(rt: HostRuntime) {
-    is_equal(&rt, &joined(&rt, rt.alloc(), EMPTY).len(), &9);
+    expect_equal(&rt, &joined(&rt, rt.alloc(), EMPTY).len(), &9);
     for row in &OPENINGS {
-        opens(&rt, rt.alloc(), row);
+        expect_opens(&rt, rt.alloc(), row);
     }
 }
 
 /// The file has this length and is refused with this fault at this limit of the journal, and left
 /// as it was.
-fn refuses<R: Abort>(
+fn expect_refusal<R: Abort>(
     rt: &R,
     alloc: Global,
     file: Parts<'_>,
@@ -141,9 +145,9 @@ fn refuses<R: Abort>(
         steps: &[],
     };
     let outcome = run(rt, alloc, &trial);
-    is_equal(rt, &outcome.found.fault, &Some(fault));
-    is_equal(rt, &outcome.bytes.len(), &length);
-    is_made_of(rt, alloc, &outcome.bytes, file);
+    expect_equal(rt, &outcome.found.fault, &Some(fault));
+    expect_equal(rt, &outcome.bytes.len(), &length);
+    expect_parts(rt, alloc, &outcome.bytes, file);
 }
 
 /// The journal of the served session with another first byte: 184 bytes.
@@ -275,7 +279,7 @@ const FAULTY: [(Parts<'static>, usize, u64, OpenFault); 16] = [
 #[test]
 fn files_at_fault(rt: HostRuntime) {
     for (file, length, journal, fault) in &FAULTY {
-        refuses(&rt, rt.alloc(), file, *length, *journal, *fault);
+        expect_refusal(&rt, rt.alloc(), file, *length, *journal, *fault);
     }
 }
 
@@ -339,7 +343,7 @@ const OLD: [(Parts<'static>, usize, OpenFault); 11] = [
 #[test]
 fn files_of_the_first_version(rt: HostRuntime) {
     for (file, length, fault) in &OLD {
-        refuses(&rt, rt.alloc(), file, *length, LIMIT, *fault);
+        expect_refusal(&rt, rt.alloc(), file, *length, LIMIT, *fault);
     }
 }
 
@@ -402,18 +406,18 @@ const SECONDS: [Second; 10] = [
 
 /// The journal is refused, and so it is with two bytes more: what is after the last gate is cut
 /// once each record was taken, and not before.
-fn refuses_second<R: Abort>(rt: &R, alloc: Global, (record, length, fault): &Second) {
+fn expect_refusal_of_second<R: Abort>(rt: &R, alloc: Global, (record, length, fault): &Second) {
     let [front, middle, rest] = *record;
     let file = [HEADER, START, REST, front, middle, rest, END];
-    refuses(rt, alloc, &file, *length, LIMIT, *fault);
+    expect_refusal(rt, alloc, &file, *length, LIMIT, *fault);
     let longer = [HEADER, START, REST, front, middle, rest, END, MORE];
     let length = length.saturating_add(2);
-    refuses(rt, alloc, &longer, length, LIMIT, *fault);
+    expect_refusal(rt, alloc, &longer, length, LIMIT, *fault);
 }
 
 #[test]
 fn second_records_at_fault(rt: HostRuntime) {
     for second in &SECONDS {
-        refuses_second(&rt, rt.alloc(), second);
+        expect_refusal_of_second(&rt, rt.alloc(), second);
     }
 }

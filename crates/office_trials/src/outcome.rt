@@ -248,7 +248,7 @@ pub(crate) fn ask<R: Abort, D: Disk>(
 }
 
 /// A call gave what it had to give.
-fn is_reply<R: Abort>(rt: &R, found: Reply, expected: Reply) {
+fn expect_reply<R: Abort>(rt: &R, found: Reply, expected: Reply) {
     match (found, expected) {
         (Reply::Refused(Refusal::JournalFull(length)), Reply::Full(least)) => {
             assert!(rt; length >= least);
@@ -259,9 +259,14 @@ fn is_reply<R: Abort>(rt: &R, found: Reply, expected: Reply) {
 }
 
 /// Each call gives its reply.
-fn ask_each<R: Abort, D: Disk>(rt: &R, alloc: Global, office: &mut Office<D>, steps: &[Step]) {
+fn expect_replies<R: Abort, D: Disk>(
+    rt: &R,
+    alloc: Global,
+    office: &mut Office<D>,
+    steps: &[Step],
+) {
     for (call, reply) in steps {
-        is_reply(rt, ask(rt, alloc, office, call), *reply);
+        expect_reply(rt, ask(rt, alloc, office, call), *reply);
     }
 }
 
@@ -273,7 +278,7 @@ fn ask_all<R: Abort, D: Disk>(
     lists: &[&[Step]],
 ) -> Found {
     for steps in lists {
-        ask_each(rt, alloc, office, steps);
+        expect_replies(rt, alloc, office, steps);
     }
     Found {
         fault: None,

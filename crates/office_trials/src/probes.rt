@@ -2,7 +2,7 @@
 
 use crate::files::{ANSWERED, CLOSED, Parts, SERVED};
 use crate::outcome::{Call, FAILED, Reply, Step, Trial, WORKED};
-use crate::rows::{ONE_ANSWERED, ONE_SERVED, Row, holds};
+use crate::rows::{ONE_ANSWERED, ONE_SERVED, Row, expect_row};
 use exam_office::{Health, Place, Summary};
 use std::alloc::Global;
 use std::process::Abort;
@@ -137,7 +137,7 @@ const LOOKING: [Looking; 7] = [
 ];
 
 /// The calls end with what their row has.
-fn end_as_their_row<R: Abort>(
+fn expect_end_of_calls<R: Abort>(
     rt: &R,
     alloc: Global,
     (file, fails, steps, summary, (calls, faults), left): &Looking,
@@ -154,12 +154,12 @@ fn end_as_their_row<R: Abort>(
         faults: *faults,
         left,
     };
-    holds(rt, alloc, &row);
+    expect_row(rt, alloc, &row);
 }
 
 #[test]
 fn looks_at_the_health(rt: HostRuntime) {
     for row in &LOOKING {
-        end_as_their_row(&rt, rt.alloc(), row);
+        expect_end_of_calls(&rt, rt.alloc(), row);
     }
 }

@@ -1,13 +1,13 @@
 //! Each refusal of a call with its value. A refused call adds no entry, and makes no call of the
 //! disk.
 
-use crate::expected::{has_entries, is_same};
+use crate::expected::{expect_entries, expect_same};
 use crate::files::{ANSWERED, CLOSE, EMPTY, END, HEADER, Parts, REST, SERVED, START, STARTED};
 use crate::outcome::{
     BEGUN, Call, FIRST, FOUND, NOTHING, Numbers, Reply, SECOND, SESSION, Step, THIRD, Trial,
     WORKED, calm, run,
 };
-use crate::rows::{ONE_ANSWERED, ONE_SERVED, ONE_STARTED, Row, holds};
+use crate::rows::{ONE_ANSWERED, ONE_SERVED, ONE_STARTED, Row, expect_row};
 use crate::sessions::TWO_SESSIONS;
 use exam_office::{Begun, Place, Refusal, Summary};
 use std::alloc::Global;
@@ -44,7 +44,7 @@ const CALLS_AFTER: [Step; 13] = [
 
 /// Over this file the calls leave the history, the file and the count of the disk's calls as the
 /// first ones do. The history has so many entries then.
-fn adds_no_more<R: Abort>(
+fn expect_no_more<R: Abort>(
     rt: &R,
     alloc: Global,
     file: Parts<'_>,
@@ -53,15 +53,15 @@ fn adds_no_more<R: Abort>(
 ) {
     let was = run(rt, alloc, &calm(file, first));
     let now = run(rt, alloc, &calm(file, steps));
-    has_entries(rt, &was, entries);
-    is_same(rt, &now, &was);
+    expect_entries(rt, &was, entries);
+    expect_same(rt, &now, &was);
 }
 
 #[test]
 fn calls_that_add_nothing(rt: HostRuntime) {
     for step in &CALLS_AFTER {
         let steps: [&[Step]; 2] = [&TWO_SESSIONS, &[*step]];
-        adds_no_more(&rt, rt.alloc(), &[], (&[&TWO_SESSIONS], &steps), 7);
+        expect_no_more(&rt, rt.alloc(), &[], (&[&TWO_SESSIONS], &steps), 7);
     }
 }
 
@@ -95,8 +95,8 @@ const SERVED_TWICE: &[Step] = &[(
 #[test]
 fn calls_among_others(rt: HostRuntime) {
     let alloc = rt.alloc();
-    adds_no_more(&rt, alloc, &[], (&[&SESSION], &[&TOO_SOON]), 7);
-    adds_no_more(&rt, alloc, STARTED, (&[SERVED_ONCE], &[SERVED_TWICE]), 2);
+    expect_no_more(&rt, alloc, &[], (&[&SESSION], &[&TOO_SOON]), 7);
+    expect_no_more(&rt, alloc, STARTED, (&[SERVED_ONCE], &[SERVED_TWICE]), 2);
 }
 
 const FULL_AT_92: Step = (Call::Begin(70), Reply::Refused(Refusal::JournalFull(92)));
@@ -216,6 +216,6 @@ const REFUSALS: [Row<'static>; 6] = [
 #[test]
 fn calls_refused_by_the_plan(rt: HostRuntime) {
     for row in &REFUSALS {
-        holds(&rt, rt.alloc(), row);
+        expect_row(&rt, rt.alloc(), row);
     }
 }

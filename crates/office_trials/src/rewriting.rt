@@ -5,8 +5,8 @@ ghost use Rattle.answer_journal.specs.Standing.{IsAsLeft};
 ghost use Rattle.exam_edge.specs.MemoryDisk.{accounts_of};
 ghost use Rattle.form_model.specs.Validity.{IsPlanFor};
 
-use crate::equal::is_equal;
-use crate::expected::is_made_of;
+use crate::equal::expect_equal;
+use crate::expected::expect_parts;
 use crate::files::HEADER;
 use crate::moves::{Migration, done, migrated};
 use crate::old_files::{MARK, OLD_HEADER};
@@ -148,22 +148,22 @@ const WHOLES: [Whole; 5] = [
 /// What an audit finds: the summary, and the exposure in all and in each band.
 type Audit = (Summary, Exposure, Vec<Exposure>);
 
-fn is_same_exposure<R: Abort>(rt: &R, now: &Exposure, was: &Exposure) {
-    is_equal(rt, &now.finished, &was.finished);
-    is_equal(rt, &now.rows.as_slice(), &was.rows.as_slice());
+fn expect_same_exposure<R: Abort>(rt: &R, now: &Exposure, was: &Exposure) {
+    expect_equal(rt, &now.finished, &was.finished);
+    expect_equal(rt, &now.rows.as_slice(), &was.rows.as_slice());
 }
 
-fn are_same_bands<R: Abort>(rt: &R, now: &[Exposure], was: &[Exposure]) {
-    is_equal(rt, &now.len(), &was.len());
+fn expect_same_bands<R: Abort>(rt: &R, now: &[Exposure], was: &[Exposure]) {
+    expect_equal(rt, &now.len(), &was.len());
     for (band, before) in now.iter().zip(was) {
-        is_same_exposure(rt, band, before);
+        expect_same_exposure(rt, band, before);
     }
 }
 
-fn is_same_audit<R: Abort>(rt: &R, now: &Audit, was: &Audit) {
-    is_equal(rt, &now.0, &was.0);
-    is_same_exposure(rt, &now.1, &was.1);
-    are_same_bands(rt, &now.2, &was.2);
+fn expect_same_audit<R: Abort>(rt: &R, now: &Audit, was: &Audit) {
+    expect_equal(rt, &now.0, &was.0);
+    expect_same_exposure(rt, &now.1, &was.1);
+    expect_same_bands(rt, &now.2, &was.2);
 }
 
 fn audit_of<R: Abort>(rt: &R, alloc: Global, bank: &Bank, spec: &Spec, file: &[u8]) -> Audit
@@ -187,10 +187,10 @@ fn audited<R: Abort>(rt: &R, alloc: Global, numbers: &Numbers, file: &[u8]) -> A
 }
 
 /// An audit finds the same in each of the files.
-fn audits_the_same<R: Abort>(rt: &R, alloc: Global, numbers: &Numbers, files: [&[u8]; 2]) {
+fn expect_same_audits<R: Abort>(rt: &R, alloc: Global, numbers: &Numbers, files: [&[u8]; 2]) {
     let [now, was] = files;
     let before = audited(rt, alloc, numbers, was);
-    is_same_audit(rt, &audited(rt, alloc, numbers, now), &before);
+    expect_same_audit(rt, &audited(rt, alloc, numbers, now), &before);
 }
 
 /// A journal of the second version, and the same records by the first.
@@ -220,17 +220,17 @@ fn moves_back<R: Abort>(rt: &R, alloc: Global, numbers: &Numbers, both: &Both) -
     };
     let left = migrated(rt, alloc, &migration);
     let length = left.bytes.len() as u64;
-    is_equal(rt, &left.answer, &done(both.records, length));
+    expect_equal(rt, &left.answer, &done(both.records, length));
     let front = both
         .old
         .get(..both.old.len().saturating_sub(1))
         .expect(rt, "records");
     let rest = both.new.get(HEADER.len()..).expect(rt, "records");
-    is_made_of(rt, alloc, &left.bytes, &[front, MARK, rest]);
+    expect_parts(rt, alloc, &left.bytes, &[front, MARK, rest]);
     left.bytes
 }
 
-fn is_moved_back<R: Abort>(rt: &R, alloc: Global, row: &Whole) {
+fn expect_moved_back<R: Abort>(rt: &R, alloc: Global, row: &Whole) {
     let trial = Trial {
         numbers: row.numbers,
         file: &[],
@@ -239,13 +239,13 @@ fn is_moved_back<R: Abort>(rt: &R, alloc: Global, row: &Whole) {
     };
     let both = both_of(rt, alloc, row.first, run(rt, alloc, &trial).bytes);
     let moved = moves_back(rt, alloc, &row.numbers, &both);
-    audits_the_same(rt, alloc, &row.numbers, [&both.old, &both.new]);
-    audits_the_same(rt, alloc, &row.numbers, [&moved, &both.new]);
+    expect_same_audits(rt, alloc, &row.numbers, [&both.old, &both.new]);
+    expect_same_audits(rt, alloc, &row.numbers, [&moved, &both.new]);
 }
 
 #[test]
 fn whole_sessions_are_moved(rt: HostRuntime) {
     for row in &WHOLES {
-        is_moved_back(&rt, rt.alloc(), row);
+        expect_moved_back(&rt, rt.alloc(), row);
     }
 }

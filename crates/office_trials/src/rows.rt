@@ -1,6 +1,6 @@
 //! Trials, each with all that is found after it.
 
-use crate::expected::{counts, has_entries, is_made_of, sums_up};
+use crate::expected::{expect_calls, expect_entries, expect_parts, expect_summary};
 use crate::files::Parts;
 use crate::outcome::{Step, Trial, WORKED, run};
 use exam_office::Summary;
@@ -52,16 +52,16 @@ pub(crate) const ONE_ANSWERED: Summary = Summary {
 };
 
 /// The trial ends with what its row has.
-pub(crate) fn holds<R: Abort>(rt: &R, alloc: Global, row: &Row<'_>) {
+pub(crate) fn expect_row<R: Abort>(rt: &R, alloc: Global, row: &Row<'_>) {
     let outcome = run(rt, alloc, &row.trial);
-    sums_up(rt, &outcome, &row.summary);
-    counts(rt, &outcome, row.calls, row.faults);
-    is_made_of(rt, alloc, &outcome.bytes, row.left);
+    expect_summary(rt, &outcome, &row.summary);
+    expect_calls(rt, &outcome, row.calls, row.faults);
+    expect_parts(rt, alloc, &outcome.bytes, row.left);
 }
 
 /// The file is opened under the worked plan, the calls give their replies, and the history has so
 /// many entries then.
-pub(crate) fn opens<R: Abort>(
+pub(crate) fn expect_opens<R: Abort>(
     rt: &R,
     alloc: Global,
     file: Parts<'_>,
@@ -75,5 +75,5 @@ pub(crate) fn opens<R: Abort>(
         steps: &[steps],
     };
     let outcome = run(rt, alloc, &trial);
-    has_entries(rt, &outcome, entries);
+    expect_entries(rt, &outcome, entries);
 }

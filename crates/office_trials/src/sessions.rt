@@ -1,8 +1,8 @@
 //! Whole sessions, the exposure counts after them, and what an audit finds in their journals.
 
-use crate::audits::{Audited, is_audited};
-use crate::equal::is_equal;
-use crate::expected::{counts, leaves, sums_up};
+use crate::audits::{Audited, expect_audit};
+use crate::equal::expect_equal;
+use crate::expected::{expect_bytes, expect_calls, expect_summary};
 use crate::outcome::{
     BEGUN, Call, FIRST, Numbers, Outcome, Reply, SECOND, SESSION, Step, Trial, WORKED, run,
 };
@@ -241,7 +241,7 @@ fn without_nodes(summary: &Summary) -> Summary {
 }
 
 /// The file opens as the same history.
-fn opens_the_same<R: Abort>(rt: &R, alloc: Global, row: &Whole, was: &Outcome) {
+fn expect_same_opening<R: Abort>(rt: &R, alloc: Global, row: &Whole, was: &Outcome) {
     let trial = Trial {
         numbers: row.numbers,
         file: &[&was.bytes],
@@ -249,24 +249,24 @@ fn opens_the_same<R: Abort>(rt: &R, alloc: Global, row: &Whole, was: &Outcome) {
         steps: &[row.counts],
     };
     let now = run(rt, alloc, &trial);
-    sums_up(rt, &now, &was.found.summary);
-    leaves(rt, &now.bytes, &was.bytes);
+    expect_summary(rt, &now, &was.found.summary);
+    expect_bytes(rt, &now.bytes, &was.bytes);
 }
 
 /// An audit of the file finds the same summary and counts.
-fn audits_the_same<R: Abort>(rt: &R, alloc: Global, row: &Whole, was: &Outcome) {
+fn expect_same_audit<R: Abort>(rt: &R, alloc: Global, row: &Whole, was: &Outcome) {
     let expected = Audited {
         numbers: row.numbers,
         bytes: &was.bytes,
         counts: row.counts,
         summary: was.found.summary,
     };
-    is_audited(rt, alloc, &expected);
+    expect_audit(rt, alloc, &expected);
 }
 
 /// The calls end with what their row has. The file opens as the same history, which an audit
 /// finds too.
-fn is_whole<R: Abort>(rt: &R, alloc: Global, row: &Whole) {
+fn expect_whole<R: Abort>(rt: &R, alloc: Global, row: &Whole) {
     let trial = Trial {
         numbers: row.numbers,
         file: &[],
@@ -274,15 +274,15 @@ fn is_whole<R: Abort>(rt: &R, alloc: Global, row: &Whole) {
         steps: row.steps,
     };
     let whole = run(rt, alloc, &trial);
-    is_equal(rt, &without_nodes(&whole.found.summary), &row.summary);
-    counts(rt, &whole, row.calls, 0);
-    opens_the_same(rt, alloc, row, &whole);
-    audits_the_same(rt, alloc, row, &whole);
+    expect_equal(rt, &without_nodes(&whole.found.summary), &row.summary);
+    expect_calls(rt, &whole, row.calls, 0);
+    expect_same_opening(rt, alloc, row, &whole);
+    expect_same_audit(rt, alloc, row, &whole);
 }
 
 #[test]
 fn whole_sessions(rt: HostRuntime) {
     for row in &WHOLES {
-        is_whole(&rt, rt.alloc(), row);
+        expect_whole(&rt, rt.alloc(), row);
     }
 }

@@ -5,10 +5,10 @@
 ghost use Rattle.answer_journal.specs.Standing.{IsAsLeft};
 ghost use Rattle.exam_edge.specs.MemoryDisk.{accounts_of};
 
-use crate::equal::is_equal;
-use crate::expected::{is_made_of, leaves};
+use crate::equal::expect_equal;
+use crate::expected::{expect_bytes, expect_parts};
 use crate::files::{END, MORE, Parts, joined};
-use crate::journal::{LIMIT, MOVED, Records, finds, open};
+use crate::journal::{LIMIT, MOVED, Records, expect_records, open};
 use crate::old_files::MARK;
 use crate::outcome::disk_of;
 use answer_journal::{Journal, OpenFault, Payload};
@@ -82,16 +82,16 @@ const FILES: [(Parts<'static>, Records); 20] = [
 ];
 
 /// The file is opened so, and so it is with two bytes more.
-fn opens_so<R: Abort>(rt: &R, alloc: Global, file: Parts<'_>, records: Records) {
+fn expect_opens<R: Abort>(rt: &R, alloc: Global, file: Parts<'_>, records: Records) {
     let bytes = joined(rt, alloc, file);
-    finds(rt, alloc, &bytes, records);
-    finds(rt, alloc, &joined(rt, alloc, &[&bytes, MORE]), records);
+    expect_records(rt, alloc, &bytes, records);
+    expect_records(rt, alloc, &joined(rt, alloc, &[&bytes, MORE]), records);
 }
 
 #[test]
 fn files_of_each_version(rt: HostRuntime) {
     for (file, records) in &FILES {
-        opens_so(&rt, rt.alloc(), file, *records);
+        expect_opens(&rt, rt.alloc(), file, *records);
     }
 }
 
@@ -99,10 +99,10 @@ fn files_of_each_version(rt: HostRuntime) {
 #[test]
 fn nine_bytes_of_the_first_version(rt: HostRuntime) {
     let alloc = rt.alloc();
-    finds(&rt, alloc, &joined(&rt, alloc, &[FIRST, END]), Ok((0, 9)));
-    finds(&rt, alloc, &joined(&rt, alloc, &[FIRST]), Ok((0, 9)));
+    expect_records(&rt, alloc, &joined(&rt, alloc, &[FIRST, END]), Ok((0, 9)));
+    expect_records(&rt, alloc, &joined(&rt, alloc, &[FIRST]), Ok((0, 9)));
     let longer = joined(&rt, alloc, &[SECOND, END, &[7]]);
-    finds(&rt, alloc, &longer, Ok((0, 9)));
+    expect_records(&rt, alloc, &longer, Ok((0, 9)));
 }
 
 /// What is found of a moved journal in the front of this length.
@@ -124,13 +124,13 @@ fn found_in_front(length: usize) -> Records {
 fn a_moved_journal_cut_to_each_length(rt: HostRuntime) {
     for length in 0..29usize {
         let expected = found_in_front(length);
-        finds(&rt, rt.alloc(), &MOVED[..length], expected);
+        expect_records(&rt, rt.alloc(), &MOVED[..length], expected);
     }
 }
 
 /// The record after the mark counts where both bytes are those of a mark that counts: its gate and
 /// its payload.
-fn is_moved_by<R: Abort>(rt: &R, alloc: Global, gate: u8, payload: u8) {
+fn expect_moved_by<R: Abort>(rt: &R, alloc: Global, gate: u8, payload: u8) {
     let expected = if gate == 1 && payload == 8 {
         Ok((1, 28))
     } else {
@@ -138,14 +138,14 @@ fn is_moved_by<R: Abort>(rt: &R, alloc: Global, gate: u8, payload: u8) {
     };
     let mark = [gate, 0, 0, 0, 1, payload];
     let file = joined(rt, alloc, &[FIRST, ONE, &mark, TWO, END]);
-    finds(rt, alloc, &file, expected);
+    expect_records(rt, alloc, &file, expected);
 }
 
 #[test]
 fn each_byte_of_a_mark(rt: HostRuntime) {
     for byte in 0..256u16 {
-        is_moved_by(&rt, rt.alloc(), byte as u8, 8);
-        is_moved_by(&rt, rt.alloc(), 1, byte as u8);
+        expect_moved_by(&rt, rt.alloc(), byte as u8, 8);
+        expect_moved_by(&rt, rt.alloc(), 1, byte as u8);
     }
 }
 
@@ -154,27 +154,27 @@ const UNMOVED: Parts<'static> = &[FIRST, ONE, TWO, END, MORE];
 
 /// It is refused after eight calls: sync, length, header, each gate, the last one twice, and the
 /// payload of one byte. None of them changes it. The one of this number fails, or none does.
-fn is_refused_untouched<R: Abort>(rt: &R, alloc: Global, call: u64) {
+fn expect_refusal_untouched<R: Abort>(rt: &R, alloc: Global, call: u64) {
     let fault = if call < 8 {
         OpenFault::Disk
     } else {
         OpenFault::Version
     };
     let (disk, found) = open(alloc, disk_of(rt, alloc, UNMOVED, &[call]));
-    is_equal(rt, &found, &Err(fault));
-    is_made_of(rt, alloc, disk.bytes(), UNMOVED);
-    is_equal(rt, &disk.aside().len(), &0);
+    expect_equal(rt, &found, &Err(fault));
+    expect_parts(rt, alloc, disk.bytes(), UNMOVED);
+    expect_equal(rt, &disk.aside().len(), &0);
 }
 
 #[test]
 fn an_unmoved_journal_is_left_as_it_was(rt: HostRuntime) {
     for call in 0..10u64 {
-        is_refused_untouched(&rt, rt.alloc(), call);
+        expect_refusal_untouched(&rt, rt.alloc(), call);
     }
 }
 
 /// The version of the header, the version of the records, and the length; the file is as it was.
-fn walks<R: Abort>(
+fn expect_walk<R: Abort>(
     rt: &R,
     alloc: Global,
     file: Parts<'_>,
@@ -182,10 +182,10 @@ fn walks<R: Abort>(
 ) {
     match Journal::walk(disk_of(rt, alloc, file, &[]), LIMIT) {
         Ok(walk) => {
-            is_equal(rt, &walk.version(), &header);
-            is_equal(rt, &walk.record_version(), &records);
-            is_equal(rt, &walk.length(), &length);
-            is_made_of(rt, alloc, walk.stop().bytes(), file);
+            expect_equal(rt, &walk.version(), &header);
+            expect_equal(rt, &walk.record_version(), &records);
+            expect_equal(rt, &walk.length(), &length);
+            expect_parts(rt, alloc, walk.stop().bytes(), file);
         }
         Err(_) => panic!(rt; "the file was not tested"),
     }
@@ -194,19 +194,19 @@ fn walks<R: Abort>(
 #[test]
 fn versions_of_a_walk(rt: HostRuntime) {
     let alloc = rt.alloc();
-    walks(&rt, alloc, UNMOVED, (1, 1, 22));
-    walks(&rt, alloc, &[FIRST, ONE, MARK, TWO, END], (1, 2, 28));
-    walks(&rt, alloc, &[SECOND, ONE, TWO, END, MORE], (2, 2, 22));
-    walks(&rt, alloc, &[FIRST, END], (2, 2, 9));
-    walks(&rt, alloc, &[FIRST, END, &[7]], (1, 1, 9));
+    expect_walk(&rt, alloc, UNMOVED, (1, 1, 22));
+    expect_walk(&rt, alloc, &[FIRST, ONE, MARK, TWO, END], (1, 2, 28));
+    expect_walk(&rt, alloc, &[SECOND, ONE, TWO, END, MORE], (2, 2, 22));
+    expect_walk(&rt, alloc, &[FIRST, END], (2, 2, 9));
+    expect_walk(&rt, alloc, &[FIRST, END, &[7]], (1, 1, 9));
 }
 
 /// The payload of this number, and the place of its gate.
-fn has_payload<R: Abort>(rt: &R, payloads: &[Payload], which: usize, (at, bytes): (u64, &[u8])) {
+fn expect_payload<R: Abort>(rt: &R, payloads: &[Payload], which: usize, (at, bytes): (u64, &[u8])) {
     match payloads.get(which) {
         Some(payload) => {
-            is_equal(rt, &payload.at, &at);
-            leaves(rt, payload.bytes.as_slice(), bytes);
+            expect_equal(rt, &payload.at, &at);
+            expect_bytes(rt, payload.bytes.as_slice(), bytes);
         }
         None => panic!(rt; "no such payload"),
     }
@@ -215,10 +215,10 @@ fn has_payload<R: Abort>(rt: &R, payloads: &[Payload], which: usize, (at, bytes)
 /// Payloads of a file, each with the place of its gate.
 type Payloads = &'static [(u64, &'static [u8])];
 
-fn has_payloads<R: Abort>(rt: &R, payloads: &[Payload], expected: Payloads) {
-    is_equal(rt, &payloads.len(), &expected.len());
+fn expect_payloads<R: Abort>(rt: &R, payloads: &[Payload], expected: Payloads) {
+    expect_equal(rt, &payloads.len(), &expected.len());
     for which in 0..expected.len() {
-        has_payload(rt, payloads, which, expected[which]);
+        expect_payload(rt, payloads, which, expected[which]);
     }
 }
 
@@ -239,9 +239,9 @@ const COUNTINGS: [Counting; 4] = [
 ];
 
 /// An open journal has this version and this start.
-fn begins_at<R: Abort>(rt: &R, journal: &Journal<MemoryDisk>, (version, start): (u8, u64)) {
-    is_equal(rt, &journal.version(), &version);
-    is_equal(rt, &journal.start(), &start);
+fn expect_start<R: Abort>(rt: &R, journal: &Journal<MemoryDisk>, (version, start): (u8, u64)) {
+    expect_equal(rt, &journal.version(), &version);
+    expect_equal(rt, &journal.start(), &start);
 }
 
 /// The payloads that count, with their places.
@@ -250,8 +250,8 @@ fn count_over<R: Abort>(rt: &R, alloc: Global, disk: MemoryDisk, row: &Counting)
 {
     match Journal::open(alloc, disk, LIMIT) {
         Ok((journal, found)) => {
-            begins_at(rt, &journal, (row.1, row.2));
-            has_payloads(rt, &found, row.3);
+            expect_start(rt, &journal, (row.1, row.2));
+            expect_payloads(rt, &found, row.3);
             journal.into_disk()
         }
         Err(_) => panic!(rt; "not opened"),
@@ -263,6 +263,6 @@ fn payloads_that_count(rt: HostRuntime) {
     let alloc = rt.alloc();
     for row in &COUNTINGS {
         let disk = count_over(&rt, alloc, disk_of(&rt, alloc, row.0, &[]), row);
-        is_made_of(&rt, alloc, disk.bytes(), row.0);
+        expect_parts(&rt, alloc, disk.bytes(), row.0);
     }
 }

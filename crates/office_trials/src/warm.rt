@@ -2,7 +2,7 @@
 
 use crate::files::{SERVED, STARTED};
 use crate::outcome::{Call, FAILED, FIRST, FOUND, Reply, Step, Trial, WORKED, calm, run};
-use crate::rows::opens;
+use crate::rows::expect_opens;
 use exam_office::Refusal;
 use std::alloc::Global;
 use std::process::Abort;
@@ -27,8 +27,8 @@ const SETTLES: Step = (Call::Begin(70), FOUND);
 /// The tree's one vector has side 3 with multiplier 1.
 #[test]
 fn the_vector_of_a_journal(rt: HostRuntime) {
-    opens(&rt, rt.alloc(), SERVED, &[ONE_PAIR, NO_SECOND], 2);
-    opens(&rt, rt.alloc(), STARTED, &[COLD, NO_SECOND], 1);
+    expect_opens(&rt, rt.alloc(), SERVED, &[ONE_PAIR, NO_SECOND], 2);
+    expect_opens(&rt, rt.alloc(), STARTED, &[COLD, NO_SECOND], 1);
 }
 
 /// What the calls give before an item is served, and where serving it fails.
@@ -44,7 +44,7 @@ fn vector_then<R: Abort>(rt: &R, alloc: Global) -> Reply {
 
 /// Over the journal of the started session, where these calls of the disk fail, each call gives its
 /// reply.
-fn gives<R: Abort>(rt: &R, alloc: Global, fails: &[u64], steps: &[&[Step]]) {
+fn expect_replies<R: Abort>(rt: &R, alloc: Global, fails: &[u64], steps: &[&[Step]]) {
     let trial = Trial {
         numbers: WORKED,
         file: STARTED,
@@ -62,12 +62,12 @@ fn the_vector_of_a_record_in_doubt(rt: HostRuntime) {
     let vector = vector_then(&rt, alloc);
     assert!(rt; vector != Reply::Cold);
     let then = [(Call::Warm(0), vector), NO_SECOND];
-    gives(
+    expect_replies(
         &rt,
         alloc,
         &[],
         &[COLD_FIRST, &[SERVES], &then, &[SETTLES], &then],
     );
-    gives(&rt, alloc, &[15], &[COLD_STILL, COLD_FIRST]);
-    gives(&rt, alloc, &[18], &[COLD_STILL, &then]);
+    expect_replies(&rt, alloc, &[15], &[COLD_STILL, COLD_FIRST]);
+    expect_replies(&rt, alloc, &[18], &[COLD_STILL, &then]);
 }
