@@ -1,7 +1,7 @@
 //! Requests on bank A: the replies that were worked out by hand.
 
 use crate::answers::{Answered, answers};
-use crate::equal::is_equal;
+use crate::equal::expect_equal;
 use crate::office::{EVEN, Numbers, RARE};
 use crate::requests::{
     Ask, FIRST, FIRST_ANSWER, LATER_FIRST, LATER_FIRST_ANSWER, LATER_SECOND, LATER_SECOND_ANSWER,
@@ -169,24 +169,24 @@ const CASES: [Case; 4] = [
 ];
 
 // The office gives the replies and counts of the case.
-fn gives<R: Abort>(rt: &R, alloc: Global, case: &Case) -> Result<(), Fail> {
+fn expect_replies<R: Abort>(rt: &R, alloc: Global, case: &Case) -> Result<(), Fail> {
     let answered = answers(alloc, &case.numbers, case.fails, case.requests)?;
-    is_equal(rt, &answered.replies.as_slice(), &case.replies);
-    is_equal(rt, &answered.counts.as_slice(), &case.counts);
+    expect_equal(rt, &answered.replies.as_slice(), &case.replies);
+    expect_equal(rt, &answered.counts.as_slice(), &case.counts);
     Ok(())
 }
 
 #[test]
 fn sessions(rt: HostRuntime) -> Result<(), Fail> {
     for case in &CASES {
-        gives(&rt, rt.alloc(), case)?;
+        expect_replies(&rt, rt.alloc(), case)?;
     }
     Ok(())
 }
 
 // The reply of this number.
-fn replies<R: Abort>(rt: &R, answered: &Answered, at: usize, told: Told) {
-    is_equal(rt, &answered.replies.get(at), &Some(&told));
+fn expect_reply<R: Abort>(rt: &R, answered: &Answered, at: usize, told: Told) {
+    expect_equal(rt, &answered.replies.get(at), &Some(&told));
 }
 
 // Each request is made twice.
@@ -194,12 +194,12 @@ const TWICE: [Ask; 5] = [START, START, FIRST_ANSWER, FIRST_ANSWER, Ask::Look(0)]
 
 // Where this call of the disk fails, its request is refused, and in the end all is as without a
 // fault.
-fn halts<R: Abort>(rt: &R, alloc: Global, call: u64, length: usize) -> Result<(), Fail> {
+fn expect_halt<R: Abort>(rt: &R, alloc: Global, call: u64, length: usize) -> Result<(), Fail> {
     let found = answers(alloc, &EVEN, &[call], &TWICE)?;
     let failed = if call < 14 { 0 } else { 2 };
-    replies(rt, &found, failed, Err(Refusal::Disk));
-    replies(rt, &found, 4, Ok((0, SECOND, false)));
-    is_equal(rt, &found.length, &length);
+    expect_reply(rt, &found, failed, Err(Refusal::Disk));
+    expect_reply(rt, &found, 4, Ok((0, SECOND, false)));
+    expect_equal(rt, &found.length, &length);
     Ok(())
 }
 
@@ -208,7 +208,7 @@ fn halts<R: Abort>(rt: &R, alloc: Global, call: u64, length: usize) -> Result<()
 fn a_halted_request_is_asked_again(rt: HostRuntime) -> Result<(), Fail> {
     let length = answers(rt.alloc(), &EVEN, &[], &TWICE)?.length;
     for call in 6..22u64 {
-        halts(&rt, rt.alloc(), call, length)?;
+        expect_halt(&rt, rt.alloc(), call, length)?;
     }
     Ok(())
 }
@@ -231,24 +231,24 @@ fn filled(alloc: Global, journal: u64) -> Result<Answered, Fail> {
 #[test]
 fn the_journal_is_full(rt: HostRuntime) -> Result<(), Fail> {
     let answered = filled(rt.alloc(), 91)?;
-    is_equal(&rt, &answered.replies.as_slice(), &FULL.as_slice());
-    is_equal(&rt, &answered.length, &9);
+    expect_equal(&rt, &answered.replies.as_slice(), &FULL.as_slice());
+    expect_equal(&rt, &answered.length, &9);
     Ok(())
 }
 
 // Each reply is that a longer journal is needed, and of one length.
-fn lacks_room<R: Abort>(rt: &R, answered: &Answered) {
+fn expect_no_room<R: Abort>(rt: &R, answered: &Answered) {
     let first = answered.replies.get(0);
     assert!(rt; matches!(first, Some(Err(Refusal::JournalFull(_)))));
-    is_equal(rt, &answered.replies.get(1), &first);
-    is_equal(rt, &answered.replies.get(2), &first);
+    expect_equal(rt, &answered.replies.get(1), &first);
+    expect_equal(rt, &answered.replies.get(2), &first);
 }
 
 // At a limit of 92 bytes the session is started and not served.
 #[test]
 fn the_journal_is_full_once_the_session_is_started(rt: HostRuntime) -> Result<(), Fail> {
     let answered = filled(rt.alloc(), 92)?;
-    lacks_room(&rt, &answered);
-    is_equal(&rt, &answered.length, &92);
+    expect_no_room(&rt, &answered);
+    expect_equal(&rt, &answered.length, &92);
     Ok(())
 }

@@ -6,6 +6,6 @@ use std::fmt::Debug;
 use std::process::Abort;
 
 /// The values are the same.
-pub(crate) fn is_equal<R: Abort, T: PartialEq + Debug>(rt: &R, found: &T, expected: &T) {
+pub(crate) fn expect_equal<R: Abort, T: PartialEq + Debug>(rt: &R, found: &T, expected: &T) {
     assert_eq!(rt; *found, *expected);
 }

@@ -4,7 +4,7 @@ ghost use Rattle.form_model.specs.Validity.{IsPlanFor};
 ghost use Rattle.exam_hall.specs.Known.{IsOf};
 
 use crate::answers::disk_of;
-use crate::equal::is_equal;
+use crate::equal::expect_equal;
 use crate::halls::hall_on_disk;
 use crate::office::{EVEN, planned};
 use crate::requests::told;
@@ -130,16 +130,16 @@ fn found_on_a<R: Wait + Sync>(rt: &R, alloc: Global, case: &Case) -> Result<Vec<
     }
 }
 
-fn gives<R: Abort + Wait + Sync>(rt: &R, alloc: Global, case: &Case) -> Result<(), Fail> {
+fn expect_found<R: Abort + Wait + Sync>(rt: &R, alloc: Global, case: &Case) -> Result<(), Fail> {
     let found = found_on_a(rt, alloc, case)?;
-    is_equal(rt, &found.as_slice(), &case.found);
+    expect_equal(rt, &found.as_slice(), &case.found);
     Ok(())
 }
 
 #[test]
 fn looks_at_the_health(rt: HostRuntime) -> Result<(), Fail> {
     for case in &CASES {
-        gives(&rt, rt.alloc(), case)?;
+        expect_found(&rt, rt.alloc(), case)?;
     }
     Ok(())
 }

@@ -4,7 +4,7 @@
 ghost use Rattle.form_model.specs.Validity.{IsPlanFor};
 ghost use Rattle.exam_hall.specs.Known.{IsOf};
 
-use crate::equal::is_equal;
+use crate::equal::expect_equal;
 use crate::halls::{ask_all, hall_on};
 use crate::office::{EVEN, Numbers, RARE, planned};
 use crate::requests::{
@@ -129,16 +129,16 @@ fn replies_of<R: Wait + Sync>(rt: &R, alloc: Global, case: &Case) -> Result<Vec<
     }
 }
 
-fn gives<R: Abort + Wait + Sync>(rt: &R, alloc: Global, case: &Case) -> Result<(), Fail> {
+fn expect_replies<R: Abort + Wait + Sync>(rt: &R, alloc: Global, case: &Case) -> Result<(), Fail> {
     let replies = replies_of(rt, alloc, case)?;
-    is_equal(rt, &replies.as_slice(), &case.replies);
+    expect_equal(rt, &replies.as_slice(), &case.replies);
     Ok(())
 }
 
 #[test]
 fn sessions(rt: HostRuntime) -> Result<(), Fail> {
     for case in &CASES {
-        gives(&rt, rt.alloc(), case)?;
+        expect_replies(&rt, rt.alloc(), case)?;
     }
     Ok(())
 }

@@ -4,7 +4,7 @@ ghost use Rattle.std.specs.Prelude.{◌≡◌};
 ghost use Rattle.form_model.specs.Validity.{IsPlanFor};
 ghost use Rattle.exam_hall.specs.Known.{IsOf};
 
-use crate::equal::is_equal;
+use crate::equal::expect_equal;
 use crate::halls::hall_on;
 use crate::office::{EVEN, planned};
 use crate::requests::{FIRST, Told, told};
@@ -180,7 +180,7 @@ fn one_is_held_while_the_other_is_answered(rt: HostRuntime) -> Result<(), Fail> 
     let gate = Hold::new();
     let (held, meanwhile) = replies_on_a(&rt, rt.alloc(), &gate)?;
     assert!(rt; !gate.given_up());
-    is_equal(&rt, &meanwhile, &Ok((1, FIRST, true)));
-    is_equal(&rt, &held, &Ok((0, FIRST, true)));
+    expect_equal(&rt, &meanwhile, &Ok((1, FIRST, true)));
+    expect_equal(&rt, &held, &Ok((0, FIRST, true)));
     Ok(())
 }

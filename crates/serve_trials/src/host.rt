@@ -3,7 +3,7 @@
 ghost use Rattle.std.specs.Prelude.{◌≡◌, false};
 ghost use Rattle.host_edge.specs.HostDoor.{out_of};
 
-use crate::equal::is_equal;
+use crate::equal::expect_equal;
 use exam_edge::{Disk, Door, Failed, Files, Link, Sink};
 use host_edge::{HostDisk, HostDoor, HostFiles, HostLink, HostSink};
 use std::alloc::Global;
@@ -15,12 +15,12 @@ use std::time::Duration;
 use std::{env, fs, process, thread};
 
 // The cause has this kind. It is `None` if nothing failed.
-fn has_kind<R: Abort>(rt: &R, cause: Option<Error>, kind: Option<ErrorKind>) {
-    is_equal(rt, &cause.map(|error| error.kind()), &kind);
+fn expect_kind<R: Abort>(rt: &R, cause: Option<Error>, kind: Option<ErrorKind>) {
+    expect_equal(rt, &cause.map(|error| error.kind()), &kind);
 }
 
 // A read at this place gives this count. The buffer has these bytes after it.
-fn reads<R: Abort>(
+fn expect_read<R: Abort>(
     rt: &R,
     disk: &mut HostDisk,
     at: u64,
@@ -28,32 +28,32 @@ fn reads<R: Abort>(
     count: usize,
     bytes: &[u8; 4],
 ) {
-    is_equal(rt, &disk.read(at, buffer), &Ok(count));
-    is_equal(rt, buffer, bytes);
+    expect_equal(rt, &disk.read(at, buffer), &Ok(count));
+    expect_equal(rt, buffer, bytes);
 }
 
 // What is written, cut and synced is read back.
-fn writes_and_reads<R: Abort>(rt: &R, disk: &mut HostDisk) {
-    is_equal(rt, &disk.write_at(0, b"abcdef"), &Ok(()));
-    is_equal(rt, &disk.write_at(4, b"xyz"), &Ok(()));
-    is_equal(rt, &disk.cut(6), &Ok(()));
-    is_equal(rt, &disk.sync(), &Ok(()));
-    is_equal(rt, &disk.len(), &Ok(6));
+fn expect_read_back<R: Abort>(rt: &R, disk: &mut HostDisk) {
+    expect_equal(rt, &disk.write_at(0, b"abcdef"), &Ok(()));
+    expect_equal(rt, &disk.write_at(4, b"xyz"), &Ok(()));
+    expect_equal(rt, &disk.cut(6), &Ok(()));
+    expect_equal(rt, &disk.sync(), &Ok(()));
+    expect_equal(rt, &disk.len(), &Ok(6));
     let mut buffer = [0u8; 4];
-    reads(rt, disk, 3, &mut buffer, 3, b"dxy\0");
-    reads(rt, disk, 6, &mut buffer, 0, b"dxy\0");
-    has_kind(rt, disk.cause(), None);
+    expect_read(rt, disk, 3, &mut buffer, 3, b"dxy\0");
+    expect_read(rt, disk, 6, &mut buffer, 0, b"dxy\0");
+    expect_kind(rt, disk.cause(), None);
 }
 
 // Each call of the disk fails, from a cause of this kind.
-fn fails<R: Abort>(rt: &R, disk: &mut HostDisk, kind: ErrorKind) {
-    is_equal(rt, &disk.sync(), &Err(Failed));
-    is_equal(rt, &disk.len(), &Err(Failed));
-    has_kind(rt, disk.cause(), Some(kind));
+fn expect_failure<R: Abort>(rt: &R, disk: &mut HostDisk, kind: ErrorKind) {
+    expect_equal(rt, &disk.sync(), &Err(Failed));
+    expect_equal(rt, &disk.len(), &Err(Failed));
+    expect_kind(rt, disk.cause(), Some(kind));
 }
 
 // A read at this place of a file gives this count. The buffer has these bytes after it.
-fn reads_file<R: Abort>(
+fn expect_read_of_file<R: Abort>(
     rt: &R,
     files: &mut HostFiles,
     (path, at): (&str, u64),
@@ -61,8 +61,8 @@ fn reads_file<R: Abort>(
     count: usize,
     bytes: &[u8; 4],
 ) {
-    is_equal(rt, &files.read(path, at, buffer), &Ok(count));
-    is_equal(rt, buffer, bytes);
+    expect_equal(rt, &files.read(path, at, buffer), &Ok(count));
+    expect_equal(rt, buffer, bytes);
 }
 
 fn disk_of(rt: &HostRuntime, path: &str) -> Result<HostDisk, Fail> {
@@ -71,64 +71,74 @@ fn disk_of(rt: &HostRuntime, path: &str) -> Result<HostDisk, Fail> {
 }
 
 // A disk over the file of this path fails, with a cause of this kind.
-fn is_refused<R: Abort>(
+fn expect_refusal<R: Abort>(
     rt: &R,
     host: &HostRuntime,
     path: &str,
     kind: ErrorKind,
 ) -> Result<(), Fail> {
     match disk_of(host, path) {
-        Ok(mut disk) => Ok(fails(rt, &mut disk, kind)),
+        Ok(mut disk) => Ok(expect_failure(rt, &mut disk, kind)),
         Err(fail) => Err(fail),
     }
 }
 
-fn reads_no_folder<R: Abort>(rt: &R, files: &mut HostFiles, folder: &str) {
+fn expect_no_read_of_folder<R: Abort>(rt: &R, files: &mut HostFiles, folder: &str) {
     let mut buffer = [0u8; 4];
-    is_equal(rt, &files.read(folder, 0, &mut buffer), &Err(Failed));
-    has_kind(rt, files.cause(), Some(ErrorKind::IsADirectory));
+    expect_equal(rt, &files.read(folder, 0, &mut buffer), &Err(Failed));
+    expect_kind(rt, files.cause(), Some(ErrorKind::IsADirectory));
 }
 
 // The front of the file is read. The file is removed, and its rest is read to its end.
-fn reads_what_is_removed<R: Abort>(
+fn expect_read_of_removed<R: Abort>(
     rt: &R,
     host: &HostRuntime,
     files: &mut HostFiles,
     path: &str,
 ) -> Result<(), Fail> {
     let mut buffer = [0u8; 4];
-    reads_file(rt, files, (path, 0), &mut buffer, 4, b"abcd");
+    expect_read_of_file(rt, files, (path, 0), &mut buffer, 4, b"abcd");
     fs::remove_file(host, path)?;
-    reads_file(rt, files, (path, 4), &mut buffer, 2, b"xycd");
-    reads_file(rt, files, (path, 6), &mut buffer, 0, b"xycd");
-    has_kind(rt, files.cause(), None);
+    expect_read_of_file(rt, files, (path, 4), &mut buffer, 2, b"xycd");
+    expect_read_of_file(rt, files, (path, 6), &mut buffer, 0, b"xycd");
+    expect_kind(rt, files.cause(), None);
     Ok(())
 }
 
-fn reads_in<R: Abort>(rt: &R, host: &HostRuntime, folder: &str, path: &str) -> Result<(), Fail> {
+fn expect_reads_in<R: Abort>(
+    rt: &R,
+    host: &HostRuntime,
+    folder: &str,
+    path: &str,
+) -> Result<(), Fail> {
     let mut files = HostFiles::of(host.clone()?);
-    reads_what_is_removed(rt, host, &mut files, path)?;
-    reads_no_folder(rt, &mut files, folder);
+    expect_read_of_removed(rt, host, &mut files, path)?;
+    expect_no_read_of_folder(rt, &mut files, folder);
     Ok(())
 }
 
 // The file is locked as long as a disk has it. The file is read and removed, and then its folder.
-fn goes<R: Abort>(rt: &R, host: &HostRuntime, folder: &str, path: &str) -> Result<(), Fail> {
-    is_refused(rt, host, path, ErrorKind::WouldBlock)?;
-    reads_in(rt, host, folder, path)?;
+fn expect_removal<R: Abort>(
+    rt: &R,
+    host: &HostRuntime,
+    folder: &str,
+    path: &str,
+) -> Result<(), Fail> {
+    expect_refusal(rt, host, path, ErrorKind::WouldBlock)?;
+    expect_reads_in(rt, host, folder, path)?;
     fs::remove_dir(host, folder)?;
-    is_refused(rt, host, path, ErrorKind::NotFound)
+    expect_refusal(rt, host, path, ErrorKind::NotFound)
 }
 
 // Each call fails once a write finds that the file was removed.
-fn is_lost<R: Abort>(rt: &R, disk: &mut HostDisk) {
-    is_equal(rt, &disk.write_at(0, b"x"), &Err(Failed));
-    fails(rt, disk, ErrorKind::NotFound);
+fn expect_lost<R: Abort>(rt: &R, disk: &mut HostDisk) {
+    expect_equal(rt, &disk.write_at(0, b"x"), &Err(Failed));
+    expect_failure(rt, disk, ErrorKind::NotFound);
 }
 
 // The disk keeps the file open until the function ends. What owns a disk has one call that may
 // fail, since more are dear to prove.
-fn keeps<R: Abort>(
+fn expect_kept<R: Abort>(
     rt: &R,
     host: &HostRuntime,
     folder: &str,
@@ -136,15 +146,20 @@ fn keeps<R: Abort>(
     disk: HostDisk,
 ) -> Result<(), Fail> {
     let mut disk = disk;
-    writes_and_reads(rt, &mut disk);
-    let gone = goes(rt, host, folder, path);
-    is_lost(rt, &mut disk);
+    expect_read_back(rt, &mut disk);
+    let gone = expect_removal(rt, host, folder, path);
+    expect_lost(rt, &mut disk);
     gone
 }
 
-fn keeps_in<R: Abort>(rt: &R, host: &HostRuntime, folder: &str, path: &str) -> Result<(), Fail> {
+fn expect_kept_in<R: Abort>(
+    rt: &R,
+    host: &HostRuntime,
+    folder: &str,
+    path: &str,
+) -> Result<(), Fail> {
     match disk_of(host, path) {
-        Ok(disk) => keeps(rt, host, folder, path, disk),
+        Ok(disk) => expect_kept(rt, host, folder, path, disk),
         Err(fail) => Err(fail),
     }
 }
@@ -171,15 +186,15 @@ fn new_folder(rt: &HostRuntime) -> Result<String, Fail> {
 fn files_keep_what_was_written(rt: HostRuntime) -> Result<(), Fail> {
     let folder = new_folder(&rt)?;
     let path = format!(in rt.alloc(); "{folder}/journal")?;
-    keeps_in(&rt, &rt, folder.as_str(), path.as_str())
+    expect_kept_in(&rt, &rt, folder.as_str(), path.as_str())
 }
 
 #[test]
 fn standard_output_takes_bytes(rt: HostRuntime) {
     let mut sink = HostSink::of(rt.stdout());
-    is_equal(&rt, &sink.write(b""), &Ok(0));
-    is_equal(&rt, &sink.write(b"x"), &Ok(1));
-    has_kind(&rt, sink.cause(), None);
+    expect_equal(&rt, &sink.write(b""), &Ok(0));
+    expect_equal(&rt, &sink.write(b"x"), &Ok(1));
+    expect_kind(&rt, sink.cause(), None);
 }
 
 fn to_read(rt: &HostRuntime, path: &str) -> Result<HostDisk, Fail> {
@@ -187,37 +202,37 @@ fn to_read(rt: &HostRuntime, path: &str) -> Result<HostDisk, Fail> {
     Ok(HostDisk::to_read(rt.clone()?, path))
 }
 
-fn is_not_made<R: Abort>(rt: &R, host: &HostRuntime, path: &str) -> Result<(), Fail> {
+fn expect_not_made<R: Abort>(rt: &R, host: &HostRuntime, path: &str) -> Result<(), Fail> {
     match to_read(host, path) {
-        Ok(mut disk) => Ok(fails(rt, &mut disk, ErrorKind::NotFound)),
+        Ok(mut disk) => Ok(expect_failure(rt, &mut disk, ErrorKind::NotFound)),
         Err(fail) => Err(fail),
     }
 }
 
 // The file is read, and not written.
-fn reads_alone<R: Abort>(rt: &R, disk: &mut HostDisk) {
-    is_equal(rt, &disk.sync(), &Ok(()));
-    reads(rt, disk, 1, &mut [0u8; 4], 2, b"bc\0\0");
-    is_equal(rt, &disk.write_at(0, b"x"), &Err(Failed));
-    is_equal(rt, &disk.cut(1), &Err(Failed));
-    is_equal(rt, &disk.len(), &Ok(3));
+fn expect_read_alone<R: Abort>(rt: &R, disk: &mut HostDisk) {
+    expect_equal(rt, &disk.sync(), &Ok(()));
+    expect_read(rt, disk, 1, &mut [0u8; 4], 2, b"bc\0\0");
+    expect_equal(rt, &disk.write_at(0, b"x"), &Err(Failed));
+    expect_equal(rt, &disk.cut(1), &Err(Failed));
+    expect_equal(rt, &disk.len(), &Ok(3));
 }
 
-fn is_only_read<R: Abort>(rt: &R, host: &HostRuntime, path: &str) -> Result<(), Fail> {
+fn expect_only_read<R: Abort>(rt: &R, host: &HostRuntime, path: &str) -> Result<(), Fail> {
     match to_read(host, path) {
-        Ok(mut disk) => Ok(reads_alone(rt, &mut disk)),
+        Ok(mut disk) => Ok(expect_read_alone(rt, &mut disk)),
         Err(fail) => Err(fail),
     }
 }
 
-fn is_neither_made_nor_changed<R: Abort>(
+fn expect_neither_made_nor_changed<R: Abort>(
     rt: &R,
     host: &HostRuntime,
     path: &str,
 ) -> Result<(), Fail> {
-    is_not_made(rt, host, path)?;
+    expect_not_made(rt, host, path)?;
     fs::write(host, path, b"abc")?;
-    is_only_read(rt, host, path)?;
+    expect_only_read(rt, host, path)?;
     fs::remove_file(host, path)?;
     Ok(())
 }
@@ -225,19 +240,19 @@ fn is_neither_made_nor_changed<R: Abort>(
 #[test]
 fn a_file_to_read_is_neither_made_nor_changed(rt: HostRuntime) -> Result<(), Fail> {
     let path = own_path(&rt, "host_edge_read")?;
-    is_neither_made_nor_changed(&rt, &rt, path.as_str())
+    expect_neither_made_nor_changed(&rt, &rt, path.as_str())
 }
 
 // The disk has no length, however often it is asked for.
-fn has_no_length<R: Abort>(rt: &R, disk: &mut HostDisk) {
-    is_equal(rt, &disk.len(), &Err(Failed));
-    is_equal(rt, &disk.len(), &Err(Failed));
-    has_kind(rt, disk.cause(), Some(ErrorKind::IsADirectory));
+fn expect_no_length<R: Abort>(rt: &R, disk: &mut HostDisk) {
+    expect_equal(rt, &disk.len(), &Err(Failed));
+    expect_equal(rt, &disk.len(), &Err(Failed));
+    expect_kind(rt, disk.cause(), Some(ErrorKind::IsADirectory));
 }
 
-fn is_no_file<R: Abort>(rt: &R, host: &HostRuntime, path: &str) -> Result<(), Fail> {
+fn expect_no_file<R: Abort>(rt: &R, host: &HostRuntime, path: &str) -> Result<(), Fail> {
     match to_read(host, path) {
-        Ok(mut disk) => Ok(has_no_length(rt, &mut disk)),
+        Ok(mut disk) => Ok(expect_no_length(rt, &mut disk)),
         Err(fail) => Err(fail),
     }
 }
@@ -245,7 +260,7 @@ fn is_no_file<R: Abort>(rt: &R, host: &HostRuntime, path: &str) -> Result<(), Fa
 #[test]
 fn a_folder_is_no_file_to_read(rt: HostRuntime) -> Result<(), Fail> {
     let place = env::temp_dir(&rt)?;
-    is_no_file(&rt, &rt, place.as_path().as_str())
+    expect_no_file(&rt, &rt, place.as_path().as_str())
 }
 
 // What a client is answered to "ping": so many bytes.
@@ -259,42 +274,42 @@ fn answer_at(rt: &HostRuntime, address: SocketAddr) -> (usize, [u8; 8]) {
     (count, got)
 }
 
-fn answers<R: Abort>(rt: &R, link: &mut HostLink) {
+fn expect_exchange<R: Abort>(rt: &R, link: &mut HostLink) {
     let mut buffer = [0u8; 16];
-    is_equal(rt, &link.read(&mut buffer), &Ok(4));
-    is_equal(rt, &buffer, b"ping\0\0\0\0\0\0\0\0\0\0\0\0");
-    is_equal(rt, &link.write(b""), &Ok(0));
-    is_equal(rt, &link.write(b"pong!"), &Ok(5));
+    expect_equal(rt, &link.read(&mut buffer), &Ok(4));
+    expect_equal(rt, &buffer, b"ping\0\0\0\0\0\0\0\0\0\0\0\0");
+    expect_equal(rt, &link.write(b""), &Ok(0));
+    expect_equal(rt, &link.write(b"pong!"), &Ok(5));
 }
 
 // A door gives the client's link, and no other.
-fn gives_its_link<R: Abort>(rt: &R, host: HostRuntime, listener: TcpListener) -> Result<(), Fail> {
+fn expect_its_link<R: Abort>(rt: &R, host: HostRuntime, listener: TcpListener) -> Result<(), Fail> {
     let mut door = HostDoor::of(host, Some(listener), Duration::from_secs(60), Some(1));
     match door.accept() {
         Ok(Some(mut link)) => {
-            answers(rt, &mut link);
+            expect_exchange(rt, &mut link);
             door.back(link);
             assert!(rt; matches!(door.accept(), Ok(None)));
-            Ok(has_kind(rt, door.cause(), None))
+            Ok(expect_kind(rt, door.cause(), None))
         }
         _ => Err(Fail::new("no link")),
     }
 }
 
-fn is_deaf<R: Abort>(rt: &R, host: HostRuntime) {
+fn expect_deaf<R: Abort>(rt: &R, host: HostRuntime) {
     let mut door = HostDoor::of(host, None, Duration::from_secs(60), Some(0));
     assert!(rt; door.accept().is_err());
-    has_kind(rt, door.cause(), Some(ErrorKind::NotConnected));
+    expect_kind(rt, door.cause(), Some(ErrorKind::NotConnected));
 }
 
 #[test]
 fn a_door_gives_its_links(rt: HostRuntime) -> Result<(), Fail> {
-    is_deaf(&rt, rt);
+    expect_deaf(&rt, rt);
     let listener = TcpListener::bind(&rt, (Ipv4Addr::LOCALHOST, 0))?;
     let address = listener.local_addr()?;
     let client = thread::spawn(&rt, move || answer_at(&rt, address))?;
-    let given = gives_its_link(&rt, rt, listener);
-    is_equal(&rt, &client.join(&rt), &(5, *b"pong!\0\0\0"));
+    let given = expect_its_link(&rt, rt, listener);
+    expect_equal(&rt, &client.join(&rt), &(5, *b"pong!\0\0\0"));
     given
 }
 
@@ -312,21 +327,25 @@ fn ping_twice(rt: &HostRuntime, address: SocketAddr, pause: u64) -> (usize, [u8;
 }
 
 // A link whose bytes were used, and which waits too long for more, has ended: it gives none of the bytes that come then.
-fn gives_no_more<R: Abort>(rt: &R, host: HostRuntime, link: &mut HostLink) {
+fn expect_no_more<R: Abort>(rt: &R, host: HostRuntime, link: &mut HostLink) {
     let mut buffer = [0u8; 16];
-    answers(rt, link);
-    is_equal(rt, &link.read(&mut []), &Ok(0));
-    is_equal(rt, &link.read(&mut buffer), &Err(Failed));
+    expect_exchange(rt, link);
+    expect_equal(rt, &link.read(&mut []), &Ok(0));
+    expect_equal(rt, &link.read(&mut buffer), &Err(Failed));
     thread::sleep(&host, Duration::from_millis(600));
-    is_equal(rt, &link.read(&mut buffer), &Err(Failed));
+    expect_equal(rt, &link.read(&mut buffer), &Err(Failed));
 }
 
-fn ends_its_link<R: Abort>(rt: &R, host: HostRuntime, listener: TcpListener) -> Result<(), Fail> {
+fn expect_end_of_link<R: Abort>(
+    rt: &R,
+    host: HostRuntime,
+    listener: TcpListener,
+) -> Result<(), Fail> {
     let limit = Duration::from_millis(100);
     let mut door = HostDoor::of(host, Some(listener), limit, Some(1));
     match door.accept() {
         Ok(Some(mut link)) => {
-            gives_no_more(rt, host, &mut link);
+            expect_no_more(rt, host, &mut link);
             Ok(door.back(link))
         }
         _ => Err(Fail::new("no link")),
@@ -338,22 +357,22 @@ fn a_silent_client_loses_its_connection(rt: HostRuntime) -> Result<(), Fail> {
     let listener = TcpListener::bind(&rt, (Ipv4Addr::LOCALHOST, 0))?;
     let address = listener.local_addr()?;
     let client = thread::spawn(&rt, move || ping_twice(&rt, address, 400))?;
-    let ended = ends_its_link(&rt, rt, listener);
-    is_equal(&rt, &client.join(&rt).0, &0);
+    let ended = expect_end_of_link(&rt, rt, listener);
+    expect_equal(&rt, &client.join(&rt).0, &0);
     ended
 }
 
 // A link that gave a message, whose bytes were used, has ended, so that its connection is kept aside.
-fn answers_and_rests<R: Abort>(rt: &R, door: &mut HostDoor) -> Result<(), Fail>
+fn expect_exchange_and_rest<R: Abort>(rt: &R, door: &mut HostDoor) -> Result<(), Fail>
     requires { out_of door.old ≡ false }
     ensures { out_of door.new ≡ false }
 {
     match door.accept() {
         Ok(Some(mut link)) => {
             let mut buffer = [0u8; 16];
-            answers(rt, &mut link);
-            is_equal(rt, &link.read(&mut []), &Ok(0));
-            is_equal(rt, &link.read(&mut buffer), &Ok(0));
+            expect_exchange(rt, &mut link);
+            expect_equal(rt, &link.read(&mut []), &Ok(0));
+            expect_equal(rt, &link.read(&mut buffer), &Ok(0));
             Ok(door.back(link))
         }
         Ok(None) => Err(Fail::new("no link")),
@@ -361,14 +380,18 @@ fn answers_and_rests<R: Abort>(rt: &R, door: &mut HostDoor) -> Result<(), Fail>
     }
 }
 
-fn gives_it_twice<R: Abort>(rt: &R, host: HostRuntime, listener: TcpListener) -> Result<(), Fail> {
+fn expect_link_twice<R: Abort>(
+    rt: &R,
+    host: HostRuntime,
+    listener: TcpListener,
+) -> Result<(), Fail> {
     let limit = Duration::from_secs(60);
     let mut doors = HostDoor::several(host, host.alloc(), Some(&listener), 1, limit, None, None)?;
     let door = doors.as_mut_slice();
     match door.first_mut() {
         Some(door) => {
-            answers_and_rests(rt, door)?;
-            answers_and_rests(rt, door)
+            expect_exchange_and_rest(rt, door)?;
+            expect_exchange_and_rest(rt, door)
         }
         None => Err(Fail::new("no door")),
     }
@@ -379,7 +402,7 @@ fn a_connection_at_rest_comes_again(rt: HostRuntime) -> Result<(), Fail> {
     let listener = TcpListener::bind(&rt, (Ipv4Addr::LOCALHOST, 0))?;
     let address = listener.local_addr()?;
     let client = thread::spawn(&rt, move || ping_twice(&rt, address, 100))?;
-    let given = gives_it_twice(&rt, rt, listener);
-    is_equal(&rt, &client.join(&rt), &(5, *b"pong!\0\0\0"));
+    let given = expect_link_twice(&rt, rt, listener);
+    expect_equal(&rt, &client.join(&rt), &(5, *b"pong!\0\0\0"));
     given
 }

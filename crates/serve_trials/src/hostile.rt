@@ -1,8 +1,8 @@
 //! Hostile messages.
 
-use crate::equal::is_equal;
+use crate::equal::expect_equal;
 use crate::exchanges::LAST;
-use crate::link_office::{Cutting, gets};
+use crate::link_office::{Cutting, expect_text};
 use crate::responses::{BAD_BODY, BAD_HEAD, NO_COUNTS, NO_LENGTH, NO_ROUTE, TOO_LONG};
 use exam_http::Ended;
 use std::alloc::Global;
@@ -63,7 +63,11 @@ fn joined(alloc: Global, first: &str, second: &str) -> Result<String, Fail> {
 }
 
 // A message after this one is answered only if the connection goes on.
-fn is_followed<R: Wait + Sync + Abort>(rt: &R, alloc: Global, row: &Row<'_>) -> Result<(), Fail> {
+fn expect_followed<R: Wait + Sync + Abort>(
+    rt: &R,
+    alloc: Global,
+    row: &Row<'_>,
+) -> Result<(), Fail> {
     let more = if row.ended == Ended::Done {
         NO_COUNTS
     } else {
@@ -71,22 +75,22 @@ fn is_followed<R: Wait + Sync + Abort>(rt: &R, alloc: Global, row: &Row<'_>) -> 
     };
     let sent = joined(alloc, row.message, LAST)?;
     let text = joined(alloc, row.response, more)?;
-    gets(rt, alloc, &sent, CUT, &text, row.ended)
+    expect_text(rt, alloc, &sent, CUT, &text, row.ended)
 }
 
 // A message without a response is not followed by another, which would be read as its rest.
-fn expect<R: Wait + Sync + Abort>(rt: &R, alloc: Global, row: &Row<'_>) -> Result<(), Fail> {
-    gets(rt, alloc, row.message, None, row.response, row.ended)?;
+fn expect_row<R: Wait + Sync + Abort>(rt: &R, alloc: Global, row: &Row<'_>) -> Result<(), Fail> {
+    expect_text(rt, alloc, row.message, None, row.response, row.ended)?;
     if row.response.is_empty() {
         return Ok(());
     }
-    is_followed(rt, alloc, row)
+    expect_followed(rt, alloc, row)
 }
 
 #[test]
 fn hostile_messages(rt: HostRuntime) -> Result<(), Fail> {
     for row in &ROWS {
-        expect(&rt, rt.alloc(), row)?;
+        expect_row(&rt, rt.alloc(), row)?;
     }
     Ok(())
 }
@@ -137,13 +141,13 @@ fn message_of(alloc: Global, head: &Head) -> Result<String, Fail> {
 
 fn expect_head<R: Wait + Sync + Abort>(rt: &R, alloc: Global, head: &Head) -> Result<(), Fail> {
     let message = message_of(alloc, head)?;
-    is_equal(rt, &message.len(), &head.length);
+    expect_equal(rt, &message.len(), &head.length);
     let row = Row {
         message: &message,
         response: head.response,
         ended: head.ended,
     };
-    expect(rt, alloc, &row)
+    expect_row(rt, alloc, &row)
 }
 
 #[test]

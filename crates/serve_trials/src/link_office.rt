@@ -6,7 +6,7 @@ ghost use Rattle.exam_edge.specs.MemoryDisk.{accounts_of};
 ghost use Rattle.form_model.specs.Validity.{IsPlanFor};
 
 use crate::answers::disk_of;
-use crate::equal::is_equal;
+use crate::equal::expect_equal;
 use crate::office::{EVEN, empty_disk, planned};
 use crate::pieces::Pieces;
 use bank_tables::Bank;
@@ -163,13 +163,13 @@ pub(crate) fn serve_with<R: Wait + Sync>(
 }
 
 /// The client got this text, and the connection ended in this way.
-pub(crate) fn is_heard<R: Abort>(rt: &R, heard: &Heard, text: &str, ended: Ended) {
-    is_equal(rt, &str::from_utf8(heard.link.bytes()), &Ok(text));
-    is_equal(rt, &heard.ended, &ended);
+pub(crate) fn expect_heard<R: Abort>(rt: &R, heard: &Heard, text: &str, ended: Ended) {
+    expect_equal(rt, &str::from_utf8(heard.link.bytes()), &Ok(text));
+    expect_equal(rt, &heard.ended, &ended);
 }
 
 /// The client who sends these bytes gets this text, and the connection ends in this way.
-pub(crate) fn gets<R: Wait + Sync + Abort>(
+pub(crate) fn expect_text<R: Wait + Sync + Abort>(
     rt: &R,
     alloc: Global,
     sent: &str,
@@ -178,6 +178,6 @@ pub(crate) fn gets<R: Wait + Sync + Abort>(
     ended: Ended,
 ) -> Result<(), Fail> {
     let heard = serve_bytes(rt, alloc, sent, cutting, &[])?;
-    is_heard(rt, &heard, text, ended);
+    expect_heard(rt, &heard, text, ended);
     Ok(())
 }

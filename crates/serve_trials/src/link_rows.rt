@@ -1,11 +1,11 @@
 //! Whole exchanges: in any pieces, and over a link that fails.
 
-use crate::equal::is_equal;
+use crate::equal::expect_equal;
 use crate::exchanges::{
     A_BODY_TOO_LONG, A_HEAD_CUT_OFF, A_MESSAGE_OF_VERSION_1_0, EIGHT_MESSAGES, Exchange, LISTS,
     Whole, whole_of,
 };
-use crate::link_office::{Cutting, Heard, gets, is_heard, serve_bytes};
+use crate::link_office::{Cutting, Heard, expect_heard, expect_text, serve_bytes};
 use exam_http::Ended;
 use std::alloc::Global;
 use std::process::Abort;
@@ -29,38 +29,42 @@ const CUTTINGS: [Option<Cutting>; 5] = [
 ];
 
 // The client gets the same bytes in whatever pieces they go.
-fn gets_in_any_pieces<R: Wait + Sync + Abort>(
+fn expect_text_in_any_pieces<R: Wait + Sync + Abort>(
     rt: &R,
     alloc: Global,
     all: &Whole,
 ) -> Result<(), Fail> {
     for cutting in &CUTTINGS {
-        gets(rt, alloc, &all.sent, *cutting, &all.text, all.ended)?;
+        expect_text(rt, alloc, &all.sent, *cutting, &all.text, all.ended)?;
     }
     Ok(())
 }
 
-fn expect<R: Wait + Sync + Abort>(rt: &R, alloc: Global, exchange: &Exchange) -> Result<(), Fail> {
+fn expect_exchange<R: Wait + Sync + Abort>(
+    rt: &R,
+    alloc: Global,
+    exchange: &Exchange,
+) -> Result<(), Fail> {
     match whole_of(alloc, exchange) {
-        Ok(all) => gets_in_any_pieces(rt, alloc, &all),
+        Ok(all) => expect_text_in_any_pieces(rt, alloc, &all),
         Err(fail) => Err(fail),
     }
 }
 
 #[test]
 fn exchanges_in_any_pieces(rt: HostRuntime) -> Result<(), Fail> {
-    expect(&rt, rt.alloc(), &EIGHT_MESSAGES)?;
-    expect(&rt, rt.alloc(), &LISTS)?;
-    expect(&rt, rt.alloc(), &A_BODY_TOO_LONG)?;
-    expect(&rt, rt.alloc(), &A_HEAD_CUT_OFF)?;
-    expect(&rt, rt.alloc(), &A_MESSAGE_OF_VERSION_1_0)
+    expect_exchange(&rt, rt.alloc(), &EIGHT_MESSAGES)?;
+    expect_exchange(&rt, rt.alloc(), &LISTS)?;
+    expect_exchange(&rt, rt.alloc(), &A_BODY_TOO_LONG)?;
+    expect_exchange(&rt, rt.alloc(), &A_HEAD_CUT_OFF)?;
+    expect_exchange(&rt, rt.alloc(), &A_MESSAGE_OF_VERSION_1_0)
 }
 
 // The length of the text that the client got, which is a beginning of the whole text. It is `None`
 // if no call failed; the client then has the whole text.
 fn length_of<R: Abort>(rt: &R, heard: &Heard, all: &Whole, call: u64) -> Option<usize> {
     if heard.ended != Ended::Link {
-        is_heard(rt, heard, &all.text, all.ended);
+        expect_heard(rt, heard, &all.text, all.ended);
         return None;
     }
     let got = heard.link.bytes();
@@ -104,23 +108,23 @@ fn beginnings<R: Wait + Sync + Abort>(
 }
 
 // With eight responses, each written at once, there are eight beginnings.
-fn eight_beginnings<R: Wait + Sync + Abort>(rt: &R, alloc: Global) -> Result<(), Fail> {
+fn expect_eight_beginnings<R: Wait + Sync + Abort>(rt: &R, alloc: Global) -> Result<(), Fail> {
     let eight = whole_of(alloc, &EIGHT_MESSAGES)?;
-    is_equal(rt, &beginnings(rt, alloc, &eight, None)?, &8);
+    expect_equal(rt, &beginnings(rt, alloc, &eight, None)?, &8);
     Ok(())
 }
 
 // Byte by byte each beginning comes once, the whole text too, since the end of what was sent is
 // found by one more call.
-fn each_beginning<R: Wait + Sync + Abort>(rt: &R, alloc: Global) -> Result<(), Fail> {
+fn expect_each_beginning<R: Wait + Sync + Abort>(rt: &R, alloc: Global) -> Result<(), Fail> {
     let cut_off = whole_of(alloc, &A_HEAD_CUT_OFF)?;
     let found = beginnings(rt, alloc, &cut_off, Some(BYTE_BY_BYTE))?;
-    is_equal(rt, &found, &(cut_off.text.len() + 1));
+    expect_equal(rt, &found, &(cut_off.text.len() + 1));
     Ok(())
 }
 
 #[test]
 fn each_call_of_the_link_fails(rt: HostRuntime) -> Result<(), Fail> {
-    eight_beginnings(&rt, rt.alloc())?;
-    each_beginning(&rt, rt.alloc())
+    expect_eight_beginnings(&rt, rt.alloc())?;
+    expect_each_beginning(&rt, rt.alloc())
 }

@@ -5,7 +5,7 @@ ghost use Rattle.std.specs.Prelude.{◌≡◌};
 ghost use Rattle.form_model.specs.Validity.{IsPlanFor};
 ghost use Rattle.exam_hall.specs.Known.{IsOf};
 
-use crate::equal::is_equal;
+use crate::equal::expect_equal;
 use crate::halls::hall_on;
 use crate::meeting::Meeting;
 use crate::office::{EVEN, planned};
@@ -180,16 +180,16 @@ fn replies_on_a<R: Wait + Sync>(rt: &R, alloc: Global) -> Result<Vec<(Told, u32)
     }
 }
 
-fn is_row<R: Abort>(rt: &R, found: Option<&(Told, u32)>, row: &Row) {
-    is_equal(rt, &found, &Some(&(row.told, row.passes)));
+fn expect_row<R: Abort>(rt: &R, found: Option<&(Told, u32)>, row: &Row) {
+    expect_equal(rt, &found, &Some(&(row.told, row.passes)));
 }
 
 #[test]
 fn sessions_with_lists(rt: HostRuntime) -> Result<(), Fail> {
     let replies = replies_on_a(&rt, rt.alloc())?;
-    is_equal(&rt, &replies.len(), &ROWS.len());
+    expect_equal(&rt, &replies.len(), &ROWS.len());
     for (at, row) in ROWS.iter().enumerate() {
-        is_row(&rt, replies.get(at), row);
+        expect_row(&rt, replies.get(at), row);
     }
     Ok(())
 }
@@ -273,14 +273,14 @@ fn both_on_a<R: Threads + Wait + Sync>(
 }
 
 // One caller has the session, and the other is refused.
-fn is_begun_once<R: Abort>(rt: &R, (first, second): (Told, Told)) {
+fn expect_begun_once<R: Abort>(rt: &R, (first, second): (Told, Told)) {
     let begun = Ok((0, FIRST_WITHOUT_2, true));
     let other = Err(Refusal::OtherList(0));
     if first == begun {
-        is_equal(rt, &second, &other);
+        expect_equal(rt, &second, &other);
     } else {
-        is_equal(rt, &first, &other);
-        is_equal(rt, &second, &begun);
+        expect_equal(rt, &first, &other);
+        expect_equal(rt, &second, &begun);
     }
 }
 
@@ -290,7 +290,7 @@ fn is_begun_once<R: Abort>(rt: &R, (first, second): (Told, Told)) {
 fn one_booking_has_one_list(rt: HostRuntime) -> Result<(), Fail> {
     let gate = Meeting::new();
     let replies = both_on_a(&rt, rt.alloc(), &gate)?;
-    is_equal(&rt, &gate.given_up(), &0);
-    is_begun_once(&rt, replies);
+    expect_equal(&rt, &gate.given_up(), &0);
+    expect_begun_once(&rt, replies);
     Ok(())
 }

@@ -12,7 +12,7 @@ ghost use Rattle.prepare_desk.specs.Desks.{purpose_of};
 ghost use Rattle.prepare_desk.specs.Posts.{IsFirstOf, IsPostOf};
 
 use crate::assemblies::Assemblies;
-use crate::equal::is_equal;
+use crate::equal::expect_equal;
 use crate::office::{EVEN, empty_disk, opened, planned};
 use crate::requests::{
     Ask, FIRST, FIRST_ANSWER, OTHER_ANSWER, SECOND, SECOND_ANSWER, THIRD, Told, request_of, told,
@@ -254,26 +254,26 @@ fn tried_on_a<R: Wait>(rt: &R, alloc: Global, trial: &Trial) -> Result<Tried, Fa
 }
 
 // The rows of a trial come of its steps, and these keys are left.
-fn comes_out<R: Abort + Wait>(rt: &R, alloc: Global, trial: &Trial) -> Result<(), Fail> {
+fn expect_rows<R: Abort + Wait>(rt: &R, alloc: Global, trial: &Trial) -> Result<(), Fail> {
     let (rows, left) = tried_on_a(rt, alloc, trial)?;
-    is_equal(rt, &rows, &trial.rows);
-    is_equal(rt, &left.as_slice(), &trial.left);
+    expect_equal(rt, &rows, &trial.rows);
+    expect_equal(rt, &left.as_slice(), &trial.left);
     Ok(())
 }
 
 #[test]
 fn an_answer_whose_form_is_ready_needs_no_assembly(rt: HostRuntime) -> Result<(), Fail> {
-    comes_out(&rt, rt.alloc(), &A_FORM_IS_READY)
+    expect_rows(&rt, rt.alloc(), &A_FORM_IS_READY)
 }
 
 #[test]
 fn nothing_is_prepared_at_the_last_step(rt: HostRuntime) -> Result<(), Fail> {
-    comes_out(&rt, rt.alloc(), &NO_STEP_FOLLOWS)
+    expect_rows(&rt, rt.alloc(), &NO_STEP_FOLLOWS)
 }
 
 #[test]
 fn the_result_put_last_displaces_the_first(rt: HostRuntime) -> Result<(), Fail> {
-    comes_out(&rt, rt.alloc(), &ROOM_FOR_ONE)
+    expect_rows(&rt, rt.alloc(), &ROOM_FOR_ONE)
 }
 
 // A session begins, and its first item is answered.
@@ -297,7 +297,7 @@ fn assemblies_of<R: Threads + Wait + Sync>(
 #[test]
 fn a_server_that_prepares(rt: HostRuntime) -> Result<(), Fail> {
     let begun = assemblies_of(&rt, rt.alloc(), Some(4))?;
-    is_equal(&rt, &begun, &5);
+    expect_equal(&rt, &begun, &5);
     Ok(())
 }
 
@@ -305,6 +305,6 @@ fn a_server_that_prepares(rt: HostRuntime) -> Result<(), Fail> {
 #[test]
 fn a_server_that_prepares_nothing(rt: HostRuntime) -> Result<(), Fail> {
     let begun = assemblies_of(&rt, rt.alloc(), None)?;
-    is_equal(&rt, &begun, &2);
+    expect_equal(&rt, &begun, &2);
     Ok(())
 }

@@ -1,6 +1,6 @@
 //! The worked rows of the work.
 
-use crate::equal::is_equal;
+use crate::equal::expect_equal;
 use crate::exchanges::START;
 use crate::meeting::Meeting;
 use crate::responses::{CREATED, SECOND_CREATED};
@@ -24,19 +24,19 @@ use std::time::Duration;
 const SECOND: &str = "POST /sessions HTTP/1.1\r\nContent-Length: 14\r\n\r\n{\"booking\":71}";
 
 // The first link of this door got this text.
-fn has_got<R: Abort>(rt: &R, door: Option<&MemoryDoor>, text: &str) {
+fn expect_text<R: Abort>(rt: &R, door: Option<&MemoryDoor>, text: &str) {
     let got = match door {
         Some(door) => door.returned().first(),
         None => None,
     };
-    is_equal(rt, &got.map(|link| link.bytes()), &Some(text.as_bytes()));
+    expect_equal(rt, &got.map(|link| link.bytes()), &Some(text.as_bytes()));
 }
 
 // The first links of two doors got these texts.
-fn have_got<R: Abort>(rt: &R, doors: &[MemoryDoor], first: &str, second: &str) {
-    is_equal(rt, &doors.len(), &2);
-    has_got(rt, doors.first(), first);
-    has_got(rt, doors.get(1), second);
+fn expect_texts<R: Abort>(rt: &R, doors: &[MemoryDoor], first: &str, second: &str) {
+    expect_equal(rt, &doors.len(), &2);
+    expect_text(rt, doors.first(), first);
+    expect_text(rt, doors.get(1), second);
 }
 
 // The numbers of a history, without the nodes of its trees.
@@ -60,14 +60,14 @@ const OF_TWO: Summary = Summary {
 
 // Each link got the response of its booking's session. The two bookings are the two sessions of the
 // journal.
-fn is_served<R: Abort>(rt: &R, worked: &Worked<MemoryDoor>) {
-    is_equal(rt, &worked.end, &End::Done);
-    is_equal(rt, &without_nodes(&worked.summary), &OF_TWO);
+fn expect_served<R: Abort>(rt: &R, worked: &Worked<MemoryDoor>) {
+    expect_equal(rt, &worked.end, &End::Done);
+    expect_equal(rt, &without_nodes(&worked.summary), &OF_TWO);
     if worked.sessions == (Some(1), Some(0)) {
-        have_got(rt, &worked.doors, SECOND_CREATED, CREATED);
+        expect_texts(rt, &worked.doors, SECOND_CREATED, CREATED);
     } else {
-        is_equal(rt, &worked.sessions, &(Some(0), Some(1)));
-        have_got(rt, &worked.doors, CREATED, SECOND_CREATED);
+        expect_equal(rt, &worked.sessions, &(Some(0), Some(1)));
+        expect_texts(rt, &worked.doors, CREATED, SECOND_CREATED);
     }
 }
 
@@ -83,43 +83,43 @@ const NOTHING: Summary = Summary {
 };
 
 // The work ended, with no doors and no entry.
-fn is_idle<R: Abort>(rt: &R, worked: &Worked<MemoryDoor>) {
-    is_equal(rt, &worked.end, &End::Done);
-    is_equal(rt, &worked.doors.len(), &0);
-    is_equal(rt, &worked.summary, &NOTHING);
-    is_equal(rt, &worked.sessions, &(None, None));
+fn expect_idle<R: Abort>(rt: &R, worked: &Worked<MemoryDoor>) {
+    expect_equal(rt, &worked.end, &End::Done);
+    expect_equal(rt, &worked.doors.len(), &0);
+    expect_equal(rt, &worked.summary, &NOTHING);
+    expect_equal(rt, &worked.sessions, &(None, None));
 }
 
 #[test]
 fn with_no_doors_nothing_is_done(rt: HostRuntime) -> Result<(), Fail> {
     let worked = serve_bank_a(&rt, rt.alloc(), Vec::new(rt.alloc()), &OpenGate, None)?;
-    is_idle(&rt, &worked);
+    expect_idle(&rt, &worked);
     Ok(())
 }
 
 // Two doors with one connection each are answered.
-fn serves_two<R: Abort + Threads + Wait + Sync, G: Gate + Observer + Sync>(
+fn expect_two_served<R: Abort + Threads + Wait + Sync, G: Gate + Observer + Sync>(
     rt: &R,
     alloc: Global,
     gate: &G,
 ) -> Result<(), Fail> {
     let doors = two_doors(alloc, START, SECOND)?;
     let worked = serve_bank_a(rt, alloc, doors, gate, None)?;
-    is_served(rt, &worked);
+    expect_served(rt, &worked);
     Ok(())
 }
 
 #[test]
 fn each_of_two_doors_is_answered(rt: HostRuntime) -> Result<(), Fail> {
-    serves_two(&rt, rt.alloc(), &OpenGate)
+    expect_two_served(&rt, rt.alloc(), &OpenGate)
 }
 
 // Workers that were served one after another would give up at the gate.
 #[test]
 fn two_doors_are_served_at_once(rt: HostRuntime) -> Result<(), Fail> {
     let meeting = Meeting::new();
-    serves_two(&rt, rt.alloc(), &meeting)?;
-    is_equal(&rt, &meeting.given_up(), &0);
+    expect_two_served(&rt, rt.alloc(), &meeting)?;
+    expect_equal(&rt, &meeting.given_up(), &0);
     Ok(())
 }
 
@@ -128,8 +128,8 @@ fn two_doors_are_served_at_once(rt: HostRuntime) -> Result<(), Fail> {
 #[test]
 fn the_observer_sees_each_response(rt: HostRuntime) -> Result<(), Fail> {
     let tally = Tally::new();
-    serves_two(&rt, rt.alloc(), &tally)?;
-    is_equal(&rt, &tally.seen(), &2);
+    expect_two_served(&rt, rt.alloc(), &tally)?;
+    expect_equal(&rt, &tally.seen(), &2);
     assert!(rt; tally.of_two() >= 1);
     Ok(())
 }
@@ -158,9 +158,9 @@ fn served_by<R: Threads + Wait + Sync>(
 }
 
 // The door gives one connection. The client begins session 0.
-fn is_begun<R: Abort>(rt: &R, worked: &Worked<HostDoor>) {
-    is_equal(rt, &worked.end, &End::Done);
-    is_equal(rt, &worked.sessions, &(Some(0), None));
+fn expect_begun<R: Abort>(rt: &R, worked: &Worked<HostDoor>) {
+    expect_equal(rt, &worked.end, &End::Done);
+    expect_equal(rt, &worked.sessions, &(Some(0), None));
 }
 
 // The door gives one connection, and the client sends no more after its request, so that both end.
@@ -169,7 +169,7 @@ fn a_client_on_the_loopback_address_is_answered(rt: HostRuntime) -> Result<(), F
     let listener = TcpListener::bind(&rt, (Ipv4Addr::LOCALHOST, 0))?;
     let address = listener.local_addr()?;
     let client = thread::spawn(&rt, move || got_at(&rt, address))?;
-    is_begun(&rt, &served_by(&rt, rt, rt.alloc(), listener)?);
-    is_equal(&rt, &client.join(&rt).as_slice(), &CREATED.as_bytes());
+    expect_begun(&rt, &served_by(&rt, rt, rt.alloc(), listener)?);
+    expect_equal(&rt, &client.join(&rt).as_slice(), &CREATED.as_bytes());
     Ok(())
 }

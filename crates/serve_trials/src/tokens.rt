@@ -1,7 +1,7 @@
 //! Conversations with a server that has a token, and looks at the health of an examination.
 
 use crate::exchanges::START;
-use crate::link_office::{Heard, is_heard, serve_with};
+use crate::link_office::{Heard, expect_heard, serve_with};
 use crate::responses::{CREATED, DISK, HEALTHY, NO_METHOD, NO_ROUTE, UNAUTHORIZED};
 use exam_http::Ended;
 use std::alloc::Global;
@@ -85,7 +85,7 @@ fn whole(alloc: Global) -> Result<(String, String), Fail> {
 }
 
 // The client who sends these bytes gets this text, and then the connection ends.
-fn gets<R: Wait + Sync + Abort>(
+fn expect_text<R: Wait + Sync + Abort>(
     rt: &R,
     alloc: Global,
     sent: &str,
@@ -94,7 +94,7 @@ fn gets<R: Wait + Sync + Abort>(
 ) -> Result<(), Fail> {
     match serve_with(rt, alloc, sent, token, &[])? {
         Some(heard) => {
-            is_heard(rt, &heard, text, Ended::Done);
+            expect_heard(rt, &heard, text, Ended::Done);
             Ok(())
         }
         None => Err(Fail::from("not opened")),
@@ -104,7 +104,7 @@ fn gets<R: Wait + Sync + Abort>(
 #[test]
 fn messages_with_and_without_the_token(rt: HostRuntime) -> Result<(), Fail> {
     let (sent, text) = whole(rt.alloc())?;
-    gets(&rt, rt.alloc(), &sent, Some(TOKEN), &text)
+    expect_text(&rt, rt.alloc(), &sent, Some(TOKEN), &text)
 }
 
 #[test]
@@ -113,7 +113,7 @@ fn a_server_without_a_token_asks_for_none(rt: HostRuntime) -> Result<(), Fail> {
         POST /sessions HTTP/1.1\r\nAuthorization: Basic other\r\n\
         Content-Length: 14\r\n\r\n{\"booking\":70}";
     let text = format!(in rt.alloc(); "{HEALTHY}{CREATED}")?;
-    gets(&rt, rt.alloc(), sent, None, &text)
+    expect_text(&rt, rt.alloc(), sent, None, &text)
 }
 
 // How many looks at the health follow the start of a session.
@@ -162,7 +162,7 @@ fn heard_from<R: Wait + Sync>(rt: &R, alloc: Global, first: u64) -> Result<Optio
 
 // The first call of a session's start fails, and the seven after it. The start and each look are
 // refused until they are over. Then nothing was recorded.
-fn is_refused_and_then_well<R: Wait + Sync + Abort>(
+fn expect_refusals_then_well<R: Wait + Sync + Abort>(
     rt: &R,
     alloc: Global,
     heard: &Heard,
@@ -177,7 +177,7 @@ fn is_refused_and_then_well<R: Wait + Sync + Abort>(
             (HEALTHY, (LOOKS + 1).saturating_sub(failed)),
         ],
     )?;
-    is_heard(rt, heard, &text, Ended::Done);
+    expect_heard(rt, heard, &text, Ended::Done);
     Ok(())
 }
 
@@ -185,7 +185,7 @@ fn is_refused_and_then_well<R: Wait + Sync + Abort>(
 fn health_while_the_disk_fails_and_after(rt: HostRuntime) -> Result<(), Fail> {
     for first in 0..40u64 {
         if let Some(heard) = heard_from(&rt, rt.alloc(), first)? {
-            return is_refused_and_then_well(&rt, rt.alloc(), &heard);
+            return expect_refusals_then_well(&rt, rt.alloc(), &heard);
         }
     }
     Err(Fail::from("no office was opened"))

@@ -1,6 +1,6 @@
 //! The lists that passes in threads leave.
 
-use crate::equal::is_equal;
+use crate::equal::expect_equal;
 use crate::threads::{many_threads, two_threads};
 use std::process::Abort;
 use std::test::Fail;
@@ -17,23 +17,23 @@ fn count_of(items: &[u32], number: u32) -> usize {
 }
 
 // The list has this length. Each number from `first` to below `last` is in it this many times.
-fn has_each<R: Abort>(
+fn expect_each<R: Abort>(
     rt: &R,
     items: &[u32],
     length: usize,
     (first, last): (u32, u32),
     times: usize,
 ) {
-    is_equal(rt, &items.len(), &length);
+    expect_equal(rt, &items.len(), &length);
     for number in first..last {
-        is_equal(rt, &count_of(items, number), &times);
+        expect_equal(rt, &count_of(items, number), &times);
     }
 }
 
 #[test]
 fn each_of_two_threads_finds_its_own(rt: HostRuntime) -> Result<(), Fail> {
     match two_threads(&rt, rt.alloc()) {
-        Some(items) => Ok(has_each(&rt, &items, 2000, (0, 2), 1000)),
+        Some(items) => Ok(expect_each(&rt, &items, 2000, (0, 2), 1000)),
         None => Err(Fail::from("out of memory")),
     }
 }
@@ -41,7 +41,7 @@ fn each_of_two_threads_finds_its_own(rt: HostRuntime) -> Result<(), Fail> {
 #[test]
 fn sixteen_threads_append_each_number(rt: HostRuntime) -> Result<(), Fail> {
     match many_threads(&rt, rt.alloc(), 16, 100) {
-        Some(items) => Ok(has_each(&rt, &items, 1600, (1, 17), 100)),
+        Some(items) => Ok(expect_each(&rt, &items, 1600, (1, 17), 100)),
         None => Err(Fail::from("out of memory")),
     }
 }

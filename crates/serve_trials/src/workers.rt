@@ -3,7 +3,7 @@
 ghost use Rattle.std.specs.Prelude.{IfSome, false, ◌≡◌, ◌+◌, ◌^◌, ◌%◌};
 ghost use Rattle.exam_edge.specs.MemoryDoor.{out_of};
 
-use crate::equal::is_equal;
+use crate::equal::expect_equal;
 use exam_edge::{Link, MemoryDoor, MemoryLink};
 use exam_workers::{Service, Station, run_workers};
 use std::alloc::Global;
@@ -54,18 +54,18 @@ fn station(door: MemoryDoor, links: u64) -> Station<MemoryDoor, u64>
 }
 
 // The station has these links, this token and whether it failed, and so many links went back.
-fn ended<R: Abort>(
+fn expect_end<R: Abort>(
     rt: &R,
     station: &Station<MemoryDoor, u64>,
     expected: (u64, u64, bool),
     returned: usize,
 ) {
-    is_equal(
+    expect_equal(
         rt,
         &(station.links, station.token, station.failed),
         &expected,
     );
-    is_equal(rt, &station.door.returned().len(), &returned);
+    expect_equal(rt, &station.door.returned().len(), &returned);
 }
 
 #[test]
@@ -76,7 +76,7 @@ fn each_link_goes_back_and_a_failure_shows(rt: HostRuntime) -> Result<(), Fail> 
     };
     let mut stations = [station(whole, 0), station(failing, u64::MAX)];
     run_workers(&rt, alloc, &mut stations, &Count);
-    ended(&rt, &stations[0], (3, 3, false), 3);
-    ended(&rt, &stations[1], (u64::MAX, 1, true), 1);
+    expect_end(&rt, &stations[0], (3, 3, false), 3);
+    expect_end(&rt, &stations[1], (u64::MAX, 1, true), 1);
     Ok(())
 }
