@@ -1,6 +1,6 @@
 //! Sessions under plans with bands of abilities: their items, the exposure, journals that go on, and what is refused.
 
-use crate::outcome::{CHECK, REPLAY, audits, goes_on, prints};
+use crate::outcome::{CHECK, REPLAY, expect_audit, expect_second_run, expect_text};
 use trial_cases::{BANK_A, PLAN_A};
 
 /// Bank A, but response 1 to item 5 raises the estimate.
@@ -88,11 +88,11 @@ item 2 shown 1 eligible 3
 
 #[test]
 fn items_by_band(rt: HostRuntime) {
-    prints(&rt, &REPLAY, &[BANK_UP, PLAN_UP, SCRIPT_UP], 0, LINES_UP);
+    expect_text(&rt, &REPLAY, &[BANK_UP, PLAN_UP, SCRIPT_UP], 0, LINES_UP);
     let begun = [BANK_TWO, PLAN_TWO, BEGUN_TWO];
-    prints(&rt, &REPLAY, &begun, 0, LINES_BEGUN);
+    expect_text(&rt, &REPLAY, &begun, 0, LINES_BEGUN);
     let rest = [BANK_TWO, PLAN_TWO, REST_TWO];
-    goes_on(&rt, &begun, &rest, LINES_REST);
+    expect_second_run(&rt, &begun, &rest, LINES_REST);
 }
 
 /// Under a plan with bands, a response that lowers the estimate brings its session back to the lower band; without bands,
@@ -109,12 +109,12 @@ session 1 step 2 item 0 proved
 ";
     let back =
         "begin 70\nanswer 0 0 0\nanswer 0 1 0\nanswer 0 2 0\nbegin 71\nanswer 1 0 1\nanswer 1 1 0\n";
-    prints(&rt, &REPLAY, &[BANK_UP, PLAN_UP, back], 0, front);
+    expect_text(&rt, &REPLAY, &[BANK_UP, PLAN_UP, back], 0, front);
     let no_bands =
         "length 3\nprior -10 0 -10\ncount 1 1 0-1\nenemies 2 5\nrate 1 65535\nkey 0000000000000000000000000000000000000000000000000000000000000000\n";
     let up =
         "begin 70\nanswer 0 0 0\nanswer 0 1 0\nanswer 0 2 0\nbegin 71\nanswer 1 0 1\nanswer 1 1 1\n";
-    prints(&rt, &REPLAY, &[BANK_UP, no_bands, up], 0, front);
+    expect_text(&rt, &REPLAY, &[BANK_UP, no_bands, up], 0, front);
 }
 
 /// A session for which eligibility was set aside in both bands is read again from its journal.
@@ -128,7 +128,7 @@ item 0 shown 2 eligible 3
 item 1 shown 3 eligible 3
 item 2 shown 1 eligible 3
 ";
-    goes_on(
+    expect_second_run(
         &rt,
         &[BANK_TWO, PLAN_TWO, SCRIPT_TWO],
         &[BANK_TWO, PLAN_TWO, again],
@@ -199,9 +199,9 @@ item 5 shown 0 eligible 1
 
 #[test]
 fn exposure_by_band(rt: HostRuntime) {
-    audits(&rt, &[BANK_UP, PLAN_UP, SCRIPT_UP], &AUDIT_UP);
-    audits(&rt, &[BANK_TWO, PLAN_TWO, SCRIPT_TWO], &AUDIT_TWO);
-    audits(&rt, &[BANK_A, PLAN_A, "begin 70\nclose 0\n"], &AUDIT_ONE);
+    expect_audit(&rt, &[BANK_UP, PLAN_UP, SCRIPT_UP], &AUDIT_UP);
+    expect_audit(&rt, &[BANK_TWO, PLAN_TWO, SCRIPT_TWO], &AUDIT_TWO);
+    expect_audit(&rt, &[BANK_A, PLAN_A, "begin 70\nclose 0\n"], &AUDIT_ONE);
 }
 
 /// Points at which no band begins: one that is not of the grid of three points, the lowest one, two that do not rise, and
@@ -214,7 +214,7 @@ fn bands_that_are_refused(rt: HostRuntime) {
         let plan = format!(in rt.alloc(); "length 3\nprior -10 0 -10\nbands {points}\n").expect(
             &rt, "a plan",
         );
-        prints(&rt, &CHECK, &[BANK_A, &plan, ""], 4, "plan: bands\n");
+        expect_text(&rt, &CHECK, &[BANK_A, &plan, ""], 4, "plan: bands\n");
     }
 }
 
@@ -232,5 +232,5 @@ sessions 1000
 journal 67108864
 ";
     let plan = "bands 1 2\nlength 3\nprior -10 0 -10\n";
-    prints(&rt, &CHECK, &[BANK_A, plan, ""], 0, text);
+    expect_text(&rt, &CHECK, &[BANK_A, plan, ""], 0, text);
 }

@@ -2,7 +2,7 @@
 //! a plan with 18 rows. In each category the items before another have more information at each point, so the form is always
 //! that of the first items of each category. A search that never improves its multipliers does not end in time.
 
-use crate::outcome::{REPLAY, prints};
+use crate::outcome::{REPLAY, expect_text};
 use std::alloc::Global;
 use std::process::Abort;
 use trial_cases::{PLAN_L, bank_text, rows_l};
@@ -63,5 +63,5 @@ fn text_l<R: Abort>(rt: &R, alloc: Global) -> String {
 #[test]
 fn bank_l_is_served_to_its_end(rt: HostRuntime) {
     let bank = text_l(&rt, rt.alloc());
-    prints(&rt, &REPLAY, &[bank.as_str(), PLAN_L, SCRIPT], 0, LINES);
+    expect_text(&rt, &REPLAY, &[bank.as_str(), PLAN_L, SCRIPT], 0, LINES);
 }

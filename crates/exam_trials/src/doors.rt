@@ -4,7 +4,7 @@ ghost use Rattle.std.specs.Prelude.{◌≡◌, ◌≤◌, false, vec_len};
 ghost use Rattle.std.specs.List.{All};
 ghost use Rattle.exam_edge.specs.MemoryDoor.{out_of};
 
-use crate::equal::{has_bytes, is_equal};
+use crate::equal::{expect_bytes, expect_equal};
 use crate::outcome::{CALM, Given, REPLAY, SERVE, bytes_of, numbers_of, tools_of, words_of};
 use crate::texts::{LINES_A, SCRIPT_A};
 use command_line::{Command, command_of};
@@ -69,7 +69,7 @@ fn doors_of<R: Abort>(
 }
 
 /// Serving bank A through these doors ends with this status and prints a text that begins so.
-fn serves<R: Abort + AllocGlobal + Threads + Wait + Sync>(
+fn expect_serving<R: Abort + AllocGlobal + Threads + Wait + Sync>(
     rt: &R,
     doors: Vec<MemoryDoor>,
     given: &Given<'_>,
@@ -92,12 +92,12 @@ fn serves<R: Abort + AllocGlobal + Threads + Wait + Sync>(
     };
     let finish = run(rt, alloc, &words, world);
     assert!(rt; finish.out.bytes().starts_with(front.as_bytes()));
-    is_equal(rt, &finish.status, &status);
+    expect_equal(rt, &finish.status, &status);
 }
 
 #[test]
 fn a_server_with_no_doors(rt: HostRuntime) {
-    serves(&rt, Vec::new(rt.alloc()), &CALM, 0, IDLE);
+    expect_serving(&rt, Vec::new(rt.alloc()), &CALM, 0, IDLE);
 }
 
 /// The summary where both sessions were begun.
@@ -195,19 +195,22 @@ const ROWS: [Row; 9] = [
 ];
 
 /// Two doors, where these calls fail, end with this status and a text that begins so.
-fn two_doors<R: Abort + AllocGlobal + Threads + Wait + Sync>(rt: &R, (fails, status, front): &Row) {
+fn expect_end_of_two_doors<R: Abort + AllocGlobal + Threads + Wait + Sync>(
+    rt: &R,
+    (fails, status, front): &Row,
+) {
     let given = Given {
         disk: fails.disk,
         ..CALM
     };
     let doors = doors_of(rt, rt.alloc(), &[FIRST, SECOND], fails);
-    serves(rt, doors, &given, *status, front);
+    expect_serving(rt, doors, &given, *status, front);
 }
 
 #[test]
 fn a_server_with_two_doors(rt: HostRuntime) {
     for row in &ROWS {
-        two_doors(&rt, row);
+        expect_end_of_two_doors(&rt, row);
     }
 }
 
@@ -225,6 +228,6 @@ fn a_session_of_bank_a_alone(rt: HostRuntime) {
         Err(_) => panic!(&rt; "no command"),
     }
     let (status, tools, _) = run_alone(alloc, &words, tools);
-    has_bytes(&rt, tools.out.bytes(), LINES_A.as_bytes());
-    is_equal(&rt, &status, &0);
+    expect_bytes(&rt, tools.out.bytes(), LINES_A.as_bytes());
+    expect_equal(&rt, &status, &0);
 }

@@ -1,6 +1,6 @@
 //! The lines that a drill prints.
 
-use crate::equal::is_equal;
+use crate::equal::expect_equal;
 use exam_drill::drill_line;
 use exam_lines::summary_line;
 use history_model::Summary;
@@ -21,7 +21,7 @@ const LINE: &str =
 #[test]
 fn lines_of_a_drill(rt: HostRuntime) {
     let line = summary_line(rt.alloc(), &SUMMARY).expect(&rt, "a line");
-    is_equal(&rt, &line.as_str(), &LINE);
+    expect_equal(&rt, &line.as_str(), &LINE);
     let line = drill_line(rt.alloc(), 4_294_967_295, 200).expect(&rt, "a line");
-    is_equal(&rt, &line.as_str(), &"drill 4294967295 sessions 200\n");
+    expect_equal(&rt, &line.as_str(), &"drill 4294967295 sessions 200\n");
 }

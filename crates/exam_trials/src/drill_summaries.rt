@@ -2,7 +2,7 @@
 
 ghost use Rattle.std.specs.Prelude.{◌≤◌};
 
-use crate::equal::is_equal;
+use crate::equal::expect_equal;
 use exam_drill::run_drill;
 use history_model::Summary;
 use std::alloc::Global;
@@ -34,8 +34,8 @@ fn numbers_of(summary: &Summary) -> [u64; 5] {
 #[test]
 fn two_sessions(rt: HostRuntime) {
     let summary = summary_of(&rt, rt.alloc(), 7, 2);
-    is_equal(&rt, &numbers_of(&summary), &[64, 2, 2, 31, 0]);
-    is_equal(&rt, &summary_of(&rt, rt.alloc(), 7, 2), &summary);
+    expect_equal(&rt, &numbers_of(&summary), &[64, 2, 2, 31, 0]);
+    expect_equal(&rt, &summary_of(&rt, rt.alloc(), 7, 2), &summary);
 }
 
 /// Ten sessions: 10 starts, 191 items served, 190 answers and the close of the last session. All start
@@ -43,5 +43,5 @@ fn two_sessions(rt: HostRuntime) {
 #[test]
 fn ten_sessions(rt: HostRuntime) {
     let summary = summary_of(&rt, rt.alloc(), 1, 10);
-    is_equal(&rt, &numbers_of(&summary), &[392, 10, 10, 191, 0]);
+    expect_equal(&rt, &numbers_of(&summary), &[392, 10, 10, 191, 0]);
 }

@@ -1,7 +1,7 @@
 //! The texts of drills, by their SHA-256 digests. These are of the files that
 //! `tools/drill_texts.py` writes, which shares no text with the product.
 
-use crate::equal::has_bytes;
+use crate::equal::expect_bytes;
 use bank_maker::{Made, make};
 use exam_text::push_hex;
 use sha2::{Digest, Sha256};
@@ -9,17 +9,17 @@ use std::alloc::Global;
 use std::process::Abort;
 
 /// The text has this digest.
-fn has_digest<R: Abort>(rt: &R, alloc: Global, text: &[u8], expected: &[u8]) {
+fn expect_digest<R: Abort>(rt: &R, alloc: Global, text: &[u8], expected: &[u8]) {
     let mut found = Vec::new(alloc);
     push_hex(alloc, &mut found, Sha256::digest(text).as_slice()).expect(rt, "a digest");
-    has_bytes(rt, &found, expected);
+    expect_bytes(rt, &found, expected);
 }
 
 /// The bank, the plan and the script have these digests.
-fn has_digests<R: Abort>(rt: &R, alloc: Global, made: &Made, digests: &[&[u8]; 3]) {
-    has_digest(rt, alloc, &made.bank, digests[0]);
-    has_digest(rt, alloc, &made.plan, digests[1]);
-    has_digest(rt, alloc, &made.script, digests[2]);
+fn expect_digests<R: Abort>(rt: &R, alloc: Global, made: &Made, digests: &[&[u8]; 3]) {
+    expect_digest(rt, alloc, &made.bank, digests[0]);
+    expect_digest(rt, alloc, &made.plan, digests[1]);
+    expect_digest(rt, alloc, &made.script, digests[2]);
 }
 
 /// The digests of the texts of the drill of number 7 with two sessions.
@@ -32,7 +32,7 @@ const SEVEN: [&[u8]; 3] = [
 #[test]
 fn texts_of_seven(rt: HostRuntime) {
     let made = make(rt.alloc(), 7, 2).expect(&rt, "a drill");
-    has_digests(&rt, rt.alloc(), &made, &SEVEN);
+    expect_digests(&rt, rt.alloc(), &made, &SEVEN);
 }
 
 /// Those of the greatest number, and of a second group of sessions.
@@ -45,5 +45,5 @@ const GREATEST: [&[u8]; 3] = [
 #[test]
 fn texts_of_the_greatest_number(rt: HostRuntime) {
     let made = make(rt.alloc(), 4_294_967_295, 13).expect(&rt, "a drill");
-    has_digests(&rt, rt.alloc(), &made, &GREATEST);
+    expect_digests(&rt, rt.alloc(), &made, &GREATEST);
 }

@@ -6,11 +6,11 @@ use std::fmt::Debug;
 use std::process::Abort;
 
 /// The values are the same.
-pub(crate) fn is_equal<R: Abort, T: PartialEq + Debug>(rt: &R, found: &T, expected: &T) {
+pub(crate) fn expect_equal<R: Abort, T: PartialEq + Debug>(rt: &R, found: &T, expected: &T) {
     assert_eq!(rt; *found, *expected);
 }
 
 /// The bytes are the same.
-pub(crate) fn has_bytes<R: Abort>(rt: &R, found: &[u8], expected: &[u8]) {
-    is_equal(rt, &found, &expected);
+pub(crate) fn expect_bytes<R: Abort>(rt: &R, found: &[u8], expected: &[u8]) {
+    expect_equal(rt, &found, &expected);
 }

@@ -2,7 +2,7 @@
 
 ghost use Rattle.std.specs.Prelude.{◌≤◌, length};
 
-use crate::equal::{has_bytes, is_equal};
+use crate::equal::{expect_bytes, expect_equal};
 use crate::outcome::{CALM, Given, REPLAY, Ran, outcome};
 use crate::texts::SCRIPT_A;
 use std::alloc::AllocGlobal;
@@ -22,10 +22,10 @@ pub fn replayed<R: Abort + AllocGlobal + Threads + Wait + Sync>(
 }
 
 /// The run ended with this status, printed this text and left this journal.
-pub fn ends<R: Abort>(rt: &R, ran: &Ran, status: u8, text: &[u8], journal: &[u8]) {
-    has_bytes(rt, &ran.text, text);
-    is_equal(rt, &ran.status, &status);
-    has_bytes(rt, &ran.journal, journal);
+pub fn expect_end<R: Abort>(rt: &R, ran: &Ran, status: u8, text: &[u8], journal: &[u8]) {
+    expect_bytes(rt, &ran.text, text);
+    expect_equal(rt, &ran.status, &status);
+    expect_bytes(rt, &ran.journal, journal);
 }
 
 /// The length of the payload after a gate: the four bytes there, the most significant first.
@@ -53,23 +53,27 @@ fn last_gate(journal: &[u8], size: usize) -> usize {
 }
 
 /// The front of a journal is refused, and left as it was.
-fn ends_cut<R: Abort + AllocGlobal + Threads + Wait + Sync>(rt: &R, whole: &[u8], size: usize)
+fn expect_cut<R: Abort + AllocGlobal + Threads + Wait + Sync>(rt: &R, whole: &[u8], size: usize)
     requires { size ≤ length whole.now }
 {
     let gate = last_gate(whole, size);
     let text = format!(in rt.alloc(); "journal: cut at {gate}\n").expect(rt, "a line");
     let front = &whole[..size];
-    ends(rt, &replayed(rt, "", front), 6, text.as_bytes(), front);
+    expect_end(rt, &replayed(rt, "", front), 6, text.as_bytes(), front);
 }
 
 /// The front of a journal is the empty journal if it has at most nine bytes.
-fn ends_front<R: Abort + AllocGlobal + Threads + Wait + Sync>(rt: &R, whole: &[u8], size: usize)
+fn expect_end_of_front<R: Abort + AllocGlobal + Threads + Wait + Sync>(
+    rt: &R,
+    whole: &[u8],
+    size: usize,
+)
     requires { size ≤ length whole.now }
 {
     if size <= 9 {
-        ends(rt, &replayed(rt, "", &whole[..size]), 0, b"", b"SHADOWJ2\0");
+        expect_end(rt, &replayed(rt, "", &whole[..size]), 0, b"", b"SHADOWJ2\0");
     } else {
-        ends_cut(rt, whole, size);
+        expect_cut(rt, whole, size);
     }
 }
 
@@ -78,9 +82,9 @@ fn the_journal_cut_to_each_length(rt: HostRuntime) {
     let ran = replayed(&rt, SCRIPT_A, &[]);
     let whole = ran.journal.as_slice();
     for size in 0..whole.len() {
-        ends_front(&rt, whole, size);
+        expect_end_of_front(&rt, whole, size);
     }
-    ends(&rt, &replayed(&rt, "", whole), 0, b"", whole);
+    expect_end(&rt, &replayed(&rt, "", whole), 0, b"", whole);
 }
 
 /// A gate of any value but 1 is closed: nothing after it is a record, and it keeps its value.
@@ -91,5 +95,5 @@ fn an_altered_gate_is_closed(rt: HostRuntime) {
         ran.journal[8] = 0x81;
     }
     let ran = replayed(&rt, "look 0\n", &ran.journal);
-    ends(&rt, &ran, 0, b"refused no-session 0\n", b"SHADOWJ2\x81");
+    expect_end(&rt, &ran, 0, b"refused no-session 0\n", b"SHADOWJ2\x81");
 }

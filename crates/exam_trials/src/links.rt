@@ -4,7 +4,7 @@ ghost use Rattle.std.specs.Prelude.{◌≡◌, ◌≤◌, false, vec_len, IfSome
 ghost use Rattle.std.specs.List.{All};
 ghost use Rattle.exam_edge.specs.MemoryDoor.{out_of};
 
-use crate::equal::{has_bytes, is_equal};
+use crate::equal::{expect_bytes, expect_equal};
 use crate::outcome::{
     CALM, FOLLOW, Given, REPLAY, SHIP, bytes_of, numbers_of, outcome, tools_of, words_of,
 };
@@ -147,9 +147,9 @@ fn linked<'x, R: Abort + AllocGlobal + Threads + Wait + Sync>(
 }
 
 /// The run ended with this status and this text.
-fn ended<R: Abort>(rt: &R, left: &Left, status: u8, text: &str) {
-    has_bytes(rt, &left.text, text.as_bytes());
-    is_equal(rt, &left.status, &status);
+fn expect_end<R: Abort>(rt: &R, left: &Left, status: u8, text: &str) {
+    expect_bytes(rt, &left.text, text.as_bytes());
+    expect_equal(rt, &left.status, &status);
 }
 
 /// The journal of the worked session.
@@ -170,8 +170,8 @@ fn offers_from<R: Abort + AllocGlobal + Threads + Wait + Sync>(
         ..QUIET
     };
     let left = linked(rt, &SHIP, &trial);
-    ended(rt, &left, 0, "shipped 7\n");
-    has_bytes(rt, &left.journal, journal);
+    expect_end(rt, &left, 0, "shipped 7\n");
+    expect_bytes(rt, &left.journal, journal);
     left.written
 }
 
@@ -184,14 +184,14 @@ fn a_leader_is_followed(rt: HostRuntime) {
         ..QUIET
     };
     let left = linked(&rt, &FOLLOW, &trial);
-    is_equal(&rt, &left.status, &0);
+    expect_equal(&rt, &left.status, &0);
     assert!(&rt; left.text.starts_with(SEVEN.as_bytes()));
-    has_bytes(&rt, &left.written, &haves(&rt, rt.alloc(), 0, 7));
-    has_bytes(&rt, &left.journal, &journal);
+    expect_bytes(&rt, &left.written, &haves(&rt, rt.alloc(), 0, 7));
+    expect_bytes(&rt, &left.journal, &journal);
 }
 
 /// A follower with all records ends so after a link with these bytes, and leaves its file as it is.
-fn follows<R: Abort + AllocGlobal + Threads + Wait + Sync>(
+fn expect_following<R: Abort + AllocGlobal + Threads + Wait + Sync>(
     rt: &R,
     journal: &[u8],
     link: &[u8],
@@ -205,16 +205,16 @@ fn follows<R: Abort + AllocGlobal + Threads + Wait + Sync>(
         ..QUIET
     };
     let left = linked(rt, &FOLLOW, &trial);
-    is_equal(rt, &left.status, &status);
+    expect_equal(rt, &left.status, &status);
     assert!(rt; left.text.starts_with(front.as_bytes()));
-    has_bytes(rt, &left.journal, journal);
+    expect_bytes(rt, &left.journal, journal);
     // A have at the start, and one after each offer that was taken, all of seven records.
     let seven = haves(rt, rt.alloc(), 7, 7);
     let mut written = Vec::new(rt.alloc());
     for _ in 0..times {
         written.extend_from_slice(&seven).expect(rt, "haves");
     }
-    has_bytes(rt, &left.written, &written);
+    expect_bytes(rt, &left.written, &written);
 }
 
 /// The offer of record 2, as a leader with this journal writes it.
@@ -229,36 +229,36 @@ fn offer_of_2<R: Abort + AllocGlobal + Threads + Wait + Sync>(rt: &R, journal: &
     };
     let mut offer = linked(rt, &SHIP, &trial).written;
     // The last byte is the end.
-    is_equal(rt, &offer.pop(), &Some(3));
+    expect_equal(rt, &offer.pop(), &Some(3));
     offer
 }
 
 /// A probe, and a message that is cut off, leave the file as it is.
-fn bytes_that_are_no_message<R: Abort + AllocGlobal + Threads + Wait + Sync>(
+fn expect_no_message<R: Abort + AllocGlobal + Threads + Wait + Sync>(
     rt: &R,
     journal: &[u8],
     offer: &[u8],
 ) {
     let probe = b"GET / HTTP/1.1\r\n\r\n";
-    follows(rt, journal, probe, 20, "peer message\n", 1);
+    expect_following(rt, journal, probe, 20, "peer message\n", 1);
     assert!(rt; offer.len() > 12);
-    follows(rt, journal, &offer[..12], 20, "peer message\n", 1);
+    expect_following(rt, journal, &offer[..12], 20, "peer message\n", 1);
 }
 
 #[test]
 fn other_offers_leave_the_file(rt: HostRuntime) {
     let journal = leader(&rt);
     let mut offer = offer_of_2(&rt, &journal);
-    follows(&rt, &journal, &offer, 0, SEVEN, 2);
-    bytes_that_are_no_message(&rt, &journal, &offer);
+    expect_following(&rt, &journal, &offer, 0, SEVEN, 2);
+    expect_no_message(&rt, &journal, &offer);
     assert!(&rt; offer.len() > 9);
     offer[8] = 9;
-    follows(&rt, &journal, &offer, 0, SEVEN, 2);
-    follows(&rt, &journal, &REFUSED_7, 21, "offer 7 refused\n", 1);
+    expect_following(&rt, &journal, &offer, 0, SEVEN, 2);
+    expect_following(&rt, &journal, &REFUSED_7, 21, "offer 7 refused\n", 1);
 }
 
 /// A follower of three records whose disk fails at a call of the fourth delivery goes on with so many records.
-fn stops_at<R: Abort + AllocGlobal + Threads + Wait + Sync>(
+fn expect_stop_at<R: Abort + AllocGlobal + Threads + Wait + Sync>(
     rt: &R,
     journal: &[u8],
     three: &[u8],
@@ -273,7 +273,7 @@ fn stops_at<R: Abort + AllocGlobal + Threads + Wait + Sync>(
         ..QUIET
     };
     let stopped = linked(rt, &FOLLOW, &trial);
-    ended(rt, &stopped, 9, "disk failed\n");
+    expect_end(rt, &stopped, 9, "disk failed\n");
     let rest = offers_from(rt, journal, count);
     let trial = Trial {
         journal: &stopped.journal,
@@ -281,9 +281,9 @@ fn stops_at<R: Abort + AllocGlobal + Threads + Wait + Sync>(
         ..QUIET
     };
     let again = linked(rt, &FOLLOW, &trial);
-    is_equal(rt, &again.status, &0);
-    has_bytes(rt, &again.written, &haves(rt, rt.alloc(), count, 7));
-    has_bytes(rt, &again.journal, journal);
+    expect_equal(rt, &again.status, &0);
+    expect_bytes(rt, &again.written, &haves(rt, rt.alloc(), count, 7));
+    expect_bytes(rt, &again.journal, journal);
 }
 
 #[test]
@@ -297,12 +297,12 @@ fn a_stop_leaves_the_records_or_one_more(rt: HostRuntime) {
         ..QUIET
     };
     let three = linked(&rt, &FOLLOW, &trial);
-    is_equal(&rt, &three.status, &0);
+    expect_equal(&rt, &three.status, &0);
     // Opening three records is 21 calls of the disk, and the delivery four.
-    stops_at(&rt, &journal, &three.journal, 21, 3);
-    stops_at(&rt, &journal, &three.journal, 22, 3);
-    stops_at(&rt, &journal, &three.journal, 23, 3);
-    stops_at(&rt, &journal, &three.journal, 24, 4);
+    expect_stop_at(&rt, &journal, &three.journal, 21, 3);
+    expect_stop_at(&rt, &journal, &three.journal, 22, 3);
+    expect_stop_at(&rt, &journal, &three.journal, 23, 3);
+    expect_stop_at(&rt, &journal, &three.journal, 24, 4);
 }
 
 const NOTHING: &str =
@@ -311,25 +311,25 @@ const NOTHING: &str =
 #[test]
 fn no_door_is_one_without_links(rt: HostRuntime) {
     let followed = left_by(&rt, &FOLLOW, Vec::new(rt.alloc()), &QUIET);
-    ended(&rt, &followed, 0, NOTHING);
+    expect_end(&rt, &followed, 0, NOTHING);
     let shipped = left_by(&rt, &SHIP, Vec::new(rt.alloc()), &QUIET);
-    ended(&rt, &shipped, 22, "no link\n");
+    expect_end(&rt, &shipped, 22, "no link\n");
 }
 
 /// Following and shipping nothing, where these calls fail, end with these statuses and texts.
-fn fails<'x, R: Abort + AllocGlobal + Threads + Wait + Sync>(
+fn expect_failure<'x, R: Abort + AllocGlobal + Threads + Wait + Sync>(
     rt: &R,
     trial: &Trial<'x, '_, 'x>,
     status: u8,
     text: &str,
 ) {
-    ended(rt, &linked(rt, &FOLLOW, trial), status, text);
-    ended(rt, &linked(rt, &SHIP, trial), status, text);
+    expect_end(rt, &linked(rt, &FOLLOW, trial), status, text);
+    expect_end(rt, &linked(rt, &SHIP, trial), status, text);
 }
 
 #[test]
 fn a_fault_ends_the_run(rt: HostRuntime) {
-    fails(
+    expect_failure(
         &rt,
         &Trial {
             disk: &[0],
@@ -338,7 +338,7 @@ fn a_fault_ends_the_run(rt: HostRuntime) {
         9,
         "disk failed\n",
     );
-    fails(
+    expect_failure(
         &rt,
         &Trial {
             door: &[0],
@@ -347,7 +347,7 @@ fn a_fault_ends_the_run(rt: HostRuntime) {
         14,
         "door failed\n",
     );
-    fails(
+    expect_failure(
         &rt,
         &Trial {
             fails: &[0],
@@ -362,5 +362,5 @@ fn a_fault_ends_the_run(rt: HostRuntime) {
         link: &one,
         ..QUIET
     };
-    ended(&rt, &linked(&rt, &SHIP, &trial), 20, "peer message\n");
+    expect_end(&rt, &linked(&rt, &SHIP, &trial), 20, "peer message\n");
 }

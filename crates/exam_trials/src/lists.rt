@@ -1,6 +1,6 @@
 //! Sessions with a list of items that the examinee must not get, on bank A. What is expected was worked out by hand.
 
-use crate::outcome::{REPLAY, goes_on, prints};
+use crate::outcome::{REPLAY, expect_second_run, expect_text};
 use trial_cases::{BANK_A, PLAN_A};
 
 /// A session without a list, one without item 2, and the refusals of a list but `none-found`.
@@ -36,7 +36,7 @@ item 5 shown 0 eligible 1
 
 #[test]
 fn a_list_is_kept_from_its_examinee(rt: HostRuntime) {
-    prints(&rt, &REPLAY, &[BANK_A, PLAN_A, SCRIPT], 0, LINES);
+    expect_text(&rt, &REPLAY, &[BANK_A, PLAN_A, SCRIPT], 0, LINES);
 }
 
 /// A second run over the journal knows the lists. Session 0 has none, so any list is another one.
@@ -47,7 +47,7 @@ fn a_second_run_knows_the_list(rt: HostRuntime) {
     let lines =
         "session 1 closed\nrefused other-list 1\nsession 1 closed\nrefused other-list 0\nrefused no-form\n";
     let texts = [BANK_A, PLAN_A, SCRIPT];
-    goes_on(&rt, &texts, &[BANK_A, PLAN_A, second], lines);
+    expect_second_run(&rt, &texts, &[BANK_A, PLAN_A, second], lines);
 }
 
 /// Plan A with at most two sessions.
@@ -59,5 +59,5 @@ fn a_session_more_than_the_plan_allows(rt: HostRuntime) {
     let script = "begin 70\nbegin 71 without 2\nbegin 72 without 0-1\nbegin 71\n";
     let lines =
         "session 0 step 0 item 2 proved\nsession 1 step 0 item 1 proved\nlimit sessions 2 of 2\n";
-    prints(&rt, &REPLAY, &[BANK_A, PLAN_TWO, script], 13, lines);
+    expect_text(&rt, &REPLAY, &[BANK_A, PLAN_TWO, script], 13, lines);
 }

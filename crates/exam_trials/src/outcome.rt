@@ -3,7 +3,7 @@
 ghost use Rattle.answer_journal.specs.Standing.{IsAsLeft};
 ghost use Rattle.exam_edge.specs.MemoryDisk.{accounts_of};
 
-use crate::equal::{has_bytes, is_equal};
+use crate::equal::{expect_bytes, expect_equal};
 use exam_edge::{MemoryDisk, MemoryDoor, MemoryFiles, MemorySink, OpenGate};
 use exam_program::{Tools, World, run};
 use std::alloc::{AllocGlobal, Global};
@@ -153,7 +153,7 @@ pub fn outcome<R: Abort + AllocGlobal + Threads + Wait + Sync>(
 }
 
 /// Over an empty journal, and where no call fails, the program ends with this status and prints this text.
-pub fn prints<R: Abort + AllocGlobal + Threads + Wait + Sync>(
+pub fn expect_text<R: Abort + AllocGlobal + Threads + Wait + Sync>(
     rt: &R,
     words: &[&str],
     texts: &[&str; 3],
@@ -161,12 +161,12 @@ pub fn prints<R: Abort + AllocGlobal + Threads + Wait + Sync>(
     text: &str,
 ) {
     let ran = outcome(rt, words, texts, &CALM);
-    has_bytes(rt, &ran.text, text.as_bytes());
-    is_equal(rt, &ran.status, &status);
+    expect_bytes(rt, &ran.text, text.as_bytes());
+    expect_equal(rt, &ran.status, &status);
 }
 
 /// Over an empty journal, and where no call fails, the program ends with this status and prints a text that begins so.
-pub fn begins<R: Abort + AllocGlobal + Threads + Wait + Sync>(
+pub fn expect_front<R: Abort + AllocGlobal + Threads + Wait + Sync>(
     rt: &R,
     words: &[&str],
     texts: &[&str; 3],
@@ -175,34 +175,34 @@ pub fn begins<R: Abort + AllocGlobal + Threads + Wait + Sync>(
 ) {
     let ran = outcome(rt, words, texts, &CALM);
     assert!(rt; ran.text.starts_with(front.as_bytes()));
-    is_equal(rt, &ran.status, &status);
+    expect_equal(rt, &ran.status, &status);
 }
 
 /// A run over this journal prints this.
-fn prints_over<R: Abort + AllocGlobal + Threads + Wait + Sync>(
+fn expect_text_over<R: Abort + AllocGlobal + Threads + Wait + Sync>(
     rt: &R,
     journal: &[u8],
     texts: &[&str; 3],
     text: &str,
 ) {
     let ran = outcome(rt, &REPLAY, texts, &Given { journal, ..CALM });
-    has_bytes(rt, &ran.text, text.as_bytes());
-    is_equal(rt, &ran.status, &0);
+    expect_bytes(rt, &ran.text, text.as_bytes());
+    expect_equal(rt, &ran.status, &0);
 }
 
 /// A second run over the journal that the first left prints this.
-pub fn goes_on<R: Abort + AllocGlobal + Threads + Wait + Sync>(
+pub fn expect_second_run<R: Abort + AllocGlobal + Threads + Wait + Sync>(
     rt: &R,
     first: &[&str; 3],
     second: &[&str; 3],
     text: &str,
 ) {
     let ran = outcome(rt, &REPLAY, first, &CALM);
-    prints_over(rt, &ran.journal, second, text);
+    expect_text_over(rt, &ran.journal, second, text);
 }
 
 /// The audit of the journal that a replay left prints a text that begins and ends so, and leaves the journal as it was.
-pub fn audits<R: Abort + AllocGlobal + Threads + Wait + Sync>(
+pub fn expect_audit<R: Abort + AllocGlobal + Threads + Wait + Sync>(
     rt: &R,
     texts: &[&str; 3],
     ends: &[&str; 2],
@@ -210,8 +210,8 @@ pub fn audits<R: Abort + AllocGlobal + Threads + Wait + Sync>(
     let ran = outcome(rt, &REPLAY, texts, &CALM);
     let journal = ran.journal.as_slice();
     let found = outcome(rt, &AUDIT, texts, &Given { journal, ..CALM });
-    is_equal(rt, &found.status, &0);
+    expect_equal(rt, &found.status, &0);
     assert!(rt; found.text.starts_with(ends[0].as_bytes()));
     assert!(rt; found.text.ends_with(ends[1].as_bytes()));
-    has_bytes(rt, &found.journal, journal);
+    expect_bytes(rt, &found.journal, journal);
 }

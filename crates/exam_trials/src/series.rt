@@ -1,7 +1,7 @@
 //! Form series: what `series` prints, with which status.
 
-use crate::equal::is_equal;
-use crate::outcome::{CALM, begins, outcome, prints};
+use crate::equal::expect_equal;
+use crate::outcome::{CALM, expect_front, expect_text, outcome};
 use crate::texts::{BANK_E, BANK_ODD};
 use std::alloc::AllocGlobal;
 use std::process::Abort;
@@ -34,13 +34,13 @@ fn the_weaker_form_is_as_strong_as_can_be(rt: HostRuntime) {
     let ran = outcome(&rt, &OF_TWO, &[BANK_A, PLAN_OF_TWO, ""], &CALM);
     assert!(rt; ran.text.starts_with(b"series 2 value 15 proved nodes "));
     assert!(rt; after_first_line(&ran.text).starts_with(b"\nform 1 5\nform 2 3\ntree "));
-    is_equal(&rt, &ran.status, &0);
+    expect_equal(&rt, &ran.status, &0);
 }
 
 /// Six items are too few for two forms of four.
 #[test]
 fn no_two_forms(rt: HostRuntime) {
-    begins(&rt, &OF_TWO, &[BANK_A, PLAN_OF_FOUR, ""], 17, "no series 0");
+    expect_front(&rt, &OF_TWO, &[BANK_A, PLAN_OF_FOUR, ""], 17, "no series 0");
 }
 
 /// Weights of two points for a grid of three, and weights that are all 0.
@@ -50,7 +50,7 @@ const NO_WEIGHTS: [&str; 2] = ["0,1", "0,0,0"];
 fn weights_that_are_not_the_grids(rt: HostRuntime) {
     for word in &NO_WEIGHTS {
         let words = ["series", "bank", "plan", "2", *word];
-        prints(
+        expect_text(
             &rt,
             &words,
             &[BANK_A, PLAN_OF_TWO, ""],
@@ -69,14 +69,14 @@ fn a_series_that_is_not_proved_best(rt: HostRuntime) {
         ran.text
             .starts_with(b"series 1 value 12 unproved nodes 1\nform 0 3\ntree ")
     );
-    is_equal(&rt, &ran.status, &0);
+    expect_equal(&rt, &ran.status, &0);
 }
 
 /// No two items have an odd sum, and one node shows nothing.
 #[test]
 fn a_budget_that_is_spent(rt: HostRuntime) {
     let plan = "length 2\nprior 0\nbase-budget 1\nquantity 0 3 3 0-3\n";
-    prints(
+    expect_text(
         &rt,
         &OF_ONE,
         &[BANK_ODD, plan, ""],

@@ -1,6 +1,6 @@
 //! Sessions that are served from a script.
 
-use crate::outcome::{REPLAY, goes_on, prints};
+use crate::outcome::{REPLAY, expect_second_run, expect_text};
 use crate::texts::{BANK_E, BANK_S, BANK_TIE, LINES_A, SCRIPT_A};
 use trial_cases::{BANK_A, PLAN_A, PLAN_E};
 
@@ -93,7 +93,7 @@ item 5 shown 0 eligible 1
 #[test]
 fn sessions(rt: HostRuntime) {
     for (texts, lines) in &SESSIONS {
-        prints(&rt, &REPLAY, texts, 0, lines);
+        expect_text(&rt, &REPLAY, texts, 0, lines);
     }
 }
 
@@ -113,7 +113,7 @@ refused no-session 2
 refused is-closed closed
 refused is-closed closed
 ";
-    goes_on(
+    expect_second_run(
         &rt,
         &[BANK_A, PLAN_A, TWO_BEGUN],
         &[BANK_A, PLAN_A, second],

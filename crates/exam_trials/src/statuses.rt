@@ -1,7 +1,7 @@
 //! The statuses with their texts.
 
-use crate::journals::{ends, replayed};
-use crate::outcome::{ASSEMBLE, CHECK, REPLAY, begins, prints};
+use crate::journals::{expect_end, replayed};
+use crate::outcome::{ASSEMBLE, CHECK, REPLAY, expect_front, expect_text};
 use crate::texts::{BANK_E, BANK_ODD, SCRIPT_A};
 use std::alloc::AllocGlobal;
 use std::process::Abort;
@@ -29,7 +29,7 @@ const ASSEMBLED: [(&str, &str, u8, &str); 3] = [
 #[test]
 fn what_is_assembled(rt: HostRuntime) {
     for (bank, plan, status, front) in &ASSEMBLED {
-        begins(&rt, &ASSEMBLE, &[bank, plan, ""], *status, front);
+        expect_front(&rt, &ASSEMBLE, &[bank, plan, ""], *status, front);
     }
 }
 
@@ -37,16 +37,16 @@ fn what_is_assembled(rt: HostRuntime) {
 fn a_plan_without_a_form(rt: HostRuntime) {
     let none = "length 3\nprior -10 0 -10\ncount 3 3 0-1\nenemies 2 5\n";
     let texts = [BANK_A, none, SCRIPT_A];
-    prints(&rt, &ASSEMBLE, &texts, 11, "no form 000501\n");
-    prints(&rt, &REPLAY, &texts, 11, "no form 000501\n");
+    expect_text(&rt, &ASSEMBLE, &texts, 11, "no form 000501\n");
+    expect_text(&rt, &REPLAY, &texts, 11, "no form 000501\n");
 }
 
 #[test]
 fn a_base_budget_that_is_spent(rt: HostRuntime) {
     let short = "length 2\nprior 0\nbase-budget 1\nquantity 0 3 3 0-3\n";
     let texts = [BANK_ODD, short, "begin 1\n"];
-    begins(&rt, &ASSEMBLE, &texts, 12, "no base form in 1 nodes ");
-    begins(&rt, &REPLAY, &texts, 12, "no base form in 1 nodes ");
+    expect_front(&rt, &ASSEMBLE, &texts, 12, "no base form in 1 nodes ");
+    expect_front(&rt, &REPLAY, &texts, 12, "no base form in 1 nodes ");
 }
 
 /// Words that ask for nothing.
@@ -62,8 +62,8 @@ const USAGE: &str =
 #[test]
 fn faulty_words(rt: HostRuntime) {
     let texts = [BANK_A, PLAN_A, SCRIPT_A];
-    prints(&rt, &["replay", "a"], &texts, 2, USAGE);
-    prints(
+    expect_text(&rt, &["replay", "a"], &texts, 2, USAGE);
+    expect_text(
         &rt,
         &["series", "bank", "plan", "5", "0,1,0"],
         &texts,
@@ -71,7 +71,7 @@ fn faulty_words(rt: HostRuntime) {
         USAGE,
     );
     for words in &FAULTY {
-        prints(&rt, words, &texts, 2, USAGE);
+        expect_text(&rt, words, &texts, 2, USAGE);
     }
 }
 
@@ -86,7 +86,7 @@ const NO_SERVERS: [[&str; 4]; 3] = [
 fn servers_with_no_number_of_forms(rt: HostRuntime) {
     let texts = [BANK_A, PLAN_A, SCRIPT_A];
     for words in &NO_SERVERS {
-        prints(&rt, words, &texts, 2, USAGE);
+        expect_text(&rt, words, &texts, 2, USAGE);
     }
 }
 
@@ -121,7 +121,7 @@ enemies 2 5
 #[test]
 fn what_check_prints(rt: HostRuntime) {
     for (bank, plan, status, text) in &CHECKED {
-        prints(&rt, &CHECK, &[bank, plan, ""], *status, text);
+        expect_text(&rt, &CHECK, &[bank, plan, ""], *status, text);
     }
 }
 
@@ -147,7 +147,7 @@ const REPLAYED: [(&str, &str, u8, &str); 4] = [
 #[test]
 fn what_replay_prints(rt: HostRuntime) {
     for (plan, script, status, text) in &REPLAYED {
-        prints(&rt, &REPLAY, &[BANK_A, plan, script], *status, text);
+        expect_text(&rt, &REPLAY, &[BANK_A, plan, script], *status, text);
     }
 }
 
@@ -168,14 +168,18 @@ const NO_JOURNALS: [(&str, &str); 8] = [
 ];
 
 /// A file that is refused is left as it was.
-fn refuses<R: Abort + AllocGlobal + Threads + Wait + Sync>(rt: &R, journal: &str, text: &str) {
+fn expect_refusal<R: Abort + AllocGlobal + Threads + Wait + Sync>(
+    rt: &R,
+    journal: &str,
+    text: &str,
+) {
     let ran = replayed(rt, SCRIPT_A, journal.as_bytes());
-    ends(rt, &ran, 6, text.as_bytes(), journal.as_bytes());
+    expect_end(rt, &ran, 6, text.as_bytes(), journal.as_bytes());
 }
 
 #[test]
 fn refused_journals(rt: HostRuntime) {
     for (journal, text) in &NO_JOURNALS {
-        refuses(&rt, journal, text);
+        expect_refusal(&rt, journal, text);
     }
 }

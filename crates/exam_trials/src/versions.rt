@@ -1,8 +1,8 @@
 //! A journal of the first version: what refuses it, and how it is moved to the second.
 
 use crate::bands::{BANK_UP, PLAN_UP};
-use crate::equal::{has_bytes, is_equal};
-use crate::journals::{ends, replayed};
+use crate::equal::{expect_bytes, expect_equal};
+use crate::journals::{expect_end, replayed};
 use crate::outcome::{AUDIT, CALM, Given, MIGRATE, REPLAY, Ran, SERVE, bytes_of, outcome};
 use std::alloc::AllocGlobal;
 use std::process::Abort;
@@ -48,10 +48,10 @@ fn over<'x, R: Abort + AllocGlobal + Threads + Wait + Sync>(
 #[test]
 fn sessions_over_the_first_version(rt: HostRuntime) {
     let old = old_journal(&rt);
-    is_equal(&rt, &old.len(), &183);
+    expect_equal(&rt, &old.len(), &183);
     for words in [REPLAY.as_slice(), SERVE.as_slice()] {
         let ran = over(&rt, words, PLAN_A, &old, &[]);
-        ends(&rt, &ran, 6, b"journal: version\n", &old);
+        expect_end(&rt, &ran, 6, b"journal: version\n", &old);
     }
 }
 
@@ -60,23 +60,23 @@ fn sessions_over_the_first_version(rt: HostRuntime) {
 fn a_journal_is_moved(rt: HostRuntime) {
     let old = old_journal(&rt);
     let before = over(&rt, &AUDIT, PLAN_A, &old, &[]);
-    is_equal(&rt, &before.status, &0);
+    expect_equal(&rt, &before.status, &0);
     let moved = over(&rt, &MIGRATE, PLAN_A, &old, &[]);
-    has_bytes(&rt, &moved.text, b"migrated 2 records length 364\n");
-    is_equal(&rt, &moved.status, &0);
+    expect_bytes(&rt, &moved.text, b"migrated 2 records length 364\n");
+    expect_equal(&rt, &moved.status, &0);
     let journal = moved.journal.as_slice();
-    is_equal(&rt, &journal.len(), &364);
+    expect_equal(&rt, &journal.len(), &364);
     assert!(&rt; journal.get(..182) == old.get(..182));
     for gate in [182, 188, 271] {
-        is_equal(&rt, &journal.get(gate), &Some(&1));
+        expect_equal(&rt, &journal.get(gate), &Some(&1));
     }
-    is_equal(&rt, &journal.last(), &Some(&0));
+    expect_equal(&rt, &journal.last(), &Some(&0));
     let after = over(&rt, &AUDIT, PLAN_A, journal, &[]);
-    ends(&rt, &after, 0, &before.text, journal);
+    expect_end(&rt, &after, 0, &before.text, journal);
     let again = over(&rt, &MIGRATE, PLAN_A, journal, &[]);
-    ends(&rt, &again, 0, b"migrated 0 records length 364\n", journal);
+    expect_end(&rt, &again, 0, b"migrated 0 records length 364\n", journal);
     let shown = replayed(&rt, "look 0\n", journal);
-    ends(&rt, &shown, 0, b"session 0 step 0 item 2 proved\n", journal);
+    expect_end(&rt, &shown, 0, b"session 0 step 0 item 2 proved\n", journal);
 }
 
 /// Whether this call of the disk is one of that migration. If it fails, the journal keeps its history, and can be moved after
@@ -90,14 +90,14 @@ fn fails<R: Abort + AllocGlobal + Threads + Wait + Sync>(
     if ran.status == 0 {
         return false;
     }
-    is_equal(rt, &ran.status, &9);
-    has_bytes(rt, &ran.text, b"disk failed\n");
+    expect_equal(rt, &ran.status, &9);
+    expect_bytes(rt, &ran.text, b"disk failed\n");
     let found = over(rt, &AUDIT, PLAN_A, &ran.journal, &[]);
-    ends(rt, &found, 0, audited, &ran.journal);
+    expect_end(rt, &found, 0, audited, &ran.journal);
     let moved = over(rt, &MIGRATE, PLAN_A, &ran.journal, &[]);
-    is_equal(rt, &moved.status, &0);
+    expect_equal(rt, &moved.status, &0);
     let found = over(rt, &AUDIT, PLAN_A, &moved.journal, &[]);
-    ends(rt, &found, 0, audited, &moved.journal);
+    expect_end(rt, &found, 0, audited, &moved.journal);
     true
 }
 
@@ -135,7 +135,7 @@ const OTHERS: [(&str, u8, &str); 6] = [
 fn journals_that_stay(rt: HostRuntime) {
     for (journal, status, text) in &OTHERS {
         let ran = over(&rt, &MIGRATE, PLAN_A, journal.as_bytes(), &[]);
-        ends(&rt, &ran, *status, text.as_bytes(), journal.as_bytes());
+        expect_end(&rt, &ran, *status, text.as_bytes(), journal.as_bytes());
     }
 }
 
@@ -143,7 +143,7 @@ fn journals_that_stay(rt: HostRuntime) {
 fn a_journal_without_a_record_is_moved(rt: HostRuntime) {
     let ran = over(&rt, &MIGRATE, PLAN_A, b"SHADOWJ1\0\0", &[]);
     let moved = b"SHADOWJ1\x01\0\0\0\x01\x08\0";
-    ends(&rt, &ran, 0, b"migrated 0 records length 15\n", moved);
+    expect_end(&rt, &ran, 0, b"migrated 0 records length 15\n", moved);
 }
 
 /// The limit of the journal is tested before the first write.
@@ -152,10 +152,10 @@ fn the_limit_of_a_migration(rt: HostRuntime) {
     let old = old_journal(&rt);
     let small = "length 3\nprior -10 0 -10\ncount 1 1 0-1\nenemies 2 5\njournal 363\n";
     let ran = over(&rt, &MIGRATE, small, &old, &[]);
-    ends(&rt, &ran, 13, b"limit journal 364 of 363\n", &old);
+    expect_end(&rt, &ran, 13, b"limit journal 364 of 363\n", &old);
     let enough = "length 3\nprior -10 0 -10\ncount 1 1 0-1\nenemies 2 5\njournal 364\n";
     let ran = over(&rt, &MIGRATE, enough, &old, &[]);
-    has_bytes(&rt, &ran.text, b"migrated 2 records length 364\n");
+    expect_bytes(&rt, &ran.text, b"migrated 2 records length 364\n");
 }
 
 /// The journal of the first version that was written under a plan of two bands: of each part the first bytes, and then so many
@@ -209,11 +209,11 @@ fn a_journal_of_bands_is_moved(rt: HostRuntime) {
         ..CALM
     };
     let before = outcome(&rt, &AUDIT, &texts, &given);
-    is_equal(&rt, &before.status, &0);
+    expect_equal(&rt, &before.status, &0);
     let moved = outcome(&rt, &MIGRATE, &texts, &given);
-    has_bytes(&rt, &moved.text, b"migrated 13 records length 1689\n");
+    expect_bytes(&rt, &moved.text, b"migrated 13 records length 1689\n");
     let journal = moved.journal.as_slice();
-    is_equal(&rt, &journal.len(), &1689);
+    expect_equal(&rt, &journal.len(), &1689);
     let after = outcome(&rt, &AUDIT, &texts, &Given { journal, ..CALM });
-    ends(&rt, &after, 0, &before.text, journal);
+    expect_end(&rt, &after, 0, &before.text, journal);
 }
