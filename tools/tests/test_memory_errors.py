@@ -180,8 +180,8 @@ BODIES = [
     ("another refusal is taken for it", REPLAY, "Reply::Refused(Refusal::Memory) =>", "Reply::Refused(Refusal::NotWaiting | Refusal::Memory) =>"),
     ("the disk is taken for it", REPLAY, "        OpenFault::Memory => Halt::Memory,", "        OpenFault::Version | OpenFault::Memory => Halt::Memory,"),
     ("the output is taken for it", REPLAY, "Err(_) => Err(Halt::Sink),", "Err(_) => Err(Halt::Memory),"),
-    ("a look at a session that is not there", "exam_office/src/asking.rt", "Request::Look(session) => self.ask_look(alloc, *session),",
-     "Request::Look(session) => match self.look(*session) {\n            Ok(_) => self.ask_look(alloc, *session),\n"
+    ("a look at a session that is not there", "exam_office/src/leading.rt", "Request::Look(session) => replied(*session, false, self.look(*session)),",
+     "Request::Look(session) => match self.look(*session) {\n            Ok(place) => replied(*session, false, Ok(place)),\n"
      "            Err(_) => Reply::Refused(Refusal::Memory),\n        },"),
     ("a hall that refuses before it assembles", HALL, IN_HALL,
      "        if problem.session == 7 {\n            return Round::Failed(Refusal::Memory);\n        }\n" + IN_HALL),

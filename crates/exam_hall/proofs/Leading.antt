@@ -19,7 +19,9 @@ use Rattle.history_model.specs.declared.place.Place.TheVariants as place_is
 use Rattle.history_model.specs.declared.refusal.Refusal.{Refusal}
 use Rattle.history_model.specs.declared.refusal.Refusal.TheVariants.{NoSession, WrongStep, Other, BadResponse, IsClosed, Stale, OtherList, NoItem, SessionsFull, NoForm, NoneFound, JournalFull, Disk, Memory}
 use Rattle.history_model.specs.declared.request.Exposure.{Exposure as Counts}
+use Rattle.history_model.specs.declared.request.Request.{Request}
 use Rattle.history_model.specs.declared.request.Request.TheVariants.{Begin, BeginWithout, Answer, Close, Look, Exposure}
+use Rattle.history_model.specs.declared.request.Reply.{Reply}
 use Rattle.history_model.specs.declared.request.Reply.TheVariants as reply
 use Rattle.history_model.specs.Entries.{StepAnswer, starts, holder, list_of, step_answers}
 use Rattle.history_model.specs.Legality.{Legal, LegalRun}
@@ -29,10 +31,12 @@ use Rattle.history_model.specs.Refusals.{has_list, recorded, refusal_of}
 use Rattle.history_model.specs.Requests.{IsExposureOf}
 use Rattle.history_model.proofs.SessionEntries.{session_answer, answers_by}
 use Rattle.history_model.proofs.Ordered.{in_order}
+use Rattle.exam_office.specs.declared.begun.Begun.{Begun}
 use Rattle.exam_office.specs.Asking.{reply_of}
 use Rattle.exam_office.specs.declared.mark.Mark.{Mark}
 use Rattle.exam_office.specs.declared.mark.Mark.TheVariants.{Own}
 use Rattle.exam_office.specs.Calls.{Finding, Calls, IsStartFor, IsStartWithout, LacksWitness, FindsAnswer, FindsStart, FindsStartWithout, FindsClosing, IsFreshly, IsFreshlyBy, refused_with}
+use Rattle.exam_office.specs.Leading.{IsCall, IsBegunReply, IsCountedReply, IsLead}
 use Rattle.exam_office.specs.Marks.{history}
 use Rattle.exam_office.specs.Noting.{IsDoubtOf}
 use Rattle.exam_office.specs.Running.{Running}
@@ -115,7 +119,7 @@ module _ {D : Type 0} (old new : Running D) (same : IsSameOffice old new) (frame
   answer_leads s step response (Err q) T run (to_failure r fails none why) stands =
       inr (inr (fails (IsFirst (Answer s step response)) (λ H e says. (says.2, says.3)), (none, ⊎_elim (λ d. inl d) (λ t. inr (t.0, t.1.2, t.1.3)) why)))
 
-  pub answer_led : (s step response : ℕ) (result : Result Place Refusal) → IsDoubtOf old.marks old.doubt → LegalRun old.bank old.plan (history new.marks)
+  answer_led : (s step response : ℕ) (result : Result Place Refusal) → IsDoubtOf old.marks old.doubt → LegalRun old.bank old.plan (history new.marks)
       → Calls (FindsAnswer old.bank old.plan s step response) old new (refused_with result)
       → IfOk result (λ at. place new.plan (history new.marks) s ≡ Some at) → Led (Answer s step response) old new (reply_of s false result)
   answer_led s step response result doubt run calls stands =
@@ -149,7 +153,7 @@ module _ {D : Type 0} (old new : Running D) (same : IsSameOffice old new) (frame
   closing_leads s (Err q) T (to_refusal r says none whole) stands = inl (record { test = says; none = none; no_fault = whole })
   closing_leads s (Err q) T (to_failure r fails none why) stands = inr (inr (fails (IsFirst (Close s)) (λ H e says. (says.1, says.2)), (none, ⊎_elim (λ d. inl d) (λ t. inr (t.0, t.1.1, t.1.2)) why)))
 
-  pub closing_led : (s : ℕ) (result : Result Place Refusal) → IsDoubtOf old.marks old.doubt → Calls (FindsClosing old.bank old.plan s) old new (refused_with result)
+  closing_led : (s : ℕ) (result : Result Place Refusal) → IsDoubtOf old.marks old.doubt → Calls (FindsClosing old.bank old.plan s) old new (refused_with result)
       → IfOk result (λ at. place new.plan (history new.marks) s ≡ Some at) → Led (Close s) old new (reply_of s false result)
   closing_led s result doubt calls stands =
       let finds = FindsClosing old.bank old.plan s in
@@ -160,7 +164,7 @@ module _ {D : Type 0} (old new : Running D) (same : IsSameOffice old new) (frame
   start_starts booking e h = ap starts h.is
 
   -- a booking that was begun
-  pub begin_led : (booking session : ℕ) (fresh : Bool) (at : Place) → holder (history new.marks) booking ≡ Some session → IsFreshly old new booking fresh
+  begin_led : (booking session : ℕ) (fresh : Bool) (at : Place) → holder (history new.marks) booking ≡ Some session → IsFreshly old new booking fresh
       → place new.plan (history new.marks) session ≡ Some at → Led (Begin booking) old new (reply.At session at fresh)
   begin_led booking session false at held how stands =
       let s = settles old.marks new.marks (settled_by old.marks new.marks old.doubt how) in
@@ -214,7 +218,7 @@ module _ {D : Type 0} (old new : Running D) (same : IsSameOffice old new) (frame
         (none, ⊎_elim (λ d. inl d) (λ t. inr (t.0, t.1.2, t.1.3)) why),
       ))
 
-  pub begin_refused : (booking : ℕ) (q : Refusal) → IsDoubtOf old.marks old.doubt → Calls (FindsStart old.bank old.plan booking) old new (Some q) → Led (Begin booking) old new (reply.Refused q)
+  begin_refused : (booking : ℕ) (q : Refusal) → IsDoubtOf old.marks old.doubt → Calls (FindsStart old.bank old.plan booking) old new (Some q) → Led (Begin booking) old new (reply.Refused q)
   begin_refused booking q doubt calls =
       let finds = FindsStart old.bank old.plan booking in
       let a = addition old.bank old.plan finds old.marks new.marks (Some q) (calls_on old new finds (Some q) doubt calls) in
@@ -270,7 +274,7 @@ module _ {D : Type 0} (old new : Running D) (same : IsSameOffice old new) (frame
   listed_leads booking items witness session fresh at o T is run (to_refusal r says none whole) held started stands = absurd cc
   listed_leads booking items witness session fresh at o T is run (to_failure r fails none why) held started stands = absurd cc
 
-  pub listed_led : (booking : ℕ) (items : List ℕ) (witness : Result (List ℕ) Refusal) (session : ℕ) (fresh : Bool) (at : Place) → IsDoubtOf old.marks old.doubt → LegalRun old.bank old.plan (history new.marks)
+  listed_led : (booking : ℕ) (items : List ℕ) (witness : Result (List ℕ) Refusal) (session : ℕ) (fresh : Bool) (at : Place) → IsDoubtOf old.marks old.doubt → LegalRun old.bank old.plan (history new.marks)
       → Calls (FindsStartWithout old.bank old.plan booking items witness) old new None → holder (history new.marks) booking ≡ Some session → IsFreshlyBy old new (IsStartWithout booking items witness) fresh
       → place new.plan (history new.marks) session ≡ Some at → Led (BeginWithout booking items) old new (reply.At session at fresh)
   listed_led booking items witness session fresh at doubt run calls held how stands =
@@ -316,7 +320,7 @@ module _ {D : Type 0} (old new : Running D) (same : IsSameOffice old new) (frame
         (none, ⊎_elim (λ d. inl d) (λ t. inr (record { unrefused = t.1.0; no_session = t.1.1 })) why),
       ))
 
-  pub listed_refused : (booking : ℕ) (items : List ℕ) (witness : Result (List ℕ) Refusal) (q : Refusal) → IsDoubtOf old.marks old.doubt → Calls (FindsStartWithout old.bank old.plan booking items witness) old new (Some q)
+  listed_refused : (booking : ℕ) (items : List ℕ) (witness : Result (List ℕ) Refusal) (q : Refusal) → IsDoubtOf old.marks old.doubt → Calls (FindsStartWithout old.bank old.plan booking items witness) old new (Some q)
       → Led (BeginWithout booking items) old new (reply.Refused q)
   listed_refused booking items witness q doubt calls =
       let finds = FindsStartWithout old.bank old.plan booking items witness in
@@ -334,7 +338,7 @@ module _ {D : Type 0} (now : Running D) where
     few = omega arith;
   }
 
-  pub look_led : (s : ℕ) (result : Result Place Refusal) → IfOk result (λ at. place now.plan (history now.marks) s ≡ Some at)
+  look_led : (s : ℕ) (result : Result Place Refusal) → IfOk result (λ at. place now.plan (history now.marks) s ≡ Some at)
       → IfErr result (λ r. refusal_of now.bank now.plan (history now.marks) (Look s) ≡ Some r) → Led (Look s) now now (reply_of s false result)
   look_led s (Ok at) stands refuses = record {
     adds = still;
@@ -346,11 +350,48 @@ module _ {D : Type 0} (now : Running D) where
   }
   look_led s (Err r) stands refuses = record { adds = still; leads = inl (record { test = refuses; none = refl; no_fault = none_faulty }) }
 
-  pub exposure_led : (counts : Counts) → IsExposureOf now.bank now.plan (history now.marks) counts → Led Exposure now now (reply.Exposure counts)
+  exposure_led : (counts : Counts) → IsExposureOf now.bank now.plan (history now.marks) counts → Led Exposure now now (reply.Exposure counts)
   exposure_led counts is = record { adds = still; leads = record { asked = refl; is_exposure = is; none = refl; no_fault = none_faulty } }
 
-  pub exposure_stopped : (r : Refusal) → r ≡ Memory → Led Exposure now now (reply.Refused r)
+  exposure_stopped : (r : Refusal) → r ≡ Memory → Led Exposure now now (reply.Refused r)
   exposure_stopped r is = subst (λ x. Led Exposure now now (reply.Refused x)) (sym is) (record { adds = still; leads = inr (inr (none_faulty, refl)) })
 
 pub legal_before : {D : Type 0} (old new : Running D) → IsSameOffice old new → LegalRun new.bank new.plan (history new.marks) → LegalRun old.bank old.plan (history new.marks)
 legal_before old new same run = subst (λ (p : Plan). LegalRun old.bank p (history new.marks)) same.plan (subst (λ (b : Tables). LegalRun b new.plan (history new.marks)) same.bank run)
+
+-- ---- what the office did first, by the request
+module _ {D : Type 0} (old new : Running D) (doubt : IsDoubtOf old.marks old.doubt) (run : LegalRun new.bank new.plan (history new.marks)) where
+  begun_led : (booking : ℕ) (begun : Result Begun Refusal) (answer : Reply) → IsCall (FindsStart old.bank old.plan booking) old new begun → IfOk begun (λ b. holder (history new.marks) booking ≡ Some b.session)
+      → IfOk begun (λ b. IsFreshly old new booking b.fresh) → IsBegunReply new.plan (history new.marks) begun answer → Led (Begin booking) old new answer
+  begun_led booking (Ok b) answer c held fresh is =
+      subst (λ (r : Reply). Led (Begin booking) old new r) (sym is.2) (begin_led old new c.same c.frame booking b.session b.fresh is.0 held fresh is.1)
+  begun_led booking (Err q) answer c held fresh is = subst (λ (r : Reply). Led (Begin booking) old new r) (sym is) (begin_refused old new c.same c.frame booking q doubt c.call)
+
+  begun_without : (booking : ℕ) (items : List ℕ) (witness : Result (List ℕ) Refusal) (begun : Result Begun Refusal) (answer : Reply) → IsCall (FindsStartWithout old.bank old.plan booking items witness) old new begun
+      → IfOk begun (λ b. holder (history new.marks) booking ≡ Some b.session) → IfOk begun (λ b. IsFreshlyBy old new (IsStartWithout booking items witness) b.fresh) → IsBegunReply new.plan (history new.marks) begun answer
+      → Led (BeginWithout booking items) old new answer
+  begun_without booking items witness (Ok b) answer c held fresh is =
+      subst (λ (r : Reply). Led (BeginWithout booking items) old new r) (sym is.2)
+      (listed_led old new c.same c.frame booking items witness b.session b.fresh is.0 doubt (legal_before old new c.same run) c.call held fresh is.1)
+  begun_without booking items witness (Err q) answer c held fresh is =
+      subst (λ (r : Reply). Led (BeginWithout booking items) old new r) (sym is) (listed_refused old new c.same c.frame booking items witness q doubt c.call)
+
+  counted_led : (answer : Reply) → IsCountedReply old answer → Led Exposure old old answer
+  counted_led (reply.Exposure counts) is = exposure_led old counts is
+  counted_led (reply.Refused r) is = exposure_stopped old r is
+  counted_led (reply.At s at fresh) is = absurd is
+
+  pub led_by : (q : Request) (witness : Result (List ℕ) Refusal) (answer : Reply) → IsLead q witness old new answer → Led q old new answer
+  led_by (Begin booking) witness answer l = begun_led booking l.begun answer l.call l.session l.fresh l.reply_is
+  led_by (BeginWithout booking items) witness answer l = begun_without booking items witness l.begun answer l.call l.session l.fresh l.reply_is
+  led_by (Answer s step response) witness answer l =
+      let c = l.call in
+      subst (λ (r : Reply). Led (Answer s step response) old new r) (sym l.reply_is)
+      (answer_led old new c.same c.frame s step response l.found doubt (legal_before old new c.same run) c.call l.at)
+  led_by (Close s) witness answer l =
+      let c = l.call in
+      subst (λ (r : Reply). Led (Close s) old new r) (sym l.reply_is) (closing_led old new c.same c.frame s l.found doubt c.call l.at)
+  led_by (Look s) witness answer l =
+      let look = l.1 in
+      subst (λ (n : Running D). Led (Look s) old n answer) (sym l.0) (subst (λ (r : Reply). Led (Look s) old old r) (sym look.reply_is) (look_led old s look.found look.at look.refused))
+  led_by Exposure witness answer l = subst (λ (n : Running D). Led Exposure old n answer) (sym l.0) (counted_led answer l.1)

@@ -29,7 +29,8 @@ use Rattle.exam_office.specs.Running.{HandedDisk, Running}
 use Rattle.exam_hall.specs.declared.asking.FirstAnswer.{FirstAnswer}
 use Rattle.exam_hall.specs.declared.asking.FirstAnswer.TheVariants.{Done, Waits}
 use Rattle.exam_hall.specs.declared.committing.Round.{Round}
-use Rattle.exam_hall.specs.Leading.{IsWitnessFor, IsSought, Leads, IsLed, IsNoWait, IsBegun, GoesOn, BeginsRequest}
+use Rattle.exam_office.specs.Leading.{IsWitnessFor}
+use Rattle.exam_hall.specs.Leading.{IsSought, Leads, IsLed, IsNoWait, IsBegun, GoesOn, BeginsRequest}
 use Rattle.exam_hall.specs.Rounds.{IsGoodFor, IsCommittable, IsEntryOf, AddsOnly, EndsRound, EndsGood, Commits}
 use Rattle.exam_hall.specs.Turns.{Adds, Led, Ended, IsBegunAt, IsPlacedReply}
 use Rattle.exam_hall.proofs.Leading.{legal_before}

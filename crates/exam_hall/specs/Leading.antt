@@ -1,7 +1,6 @@
 -- What the first turn of a request does.
 use Rattle.std.specs.Prelude.{◌≡◌, ◌⊎◌, ⊤, ℕ, Bool, List, ◌++◌, Contains, IfSome, Result}
 use Rattle.exam_office.specs.Warm.{FitsPlan}
-use Rattle.bank_tables.specs.Items.{has}
 use Rattle.bank_tables.specs.Tables.{Tables}
 use Rattle.form_model.specs.Plan.{Plan}
 use Rattle.form_model.specs.Validity.{IsWellMade}
@@ -16,10 +15,9 @@ use Rattle.history_model.specs.declared.request.Request.TheVariants as request
 use Rattle.history_model.specs.declared.request.Reply.{Reply}
 use Rattle.history_model.specs.declared.request.Reply.TheVariants as reply
 use Rattle.history_model.specs.Legality.{LegalRun}
-use Rattle.history_model.specs.Lists.{IsListFor}
 use Rattle.history_model.specs.SessionProblems.{IsProblemOf}
 use Rattle.exam_office.specs.declared.mark.Mark.{Mark}
-use Rattle.exam_office.specs.Calls.{IsWitness}
+use Rattle.exam_office.specs.Leading.{IsWitnessFor}
 use Rattle.exam_office.specs.Marks.{history}
 use Rattle.exam_office.specs.Noting.{OpenedWith, NotedMark, noted, marks_of}
 use Rattle.exam_hall.specs.Parts.{owns, AtMostOne, IsFirst, LacksFirst, IsRefusedBy, IsNotBegunBy, Fails}
@@ -31,13 +29,6 @@ use Rattle.exam_hall.specs.declared.asking.FirstAnswer.TheVariants.{Done, Waits}
 pub record IsAsked (b : Tables) (plan : Plan) (H : List Entry) (P : Problem) : Type 0 where
   pub is_problem : IsProblemOf b plan H P.session P.step (problem_of P)
   pub well_made : IsWellMade (problem_of P)
-
--- what the search for a form without the items of the request's list found; a request that has no
--- list of items of the bank needs none
-abbrev pub IsWitnessFor : Tables → Plan → Request → Result (List ℕ) Refusal → Type 0
-IsWitnessFor b plan (request.BeginWithout booking items) found =
-    IsListFor b (has items) → IsWitness b plan items found
-IsWitnessFor b plan q found = ⊤
 
 -- it was sought for the bank and the plan that the office was opened with
 pub record IsSought (seen : List NotedMark) (q : Request)

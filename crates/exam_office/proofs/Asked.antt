@@ -34,7 +34,7 @@ use Rattle.exam_office.specs.Serving.{IsBeforeItem, waits, set_aside, ServesNext
 use Rattle.exam_office.specs.Writing.{as_before, IsMending, IsMended, IsSameOffice, IsUnmended}
 use Rattle.exam_office.proofs.Advancing.{closed_there}
 use Rattle.exam_office.proofs.Calling.{mended_one_of}
-use Rattle.exam_office.proofs.Firsts.{IsFirst, first_done, first_refused, first_wanting, first_stopped, DoneLeading, DoneClosing, held_is_started}
+use Rattle.exam_office.proofs.Firsts.{IsFirst, first_done, first_refused, first_wanting, first_stopped, DoneLeading, DoneClosing}
 use Rattle.exam_office.proofs.Marking.{history-fault}
 use Rattle.exam_office.proofs.Sessions.{not_there}
 use Rattle.exam_office.proofs.Surely.{moved, moved_back, no_unmended, stopped_weaker, steps_joined, stayed_steps}
@@ -324,15 +324,14 @@ module _ {D : Type 0} (office : Running D) (durable : IsDurable office.bank offi
       subst (λ (x : Refusal). IsAskedSurely office request.Exposure (reply.Refused x) office) (sym is)
       (record { becomes = halted (record { cut_off = at_start; why = Memory; because = λ e. e; reply = refl; not_refused = inr refl }); good = no_more; settled = tt; steps = no_steps request.Exposure })
 
--- ---- a booking's session
-pub begun_is_there : {D : Type 0} (booking s : ℕ) (office : Running D) (r : Refusal) → holder (history office.marks) booking ≡ Some s → refusal_of office.bank office.plan (history office.marks) (request.Look s) ≡ Some r → ⊥
-begun_is_there booking s office r held why = by (place office.plan (history office.marks) s) refl why
+-- ---- a session that was begun
+pub begun_is_there : {D : Type 0} (s : ℕ) (office : Running D) (r : Refusal) → is_started (history office.marks) s ≡ true → refusal_of office.bank office.plan (history office.marks) (request.Look s) ≡ Some r → ⊥
+begun_is_there s office r started why = by (place office.plan (history office.marks) s) refl why
   where
     by : (o : Option Place) → place office.plan (history office.marks) s ≡ o → in_session (history office.marks) o (λ (p : Place). None) ≡ Some r → ⊥
     by (Some at) is e = absurd (cc)
     by None is e =
-        let one : is_started (history office.marks) s ≡ true = held_is_started booking s (history office.marks) held in
-        let two : is_started (history office.marks) s ≡ false = not_there office.plan (history office.marks) s is in
+        let none : is_started (history office.marks) s ≡ false = not_there office.plan (history office.marks) s is in
         absurd (cc)
 
 -- ---- the entry in doubt first

@@ -26,6 +26,7 @@ pub mod Advancing
 pub mod Firsts
 pub mod FirstsWithList
 pub mod Asked
+pub mod Led
 pub mod CompletenessLaws
 pub mod VectorLaws
 pub mod KeepingVectors

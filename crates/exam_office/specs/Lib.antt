@@ -11,6 +11,7 @@ pub mod Laws
 pub mod Commits
 pub mod Asking
 pub mod Serving
+pub mod Leading
 pub mod Noting
 pub mod Warm
 pub mod KeptVectors

@@ -16,6 +16,7 @@ mod cursor;
 mod fault;
 mod handed_in;
 pub mod laws;
+mod leading;
 mod mark;
 mod migrating;
 mod noted;

@@ -56,7 +56,7 @@ impl<'a, D: Disk> Office<'a, D> {
 
     /// Serves the item of a session that waits for one. If eligibility has to be set aside first,
     /// there are two tries.
-    fn serve_pending(&mut self, alloc: Global, session: u32) -> Result<Place, Refusal>
+    pub(crate) fn serve_pending(&mut self, alloc: Global, session: u32) -> Result<Place, Refusal>
         requires pending { IsPendingThere self.old.plan (history self.old.marks) session }
         requires durable { IsDurable self.old.bank self.old.plan self.old }
         ensures steps { Steps (IsServedAlong self.old.bank self.old.plan self.old.base
@@ -74,24 +74,6 @@ impl<'a, D: Disk> Office<'a, D> {
                 _ => Ok(at),
             },
             Err(refusal) => Err(refusal),
-        }
-    }
-
-    /// Serves the item of a session, if it waits for one.
-    pub(crate) fn serve(&mut self, alloc: Global, session: u32, at: Place) -> Result<Place, Refusal>
-        requires at { place self.old.plan (history self.old.marks) session ≡ Some at }
-        requires durable { IsDurable self.old.bank self.old.plan self.old }
-        ensures steps { Steps (IsServedAlong self.old.bank self.old.plan self.old.base
-            (history self.old.marks) session) self.old self.new }
-        ensures served { IsServed self.old.bank self.old.plan self.old.base session
-            self.old self.new (refused_with result) }
-        ensures at { IfOk result (λ at. place self.new.plan (history self.new.marks) session
-            ≡ Some at) }
-        ensures settled { IfOk result IsSettled }
-    {
-        match at {
-            Place::Pending(_) => self.serve_pending(alloc, session),
-            _ => Ok(at),
         }
     }
 }
