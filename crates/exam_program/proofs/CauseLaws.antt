@@ -7,9 +7,9 @@ use Rattle.command_line.specs.Commands.{Command, Check, Assemble, Replay, Serve,
 use Rattle.exam_office.specs.declared.fault.OpenFault.{OpenFault}
 use Rattle.exam_program.specs.declared.halt.Halt.{Halt}
 use Rattle.exam_program.specs.declared.halt.Halt.TheVariants as halt
-use Rattle.exam_program.specs.Causes.{IsRefused, IsRefusedIn, Shows}
+use Rattle.exam_program.specs.Causes.{IsRead, IsRefused, IsRefusedIn, Shows}
 use Rattle.exam_program.specs.LinkWords.{IsLinkOf}
-use Rattle.exam_program.specs.Outcomes.{EndsAs, EndsBy, Halts, IsAuditOf, IsMigrationOf, IsReplayOf, IsStatusBefore}
+use Rattle.exam_program.specs.Outcomes.{EndsAs, EndsBy, Halts, IsAuditOf, IsMigrationOf, IsReady, IsReplayOf, IsStatusBefore}
 use Rattle.exam_program.specs.Outside.{DiskSeen, Outside}
 use Rattle.exam_program.specs.Replays.{IsJournalRefused, IsReadingRefused}
 use Rattle.exam_program.specs.Serves.{IsServeOf}
@@ -94,9 +94,32 @@ module _ (words : List (List ℕ)) (o : Outside) (b : Tables) (p : Plan) where
     refused = linked_in is.command is.is_linked o.disk fault so;
   }
 
+-- ---- a command that assembles the whole problem
+pub ready_is_read : (words : List (List ℕ)) (o : Outside) (command : Command) (b : Tables) (p : Plan) → command_of words ≡ Some command
+    → IsReady o.named o.content command b p → IsRead words o b p
+ready_is_read words o (Check bank plan) b p e ready = absurd ready
+ready_is_read words o (Assemble bank plan) b p e ready =
+    record { command = Assemble bank plan; bank = bank; plan = plan; asked = e; names = refl; reads = ready }
+ready_is_read words o (Replay bank plan name) b p e ready =
+    record { command = Replay bank plan name; bank = bank; plan = plan; asked = e; names = refl; reads = ready.0 }
+ready_is_read words o (Serve bank plan ahead) b p e ready =
+    record { command = Serve bank plan ahead; bank = bank; plan = plan; asked = e; names = refl; reads = ready }
+ready_is_read words o (Audit bank plan) b p e ready = absurd ready
+ready_is_read words o (Drill number sessions) b p e ready = absurd ready
+ready_is_read words o (Migrate bank plan) b p e ready = absurd ready
+ready_is_read words o (Series bank plan forms weights) b p e ready = absurd ready
+ready_is_read words o (Follow bank plan) b p e ready =
+    record { command = Follow bank plan; bank = bank; plan = plan; asked = e; names = refl; reads = ready }
+ready_is_read words o (Ship bank plan) b p e ready =
+    record { command = Ship bank plan; bank = bank; plan = plan; asked = e; names = refl; reads = ready }
+
 -- ---- a run that ended by a halt
 shows_so : (words : List (List ℕ)) (o : Outside) (told : Bool) (old new : List ℕ) (h : Halt) → Halts words o told old new h → Shows words o h
 shows_so words o told old new (halt.Journal fault) halts = halts.0
+shows_so words o told old new (halt.NoForm tree) halts = halts.0
+shows_so words o told old new (halt.NoBaseForm budget tree) halts = halts.0
+shows_so words o told old new (halt.NoSeries tree) halts = halts.0
+shows_so words o told old new (halt.NoSeriesFound budget tree) halts = halts.0
 shows_so words o told old new h halts = tt
 
 pub ends_as : {R : Type 0} (words : List (List ℕ)) (o : Outside) (told : Bool) (old new : List ℕ) (h : Halt) (status : ℕ) → Halts words o told old new h

@@ -473,8 +473,8 @@ linked_ready named content (Migrate x y) linked bank plan names b p reads = absu
 linked_ready named content (Series x y forms weights) linked bank plan names b p reads = absurd linked
 
 pub base_early : (b : Tables) (p : Plan) (h : Halt) → HaltsAtBase b p h → IsEarly h
-base_early b p (halt.NoForm text) is = tt
-base_early b p (halt.NoBaseForm text) is = tt
+base_early b p (halt.NoForm tree) is = tt
+base_early b p (halt.NoBaseForm budget tree) is = tt
 base_early b p halt.Memory is = tt
 base_early b p h is = absurd is
 

@@ -7,6 +7,7 @@ use Rattle.exam_edge.specs.Faults.{Rose}
 use Rattle.exam_edge.specs.Images.{Account}
 use Rattle.form_model.specs.Plan.{Plan}
 use Rattle.exam_lines.specs.Texts.{migrated_text}
+use Rattle.form_lines.specs.Texts.{no_series_within}
 use Rattle.exam_text.specs.Texts.{no_memory}
 use Rattle.history_model.specs.declared.request.Request.{Request}
 use Rattle.replay_cli.specs.Replies.{lines_of}
@@ -28,9 +29,9 @@ use Rattle.exam_office.specs.Opening.{IsReadAnswer}
 use Rattle.exam_program.specs.Migrations.{IsMigrationCutOff, IsMigrationDone, IsStillUnmoved, migration_halt}
 use Rattle.exam_program.specs.Replays.{IsLeftAt, IsReadingRefused}
 use Rattle.exam_program.specs.Stopping.{opening_halt, IsUnprinted, IsUnopened, refused, failed, out_of_memory, Stops, by_sessions, by_journal, by_disk, by_memory, by_sink, Finishes, IsReplayed, Halted}
-use Rattle.exam_program.specs.Texts.{bank_line, journal_text, usage}
+use Rattle.exam_program.specs.Texts.{bank_line, journal_text, no_base_form, usage}
 use Rattle.exam_program.specs.Writing.{IsWritten, WritesPart}
-use Rattle.exam_program.proofs.CauseLaws.{audit_refuses, migration_refuses, replay_refuses}
+use Rattle.exam_program.proofs.CauseLaws.{audit_refuses, migration_refuses, ready_is_read, replay_refuses}
 use Rattle.exam_program.specs.Outcomes.{series_answered, IsOver, IsReady, IsReplayOf, Outcome, faulty_words, bank_refused, plan_refused, script_refused, checked, form_found, without_form, without_base_form, journal_refused, replayed, sessions_full, journal_full, without_files, without_journal, without_disk, without_memory, without_more_memory, server_refused, server_without_journal, server_without_memory, IsAuditOf, audited, audit_refused, without_audit, drilled, IsMigrationOf, migrated, migration_refused, migration_full, without_migration, migration_without_memory, migrated_without_line, link_refused, link_without_journal, Prints, PrintsPart, PrintsBefore, PrintsBeforeText, Ends, LeavesJournal, as_found, at_opening, after_requests, server_at_opening, after_opening, after_migration, at_migration, link_at_opening, Halts, EndsBy, IsStatus}
 
 -- a count that rose later, rose
@@ -76,10 +77,15 @@ module _ (words : List (List ℕ)) (o : Outside) (told : Bool) (old : List ℕ) 
 
   pub halts_at_base : (command : Command) (b : Tables) (p : Plan) (h : Halt) → command_of words ≡ Some command
       → IsReady o.named o.content command b p → IsUntouched o.disk → HaltsAtBase b p h → Halts words o told old old h
-  halts_at_base command b p (halt.NoForm text) e ready untouched is =
-      nothing_before 11 text.items (subst (λ (t : List ℕ). Outcome words o 11 t) (sym is.2) (without_form command b p is.0 e ready is.1 untouched))
-  halts_at_base command b p (halt.NoBaseForm text) e ready untouched is =
-      nothing_before 12 text.items (subst (λ (t : List ℕ). Outcome words o 12 t) (sym is.2) (without_base_form command b p is.0 e ready is.1 untouched))
+  halts_at_base command b p (halt.NoForm tree) e ready untouched is = (
+    (b, p, ready_is_read words o command b p e ready, is),
+    (nothing_before 11 _ (without_form command b p tree e ready is untouched), nothing_before 10 _ (without_memory untouched)),
+  )
+  halts_at_base command b p (halt.NoBaseForm budget tree) e ready untouched is =
+      let ends : Outcome words o 12 (no_base_form budget tree) = subst (λ (n : ℕ). Outcome words o 12 (no_base_form n tree)) (sym is.0) (without_base_form command b p tree e ready is.1 untouched) in (
+        (b, p, ready_is_read words o command b p e ready, is.0, is.1),
+        (nothing_before 12 _ ends, nothing_before 10 _ (without_memory untouched)),
+      )
   halts_at_base command b p halt.Memory e ready untouched is = nothing_before 10 _ (without_memory untouched)
   halts_at_base command b p h e ready untouched is = absurd is
 
@@ -167,10 +173,15 @@ module _ (words : List (List ℕ)) (o : Outside) (told : Bool) (old : List ℕ) 
   module _ (b : Tables) (p : Plan) (forms : ℕ) (weights : List ℕ) (is : IsSeriesOf words o b p forms weights) (untouched : IsUntouched o.disk) where
     pub halts_at_series : (h : Halt) → HaltsAtSeries b p forms weights h → Halts words o told old old h
     halts_at_series halt.Weights none = nothing_before 16 _ (series_answered b p forms weights 16 _ is (weights_not_taken none) untouched)
-    halts_at_series (halt.NoSeries text) shows =
-        nothing_before 17 text.items (subst (λ (t : List ℕ). Outcome words o 17 t) (sym shows.1.2) (series_answered b p forms weights 17 _ is (without_series shows.1.0 shows.0 shows.1.1) untouched))
-    halts_at_series (halt.NoSeriesFound text) shows =
-        nothing_before 18 text.items (subst (λ (t : List ℕ). Outcome words o 18 t) (sym shows.1.2) (series_answered b p forms weights 18 _ is (series_not_found shows.1.0 shows.0 shows.1.1) untouched))
+    halts_at_series (halt.NoSeries tree) shows = (
+      (b, p, forms, weights, is, shows.1),
+      (nothing_before 17 _ (series_answered b p forms weights 17 _ is (without_series tree shows.0 shows.1) untouched), nothing_before 10 _ (without_memory untouched)),
+    )
+    halts_at_series (halt.NoSeriesFound budget tree) shows =
+        let ends : Outcome words o 18 (no_series_within budget tree) = subst (λ (n : ℕ). Outcome words o 18 (no_series_within n tree)) (sym shows.1) (series_answered b p forms weights 18 _ is (series_not_found tree shows.0 shows.2) untouched) in (
+          (b, p, forms, weights, is, shows.1, shows.2),
+          (nothing_before 18 _ ends, nothing_before 10 _ (without_memory untouched)),
+        )
     halts_at_series halt.Memory shows = nothing_before 10 _ (without_memory untouched)
     halts_at_series h shows = absurd shows
 
@@ -307,8 +318,10 @@ ends_by (halt.Plan fault) status (inl e) = also 4 status e (3, omega arith, refl
 ends_by (halt.Plan fault) status (inr e) = also 10 status e is_10
 ends_by (halt.Script fault) status (inl e) = also 5 status e (4, omega arith, refl)
 ends_by (halt.Script fault) status (inr e) = also 10 status e is_10
-ends_by (halt.NoForm text) status e = also 11 status e (10, omega arith, refl)
-ends_by (halt.NoBaseForm text) status e = also 12 status e (11, omega arith, refl)
+ends_by (halt.NoForm tree) status (inl e) = also 11 status e (10, omega arith, refl)
+ends_by (halt.NoForm tree) status (inr e) = also 10 status e is_10
+ends_by (halt.NoBaseForm budget tree) status (inl e) = also 12 status e (11, omega arith, refl)
+ends_by (halt.NoBaseForm budget tree) status (inr e) = also 10 status e is_10
 ends_by (halt.Journal fault) status (inl e) = also 6 status e (5, omega arith, refl)
 ends_by (halt.Journal fault) status (inr e) = also 10 status e is_10
 ends_by (halt.Sessions count most) status (inl e) = also 13 status e is_13
@@ -316,8 +329,10 @@ ends_by (halt.Sessions count most) status (inr e) = also 10 status e is_10
 ends_by (halt.JournalFull size most) status (inl e) = also 13 status e is_13
 ends_by (halt.JournalFull size most) status (inr e) = also 10 status e is_10
 ends_by halt.Weights status e = also 16 status e (13, omega arith, refl)
-ends_by (halt.NoSeries text) status e = also 17 status e (14, omega arith, refl)
-ends_by (halt.NoSeriesFound text) status e = also 18 status e (15, omega arith, refl)
+ends_by (halt.NoSeries tree) status (inl e) = also 17 status e (14, omega arith, refl)
+ends_by (halt.NoSeries tree) status (inr e) = also 10 status e is_10
+ends_by (halt.NoSeriesFound budget tree) status (inl e) = also 18 status e (15, omega arith, refl)
+ends_by (halt.NoSeriesFound budget tree) status (inr e) = also 10 status e is_10
 ends_by halt.Files status e = also 7 status e (6, omega arith, refl)
 ends_by halt.Disk status e = also 9 status e (8, omega arith, refl)
 ends_by halt.Sink status e = also 8 status e is_8

@@ -3,7 +3,6 @@ use Rattle.std.specs.Prelude.{◌≡◌, ℕ, ◌≤◌, Bool, IsTrue, List, len
 use Rattle.bank_tables.specs.Tables.{Tables}
 use Rattle.bank_reader.specs.Reading.{bank_of}
 use Rattle.form_model.specs.Plan.{Plan as Numbers}
-use Rattle.certificate_model.specs.ProofTrees.{ProofTree}
 use Rattle.form_model.specs.Validity.{IsPlanFor}
 use Rattle.spec_reader.specs.declared.plan_fault.PlanFault.{PlanFault}
 use Rattle.spec_reader.specs.declared.plan_fault.PlanFault.TheVariants as fault
@@ -15,7 +14,6 @@ use Rattle.exam_program.specs.declared.halt.Halt.{Halt}
 use Rattle.exam_program.specs.declared.halt.Halt.TheVariants.{Bank, Plan, Script, NoForm, NoBaseForm, Weights, NoSeries, NoSeriesFound, Files, Sink, Memory}
 use Rattle.exam_program.specs.Bases.{ShowsNoForm, ShowsNoBase}
 use Rattle.exam_program.specs.ItemSets.{HasItemSets}
-use Rattle.exam_program.specs.Texts.{no_form, no_base_form}
 
 -- the bank text is there and refused with this fault, unless its files failed or memory ran out
 abbrev pub HaltsAtBank : Bool → List ℕ → Halt → Type 0
@@ -78,12 +76,11 @@ HaltsAtScript there text Files = Unit {0}
 HaltsAtScript there text Memory = Unit {0}
 HaltsAtScript there text halt = ⊥
 
--- the whole problem has no form, or none was found within the base budget, with the text that has
--- the tree, unless memory ran out
+-- the whole problem has no form, or none was found within the base budget, which the tree shows,
+-- unless memory ran out
 abbrev pub HaltsAtBase : Tables → Numbers → Halt → Type 0
-HaltsAtBase b plan (NoForm text) = (T : ProofTree) × ShowsNoForm b plan T × (text.items ≡ no_form T)
-HaltsAtBase b plan (NoBaseForm text) =
-    (T : ProofTree) × ShowsNoBase b plan T × (text.items ≡ no_base_form plan.base_budget T)
+HaltsAtBase b plan (NoForm T) = ShowsNoForm b plan T
+HaltsAtBase b plan (NoBaseForm budget T) = (budget ≡ plan.base_budget) × ShowsNoBase b plan T
 HaltsAtBase b plan Memory = Unit {0}
 HaltsAtBase b plan halt = ⊥
 
@@ -92,11 +89,11 @@ abbrev pub IsBeforeJournal : Halt → Type 0
 IsBeforeJournal (Bank fault) = Unit {0}
 IsBeforeJournal (Plan fault) = Unit {0}
 IsBeforeJournal (Script fault) = Unit {0}
-IsBeforeJournal (NoForm text) = Unit {0}
-IsBeforeJournal (NoBaseForm text) = Unit {0}
+IsBeforeJournal (NoForm T) = Unit {0}
+IsBeforeJournal (NoBaseForm budget T) = Unit {0}
 IsBeforeJournal Weights = Unit {0}
-IsBeforeJournal (NoSeries text) = Unit {0}
-IsBeforeJournal (NoSeriesFound text) = Unit {0}
+IsBeforeJournal (NoSeries T) = Unit {0}
+IsBeforeJournal (NoSeriesFound budget T) = Unit {0}
 IsBeforeJournal Files = Unit {0}
 IsBeforeJournal halt = ⊥
 

@@ -24,7 +24,7 @@ use Rattle.history_model.specs.declared.summary.Summary.{Summary}
 use Rattle.exam_drill.specs.Drills.{IsSummaryOfDrill}
 use Rattle.exam_drill.specs.Texts.{drill_text}
 use Rattle.exam_lines.specs.Texts.{summary_text, migrated_text}
-use Rattle.form_lines.specs.Texts.{weights_refused}
+use Rattle.form_lines.specs.Texts.{weights_refused, no_series, no_series_within}
 use Rattle.journal_audit.specs.Audit.{IsAudit}
 use Rattle.exam_office.specs.Noting.{NotedMark}
 use Rattle.exam_office.specs.declared.fault.OpenFault.{OpenFault}
@@ -309,8 +309,10 @@ Halts words o told old new (halt.Plan fault) =
     PrintsBeforeText words o told old new 4 (plan_text fault)
 Halts words o told old new (halt.Script fault) =
     PrintsBeforeText words o told old new 5 (script_text fault)
-Halts words o told old new (halt.NoForm text) = PrintsBefore words o told old new 11 text.items
-Halts words o told old new (halt.NoBaseForm text) = PrintsBefore words o told old new 12 text.items
+Halts words o told old new (halt.NoForm T) =
+    Shows words o (halt.NoForm T) × PrintsBeforeText words o told old new 11 (no_form T)
+Halts words o told old new (halt.NoBaseForm budget T) = Shows words o (halt.NoBaseForm budget T)
+    × PrintsBeforeText words o told old new 12 (no_base_form budget T)
 Halts words o told old new (halt.Journal fault) =
     IsRefused words o fault × PrintsBeforeText words o told old new 6 (journal_text fault)
 Halts words o told old new (halt.Sessions count most) =
@@ -318,9 +320,11 @@ Halts words o told old new (halt.Sessions count most) =
 Halts words o told old new (halt.JournalFull size most) =
     PrintsBeforeText words o told old new 13 (journal_limit size most)
 Halts words o told old new halt.Weights = PrintsBefore words o told old new 16 weights_refused
-Halts words o told old new (halt.NoSeries text) = PrintsBefore words o told old new 17 text.items
-Halts words o told old new (halt.NoSeriesFound text) =
-    PrintsBefore words o told old new 18 text.items
+Halts words o told old new (halt.NoSeries T) =
+    Shows words o (halt.NoSeries T) × PrintsBeforeText words o told old new 17 (no_series T)
+Halts words o told old new (halt.NoSeriesFound budget T) =
+    Shows words o (halt.NoSeriesFound budget T)
+    × PrintsBeforeText words o told old new 18 (no_series_within budget T)
 Halts words o told old new halt.Files = PrintsBefore words o told old new 7 files_failed
 Halts words o told old new halt.Disk = PrintsBefore words o told old new 9 disk_failed
 Halts words o told old new halt.Memory = PrintsBefore words o told old new 10 no_memory
@@ -331,14 +335,14 @@ abbrev pub EndsBy : Halt → ℕ → Type 0
 EndsBy (halt.Bank fault) status = (status ≡ 3) ⊎ (status ≡ 10)
 EndsBy (halt.Plan fault) status = (status ≡ 4) ⊎ (status ≡ 10)
 EndsBy (halt.Script fault) status = (status ≡ 5) ⊎ (status ≡ 10)
-EndsBy (halt.NoForm text) status = status ≡ 11
-EndsBy (halt.NoBaseForm text) status = status ≡ 12
+EndsBy (halt.NoForm T) status = (status ≡ 11) ⊎ (status ≡ 10)
+EndsBy (halt.NoBaseForm budget T) status = (status ≡ 12) ⊎ (status ≡ 10)
 EndsBy (halt.Journal fault) status = (status ≡ 6) ⊎ (status ≡ 10)
 EndsBy (halt.Sessions count most) status = (status ≡ 13) ⊎ (status ≡ 10)
 EndsBy (halt.JournalFull size most) status = (status ≡ 13) ⊎ (status ≡ 10)
 EndsBy halt.Weights status = status ≡ 16
-EndsBy (halt.NoSeries text) status = status ≡ 17
-EndsBy (halt.NoSeriesFound text) status = status ≡ 18
+EndsBy (halt.NoSeries T) status = (status ≡ 17) ⊎ (status ≡ 10)
+EndsBy (halt.NoSeriesFound budget T) status = (status ≡ 18) ⊎ (status ≡ 10)
 EndsBy halt.Files status = status ≡ 7
 EndsBy halt.Disk status = status ≡ 9
 EndsBy halt.Memory status = status ≡ 10

@@ -129,12 +129,12 @@ place_of _ = None
 -- what an operator reads of a halt, if its line on standard output leaves something to be said
 unfoldable pub halt_words : Halt → Option (List ℕ)
 halt_words (halt.Journal why) = Some (fault_words why)
-halt_words (halt.NoForm text) =
+halt_words (halt.NoForm T) =
     Some (codes "there is no form: tools/explain.py BANK PLAN names the rules that allow none")
-halt_words (halt.NoBaseForm text) = Some (codes
+halt_words (halt.NoBaseForm budget T) = Some (codes
     "no base form was found: raise base-budget or name a base form in the plan, or loosen rules")
-halt_words (halt.NoSeries text) = Some (codes
+halt_words (halt.NoSeries T) = Some (codes
     "there is no series: tools/explain.py BANK PLAN --series K names the rules that allow none")
-halt_words (halt.NoSeriesFound text) =
+halt_words (halt.NoSeriesFound budget T) =
     Some (codes "no series was found: raise base-budget in the plan, or loosen rules")
 halt_words _ = None

@@ -49,8 +49,8 @@ pub data AnswersSeries (b : Tables) (p : Plan) (forms : ℕ)
 -- why there is no series to print, or that memory ran out
 abbrev pub HaltsAtSeries : Tables → Plan → ℕ → List ℕ → Halt → Type 0
 HaltsAtSeries b p forms weights Weights = IsEnd b p weights forms ends.Weights
-HaltsAtSeries b p forms weights (NoSeries text) = IsEnd b p weights forms (ends.NoSeries text)
-HaltsAtSeries b p forms weights (NoSeriesFound text) =
-    IsEnd b p weights forms (ends.NoneFound text)
+HaltsAtSeries b p forms weights (NoSeries T) = IsEnd b p weights forms (ends.NoSeries T)
+HaltsAtSeries b p forms weights (NoSeriesFound budget T) =
+    IsEnd b p weights forms (ends.NoneFound budget T)
 HaltsAtSeries b p forms weights Memory = Unit {0}
 HaltsAtSeries b p forms weights halt = ⊥

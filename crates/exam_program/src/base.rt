@@ -1,15 +1,15 @@
 //! The assembly of the whole problem, and the base form.
 
-ghost use Rattle.std.specs.Prelude.{◌≡◌, IfOk, IfErr};
+ghost use Rattle.std.specs.Prelude.{IfOk, IfErr};
 ghost use Rattle.bank_tables.specs.Items.{has};
 ghost use Rattle.constraint_model.specs.Views.{problem_of};
 ghost use Rattle.form_model.specs.Forms.{Meets};
-ghost use Rattle.form_model.specs.Validity.{IsPlanFor};
+ghost use Rattle.form_model.specs.Validity.{IsPlanFor, IsWellMade};
 ghost use Rattle.exam_program.specs.Bases.{IsWholeAssembly, FindsForm, IsBaseForm, TellsForm};
 ghost use Rattle.exam_program.specs.Halts.{HaltsAtBase};
 
 use crate::halt::Halt;
-use crate::tree_texts::{form_text, no_base_form_text, no_form_text};
+use crate::tree_texts::form_text;
 use bank_tables::{Bank, ItemSet};
 use branch_bound::{Assembled, Memory, Outcome, assemble};
 use constraint_model::{Problem, Spec};
@@ -30,30 +30,28 @@ fn whole_assembly<'a>(
     assemble(alloc, problem, base.as_ref(), spec.base_budget() as u16)
 }
 
-/// The form that the assembly of the whole problem found, with whether it is proved best, or why it found none.
+/// An assembly of the whole problem that found a form, the form, and whether it is proved best; or why none was found.
 fn found_form<'a>(
     alloc: Global,
     bank: &'a Bank,
     spec: &'a Spec,
-    assembled: &Assembled<'a>,
-) -> Result<(ItemSet, bool), Halt>
+) -> Result<(Assembled<'a>, ItemSet, bool), Halt>
     requires plan { IsPlanFor bank.now spec.now }
-    requires assembly { IsWholeAssembly bank.now spec.now
-        (problem_of assembled.now.problem) assembled.now.tree assembled.now.outcome }
-    ensures found { IfOk result
-        (λ found. FindsForm bank.now spec.now
-        (problem_of assembled.now.problem) found.0 found.1 assembled.now.tree) }
+    ensures found { IfOk result (λ found. FindsForm bank.now spec.now
+        (problem_of found.0.problem) found.1 found.2 found.0.tree) }
+    ensures well_made { IfOk result (λ found. IsWellMade (problem_of found.0.problem)) }
     ensures halts { IfErr result (HaltsAtBase bank.now spec.now) }
 {
+    let assembled = whole_assembly(alloc, bank, spec)?;
     // `nodes` gives that the tree has a spelling.
     let _nodes = assembled.tree().nodes();
     match assembled.outcome() {
-        Outcome::Found { form, proved } => Ok((form, proved)),
-        Outcome::NoForm => Err(Halt::NoForm(no_form_text(alloc, assembled.tree())?)),
-        Outcome::NoneFound => {
-            let text = no_base_form_text(alloc, spec.base_budget(), assembled.tree())?;
-            Err(Halt::NoBaseForm(text))
-        }
+        Outcome::Found { form, proved } => Ok((assembled, form, proved)),
+        Outcome::NoForm => Err(Halt::NoForm(assembled.into_tree())),
+        Outcome::NoneFound => Err(Halt::NoBaseForm {
+            budget: spec.base_budget(),
+            tree: assembled.into_tree(),
+        }),
     }
 }
 
@@ -67,9 +65,8 @@ pub(crate) fn base_form<'a>(alloc: Global, bank: &'a Bank, spec: &'a Spec) -> Re
     if let Some(base) = spec.base() {
         return Ok(base);
     }
-    let assembled = whole_assembly(alloc, bank, spec)?;
-    let found = found_form(alloc, bank, spec, &assembled)?;
-    Ok(found.0)
+    let found = found_form(alloc, bank, spec)?;
+    Ok(found.1)
 }
 
 /// The text of the assembly of the whole problem.
@@ -82,14 +79,7 @@ pub(crate) fn assembly_text<'a>(
     ensures text { IfOk result (λ text. TellsForm bank.now spec.now text.items) }
     ensures halts { IfErr result (HaltsAtBase bank.now spec.now) }
 {
-    let assembled = whole_assembly(alloc, bank, spec)?;
-    let found = found_form(alloc, bank, spec, &assembled)?;
-    let text = form_text(
-        alloc,
-        assembled.problem(),
-        &found.0,
-        found.1,
-        assembled.tree(),
-    )?;
+    let (assembled, form, proved) = found_form(alloc, bank, spec)?;
+    let text = form_text(alloc, assembled.problem(), &form, proved, assembled.tree())?;
     Ok(text)
 }

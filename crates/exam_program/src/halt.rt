@@ -5,11 +5,13 @@ ghost use Rattle.exam_program.specs.declared.halt.Halt.TheVariants.{Memory};
 
 use bank_reader::ReadFault;
 use exam_office::OpenFault;
+use proof_tree::Tree;
 use replay_cli::ScriptFault;
+use series_tree::SeriesTree;
 use spec_reader::PlanFault;
 use std::alloc::AllocError;
 
-/// The first fault that is met.
+/// The first fault that is met, with the facts that it has. `report` makes its text.
 #[derive(Drop)]
 pub enum Halt {
     /// The bank text is refused.
@@ -18,10 +20,10 @@ pub enum Halt {
     Plan(PlanFault),
     /// The script text is refused.
     Script(ScriptFault),
-    /// No set of items is a form of the whole problem: the text to print, with the tree that shows it.
-    NoForm(Vec<u8>),
-    /// No form of the whole problem was found within the base budget: the text to print, with the tree that spends it.
-    NoBaseForm(Vec<u8>),
+    /// No set of items is a form of the whole problem: the tree that shows it.
+    NoForm(Tree),
+    /// No form of the whole problem was found within the base budget, in nodes: the tree that spends it.
+    NoBaseForm { budget: u32, tree: Tree },
     /// The journal's file represents no history of this bank and plan, is too long, or is of a version that this command does
     /// not take.
     Journal(OpenFault),
@@ -31,10 +33,10 @@ pub enum Halt {
     JournalFull { size: u64, most: u64 },
     /// The weights of a series are not those of the grid's points.
     Weights,
-    /// There is no series: the text to print, with the tree that shows it.
-    NoSeries(Vec<u8>),
-    /// No series was found within the base budget: the text to print, with the tree that spends it.
-    NoSeriesFound(Vec<u8>),
+    /// There is no series: the tree that shows it.
+    NoSeries(SeriesTree),
+    /// No series was found within the base budget, in nodes: the tree that spends it.
+    NoSeriesFound { budget: u32, tree: SeriesTree },
     /// A call of the files failed.
     Files,
     /// A call of the sink failed.

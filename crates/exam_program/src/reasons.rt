@@ -237,7 +237,7 @@ pub fn halt_words(alloc: Global, halt: &Halt) -> Result<Option<String>, AllocErr
             alloc,
             "there is no form: tools/explain.py BANK PLAN names the rules that allow none",
         )?,
-        Halt::NoBaseForm(_) => String::from_str(
+        Halt::NoBaseForm { .. } => String::from_str(
             alloc,
             "no base form was found: raise base-budget or name a base form in the plan, or loosen rules",
         )?,
@@ -245,7 +245,7 @@ pub fn halt_words(alloc: Global, halt: &Halt) -> Result<Option<String>, AllocErr
             alloc,
             "there is no series: tools/explain.py BANK PLAN --series K names the rules that allow none",
         )?,
-        Halt::NoSeriesFound(_) => String::from_str(
+        Halt::NoSeriesFound { .. } => String::from_str(
             alloc,
             "no series was found: raise base-budget in the plan, or loosen rules",
         )?,

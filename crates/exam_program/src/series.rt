@@ -28,8 +28,8 @@ fn halt_of_series(end: SeriesEnd) -> Halt
 {
     match end {
         SeriesEnd::Weights => Halt::Weights,
-        SeriesEnd::NoSeries(text) => Halt::NoSeries(text),
-        SeriesEnd::NoneFound(text) => Halt::NoSeriesFound(text),
+        SeriesEnd::NoSeries(tree) => Halt::NoSeries(tree),
+        SeriesEnd::NoneFound { budget, tree } => Halt::NoSeriesFound { budget, tree },
         SeriesEnd::Memory => Halt::Memory,
     }
 }

@@ -14,7 +14,7 @@ use Rattle.form_series.specs.Orders.{IsInOrder}
 use Rattle.form_series.specs.SeriesBounds.{IsBoundOf}
 use Rattle.form_lines.specs.declared.answer.SeriesEnd.{SeriesEnd}
 use Rattle.form_lines.specs.declared.answer.SeriesEnd.TheVariants.{Weights, NoSeries, NoneFound, Memory}
-use Rattle.form_lines.specs.Texts.{series_text, no_series, no_series_within}
+use Rattle.form_lines.specs.Texts.{series_text}
 
 -- each point of the grid has a weight, and one is above 0
 abbrev pub AreWeightsFor : Tables → List ℕ → Type 0
@@ -62,10 +62,8 @@ pub record ShowsNoneFound (Q : SeriesProblem) (T : Certificate) : Type 0 where
 -- why there is no series to print
 abbrev pub IsEnd : Tables → Plan → List ℕ → ℕ → SeriesEnd → Type 0
 IsEnd b plan weights forms Weights = AreWeightsFor b weights → ⊥
-IsEnd b plan weights forms (NoSeries text) = AreWeightsFor b weights
-    × ((T : Certificate) × ShowsNoSeries (series_problem b plan weights forms) T
-    × (text.items ≡ no_series T))
-IsEnd b plan weights forms (NoneFound text) = AreWeightsFor b weights
-    × ((T : Certificate) × ShowsNoneFound (series_problem b plan weights forms) T
-    × (text.items ≡ no_series_within plan.base_budget T))
+IsEnd b plan weights forms (NoSeries T) =
+    AreWeightsFor b weights × ShowsNoSeries (series_problem b plan weights forms) T
+IsEnd b plan weights forms (NoneFound budget T) = AreWeightsFor b weights
+    × (budget ≡ plan.base_budget) × ShowsNoneFound (series_problem b plan weights forms) T
 IsEnd b plan weights forms Memory = Unit {0}

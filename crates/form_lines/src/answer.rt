@@ -9,11 +9,12 @@ ghost use Rattle.form_series.specs.SeriesBounds.{IsBoundOf};
 ghost use Rattle.series_outcome.specs.Assemblies.{IsShown, IsTrueOutcome};
 ghost use Rattle.form_lines.specs.Answers.{AreWeightsFor, series_problem, TellsSeries, IsEnd};
 
-use crate::series::{no_series_text, none_found_text, series_text};
+use crate::series::series_text;
 use bank_tables::Bank;
 use constraint_model::Spec;
 use form_series::{AssembledSeries, SeriesOutcome, assemble_series};
 use series_check::{Setting, series_value};
+use series_tree::SeriesTree;
 use std::alloc::{AllocError, Global};
 
 /// Why there is no series to print.
@@ -21,10 +22,10 @@ use std::alloc::{AllocError, Global};
 pub enum SeriesEnd {
     /// The weights are not those of the grid's points: they are another number, or all are 0.
     Weights,
-    /// There is no series: the line to print, with the tree that shows it.
-    NoSeries(Vec<u8>),
-    /// No series was found within the base budget: the line to print, with the tree that spends it.
-    NoneFound(Vec<u8>),
+    /// There is no series: the tree that shows it.
+    NoSeries(SeriesTree),
+    /// No series was found within the base budget, in nodes: the tree that spends it.
+    NoneFound { budget: u32, tree: SeriesTree },
     /// Out of memory.
     Memory,
 }
@@ -63,15 +64,15 @@ fn are_weights_for(bank: &Bank, weights: &[u32]) -> bool
 fn lines_of(
     alloc: Global,
     setting: &Setting,
-    assembled: &AssembledSeries,
+    assembled: AssembledSeries,
 ) -> Result<Vec<u8>, SeriesEnd>
     requires problem { IsSeriesProblem (problem_of setting.now) }
     requires weights { AreWeightsFor setting.now.bank.now setting.now.weights.now }
-    requires shown { IsShown (problem_of setting.now) assembled.now.tree
-        setting.now.spec.now.base_budget assembled.now.outcome }
-    requires is_true { IsTrueOutcome (problem_of setting.now) assembled.now.outcome }
-    requires order { IsInOrder (problem_of setting.now) assembled.now.outcome }
-    requires bound { IsBoundOf (problem_of setting.now) assembled.now.outcome assembled.now.bound }
+    requires shown { IsShown (problem_of setting.now) assembled.tree
+        setting.now.spec.now.base_budget assembled.outcome }
+    requires is_true { IsTrueOutcome (problem_of setting.now) assembled.outcome }
+    requires order { IsInOrder (problem_of setting.now) assembled.outcome }
+    requires bound { IsBoundOf (problem_of setting.now) assembled.outcome assembled.bound }
     ensures lines { IfOk result (λ text. TellsSeries (problem_of setting.now) text.items) }
     ensures ends { IfErr result (IsEnd setting.now.bank.now setting.now.spec.now
         setting.now.weights.now setting.now.forms) }
@@ -87,13 +88,13 @@ fn lines_of(
         SeriesOutcome::Found { forms, proved } => {
             let sets = forms.as_slice();
             let value = series_value(setting, sets);
-            let text = series_text(alloc, setting, sets, value, *proved, tree, bound)?;
+            let text = series_text(alloc, setting, sets, value, proved, &tree, &bound)?;
             Ok(text)
         }
-        SeriesOutcome::NoSeries => Err(SeriesEnd::NoSeries(no_series_text(alloc, tree)?)),
+        SeriesOutcome::NoSeries => Err(SeriesEnd::NoSeries(tree)),
         SeriesOutcome::NoneFound => {
-            let text = none_found_text(alloc, setting.spec.base_budget(), tree)?;
-            Err(SeriesEnd::NoneFound(text))
+            let budget = setting.spec.base_budget();
+            Err(SeriesEnd::NoneFound { budget, tree })
         }
     }
 }
@@ -130,5 +131,5 @@ pub fn series_lines(
         weights,
         forms,
     };
-    lines_of(alloc, &setting, &assembled)
+    lines_of(alloc, &setting, assembled)
 }

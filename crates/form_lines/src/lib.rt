@@ -9,3 +9,4 @@ mod series;
 
 pub use answer::{SeriesEnd, series_lines};
 pub use items::{mark_text, push_items};
+pub use series::{no_series_text, none_found_text};

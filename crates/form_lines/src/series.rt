@@ -90,9 +90,9 @@ pub(crate) fn series_text(
     Ok(text)
 }
 
-/// The line where there is no series.
+/// The line where there is no series: the tree shows it. The only error is lack of memory.
 #[tactic(auto, unfolding(crate::specs::Texts::no_series))]
-pub(crate) fn no_series_text(alloc: Global, tree: &SeriesTree) -> Result<Vec<u8>, Memory>
+pub fn no_series_text(alloc: Global, tree: &SeriesTree) -> Result<Vec<u8>, Memory>
     ensures { IfOk result (λ text. text.items ≡ no_series tree.now) }
 {
     let mut text = Vec::new(alloc);
@@ -101,13 +101,9 @@ pub(crate) fn no_series_text(alloc: Global, tree: &SeriesTree) -> Result<Vec<u8>
     Ok(text)
 }
 
-/// The line where no series was found within so many nodes.
+/// The line where no series was found within so many nodes: the tree spends them. The only error is lack of memory.
 #[tactic(auto, unfolding(crate::specs::Texts::no_series_within))]
-pub(crate) fn none_found_text(
-    alloc: Global,
-    budget: u32,
-    tree: &SeriesTree,
-) -> Result<Vec<u8>, Memory>
+pub fn none_found_text(alloc: Global, budget: u32, tree: &SeriesTree) -> Result<Vec<u8>, Memory>
     ensures { IfOk result (λ text. text.items ≡ no_series_within budget tree.now) }
 {
     let mut text = Vec::new(alloc);

@@ -7,4 +7,4 @@ pub returns-in-Some-clause-base : goal.returns-in-Some-clause-base
 returns-in-Some-clause-base c = of_plan c.in-Some.base (sym c.base.ensures ∙ c.in-Some.is)
 
 pub returns-clause-base : goal.returns-clause-base
-returns-clause-base c = assembled (problem_of c.in_ok-assembled.assembled.problem) c.in_ok-found.found.0 c.in_ok-found.found.1 c.in_ok-assembled.assembled.tree (sym c.base.ensures ∙ c.in_default.is) c.in_ok-found.ensures.found
+returns-clause-base c = assembled (problem_of c.in_ok-found.found.0.problem) c.in_ok-found.found.1 c.in_ok-found.found.2 c.in_ok-found.found.0.tree (sym c.base.ensures ∙ c.in_default.is) c.in_ok-found.ensures.found
