@@ -4,6 +4,7 @@ ghost use Rattle.std.specs.Prelude.{◌≡◌};
 ghost use Rattle.exam_hall.specs.Known.{IsOf};
 ghost use Rattle.prepare_desk.specs.Posts.{IsPostOf};
 
+use crate::key::Key;
 use crate::post::Post;
 use exam_edge::{Disk, Gate};
 use exam_hall::Hall;
@@ -16,7 +17,8 @@ use turn_lock::Pass;
 
 /// A caller of a hall: it answers requests with a pass of its own. By its type the pass is of the hall, and the place is at a desk
 /// of the hall. Its gate is also the observer, which is told how the examination is after each response. Where it prepares, it
-/// then assembles the next forms of the session of its last reply, if an item of that waits for its answer.
+/// then assembles the next forms of the session of its last reply, if an item of that waits for its answer, and nothing is
+/// ready for the first response to it.
 #[derive(Drop)]
 pub struct PreparingCaller<'h, 'a, D: Disk, G: Gate + Observer> {
     hall: &'h Hall<'a, D>,
@@ -24,7 +26,7 @@ pub struct PreparingCaller<'h, 'a, D: Disk, G: Gate + Observer> {
     pass: Pass<Office<'a, D>>,
     post: Post<'h, 'a>,
     prepares: bool,
-    awaits: Option<u32>,
+    awaits: Option<Key>,
 }
 
 impl<'h, 'a, D: Disk, G: Gate + Observer> Model for PreparingCaller<'h, 'a, D, G> {
@@ -38,14 +40,18 @@ impl<'h, 'a, D: Disk, G: Gate + Observer> Model for PreparingCaller<'h, 'a, D, G
     ghost invariant = { λ c. IsOf c.pass c.hall.now × IsPostOf c.hall.now c.post };
 }
 
-/// The session of a reply, if an item of it waits for its answer.
-fn awaiting(reply: &Reply) -> Option<u32> {
+/// The first response to the item of a reply, if that item waits for its answer.
+fn awaiting(reply: &Reply) -> Option<Key> {
     match reply {
         Reply::At {
             session,
-            place: Place::Waiting { .. },
+            place: Place::Waiting { step, .. },
             ..
-        } => Some(*session),
+        } => Some(Key {
+            session: *session,
+            step: *step,
+            response: 0,
+        }),
         _ => None,
     }
 }
@@ -130,8 +136,9 @@ impl<'h, 'a, D: Disk, G: Gate + Observer> Handler for PreparingCaller<'h, 'a, D,
     fn idle<R: Wait + Sync>(&mut self, rt: &R, alloc: Global) {
         let health = self.hall.health(rt, &mut self.pass);
         self.gate.see(&health);
-        if let Some(session) = self.awaits {
-            if self.prepares {
+        if let Some(first) = self.awaits {
+            if self.prepares && !self.post.has(rt, first) {
+                let session = first.session;
                 // Without memory fewer forms are ready, and nothing else changes.
                 let _ = self
                     .post

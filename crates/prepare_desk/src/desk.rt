@@ -1,8 +1,9 @@
 //! The desk.
 
-ghost use Rattle.std.specs.Prelude.{◌≡◌, ◌<◌, ◌≤◌, [], ◌∷◌, length, map, IfOk, IfSome, OnErr};
+ghost use Rattle.std.specs.Prelude.{◌≡◌, ◌<◌, ◌≤◌, [], ◌∷◌, is_some, length, map, IfOk, IfSome, OnErr, OnOk};
 ghost use Rattle.exam_hall.specs.Prepared.{IsPrepared};
-ghost use Rattle.prepare_desk.specs.Desks.{IsReadyFor};
+ghost use Rattle.lru.specs.LruCache.{lru_cache, put_entries};
+ghost use Rattle.prepare_desk.specs.Desks.{IsReadyFor, is_key, left_at, made_of, put_for, ready_at, without};
 
 use crate::key::Key;
 use bank_tables::{Bank, ItemSet};
@@ -91,7 +92,8 @@ impl<'a> Desk<'a> {
 
     /// Takes the result of an assembly out.
     fn take_made(&mut self, key: Key) -> Option<Assembled<'a>>
-        ensures purpose { self.new.purpose ≡ self.old.purpose }
+        ensures made { result ≡ made_of (put_for self.old.results key) }
+        ensures left { self.new ≡ record self.old { results = without self.old.results key } }
         ensures prepared { IfSome result (IsPrepared self.old.purpose.bank
             self.old.purpose.plan self.old.purpose.base) }
     {
@@ -105,7 +107,8 @@ impl<'a> Desk<'a> {
     /// Takes out what is ready for an answer, and the result that it is. There is none unless it was
     /// put, and not displaced since.
     pub fn take(&mut self, key: Key) -> Option<Assembled<'a>>
-        ensures purpose { self.new.purpose ≡ self.old.purpose }
+        ensures ready { result ≡ ready_at self.old.results key }
+        ensures left { self.new ≡ record self.old { results = left_at self.old.results key } }
         ensures prepared { IfSome result (IsPrepared self.old.purpose.bank
             self.old.purpose.plan self.old.purpose.base) }
     {
@@ -120,10 +123,22 @@ impl<'a> Desk<'a> {
         }
     }
 
-    /// Puts what is ready for an answer. `Memory` is lack of memory: the desk is as it was.
+    /// Whether something was put for an answer, and is on the desk.
+    pub fn has(&self, key: Key) -> bool
+        ensures { result ≡ is_some (put_for self.now.results key) }
+    {
+        self.results.contains(&key)
+    }
+
+    /// Puts what is ready for an answer. If there is no room, what was put longest ago is displaced.
+    /// `Memory` is lack of memory: the desk is as it was.
     pub fn put(&mut self, key: Key, ready: Ready<'a>) -> Result<(), Memory>
         requires { IsReadyFor self.old.purpose ready }
         ensures purpose { self.new.purpose ≡ self.old.purpose }
+        ensures put { OnOk result (self.new ≡ record self.old {
+          results =
+              put_entries is_key (lru_cache self.old.results self.old.room) key ready.entry;
+        }) }
         ensures same { OnErr result (self.new ≡ self.old) }
     {
         match self.results.put(key, ready) {

@@ -7,7 +7,9 @@
 mod caller;
 mod desk;
 mod key;
+mod lone;
 mod moves;
+mod next;
 mod post;
 
 pub use crate::caller::PreparingCaller;

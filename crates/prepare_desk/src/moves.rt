@@ -29,6 +29,26 @@ impl<'a> TurnMove<Desk<'a>> for TakeOut {
     ghost lasts = { λ _ _ _ h. h };
 }
 
+/// Looks whether something is there for an answer.
+#[derive(Drop)]
+pub(crate) struct LookUp {
+    pub(crate) key: Key,
+}
+
+impl<'a> TurnMove<Desk<'a>> for LookUp {
+    type Answer = bool;
+
+    ghost needs = { λ _ _. Unit {0} };
+
+    ghost makes = { λ _ before after _ _. Keeps before after };
+
+    fn make(&mut self, value: &mut Desk<'a>) -> bool {
+        value.has(self.key)
+    }
+
+    ghost lasts = { λ _ _ _ h. h };
+}
+
 /// Puts what is ready for an answer. It is gone after one turn.
 #[derive(Drop)]
 pub(crate) struct PutUp<'a> {

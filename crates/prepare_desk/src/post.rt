@@ -5,25 +5,20 @@ ghost use Rattle.turn_lock.specs.Passes.{Known};
 ghost use Rattle.exam_hall.specs.Known.{HasGrown, IsOf, marked};
 ghost use Rattle.exam_hall.specs.Prepared.{IsPrepared};
 ghost use Rattle.exam_hall.specs.Sees.{Sees};
-ghost use Rattle.exam_hall.specs.Went.{Went};
 ghost use Rattle.exam_handler.specs.Handling.{IsReply};
 ghost use Rattle.prepare_desk.specs.Desks.{DeskPurpose, IsReadyFor, purpose_of};
 ghost use Rattle.prepare_desk.specs.Posts.{IsFirstOf, IsIdle, IsPostOf};
-ghost use Rattle.std.specs.Option.{option_copied};
-ghost use Rattle.constraint_model.specs.Views.{problem_of};
-ghost use Rattle.form_model.specs.Validity.{IsWellMade};
-ghost use Rattle.exam_office.specs.Warm.{FitsPlan};
 
 use crate::desk::{Desk, Ready};
 use crate::key::Key;
-use crate::moves::{PutUp, TakeOut};
+use crate::moves::{LookUp, PutUp, TakeOut};
+use crate::next::{Before, Next, RESPONSES, next_after};
 use bank_tables::{Bank, ItemSet};
 use branch_bound::Assembled;
-use constraint_model::{Problem, Spec};
+use constraint_model::Spec;
 use exam_edge::{Disk, Gate, Memory};
-use exam_hall::{Ahead, Hall, is_same};
+use exam_hall::Hall;
 use exam_office::{Office, Reply, Request};
-use proof_tree::Vector;
 use std::alloc::Global;
 use std::marker::Model;
 use std::sync::Wait;
@@ -80,6 +75,13 @@ impl<'h, 'a> Post<'h, 'a> {
     {
         let pass = desk.split(first);
         Post { desk, pass }
+    }
+
+    /// Whether something is on the desk for an answer. It waits for a turn at the desk.
+    pub fn has<R: Wait>(&mut self, rt: &R, key: Key) -> bool
+        ensures { (p : DeskPurpose) → self.old.seen ≡ p ∷ [] → self.new.seen ≡ p ∷ [] }
+    {
+        self.desk.turn(rt, &mut self.pass, &mut LookUp { key })
     }
 
     /// Takes out what is ready for an answer. It waits for a turn at the desk.
@@ -140,8 +142,9 @@ impl<'h, 'a> Post<'h, 'a> {
     }
 
     /// Prepares the forms of a session's next step, one for each response to its item, the lowest
-    /// first, and gives their number: 0 if no step follows an answer. The gate is passed before and
-    /// after each assembly. A problem that is that of the response before is assembled once.
+    /// first, and gives their number: 0 if no step follows an answer. It ends if the session is
+    /// answered meanwhile, since whoever answers prepares too. The gate is passed before and after
+    /// each assembly. A problem that is that of the response before is assembled once.
     /// `Memory` is lack of memory: what was prepared before that stays.
     pub fn prepare<D: Disk, G: Gate, R: Wait>(
         &mut self,
@@ -189,82 +192,13 @@ impl<'h, 'a> Post<'h, 'a> {
         ensures grown { HasGrown pass.old pass.new }
         ensures post { IsPostOf hall.now self.new }
     {
-        match hall.ahead(rt, alloc, pass, session, response) {
-            Ahead::NoStep => Ok(None),
-            Ahead::Next { problem, warm } => {
-                let of = response_of(before, &problem, response);
-                let caller = pass.number();
-                let ready = match ready_for(
-                    alloc,
-                    hall,
-                    gate,
-                    caller,
-                    &problem,
-                    warm.as_ref(),
-                    of,
-                    response,
-                ) {
-                    Ok(ready) => ready,
-                    Err(memory) => return Err(memory),
-                };
-                let key = Key {
-                    session,
-                    step: problem.step - 1,
-                    response,
-                };
-                match self.put(rt, key, ready) {
-                    Ok(()) => Ok(Some(Before {
-                        response: of,
-                        problem,
-                    })),
-                    Err(memory) => Err(memory),
-                }
-            }
+        match next_after(rt, alloc, hall, gate, pass, session, response, before) {
+            Ok(Some(Next { key, ready, before })) => match self.put(rt, key, ready) {
+                Ok(()) => Ok(Some(before)),
+                Err(memory) => Err(memory),
+            },
+            Ok(None) => Ok(None),
+            Err(memory) => Err(memory),
         }
-    }
-}
-
-/// The most responses that an item may have.
-const RESPONSES: u8 = 5;
-
-/// The problem of the response before, and the least response that leads to it.
-#[derive(Clone, Copy)]
-struct Before<'a> {
-    response: u8,
-    problem: Problem<'a>,
-}
-
-/// The least response in turn that leads to a problem: that of the response before, or this one.
-fn response_of(before: &Option<Before>, problem: &Problem, response: u8) -> u8 {
-    match before {
-        Some(before) if is_same(&before.problem, problem) => before.response,
-        _ => response,
-    }
-}
-
-/// What is ready for a response: what is assembled for its problem, or what was assembled for that
-/// of the response `of`, since it is the same.
-fn ready_for<'a, D: Disk, G: Gate>(
-    alloc: Global,
-    hall: &Hall<'a, D>,
-    gate: &G,
-    caller: u32,
-    problem: &Problem<'a>,
-    warm: Option<&Vector>,
-    of: u8,
-    response: u8,
-) -> Result<Ready<'a>, Memory>
-    requires well_made { IsWellMade (problem_of problem.now) }
-    requires bank { problem.now.bank.now ≡ hall.now.bank }
-    requires plan { problem.now.spec.now ≡ hall.now.plan }
-    requires fits { IfSome (option_copied warm) (FitsPlan hall.now.bank hall.now.plan) }
-    ensures { IfOk result (IsReadyFor (purpose_of hall.now)) }
-{
-    if of != response {
-        return Ok(Ready::SameAs(of));
-    }
-    match hall.prepare(alloc, gate, caller, problem, warm) {
-        Ok(made) => Ok(Ready::Made(made)),
-        Err(memory) => Err(memory),
     }
 }

@@ -42,6 +42,7 @@ mod numbers;
 #[cfg(test)]
 mod office;
 #[cfg(test)]
+mod own_desk;
 mod pieces;
 #[cfg(test)]
 mod prepared;

@@ -14,6 +14,7 @@ ghost use Rattle.prepare_desk.specs.Posts.{IsFirstOf, IsPostOf};
 use crate::assemblies::Assemblies;
 use crate::equal::expect_equal;
 use crate::office::{EVEN, empty_disk, opened, planned};
+use crate::own_desk::tried_with_own;
 use crate::requests::{
     Ask, FIRST, FIRST_ANSWER, OTHER_ANSWER, SECOND, SECOND_ANSWER, THIRD, Told, request_of, told,
 };
@@ -33,21 +34,21 @@ use turn_lock::{Pass, Turn};
 
 // What a caller does: it asks, or it prepares the next forms of a session.
 #[derive(Clone, Copy)]
-enum Step {
+pub(crate) enum Step {
     Ask(Ask),
     Prepare(u32),
 }
 
 // What comes of it: a reply, or the number of the forms that are ready.
 #[derive(Clone, Copy, Debug, PartialEq)]
-enum Outcome {
+pub(crate) enum Outcome {
     Reply(Told),
     Prepared(u32),
     NoMemory,
 }
 
 // What comes of a step, and how many assemblies have begun by then.
-type Row = (Outcome, u32);
+pub(crate) type Row = (Outcome, u32);
 
 // A caller's four steps, and the rows that come of them.
 struct Trial {
@@ -184,7 +185,7 @@ fn rows_at<'a, R: Wait>(
 }
 
 // What comes of the steps, and the answers that something is ready for at the end.
-type Tried = ([Row; 4], Vec<Key>);
+pub(crate) type Tried = ([Row; 4], Vec<Key>);
 
 // What comes of the steps in a hall with a desk, which are both closed then.
 fn tried_in<'a, R: Wait>(
@@ -209,7 +210,35 @@ fn tried_in<'a, R: Wait>(
     }
 }
 
-// What comes of the steps in a hall over this office, with a desk for it.
+// Whose a desk is: that of all callers, or one that a caller has for itself.
+#[derive(Clone, Copy)]
+enum Owner {
+    All,
+    One,
+}
+
+// What comes of the steps in a hall over this office, with a desk that one caller has.
+fn tried_alone<'a, R: Wait>(
+    rt: &R,
+    alloc: Global,
+    office: Office<'a, MemoryDisk>,
+    trial: &Trial,
+) -> Result<Tried, Fail> {
+    let (bank, spec, base) = (office.bank(), office.spec(), office.base());
+    let Ok(desk) = Desk::new(alloc, bank, spec, base, trial.room) else {
+        let _ = office.into_disk();
+        return Err(Fail::from("no memory for the desk"));
+    };
+    match Hall::new(alloc, office) {
+        Ok((hall, pass)) => tried_with_own(rt, alloc, hall, pass, desk, &trial.steps),
+        Err(office) => {
+            let _ = office.into_disk();
+            Err(Fail::from("no memory for the hall"))
+        }
+    }
+}
+
+// What comes of the steps in a hall over this office, with a desk that all callers have.
 fn tried_over<'a, R: Wait>(
     rt: &R,
     alloc: Global,
@@ -237,25 +266,40 @@ fn tried_with<'a, R: Wait>(
     bank: &'a Bank,
     spec: &'a Spec,
     trial: &Trial,
+    owner: Owner,
 ) -> Result<Tried, Fail>
     requires { IsPlanFor bank.now spec.now }
 {
-    match opened(alloc, bank, spec, empty_disk(alloc)) {
-        Ok(office) => tried_over(rt, alloc, office, trial),
-        Err(fail) => Err(fail),
+    let office = match opened(alloc, bank, spec, empty_disk(alloc)) {
+        Ok(office) => office,
+        Err(fail) => return Err(fail),
+    };
+    match owner {
+        Owner::All => tried_over(rt, alloc, office, trial),
+        Owner::One => tried_alone(rt, alloc, office, trial),
     }
 }
 
-fn tried_on_a<R: Wait>(rt: &R, alloc: Global, trial: &Trial) -> Result<Tried, Fail> {
+fn tried_on_a<R: Wait>(rt: &R, alloc: Global, trial: &Trial, owner: Owner) -> Result<Tried, Fail> {
     match planned(alloc, &EVEN) {
-        Ok((bank, spec)) => tried_with(rt, alloc, &bank, &spec, trial),
+        Ok((bank, spec)) => tried_with(rt, alloc, &bank, &spec, trial, owner),
         Err(fail) => Err(fail),
     }
 }
 
-// The rows of a trial come of its steps, and these keys are left.
+// The rows of a trial come of its steps, and these keys are left, whosever the desk is.
 fn expect_rows<R: Abort + Wait>(rt: &R, alloc: Global, trial: &Trial) -> Result<(), Fail> {
-    let (rows, left) = tried_on_a(rt, alloc, trial)?;
+    expect_rows_with(rt, alloc, trial, Owner::All)?;
+    expect_rows_with(rt, alloc, trial, Owner::One)
+}
+
+fn expect_rows_with<R: Abort + Wait>(
+    rt: &R,
+    alloc: Global,
+    trial: &Trial,
+    owner: Owner,
+) -> Result<(), Fail> {
+    let (rows, left) = tried_on_a(rt, alloc, trial, owner)?;
     expect_equal(rt, &rows, &trial.rows);
     expect_equal(rt, &left.as_slice(), &trial.left);
     Ok(())
@@ -281,14 +325,19 @@ const BEGIN_AND_ANSWER: &str =
     "POST /sessions HTTP/1.1\r\nContent-Length: 14\r\n\r\n{\"booking\":70}\
     POST /sessions/0/answers HTTP/1.1\r\nContent-Length: 23\r\n\r\n{\"step\":0,\"response\":1}";
 
-// How many assemblies a server begins for the two messages.
+// A session begins, and its place is looked at.
+const BEGIN_AND_LOOK: &str = "POST /sessions HTTP/1.1\r\nContent-Length: 14\r\n\r\n{\"booking\":70}\
+    GET /sessions/0 HTTP/1.1\r\n\r\n";
+
+// How many assemblies a server begins for messages.
 fn assemblies_of<R: Threads + Wait + Sync>(
     rt: &R,
     alloc: Global,
+    messages: &str,
     ahead: Option<u32>,
 ) -> Result<u32, Fail> {
     let gate = Assemblies::new();
-    let doors = one_door(alloc, BEGIN_AND_ANSWER)?;
+    let doors = one_door(alloc, messages)?;
     let _ = serve_bank_a(rt, alloc, doors, &gate, ahead)?;
     Ok(gate.begun())
 }
@@ -296,7 +345,23 @@ fn assemblies_of<R: Threads + Wait + Sync>(
 // One for the first item, two that are prepared, none for the answer, and two that are prepared.
 #[test]
 fn a_server_that_prepares(rt: HostRuntime) -> Result<(), Fail> {
-    let begun = assemblies_of(&rt, rt.alloc(), Some(4))?;
+    let begun = assemblies_of(&rt, rt.alloc(), BEGIN_AND_ANSWER, Some(4))?;
+    expect_equal(&rt, &begun, &5);
+    Ok(())
+}
+
+// One for the first item, two that are prepared, and none for a look: its forms are on the desk.
+#[test]
+fn a_look_prepares_nothing_again(rt: HostRuntime) -> Result<(), Fail> {
+    let begun = assemblies_of(&rt, rt.alloc(), BEGIN_AND_LOOK, Some(4))?;
+    expect_equal(&rt, &begun, &3);
+    Ok(())
+}
+
+// With room for one result, that of the first response is displaced, so a look prepares again.
+#[test]
+fn a_look_prepares_what_was_displaced(rt: HostRuntime) -> Result<(), Fail> {
+    let begun = assemblies_of(&rt, rt.alloc(), BEGIN_AND_LOOK, Some(1))?;
     expect_equal(&rt, &begun, &5);
     Ok(())
 }
@@ -304,7 +369,7 @@ fn a_server_that_prepares(rt: HostRuntime) -> Result<(), Fail> {
 // One for each item.
 #[test]
 fn a_server_that_prepares_nothing(rt: HostRuntime) -> Result<(), Fail> {
-    let begun = assemblies_of(&rt, rt.alloc(), None)?;
+    let begun = assemblies_of(&rt, rt.alloc(), BEGIN_AND_ANSWER, None)?;
     expect_equal(&rt, &begun, &2);
     Ok(())
 }
