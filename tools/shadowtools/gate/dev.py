@@ -3,7 +3,7 @@
 usage: dev.py [--list] CRATE ..
 
 Each check is `rt check` in the crate's folder, over what earlier checks kept. Before each one the tool prints how many are left,
-and their processor minutes from nothing by the table of bench/gate.md (a crate that is not in the table counts as one minute).
+and their processor minutes from nothing by the table of bench/gate.md (a crate that is not in the table counts as its shortest row).
 --list prints that order alone. The verdict is that of the full check: `rt ci NAME` for a crate, `.ci/run` for all.
 """
 import argparse
@@ -14,8 +14,6 @@ import sys
 
 from shadowtools.command import as_command
 from shadowtools.places import TOP
-
-UNLISTED = 1.0  # minutes
 
 
 def dependencies():
@@ -59,9 +57,10 @@ def main(words):
     if unknown:
         parser.error(f"crates.txt has no crate {unknown[0]}")
     order, cost = above(given.crates, below), minutes()
+    unlisted = min(cost.values())  # the table has the crates that take longest
     for done, crate in enumerate(order):
-        left = sum(cost.get(it, UNLISTED) for it in order[done:])
-        print(f"{crate}: {done + 1} of {len(order)}, at most {left:.0f} processor minutes left", flush=True)
+        left = sum(cost.get(it, unlisted) for it in order[done:])
+        print(f"{crate}: {done + 1} of {len(order)}, some {left:.0f} processor minutes left", flush=True)
         if given.list:
             continue
         if subprocess.run(["rt", "check"], cwd=os.path.join(TOP, "crates", crate), check=False).returncode:
