@@ -1,3 +1,4 @@
 pub mod Staying
 pub mod Idling
 pub mod Rows
+pub mod Preparing

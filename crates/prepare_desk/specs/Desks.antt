@@ -1,5 +1,5 @@
 -- What a desk is for, and what is ready on it.
-use Rattle.std.specs.Prelude.{⊤, ℕ, Bool, List, Contains, Option, Some, None}
+use Rattle.std.specs.Prelude.{⊤, ℕ, ◌==◌, Bool, ◌&&◌, List, Contains, Option, Some, None}
 use Rattle.std.specs.Map.{lookup, remove_entry}
 use Rattle.bank_tables.specs.Tables.{Tables}
 use Rattle.form_model.specs.Plan.{Plan}
@@ -9,7 +9,6 @@ use Rattle.branch_bound.specs.Assembled.{Assembly}
 use Rattle.exam_office.specs.Running.{Running}
 use Rattle.exam_hall.specs.Known.{HallKnown}
 use Rattle.exam_hall.specs.Prepared.{IsPrepared}
-use Rattle.prepare_desk.specs.contracts.key.KeyPartialEq.TheImpl.{ghosts}
 use Rattle.prepare_desk.specs.declared.key.Key.{Key}
 use Rattle.prepare_desk.specs.declared.desk.Ready.{Ready}
 use Rattle.prepare_desk.specs.declared.desk.Ready.TheVariants.{Made, SameAs}
@@ -47,7 +46,8 @@ AreReadyFor p results = (r : Key × Ready) → Contains results r → IsReadyFor
 -- ---- what is ready for an answer
 -- a key is that one: its session, its step and its response are
 abbrev pub is_key : Key → Key → Bool
-is_key = ghosts.eq
+is_key key other = (key.session == other.session)
+    && ((key.step == other.step) && (key.response == other.response))
 
 -- a result that was put for the answer itself, and not for another response
 abbrev pub made_of : Option Ready → Option Assembly
@@ -95,3 +95,9 @@ abbrev pub ready_for : List (Key × Ready) → Request → Option Assembly
 ready_for results (Answer session step response) =
     ready_at results (record { session = session; step = step; response = response })
 ready_for results q = None
+
+-- what is left after a request took what is ready for it
+abbrev pub left_for : List (Key × Ready) → Request → List (Key × Ready)
+left_for results (Answer session step response) =
+    left_at results (record { session = session; step = step; response = response })
+left_for results q = results

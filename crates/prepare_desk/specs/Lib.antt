@@ -1,3 +1,4 @@
 pub mod Desks
 pub mod Turns
 pub mod Posts
+pub mod Preparing

@@ -1,12 +1,13 @@
 //! A desk that one caller has for itself.
 
-ghost use Rattle.std.specs.Prelude.{◌≡◌, IfSome};
+ghost use Rattle.std.specs.Prelude.{◌≡◌, ◌≤◌, IfOk, IfSome};
 ghost use Rattle.exam_hall.specs.Known.{HasGrown, IsOf, marked};
 ghost use Rattle.exam_hall.specs.Sees.{Sees};
 ghost use Rattle.exam_hall.specs.Used.{Uses};
 ghost use Rattle.exam_handler.specs.Handling.{IsReply};
-ghost use Rattle.prepare_desk.specs.Desks.{purpose_of, ready_for};
+ghost use Rattle.prepare_desk.specs.Desks.{left_for, purpose_of, ready_for};
 ghost use Rattle.prepare_desk.specs.Posts.{IsIdle};
+ghost use Rattle.prepare_desk.specs.Preparing.{AddsFor, IsAfterOne};
 
 use crate::desk::Desk;
 use crate::key::Key;
@@ -39,7 +40,9 @@ impl<'a> Desk<'a> {
         ensures of { IsOf pass.new hall.now }
         ensures grown { HasGrown pass.old pass.new }
         ensures reply { IsReply result }
-        ensures purpose { self.new.purpose ≡ self.old.purpose }
+        ensures left { self.new ≡ record self.old {
+          results = left_for self.old.results request.now;
+        } }
     {
         match request {
             Request::Answer {
@@ -59,7 +62,8 @@ impl<'a> Desk<'a> {
         }
     }
 
-    /// Prepares the forms of a session's next step, as `Post::prepare` does.
+    /// Prepares the forms of a session's next step, as `Post::prepare` does. All that it puts on the desk
+    /// is for answers in that session.
     pub fn prepare<D: Disk, G: Gate, R: Wait>(
         &mut self,
         rt: &R,
@@ -75,6 +79,7 @@ impl<'a> Desk<'a> {
         ensures of { IsOf pass.new hall.now }
         ensures grown { HasGrown pass.old pass.new }
         ensures purpose { self.new.purpose ≡ self.old.purpose }
+        ensures adds { AddsFor session self.old.results self.new.results }
     {
         let mut before: Option<Before<'a>> = None;
         'responses: for response in 0..RESPONSES {
@@ -104,7 +109,7 @@ impl<'a> Desk<'a> {
         ensures idles { IsIdle (marked pass.old) (marked pass.new) }
         ensures of { IsOf pass.new hall.now }
         ensures grown { HasGrown pass.old pass.new }
-        ensures purpose { self.new.purpose ≡ self.old.purpose }
+        ensures after { IsAfterOne session response before.now self.old self.new result }
     {
         match next_after(rt, alloc, hall, gate, pass, session, response, before) {
             Ok(Some(Next { key, ready, before })) => match self.put(key, ready) {

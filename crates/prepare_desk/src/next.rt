@@ -1,6 +1,6 @@
 //! What is put on a desk for one response.
 
-ghost use Rattle.std.specs.Prelude.{◌≡◌, IfOk, IfSome};
+ghost use Rattle.std.specs.Prelude.{◌≡◌, IfOk, IfSome, IsFalse};
 ghost use Rattle.std.specs.Option.{option_copied};
 ghost use Rattle.constraint_model.specs.Views.{problem_of};
 ghost use Rattle.form_model.specs.Validity.{IsWellMade};
@@ -8,6 +8,7 @@ ghost use Rattle.exam_hall.specs.Known.{HasGrown, IsOf, marked};
 ghost use Rattle.exam_office.specs.Warm.{FitsPlan};
 ghost use Rattle.prepare_desk.specs.Desks.{IsReadyFor, purpose_of};
 ghost use Rattle.prepare_desk.specs.Posts.{IsIdle};
+ghost use Rattle.prepare_desk.specs.Preparing.{IsLeastFor, IsNextFor, IsResultFor};
 
 use crate::desk::Ready;
 use crate::key::Key;
@@ -52,6 +53,7 @@ pub(crate) fn next_after<'a, D: Disk, G: Gate, R: Wait>(
     before: &Option<Before<'a>>,
 ) -> Result<Option<Next<'a>>, Memory>
     requires of { IsOf pass.old hall.now }
+    ensures next { IfOk result (λ next. IfSome next (IsNextFor session response before.now)) }
     ensures ready { IfOk result (λ next. IfSome next (λ n.
         IsReadyFor (purpose_of hall.now) n.ready)) }
     ensures idles { IsIdle (marked pass.old) (marked pass.new) }
@@ -87,7 +89,9 @@ pub(crate) fn next_after<'a, D: Disk, G: Gate, R: Wait>(
 }
 
 /// Whether the problem of the response before is of another step.
-fn is_of_other_step(before: &Option<Before>, problem: &Problem) -> bool {
+fn is_of_other_step(before: &Option<Before>, problem: &Problem) -> bool
+    ensures { IsFalse result → IfSome before.now (λ b. b.problem.step ≡ problem.now.step) }
+{
     match before {
         Some(before) => before.problem.step != problem.step,
         None => false,
@@ -95,7 +99,9 @@ fn is_of_other_step(before: &Option<Before>, problem: &Problem) -> bool {
 }
 
 /// The least response in turn that leads to a problem: that of the response before, or this one.
-fn response_of(before: &Option<Before>, problem: &Problem, response: u8) -> u8 {
+fn response_of(before: &Option<Before>, problem: &Problem, response: u8) -> u8
+    ensures { IsLeastFor before.now problem.now response result }
+{
     match before {
         Some(before) if is_same(&before.problem, problem) => before.response,
         _ => response,
@@ -118,7 +124,8 @@ fn ready_for<'a, D: Disk, G: Gate>(
     requires bank { problem.now.bank.now ≡ hall.now.bank }
     requires plan { problem.now.spec.now ≡ hall.now.plan }
     requires fits { IfSome (option_copied warm) (FitsPlan hall.now.bank hall.now.plan) }
-    ensures { IfOk result (IsReadyFor (purpose_of hall.now)) }
+    ensures ready { IfOk result (IsReadyFor (purpose_of hall.now)) }
+    ensures result { IfOk result (IsResultFor problem.now of response) }
 {
     if of != response {
         return Ok(Ready::SameAs(of));

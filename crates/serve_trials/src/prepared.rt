@@ -130,6 +130,41 @@ const ROOM_FOR_ONE: Trial = Trial {
     }],
 };
 
+// The items but 2 and 4 have the same log-likelihood at each point, so both responses to item 1 leave the
+// estimate at point 1, and lead to one problem. It is assembled once. The answer with response 1 takes
+// the result of response 0, and nothing is left. Item 3 is the free item of the form 1, 2, 3.
+const ONE_PROBLEM: Trial = Trial {
+    room: 16,
+    steps: [
+        Step::Ask(Ask::Begin(70)),
+        Step::Ask(OTHER_ANSWER),
+        Step::Prepare(0),
+        Step::Ask(Ask::Answer {
+            session: 0,
+            step: 1,
+            response: 1,
+        }),
+    ],
+    rows: [
+        (Outcome::Reply(Ok((0, FIRST, true))), 1),
+        (Outcome::Reply(Ok((0, AFTER_WRONG, false))), 2),
+        (Outcome::Prepared(2), 3),
+        (
+            Outcome::Reply(Ok((
+                0,
+                Place::Waiting {
+                    step: 2,
+                    item: 3,
+                    proved: true,
+                },
+                false,
+            ))),
+            3,
+        ),
+    ],
+    left: &[],
+};
+
 // What comes of one step.
 fn row_of<'h, 'a, R: Wait>(
     rt: &R,
@@ -313,6 +348,11 @@ fn an_answer_whose_form_is_ready_needs_no_assembly(rt: HostRuntime) -> Result<()
 #[test]
 fn nothing_is_prepared_at_the_last_step(rt: HostRuntime) -> Result<(), Fail> {
     expect_rows(&rt, rt.alloc(), &NO_STEP_FOLLOWS)
+}
+
+#[test]
+fn responses_that_lead_to_one_problem_need_one_assembly(rt: HostRuntime) -> Result<(), Fail> {
+    expect_rows(&rt, rt.alloc(), &ONE_PROBLEM)
 }
 
 #[test]

@@ -1,12 +1,12 @@
-use Rattle.std.proofs.Common.{IfSome, Contains, Option, Some, None, sym, ap, ◌∙◌, subst}
+use Rattle.std.proofs.Common.{◌≡◌, IfSome, Contains, Option, Some, None, sym, ap, ◌∙◌, subst}
 use Rattle.lru.specs.LruCache.{LruCache}
 use Rattle.branch_bound.specs.Assembled.{Assembly}
 use Rattle.exam_hall.specs.Prepared.{IsPrepared}
-use Rattle.prepare_desk.specs.Desks.{DeskKnown, IsReadyFor}
+use Rattle.prepare_desk.specs.Desks.{DeskKnown, IsReadyFor, without}
 use Rattle.prepare_desk.specs.declared.key.Key.{Key}
 use Rattle.prepare_desk.specs.declared.desk.Ready.{Ready}
 use Rattle.prepare_desk.specs.declared.desk.Ready.TheVariants.{Made, SameAs}
-use Rattle.prepare_desk.proofs.Staying.{found_ready, left_ready, made_found}
+use Rattle.prepare_desk.proofs.Staying.{found_ready, left_ready, known, made_found}
 use Rattle.prepare_desk.proofs.desk.Desk.take_made.Goals as goal
 use Rattle.prepare_desk.proofs.desk.Desk.take_made.Goals.{in-Some-Made, in-Some-SameAs, in-None}
 
@@ -35,3 +35,8 @@ returns-clause-made c =
       | in-Some-SameAs w ↦ w.result-is ∙ found (Some (SameAs w.in-Some-SameAs.field-0-0)) c.self.view_is (sym w.in-Some-SameAs.ensures.value ∙ ap Some w.in-Some-SameAs.field-0-is)
       | in-None w ↦ w.result-is ∙ found None c.self.view_is (sym w.in-None.ensures.value)
     ]
+
+pub returns-clause-left : goal.returns-clause-left
+returns-clause-left c =
+    subst (λ (d : DeskKnown). known c.self.inside.purpose c.pop.new.self ≡ record d { results = without d.results c.args.key }) c.self.view_is
+    (ap (known c.self.inside.purpose) c.pop.ensures.entries)
