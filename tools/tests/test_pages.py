@@ -1,4 +1,4 @@
-"""The pages: that each link leads somewhere, that README is no longer than a few screens, and that the numbers of TESTING are about right."""
+"""The pages: that each link leads somewhere, that README is a door, that statuses stand once, and that the numbers of TESTING are about right."""
 import functools
 import glob
 import os
@@ -27,6 +27,11 @@ def prose_of(text):
     """The text without its blocks of code and without spans of code."""
     text = re.sub(r"^```.*?^```", "", text, flags=re.M | re.S)
     return re.sub(r"^    .*$", "", text, flags=re.M)
+
+
+def as_shown(text):
+    """The text as a reader sees it: a link is its words."""
+    return re.sub(r"!?\[([^\]]*)\]\([^)\s]*\)", r"\1", text)
 
 
 @functools.lru_cache(maxsize=None)
@@ -80,8 +85,33 @@ class Links(unittest.TestCase):
 
 
 class Sizes(unittest.TestCase):
-    def test_the_readme_has_at_most_150_lines(self):
-        self.assertLessEqual(text_of(os.path.join(ROOT, "README.md")).count("\n"), 150)
+    def test_the_readme_is_a_door(self):
+        """At most 90 lines, 900 words and 100 columns, as a reader sees it: without the targets of links."""
+        lines = as_shown(text_of(os.path.join(ROOT, "README.md"))).splitlines()
+        self.assertLessEqual(len(lines), 90)
+        self.assertLessEqual(sum(len(line.split()) for line in lines), 900)
+        self.assertEqual([line for line in lines if len(line) > 100], [])
+
+    def test_each_claim_of_the_readme_has_at_most_20_words(self):
+        text = text_of(os.path.join(ROOT, "README.md"))
+        claims = re.findall(r"^\d\. (.*?)$(?=\n\S|\n\n)", re.sub(r"\n   +", " ", as_shown(text)), re.M)
+        self.assertEqual(len(claims), 5)
+        self.assertEqual([claim for claim in claims if len(claim.split()) > 20], [])
+
+    def test_one_page_has_the_table_of_statuses(self):
+        found = [os.path.relpath(path, ROOT) for path in pages() if re.search(r"^\| Status \| (Of|Line|Meaning)[^|]*\|", text_of(path), re.M)
+                 and re.search(r"^\| 12 \|", text_of(path), re.M)]
+        self.assertEqual(found, ["docs/COMMANDS.md"])
+
+    def test_the_manual_page_has_the_statuses_of_the_table(self):
+        table = set(re.findall(r"^\| (\d+) \|", text_of(os.path.join(ROOT, "docs", "COMMANDS.md")), re.M))
+        manual = text_of(os.path.join(ROOT, "docs", "shadowd.1"))
+        self.assertEqual(set(re.findall(r"^(\d+)\|", manual, re.M)), table)
+
+    def test_the_manual_page_has_the_commands_of_the_table(self):
+        commands = set(re.findall(r"`shadowd (\w+)", text_of(os.path.join(ROOT, "docs", "COMMANDS.md"))))
+        manual = set(re.findall(r"^\.B shadowd (\w+)$", text_of(os.path.join(ROOT, "docs", "shadowd.1")), re.M))
+        self.assertEqual(commands - {"version"}, manual)
 
     def test_no_cell_has_more_than_450_characters(self):
         """But for the names of functions and clauses in PROMISES, and pages that are made."""

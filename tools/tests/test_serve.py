@@ -255,8 +255,8 @@ class Pages(Serving):
             connection.shutdown(socket.SHUT_WR)
             return b"".join(iter(lambda: connection.recv(4096), b"")).decode("ascii")
 
-    def test_the_session_of_the_readme(self):
-        with open(os.path.join(ROOT, "README.md"), encoding="utf-8") as page:
+    def test_the_session_of_the_tour(self):
+        with open(os.path.join(ROOT, "docs", "TOUR.md"), encoding="utf-8") as page:
             found = re.findall(r"^    curl localhost:4710(\S+) -d '(.*)'\n    (.*)$", page.read(), re.M)
         self.assertGreaterEqual(len(found), 2)
         port = self.port(self.start(connections=len(found)))
