@@ -1,10 +1,12 @@
 """docs/HEADLINE.md: what of a definition is read, what a reading of a claim reaches, and that numbers are held."""
 import contextlib
 import io
+import os
 import unittest
 from unittest import mock
 
 import headline
+from common import ROOT
 from shadowtools.command import Refused
 from shadowtools.formats.definitions import Definition, Library, parts_of
 from shadowtools.gate import claims
@@ -79,6 +81,12 @@ class Readings(unittest.TestCase):
     def test_each_reading_of_the_best_form_has_that_what_was_found_is_legal(self):
         for reading in claims.CLAIMS[0].readings:
             self.assertIn(self.library.named("history_model LegalRun"), claims.needs_of(self.library, reading).definitions, reading.title)
+
+    def test_a_legal_history_has_as_many_definitions_as_the_pages_have(self):
+        found = [key for key in self.library.closure([self.library.named("headline_model IsLegal")]) if not self.library.definitions[key].is_declared]
+        for page in ("PROMISES.md", "TRUST.md"):
+            with open(os.path.join(ROOT, "docs", page), encoding="utf-8") as file:
+                self.assertIn(f"{len(found)} definitions with those that they cite", file.read().replace("\n", " "))
 
     def test_no_claim_needs_a_drill_a_series_or_a_second_machine(self):
         needed = {key for _, _, reading in claims.numbered() for key in claims.needs_of(self.library, reading).definitions}

@@ -1,0 +1,5 @@
+pub mod Rows
+pub mod Seats
+pub mod FormsOf
+pub mod Counted
+pub mod Told
