@@ -321,7 +321,7 @@ class Pages(Examination):
         self.write("run.run.json", run.replace(json.loads(run)["sha256"]["plan"], "0" * 64))
         self.refused("is of another plan")
         self.write("run.run.json", run)
-        for words, said in ((["--cuts", "1", "0"], "--cuts 1.0 0.0"), (["--target", "1", "2"], "LOW HIGH"),
+        for words, said in ((["--cuts", "1", "0"], "--cuts 1 0: cut scores that ascend"), (["--target", "1", "2"], "LOW HIGH"),
                             (["--picture", "nowhere/p.png"], "nowhere is no folder"), (["--between", "1", "-1"], "--between"),
                             (["--template", "none"], "none: No such file")):
             self.refused(said, *words)
@@ -329,6 +329,45 @@ class Pages(Examination):
         self.assertEqual(self.report("--bands", "nan")[0], 2)
         self.write("e.bank.csv", self.read("e.bank.csv").replace("1", "2", 1))
         self.refused("e.bank.csv: not the bank")
+
+    def scores(self, *words):
+        """The results of score.py for the sessions of the sample."""
+        status, said, errors = self.tool("score", "e.bank.csv", "e.plan.txt", "e.map.json", "--journal", "run.journal", "--unaudited", *words)
+        self.assertEqual(status, 0, errors)
+        return list(csv.DictReader(said.splitlines()))
+
+    def test_scores_are_those_of_the_results(self):
+        """The page's estimates, errors, scores and levels are what score.py gives for the same journal and options, by each estimate."""
+        for estimate in ("eap", "mode", "wle"):
+            words = ["--estimate", estimate, "--scale", "500", "100", "--cuts", "480", "--levels", "no", "yes", "--decimals", "0"]
+            self.assertEqual(self.report(*words)[0], 0)
+            ours, theirs = self.rows("page.sessions.csv")[:4], self.scores(*words, "--record", "record")
+            for name in ("eap", "posterior_sd", "theta", "se", "level"):
+                self.assertEqual([row[name] for row in ours], [row[name] for row in theirs], (estimate, name))
+            self.assertEqual([float(row["scale"]) for row in ours], [int(row["scale"]) for row in theirs])
+            page, short = self.read("page.html"), {"eap": "EAP", "mode": "mode", "wle": "WLE"}[estimate]
+            self.assertTrue(f"RMSE ({short})" in page)
+            right = sum((500 + 100 * float(row["true"]) >= 480) == (row["level"] == "yes") for row in ours)
+            self.assertTrue(f"At cut score 480 (−0.2 logits) of the scale 500 + 100 × ability, {right / 4:.1%} of the examinees" in page)
+            self.assertEqual(self.report("--record", "record")[0], 0)
+            self.assertTrue(self.read("page.html") == page)
+        self.refused("--estimate is not used beside --record", "--record", "record", "--estimate", "mode")
+        self.write("record", self.read("record").replace('"wle"', '"best"'))
+        self.refused("no record of score.py: estimate", "--record", "record")
+
+    def test_numbers_of_another_scale(self):
+        """450 is no ability in logits, and no score of a scale whose scores are 200 to 800 has the cut 950."""
+        self.refused("--cuts 450: the obtainable scores are -3 to 3", "--cuts", "450", "550")
+        self.refused("--bands 450: abilities in logits, here -3 to 3", "--bands", "450", "550")
+        self.refused("--between 450: abilities in logits", "--between", "450", "550")
+        self.refused("--cuts 950: the obtainable scores are 200 to 800", "--cuts", "950", "--scale", "500", "100")
+        self.assertEqual(self.report("--cuts", "450", "550", "--scale", "500", "100", "--bands", "-1", "1", "--between", "-2", "2")[0], 0)
+        self.assertFalse(re.search(r"\bnan\b", re.sub(r"base64,[A-Za-z0-9+/=]+", "", self.read("page.html"))))
+
+    def test_a_dash_where_there_is_no_kappa(self):
+        """All examinees are so far below the cut that two tests agree surely, and by chance too."""
+        self.assertEqual(self.report("--obtainable", "-1000", "1000", "--cuts", "500")[0], 0)
+        self.assertTrue("agree in 100.0% (kappa –)." in self.read("page.html"))
 
     def refused(self, said, *words):
         status, _, errors = self.report(*words)

@@ -11,7 +11,7 @@ import data_of_bank_a as a
 from common import PROGRAM, Folder, needs_program
 from shadowtools.command import Refused
 from shadowtools.formats.examination import Answered, Closed, Served, SetAside, Started, plan_of, read_bank, read_journal, sessions_of
-from shadowtools.agency.score import mode, moments, posterior_sums
+from shadowtools.agency.scoring import mode, moments, posterior_sums, rounded
 
 # The sums of the README: prior and log-likelihoods after each answer of session 0.
 AFTER_ONE, AFTER_TWO = [-40, -15, -11], [-40, -16, -31]
@@ -115,6 +115,29 @@ class Results(Folder):
         mean = (math.exp(-15) - math.exp(-24)) / (1 + math.exp(-15) + math.exp(-24))
         self.assertEqual((row["eap"], row["scale"]), (f"{mean:.4f}", f"{500 + 100 * mean:.4f}"))
         self.assertEqual(row["posterior_sd"], "0.0006")
+
+    def test_a_level_is_that_of_the_printed_score(self):
+        """At 548.6 + 6 theta the score of ability 0.0001 is printed 549, and so is the level; a half is rounded away from 0."""
+        words = ("--lines", "lines", "--script", "script", "--cuts", "549", "--levels", "basic", "proficient", "--scale", "548.6", "6")
+        row = self.rows(*words)[0]
+        self.assertEqual((row["scale"], row["level"]), ("548.6000", "basic"))
+        row = self.rows(*words, "--decimals", "0", "--record", "record")[0]
+        self.assertEqual((row["scale"], row["level"]), ("549", "proficient"))
+        record = json.loads(self.read("record"))
+        self.assertEqual((record["options"]["decimals"], record["levels_of"]), (0, "the score as it is printed"))
+        for score, decimals, wanted in ((548.5, 0, "549"), (549.5, 0, "550"), (-548.5, 0, "-549"), (0.1 + 0.2 + 548.2, 0, "549"),
+                                        (548.499, 0, "548"), (1.25, 1, "1.3"), (1.00005, 4, "1.0001")):
+            self.assertEqual(f"{rounded(score, decimals):f}", wanted, score)
+
+    def test_cuts_that_no_score_is_below_or_reaches(self):
+        words = ("score", "bank", "plan", "map", "--open", "--lines", "lines", "--script", "script", "--scale", "500", "100")
+        for cut in ("950", "601", "400", "-3"):
+            status, said, errors = self.tool(*words, "--cuts", cut)
+            self.assertEqual((status, said), (1, ""))
+            self.assertEqual(errors, f"--cuts {cut}: the obtainable scores are 400 to 600, on the scale 500 + 100 × ability\n")
+        for cut in ("401", "600"):
+            self.assertEqual(self.tool(*words, "--cuts", cut)[0], 0)
+        self.assertIn("--obtainable 400.5: a score has 0 decimals", self.tool(*words, "--obtainable", "400.5", "600", "--decimals", "0")[2])
 
     def test_files_that_do_not_agree(self):
         self.write("more", "answer 0 1 0\n")

@@ -259,14 +259,15 @@ class Retakers(ExaminationWithRetakers):
         self.assertTrue(any(item in other for (_, second), other in zip(pairs, with_lists) for item in second[0]))
 
     def error(self, pairs, place):
-        """The RMSE of the posterior means, by a sum over points of the ability."""
+        """The RMSE of the posterior means over the seven points of the grid, from thousandths of logarithms."""
         run, scaling = json.loads(self.read("run.run.json")), json.loads(self.read("e.map.json"))["D"]
-        points, squares = [k / 100 for k in range(-600, 601)], []
+        points, squares = range(-3, 4), []
         for examinee, pair in zip(run["retakers"], pairs):
             weights = [math.exp(-point ** 2 / 2) for point in points]
             for item, response in zip(*pair[place]):
                 chances = [1 / (1 + math.exp(-scaling * 1.2 * (point - (item - 3) / 2))) for point in points]
-                weights = [weight * (chance if response else 1 - chance) for weight, chance in zip(weights, chances)]
+                weights = [weight * math.exp(round(1000 * math.log(chance if response else 1 - chance)) / 1000)
+                           for weight, chance in zip(weights, chances)]
             mean = sum(weight * point for weight, point in zip(weights, points)) / sum(weights)
             squares.append((mean - run["true"][examinee]) ** 2)
         return math.sqrt(sum(squares) / len(squares))

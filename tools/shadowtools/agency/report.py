@@ -6,12 +6,15 @@ usage: report.py PREFIX --run OUT --to REPORT.html [options]
 
   --target FILE                  what a test is to measure: a CSV table with the columns ability and information, or ability and
                                  se (standard error, in logits); or --target LOW HIGH INFORMATION
-  --cuts C ..                    cut scores in logits: the accuracy and consistency of decisions
-  --bands T ..                   edges of ability bands, for exposure, overlap and error; default -2 -1 0 1 2, and each ability
-                                 where there are at most 20
-  --by truth|estimate            whether the bands of exposure and overlap are of the true ability (default) or the mean (EAP)
+  --estimate E, --scale A B, --obtainable L H, --cuts C .., --levels N .., --decimals N
+                                 how scores are reported, as score.py has them: the page has error, reliability and decisions of
+                                 the scores that examinees get. The cuts are scores, all else on the page is in logits
+  --record FILE                  the same from a record of score.py, in the place of these options
+  --bands T ..                   edges of ability bands in logits, for exposure, overlap and error; default -2 -1 0 1 2, and each
+                                 ability where there are at most 20
+  --by truth|estimate            whether the bands of exposure and overlap are of the true ability (default) or the estimate
   --watch P ..                   the rates in bands of the estimate that begin at these points of the grid; default the plan's bands
-  --between LOW HIGH             where the page states the standard error; default -1 1
+  --between LOW HIGH             abilities in logits between which the page states the standard error; default -1 1
   --rules PLAN                   counts the rules of another plan
   --template FILE                another template for jinja2 than report.html of these tools
   --picture FILE.png             a picture for another page: the forms of an examinee, and the standard error
@@ -41,6 +44,8 @@ import pandas as pd  # noqa: E402
 
 from shadowtools.agency.custody import sha256_of  # noqa: E402
 from shadowtools.agency.retakers import Retakes, retakes_of  # noqa: E402
+from shadowtools.agency.scoring import (OPTIONS, SHORT_NAMES, Scorer, add_reporting, reporting_of,  # noqa: E402
+                                        reporting_of_record)
 from shadowtools.agency.series_weights import read_weights  # noqa: E402
 from shadowtools.agency.simulate import revision  # noqa: E402
 from shadowtools.agency.simulation import Examination, load, parted, read_run  # noqa: E402
@@ -58,16 +63,17 @@ from shadowtools.page.verdicts import verdicts  # noqa: E402
 
 TEMPLATE = os.path.join(os.path.dirname(os.path.dirname(os.path.abspath(__file__))), "page", "report.html")
 # The options that are about a simulation alone, with what they are where they are not given.
-OF_A_RUN = {"cuts": [], "bands": None, "watch": None, "by": "truth", "between": [-1.0, 1.0], "rules": None, "picture": None}
+OF_A_RUN = {"estimate": None, "scale": None, "obtainable": None, "cuts": [], "levels": None, "decimals": None, "record": None,
+            "bands": None, "watch": None, "by": "truth", "between": [-1.0, 1.0], "rules": None, "picture": None}
 
 
 def options(words: Sequence[str]) -> argparse.Namespace:
     parser = Options(__doc__)
     parser.add_argument("prefix", nargs="?")
-    for name in ("run", "series", "to", "rules", "picture"):
+    for name in ("run", "series", "to", "rules", "picture", "record"):
         parser.add_argument("--" + name)
     parser.add_argument("--target", nargs="+")
-    parser.add_argument("--cuts", nargs="+", type=finite, default=[])
+    add_reporting(parser)
     parser.add_argument("--bands", nargs="+", type=finite)
     parser.add_argument("--watch", nargs="+", type=whole(0, 60))
     parser.add_argument("--by", choices=("truth", "estimate"), default="truth")
@@ -77,17 +83,30 @@ def options(words: Sequence[str]) -> argparse.Namespace:
     if found.series:
         for name in ["run"] * bool(found.run) + [name for name, default in OF_A_RUN.items() if getattr(found, name) != default]:
             raise Refused(f"--{name} is about a simulation; it is not used with --series")
+    given = [name for name in OPTIONS if getattr(found, name) != OF_A_RUN[name]]
+    if found.record and given:
+        raise Refused(f"--{given[0]} is not used beside --record, which has it")
+    found.reporting = reporting_of_record(found.record) if found.record else reporting_of(found)
     return found
 
 
 def questions(given: argparse.Namespace) -> Questions:
     """What is asked of the page. Refused are numbers that do not ascend, and a target that is none."""
-    for name, values in (("cuts", given.cuts), ("bands", given.bands or []), ("between", given.between)):
+    for name, values in (("bands", given.bands or []), ("between", given.between)):
         if (np.diff(values) <= 0).any():
             raise Refused(f"--{name} {' '.join(map(str, values))}: abilities in logits that ascend")
     if given.target and len(given.target) not in (1, 3):
         raise Refused(f"--target {' '.join(given.target)}: a file, or LOW HIGH INFORMATION")
-    return Questions(target_of(given.target), given.cuts, given.bands, given.by == "estimate", given.between)
+    return Questions(target_of(given.target), given.bands, given.by == "estimate", given.between)
+
+
+def require_abilities(given: argparse.Namespace, examination: Examination, run: dict) -> None:
+    """Refuses edges of bands, and abilities of --between, that are neither on the grid nor among the true abilities."""
+    low, high = (end([*examination.map["theta"], *run["true"]]) for end in (min, max))
+    for name, values in (("bands", given.bands or []), ("between", given.between)):
+        for value in values:
+            if not low <= value <= high and getattr(given, name) != OF_A_RUN[name]:
+                raise Refused(f"--{name} {value:g}: abilities in logits, here {low:.4g} to {high:.4g}; a score on another scale is none")
 
 
 # ---------------------------------------------------------------- what is read
@@ -201,9 +220,11 @@ def report_of_run(given: argparse.Namespace) -> int:
     for path in (given.to, begin + ".sessions.csv", begin + ".answers.csv", begin + ".items.csv", given.picture or given.to):
         require_folder("--to" if path != given.picture else "--picture", path)
     examination, run = load(given.prefix), read_run(given.run + ".run.json")
+    require_abilities(given, examination, run)
+    scorer = Scorer(examination.bank, examination.plan.prior, examination.map, given.reporting)
     rules = (read_plan(given.rules) if given.rules else examination.plan).rules
     sample, tails, counts = sessions_of_run(given, run, examination)
-    study = Study(examination, run, sample, tails, rules, asked, counts, retakes(given, run, examination, sample))
+    study = Study(examination, run, sample, tails, rules, asked, counts, scorer, retakes(given, run, examination, sample))
     text = page_of_run(study, given.template)
     try:
         with open(given.to, "w", encoding="utf-8") as file:
@@ -215,9 +236,10 @@ def report_of_run(given: argparse.Namespace) -> int:
             at_a_glance(study, chosen(study)[1], given.picture)
     except OSError as error:
         raise Refused(f"{error.filename}: {error.strerror}")
-    errors = study.people.eap[study.sample] - study.people.true[study.sample]
+    errors = study.people.theta[study.sample] - study.people.true[study.sample]
     broken = len(study.broken) + len(study.broken_second)
-    print(f"{given.to}: {len(study.sessions)} sessions, {broken} broken rules, RMSE {np.sqrt((errors ** 2).mean()):.4f} (EAP)")
+    print(f"{given.to}: {len(study.sessions)} sessions, {broken} broken rules, RMSE {np.sqrt((errors ** 2).mean()):.4f} "
+          f"({SHORT_NAMES[given.reporting.estimate]})")
     return 1 if broken else 0
 
 

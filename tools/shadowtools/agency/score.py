@@ -12,17 +12,18 @@ empty journal on; it can't be audited. The result is CSV on standard output, one
   mode                      the greatest point of the posterior on the grid, which is shadowd's own estimate
   eap, posterior_sd         mean and standard deviation of the posterior over the grid (Bock and Mislevy 1982)
   theta, se                 the estimate that is reported, and its standard error
-  scale, scale_se           A + B * theta within the obtainable scores, and B * se
+  scale, scale_se           A + B * theta within the obtainable scores, rounded to the decimals of --decimals, and B * se
   remark                    lowest or highest, where the score is at that end; too few answers, where there is no score
-  level, level_error        with --cuts: the level, and the probability that the true level is another
+  level, level_error        with --cuts: the level of the score as it is printed, and the probability that the true level is another
   audit                     audited or unaudited
 
   --estimate E      eap (default), mode, wle or mle. With eap and mode the standard error is the posterior's standard deviation.
                     wle (Warm 1989) and mle are from the exact parameters, with 1 / sqrt(information); they need python3-numpy
   --scale A B       the reported scale; default 0 1
   --obtainable L H  the lowest and the highest score on the reported scale; default those of the ends of the grid
-  --cuts C C ..     cut scores on the reported scale, ascending; a score at a cut is in the level above it
+  --cuts C C ..     cut scores on the reported scale, ascending, within the obtainable scores; a score at a cut is in the level above it
   --levels N N ..   the names of the levels, the lowest first; default 0 1 ..
+  --decimals N      the decimals of `scale`, 0 to 9; default 4. A half is rounded away from 0. The level is that of the rounded score
   --least N         a session with fewer answers has no score; default 1. Answers to items in field test don't count
   --open            scores open sessions too; without it a journal that has one is refused
   --unaudited       does not audit the journal, and the column audit is `unaudited`
@@ -40,23 +41,20 @@ import csv
 import hashlib
 import io
 import json
-import math
 import sys
 from collections import Counter
-from dataclasses import dataclass
-from typing import Dict, Iterator, List, NamedTuple, Optional, Sequence, Tuple
+from typing import Dict, Iterator, List, Optional, Sequence, Tuple
 
 from shadowtools.agency.custody import Documents, audited, read_documents, sha256_of
+from shadowtools.agency.scoring import Scorer, add_reporting, mode, moments, reporting_of
 from shadowtools.command import Refused, as_command
-from shadowtools.formats.examination import BankItem, Session, read_journal, sessions_of
+from shadowtools.formats.examination import Session, read_journal, sessions_of
 from shadowtools.formats.tables import runs, text_of
-from shadowtools.needs import require
-from shadowtools.options import Options, between, finite, require_folder, whole
+from shadowtools.options import Options, require_folder, whole
 from shadowtools.places import BUILT
 
 COLUMNS = ("session", "booking", "state", "answered", "mode", "eap", "posterior_sd", "theta", "se", "scale", "scale_se",
            "remark", "level", "level_error", "audit")
-ESTIMATES = ("eap", "mode", "wle", "mle")
 
 
 def options(words: Sequence[str]) -> argparse.Namespace:
@@ -66,11 +64,7 @@ def options(words: Sequence[str]) -> argparse.Namespace:
     for name in ("journal", "lines", "script", "answers", "shown", "record"):
         parser.add_argument("--" + name)
     parser.add_argument("--program", default=BUILT)
-    parser.add_argument("--estimate", choices=ESTIMATES, default="eap")
-    parser.add_argument("--scale", nargs=2, type=finite, default=[0.0, 1.0])
-    parser.add_argument("--obtainable", nargs=2, type=finite)
-    parser.add_argument("--cuts", nargs="+", type=between(-1e9, 1e9), default=[])
-    parser.add_argument("--levels", nargs="+")
+    add_reporting(parser)
     parser.add_argument("--least", type=whole(1, 512), default=1)
     for name in ("open", "unaudited"):
         parser.add_argument("--" + name, action="store_true")
@@ -79,57 +73,11 @@ def options(words: Sequence[str]) -> argparse.Namespace:
         raise Refused("--lines and --script are not used beside --journal")
     if found.shown and not found.journal:
         raise Refused("--shown needs a journal")
-    if not 1e-9 <= found.scale[1] <= 1e9 or abs(found.scale[0]) > 1e9:
-        raise Refused(f"--scale {found.scale[0]:g} {found.scale[1]:g}: B is above 0, and neither is above 1e9")
-    if sorted(set(found.cuts)) != found.cuts or found.levels and len(found.levels) != len(found.cuts) + 1:
-        raise Refused("--cuts ascend, and --levels has one name more than there are cuts")
+    found.reporting = reporting_of(found)
     for option, path in (("--answers", found.answers), ("--shown", found.shown), ("--record", found.record)):
         if path:
             require_folder(option, path)
     return found
-
-
-# ---------------------------------------------------------------- the posterior
-
-def posterior_sums(bank: Sequence[BankItem], prior: Sequence[int], items: Sequence[int], responses: Sequence[int]) -> List[int]:
-    """By point the prior and the log-likelihoods of the answers, summed: whole numbers, as shadowd has them."""
-    sums = list(prior)
-    for item, response in zip(items, responses):
-        logs = bank[item].logs[response]
-        if len(logs) != len(sums):
-            raise Refused(f"item {item}: {len(logs)} log-likelihoods, the prior has {len(sums)} points")
-        sums = [total + log for total, log in zip(sums, logs)]
-    return sums
-
-
-def mode(sums: Sequence[int]) -> int:
-    """The point of the greatest sum, in a tie the lowest."""
-    return sums.index(max(sums))
-
-
-def weights_of(sums: Sequence[int], unit: float) -> List[float]:
-    """The posterior probability of each point."""
-    top = max(sums)
-    weights = [math.exp((total - top) / unit) for total in sums]
-    whole_weight = math.fsum(weights)
-    return [weight / whole_weight for weight in weights]
-
-
-def moments(sums: Sequence[int], theta: Sequence[float], unit: float) -> Tuple[float, float]:
-    """Mean and standard deviation of the posterior over the grid."""
-    weights = weights_of(sums, unit)
-    mean = math.fsum(w * t for w, t in zip(weights, theta))
-    return mean, math.sqrt(math.fsum(w * (t - mean) ** 2 for w, t in zip(weights, theta)))
-
-
-def share_below(weights: Sequence[float], theta: Sequence[float], cut: float) -> float:
-    """The posterior probability below an ability: that of a point is spread evenly over the step about it."""
-    half = (theta[1] - theta[0]) / 2
-    return math.fsum(w * min(1.0, max(0.0, (cut - t + half) / (2 * half))) for w, t in zip(weights, theta))
-
-
-def normal_below(mean: float, deviation: float, cut: float) -> float:
-    return math.erfc((mean - cut) / (deviation * math.sqrt(2))) / 2
 
 
 # ---------------------------------------------------------------- sessions from a script and its lines
@@ -188,97 +136,14 @@ def note(found: Dict[int, Session], served: Dict[Tuple[int, int], int], words: L
 
 # ---------------------------------------------------------------- scores
 
-class Score(NamedTuple):
-    """What is reported of a session: the estimate, its standard error, at which end it was stopped, and, by a cut, the
-    probability that the true ability is below it."""
-    theta: float
-    error: float
-    end: str
-    below: List[float]
-
-
-@dataclass
-class Scale:
-    """The reported scale A + B * theta, the obtainable scores and the cut scores on it, and the names of the levels."""
-    start: float
-    unit: float
-    low: float
-    high: float
-    cuts: List[float]
-    levels: List[str]
-
-    def theta(self, score: float) -> float:
-        return (score - self.start) / self.unit
-
-    def score(self, theta: float) -> float:
-        return min(self.high, max(self.low, self.start + self.unit * theta))
-
-    def cells(self, found: Score) -> List[str]:
-        """The cells theta to level_error."""
-        score = self.score(found.theta)
-        end = "lowest" if score == self.low else "highest" if score == self.high else found.end
-        cells = [f"{found.theta:.4f}", f"{found.error:.4f}", f"{score:.4f}", f"{self.unit * found.error:.4f}", end]
-        if not self.cuts:
-            return cells + ["", ""]
-        level = sum(cut <= score for cut in self.cuts)
-        bounds = [0.0] + found.below + [1.0]
-        return cells + [self.levels[level], f"{1 - (bounds[level + 1] - bounds[level]):.4f}"]
-
-
-def scale_of(given: argparse.Namespace, theta: Sequence[float]) -> Scale:
-    start, unit = given.scale
-    low, high = given.obtainable or (start + unit * theta[0], start + unit * theta[-1])
-    if not low < high:
-        raise Refused(f"--obtainable {low:g} {high:g}: the lowest score is not below the highest")
-    return Scale(start, unit, low, high, given.cuts, given.levels or [str(k) for k in range(len(given.cuts) + 1)])
-
-
-class Scorer:
-    """Scores of the sessions of one examination by one of the estimates."""
-
-    def __init__(self, documents: Documents, estimate: str, scale: Scale) -> None:
-        self.documents, self.estimate, self.scale = documents, estimate, scale
-        self.theta, self.unit = documents.map["theta"], documents.map["log_unit"]
-        self.cuts = [scale.theta(cut) for cut in scale.cuts]
-        self.exact = exact_items(documents.map) if estimate in ("wle", "mle") else []
-
-    def score(self, session: Session, sums: Sequence[int], mean: float, deviation: float) -> Score:
-        if self.exact:
-            return self.by_likelihood(session)
-        weights = weights_of(sums, self.unit)
-        value = mean if self.estimate == "eap" else self.theta[mode(sums)]
-        return Score(value, deviation, "", [share_below(weights, self.theta, cut) for cut in self.cuts])
-
-    def by_likelihood(self, session: Session) -> Score:
-        from shadowtools.agency.estimation import Answers
-        items = [self.exact[k] for k in session.items[:len(session.responses)]]
-        answers = Answers(items, session.responses, self.documents.map["D"], self.scale.theta(self.scale.low),
-                          self.scale.theta(self.scale.high))
-        found = answers.estimate(self.estimate == "wle")
-        return Score(*found, [normal_below(found.theta, found.error, cut) for cut in self.cuts])
-
-    def row(self, number: int, session: Session, state: str, least: int) -> List[str]:
-        """The cells of a session, without the last one."""
-        sums = posterior_sums(self.documents.bank, self.documents.plan.prior, session.items, session.responses)
-        mean, deviation = moments(sums, self.theta, self.unit)
-        cells = [str(number), str(session.booking), state, str(len(session.responses))]
-        counting = sum(self.documents.map["items"][k]["model"] != "FIELD" for k in session.items[:len(session.responses)])
-        if counting < least:
-            return cells + [""] * 7 + ["too few answers", "", ""]
-        found = self.score(session, sums, mean, deviation)
-        return cells + [f"{self.theta[mode(sums)]:.4f}", f"{mean:.4f}", f"{deviation:.4f}"] + self.scale.cells(found)
-
-
-def exact_items(scale_map: dict) -> list:
-    """The items of a map with their exact parameters."""
-    require("score.py with --estimate wle or mle", "numpy")
-    from shadowtools.agency.irt import DICHOTOMOUS, FIELD, POLYTOMOUS, Item, fault
-    found = [Item(one["id"], one["model"], one["parameters"]) for one in scale_map["items"]]
-    for item in found:
-        why = fault(item) if item.model in (*DICHOTOMOUS, *POLYTOMOUS, FIELD) else "unknown model"
-        if why:
-            raise Refused(f"the map's item {item.name}: {why}")
-    return found
+def row_of(scorer: Scorer, number: int, session: Session, state: str, least: int) -> List[str]:
+    """The cells of a session, without the last one."""
+    cells = [str(number), str(session.booking), state, str(len(session.responses))]
+    if scorer.counting(session) < least:
+        return cells + [""] * 7 + ["too few answers", "", ""]
+    sums = scorer.sums(session)
+    mean, deviation = moments(sums, scorer.theta, scorer.unit)
+    return cells + [f"{scorer.theta[mode(sums)]:.4f}", f"{mean:.4f}", f"{deviation:.4f}"] + scorer.scale.cells(scorer.score(session))
 
 
 def state_of(session: Session, length: int) -> str:
@@ -330,8 +195,8 @@ def record_text(given: argparse.Namespace, documents: Documents, audit: Optional
     sources = {"journal": given.journal, "lines": given.lines, "script": given.script}
     digests = dict(documents.sha256, **{name: sha256_of(path) for name, path in sources.items() if path})
     digests["results"] = hashlib.sha256(result.encode("utf-8")).hexdigest()
-    asked = {name: getattr(given, name) for name in ("estimate", "scale", "obtainable", "cuts", "levels", "least", "open")}
-    return json.dumps({"sha256": digests, "audit": audit, "options": asked,
+    asked = dict(vars(given.reporting), least=given.least, open=given.open)
+    return json.dumps({"sha256": digests, "audit": audit, "options": asked, "levels_of": "the score as it is printed",
                        "sessions": dict(Counter(row[2] for row in rows)),
                        "levels": dict(Counter(row[12] for row in rows if row[12]))}, indent=1, ensure_ascii=False) + "\n"
 
@@ -354,8 +219,8 @@ def main(words: Sequence[str]) -> int:
     if given.journal and sha256_of(given.journal) != before:
         raise Refused(f"{given.journal}: it was written to while it was read; score a copy")
     require_own(sessions, documents, given)
-    scorer = Scorer(documents, given.estimate, scale_of(given, documents.map["theta"]))
-    rows = [scorer.row(number, session, state_of(session, documents.plan.length), given.least)
+    scorer = Scorer(documents.bank, documents.plan.prior, documents.map, given.reporting)
+    rows = [row_of(scorer, number, session, state_of(session, documents.plan.length), given.least)
             + ["audited" if audit else "unaudited"] for number, session in enumerate(sessions)]
     result = table_text([COLUMNS, *rows])
     if given.answers:

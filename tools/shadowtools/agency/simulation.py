@@ -12,6 +12,7 @@ import numpy as np
 
 from shadowtools.agency.custody import read_documents
 from shadowtools.agency.irt import DICHOTOMOUS, FIELD, POLYTOMOUS, Item, fault
+from shadowtools.agency.scoring import moments, posterior_sums
 from shadowtools.command import Refused
 from shadowtools.formats.examination import BankItem, Plan, Rule, Session, bands_of, is_finite, json_of
 from shadowtools.formats.tables import is_number
@@ -125,7 +126,8 @@ def retakers_of(examinees: int, share: float, seed: int) -> List[int]:
 
 @dataclass
 class Estimates:
-    """By session: the mode on the grid (shadowd's), the continuous mode, mean and SD of the posterior, and the MLE."""
+    """By session: the mode on the grid (shadowd's), the continuous mode, mean and SD of the posterior over the grid (those of
+    score.py), and the MLE."""
     mode: np.ndarray
     map: np.ndarray
     eap: np.ndarray
@@ -148,7 +150,8 @@ def grid_sums(examination: Examination, items: Sequence[int], responses: Sequenc
 
 
 def estimates(examination: Examination, sessions: Sequence[Session]) -> Estimates:
-    """All estimates of the sessions from the same answers. The MLE is kept on the grid's range."""
+    """All estimates of the sessions from the same answers. The MLE is kept on the grid's range; mode, mean and SD are from the
+    bank's whole numbers."""
     exact = [np.log(np.maximum(item.probabilities(FINE, examination.scaling), 1e-300)) for item in examination.items]
     prior = prior_on(examination.map["prior"], FINE)
     theta = examination.theta
@@ -156,12 +159,9 @@ def estimates(examination: Examination, sessions: Sequence[Session]) -> Estimate
     rows = []
     for session in sessions:
         like = sum(exact[i][r] for i, r in zip(session.items, session.responses))
-        posterior = np.exp(like + prior - (like + prior).max())
-        posterior /= posterior.sum()
-        mean = float(posterior @ FINE)
-        rows.append([theta[grid_sums(examination, session.items, session.responses)[-1].argmax()],
-                     FINE[(like + prior).argmax()], mean, np.sqrt(posterior @ (FINE - mean) ** 2),
-                     FINE[inside][like[inside].argmax()]])
+        sums = posterior_sums(examination.bank, examination.plan.prior, session.items, session.responses)
+        rows.append([theta[np.argmax(sums)], FINE[(like + prior).argmax()],
+                     *moments(sums, examination.map["theta"], examination.map["log_unit"]), FINE[inside][like[inside].argmax()]])
     return Estimates(*np.array(rows).T)
 
 

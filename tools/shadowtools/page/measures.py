@@ -32,11 +32,14 @@ def local_weights(at: np.ndarray, places: np.ndarray) -> np.ndarray:
     return weights / weights.sum(1, keepdims=True)
 
 
-def marginal_reliability(ability: np.ndarray, error_variance: np.ndarray) -> float:
-    """(V - E) / V, with V the variance of ability and E the mean error variance over the examinees (Green, Bock,
-    Humphreys, Linn and Reckase 1984, Journal of Educational Measurement 21, 347-360). NaN where V is 0."""
-    variance = np.var(ability)
-    return float(1 - np.mean(error_variance) / variance) if variance > 0 else float("nan")
+def marginal_reliability(ability: np.ndarray, error_variance: np.ndarray, is_shrunken: bool = True) -> float:
+    """With V the variance of ability and E the mean error variance over the examinees (Green, Bock, Humphreys, Linn and Reckase
+    1984, Journal of Educational Measurement 21, 347-360): (V - E) / V of an estimate that is drawn to the prior's mean, whose E is the
+    posterior variance, and V / (V + E) of another, whose variance is V + E. NaN where V is 0."""
+    variance, error = np.var(ability), np.mean(error_variance)
+    if variance <= 0:
+        return float("nan")
+    return float(1 - error / variance if is_shrunken else variance / (variance + error))
 
 
 # ---------------------------------------------------------------- classification

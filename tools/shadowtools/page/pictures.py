@@ -65,7 +65,7 @@ def draw_standard_errors(study: Study, axes):
     line, bands = standard_error(study.mean_information(at)), table_by_band(study, study.bands_of_truth)
     axes.plot(study.people.true, study.people.standard_error, ".", ms=3, color=BLUE, alpha=0.3, label="each test")
     axes.plot(at, line, color=BLUE, label="mean of the tests")
-    axes.plot(bands.ability, bands.rmse, "s", ms=5, mfc="none", color=GREY, label="RMSE of the mean (EAP)")
+    axes.plot(bands.ability, bands.rmse, "s", ms=5, mfc="none", color=GREY, label=f"RMSE of the {study.short_name}")
     target = study.questions.target
     if target:
         wide = np.linspace(target.abilities[0], target.abilities[-1], 121)
@@ -96,10 +96,10 @@ def information(study: Study) -> Picture:
 def recovery(study: Study) -> Picture:
     figure, axes = half(3.6, legend=1)
     sample = study.people.iloc[study.sample]
-    axes.plot(sample.true, sample.eap, ".", ms=3, color=BLUE, alpha=0.45, label="an examinee")
-    corners = [min(sample.true.min(), sample.eap.min()), max(sample.true.max(), sample.eap.max())]
+    axes.plot(sample.true, sample.theta, ".", ms=3, color=BLUE, alpha=0.45, label="an examinee")
+    corners = [min(sample.true.min(), sample.theta.min()), max(sample.true.max(), sample.theta.max())]
     axes.plot(corners, corners, "-", color="k", lw=0.8, label="estimate = truth")
-    axes.set(xlabel="true ability (logits)", ylabel="mean, EAP (logits)")
+    axes.set(xlabel="true ability (logits)", ylabel=f"{study.short_name} (logits)")
     axes.set_aspect("equal", adjustable="datalim")
     below(axes)
     return picture(figure, "Estimate beside truth",
@@ -114,7 +114,7 @@ def bias(study: Study) -> Picture:
             axes.errorbar(some.ability, some.bias, 1.96 * some.bias_error.fillna(0), fmt=marker, ms=5, capsize=3, lw=1.2,
                           color=BLUE, mfc=BLUE if marker == "o" else "none", label=label)
     axes.axhline(0, color="k", lw=0.8)
-    axes.set(xlabel="true ability (logits)", ylabel="bias of the mean, EAP (logits)")
+    axes.set(xlabel="true ability (logits)", ylabel=f"bias of the {study.short_name} (logits)")
     below(axes)
     worst = bands.loc[bands.bias.abs().idxmax()]
     return picture(figure, "Bias by ability with 95 % intervals",
@@ -148,7 +148,7 @@ def exposure_by_band(study: Study) -> Picture:
 
 
 def band_axis(study: Study) -> str:
-    return "mean, EAP (logits)" if study.questions.by_estimate else "true ability (logits)"
+    return f"{study.short_name} (logits)" if study.questions.by_estimate else "true ability (logits)"
 
 
 def rate_line(study: Study, axes) -> None:

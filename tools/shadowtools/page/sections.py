@@ -6,11 +6,13 @@ from typing import List, Sequence, Tuple
 import numpy as np
 
 from shadowtools.agency.irt import FIELD
+from shadowtools.agency.scoring import NAMES, words_of
 from shadowtools.formats.examination import Rule
 from shadowtools.page import conditional, pictures, retakers
-from shadowtools.page.measures import accuracy, consistency, level_chances, levels, marginal_reliability, standard_error
+from shadowtools.page.measures import accuracy, consistency, level_chances, levels, standard_error
 from shadowtools.page.parts import Facts, Note, Pictures, Section, Table, Text
-from shadowtools.page.study import Study, fixed, interval_names, plain, signed, table_by_band, table_by_item
+from shadowtools.page.study import (Study, fixed, interval_names, is_in_logits, names_of_cuts, plain, reliability_of, signed,
+                                    table_by_band, table_by_item)
 
 ESTIMATES = {"mode": "mode on the grid (shadowd)", "map": "continuous mode", "eap": "mean (EAP)",
              "mle": "maximum likelihood, on the grid's range"}
@@ -41,10 +43,19 @@ def identity(study: Study) -> Section:
             ("Examinees", examinees),
             ("Ability", f"{len(found['theta'])} points from {plain(found['theta'][0])} to {plain(found['theta'][-1])} logits; "
                         f"D {found['D']:g}; prior {prior}"),
+            ("Reported score", reported(study)),
             ("Units", f"{found['information_unit']:g} for one unit of information, {found['log_unit']:g} for one natural logarithm"),
             ("Simulated", f"{run['date']}, through {run['through']}"), ("Revision of the tools", run["revision"])]
     digests = [(f"SHA-256, {name}", value) for name, value in digests_of(run)]
     return Section("identity", "What was simulated", [Facts(rows), Facts(digests, "digests")])
+
+
+def reported(study: Study) -> str:
+    """The estimate, the scale and the rounding of the scores that examinees get."""
+    asked, scale = study.scorer.asked, study.scorer.scale
+    decimals = f"{scale.decimals} decimal{'' if scale.decimals == 1 else 's'}"
+    return (f"{NAMES[asked.estimate]}; scale {words_of(asked.scale)}; obtainable {plain(scale.low)} to {plain(scale.high)}; "
+            f"rounded to {decimals}")
 
 
 def digests_of(run: dict):
@@ -119,11 +130,11 @@ def precision(study: Study) -> Section:
         rows.append(("Target", f"{'standard error' if target.is_error else 'information'}: {target.name}"))
     table = table_by_band(study, study.bands_of_truth)
     cells = [[row.band + (" (tails)" if row.added else ""), f"{row.examinees:,}", signed(row.bias), fixed(row.bias_error), fixed(row.rmse),
-              fixed(row.posterior_sd), fixed(row.standard_error)] for row in table.itertuples()]
+              fixed(row.reported_error), fixed(row.standard_error)] for row in table.itertuples()]
     return Section("precision", "Precision by ability", [
         Pictures([pictures.standard_errors(study), pictures.information(study)]), Facts(rows),
-        Table(["True ability (logits)", "Examinees", "Bias (EAP)", "Its standard error", "RMSE (EAP)", "Mean posterior SD",
-               "Standard error"], cells),
+        Table(["True ability (logits)", "Examinees", f"Bias ({study.short_name})", "Its standard error", f"RMSE ({study.short_name})",
+               mean_error_of(study), "Standard error"], cells),
         Note("The standard error is 1 / √(mean information at the true ability) of the items that were given (Lord 1980). The lines are "
              "the best information of the bank times the mean share of it that the tests near each ability have, the tails with "
              "them. Bias towards the middle at the ends is the prior's, and greater where the bank informs little. The best "
@@ -131,9 +142,15 @@ def precision(study: Study) -> Section:
              "part is that the ability has to be found first.")])
 
 
+def mean_error_of(study: Study) -> str:
+    """What the mean of the standard errors that are reported is called."""
+    return "Mean standard error of the score" if study.scorer.exact else "Mean posterior SD"
+
+
 def recovery(study: Study) -> Section:
-    people, rows = study.people.iloc[study.sample], []
-    for name, words in ESTIMATES.items():
+    people, rows, estimate = study.people.iloc[study.sample], [], study.scorer.asked.estimate
+    names = dict(ESTIMATES, theta=f"{NAMES[estimate]}, on the obtainable range") if study.scorer.exact else ESTIMATES
+    for name, words in names.items():
         errors, spread = people[name] - people.true, people[name].std() > 0 and people.true.std() > 0
         correlation = f"{np.corrcoef(people[name], people.true)[0, 1]:.3f}" if spread else "–"
         rows.append([words, signed(errors.mean()), fixed(np.sqrt((errors ** 2).mean())), fixed(errors.abs().mean()), correlation])
@@ -142,49 +159,57 @@ def recovery(study: Study) -> Section:
     said = "RMSE is the root mean square error, all in logits. "
     if len(people) > 1:
         said += f"The standard error of a bias here is about {(people['mode'] - people.true).std() / np.sqrt(len(people)):.3f}. "
-    parts.append(Note(said + "shadowd chooses items at the mode on the grid. The mean is what a score report gives (tools/score.py)."))
+    parts.append(Note(f"{said}shadowd chooses items at the mode on the grid. Reported is the {NAMES[estimate]}, by the same function as "
+                      "in tools/score.py."))
     return Section("recovery", "Recovery of ability", parts)
 
 
 # ---------------------------------------------------------------- reliability and classification
 
 def classification(study: Study) -> Section:
-    people, cuts = study.people.iloc[study.sample], study.questions.cuts
-    rows = [("Marginal reliability, from the posterior variance", fixed(marginal_reliability(people.true, people.posterior_sd ** 2)))]
-    if people.eap.std() > 0 and people.true.std() > 0:
-        rows.append(("Squared correlation of the mean (EAP) with the truth", fixed(np.corrcoef(people.eap, people.true)[0, 1] ** 2)))
+    people, name = study.people.iloc[study.sample], NAMES[study.scorer.asked.estimate]
+    value, ends = reliability_of(study)
+    of = "error variance of the scores" if study.scorer.exact else "posterior variance"
+    rows = [(f"Marginal reliability, from the {of}", fixed(value))]
+    if study.scorer.exact:
+        rows.append(("Scores at an end of the obtainable range, which it leaves out", f"{ends:,}"))
+    if people.theta.std() > 0 and people.true.std() > 0:
+        rows.append((f"Squared correlation of the {name} with the truth", fixed(np.corrcoef(people.theta, people.true)[0, 1] ** 2)))
     parts = [Facts(rows)]
-    if len(cuts):
+    if len(study.cuts):
         parts += [table_of_cuts(study), table_of_levels(study)]
     parts.append(Note(
-        "The marginal reliability is (V − E) / V with the variance V of the abilities and the mean error variance E (Green, Bock, "
-        "Humphreys, Linn and Reckase 1984). " + (
-            "Counted: the level of the mean (EAP) beside the level of the true ability. Accuracy by formula takes the estimate to be "
+        f"The marginal reliability is {'V / (V + E)' if study.scorer.exact else '(V − E) / V'} with the variance V of the abilities and "
+        "the mean error variance E (Green, Bock, Humphreys, Linn and Reckase 1984). " + (
+            "Counted: the level of the score as it is printed beside the level of the true ability. Accuracy by formula takes the estimate to be "
             "normal about the true ability with its standard error (Rudner 2001, 2005). Consistency is the chance that two tests give "
-            "the same level, and kappa takes off the agreement by chance (Lee 2010)." if len(cuts) else
+            "the same level, and kappa takes off the agreement by chance (Lee 2010)." if len(study.cuts) else
             "With --cuts the page has the accuracy and consistency of decisions at cut scores.")))
     return Section("classification", "Reliability and decisions", parts)
 
 
 def table_of_cuts(study: Study) -> Table:
     """Accuracy and consistency at each cut alone, and of all levels."""
-    people, cuts = study.people.iloc[study.sample], list(study.questions.cuts)
+    people, scores = study.people.iloc[study.sample], list(study.scorer.scale.cuts)
+    alone = [(name, slice(k, k + 1)) for k, name in enumerate(names_of_cuts(study))]
     rows = []
-    for name, some in [(plain(cut), [cut]) for cut in cuts] + ([("all levels", cuts)] if len(cuts) > 1 else []):
-        true, found = levels(people.true, some), levels(people.eap, some)
-        chances = level_chances(people.true.to_numpy(), people.standard_error.to_numpy(), some)
+    for name, some in alone + ([("all levels", slice(None))] if len(scores) > 1 else []):
+        true, found = levels(people.true, study.cuts[some]), levels(people.scale, scores[some])
+        chances = level_chances(people.true.to_numpy(), people.standard_error.to_numpy(), study.cuts[some])
         agreement, kappa = consistency(chances)
         rows.append([name, f"{(true == found).mean():.1%}", f"{(found > true).mean():.1%}", f"{(found < true).mean():.1%}",
                      f"{accuracy(chances, true):.1%}", f"{agreement:.1%}", fixed(kappa)])
-    return Table(["Cut score (logits)", "In the true level", "Above it", "Below it", "Accuracy by formula",
+    return Table([f"Cut score ({'logits' if is_in_logits(study) else words_of(study.scorer.asked.scale)})", "In the true level", "Above it", "Below it", "Accuracy by formula",
                   "Consistency by formula", "Kappa"], rows)
 
 
 def table_of_levels(study: Study) -> Table:
     """How many examinees of each true level are in each level by their estimate."""
-    people, cuts = study.people.iloc[study.sample], study.questions.cuts
-    true, found = levels(people.true, cuts), levels(people.eap, cuts)
-    names = interval_names(cuts)
+    people, scale = study.people.iloc[study.sample], study.scorer.scale
+    true, found = levels(people.true, study.cuts), levels(people.scale, scale.cuts)
+    names = interval_names(scale.cuts)
+    if study.scorer.asked.levels:
+        names = [f"{level} ({name})" for level, name in zip(scale.levels, names)]
     rows = [[name] + [f"{((true == k) & (found == j)).sum():,}" for j in range(len(names))] for k, name in enumerate(names)]
     return Table(["True level"] + [f"estimate {name}" for name in names], rows)
 
@@ -208,7 +233,7 @@ def exposure(study: Study) -> Section:
     rows.append(("Mean overlap of two tests", fixed(study.overlap(study.sample))))
     if len(within) > 1:
         rows.append(("Mean overlap within a band, least and greatest", f"{min(within):.3f}, {max(within):.3f}"))
-    said = "A band is of the mean (EAP). " if study.questions.by_estimate else "A band is of the true ability. "
+    said = f"A band is of the {NAMES[study.scorer.asked.estimate]}. " if study.questions.by_estimate else "A band is of the true ability. "
     return Section("exposure", "Exposure and overlap", [
         Pictures([pictures.exposure(study), pictures.exposure_by_information(study)]), Facts(rows), most_shown(study),
         Pictures([pictures.exposure_by_band(study), pictures.overlap(study)]), exposure_table(study),

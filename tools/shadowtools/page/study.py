@@ -1,19 +1,20 @@
 """What the sections of the page read: the whole sessions of a simulation as tables, and their groups by ability."""
 import os
 from dataclasses import dataclass
-from typing import List, Optional, Sequence
+from typing import List, Optional, Sequence, Tuple
 
 import numpy as np
 import pandas as pd
 
 from shadowtools.agency.irt import FIELD
 from shadowtools.agency.retakers import Retakes
+from shadowtools.agency.scoring import SHORT_NAMES, Scorer
 from shadowtools.agency.simulation import Broken, Examination, Estimates, band_names, broken_rules, estimates
 from shadowtools.command import Refused
 from shadowtools.formats.examination import Rule, Session
 from shadowtools.formats.exposure import Exposure
 from shadowtools.formats.tables import number, read_table
-from shadowtools.page.measures import levels, local_weights, mean_overlap, standard_error
+from shadowtools.page.measures import levels, local_weights, marginal_reliability, mean_overlap, standard_error
 
 BAND_EDGES = (-2.0, -1.0, 0.0, 1.0, 2.0)
 MOST_POINTS = 20
@@ -68,10 +69,9 @@ def target_of(words: Optional[Sequence[str]]) -> Optional[Target]:
 
 @dataclass(frozen=True)
 class Questions:
-    """What the page is asked: the target, cut scores (logits, ascending), the edges of the ability bands and whether they are
-    bands of the estimate, and the two abilities between which the page states the standard error."""
+    """What the page is asked: the target, the edges of the ability bands (logits, ascending) and whether they are bands of the
+    estimate, and the two abilities between which the page states the standard error."""
     target: Optional[Target] = None
-    cuts: Sequence[float] = ()
     edges: Optional[Sequence[float]] = None
     by_estimate: bool = False
     between: Sequence[float] = (-1.0, 1.0)
@@ -124,12 +124,16 @@ class Study:
 
     `counts` has the exposure of the sample by its journal, in all and in each band of the estimate that is watched.
     `people` has a row for each session: booking, true ability, estimates, information at the true ability and its standard
-    error. `shown` and `eligible` are arrays [session, item]. `sample` has the rows that count in the totals. Second sittings are none of
+    error, and what `scorer` reports of it: the estimate `theta` with its standard error `se`, the score `scale` as it is printed, and the
+    `level`. `shown` and `eligible` are arrays [session, item]. `sample` has the rows that count in the totals. Second sittings are none of
     the sessions: `retakes` has them, if there are any, and `broken_second` the rules that they break."""
 
     def __init__(self, examination: Examination, run: dict, sample: List[Session], tails: List[Session],
-                 rules: List[Rule], questions: Questions, counts: Exposure, retakes: Optional[Retakes] = None) -> None:
+                 rules: List[Rule], questions: Questions, counts: Exposure, scorer: Scorer,
+                 retakes: Optional[Retakes] = None) -> None:
         self.examination, self.run, self.rules, self.questions, self.counts = examination, run, rules, questions, counts
+        self.scorer, self.short_name = scorer, SHORT_NAMES[scorer.asked.estimate]
+        self.cuts = np.array(scorer.cuts)
         self.sessions = sample + tails
         self.items, self.length = examination.items, examination.plan.length
         self.names = np.array([item.name for item in examination.items])
@@ -141,7 +145,7 @@ class Study:
         self.broken_second = broken_rules(rules, [second for _, second in retakes.pairs], examination.bank) if retakes else []
         self.rate = examination.plan.rate[0] / examination.plan.rate[1]
         self.controlled = self.rate < 1
-        self.bands = self.bands_by(self.people.eap if questions.by_estimate else self.people.true)
+        self.bands = self.bands_by(self.people.theta if questions.by_estimate else self.people.true)
         self.bands_of_truth = self.bands_by(self.people.true)
 
     def tables_of_items(self):
@@ -157,11 +161,16 @@ class Study:
         each = np.array([item.information(true, self.examination.scaling) for item in self.items])
         self.best = np.sort(each, 0)[::-1][:self.length].sum(0)
         information = (each.T * self.shown).sum(1)
+        scores, scale = [self.scorer.score(session) for session in self.sessions], self.scorer.scale
         return pd.DataFrame({
             "session": np.arange(len(true)), "booking": [session.booking for session in self.sessions],
             "part": ["sample"] * len(self.sample) + ["tails"] * len(self.tails), "true": true, "mode": found.mode,
             "map": found.map, "eap": found.eap, "posterior_sd": found.deviation, "mle": found.mle,
-            "information": information, "standard_error": standard_error(information)})
+            "information": information, "standard_error": standard_error(information),
+            "theta": [one.theta for one in scores], "se": [one.error for one in scores],
+            "scale": [float(scale.score(one.theta)) for one in scores],
+            "level": [scale.levels[scale.level(scale.score(one.theta))] if scale.cuts else "" for one in scores],
+            "remark": [scale.end(one) for one in scores]})
 
     def bands_by(self, values: pd.Series) -> List[Band]:
         """The bands of the sample, and after them a band for each ability of the tails."""
@@ -195,6 +204,31 @@ class Study:
         """The information of the best items of the bank at each ability, without any rule."""
         bank = np.stack([item.information(at, self.examination.scaling) for item in self.items])
         return np.sort(bank, 0)[::-1][:self.length].sum(0)
+
+
+def is_in_logits(study: Study) -> bool:
+    """Whether scores are reported as abilities in logits."""
+    return list(study.scorer.asked.scale) == [0.0, 1.0]
+
+
+def names_of_cuts(study: Study) -> List[str]:
+    """The cut scores, each on another scale than logits with its ability."""
+    scale = study.scorer.scale
+    if is_in_logits(study):
+        return [plain(cut) for cut in scale.cuts]
+    return [f"{plain(cut)} ({plain(round(ability, 3))} logits)" for cut, ability in zip(scale.cuts, study.cuts)]
+
+
+def reliability_of(study: Study) -> Tuple[float, int]:
+    """The marginal reliability of the scores of the sample, and how many scores stopped at an end and are left out of it: those of an
+    estimate by likelihood, which have no error there. NaN where there is none, or it is below 0."""
+    people = study.people.iloc[study.sample]
+    if study.scorer.exact:
+        inside = people[people.remark == ""]
+        value = marginal_reliability(inside.true, inside.se ** 2, False) if len(inside) else np.nan
+        return value, len(people) - len(inside)
+    value = marginal_reliability(people.true, people.se ** 2)
+    return (value if value >= 0 else np.nan), 0
 
 
 def estimates_of(study: Study) -> List[str]:
@@ -231,15 +265,15 @@ def table_by_item(study: Study) -> pd.DataFrame:
 
 
 def table_by_band(study: Study, bands: Sequence[Band]) -> pd.DataFrame:
-    """A row for each band: its examinees, bias and error of the mean (EAP), standard errors, exposure and overlap."""
+    """A row for each band: its examinees, bias and error of the estimate that is reported, standard errors, exposure and overlap."""
     rows = []
     for band in bands:
         people, exposure = study.people.iloc[band.members], study.exposure(band.members)
-        errors = (people.eap - people.true).to_numpy()
+        errors = (people.theta - people.true).to_numpy()
         rows.append({
             "band": band.label, "added": band.added, "examinees": len(people), "ability": people.true.mean(),
             "bias": errors.mean(), "bias_error": errors.std(ddof=1) / np.sqrt(len(errors)) if len(errors) > 1 else np.nan,
-            "rmse": np.sqrt((errors ** 2).mean()), "posterior_sd": people.posterior_sd.mean(),
+            "rmse": np.sqrt((errors ** 2).mean()), "reported_error": people.se.mean(),
             "standard_error": float(standard_error(people.information.mean())),
             "most_shown": study.names[exposure.argmax()], "greatest_exposure": exposure.max(),
             "above_rate": int((exposure > study.rate).sum()), "never_shown": int((exposure == 0).sum()),

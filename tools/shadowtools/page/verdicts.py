@@ -3,9 +3,10 @@ from typing import Iterator, List
 
 import numpy as np
 
-from shadowtools.page.measures import accuracy, consistency, level_chances, levels, marginal_reliability, standard_error
+from shadowtools.agency.scoring import words_of
+from shadowtools.page.measures import accuracy, consistency, level_chances, levels, standard_error
 from shadowtools.page.parts import Verdict
-from shadowtools.page.study import Study, plain, table_by_band
+from shadowtools.page.study import Study, fixed, is_in_logits, names_of_cuts, plain, reliability_of, table_by_band
 
 MET, NOT_MET, MEASURED = "met", "not met", "measured"
 
@@ -123,26 +124,29 @@ def retakers(study: Study) -> Iterator[Verdict]:
 
 def reliability(study: Study) -> Verdict:
     people = study.people.iloc[study.sample]
-    value = marginal_reliability(people.true, people.posterior_sd ** 2)
-    if np.isnan(value):
+    value, _ = reliability_of(study)
+    if np.var(people.true) == 0:
         return Verdict(MEASURED, "All examinees have one ability, so there is no marginal reliability.")
+    if np.isnan(value):
+        return Verdict(MEASURED, "The error variance of the scores is above the variance of ability, so there is no marginal reliability.")
     return Verdict(MEASURED, f"The marginal reliability is {value:.3f}, by the variance of the {len(people)} abilities that were simulated "
                              f"({' '.join(study.run['of'])}).")
 
 
 def classification(study: Study) -> Iterator[Verdict]:
-    cuts = study.questions.cuts
+    cuts = study.cuts
     if not len(cuts):
         return
     people = study.people.iloc[study.sample]
-    true, found = levels(people.true, cuts), levels(people.eap, cuts)
+    true, found = levels(people.true, cuts), levels(people.scale, study.scorer.scale.cuts)
     chances = level_chances(people.true.to_numpy(), people.standard_error.to_numpy(), cuts)
     agreement, kappa = consistency(chances)
-    names = " and ".join(map(plain, cuts))
+    names = " and ".join(names_of_cuts(study))
     cut = "cut score" if len(cuts) == 1 else "cut scores"
-    yield Verdict(MEASURED, f"At {cut} {names}, {(true == found).mean():.1%} of the examinees are in their true level, "
+    scale = "" if is_in_logits(study) else f" of the scale {words_of(study.scorer.asked.scale)}"
+    yield Verdict(MEASURED, f"At {cut} {names}{scale}, {(true == found).mean():.1%} of the examinees are in their true level, "
                             f"{(found > true).mean():.1%} above and {(found < true).mean():.1%} below it. By the formulas the "
-                            f"accuracy is {accuracy(chances, true):.1%}, and two tests agree in {agreement:.1%} (kappa {kappa:.2f}).")
+                            f"accuracy is {accuracy(chances, true):.1%}, and two tests agree in {agreement:.1%} (kappa {fixed(kappa, 2)}).")
 
 
 def tails(study: Study) -> Iterator[Verdict]:
