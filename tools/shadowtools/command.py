@@ -14,6 +14,16 @@ class Refused(Exception):
         self.line, self.kind = line, kind
 
 
+def print_utf8(text: str) -> None:
+    """Prints a text as UTF-8, whatever the console's encoding: its digest is that of the bytes that are read later."""
+    out = getattr(sys.stdout, "buffer", None)
+    if out is None:
+        sys.stdout.write(text)
+        return
+    sys.stdout.flush()
+    out.write(text.encode("utf-8", "surrogatepass"))
+
+
 def as_command(main: Callable[[Sequence[str]], int]) -> Callable[[Optional[Sequence[str]]], int]:
     """A function of the words of the command line, by default the process's; it gives the exit status.
 

@@ -40,11 +40,12 @@ item 5 shown 0 eligible 1
 
 
 def scale_map(unit=1.0):
-    """A map for bank A: points -1, 0 and 1."""
+    """A map for bank A: points -1, 0 and 1. Its numbers are of no model of an item, and the README's plan doesn't name it: it is
+    taken with --unbound alone."""
     return {"theta": [-1.0, 0.0, 1.0], "D": 1.0, "information_unit": 1.0, "log_unit": unit, "prior": ["flat"],
             "length": 3, "quantities": [], "passages": [],
             "sha256": {"bank": hashlib.sha256(BANK.encode()).hexdigest(), "plan": hashlib.sha256(PLAN.encode()).hexdigest()},
-            "items": [{"number": k, "id": f"I{k}", "model": "2PL", "parameters": [1.0, 0.0], "passage": 0,
+            "items": [{"number": k, "id": f"I{k}", "model": "TABLE", "parameters": [], "passage": 0,
                        "attributes": {}} for k in range(6)]}
 
 

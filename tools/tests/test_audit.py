@@ -47,12 +47,14 @@ class Files(Folder):
     def said(self, data):
         with open(self.path("journal"), "wb") as file:
             file.write(data)
-        status, said, _ = self.tool("audit", self.bank, self.plan, self.path("journal"))
+        status, said, errors = self.tool("audit", self.bank, self.plan, self.path("journal"))
+        self.assertEqual(errors, self.digests)
         return status, said.splitlines()[0]
 
     def setUp(self):
         super().setUp()
         self.bank, self.plan = self.write("bank", a.BANK), self.write("plan", a.PLAN)
+        self.digests = "".join(f"{name} sha256 {hashlib.sha256(text.encode()).hexdigest()}\n" for name, text in (("bank", a.BANK), ("plan", a.PLAN)))
 
     def test_frames(self):
         none = (0, "entries 0 sessions 0 finished 0 proved 0 unproved 0 aside 0 nodes 0")

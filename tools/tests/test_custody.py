@@ -10,6 +10,8 @@ import unittest
 
 import data_of_bank_a as a
 from common import PROGRAM, ROOT, TOOLS, Folder, needs_numpy, needs_program
+from shadowtools.agency.bank_of_map import fault_of_bank
+from shadowtools.formats.examination import read_bank
 
 FOUR = "ID,a,b\nI1,1.2,-0.5\nI2,0.8,0.4\nI3,1.5,0\nI4,1,1\n"
 ATTRIBUTES = "ID,K,WORDS\nI1,x,10\nI2,x,20\nI3,y,30\nI4,y,40\n"
@@ -197,6 +199,137 @@ class Digests(Tables):
             self.assertEqual(found[name], hashlib.sha256(self.read(path).encode()).hexdigest())
 
 
+# An item of each model, a steep and a flat one, and one in field test.
+EACH_MODEL = ("ID,MODEL,PAR1,PAR2,PAR3,PAR4\nA,1PL,0.3,,,\nB,2PL,9.5,-1.5,,\nC,3PL,1.2,0.4,0.21,\nD,4PL,0.05,-3,0.1,0.93\n"
+              "E,GR,1.7,-1,0.2,1.4\nF,GPC,0.9,0.5,-0.4,\nG,PC,-0.7,0.1,0.9,2\nH,FIELD,3,,,\n")
+
+
+@needs_numpy
+class Bound(Tables):
+    """A plan names its map, and the map has the numbers of the bank: what is changed in one of them is found, in each tool that reads all."""
+
+    def setUp(self):
+        super().setUp()
+        attributes = "ID,STID,WORDS\n" + "".join(f"{name},{'text' if name in 'AB' else ''},{50 + k}\n" for k, name in enumerate("ABCDEFGH"))
+        self.bank("--quantity", "WORDS", "--scaling", "1.7", "--prior", "0.2", "1.1", items=EACH_MODEL, attributes=attributes)
+        with open(self.path("j"), "wb") as file:
+            file.write(a.journal([a.started(0, 70), a.served(0, 0, 2, {2, 3}), a.answered(0, 0, 1), a.closed(0)]))
+        self.map, self.plan = json.loads(self.read("o.map.json")), self.read("o.plan.txt")
+
+    def score(self, *words):
+        return self.tool("score", "o.bank.csv", "o.plan.txt", "o.map.json", "--journal", "j", "--unaudited", *words)
+
+    def written(self, plan=None, bank=None, **changes):
+        """Writes a map with changes, and other texts whose digests it has."""
+        found = dict(self.map, **changes)
+        for name, end, text in (("plan", ".plan.txt", plan), ("bank", ".bank.csv", bank)):
+            if text:
+                self.write("o" + end, text)
+                found["sha256"] = dict(found["sha256"], **{name: hashlib.sha256(text.encode()).hexdigest()})
+        self.write("o.map.json", json.dumps(found))
+
+    def changed_items(self, change):
+        items = json.loads(json.dumps(self.map["items"]))
+        change(items)
+        return items
+
+    def test_the_right_files(self):
+        status, said, errors = self.score()
+        self.assertEqual((status, errors), (0, ""))
+        row = next(csv.DictReader(io.StringIO(said)))
+        digests = [hashlib.sha256(self.read(name).encode()).hexdigest() for name in ("o.bank.csv", "o.plan.txt")]
+        self.assertEqual([row[name] for name in ("bank", "plan", "map", "journal")], [*digests, "bound", "unbound"])
+        self.written()    # another layout of the same JSON
+        self.assertEqual(self.score()[:2], (0, said))
+
+    def test_a_map_that_the_plan_does_not_name(self):
+        """One logit more for each ability; the same with all difficulties, which gives the same bank; and IDs that were exchanged."""
+        def moved(items):
+            for one in items:
+                places = {"1PL": slice(0, 1), "PC": slice(0, 9), "FIELD": slice(0, 0), "GR": slice(1, 9), "GPC": slice(1, 9)}
+                at = places.get(one["model"], slice(1, 2))
+                one["parameters"][at] = [value + 1 for value in one["parameters"][at]]
+
+        def exchanged(items):
+            items[0]["id"], items[1]["id"] = items[1]["id"], items[0]["id"]
+
+        theta = [one + 1 for one in self.map["theta"]]
+        for change in ({"theta": theta}, {"theta": theta, "items": self.changed_items(moved), "prior": ["1.2", "1.1"]},
+                       {"items": self.changed_items(exchanged)}, {"prior": ["0.2", "1.2"]}, {"information_unit": 10.0}, {"note": "mine"}):
+            with self.subTest(sorted(change)):
+                self.written(**change)
+                for more in ([], ["--unbound"]):
+                    status, said, errors = self.score(*more)
+                    self.assertEqual((status, said), (1, ""))
+                    self.assertIn("o.map.json: not the map that o.plan.txt names, by its SHA-256 ", errors)
+                self.assertIn("not the map that", self.tool("explain", "o.bank.csv", "o.plan.txt", "--map", "o.map.json")[2])
+                self.assertIn("not the map that", self.tool("simulate", "o", "--out", "run", "--program", "/bin/true")[2])
+
+    def test_a_plan_that_names_no_map(self):
+        plan = "".join(line for line in self.plan.splitlines(True) if "map SHA-256" not in line)
+        self.written(plan=plan)
+        status, said, errors = self.score()
+        self.assertEqual((status, said), (1, ""))
+        self.assertIn("o.plan.txt: no line '# map SHA-256 ..'", errors)
+        status, said, errors = self.score("--unbound")
+        self.assertEqual((status, errors, next(csv.DictReader(io.StringIO(said)))["map"]), (0, "", "unbound"))
+        for change, wanted in (({"theta": [one + 1 for one in self.map["theta"]]}, "item A: its information at -1 is "),
+                               ({"prior": ["0.2", "1"]}, "not the prior of o.map.json: the prior at -2 is -"),
+                               ({"information_unit": 999.0}, "item A: its information at "), ({"D": 1.71}, "item A: its information at "),
+                               ({"items": self.changed_items(lambda items: items[0].update(passage=2))}, "item A: its passage, or a quantity"),
+                               ({"items": self.changed_items(lambda items: items[1]["attributes"].update(WORDS="9"))}, "item B: its passage, or a quantity"),
+                               ({"items": self.changed_items(lambda items: items[7].update(parameters=[2.0]))}, "item H: its log-likelihoods at -2 "),
+                               ({"items": self.changed_items(lambda items: items[3].update(parameters=[0.05, 1e300, 0.1, 0.93]))}, "item D: its ")):
+            with self.subTest(wanted):
+                self.written(plan=plan, **change)
+                status, said, errors = self.score("--unbound")
+                self.assertEqual((status, said, errors.count("\n")), (1, "", 1), errors)
+                self.assertIn(wanted, errors)
+
+    def test_each_parameter_of_each_model(self):
+        """The bank is that of the map; with any parameter moved by 0.02 it is not."""
+        bank = read_bank(self.path("o.bank.csv"))
+        self.assertIsNone(fault_of_bank(self.map, bank))
+        for k, one in enumerate(self.map["items"][:7]):
+            for place in range(len(one["parameters"])):
+                items = self.changed_items(lambda found: found[k]["parameters"].__setitem__(place, one["parameters"][place] + 0.02))
+                self.assertIn(f"item {one['id']}: its ", fault_of_bank(dict(self.map, items=items), bank) or "", (k, place))
+
+    def test_a_number_of_the_bank(self):
+        """A cell that is one more than it should be, with its digest in the map."""
+        lines = self.read("o.bank.csv").split("\n")
+        for column in (1, 3, 4, 8, 9, 18):
+            cells = lines[3].split(",")
+            cells[column] = str(int(cells[column]) + (1 if int(cells[column]) >= 0 else -1))
+            self.written(bank="\n".join([*lines[:3], ",".join(cells), *lines[4:]]))
+            status, _, errors = self.score()
+            self.assertEqual((status, "item C: its " in errors), (1, True), (column, errors))
+
+
+@needs_numpy
+class Bytes(Tables):
+    def test_results_are_in_utf_8(self):
+        """On a console in Latin-1, or in ASCII, the digest of the record is that of the bytes that were printed."""
+        self.bank()
+        with open(self.path("j"), "wb") as file:
+            file.write(a.journal([a.started(0, 70), a.served(0, 0, 2, {2, 3}), a.answered(0, 0, 1), a.closed(0)]))
+        words = [sys.executable, os.path.join(TOOLS, "score.py"), "o.bank.csv", "o.plan.txt", "o.map.json", "--journal", "j", "--unaudited",
+                 "--cuts", "-1", "--levels", "nicht genügend", "genügend", "--record", "record"]
+        for encoding in ("latin-1", "ascii", "utf-8"):
+            done = subprocess.run(words, cwd=self.folder, capture_output=True, env=dict(os.environ, PYTHONIOENCODING=encoding))
+            self.assertEqual((done.returncode, done.stderr), (0, b""))
+            self.assertIn("genügend".encode(), done.stdout)
+            self.assertEqual(json.loads(self.read("record"))["sha256"]["results"], hashlib.sha256(done.stdout).hexdigest())
+
+    def test_a_journal_without_a_session(self):
+        self.bank()
+        for data in (b"", b"SHADOWJ2\0"):
+            with open(self.path("j"), "wb") as file:
+                file.write(data)
+            self.assertEqual(self.tool("score", "o.bank.csv", "o.plan.txt", "o.map.json", "--journal", "j", "--unaudited"),
+                             (1, "", "j: the journal has no session; there is nothing to score\n"))
+
+
 class Scores(Folder):
     """score.py with the files of the README's example, of which a test changes one."""
 
@@ -220,7 +353,7 @@ class Scores(Folder):
             file.write(a.journal(payloads))
 
     def score(self, *words, bank="bank", plan="plan"):
-        return self.tool("score", bank, plan, "map", "--journal", "j", *words)
+        return self.tool("score", bank, plan, "map", "--journal", "j", "--unbound", *words)
 
     def refuses(self, wanted, *words, **paths):
         with self.subTest(wanted):
@@ -295,7 +428,7 @@ class Scores(Folder):
 
     def test_a_reader_that_goes_away(self):
         """`score.py ... | head -c 1` ends without a traceback, however much there is to print."""
-        words = [sys.executable, os.path.join(TOOLS, "score.py"), "bank", "plan", "map", "--journal", "j"]
+        words = [sys.executable, os.path.join(TOOLS, "score.py"), "bank", "plan", "map", "--journal", "j", "--unbound"]
         reading, writing = os.pipe()
         os.close(reading)
         done = subprocess.run(words, cwd=self.folder, stdout=writing, stderr=subprocess.PIPE, text=True)

@@ -111,7 +111,7 @@ class Results(Cases):
             for name, data in texts.items():
                 self.put(name, data)
             by_lines = damaged in ("lines", "script") or rng.random() < 0.2
-            words = ["bank", "plan", "map"] + (["--lines", "lines", "--script", "script", "--open"] if by_lines else ["--journal", "j"])
+            words = ["bank", "plan", "map", "--unbound"] + (["--lines", "lines", "--script", "script", "--open"] if by_lines else ["--journal", "j"])
             for option in rng.sample(SCORE_OPTIONS, rng.choice((0, 0, 1, 2))):
                 words += [word for word in option if word not in words]
             ends.add(self.ends("score", words, case))
@@ -132,7 +132,7 @@ class Others(Cases):
             for name, data in texts.items():
                 self.put(name, data)
             tool, words = rng.choice((
-                ("explain", ["bank", "plan", "--program", rng.choice(("/bin/true", "/bin/false", "/bin/cat", "nowhere")), "--map", "map"]),
+                ("explain", ["bank", "plan", "--program", rng.choice(("/bin/true", "/bin/false", "/bin/cat", "nowhere")), "--map", "map", "--unbound"]),
                 ("audit", ["bank", "plan", "j"]), ("audit", ["--seal", "j"]), ("audit", ["--against", "seal", "j"]),
                 ("check_tree", ["bank", "plan", rng.choice(("0006", "01000200000005040003000000410300", "", "zz", "00")), *rng.choice((
                     (), ("--form", "1-3"), ("--form", "x"), ("--form", "1,99"), ("--given", "9-1"), ("--barred", "0"), ("--theta", "2"), ("--theta", "3"),
@@ -146,9 +146,12 @@ class Others(Cases):
         options = (("--examinees", "0"), ("--examinees", "1_0"), ("--seed", "-1"), ("--seed", "99999999999999999999"), ("--true", "normal"),
                    ("--true", "normal", "nan", "1"), ("--true", "uniform", "1", "0"), ("--true", "points", "x"), ("--group", "0"), ("--clients", "17"),
                    ("--through", "mail"), ("--rules", "plan"), ("--rules", "nowhere"), ("--tails", "x"), ("--each", "-1"), ("--out", "no/run"))
+        self.put("items", b"ID,a,b\n" + b"".join(b"I%d,1,%d\n" % (k, k - 3) for k in range(6)))
+        self.assertEqual(self.tool("irt_bank", "--items", "items", "--length", "3", "--out", "made", "--grid", "-1", "1", "3")[0], 0)
+        made = {name: self.read("made." + end).encode() for name, end in (("bank", "bank.csv"), ("plan", "plan.txt"), ("map", "map.json"))}
         for case in range(CASES // 4):
             rng = random.Random(SEED * 400_000 + case)
-            texts, found = {"bank": a.BANK.encode(), "plan": a.PLAN.encode()}, a.scale_map()
+            texts, found = {name: made[name] for name in ("bank", "plan")}, json.loads(made["map"])
             damaged = rng.choice(("bank", "plan", "map", "none"))
             if damaged in texts:
                 texts[damaged] = self.changed(rng, texts[damaged])

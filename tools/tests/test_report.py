@@ -369,6 +369,19 @@ class Pages(Examination):
         self.assertEqual(self.report("--obtainable", "-1000", "1000", "--cuts", "500")[0], 0)
         self.assertTrue("agree in 100.0% (kappa –)." in self.read("page.html"))
 
+    def test_rules_of_another_bank(self):
+        """A plan that names an item, a quantity, a passage or a point that this bank does not have is none for it."""
+        prior = next(line for line in self.read("e.plan.txt").splitlines() if line.startswith("prior")) + "\n"
+        for rule, said in (("count 0 5 400-500", "line 3: an item or a quantity"), ("quantity 3 0 100 0-4", "line 3: an item or a quantity"),
+                           ("stimulus 7 1 2", "line 3: the bank has no passage 7")):
+            self.write("other", "length 4\n" + prior + rule + "\n")
+            self.refused("other: " + said, "--rules", "other")
+            self.assertIn(said, self.simulate("--rules", "other")[2])
+        self.write("other", "length 4\nprior 0 0\ncount 0 2 0-3\n")
+        self.refused("other: the prior has 2 points, the bank 7", "--rules", "other")
+        self.write("other", "length 4\n" + prior + "count 0 4 0-3\n")
+        self.assertEqual(self.report("--rules", "other")[0], 0)
+
     def refused(self, said, *words):
         status, _, errors = self.report(*words)
         self.assertEqual((status, errors.count("\n"), said in errors), (1, 1, True), errors)

@@ -91,7 +91,7 @@ class Results(Folder):
             self.write(name, text)
 
     def rows(self, *words):
-        status, said, errors = self.tool("score", "bank", "plan", "map", "--open", *words)
+        status, said, errors = self.tool("score", "bank", "plan", "map", "--open", "--unbound", *words)
         self.assertEqual(status, 0, errors)
         return list(csv.DictReader(io.StringIO(said)))
 
@@ -103,7 +103,9 @@ class Results(Folder):
                 a.answered(0, 1, 0), a.served(0, 2, 1, form), a.started(1, 71), a.served(1, 0, 2, {1, 2, 3}),
                 a.answered(0, 2, 1)]))
         by_lines = self.rows("--lines", "lines", "--script", "script", "--answers", "answers")
-        self.assertEqual(by_lines, self.rows("--journal", "j", "--unaudited", "--shown", "shown"))
+        by_journal = self.rows("--journal", "j", "--unaudited", "--shown", "shown")
+        self.assertEqual([row.pop("journal") for row in by_lines + by_journal], ["", "", "unbound", "unbound"])
+        self.assertEqual(by_lines, by_journal)
         self.assertEqual([(r["booking"], r["state"], r["answered"], r["mode"], r["remark"]) for r in by_lines],
                          [("70", "complete", "3", "0.0000", ""), ("71", "open", "0", "", "too few answers")])
         self.assertEqual(self.read("answers").splitlines()[1:], ["0,70,0,I2,1", "0,70,1,I4,0", "0,70,2,I1,1"])
@@ -130,7 +132,7 @@ class Results(Folder):
             self.assertEqual(f"{rounded(score, decimals):f}", wanted, score)
 
     def test_cuts_that_no_score_is_below_or_reaches(self):
-        words = ("score", "bank", "plan", "map", "--open", "--lines", "lines", "--script", "script", "--scale", "500", "100")
+        words = ("score", "bank", "plan", "map", "--open", "--unbound", "--lines", "lines", "--script", "script", "--scale", "500", "100")
         for cut in ("950", "601", "400", "-3"):
             status, said, errors = self.tool(*words, "--cuts", cut)
             self.assertEqual((status, said), (1, ""))
@@ -142,12 +144,12 @@ class Results(Folder):
     def test_files_that_do_not_agree(self):
         self.write("more", "answer 0 1 0\n")
         self.write("told", "session 0 step 2 item 1 proved\n")
-        status, _, errors = self.tool("score", "bank", "plan", "map", "--lines", "told", "--script", "more")
+        status, _, errors = self.tool("score", "bank", "plan", "map", "--unbound", "--lines", "told", "--script", "more")
         self.assertEqual((status, "no line has the item of step 1 of session 0" in errors), (1, True))
         self.write("map", json.dumps(dict(a.scale_map(), theta=[0, 1])))
-        status, _, errors = self.tool("score", "bank", "plan", "map", "--lines", "lines", "--script", "script")
+        status, _, errors = self.tool("score", "bank", "plan", "map", "--unbound", "--lines", "lines", "--script", "script")
         self.assertEqual((status, "is not the map of" in errors), (1, True))
-        status, _, errors = self.tool("score", "bank", "plan", "map", "--lines", "told", "--script", "more", "--shown", "shown")
+        status, _, errors = self.tool("score", "bank", "plan", "map", "--unbound", "--lines", "told", "--script", "more", "--shown", "shown")
         self.assertEqual((status, errors), (1, "--shown needs a journal\n"))
 
     def test_an_answer_that_is_sent_again_counts_once(self):
@@ -172,6 +174,7 @@ class Results(Folder):
         self.assertEqual([row.pop("audit") for row in by_journal], ["audited"] * 2)
         by_lines = self.rows("--lines", "lines", "--script", "script")
         self.assertEqual([row.pop("audit") for row in by_lines], ["unaudited"] * 2)
+        self.assertEqual([row.pop("journal") for row in by_lines + by_journal], ["", "", "unbound", "unbound"])
         self.assertEqual(by_journal, by_lines)
         entries = read_journal(self.path("j"))
         self.assertEqual([e.form for e in entries if isinstance(e, Served)],

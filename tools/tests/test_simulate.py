@@ -151,7 +151,8 @@ class Simulations(Examination):
         self.assertEqual(json.loads(self.read("run.run.json"))["true"], [-2, -2, 0, 0])
 
     def test_other_rules_can_be_counted(self):
-        self.write("other", "length 4\nprior 0\n# row 0: odds\ncount 0 2 1 3 5 7\n")
+        prior = next(line for line in self.read("e.plan.txt").splitlines() if line.startswith("prior "))
+        self.write("other", f"length 4\n{prior}\n# row 0: odds\ncount 0 2 1 3 5 7\n")
         status, _, errors = self.simulate("--rules", "other")
         self.assertEqual((status, "count 0 2 1 3 5 7 (row 0: odds) has 3" in errors), (1, True))
 

@@ -1,6 +1,6 @@
 """Why a plan has no form, or no series of forms; and how far from the best an unproved form can be.
 
-usage: explain.py BANK PLAN [--series K] [--map MAP] [--program SHADOWD]      default $SHADOWD, else crates/shadowd/out/shadowd
+usage: explain.py BANK PLAN [--series K] [--map MAP [--unbound]] [--program SHADOWD]      default $SHADOWD, else crates/shadowd/out/shadowd
 
 It runs `shadowd assemble`. Where no set of items meets the plan (status 11), it leaves out one rule after the
 other for as long as there is still no form. The rules that stay cannot be met together, and without any one of them
@@ -14,7 +14,7 @@ rays and counts of the series tree name. Each step is a proved `no series`, but 
 with a bank whose items inform alike.
 
 Rules are named by the remark above them in the plan, as irt_bank.py writes it. With --map the gap is in units of
-information. Exit status: 0 where there is a form or a series, 11 where there is no form, 12 where none was found, 17 where there is
+information; the map has to be that of bank and plan. With --unbound the plan need not name it by its SHA-256. Exit status: 0 where there is a form or a series, 11 where there is no form, 12 where none was found, 17 where there is
 no series, 18 where none was found, 1 where the files are refused.
 """
 import argparse
@@ -22,10 +22,11 @@ import sys
 from typing import Callable, Iterable, List, Optional, Sequence, Set, TextIO, Tuple
 
 from shadowtools.agency.clash_distance import distance
+from shadowtools.agency.custody import read_documents
 from shadowtools.agency.program import DONE, NO_FORM, NO_SERIES, NO_SERIES_FOUND, NOT_FOUND, Form, Program, form_of
 from shadowtools.checkers import check_series, check_tree
 from shadowtools.command import Refused, as_command
-from shadowtools.formats.examination import BankItem, Rule, plan_of, read_bank, read_map
+from shadowtools.formats.examination import BankItem, Rule, plan_of, read_bank
 from shadowtools.formats.tables import text_of
 from shadowtools.options import Options, whole
 from shadowtools.places import BUILT
@@ -175,12 +176,15 @@ def options(words: Sequence[str]) -> argparse.Namespace:
     parser.add_argument("--map")
     parser.add_argument("--series", type=whole(1, 4))
     parser.add_argument("--program", default=BUILT)
+    parser.add_argument("--unbound", action="store_true")
     return parser.read(words, lambda given: bool(given.plan))
 
 
 def main(words: Sequence[str]) -> int:
     given = options(words)
-    unit = read_map(given.map)["information_unit"] if given.map else None
+    unit = None
+    if given.map:
+        unit = read_documents(given.bank, given.plan, given.map, may_be_unbound=given.unbound).map["information_unit"]
     text = text_of(given.plan)
     program = Program(given.program, given.bank)
     return on_series(program, text, given.series) if given.series else on_form(program, text, given, unit)

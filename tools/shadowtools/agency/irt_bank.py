@@ -39,7 +39,7 @@ import math
 import os
 import re
 import sys
-from typing import Dict, List, Sequence, Tuple
+from typing import Any, Dict, List, Sequence, Tuple
 
 from shadowtools.needs import require
 
@@ -52,6 +52,7 @@ from shadowtools.agency.bank_parameters import FORMATS, Reading, read_items  # n
 from shadowtools.agency.bank_tables import (Tables, ability_grid, grid_warnings, item_warnings, least_error,  # noqa: E402
                                             log_prior, rate_warnings, rounding_cost)
 from shadowtools.agency.blueprint import MOST_PASSAGES, Blueprint, compile_blueprint  # noqa: E402
+from shadowtools.agency.custody import map_digest  # noqa: E402
 from shadowtools.agency.explain import clash, print_clash  # noqa: E402
 from shadowtools.agency.irt import Item  # noqa: E402
 from shadowtools.agency.program import DONE, NO_FORM, NOT_FOUND, Program, form_of, run  # noqa: E402
@@ -175,8 +176,9 @@ def advice_of(given: argparse.Namespace, tables: Tables, length: int) -> band_po
     return band_points.advice(given.bands, tables.items, tables.theta, given.scaling, length, given.prior, weights)
 
 
-def plan_text(given: argparse.Namespace, tables: Tables, blueprint: Blueprint, points: Sequence[int] = ()) -> str:
-    """The plan, with a remark above each rule."""
+def plan_text(given: argparse.Namespace, tables: Tables, blueprint: Blueprint, digest: str, points: Sequence[int] = ()) -> str:
+    """The plan, with a remark above each rule, and at its end one that names its map by the digest. The empty line after it keeps it
+    from being the label of a row that somebody adds."""
     theta = tables.theta
     lines = [f"# made by irt_bank.py from {' '.join(os.path.basename(given.items).split())}",
              f"# {len(theta)} points from {theta[0]:g} to {theta[-1]:g}; D {given.scaling:g}; "
@@ -197,20 +199,26 @@ def plan_text(given: argparse.Namespace, tables: Tables, blueprint: Blueprint, p
             lines.append(f"# row {row}: {rule.remark}")
             row += 1
         lines += rule.lines
-    return "\n".join(lines) + "\n"
+    return "\n".join([*lines, f"# map SHA-256 {digest}", ""]) + "\n"
 
 
-def map_text(given: argparse.Namespace, tables: Tables, blueprint: Blueprint, bank: str, plan: str) -> str:
-    """The map: the scale, the units, the names, and the SHA-256 of the texts of bank and plan."""
-    whole_map = {
+def map_of(given: argparse.Namespace, tables: Tables, blueprint: Blueprint) -> Dict[str, Any]:
+    """The map without the digests of bank and plan: the scale, the units and the names."""
+    return {
         "theta": tables.theta.tolist(), "D": given.scaling, "information_unit": given.information_unit,
         "log_unit": given.log_unit, "prior": given.prior, "length": blueprint.length, "quantities": given.quantity,
-        "passages": blueprint.passages,
-        "sha256": {"bank": digest_of(bank), "plan": digest_of(plan)},
+        "passages": blueprint.passages, "sha256": {},
         "items": [{"number": k, "id": item.name, "model": item.model, "parameters": item.parameters,
                    "passage": item.passage, "attributes": item.attributes} for k, item in enumerate(tables.items)],
     }
-    return json.dumps(whole_map, indent=1, ensure_ascii=False) + "\n"
+
+
+def texts_of(given: argparse.Namespace, tables: Tables, blueprint: Blueprint, points: Sequence[int]) -> Tuple[str, str, str]:
+    """Bank, plan and map. The plan names the map by its SHA-256, and the map has those of bank and plan."""
+    bank, scale_map = tables.text(), map_of(given, tables, blueprint)
+    plan = plan_text(given, tables, blueprint, map_digest(scale_map), points)
+    scale_map["sha256"] = {"bank": digest_of(bank), "plan": digest_of(plan)}
+    return bank, plan, json.dumps(scale_map, indent=1, ensure_ascii=False) + "\n"
 
 
 def digest_of(text: str) -> str:
@@ -299,11 +307,10 @@ def main(words: Sequence[str]) -> int:
     theta = ability_grid(given.grid, items, given.scaling, blueprint.length)
     tables = Tables(items, quantities, theta, given.scaling, given.information_unit, given.log_unit)
     bands = advice_of(given, tables, blueprint.length)
-    bank, plan = tables.text(), plan_text(given, tables, blueprint, bands.points)
+    bank, plan, written = texts_of(given, tables, blueprint, bands.points)
     warnings = blueprint.warnings + item_warnings(items, theta) + grid_warnings(given.prior, tables, blueprint.length)
     warnings += ([] if bands.points else rate_warnings(given.rate, blueprint.length, len(items))) + bands.warnings
     weights = weights_of(given.weights, theta) if given.weights else []
-    written = map_text(given, tables, blueprint, bank, plan)
     for end, text in ((".bank.csv", bank), (".plan.txt", plan), (".map.json", written)):
         write(given.out + end, text)
     if weights:

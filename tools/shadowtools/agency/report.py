@@ -15,7 +15,9 @@ usage: report.py PREFIX --run OUT --to REPORT.html [options]
   --by truth|estimate            whether the bands of exposure and overlap are of the true ability (default) or the estimate
   --watch P ..                   the rates in bands of the estimate that begin at these points of the grid; default the plan's bands
   --between LOW HIGH             abilities in logits between which the page states the standard error; default -1 1
-  --rules PLAN                   counts the rules of another plan
+  --rules PLAN                   counts the rules of another plan for the same bank
+  --unbound                      takes a plan that does not name its map by its SHA-256, as irt_bank.py wrote it up to version 0.12.0;
+                                 the page names it
   --template FILE                another template for jinja2 than report.html of these tools
   --picture FILE.png             a picture for another page: the forms of an examinee, and the standard error
 
@@ -48,14 +50,14 @@ from shadowtools.agency.scoring import (OPTIONS, SHORT_NAMES, Scorer, add_report
                                         reporting_of_record)
 from shadowtools.agency.series_weights import read_weights  # noqa: E402
 from shadowtools.agency.simulate import revision  # noqa: E402
-from shadowtools.agency.simulation import Examination, load, parted, read_run  # noqa: E402
+from shadowtools.agency.simulation import Examination, load, parted, read_run, rules_of  # noqa: E402
 from shadowtools.command import Refused, as_command  # noqa: E402
-from shadowtools.formats.examination import Session, read_journal, read_plan, require_points  # noqa: E402
+from shadowtools.formats.examination import Session, read_journal, require_points  # noqa: E402
 from shadowtools.formats.exposure import Exposure, exposure_of  # noqa: E402
 from shadowtools.formats.tables import text_of  # noqa: E402
 from shadowtools.options import Options, finite, require_folder, whole  # noqa: E402
 from shadowtools.page import series as series_page  # noqa: E402
-from shadowtools.page.parts import Section, Verdict  # noqa: E402
+from shadowtools.page.parts import UNBOUND, Section, Verdict  # noqa: E402
 from shadowtools.page.pictures import at_a_glance  # noqa: E402
 from shadowtools.page.sections import chosen, sections  # noqa: E402
 from shadowtools.page.study import Questions, Study, answers, table_by_item, target_of  # noqa: E402
@@ -79,6 +81,7 @@ def options(words: Sequence[str]) -> argparse.Namespace:
     parser.add_argument("--by", choices=("truth", "estimate"), default="truth")
     parser.add_argument("--between", nargs=2, type=finite, default=[-1.0, 1.0])
     parser.add_argument("--template", default=TEMPLATE)
+    parser.add_argument("--unbound", action="store_true")
     found = parser.read(words, lambda found: bool(found.prefix and found.to and (found.run or found.series)))
     if found.series:
         for name in ["run"] * bool(found.run) + [name for name, default in OF_A_RUN.items() if getattr(found, name) != default]:
@@ -183,12 +186,13 @@ def page_of_series(given: argparse.Namespace) -> int:
     table = os.path.splitext(given.to)[0] + ".forms.csv"
     for path in (given.to, table):
         require_folder("--to", path)
-    examination, target = load(given.prefix), target_of(given.target)
+    examination, target = load(given.prefix, given.unbound), target_of(given.target)
     weights = given.prefix + ".weights.txt"
     series = series_page.Series(examination, read_weights(weights, len(examination.theta)), text_of(given.series), target)
     facts = [("Target asked", f"{'standard error' if target.is_error else 'information'}: {target.name}")] if target else []
     date = now()
     facts += [("Page made", date), ("Revision of the tools", revision())]
+    facts += [] if examination.is_bound else [UNBOUND]
     digests = [(name, examination.sha256[name]) for name in ("bank", "plan", "map")]
     digests += [("weights", sha256_of(weights)), ("printed series", sha256_of(given.series))]
     forms = f"{len(series.forms)} fixed forms" if len(series.forms) > 1 else "One fixed form"
@@ -219,10 +223,10 @@ def report_of_run(given: argparse.Namespace) -> int:
     asked, begin = questions(given), os.path.splitext(given.to)[0]
     for path in (given.to, begin + ".sessions.csv", begin + ".answers.csv", begin + ".items.csv", given.picture or given.to):
         require_folder("--to" if path != given.picture else "--picture", path)
-    examination, run = load(given.prefix), read_run(given.run + ".run.json")
+    examination, run = load(given.prefix, given.unbound), read_run(given.run + ".run.json")
     require_abilities(given, examination, run)
     scorer = Scorer(examination.bank, examination.plan.prior, examination.map, given.reporting)
-    rules = (read_plan(given.rules) if given.rules else examination.plan).rules
+    rules = rules_of(given.rules, examination)
     sample, tails, counts = sessions_of_run(given, run, examination)
     study = Study(examination, run, sample, tails, rules, asked, counts, scorer, retakes(given, run, examination, sample))
     text = page_of_run(study, given.template)

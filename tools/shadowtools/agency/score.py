@@ -3,9 +3,10 @@
 usage: score.py BANK PLAN MAP --journal JOURNAL [options]
        score.py BANK PLAN MAP --lines LINES --script SCRIPT [options]
 
-MAP is the map that irt_bank.py wrote beside the bank; a bank or plan that is not the map's is refused. The journal is audited
-first: one that does not follow from this bank and plan is refused. LINES is what `shadowd replay` printed for SCRIPT, from an
-empty journal on; it can't be audited. The result is CSV on standard output, one line for each session:
+MAP is the map that irt_bank.py wrote beside the bank; a bank or plan that is not the map's is refused, and a map that is not the plan's.
+The journal is audited first: one that does not follow from this bank and plan is refused, and so is one without a session. LINES is what
+`shadowd replay` printed for SCRIPT, from an empty journal on; it can't be audited. The result is CSV in UTF-8 on standard output, one line
+for each session:
 
   session, booking, state   state is complete, closed or open
   answered                  number of answers
@@ -16,6 +17,10 @@ empty journal on; it can't be audited. The result is CSV on standard output, one
   remark                    lowest or highest, where the score is at that end; too few answers, where there is no score
   level, level_error        with --cuts: the level of the score as it is printed, and the probability that the true level is another
   audit                     audited or unaudited
+  bank, plan                the SHA-256 of the bank and of the plan that were used, in hexadecimal
+  map                       bound: the plan names the map by its SHA-256; else unbound
+  journal                   unbound: a journal doesn't name its bank and plan. That it is audited says that its records follow from
+                            these, and a short journal may follow from another plan too. Empty with --lines
 
   --estimate E      eap (default), mode, wle or mle. With eap and mode the standard error is the posterior's standard deviation.
                     wle (Warm 1989) and mle are from the exact parameters, with 1 / sqrt(information); they need python3-numpy
@@ -27,6 +32,7 @@ empty journal on; it can't be audited. The result is CSV on standard output, one
   --least N         a session with fewer answers has no score; default 1. Answers to items in field test don't count
   --open            scores open sessions too; without it a journal that has one is refused
   --unaudited       does not audit the journal, and the column audit is `unaudited`
+  --unbound         takes a plan that does not name its map, as irt_bank.py wrote it up to version 0.12.0, and the column map is `unbound`
   --answers FILE    also writes the answers, one line each: session, booking, step, item, response
   --shown FILE      also writes the items that each session was shown, answered or not: session, booking, and their numbers in the bank
                     as a set such as `0 2-4`. That is the list with which another sitting of the person is begun
@@ -47,14 +53,14 @@ from typing import Dict, Iterator, List, Optional, Sequence, Tuple
 
 from shadowtools.agency.custody import Documents, audited, read_documents, sha256_of
 from shadowtools.agency.scoring import Scorer, add_reporting, mode, moments, reporting_of
-from shadowtools.command import Refused, as_command
+from shadowtools.command import Refused, as_command, print_utf8
 from shadowtools.formats.examination import Session, read_journal, sessions_of
 from shadowtools.formats.tables import runs, text_of
 from shadowtools.options import Options, require_folder, whole
 from shadowtools.places import BUILT
 
 COLUMNS = ("session", "booking", "state", "answered", "mode", "eap", "posterior_sd", "theta", "se", "scale", "scale_se",
-           "remark", "level", "level_error", "audit")
+           "remark", "level", "level_error", "audit", "bank", "plan", "map", "journal")
 
 
 def options(words: Sequence[str]) -> argparse.Namespace:
@@ -66,7 +72,7 @@ def options(words: Sequence[str]) -> argparse.Namespace:
     parser.add_argument("--program", default=BUILT)
     add_reporting(parser)
     parser.add_argument("--least", type=whole(1, 512), default=1)
-    for name in ("open", "unaudited"):
+    for name in ("open", "unaudited", "unbound"):
         parser.add_argument("--" + name, action="store_true")
     found = parser.read(words, lambda given: bool(given.map) and bool(given.journal) != bool(given.lines and given.script))
     if found.journal and (found.lines or found.script):
@@ -137,7 +143,7 @@ def note(found: Dict[int, Session], served: Dict[Tuple[int, int], int], words: L
 # ---------------------------------------------------------------- scores
 
 def row_of(scorer: Scorer, number: int, session: Session, state: str, least: int) -> List[str]:
-    """The cells of a session, without the last one."""
+    """The cells of a session, without those that are the same for all."""
     cells = [str(number), str(session.booking), state, str(len(session.responses))]
     if scorer.counting(session) < least:
         return cells + [""] * 7 + ["too few answers", "", ""]
@@ -194,8 +200,8 @@ def record_text(given: argparse.Namespace, documents: Documents, audit: Optional
     """What the scores were made of, as JSON."""
     sources = {"journal": given.journal, "lines": given.lines, "script": given.script}
     digests = dict(documents.sha256, **{name: sha256_of(path) for name, path in sources.items() if path})
-    digests["results"] = hashlib.sha256(result.encode("utf-8")).hexdigest()
-    asked = dict(vars(given.reporting), least=given.least, open=given.open)
+    digests["results"] = hashlib.sha256(result.encode("utf-8", "surrogatepass")).hexdigest()
+    asked = dict(vars(given.reporting), least=given.least, open=given.open, unbound=given.unbound)
     return json.dumps({"sha256": digests, "audit": audit, "options": asked, "levels_of": "the score as it is printed",
                        "sessions": dict(Counter(row[2] for row in rows)),
                        "levels": dict(Counter(row[12] for row in rows if row[12]))}, indent=1, ensure_ascii=False) + "\n"
@@ -211,17 +217,21 @@ def write(path: str, text: str) -> None:
 
 def main(words: Sequence[str]) -> int:
     given = options(words)
-    documents = read_documents(given.bank, given.plan, given.map, given.program)
+    documents = read_documents(given.bank, given.plan, given.map, given.program, given.unbound)
     audit, before = None, sha256_of(given.journal) if given.journal else None
     if given.journal and not given.unaudited:
         audit = audited(given.bank, given.plan, given.journal, given.program)
     sessions = sessions_of(read_journal(given.journal)) if given.journal else sessions_of_lines(given.lines, given.script)
     if given.journal and sha256_of(given.journal) != before:
         raise Refused(f"{given.journal}: it was written to while it was read; score a copy")
+    if given.journal and not sessions:
+        raise Refused(f"{given.journal}: the journal has no session; there is nothing to score")
     require_own(sessions, documents, given)
     scorer = Scorer(documents.bank, documents.plan.prior, documents.map, given.reporting)
-    rows = [row_of(scorer, number, session, state_of(session, documents.plan.length), given.least)
-            + ["audited" if audit else "unaudited"] for number, session in enumerate(sessions)]
+    of_all = ["audited" if audit else "unaudited", documents.sha256["bank"], documents.sha256["plan"],
+              "bound" if documents.is_bound else "unbound", "unbound" if given.journal else ""]
+    rows = [row_of(scorer, number, session, state_of(session, documents.plan.length), given.least) + of_all
+            for number, session in enumerate(sessions)]
     result = table_text([COLUMNS, *rows])
     if given.answers:
         write(given.answers, answers_text(sessions, documents))
@@ -229,7 +239,7 @@ def main(words: Sequence[str]) -> int:
         write(given.shown, shown_text(sessions))
     if given.record:
         write(given.record, record_text(given, documents, audit, rows, result))
-    sys.stdout.write(result)
+    print_utf8(result)
     return 0
 
 

@@ -20,6 +20,7 @@ usage: simulate.py PREFIX --out OUT [options]      PREFIX.bank.csv, PREFIX.plan.
                     the draws of a session see only sessions that are finished
   --clients N       connections at once through serve, 1 to 16; default 4
   --rules PLAN      the rules that are counted; default those of the plan
+  --unbound         takes a plan that does not name its map by its SHA-256, as irt_bank.py wrote it up to version 0.12.0
   --program SHADOWD default $SHADOWD, else crates/shadowd/out/shadowd
 
 Written: OUT.journal, the journal; OUT.second.journal, which goes on with it by the second sittings; OUT.tails.journal, that of
@@ -58,9 +59,9 @@ from shadowtools.agency.program import form_of, run  # noqa: E402
 from shadowtools.agency.retakers import retakes_of, summary  # noqa: E402
 from shadowtools.agency.simulation import (  # noqa: E402
     MOST_SEED, SECOND_SITTING, Examination, abilities, abilities_of, band_names, broken_rules, drawn_responses, load, middles,
-    retakers_of)
+    retakers_of, rules_of)
 from shadowtools.command import Refused, as_command  # noqa: E402
-from shadowtools.formats.examination import Session, read_journal, read_plan, require_points  # noqa: E402
+from shadowtools.formats.examination import Session, read_journal, require_points  # noqa: E402
 from shadowtools.formats.exposure import Exposure, differs, exposure_of  # noqa: E402
 from shadowtools.formats.tables import runs  # noqa: E402
 from shadowtools.options import Options, between, require_folder, whole  # noqa: E402
@@ -83,7 +84,8 @@ def options(words: Sequence[str]) -> argparse.Namespace:
     parser.add_argument("--tails", nargs="+")
     parser.add_argument("--each", type=whole(1, MOST_SESSIONS))
     parser.add_argument("--retakers", type=between(0, 1), default=0)
-    parser.add_argument("--no-lists", action="store_true")
+    for name in ("no-lists", "unbound"):
+        parser.add_argument("--" + name, action="store_true")
     parser.add_argument("--through", choices=("replay", "serve"), default="replay")
     parser.add_argument("--group", type=whole(1, MOST_SESSIONS))
     parser.add_argument("--clients", type=whole(1, 16), default=4)
@@ -314,8 +316,8 @@ def main(words: Sequence[str]) -> int:
         raise Refused(f"{given.examinees} examinees and {len(retakers)} second sittings are more than {MOST_SESSIONS}")
     for end in (".journal", ".second.journal", ".tails.journal", ".run.json"):
         require_folder("--out", given.out + end)
-    examination = load(given.prefix)
-    rules = read_plan(given.rules).rules if given.rules else examination.plan.rules
+    examination = load(given.prefix, given.unbound)
+    rules = rules_of(given.rules, examination)
     require_points(given.watch or [], len(examination.theta), "--watch")
     if given.true == ["bands"]:
         given.true = ["turns", *(f"{point:.4g}" for point in middles(examination, given.watch or examination.plan.points))]

@@ -6,7 +6,7 @@ the rounded tables of the bank.
 """
 import math
 from dataclasses import dataclass
-from typing import Dict, List, Sequence, Tuple
+from typing import Dict, List, Optional, Sequence, Tuple
 
 import numpy as np
 
@@ -14,7 +14,7 @@ from shadowtools.agency.custody import read_documents
 from shadowtools.agency.irt import DICHOTOMOUS, FIELD, POLYTOMOUS, Item, fault
 from shadowtools.agency.scoring import moments, posterior_sums
 from shadowtools.command import Refused
-from shadowtools.formats.examination import BankItem, Plan, Rule, Session, bands_of, is_finite, json_of
+from shadowtools.formats.examination import BankItem, Plan, Rule, Session, bands_of, is_finite, json_of, read_plan, require_agreement
 from shadowtools.formats.tables import is_number
 
 FINE = np.linspace(-6, 6, 1201)
@@ -23,13 +23,14 @@ MOST_SEED = 2 ** 63 - 1
 
 @dataclass
 class Examination:
-    """Bank, plan and map of a prefix, as irt_bank.py writes them, with the SHA-256 of each file."""
+    """Bank, plan and map of a prefix, as irt_bank.py writes them, with the SHA-256 of each file, and whether the plan names the map."""
     prefix: str
     bank: List[BankItem]
     plan: Plan
     map: dict
     items: List[Item]
     sha256: Dict[str, str]
+    is_bound: bool = True
 
     @property
     def theta(self):
@@ -43,22 +44,29 @@ class Examination:
         return self.prefix + ".bank.csv", self.prefix + ".plan.txt"
 
 
-def load(prefix: str) -> Examination:
-    """The examination of a prefix. Refused is a bank or a plan that is not the map's, by its digest, and a map whose items are
-    of no known model, or whose prior is none."""
-    documents = read_documents(prefix + ".bank.csv", prefix + ".plan.txt", prefix + ".map.json")
+def load(prefix: str, may_be_unbound: bool = False) -> Examination:
+    """The examination of a prefix. Refused are files that are not of one another (custody.py), and a map whose items are of no known
+    model, or whose prior is none."""
+    documents = read_documents(prefix + ".bank.csv", prefix + ".plan.txt", prefix + ".map.json", may_be_unbound=may_be_unbound)
     found = documents.map
     items = [Item(r["id"], r["model"], r["parameters"], r["attributes"], r["passage"]) for r in found["items"]]
     for item, row in zip(items, documents.bank):
         why = fault(item) if item.model in (*DICHOTOMOUS, *POLYTOMOUS, FIELD) else "unknown model"
         if why or item.categories != row.categories:
             raise Refused(f"{prefix}.map.json: item {item.name}: {why or 'other categories than in the bank'}")
-    prior, names = found["prior"], (found.get("passages"), found.get("quantities"))
+    prior = found["prior"]
     if prior != ["flat"] and not (all(map(is_number, prior)) and float(prior[1]) > 0):
         raise Refused(f"{prefix}.map.json: the prior {' '.join(prior)} is no mean and standard deviation")
-    if not all(isinstance(one, list) and all(isinstance(name, str) for name in one) for one in names):
-        raise Refused(f"{prefix}.map.json: the names of passages and quantities are missing")
-    return Examination(prefix, documents.bank, documents.plan, found, items, documents.sha256)
+    return Examination(prefix, documents.bank, documents.plan, found, items, documents.sha256, documents.is_bound)
+
+
+def rules_of(path: Optional[str], examination: Examination) -> List[Rule]:
+    """The rules of another plan for the same bank, at a path, or those of the examination. Refused is a plan for another bank."""
+    if not path:
+        return examination.plan.rules
+    plan = read_plan(path)
+    require_agreement(examination.bank, plan, path)
+    return plan.rules
 
 
 # ---------------------------------------------------------------- examinees

@@ -20,7 +20,8 @@ bank and plan gives one line in place of that: `journal: too long L`, `journal: 
 
 It shares no text with the product: its rules are those of docs/FORMATS.md alone. The journal is only read, by version 1 or 2 of
 its format: the header tells which, and a file of version 1 that was moved has its records of version 2 after a mark. One record
-is in memory at a time. Exit status: 0; 6 for a journal that is refused; 2 for a faulty command line; 1 for a file that can't be read,
+is in memory at a time. A journal does not name its bank and plan: the SHA-256 of those that it was judged by are printed on standard
+error. Exit status: 0; 6 for a journal that is refused; 2 for a faulty command line; 1 for a file that can't be read,
 and for a bank or a plan that shadowd does not take.
 """
 import csv
@@ -588,6 +589,8 @@ def main(words: Sequence[str]) -> int:
         return 2
     require_texts(*paths[:2])
     rules = read_rules(*paths[:2])
+    for name, path in zip(("bank", "plan"), paths):
+        print(f"{name} sha256 {hashlib.sha256(bytes_of(path)).hexdigest()}", file=sys.stderr)
     note = print_tree if "--trees" in words else lambda at, nodes, said, spent: None
     with opened(paths[2]) as file:
         try:

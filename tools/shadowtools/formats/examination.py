@@ -117,7 +117,7 @@ def read_map(path: str) -> Dict[str, Any]:
     """The map that irt_bank.py wrote: ability points, units, prior, names and digests."""
     found = json_of(path)
     wanted = {"theta": numbers, "log_unit": positive, "information_unit": positive, "D": positive, "prior": words,
-              "items": map_items, "sha256": digests}
+              "items": map_items, "sha256": digests, "quantities": texts, "passages": texts}
     for name, holds in wanted.items():
         if not isinstance(found, dict) or name not in found:
             raise Refused(f"{path}: no map of this irt_bank.py: {name} is missing; make bank, plan and map again")
@@ -146,6 +146,11 @@ def words(value: Any) -> bool:
     if not isinstance(value, list) or not all(isinstance(word, str) for word in value):
         return False
     return value == ["flat"] or len(value) == 2 and all(re.fullmatch(r"[-+.0-9eE]+", word) for word in value)
+
+
+def texts(value: Any) -> bool:
+    """Names of passages or of quantities."""
+    return isinstance(value, list) and all(isinstance(name, str) for name in value)
 
 
 def map_items(value: Any) -> bool:
@@ -290,13 +295,16 @@ def read_plan(path: str) -> Plan:
 
 
 def require_agreement(bank: Sequence[BankItem], plan: Plan, path: str) -> None:
-    """Refuses a plan that names a point, an item or a quantity that the bank does not have."""
+    """Refuses a plan that names a point, an item, a quantity or a passage that the bank does not have."""
+    passages = {item.passage for item in bank} - {0}
     if len(plan.prior) != len(bank[0].information):
         raise Refused(f"{path}: the prior has {len(plan.prior)} points, the bank {len(bank[0].information)}")
     require_points(plan.points, len(plan.prior), path)
     for rule in plan.rules:
         if max(rule.members, default=0) >= len(bank) or rule.kind == "quantity" and rule.number >= len(bank[0].quantities):
             raise Refused(f"{path}: line {rule.line}: an item or a quantity that the bank does not have")
+        if rule.kind == "stimulus" and rule.number not in passages:
+            raise Refused(f"{path}: line {rule.line}: the bank has no passage {rule.number}")
 
 
 def require_points(points: Sequence[int], grid: int, where: str) -> None:

@@ -3,6 +3,10 @@ from dataclasses import dataclass, field
 from typing import List, Sequence, Tuple
 
 
+# A fact of a page whose plan does not name its map.
+UNBOUND = ("Map", "unbound: the plan does not name it by its SHA-256")
+
+
 @dataclass
 class Note:
     """A paragraph."""

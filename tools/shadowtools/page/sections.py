@@ -10,7 +10,7 @@ from shadowtools.agency.scoring import NAMES, words_of
 from shadowtools.formats.examination import Rule
 from shadowtools.page import conditional, pictures, retakers
 from shadowtools.page.measures import accuracy, consistency, level_chances, levels, standard_error
-from shadowtools.page.parts import Facts, Note, Pictures, Section, Table, Text
+from shadowtools.page.parts import UNBOUND, Facts, Note, Pictures, Section, Table, Text
 from shadowtools.page.study import (Study, fixed, interval_names, is_in_logits, names_of_cuts, plain, reliability_of, signed,
                                     table_by_band, table_by_item)
 
@@ -46,6 +46,7 @@ def identity(study: Study) -> Section:
             ("Reported score", reported(study)),
             ("Units", f"{found['information_unit']:g} for one unit of information, {found['log_unit']:g} for one natural logarithm"),
             ("Simulated", f"{run['date']}, through {run['through']}"), ("Revision of the tools", run["revision"])]
+    rows += [] if study.examination.is_bound else [UNBOUND]
     digests = [(f"SHA-256, {name}", value) for name, value in digests_of(run)]
     return Section("identity", "What was simulated", [Facts(rows), Facts(digests, "digests")])
 
