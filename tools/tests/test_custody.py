@@ -199,6 +199,111 @@ class Digests(Tables):
             self.assertEqual(found[name], hashlib.sha256(self.read(path).encode()).hexdigest())
 
 
+LETTERS = "ID,STID,K,N,S\nI1,,Reading,1,3.1\nI2,,reading,2,3.10\nI3,,writing,4,03\nI4,,listening,5,3\n"
+
+
+@needs_numpy
+class Meanings(Tables):
+    """A blueprint that is not the one that was meant: it is refused, or a warning has the value; a right one beside it has neither."""
+
+    def with_row(self, row, *words, attributes=LETTERS, **texts):
+        return self.convert(*words, attributes=attributes, constraints=HEAD + row + "\n", **texts)
+
+    def refuses_row(self, wanted, row, *words, attributes=LETTERS):
+        self.refuses(wanted, *words, attributes=attributes, constraints=HEAD + row + "\n")
+
+    def warns(self, wanted, row, *words, count=1, **texts):
+        with self.subTest(wanted or row):
+            status, errors = self.with_row(row, *words, **texts)
+            self.assertEqual(status, 0, errors)
+            self.assertIn(wanted, errors)
+            self.assertEqual(errors.count("look") + errors.count("takes the items") + errors.count("bars nothing")
+                             + errors.count("passage '") + errors.count("is read as"), count, errors)
+
+    def test_sequences(self):
+        """R's 1:2 in a set: items 1 and 2, and 4, that is I3."""
+        self.with_row('n,Number,Item,"N %in% c(1:2,4)",1,2,')
+        self.assertIn("\ncount 1 2 0-2\n", self.read("o.plan.txt"))
+        self.with_row('n,Number,Item,"N %in% 4:9",1,2,')
+        self.assertIn("\ncount 1 2 2-3\n", self.read("o.plan.txt"))
+        os.remove(self.path("o.bank.csv"))
+        self.refuses_row("n: no item has N '6:9'; items have 1, 2, 4, 5", 'n,Number,Item,"N %in% c(1, 6:9)",0,2,')
+
+    def test_values_that_no_item_has(self):
+        for condition in ('K %in% c(""writing"",""writting"")', 'K == ""writing"" | K == ""writting""', 'K != ""writting""', "K == writing & !(K == writting)"):
+            row = f'w,Number,Item,"{condition}",0,2,'
+            self.refuses_row("line 3: w: no item has K 'writting'; items have Reading, listening, reading, writing", row)
+            self.assertEqual(self.with_row(row, "--absent-values")[0], 0)
+            os.remove(self.path("o.bank.csv"))
+        self.warns("", 'w,Number,Item,"K %in% c(writing,listening)",0,2,', count=0, attributes=LETTERS.replace("Reading", "reading"))
+
+    def test_values_that_look_alike(self):
+        self.warns("attribute K: 'Reading' (line 2) and 'reading' (line 3) look alike", "r,Number,Item,K == reading,0,2,")
+        self.warns("attribute K: '\u00e4' ('\\xe4', line 2) and 'a\u0308' ('a\\u0308', line 3) look alike", "r,Number,Item,K == writing,0,2,",
+                   attributes=LETTERS.replace("Reading", "\u00e4").replace("reading", "a\u0308"))
+        self.warns("attribute STID: 'P 1' (line 2) and 'p  1' (line 3) look alike", "r,Number,Item,K == writing,0,2,",
+                   attributes=LETTERS.replace("I1,", "I1,P 1").replace("I2,", "I2,p  1").replace("Reading", "reading"))
+        self.warns("", "r,Number,Item,N == 1,0,2,", count=0)
+        os.remove(self.path("o.bank.csv"))
+        self.refuses("no item has the ID 'e\u0301' ('e\\u0301'); the items have '\u00e9' ('\\xe9'), which differs by its form in Unicode alone",
+                     items=FOUR.replace("I1", "\u00e9"), attributes=ATTRIBUTES.replace("I1", "e\u0301"))
+        self.refuses("no item has the ID 'i1' ('i1'); the items have 'I1' ('I1'), which differs by capital letters alone",
+                     attributes=ATTRIBUTES.replace("I1", "i1"))
+
+    def test_thousands(self):
+        words = 'ID,K,WORDS,MORE\nI1,x,10,"1,400"\nI2,x,20,900\nI3,y,30,950\nI4,y,40,1\n'
+        for more in ((), ("--decimal", "comma")):
+            for row, where in (('w,Sum,Item,WORDS,"1,400",,', "LB"), ('w,Mean,Item,WORDS,,"1,400",', "UB"), ('w,Number,Item,K == x,,"1,400",', "UB")):
+                self.refuses_row(f"line 3 column {where}: '1,400' may be 1400 or 1.400", row, "--quantity", "WORDS", *more, attributes=words)
+            self.refuses("line 2 column MORE: '1,400' may be 1400 or 1.400", "--quantity", "MORE", *more, attributes=words)
+        self.refuses_row("line 3 column LB: '1,400,000' may be 1400000; write", 'w,Sum,Item,WORDS,"1,400,000",,', "--quantity", "WORDS", attributes=words)
+        self.refuses("column b: '1,400' is not a finite number; give --decimal comma, or write a thousand without a comma",
+                     items=FOUR.replace("-0.5", '"1,400"'))
+        self.warns("attribute MORE: '1,400' (line 2) is read as 1.400", "m,Number,Item,MORE > 2,0,2,", "--decimal", "comma", attributes=words)
+        self.assertIn("\ncount 0 2 1-2\n", self.read("o.plan.txt"))
+        self.assertEqual(self.with_row('w,Mean,Item,WORDS,"15,5",,', "--quantity", "WORDS", "--decimal", "comma", attributes=words)[0], 0)
+        self.assertIn("\nquantity 0 31 ", self.read("o.plan.txt"))
+
+    def test_passages_that_are_none(self):
+        for name in ("0", "-", "N/A", "none"):
+            self.warns(f"passage '{name}' has 4 items, which are served one after another", "r,Number,Item,N == 1,0,2,",
+                       attributes=LETTERS.replace(",,", f",{name},"))
+        self.warns("passage 'P' has 3 items, more than a test of 2", "r,Number,Item,N == 1,0,2,", attributes=LETTERS.replace(",,", ",P,", 3))
+        for name in ("P", "NA", ""):
+            self.warns("", "r,Number,Item,N == 1,0,2,", count=0, attributes=LETTERS.replace(",,", f",{name},", 2))
+
+    def test_an_id_is_a_text(self):
+        none = {"attributes": None, "constraints": None}
+        self.bank("--length", "1", "--decimal", "comma", items='ID,a,b\n"7,5",1,"0,5"\nNA,1,0\n"1,250",1,0\n', **none)
+        found = json.loads(self.read("o.map.json"))["items"]
+        self.assertEqual([one["id"] for one in found], ["7,5", "NA", "1,250"])
+        self.assertEqual(found[0]["parameters"], [1.0, 0.5])
+        self.bank("--decimal", "comma", items=FOUR.replace("I1", '"7,5"'), attributes=ATTRIBUTES.replace("I1", '"7,5"'))
+        self.assertEqual(json.loads(self.read("o.map.json"))["items"][0]["attributes"]["ID"], "7,5")
+        self.bank("--length", "1", items="ID,a,b\n,1,0\n,1,1\n", **none)
+        self.assertEqual([one["id"] for one in json.loads(self.read("o.map.json"))["items"]], ["item1", "item2"])
+
+    def test_numbers_that_are_codes(self):
+        attributes = LETTERS.replace("Reading", "reading")
+        self.warns("s: the number 3.1 takes the items whose S is '3.1' or '3.10'", "s,Number,Item,S == 3.1,0,2,", attributes=attributes)
+        self.warns("s: the number 3 takes the items whose S is '03' or '3'", 's,Number,Item,"S %in% c(3, 3.10)",0,2,', count=2, attributes=attributes)
+        self.warns("s: the number 12 takes the items whose ID is '0012'", "s,Number,Item,ID == 12,0,2,",
+                   items=FOUR.replace("I1", "0012"), attributes=attributes.replace("I1", "0012"))
+        for condition in ('S == ""3.1""', "N == 1", "N == 1.0", "S > 3"):
+            self.warns("", f's,Number,Item,"{condition}",0,2,', count=0, attributes=attributes)
+
+    def test_an_enemy_of_nothing(self):
+        self.warns("e: one item alone meets 'N == 1', I1, so the row bars nothing", "e,Enemy,Item,N == 1,,,")
+        self.warns("", "e,Enemy,Item,N < 3,,,", count=0)
+
+    def test_intercepts_of_mirt_have_no_scaling(self):
+        none = {"attributes": None, "constraints": None}
+        mirt = "a1,d,g,u\n1.2,0.1,0,1\n"
+        self.refuses("--scaling 1.702: the intercepts of items are mirt's, whose D is 1", "--length", "1", "--scaling", "1.702", items=mirt, **none)
+        self.bank("--length", "1", "--scaling", "1", items=mirt, **none)
+        self.bank("--length", "1", "--scaling", "1.702", items="a,b\n1,0\n", **none)
+
+
 # An item of each model, a steep and a flat one, and one in field test.
 EACH_MODEL = ("ID,MODEL,PAR1,PAR2,PAR3,PAR4\nA,1PL,0.3,,,\nB,2PL,9.5,-1.5,,\nC,3PL,1.2,0.4,0.21,\nD,4PL,0.05,-3,0.1,0.93\n"
               "E,GR,1.7,-1,0.2,1.4\nF,GPC,0.9,0.5,-0.4,\nG,PC,-0.7,0.1,0.9,2\nH,FIELD,3,,,\n")

@@ -114,7 +114,9 @@ class Plans(Converter):
         status, errors = self.convert(dict(items=TWO, attributes=ATTRIBUTES, constraints=rules), "--quantity", "W",
                                       "--grid", "-1", "1", "3")
         self.assertEqual(status, 0, errors)
-        self.assertEqual(self.read("o.plan.txt").splitlines()[2:], [
+        *lines, named, empty = self.read("o.plan.txt").split("\n")[2:-1]
+        self.assertEqual((re.sub("[0-9a-f]{64}", "H", named), empty), ("# map SHA-256 H", ""))
+        self.assertEqual(lines, [
             "length 1", "prior -500 0 -500", "budget 2001", "base-budget 4095", "sessions 1000", "journal 67108864",
             "# row 0: k: Number Item K %in% c(x, y) & W >= 6", "count 0 1 1",
             "# row 1: m: Mean Item W", "quantity 0 5 6 0-1", "# row 2: s: Number Stimulus", "stimuli 0 1",

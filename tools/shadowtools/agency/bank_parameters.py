@@ -15,7 +15,7 @@ from typing import Callable, Dict, List, Optional, Sequence, Set, Tuple
 
 from shadowtools.agency.irt import DICHOTOMOUS, FIELD, POLYTOMOUS, SYNONYMS, Item, fault
 from shadowtools.command import Refused
-from shadowtools.formats.tables import ABSENT, Dialect, Row, number, read_table
+from shadowtools.formats.tables import ABSENT, Dialect, Row, number, read_table, with_numbers
 
 NAMES, MODELS = ("id", "item", "name", ""), ("model", "class")
 KNOWN = {
@@ -86,6 +86,11 @@ class Line:
                 self.used.add(name)
                 return self.row[self.columns.named[name]]
         return ""
+
+    def name(self) -> str:
+        """The item's ID, or an empty text. Any text is an ID, `NA` (sodium) too."""
+        column = next((name for name in NAMES if self.columns.has(name) and self.row[self.columns.named[name]]), None)
+        return self.row[self.columns.named[column]] if column is not None else ""
 
     def number(self, name: str, absent: Optional[float] = None) -> float:
         """A number, or what stands for it where the column has no value."""
@@ -218,7 +223,7 @@ def read_items(path: str, reading: Reading = Reading()) -> Tuple[List[Item], Dic
     items, lines = [], {}
     for number_of_line, row in rows:
         line = Line(columns, number_of_line, row)
-        name = line.text(*NAMES) or f"item{len(items) + 1}"
+        name = line.name() or f"item{len(items) + 1}"
         if name in lines:
             raise Refused(f"{line.where}: item {name} is in line {lines[name]} too")
         lines[name] = number_of_line
@@ -240,6 +245,7 @@ def named_table(path: str, reading: Reading) -> Tuple[Columns, List[Tuple[int, R
             if name not in head:
                 raise Refused(f"{option}: {path} has no column {name!r}")
     own = {theirs: name for name, theirs in reading.columns.items()}
+    rows = with_numbers(rows, [name for name in head if own.get(name, name).lower() not in NAMES + MODELS], reading.dialect)
     kept = [name for name in head if name not in reading.ignored]
     columns = Columns(path, [own.get(name, name) for name in kept], reading.model)
     form = recognised(columns) if reading.form == "auto" else reading.form

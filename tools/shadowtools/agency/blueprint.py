@@ -17,19 +17,22 @@ have, a rule without its condition, and a Number or Sum without a bound.
     AllOrNone Item     a condition           a passage of its own, whose items are served all or none
 """
 import math
+import re
+import unicodedata
 from dataclasses import dataclass, field
-from typing import Dict, List, Sequence
+from typing import Dict, Iterable, List, Sequence
 
-from shadowtools.agency.conditions import BadCondition, chosen
+from shadowtools.agency.conditions import BadCondition, Compared, attributes_of, chosen, comparisons, has_value, spellings
 from shadowtools.agency.irt import Item
 from shadowtools.command import Refused
-from shadowtools.formats.tables import ABSENT, Dialect, members, number, read_table, runs
+from shadowtools.formats.tables import ABSENT, Dialect, members, number, read_table, refuse_thousand, runs
 
 MOST_ROWS, MOST_ITEMS, MOST_PASSAGES, MOST_SUM = 128, 512, 64, 33_553_920
 NO_CHOICE = "shadowd has no row on a choice of passages or on their attributes; only their number can be bounded"
 COLUMNS = ("CONSTRAINT", "CONSTRAINT_ID", "TYPE", "WHAT", "CONDITION", "LB", "UB", "ONOFF")
 ON, OFF = ("", "ON", "YES", "TRUE", "1"), ("OFF", "NO", "FALSE", "0")
 PER_PASSAGE = ("per stimulus", "per passage", "per set")
+MOST_NAMED = 8
 PASSAGE_WORDS = ("stimulus", "passage", "set")
 
 
@@ -55,32 +58,56 @@ class Blueprint:
 class Compiler:
     """The rules of one table of constraints."""
 
-    def __init__(self, path: str, items: List[Item], passages: List[str], quantities: Sequence[str], dialect: Dialect) -> None:
+    def __init__(self, path: str, items: List[Item], passages: List[str], quantities: Sequence[str], dialect: Dialect,
+                 may_have_absent: bool) -> None:
         self.path, self.items, self.passages, self.quantities, self.dialect = path, items, passages, quantities, dialect
+        self.may_have_absent = may_have_absent
         self.attributes = [item.attributes for item in items]
         self.length, self.covered, self.warnings = 0, set(), []
+        self.used: Dict[str, None] = {}    # the attributes that conditions name, in order
 
     def where(self, line, label):
         return f"{self.path}: line {line}: {label}"
 
     def chosen(self, line, label, text):
         try:
-            found = chosen(text, self.attributes)
-        except BadCondition as error:
+            found, compared = chosen(text, self.attributes), comparisons(text, self.attributes)
+            self.used.update(dict.fromkeys(attributes_of(text, self.attributes)))
+        except (BadCondition, RecursionError) as error:
             raise Refused(f"{self.where(line, label)}: {error}")
         if not found:
             raise Refused(f"{self.where(line, label)}: no item meets {text!r}")
+        for one in compared:
+            self.note_values(line, label, one)
         self.covered.update(found)
         return found
+
+    def note_values(self, line, label, one: Compared):
+        """Refuses a value that no item has, and warns of a number that items write in two ways."""
+        if not self.may_have_absent and not any(has_value(one, row[one.name]) for row in self.attributes):
+            values = sorted({row[one.name] for row in self.attributes} - set(ABSENT))
+            more = ", .." if len(values) > MOST_NAMED else ""
+            raise Refused(f"{self.where(line, label)}: no item has {one.name} {one.written!r}; items have {', '.join(values[:MOST_NAMED])}{more} "
+                          "(--absent-values allows it)")
+        for kind, text in one.values:
+            written = spellings(Compared(one.name, [(kind, text)], text), self.attributes)
+            if len(written) > 1 or written and re.match(r"0[0-9]", written[0]) and written[0] != text:
+                self.warnings.append(f"{label}: the number {text} takes the items whose {one.name} is {' or '.join(map(repr, written))}; "
+                                     "a text in quotation marks takes one alone")
 
     def bound(self, line, row, column, absent):
         """A whole number of a column."""
         if row[column] in ABSENT:
             return absent
-        value = number(self.path, line, row, column)
+        value = self.number(line, row, column)
         if value != int(value) or value < 0:
             raise Refused(f"{self.path}: line {line} column {column}: {row[column]!r} is not a whole number from 0 up")
         return int(value)
+
+    def number(self, line, row, column):
+        """A bound. A comma before three digits is a thousand or a decimal, and is refused."""
+        refuse_thousand(f"{self.path}: line {line} column {column}", row[column])
+        return number(self.path, line, {column: self.dialect.decimal(row[column])}, column)
 
     def read(self) -> List[Rule]:
         head, rows = read_table(self.path, self.dialect)
@@ -144,7 +171,7 @@ class Compiler:
         elif kind in ("number", "include", "exclude"):
             rule.lines = [self.count(line, label, row, kind)]
         elif kind == "enemy":
-            rule.lines = [f"enemies {runs(self.chosen(line, label, condition))}"]
+            rule.lines = [self.enemies(line, label, condition)]
         elif kind in ("sum", "mean", "average"):
             rule.lines = [self.quantity(line, label, row, kind)]
         elif kind == "allornone":
@@ -193,6 +220,12 @@ class Compiler:
             raise Refused(f"{self.where(line, label)}: at least {low} asked, a test has {self.length} items")
         return f"count {low} {high} {runs(found)}"
 
+    def enemies(self, line, label, condition):
+        found = self.chosen(line, label, condition)
+        if len(found) == 1:
+            self.warnings.append(f"{label}: one item alone meets {condition!r}, {self.items[found[0]].name}, so the row bars nothing")
+        return f"enemies {runs(found)}"
+
     def quantity(self, line, label, row, kind):
         name, _, rest = row["CONDITION"].partition(",")
         name = name.strip()
@@ -201,8 +234,8 @@ class Compiler:
         if kind != "sum" and rest.strip():
             raise Refused(f"{self.where(line, label)}: a mean over a part of the form is not linear in the items")
         times = 1 if kind == "sum" else self.length
-        low = 0 if row["LB"] in ABSENT else math.ceil(times * number(self.path, line, row, "LB") - 1e-9)
-        high = MOST_SUM if row["UB"] in ABSENT else math.floor(times * number(self.path, line, row, "UB") + 1e-9)
+        low = 0 if row["LB"] in ABSENT else math.ceil(times * self.number(line, row, "LB") - 1e-9)
+        high = MOST_SUM if row["UB"] in ABSENT else math.floor(times * self.number(line, row, "UB") + 1e-9)
         high = min(high, MOST_SUM)
         self.ordered(line, label, low, high)
         covered = set(self.covered)
@@ -241,16 +274,36 @@ def is_length(row: Dict[str, str]) -> bool:
     return (row["TYPE"].lower(), row["WHAT"].lower()) == ("number", "item") and row["CONDITION"] in ABSENT
 
 
+def alike(items: Sequence[Item], names: Iterable[str]) -> List[str]:
+    """What is to be said of values of these attributes that a reader takes for one: that differ by capital letters, by spaces or by
+    their form in Unicode alone."""
+    said = []
+    for name in names:
+        first: Dict[str, Dict[str, int]] = {}
+        for item in items:
+            value = item.attributes.get(name, "")
+            key = " ".join(unicodedata.normalize("NFKC", value).casefold().split())
+            first.setdefault(key, {}).setdefault(value, item.line)
+        for found in first.values():
+            if len(found) > 1:
+                values = " and ".join(f"{value!r} ({ascii(value)}, line {line})" if not value.isascii() else f"{value!r} (line {line})"
+                                      for value, line in found.items())
+                said.append(f"attribute {name}: {values} look alike, and are different values to a rule")
+    return said
+
+
 def compile_blueprint(path: str, items: List[Item], passages: Sequence[str], quantities: Sequence[str],
-                      dialect: Dialect = Dialect()) -> Blueprint:
-    """The length, the rules, the passages (with those of AllOrNone) and warnings; or a refusal."""
+                      dialect: Dialect = Dialect(), may_have_absent: bool = False) -> Blueprint:
+    """The length, the rules, the passages (with those of AllOrNone) and warnings; or a refusal. Values in conditions that no item has
+    are refused, unless they may be absent."""
     passages = list(passages)
-    compiler = Compiler(path, items, passages, quantities, dialect)
+    compiler = Compiler(path, items, passages, quantities, dialect, may_have_absent)
     rules = compiler.read()
     rows = sum(line.split()[0] != "stimulus" for rule in rules for line in rule.lines)
     if rows > MOST_ROWS:
         raise Refused(f"{path}: {rows} rows; shadowd takes at most {MOST_ROWS}")
-    warnings, clashes = compiler.warnings, disagreements(compiler.length, rules, len(items))
+    names = list(dict.fromkeys([*compiler.used, "STID"] if passages else compiler.used))
+    warnings, clashes = compiler.warnings + alike(items, names), disagreements(compiler.length, rules, len(items))
     free = [item.name for k, item in enumerate(items) if k not in compiler.covered and not item.passage]
     if rules and free:
         more = ", .." if len(free) > 3 else ""

@@ -13,6 +13,7 @@ usage: irt_bank.py --items ITEMS.csv [--attributes ATTRIBUTES.csv] [--constraint
   --prior MEAN SD      the prior of ability, default 0 1; or --prior flat
   --information-unit F whole numbers for one unit of Fisher information, default 1000
   --log-unit L         whole numbers for one natural logarithm, default 1000; for bank and prior both
+  --absent-values      conditions may name values that no item has; without it each is refused, as a misspelt one
   --quantity NAME      an attribute that becomes a quantity of the bank, in the order given (words, seconds)
   --budget N, --base-budget N, --sessions N, --journal N   lines of the plan
   --rate NUM DEN --key HEX                                 exposure control
@@ -39,7 +40,8 @@ import math
 import os
 import re
 import sys
-from typing import Any, Dict, List, Sequence, Tuple
+import unicodedata
+from typing import Any, Dict, Iterable, List, Sequence, Tuple
 
 from shadowtools.needs import require
 
@@ -59,12 +61,15 @@ from shadowtools.agency.program import DONE, NO_FORM, NOT_FOUND, Program, form_o
 from shadowtools.agency.series_weights import weights_of, word_of  # noqa: E402
 from shadowtools.command import Refused, as_command  # noqa: E402
 from shadowtools.formats.examination import plan_of, read_bank  # noqa: E402
-from shadowtools.formats.tables import ABSENT, SEPARATORS, Dialect, read_table  # noqa: E402
+from shadowtools.formats.tables import (ABSENT, SEPARATORS, THOUSAND, Dialect, Row, number_columns, read_table,  # noqa: E402
+                                        refuse_thousand, with_numbers)
 from shadowtools.options import Options, between, require_folder, whole  # noqa: E402
 from shadowtools.places import BUILT  # noqa: E402
 
 PRIOR_MEANS = (-2, -1, 0, 1, 2)
 MOST_QUANTITIES, MOST_QUANTITY = 8, 65_535
+# Names of passages that are likely to mean none.
+NO_NAMES = ("0", "-", "--", ".", "n/a", "n.a.", "none", "null", "nil", "nan", "no")
 
 
 def options(words: Sequence[str]) -> argparse.Namespace:
@@ -87,6 +92,7 @@ def options(words: Sequence[str]) -> argparse.Namespace:
     parser.add_argument("--bands", type=whole(band_points.FEWEST_BANDS, band_points.MOST_BANDS))
     parser.add_argument("--length", type=whole(1, 512))
     parser.add_argument("--weights", nargs="+")
+    parser.add_argument("--absent-values", action="store_true")
     found = parser.read(words, lambda given: bool(given.items and given.out and (given.constraints or given.length)))
     if found.constraints and found.length:
         raise Refused("--length: the table of --constraints has the length; leave one of the two out")
@@ -116,17 +122,32 @@ def dialect_of(given: argparse.Namespace) -> Dialect:
 
 # ---------------------------------------------------------------- attributes
 
-def read_attributes(path: str, items: Sequence[Item], dialect: Dialect) -> List[str]:
-    """Gives each item its attributes and passage; the names of the passages."""
+def rows_of_attributes(path: str, dialect: Dialect, quantities: Sequence[str], warnings: List[str]) -> List[Tuple[int, Row]]:
+    """The rows of the table of attributes, numbers with points. A thousand with a comma is refused in a quantity; a warning names a
+    column of whole numbers and such commas alone, which are read as decimals."""
     head, rows = read_table(path, dialect)
     if "ID" not in head:
         other = next((name for name in head if name.lower() == "id"), None)
         raise Refused(f"{path}: line 1: no column ID" + (f"; rename the column {other}" if other else ""))
+    for line, row in rows:
+        for name in quantities:
+            refuse_thousand(f"{path}: line {line} column {name}", row.get(name, ""))
+    numbers = [name for name in number_columns(head, rows, dialect) if name not in ("ID", "STID")]
+    for name in numbers:
+        found = [(line, row[name]) for line, row in rows if "," in row[name]]
+        if found and all(THOUSAND.fullmatch(cell) for _, cell in found):
+            line, cell = found[0]
+            warnings.append(f"attribute {name}: {cell!r} (line {line}) is read as {cell.replace(',', '.', 1)}; write a thousand without a comma")
+    return with_numbers(rows, numbers, dialect)
+
+
+def read_attributes(path: str, items: Sequence[Item], rows: Sequence[Tuple[int, Row]]) -> List[str]:
+    """Gives each item its attributes and passage; the names of the passages."""
     by_name, passages = {item.name: item for item in items}, []
     for line, row in rows:
         item = by_name.get(row["ID"])
         if item is None:
-            raise Refused(f"{path}: line {line}: no item has the ID {row['ID']!r}")
+            raise Refused(f"{path}: line {line}: no item has the ID {row['ID']!r}{other_spelling(row['ID'], by_name)}")
         if item.line:
             raise Refused(f"{path}: line {line}: item {item.name} is in line {item.line} too")
         item.line, item.attributes = line, row
@@ -141,6 +162,29 @@ def read_attributes(path: str, items: Sequence[Item], dialect: Dialect) -> List[
     if len(passages) > MOST_PASSAGES:
         raise Refused(f"{path}: {len(passages)} passages; shadowd takes at most {MOST_PASSAGES}")
     return passages
+
+
+def other_spelling(name: str, items: Iterable[str]) -> str:
+    """An item's ID that looks like a name, in words; an empty text where there is none."""
+    def key(text: str) -> str:
+        return unicodedata.normalize("NFKC", text).casefold()
+    found = next((one for one in items if key(one) == key(name)), None)
+    if found is None:
+        return ""
+    why = "capital letters" if unicodedata.normalize("NFC", found) != unicodedata.normalize("NFC", name) else "its form in Unicode"
+    return f" ({ascii(name)}); the items have {found!r} ({ascii(found)}), which differs by {why} alone"
+
+
+def passage_warnings(items: Sequence[Item], passages: Sequence[str], length: int) -> List[str]:
+    """Passages whose name looks like a word for none, and those with more items than a test."""
+    said = []
+    for number, name in enumerate(passages, 1):
+        count = sum(item.passage == number for item in items)
+        if name.casefold() in NO_NAMES:
+            said.append(f"passage {name!r} has {count} items, which are served one after another; only an empty field and NA are no passage")
+        elif count > length:
+            said.append(f"passage {name!r} has {count} items, more than a test of {length}")
+    return said
 
 
 def read_quantities(path: str, items: Sequence[Item], names: Sequence[str]) -> List[List[int]]:
@@ -290,19 +334,26 @@ def first_forms(program: Program, tables: Tables, plan: str) -> int:
 
 def blueprint_of(given: argparse.Namespace, items: List[Item]) -> Tuple[Blueprint, List[List[int]]]:
     """The blueprint, and the values of the quantities by item."""
-    passages = read_attributes(given.attributes, items, dialect_of(given)) if given.attributes else []
+    warnings: List[str] = []
+    rows = rows_of_attributes(given.attributes, dialect_of(given), given.quantity, warnings) if given.attributes else []
+    passages = read_attributes(given.attributes, items, rows) if given.attributes else []
     quantities = read_quantities(given.attributes, items, given.quantity)
     if given.constraints:
-        return compile_blueprint(given.constraints, items, passages, given.quantity, dialect_of(given)), quantities
+        found = compile_blueprint(given.constraints, items, passages, given.quantity, dialect_of(given), given.absent_values)
+        found.warnings += warnings + passage_warnings(items, passages, found.length)
+        return found, quantities
     if given.length > len(items):
         raise Refused(f"--length {given.length}: the bank has {len(items)} items")
-    return Blueprint(given.length, [], passages, []), quantities
+    return Blueprint(given.length, [], passages, warnings + passage_warnings(items, passages, given.length)), quantities
 
 
 def main(words: Sequence[str]) -> int:
     given = options(words)
     require_folder("--out", given.out + ".bank.csv")
     items, _, form = read_items(given.items, reading_of(given))
+    if form == "mirt" and given.scaling != 1:
+        raise Refused(f"--scaling {given.scaling:g}: the intercepts of {given.items} are mirt's, whose D is 1; each slope would be "
+                      f"{given.scaling:g} times as great")
     blueprint, quantities = blueprint_of(given, items)
     theta = ability_grid(given.grid, items, given.scaling, blueprint.length)
     tables = Tables(items, quantities, theta, given.scaling, given.information_unit, given.log_unit)

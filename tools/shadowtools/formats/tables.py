@@ -12,6 +12,8 @@ from shadowtools.command import Refused
 ABSENT = ("", "NA")
 SEPARATORS = {"comma": ",", "semicolon": ";", "tab": "\t"}
 NUMBER = re.compile(r"[+-]?([0-9]+\.?[0-9]*|\.[0-9]+)([eE][+-]?[0-9]+)?", re.ASCII)
+# A comma before exactly three digits, which some read as a thousand and some as a decimal.
+THOUSAND = re.compile(r"[+-]?[1-9][0-9]{0,2}(,[0-9]{3})+", re.ASCII)
 DECIMAL_COMMA = re.compile(r"[+-]?[0-9]*,[0-9]+([eE][+-]?[0-9]+)?", re.ASCII)
 AS_UTF_8 = "save it as UTF-8 (in Excel: CSV UTF-8)"
 
@@ -23,6 +25,10 @@ class Dialect:
     """How a table is written: the character between fields, and whether numbers have a decimal comma."""
     separator: str = ","
     has_decimal_comma: bool = False
+
+    def decimal(self, cell: str) -> str:
+        """The cell of a column of numbers, a decimal comma replaced by a point where numbers have one; another text as it is."""
+        return pointed(cell) if self.has_decimal_comma else cell
 
 
 # ---------------------------------------------------------------- text
@@ -66,7 +72,8 @@ def records_of(path: str, text: str, separator: str, skipped: int) -> List[Tuple
 # ---------------------------------------------------------------- tables
 
 def read_table(path: str, dialect: Dialect = Dialect()) -> Tuple[List[str], List[Tuple[int, Row]]]:
-    """The header, and pairs of line number and row by column name. A byte order mark, CR LF and Excel's line `sep=` are taken."""
+    """The header, and pairs of line number and row by column name: the cells as they are written, without spaces at their ends. A byte
+    order mark, CR LF and Excel's line `sep=` are taken."""
     text, skipped = text_of(path), 0
     first = re.match(r"sep=(.)\r?\n", text)
     if first:
@@ -83,8 +90,7 @@ def read_table(path: str, dialect: Dialect = Dialect()) -> Tuple[List[str], List
     for line, record in records[1:]:
         if len(record) != len(head):
             raise Refused(f"{path}: line {line}: {len(record)} fields, the header has {len(head)}")
-        cells = [pointed(cell) for cell in record] if dialect.has_decimal_comma else record
-        rows.append((line, dict(zip(head, cells))))
+        rows.append((line, dict(zip(head, record))))
     return head, rows
 
 
@@ -117,7 +123,27 @@ def number(path: str, line: int, row: Row, column: str) -> float:
     if is_number(row[column]):
         return float(row[column])
     cure = "; give --decimal comma" if DECIMAL_COMMA.fullmatch(row[column]) else ""
+    cure += ", or write a thousand without a comma" if cure and THOUSAND.fullmatch(row[column]) else ""
     raise Refused(f"{path}: line {line} column {column}: {row[column]!r} is not a finite number{cure}")
+
+
+def refuse_thousand(where: str, cell: str) -> None:
+    """Refuses a cell that may be a thousand or a decimal with three digits."""
+    if THOUSAND.fullmatch(cell):
+        other = f" or {cell.replace(',', '.')}" if cell.count(",") == 1 else ""
+        raise Refused(f"{where}: {cell!r} may be {cell.replace(',', '')}{other}; write it without a comma before three digits")
+
+
+def with_numbers(rows: Sequence[Tuple[int, Row]], columns: Iterable[str], dialect: Dialect) -> List[Tuple[int, Row]]:
+    """The rows with points for decimal commas in these columns."""
+    chosen = set(columns)
+    return [(line, {name: dialect.decimal(cell) if name in chosen else cell for name, cell in row.items()}) for line, row in rows]
+
+
+def number_columns(head: Sequence[str], rows: Sequence[Tuple[int, Row]], dialect: Dialect) -> List[str]:
+    """The columns all of whose values are numbers in this dialect."""
+    return [name for name in head
+            if all(row[name] in ABSENT or is_number(dialect.decimal(row[name])) for _, row in rows)]
 
 
 def present(row: Row, columns: Iterable[str]) -> List[str]:
